@@ -1,0 +1,4 @@
+pub mod Count
+pub mod Front
+pub mod Known
+pub mod Number
