@@ -1,0 +1,81 @@
+ghost use Rattle.std.specs.Prelude.{◌≡◌, ◌↔◌, ◌≤◌, ◌*◌, IfOk, IsOk, pos};
+ghost use Rattle.annex_tables.specs.Errors.{IsNominal, thousandths_of, error_of, tolerable_error, limits_of};
+
+use crate::types::{Limits, NominalRange};
+
+/// The least nominal quantity of the tables, in mg: 5 g.
+const LEAST_NOMINAL: i64 = 5_000;
+
+/// The greatest nominal quantity of the tables, in mg: 10 kg.
+const GREATEST_NOMINAL: i64 = 10_000_000;
+
+/// So many thousandths of a quantity in mg, rounded up to the next 100 mg.
+fn thousandths(part: u64, quantity: u64) -> u64
+    requires small { part ≤ 90 }
+    requires in_range { quantity ≤ 10000000 }
+    ensures { result ≡ thousandths_of part quantity }
+{
+    (part * quantity).div_ceil(100_000) * 100
+}
+
+fn error_in_row(quantity: u64) -> u64
+    requires { quantity ≤ 10000000 }
+    ensures value { result ≡ error_of quantity }
+    ensures within { 5000 ≤ quantity → 2 * result ≤ quantity }
+{
+    match quantity {
+        0..=50_000 => thousandths(90, quantity),
+        50_001..=100_000 => 4_500,
+        100_001..=200_000 => thousandths(45, quantity),
+        200_001..=300_000 => 9_000,
+        300_001..=500_000 => thousandths(30, quantity),
+        500_001..=1_000_000 => 15_000,
+        _ => thousandths(15, quantity),
+    }
+}
+
+/// The limits of a nominal quantity in mg that the tables know.
+fn limits_in_row(quantity: u64) -> Limits
+    requires least { 5000 ≤ quantity }
+    requires greatest { quantity ≤ 10000000 }
+    ensures { result ≡ limits_of (pos quantity) }
+{
+    let tne = error_in_row(quantity);
+    Limits {
+        t1: (quantity - tne) as i64,
+        t2: (quantity - 2 * tne) as i64,
+        tne: tne as i64,
+    }
+}
+
+/// The nominal quantity, where the tables know it.
+fn known(nominal: i64) -> Result<u64, NominalRange>
+    ensures value { IfOk result (λ quantity. nominal ≡ pos quantity) }
+    ensures least { IfOk result (λ quantity. 5000 ≤ quantity) }
+    ensures greatest { IfOk result (λ quantity. quantity ≤ 10000000) }
+    ensures in_range { IsOk result ↔ IsNominal nominal }
+{
+    if nominal < LEAST_NOMINAL || nominal > GREATEST_NOMINAL {
+        return Err(NominalRange);
+    }
+    Ok(nominal as u64)
+}
+
+/// The tolerable negative error of a nominal quantity, both in mg, by the table of Annex I. An error that the
+/// table gives as a percentage is rounded up to the next 100 mg.
+pub fn tne(nominal: i64) -> Result<i64, NominalRange>
+    ensures value { IfOk result (λ error. error ≡ tolerable_error nominal) }
+    ensures in_range { IsOk result ↔ IsNominal nominal }
+{
+    let quantity = known(nominal)?;
+    Ok(error_in_row(quantity) as i64)
+}
+
+/// The limits of a nominal quantity in mg: one and two tolerable negative errors below it.
+pub fn limits(nominal: i64) -> Result<Limits, NominalRange>
+    ensures value { IfOk result (λ limits. limits ≡ limits_of nominal) }
+    ensures in_range { IsOk result ↔ IsNominal nominal }
+{
+    let quantity = known(nominal)?;
+    Ok(limits_in_row(quantity))
+}
