@@ -1,0 +1,27 @@
+-- What a net is by the two limits, and the signal that a pack gets. All masses are milligrams.
+use Rattle.std.specs.Prelude.{ℕ, ℤ, ◌*◌, Bool, if◌then◌else◌, nat_lt, ◌==◌, ◌&&◌, int_lt}
+use Rattle.annex_tables.specs.declared.types.Limits.{Limits}
+use Rattle.pack_judge.specs.declared.types.Class.{Class}
+use Rattle.pack_judge.specs.declared.types.Class.TheVariants as class
+use Rattle.pack_judge.specs.declared.types.Cause.TheVariants as cause
+use Rattle.pack_judge.specs.declared.types.Signal.{Signal}
+use Rattle.pack_judge.specs.declared.types.Signal.TheVariants.{Pass, Reject}
+
+-- the most packs that a population may have
+abbrev pub greatest_population : ℕ
+greatest_population = 10000
+
+-- inadequate below two errors under the nominal quantity, non-standard below one, else standard
+abbrev pub class_of : ℤ → Limits → Class
+class_of net limits =
+    if int_lt net limits.t2 then class.Inadequate else
+    (if int_lt net limits.t1 then class.NonStandard else class.Standard)
+
+-- the signal of a new net in a batch: the first line that holds
+abbrev pub signal_of : ℤ → Limits → Bool → ℕ → ℕ → Signal
+signal_of net limits held population nonstandard =
+    if held then Reject cause.Held else
+    (if population == greatest_population then Reject cause.Full else
+    (if int_lt net limits.t2 then Reject cause.Inadequate else
+    (if (int_lt net limits.t1 && nat_lt population (40 * nonstandard)) then Reject cause.Allowance else
+    Pass)))

@@ -1,0 +1,39 @@
+ghost use Rattle.std.specs.Prelude.{◌≡◌, ◌≤◌};
+ghost use Rattle.pack_judge.specs.Judge.{class_of, signal_of};
+
+use crate::types::{Cause, Class, GREATEST_POPULATION, Signal};
+use annex_tables::Limits;
+
+/// The class of a net in mg (Annex I). Equality with a limit is not below it; a net may be negative.
+pub fn class(net: i64, limits: &Limits) -> Class
+    ensures { result ≡ class_of net limits.now }
+{
+    if net < limits.t2 {
+        Class::Inadequate
+    } else if net < limits.t1 {
+        Class::NonStandard
+    } else {
+        Class::Standard
+    }
+}
+
+/// The signal of a new net in mg, in a batch with `n` packs in its population, `nonstandard` of them with a net
+/// below `t1`, inadequate ones among them; `held` says that some are inadequate. The first cause that holds is
+/// given. Non-standard packs are allowed while they are at most one in forty (Annex II).
+pub fn signal(net: i64, limits: &Limits, held: bool, n: u32, nonstandard: u32) -> Signal
+    requires counted { nonstandard ≤ n }
+    requires limited { n ≤ GREATEST_POPULATION }
+    ensures { result ≡ signal_of net limits.now held n nonstandard }
+{
+    if held {
+        return Signal::Reject(Cause::Held);
+    }
+    if n == GREATEST_POPULATION {
+        return Signal::Reject(Cause::Full);
+    }
+    match class(net, limits) {
+        Class::Inadequate => Signal::Reject(Cause::Inadequate),
+        Class::NonStandard if 40 * nonstandard > n => Signal::Reject(Cause::Allowance),
+        _ => Signal::Pass,
+    }
+}

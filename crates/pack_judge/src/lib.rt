@@ -1,0 +1,11 @@
+//! What a pack is by the limits of its nominal quantity, and the pass or reject signal that it gets. All masses are whole milligrams.
+#![tactic(auto)]
+
+mod judge;
+mod types;
+
+pub use judge::{class, signal};
+pub use types::{Cause, Class, GREATEST_POPULATION, Pile, Signal, Tally};
+
+#[cfg(test)]
+mod tests;
