@@ -1,0 +1,78 @@
+use crate::sink::Sink;
+use crate::types::Failed;
+use counts_and_texts::counted_once_more;
+use std::alloc::Global;
+use std::marker::Model;
+
+/// A sink that keeps its bytes in memory, of which the calls with the numbers in a list fail, counted from 1.
+/// A growth that memory refuses is a failed call too.
+#[derive(Drop)]
+pub struct MemorySink {
+    bytes: Vec<u8>,
+    calls: u32,
+    fails: Vec<u32>,
+    faults: u64,
+}
+
+impl Model for MemorySink {
+    ghost use Rattle.disk_core.specs.Streams.{Collection};
+
+    ghost Value = { Collection };
+
+    ghost view = { λ s. record { held = s.bytes.items; calls = s.calls; fails = s.fails.items; faults = s.faults } };
+}
+
+impl MemorySink {
+    ghost use Rattle.std.specs.Prelude.{◌≡◌, []};
+    ghost use Rattle.disk_core.specs.Streams.{Collection};
+
+    /// A sink that holds nothing and has failed nowhere yet; its calls with these numbers will fail.
+    pub fn new(alloc: Global, fails: Vec<u32>) -> Self
+        ensures { result ≡ record { held = []; calls = 0; fails = fails.items; faults = 0 } }
+    {
+        MemorySink {
+            bytes: Vec::new(alloc),
+            calls: 0,
+            fails,
+            faults: 0,
+        }
+    }
+
+    /// The bytes that it holds.
+    pub fn bytes(&self) -> &[u8]
+        ensures { result.now ≡ self.now.held }
+    {
+        &self.bytes
+    }
+}
+
+impl Sink for MemorySink {
+    ghost use Rattle.std.specs.Prelude.{◌≡◌, ◌<◌, ◌≤◌, length, IfOk, IsErr, Some, Contains};
+    ghost use Rattle.std.specs.Io.KnownBytes.{WriteAppends};
+    ghost use Rattle.counts_and_texts.specs.Count.{CountsFault};
+    ghost use Rattle.counts_and_texts.specs.Known.{TellsAsBefore};
+    ghost use Rattle.disk_core.specs.Streams.{next_call};
+
+    ghost held = { λ s. Some s.held };
+
+    ghost faults = { λ s. s.faults };
+
+    fn write(&mut self, bytes: &[u8]) -> Result<usize, Failed>
+        ensures bound { IfOk result (λ count. count ≤ length bytes.now) }
+        ensures some { IfOk result (λ count. 0 < length bytes.now → 0 < count) }
+        ensures whole { IfOk result (λ count. count ≡ length bytes.now) }
+        ensures bytes { WriteAppends (Some self.old.held) (Some self.new.held) result bytes.now }
+        ensures tells { TellsAsBefore (Some self.old.held) (Some self.new.held) }
+        ensures cause { CountsFault self.old.faults self.new.faults result }
+        ensures listed { Contains self.old.fails (next_call self.old.calls) → IsErr result }
+        ensures calls { self.new.calls ≡ next_call self.old.calls }
+        ensures fails { self.new.fails ≡ self.old.fails }
+    {
+        self.calls = self.calls.saturating_add(1);
+        if self.fails.contains(&self.calls) || self.bytes.extend_from_slice(bytes).is_err() {
+            self.faults = counted_once_more(self.faults);
+            return Err(Failed);
+        }
+        Ok(bytes.len())
+    }
+}

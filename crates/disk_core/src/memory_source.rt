@@ -1,0 +1,74 @@
+use crate::source::{Source, fill_front};
+use crate::types::Failed;
+use counts_and_texts::counted_once_more;
+use std::marker::Model;
+
+/// A source over bytes in memory, of which the calls with the numbers in a list fail, counted from 1.
+#[derive(Drop)]
+pub struct MemorySource {
+    bytes: Vec<u8>,
+    place: usize,
+    calls: u32,
+    fails: Vec<u32>,
+    faults: u64,
+}
+
+impl Model for MemorySource {
+    ghost use Rattle.std.specs.Prelude.{◌≤◌, drop, vec_len};
+    ghost use Rattle.disk_core.specs.Streams.{Supply};
+
+    ghost Value = { Supply };
+
+    ghost view = { λ s. record { left = drop s.place s.bytes.items; calls = s.calls; fails = s.fails.items; faults = s.faults } };
+
+    ghost invariant = { λ s. s.place ≤ vec_len s.bytes };
+}
+
+impl MemorySource {
+    ghost use Rattle.std.specs.Prelude.{◌≡◌};
+    ghost use Rattle.disk_core.specs.Streams.{Supply};
+
+    /// A source that has these bytes left and has failed nowhere yet; its calls with these numbers will fail.
+    pub fn new(bytes: Vec<u8>, fails: Vec<u32>) -> Self
+        ensures { result ≡ record { left = bytes.items; calls = 0; fails = fails.items; faults = 0 } }
+    {
+        MemorySource {
+            bytes,
+            place: 0,
+            calls: 0,
+            fails,
+            faults: 0,
+        }
+    }
+}
+
+impl Source for MemorySource {
+    ghost use Rattle.std.specs.Prelude.{◌≡◌, ◌↔◌, ◌≤◌, length, IfOk, IsErr, Some, Contains};
+    ghost use Rattle.std.specs.Io.KnownBytes.{ReadConsumes};
+    ghost use Rattle.counts_and_texts.specs.Count.{CountsFault};
+    ghost use Rattle.counts_and_texts.specs.Known.{TellsAsBefore};
+    ghost use Rattle.disk_core.specs.Streams.{next_call};
+
+    ghost left = { λ s. Some s.left };
+
+    ghost faults = { λ s. s.faults };
+
+    fn read(&mut self, into: &mut [u8]) -> Result<usize, Failed>
+        ensures bound { IfOk result (λ count. count ≤ length into.new) }
+        ensures bytes { ReadConsumes (Some self.old.left) (Some self.new.left) result into.new }
+        ensures tells { TellsAsBefore (Some self.old.left) (Some self.new.left) }
+        ensures cause { CountsFault self.old.faults self.new.faults result }
+        ensures listed { IsErr result ↔ Contains self.old.fails (next_call self.old.calls) }
+        ensures calls { self.new.calls ≡ next_call self.old.calls }
+        ensures fails { self.new.fails ≡ self.old.fails }
+    {
+        self.calls = self.calls.saturating_add(1);
+        if self.fails.contains(&self.calls) {
+            self.faults = counted_once_more(self.faults);
+            return Err(Failed);
+        }
+        let count = fill_front(into, &self.bytes[self.place..]);
+        self.place += count;
+        Ok(count)
+    }
+}

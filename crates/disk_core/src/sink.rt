@@ -1,0 +1,44 @@
+ghost use Rattle.std.specs.Prelude.{ℕ, ◌<◌, ◌≤◌, List, length, take, IfOk, IfErr, OnOk, Option};
+ghost use Rattle.std.specs.Io.KnownBytes.{Appends, WriteAppends};
+ghost use Rattle.counts_and_texts.specs.Count.{CountsFault};
+ghost use Rattle.counts_and_texts.specs.Known.{TellsAsBefore};
+
+use crate::types::{Failed, Partly};
+
+/// Where bytes go.
+pub trait Sink {
+    /// The bytes that it holds, where it tells them.
+    ghost held: { Self → Option (List ℕ) };
+
+    /// How often it failed, up to the greatest number of 64 bits.
+    ghost faults: { Self → ℕ };
+
+    /// Takes a front of the bytes and tells how many they are: at least one, where there is one. A call that fails
+    /// takes nothing.
+    fn write(&mut self, bytes: &[u8]) -> Result<usize, Failed>
+        ensures bound { IfOk result (λ count. count ≤ length bytes.now) }
+        ensures some { IfOk result (λ count. 0 < length bytes.now → 0 < count) }
+        ensures bytes { WriteAppends (held self.old) (held self.new) result bytes.now }
+        ensures tells { TellsAsBefore (held self.old) (held self.new) }
+        ensures cause { CountsFault (faults self.old) (faults self.new) result };
+}
+
+/// Writes all of the bytes. `Partly` comes only where the sink failed; then the first `done` bytes went out, and
+/// at least one didn't.
+pub fn write_all<K: Sink>(sink: &mut K, bytes: &[u8]) -> Result<(), Partly>
+    ensures written { OnOk result (Appends (K.held sink.old) (K.held sink.new) bytes.now) }
+    ensures partly { IfErr result (λ partly.
+        Appends (K.held sink.old) (K.held sink.new) (take partly.done bytes.now)) }
+    ensures some_left { IfErr result (λ partly. partly.done < length bytes.now) }
+    ensures tells { TellsAsBefore (K.held sink.old) (K.held sink.new) }
+    ensures cause { CountsFault (K.faults sink.old) (K.faults sink.new) result }
+{
+    let mut done = 0;
+    while done < bytes.len() {
+        match sink.write(&bytes[done..]) {
+            Ok(count) => done += count,
+            Err(Failed) => return Err(Partly { done }),
+        }
+    }
+    Ok(())
+}
