@@ -1,4 +1,5 @@
 pub mod Count
+pub mod CountLaws
 pub mod Front
 pub mod Known
 pub mod Number
