@@ -1,0 +1,4 @@
+pub mod LineLists
+pub mod Printed
+pub mod Stepping
+pub mod Explaining

@@ -1,0 +1,13 @@
+use Rattle.std.proofs.Common.{◌≡◌, ◌+◌, ◌≤◌, take}
+use Rattle.hall_top.specs.Reached.{GoesOn}
+use Rattle.hall_top.proofs.feed.feed.Given as goal
+
+-- the bytes so far were taken and nothing failed
+abbrev pub invariant-loop-byte : goal.invariant-loop-byte
+invariant-loop-byte g l =
+    let sink = g.K.Sink in
+    record {
+      on : GoesOn (sink.held l.fn.output) (sink.held l.output) (sink.faults l.fn.output) (sink.faults l.output) l.fn.lane l.lane (take l.byte-index l.bytes);
+      most : l.lane.counts.all.count ≤ l.fn.lane.counts.all.count + l.byte-index;
+      same : l.lane.setting ≡ l.fn.lane.setting;
+    }

@@ -1,0 +1,18 @@
+//! The program: weights of one product on one lane in, signals and the balance of the piles out.
+#![tactic(auto)]
+
+mod answers;
+mod counts;
+mod feed;
+mod finish;
+mod gross;
+mod lane;
+mod pieces;
+mod reading;
+mod setting;
+mod stop;
+mod texts;
+mod top;
+mod weigh;
+
+pub use top::hall;
