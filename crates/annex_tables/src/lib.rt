@@ -1,11 +1,13 @@
-//! The tables of Directive 76/211/EEC, Annex I: tolerable negative errors and the limits that follow. All masses are whole milligrams.
+//! The tables of Directive 76/211/EEC: tolerable negative errors and the limits that follow (Annex I), and the plans of the reference test (Annex II). All masses are whole milligrams.
 #![tactic(auto)]
 
 mod errors;
+mod plans;
 mod types;
 
 pub use errors::{limits, tne};
-pub use types::{Limits, NominalRange};
+pub use plans::plan;
+pub use types::{Limits, Mode, NominalRange, Plan, PlanRefusal};
 
 #[cfg(test)]
 mod tests;
