@@ -1,0 +1,4 @@
+pub mod Computed
+pub mod Deviations
+pub mod Integers
+pub mod Sides

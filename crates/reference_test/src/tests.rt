@@ -1,0 +1,118 @@
+use super::*;
+use annex_tables::{Mode, Plan, plan};
+use std::test::Fail;
+
+/// Up to three values in mg and how often each was added; the nominal quantity; the thousandths; what is answered.
+type MeanRow = ([(i64, u32); 3], i64, u32, bool);
+
+const NONE: (i64, u32) = (0, 0);
+
+// The first two by hand: at 250 344 the sides are 3 270 553 600 000 000 and 3 276 800 000 000 000; at 250 343 the left
+// is 3 280 532 400 000 000. The others by a Python script over the list of values; in two pairs the sides are equal.
+const MEANS: [MeanRow; 16] = [
+    ([(250_344, 10), (248_344, 10), NONE], 250_000, 640, true),
+    ([(250_343, 10), (248_343, 10), NONE], 250_000, 640, false),
+    ([(250_000, 20), NONE, NONE], 250_000, 640, true),
+    ([(249_999, 20), NONE, NONE], 250_000, 640, false),
+    (
+        [(250_000, 2), (249_998, 2), (249_999, 1)],
+        250_000,
+        1_000,
+        true,
+    ),
+    (
+        [(250_000, 2), (249_998, 2), (249_999, 1)],
+        250_000,
+        999,
+        false,
+    ),
+    (
+        [(250_001, 2), (249_997, 2), (249_999, 1)],
+        250_000,
+        500,
+        true,
+    ),
+    (
+        [(250_001, 2), (249_997, 2), (249_999, 1)],
+        250_000,
+        499,
+        false,
+    ),
+    ([(250_000, 1), NONE, NONE], 250_000, 1_000, true),
+    ([(249_999, 1), NONE, NONE], 250_000, 1_000, false),
+    ([(250_000, 1), (249_999, 1), NONE], 250_000, 0, false),
+    (
+        [(-5_000_000, 60), (30_000_000, 40), NONE],
+        10_000_000,
+        59,
+        true,
+    ),
+    (
+        [(-5_000_000, 60), (30_000_000, 40), NONE],
+        10_000_000,
+        58,
+        false,
+    ),
+    (
+        [(-5_000_000, 99), (30_000_000, 1), NONE],
+        5_000,
+        1_000,
+        false,
+    ),
+    (
+        [(30_000_000, 57), (-5_000_000, 43), NONE],
+        10_000_000,
+        0,
+        true,
+    ),
+    ([(-5_000_000, 100), NONE, NONE], 10_000_000, 1_000, false),
+];
+
+#[test]
+fn means_of_the_table(rt: HostRuntime) {
+    for (values, nominal, k1000, wanted) in MEANS {
+        let mut sums = Sums::new();
+        for (value, times) in values {
+            assert!(rt; value >= -5_000_000 && value <= 30_000_000);
+            for _ in 0..times {
+                assert!(rt; sums.number() < 100);
+                sums.add(value);
+            }
+        }
+        assert!(rt; sums.number() > 0);
+        assert!(rt; nominal >= 5_000 && nominal <= 10_000_000 && k1000 <= 1_000);
+        assert_eq!(rt;
+            mean_check(&sums, nominal, k1000),
+            wanted,
+            "at {nominal} and {k1000}"
+        );
+    }
+}
+
+// Each number of defective packs at its edges, by the plans of 100 and of 99 packs kept and of 100 destroyed.
+const CONTENTS: [(u32, Mode, u32, Option<u32>, Contents); 15] = [
+    (100, Mode::Keep, 1, None, Contents::Accept),
+    (100, Mode::Keep, 1, Some(30), Contents::Accept),
+    (100, Mode::Keep, 2, None, Contents::Second),
+    (100, Mode::Keep, 2, Some(2), Contents::Accept),
+    (100, Mode::Keep, 2, Some(3), Contents::Reject),
+    (100, Mode::Keep, 2, Some(u32::MAX), Contents::Reject),
+    (100, Mode::Keep, 3, None, Contents::Reject),
+    (100, Mode::Keep, 3, Some(0), Contents::Reject),
+    (99, Mode::Keep, 2, None, Contents::Accept),
+    (99, Mode::Keep, 3, None, Contents::Reject),
+    (39, Mode::Keep, 1, None, Contents::Reject),
+    (40, Mode::Keep, 1, None, Contents::Accept),
+    (100, Mode::Destroy, 1, None, Contents::Accept),
+    (100, Mode::Destroy, 2, None, Contents::Reject),
+    (3_201, Mode::Keep, 6, None, Contents::Second),
+];
+
+#[test]
+fn contents_of_the_table(rt: HostRuntime) -> Result<(), Fail> {
+    for (n, mode, d1, d2, wanted) in CONTENTS {
+        let plan: Plan = plan(n, mode)?;
+        assert_eq!(rt; contents_check(&plan, d1, d2), wanted, "{d1} of {n}");
+    }
+    Ok(())
+}
