@@ -1,0 +1,4 @@
+pub mod Latest
+pub mod Least
+pub mod Steps
+pub mod Within

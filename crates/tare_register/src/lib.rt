@@ -1,0 +1,9 @@
+//! The tares of the hall's products: each is dated, and may be corrected by a later one.
+#![tactic(auto)]
+
+mod deciding;
+mod tares;
+mod types;
+
+pub use tares::Tares;
+pub use types::{DatedTare, NoMemory, Span};
