@@ -1,0 +1,5 @@
+pub mod Calendar
+pub mod Dates
+pub mod DayTexts
+pub mod Fronts
+pub mod Numerals

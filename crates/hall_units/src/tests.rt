@@ -1,0 +1,79 @@
+use crate::{
+    DayText, GramText, get_u16, get_u32, get_u64, print_day, print_grams, put_u16, put_u32,
+    put_u64, read_day, read_grams, read_number,
+};
+use std::test::Fail;
+
+#[test]
+fn texts_are_read(rt: HostRuntime) {
+    let grams = [
+        ("0.5", Ok(500)),
+        ("251", Ok(251_000)),
+        ("00000251.05", Ok(251_050)),
+        ("99999999.999", Ok(99_999_999_999)),
+        ("251.0005", Err(GramText { place: 7 })),
+        ("251.", Err(GramText { place: 4 })),
+        ("", Err(GramText { place: 0 })),
+        (".5", Err(GramText { place: 0 })),
+        ("-1", Err(GramText { place: 0 })),
+        ("123456789", Err(GramText { place: 8 })),
+        ("251 ", Err(GramText { place: 3 })),
+    ];
+    for (text, mg) in grams {
+        assert_eq!(rt; read_grams(text.as_bytes()), mg, "{text}");
+    }
+    let days = [
+        ("1970-01-01", Ok(0)),
+        ("2025-03-03", Ok(20_150)),
+        ("2024-02-29", Ok(19_782)),
+        ("9999-12-31", Ok(2_932_896)),
+        ("2025-02-29", Err(DayText)),
+        ("1969-12-31", Err(DayText)),
+        ("2025-3-03", Err(DayText)),
+        ("2025/03/03", Err(DayText)),
+        ("2025-03-03 ", Err(DayText)),
+    ];
+    for (text, day) in days {
+        assert_eq!(rt; read_day(text.as_bytes()), day, "{text}");
+    }
+    let numbers = [
+        ("007", Some(7)),
+        ("18446744073709551615", Some(u64::MAX)),
+        ("18446744073709551616", None),
+        ("000000000000000000001", None),
+        ("", None),
+        ("+1", None),
+    ];
+    for (text, number) in numbers {
+        assert_eq!(rt; read_number(text.as_bytes()), number, "{text}");
+    }
+}
+
+#[test]
+fn grams_and_days_are_printed(rt: HostRuntime) -> Result<(), Fail> {
+    let mut text = Vec::new(rt.alloc());
+    print_grams(-1_500, &mut text)?;
+    text.push(b' ')?;
+    print_grams(251_000, &mut text)?;
+    text.push(b' ')?;
+    print_grams(1_000_000_000_000_000, &mut text)?;
+    text.push(b' ')?;
+    print_day(20_150, &mut text)?;
+    assert_eq!(rt;
+        text.as_slice(),
+        b"-1.500 251.000 1000000000000.000 2025-03-03".as_slice()
+    );
+    Ok(())
+}
+
+#[test]
+fn fields_have_their_little_end_first(rt: HostRuntime) {
+    let mut bytes = [0; 15];
+    put_u16(&mut bytes, 0, 0x0201);
+    put_u32(&mut bytes, 2, 0x0605_0403);
+    put_u64(&mut bytes, 6, 0x0E0D_0C0B_0A09_0807);
+    assert_eq!(rt; bytes, [1, 2, 3, 4, 5, 6, 7, 8, 9, 10, 11, 12, 13, 14, 0]);
+    assert_eq!(rt; get_u16(&bytes, 1), 0x0302);
+    assert_eq!(rt; get_u32(&bytes, 1), 0x0504_0302);
+    assert_eq!(rt; get_u64(&bytes, 1), 0x0908_0706_0504_0302);
+}

@@ -1,0 +1,15 @@
+use std::alloc::AllocError;
+
+/// Memory was refused.
+pub type NoMemory = AllocError;
+
+/// A text that doesn't spell a mass in grams.
+#[derive(Clone, Copy, Debug, PartialEq, Eq)]
+pub struct GramText {
+    /// The length of the longest front of the text that begins some spelling.
+    pub place: usize,
+}
+
+/// A text that doesn't spell a day.
+#[derive(Clone, Copy, Debug, PartialEq, Eq)]
+pub struct DayText;
