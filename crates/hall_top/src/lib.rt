@@ -8,6 +8,7 @@ mod finish;
 mod gross;
 mod lane;
 mod pieces;
+pub mod plain;
 mod reading;
 mod setting;
 mod stop;
@@ -16,3 +17,6 @@ mod top;
 mod weigh;
 
 pub use top::hall;
+
+#[cfg(test)]
+mod tests;

@@ -1,7 +1,7 @@
-ghost use Rattle.std.specs.Prelude.{◌≡◌, ◌≢◌, ◌↔◌, ◌⊎◌, true, false, map, IsTrue, IsNone, IfSome};
+ghost use Rattle.std.specs.Prelude.{◌≡◌, ◌≢◌, ◌↔◌, ◌⊎◌, ◌<◌, true, false, map, length, IsTrue, IsNone, IfSome};
 ghost use Rattle.std.specs.String.{string_bytes};
 ghost use Rattle.std.specs.Io.KnownBytes.{Appends, IsAtEnd};
-ghost use Rattle.counts_and_texts.specs.Count.{Rose};
+ghost use Rattle.counts_and_texts.specs.Count.{Calm, Rose};
 ghost use Rattle.hall_top.specs.Setting.{setting_of};
 ghost use Rattle.hall_top.specs.Lines.{lines_of, all_good};
 ghost use Rattle.hall_top.specs.Texts as texts;
@@ -65,6 +65,11 @@ pub fn hall<S: Source, K: Sink>(
     // The reads were spent: each gave a byte, and the lines that they gave are good and answered.
     ensures spent { result ≡ 12 → IfSome (setting_of (map (λ word. string_bytes word) words.now)) (λ setting.
         IsSpent setting (S.left input.old) (S.left input.new) (K.held output.old) (K.held output.new)) }
+
+    // A good input of fewer bytes than the reads, with no fault, gives the whole text, or there is no memory.
+    ensures complete { Given (setting_of (map (λ word. string_bytes word) words.now)) (S.left input.old) (λ setting bytes.
+        all_good (lines_of bytes) ≡ true → length bytes < 100000000 → Calm (S.faults input.old) (S.faults input.new)
+        → Calm (K.faults output.old) (K.faults output.new) → (result ≡ 0) ⊎ (result ≡ 7)) }
 {
     let Some(setting) = read_setting(words) else {
         let _ = write_all(output, b"usage: hall COMMAND [OPTIONS]\n");
