@@ -1,10 +1,8 @@
 -- Lemmas on lines and readings.
-use Rattle.std.proofs.Common.{◌≡◌, ℕ, ◌+◌, ◌-◌, ◌<◌, ◌≤◌, suc, Bool, true, false, ◌&&◌, List, [], ◌∷◌, ◌++◌, length, Option, Some, None, is_some, cond, eqb, refl, sym, ap, ◌∙◌, arith, append_assoc, append-nil, subst}
+use Rattle.std.proofs.Common.{◌≡◌, ℕ, ◌+◌, ◌<◌, ◌≤◌, suc, Bool, true, false, ◌&&◌, List, [], ◌∷◌, ◌++◌, length, Option, Some, None, is_some, cond, eqb, refl, sym, ap, ◌∙◌, arith, append_assoc, append-nil, zero-add}
 use Rattle.std.specs.Option.{option_map_or}
-use Rattle.std.specs.List.{list_all}
 use Rattle.std.proofs.lemmas.Bool.Decides.{nat_tests}
 use Rattle.std.proofs.lemmas.List.{length_push}
-use Rattle.std.proofs.lemmas.List.Folds.{list_all-append}
 use Rattle.counts_and_texts.specs.Front.{IsFrontOf}
 use Rattle.hall_top.specs.declared.setting.Setting.{Setting}
 use Rattle.hall_top.specs.declared.reading.Reading.{Reading}
@@ -88,6 +86,17 @@ all_good-push (x ∷ lines) line g good e =
     let both = both_true _ _ good in
     ap (λ b. is_some (gross_of x) && b) (all_good-push lines line g both.1 e) ∙ ap (λ b. b && true) both.0
 
+longer_front : (o : Option ℕ) (front : List ℕ) → is_some o ≡ true → length (option_map_or (λ h. h ∷ front) o []) ≡ suc (length front)
+longer_front (Some h) front e = refl
+longer_front None front e = absurd cc
+
+-- good lines give a gross each
+pub length-front_grosses : (lines : List (List ℕ)) → all_good lines ≡ true → length (front_grosses lines) ≡ length lines
+length-front_grosses [] good = refl
+length-front_grosses (x ∷ lines) good =
+    let both = both_true _ _ good in
+    longer_front (gross_of x) (front_grosses lines) both.0 ∙ ap suc (length-front_grosses lines both.1)
+
 -- a line that is longer than any gross gives none
 pub too_long : (line : List ℕ) → 8 < length line → gross_of line ≡ None
 too_long line long = grind (arith, nat_tests)
@@ -106,6 +115,10 @@ ended_with_end taken = ended_after-append [] taken (10 ∷ [])
 
 pub rest_with_end : (taken : List ℕ) → rest_of (taken ++ 10 ∷ []) ≡ []
 rest_with_end taken = rest_after-append [] taken (10 ∷ [])
+
+-- the lines when one more has ended
+pub lines_with_end : (taken : List ℕ) → lines_of (taken ++ 10 ∷ []) ≡ ended_lines taken ++ rest_of taken ∷ []
+lines_with_end taken = ap (λ begun. ended_lines (taken ++ 10 ∷ []) ++ last_line begun) (rest_with_end taken) ∙ append-nil _ ∙ ended_with_end taken
 
 pub ended_with_other : (taken : List ℕ) (byte : ℕ) → eqb byte 10 ≡ false → ended_lines (taken ++ byte ∷ []) ≡ ended_lines taken
 ended_with_other taken byte e =
@@ -131,3 +144,7 @@ earlier_stay setting earlier (x ∷ grosses) =
 pub length-readings_after : (setting : Setting) (earlier : List Reading) (grosses : List ℕ) → length (readings_after setting earlier grosses) ≡ length earlier + length grosses
 length-readings_after setting earlier [] = omega arith
 length-readings_after setting earlier (x ∷ grosses) = omega (arith, length-readings_after setting (earlier ++ reading_in setting earlier x ∷ []) grosses, length_push earlier (reading_in setting earlier x))
+
+-- there are as many earlier readings as lines
+pub readings_of_lines : (setting : Setting) (lines : List (List ℕ)) → all_good lines ≡ true → length (readings_of setting (front_grosses lines)) ≡ length lines
+readings_of_lines setting lines good = length-readings_after setting [] (front_grosses lines) ∙ zero-add _ ∙ length-front_grosses lines good

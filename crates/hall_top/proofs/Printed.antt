@@ -1,15 +1,14 @@
 -- Lemmas on what a run prints.
-use Rattle.std.proofs.Common.{◌≡◌, ℕ, ◌+◌, suc, List, [], ◌∷◌, ◌++◌, length, take, drop, Option, Result, Ok, Err, OnOk, IfErr, Bool, true, false, cond, refl, sym, ap, ◌∙◌, arith, append_assoc, append-nil, subst}
+use Rattle.std.proofs.Common.{◌≡◌, ℕ, ◌+◌, suc, List, [], ◌∷◌, ◌++◌, length, take, drop, Option, Result, Ok, Err, OnOk, IfErr, Bool, true, false, cond, inl, inr, ◌<◌, refl, sym, ap, ◌∙◌, arith, append_assoc, append-nil, subst}
 use Rattle.std.proofs.lemmas.List.{take-append-drop}
 use Rattle.std.specs.Io.KnownBytes.{Appends}
 use Rattle.pack_judge.specs.declared.types.Signal.{Signal}
-use Rattle.std.specs.Io.KnownBytes.{Consumes, IsAtEnd}
 use Rattle.std.proofs.KnownBytes.{Appends-trans}
 use Rattle.counts_and_texts.specs.Front.{IsFrontOf}
-use Rattle.counts_and_texts.specs.Count.{Calm, Counted, CountsFault}
+use Rattle.counts_and_texts.specs.Count.{CountsFault}
 use Rattle.counts_and_texts.specs.CountLaws.{calm_counts_none}
 use Rattle.disk_core.specs.declared.types.Partly.{Partly}
-use Rattle.hall_top.specs.Run.{Wrote, WroteFront}
+use Rattle.hall_top.specs.Run.{Wrote, WroteFrontOf, WroteFront, IsCutIn}
 use Rattle.hall_top.specs.Reached.{GoesBad}
 use Rattle.hall_top.specs.Lines.{ended_lines, ended_after, rest_of, rest_after, last_line, lines_of, all_good, front_grosses}
 use Rattle.hall_top.specs.Readings.{readings_of}
@@ -48,14 +47,32 @@ answered setting earlier gross number signal text t n s =
     ap (λ said. answers_from 1 earlier ++ said) (t ∙ ap (λ m. answer_line m signal) place ∙ ap (λ given. answer_line (1 + length earlier) given) s)
     ∙ sym (answers_from-push 1 earlier (reading_in setting earlier gross))
 
--- what a last write left
+-- what a last write left, as a front of both texts
 pub wrote_last : {T : Type 0} (before held_before held : Option (List ℕ)) (done text : List ℕ) (faults_before faults_now : ℕ) (r : Result T Partly) → Appends before held_before done
     → OnOk r (Appends held_before held text) → IfErr r (λ partly. Appends held_before held (take partly.done text)) → CountsFault faults_before faults_now r
-    → Wrote before held (done ++ text) faults_before faults_now
+    → WroteFrontOf before held (done ++ text) faults_before faults_now
 wrote_last before held_before held done text f f' (Ok x) out written partly cause =
     record { piece = done ++ text; out = Appends-trans _ _ _ _ _ out written; front = ([], sym (append-nil (done ++ text))); whole = λ _. refl }
 wrote_last before held_before held done text f f' (Err e) out written partly cause =
     record { piece = done ++ take e.done text; out = Appends-trans _ _ _ _ _ out partly; front = part_is_front done text e.done; whole = λ calm. calm_counts_none f f' 0 calm cause }
+
+-- what a last write left: all, or a part of the last text
+pub wrote_or_cut : {T : Type 0} (before held_before held : Option (List ℕ)) (done text : List ℕ) (faults_before faults_now : ℕ) (r : Result T Partly) → Appends before held_before done
+    → OnOk r (Appends held_before held text) → IfErr r (λ partly. Appends held_before held (take partly.done text)) → IfErr r (λ partly. partly.done < length text) → CountsFault faults_before faults_now r
+    → Wrote before held done text faults_before faults_now
+wrote_or_cut before held_before held done text f f' (Ok x) out written partly less cause = inl (Appends-trans _ _ _ _ _ out written, cause)
+wrote_or_cut before held_before held done text f f' (Err e) out written partly less cause =
+    inr (record { part = e.done; less = less; out = Appends-trans _ _ _ _ _ out partly; failed = cause })
+
+-- a text that was cut is a front of the whole
+pub cut_is_front : (before held : Option (List ℕ)) (done last whole : List ℕ) (f f' : ℕ) → done ++ last ≡ whole → IsCutIn before held done last f f' → WroteFront before held whole f f'
+cut_is_front before held done last whole f f' is cut =
+    record {
+      piece = done ++ take cut.part last;
+      out = cut.out;
+      front = subst (IsFrontOf (done ++ take cut.part last)) is (part_is_front done last cut.part);
+      failed = cut.failed;
+    }
 
 -- the text of a run that meets a bad line
 pub refused_text : (setting : Setting) (taken bytes : List ℕ) (number : ℕ) → all_good (ended_lines taken) ≡ true → GoesBad taken bytes → number ≡ length (front_grosses (ended_lines taken)) + 1

@@ -1,24 +1,23 @@
 -- Lemmas on a run that takes bytes.
-use Rattle.std.proofs.Common.{◌≡◌, ℕ, ◌+◌, ◌<◌, ◌≤◌, Bool, true, false, List, [], ◌∷◌, ◌++◌, length, take, Option, Some, None, eqb, cond, refl, sym, ap, ◌∙◌, arith, append_assoc, append-nil, subst}
+use Rattle.std.proofs.Common.{◌≡◌, ℕ, ◌+◌, ◌<◌, true, false, List, [], ◌∷◌, ◌++◌, length, take, Option, Some, None, eqb, cond, refl, sym, ap, ◌∙◌, arith, append_assoc, append-nil, length-append, subst}
 use Rattle.std.proofs.lemmas.List.{length_push}
 use Rattle.hall_top.specs.Lines.{ended_lines, ended_after, rest_of, rest_after, last_line, lines_of, all_good, front_grosses, gross_of}
 use Rattle.std.specs.Io.KnownBytes.{Appends}
 use Rattle.std.proofs.KnownBytes.{Appends-trans}
 use Rattle.counts_and_texts.specs.Count.{Counted}
-use Rattle.counts_and_texts.specs.Front.{IsFrontOf}
-use Rattle.pack_judge.specs.declared.types.Signal.{Signal}
 use Rattle.hall_top.specs.declared.setting.Setting.{Setting}
 use Rattle.hall_top.specs.declared.counts.Counts.{Counts}
 use Rattle.hall_top.specs.declared.reading.Reading.{Reading}
 use Rattle.hall_top.specs.declared.lane.Lane.{Lane}
 use Rattle.hall_top.specs.declared.stop.Stop.{Stop}
+use Rattle.hall_top.specs.declared.stop.Stop.TheVariants.{WriteFault}
 use Rattle.hall_top.specs.Counts.{CountsFor}
-use Rattle.hall_top.specs.Readings.{readings_of, reading_in}
-use Rattle.hall_top.specs.Texts.{answers, answers_from, answers_to, text_of, balance}
-use Rattle.hall_top.specs.Run.{EndsSo, WroteFront}
+use Rattle.hall_top.specs.Readings.{readings_of, reading_in, signal_in}
+use Rattle.hall_top.specs.Texts.{answers, answers_from, answer_line, text_of, balance}
+use Rattle.hall_top.specs.Run.{EndsSo, WroteFront, IsCutIn, StopsAtLast}
 use Rattle.hall_top.specs.Reached.{Reached, GoesBad, GoesOn, StopsAfter, Answered}
-use Rattle.hall_top.proofs.LineLists.{lines_of-append, line_goes_on, last_line_is, too_long, front_grosses-push, all_good-push, readings_after-append, ended_with_end, rest_with_end, ended_with_other, rest_with_other}
-use Rattle.hall_top.proofs.Printed.{answers_are_front, front_of_more, front_of_front, part_is_front, whole_text}
+use Rattle.hall_top.proofs.LineLists.{lines_of-append, line_goes_on, last_line_is, too_long, front_grosses-push, all_good-push, readings_after-append, readings_of_lines, ended_with_end, rest_with_end, ended_with_other, rest_with_other}
+use Rattle.hall_top.proofs.Printed.{answers_are_front, front_of_more, front_of_front, whole_text, answered, cut_is_front}
 
 -- a line that is full goes on
 pub goes_bad_long : (taken : List ℕ) (byte : ℕ) (rest : List ℕ) → eqb byte 10 ≡ false → length (rest_of taken) ≡ 8 → GoesBad taken ((taken ++ byte ∷ []) ++ rest)
@@ -100,17 +99,35 @@ reached_end setting before held_before held taken g lane next is same line count
       out = subst (λ (rs : List Reading). Appends before held (answers_from 1 rs)) (sym readings) out;
     }
 
+-- the answer to a line is the next one
+pub next_answer : (setting : Setting) (taken : List ℕ) (g : ℕ) → answers_from 1 (earlier_at setting taken) ++ answer_line (length (earlier_at setting taken) + 1) (signal_in setting (earlier_at setting taken) g)
+    ≡ answers_from 1 (earlier_at setting taken ++ reading_in setting (earlier_at setting taken) g ∷ [])
+next_answer setting taken g = answered setting (earlier_at setting taken) g _ _ _ refl refl refl
+
 -- the answer to a good line didn't go out whole
 pub front_at_end : (setting : Setting) (before held : Option (List ℕ)) (taken rest : List ℕ) (g f f' : ℕ) → gross_of (rest_of taken) ≡ Some g → all_good (ended_lines taken) ≡ true
-    → WroteFront before held (answers_from 1 (earlier_at setting taken ++ reading_in setting (earlier_at setting taken) g ∷ [])) f f'
+    → IsCutIn before held (answers_from 1 (earlier_at setting taken)) (answer_line (length (earlier_at setting taken) + 1) (signal_in setting (earlier_at setting taken) g)) f f'
     → WroteFront before held (text_of setting ((taken ++ 10 ∷ []) ++ rest)) f f'
-front_at_end setting before held taken rest g f f' is good wrote =
+front_at_end setting before held taken rest g f f' is good cut =
     let ended = ended_with_end taken in
     let readings = ap (λ ls. readings_of setting (front_grosses ls)) ended ∙ readings_next setting taken g good is in
     let ended_good : all_good (ended_lines (taken ++ 10 ∷ [])) ≡ true = ap all_good ended ∙ all_good-push (ended_lines taken) (rest_of taken) g good is in
     let whole = answers_are_front setting (taken ++ 10 ∷ []) rest ended_good in
-    let front = subst (λ (rs : List Reading). IsFrontOf wrote.piece (answers_from 1 rs)) (sym readings) wrote.front in
-    record { piece = wrote.piece; out = wrote.out; front = front_of_front _ _ _ front whole; failed = wrote.failed }
+    let wrote = cut_is_front before held _ _ _ f f' (next_answer setting taken g ∙ ap (answers_from 1) (sym readings)) cut in
+    record { piece = wrote.piece; out = wrote.out; front = front_of_front _ _ _ wrote.front whole; failed = wrote.failed }
+
+-- the answer to the last of these lines didn't go out whole
+pub stops_in_answer : (setting : Setting) (before held : Option (List ℕ)) (taken judged : List ℕ) (g f f' : ℕ) → lines_of judged ≡ ended_lines taken ++ rest_of taken ∷ [] → gross_of (rest_of taken) ≡ Some g → all_good (ended_lines taken) ≡ true
+    → IsCutIn before held (answers_from 1 (earlier_at setting taken)) (answer_line (length (earlier_at setting taken) + 1) (signal_in setting (earlier_at setting taken) g)) f f'
+    → StopsAtLast setting before held f f' WriteFault judged
+stops_in_answer setting before held taken judged g f f' parts is good cut =
+    record {
+      lines = ended_lines taken;
+      line = rest_of taken;
+      parts = parts;
+      good = good;
+      last = (g, is, subst (λ (n : ℕ). IsCutIn before held (answers_from 1 (earlier_at setting taken)) (answer_line (n + 1) (signal_in setting (earlier_at setting taken) g)) f f') (readings_of_lines setting (ended_lines taken) good) cut);
+    }
 
 -- two steps are one
 pub steps_on : (h h' h'' : Option (List ℕ)) (f f' f'' : ℕ) (lane lane' lane'' : Lane) (front piece : List ℕ) → lane'.setting ≡ lane.setting
@@ -137,6 +154,18 @@ steps_stop h h' h'' f f' f'' lane lane' front piece rest stop same first second 
           subst (λ (s : Setting). EndsSo s before h'' f f'' stop ((taken ++ (front ++ (piece ++ rest))) ++ more)) same
           (subst (λ (n : ℕ). EndsSo lane'.setting before h'' n f'' stop ((taken ++ (front ++ (piece ++ rest))) ++ more)) first.calm
           (subst (λ (bs : List ℕ). EndsSo lane'.setting before h'' f' f'' stop bs) bytes ends));
+      judged = λ before taken stands.
+          let there = subst (λ (s : Setting). Reached s before h' (taken ++ front) lane') (sym same) (first.reached before taken stands) in
+          let upto = second.judged before (taken ++ front) there in
+          record {
+            judged = front ++ upto.judged;
+            rest = upto.rest ++ rest;
+            parts = ap (λ bs. front ++ (bs ++ rest)) upto.parts ∙ simp append_assoc;
+            some = omega (arith, upto.some, length-append front upto.judged);
+            stands = subst (λ (s : Setting). StopsAtLast s before h'' f f'' stop (taken ++ (front ++ upto.judged))) same
+                (subst (λ (n : ℕ). StopsAtLast lane'.setting before h'' n f'' stop (taken ++ (front ++ upto.judged))) first.calm
+                (subst (λ (bs : List ℕ). StopsAtLast lane'.setting before h'' f' f'' stop bs) (append_assoc taken front upto.judged) upto.stands));
+          };
     }
 
 -- where nothing has begun, the lines that ended are all
@@ -154,6 +183,13 @@ answered_ended setting before held taken lane counts same none stands =
 pub lines_with_last : (taken : List ℕ) → 0 < length (rest_of taken) → lines_of taken ≡ ended_lines taken ++ rest_of taken ∷ []
 lines_with_last taken some = ap (λ lines. ended_lines taken ++ lines) (last_line_is (rest_of taken) some)
 
+-- the lines when one has begun or goes on
+pub lines_begun : (taken : List ℕ) (byte : ℕ) → eqb byte 10 ≡ false → lines_of (taken ++ byte ∷ []) ≡ ended_lines taken ++ (rest_of taken ++ byte ∷ []) ∷ []
+lines_begun taken byte other =
+    ap (λ ls. ls ++ last_line (rest_of (taken ++ byte ∷ []))) (ended_with_other taken byte other)
+    ∙ ap (λ begun. ended_lines taken ++ last_line begun) (rest_with_other taken byte other)
+    ∙ ap (λ ls. ended_lines taken ++ ls) (last_line_is (rest_of taken ++ byte ∷ []) (omega (arith, length_push (rest_of taken) byte)))
+
 -- a good last line is answered too
 pub answered_last : (setting : Setting) (before held : Option (List ℕ)) (taken : List ℕ) (g : ℕ) (counts : Counts) → gross_of (rest_of taken) ≡ Some g → 0 < length (rest_of taken) → all_good (ended_lines taken) ≡ true
     → CountsFor setting (earlier_at setting taken ++ reading_in setting (earlier_at setting taken) g ∷ []) counts
@@ -170,13 +206,13 @@ answered_last setting before held taken g counts is some good stands out =
 
 -- the answer to a good last line didn't go out whole
 pub front_at_last : (setting : Setting) (before held : Option (List ℕ)) (taken : List ℕ) (g f f' : ℕ) → gross_of (rest_of taken) ≡ Some g → 0 < length (rest_of taken) → all_good (ended_lines taken) ≡ true
-    → WroteFront before held (answers_from 1 (earlier_at setting taken ++ reading_in setting (earlier_at setting taken) g ∷ [])) f f'
+    → IsCutIn before held (answers_from 1 (earlier_at setting taken)) (answer_line (length (earlier_at setting taken) + 1) (signal_in setting (earlier_at setting taken) g)) f f'
     → WroteFront before held (text_of setting taken) f f'
-front_at_last setting before held taken g f f' is some good wrote =
+front_at_last setting before held taken g f f' is some good cut =
     let lines = lines_with_last taken some in
     let readings = ap (λ ls. readings_of setting (front_grosses ls)) lines ∙ readings_next setting taken g good is in
-    let front = subst (λ (rs : List Reading). IsFrontOf wrote.piece (answers_from 1 rs)) (sym readings) wrote.front in
-    record { piece = wrote.piece; out = wrote.out; front = front_of_more _ _ _ front; failed = wrote.failed }
+    let wrote = cut_is_front before held _ _ _ f f' (next_answer setting taken g ∙ ap (answers_from 1) (sym readings)) cut in
+    record { piece = wrote.piece; out = wrote.out; front = front_of_more _ _ _ wrote.front; failed = wrote.failed }
 
 -- the balance behind the answers is the whole text
 pub balanced : (setting : Setting) (before held_before held : Option (List ℕ)) (bytes text : List ℕ) (counts : Counts) → text ≡ balance (readings_of setting (front_grosses (lines_of bytes)))
@@ -185,13 +221,14 @@ balanced setting before held_before held bytes text counts is answered out =
     subst (Appends before held) (ap (λ t. answers setting (front_grosses (lines_of bytes)) ++ t) is ∙ sym (whole_text setting bytes answered.good)) (Appends-trans _ _ _ _ _ answered.out out)
 
 -- the balance didn't go out whole
-pub front_of_balance : (setting : Setting) (before held_before held : Option (List ℕ)) (bytes text : List ℕ) (n f f' : ℕ) (counts : Counts) → text ≡ balance (readings_of setting (front_grosses (lines_of bytes)))
-    → Answered setting before held_before bytes counts → Appends held_before held (take n text) → Counted f f' 1 → WroteFront before held (text_of setting bytes) f f'
-front_of_balance setting before held_before held bytes text n f f' counts is answered out failed =
+pub balance_cut : (setting : Setting) (before held_before held : Option (List ℕ)) (bytes text : List ℕ) (n f f' : ℕ) (counts : Counts) → text ≡ balance (readings_of setting (front_grosses (lines_of bytes)))
+    → Answered setting before held_before bytes counts → Appends held_before held (take n text) → n < length text → Counted f f' 1
+    → IsCutIn before held (answers setting (front_grosses (lines_of bytes))) (balance (readings_of setting (front_grosses (lines_of bytes)))) f f'
+balance_cut setting before held_before held bytes text n f f' counts is answered out less failed =
     let done = answers setting (front_grosses (lines_of bytes)) in
-    record {
-      piece = done ++ take n text;
-      out = Appends-trans _ _ _ _ _ answered.out out;
-      front = subst (IsFrontOf (done ++ take n text)) (ap (λ t. done ++ t) is ∙ sym (whole_text setting bytes answered.good)) (part_is_front done text n);
-      failed = failed;
-    }
+    subst (λ (t : List ℕ). IsCutIn before held done t f f') is (record { part = n; less = less; out = Appends-trans _ _ _ _ _ answered.out out; failed = failed })
+
+-- a balance that was cut is a front of the text
+pub front_of_balance : (setting : Setting) (before held : Option (List ℕ)) (bytes : List ℕ) (f f' : ℕ) → all_good (lines_of bytes) ≡ true
+    → IsCutIn before held (answers setting (front_grosses (lines_of bytes))) (balance (readings_of setting (front_grosses (lines_of bytes)))) f f' → WroteFront before held (text_of setting bytes) f f'
+front_of_balance setting before held bytes f f' good cut = cut_is_front before held _ _ _ f f' (sym (whole_text setting bytes good)) cut

@@ -1,5 +1,5 @@
 -- What the counters of a run stand for.
-use Rattle.std.specs.Prelude.{◌≡◌, ℕ, List, length, sum_by}
+use Rattle.std.specs.Prelude.{◌≡◌, List, length, sum_by}
 use Rattle.hall_top.specs.declared.setting.Setting.{Setting}
 use Rattle.hall_top.specs.declared.reading.Reading.{Reading}
 use Rattle.hall_top.specs.declared.counts.Sum.{Sum}

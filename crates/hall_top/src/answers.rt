@@ -3,10 +3,10 @@ ghost use Rattle.std.specs.Io.KnownBytes.{Appends};
 ghost use Rattle.hall_top.specs.declared.setting.Setting.{Setting};
 ghost use Rattle.hall_top.specs.declared.reading.Reading.{Reading};
 ghost use Rattle.hall_top.specs.Lines.{ended_lines, lines_of, rest_of, all_good, gross_of};
-ghost use Rattle.hall_top.specs.Readings.{reading_in};
-ghost use Rattle.hall_top.specs.Texts.{answers_from};
+ghost use Rattle.hall_top.specs.Readings.{reading_in, signal_in};
+ghost use Rattle.hall_top.specs.Texts.{answers_from, answer_line};
 ghost use Rattle.hall_top.specs.Counts.{CountsFor};
-ghost use Rattle.hall_top.specs.Run.{EndsSo, Wrote, WroteFront};
+ghost use Rattle.hall_top.specs.Run.{EndsSo, IsCutIn, StopsAtLast};
 ghost use Rattle.hall_top.specs.Reached.{Reached, GoesBad};
 
 use crate::lane::Lane;
@@ -26,7 +26,8 @@ pub fn answer<K: Sink>(lane: &mut Lane, gross: u64, output: &mut K) -> Result<()
         → OnOk result (Appends before (K.held output.new) (answers_from 1 (earlier ++ reading_in lane.old.setting earlier gross ∷ []))) }
     ensures failed { (earlier : List Reading) (before : Option (List ℕ)) → CountsFor lane.old.setting earlier lane.old.counts
         → Appends before (K.held output.old) (answers_from 1 earlier)
-        → OnErr result (WroteFront before (K.held output.new) (answers_from 1 (earlier ++ reading_in lane.old.setting earlier gross ∷ [])) (K.faults output.old) (K.faults output.new)) }
+        → OnErr result (IsCutIn before (K.held output.new) (answers_from 1 earlier)
+        (answer_line (length earlier + 1) (signal_in lane.old.setting earlier gross)) (K.faults output.old) (K.faults output.new)) }
     ensures cause { IfErr result (λ stop. stop ≡ Stop.WriteFault) }
     ensures calm { OnOk result (K.faults output.new ≡ K.faults output.old) }
     ensures one { lane.new.counts.all.count ≡ lane.old.counts.all.count + 1 }
@@ -48,6 +49,9 @@ pub fn refuse<K: Sink>(lane: &mut Lane, output: &mut K) -> Stop
     ensures bad { (before : Option (List ℕ)) (taken bytes : List ℕ) → Reached lane.old.setting before (K.held output.old) taken lane.old
         → GoesBad taken bytes
         → EndsSo lane.old.setting before (K.held output.new) (K.faults output.old) (K.faults output.new) Stop.BadLine bytes }
+    ensures judged { (before : Option (List ℕ)) (taken judged line : List ℕ) → Reached lane.old.setting before (K.held output.old) taken lane.old
+        → lines_of judged ≡ ended_lines taken ++ line ∷ [] → gross_of line ≡ None
+        → StopsAtLast lane.old.setting before (K.held output.new) (K.faults output.old) (K.faults output.new) Stop.BadLine judged }
     ensures stop { result ≡ Stop.BadLine }
     ensures counts { lane.new.counts ≡ lane.old.counts }
     ensures setting { lane.new.setting ≡ lane.old.setting }

@@ -1,6 +1,6 @@
 ghost use Rattle.std.specs.Prelude.{◌≡◌, ◌+◌, ◌<◌, ◌≤◌, ◌^◌, ℕ, List, Option, OnOk, IfErr};
 ghost use Rattle.hall_top.specs.Run.{EndsSo};
-ghost use Rattle.hall_top.specs.Reached.{Reached, Answered};
+ghost use Rattle.hall_top.specs.Reached.{Reached, Answered, StopsAtEnd};
 
 use crate::answers::{answer, refuse};
 use crate::gross::read_gross;
@@ -18,6 +18,8 @@ fn finish_line<K: Sink>(lane: &mut Lane, output: &mut K) -> Result<(), Stop>
     ensures stops { (before : Option (List ℕ)) (taken : List ℕ) → Reached lane.old.setting before (K.held output.old) taken lane.old
         → IfErr result (λ stop. EndsSo lane.old.setting before (K.held output.new) (K.faults output.old) (K.faults output.new) stop taken) }
     ensures most { lane.new.counts.all.count ≤ lane.old.counts.all.count + 1 }
+    ensures judged { (before : Option (List ℕ)) (taken : List ℕ) → Reached lane.old.setting before (K.held output.old) taken lane.old
+        → IfErr result (StopsAtEnd lane.old.setting before (K.held output.new) (K.faults output.old) (K.faults output.new) taken) }
     ensures setting { lane.new.setting ≡ lane.old.setting }
 {
     if lane.line.is_empty() {
@@ -34,6 +36,8 @@ fn finish_line<K: Sink>(lane: &mut Lane, output: &mut K) -> Result<(), Stop>
 fn balance<K: Sink>(lane: &mut Lane, output: &mut K) -> Stop
     ensures ends { (before : Option (List ℕ)) (bytes : List ℕ) → Answered lane.old.setting before (K.held output.old) bytes lane.old.counts
         → EndsSo lane.old.setting before (K.held output.new) (K.faults output.old) (K.faults output.new) result bytes }
+    ensures judged { (before : Option (List ℕ)) (bytes : List ℕ) → Answered lane.old.setting before (K.held output.old) bytes lane.old.counts
+        → StopsAtEnd lane.old.setting before (K.held output.new) (K.faults output.old) (K.faults output.new) bytes result }
     ensures counts { lane.new.counts ≡ lane.old.counts }
     ensures setting { lane.new.setting ≡ lane.old.setting }
 {
@@ -50,6 +54,8 @@ pub fn finish<K: Sink>(lane: &mut Lane, output: &mut K) -> Stop
     requires room { lane.old.counts.all.count < 2 ^ 63 }
     ensures ends { (before : Option (List ℕ)) (taken : List ℕ) → Reached lane.old.setting before (K.held output.old) taken lane.old
         → EndsSo lane.old.setting before (K.held output.new) (K.faults output.old) (K.faults output.new) result taken }
+    ensures judged { (before : Option (List ℕ)) (taken : List ℕ) → Reached lane.old.setting before (K.held output.old) taken lane.old
+        → StopsAtEnd lane.old.setting before (K.held output.new) (K.faults output.old) (K.faults output.new) taken result }
     ensures most { lane.new.counts.all.count ≤ lane.old.counts.all.count + 1 }
     ensures setting { lane.new.setting ≡ lane.old.setting }
 {

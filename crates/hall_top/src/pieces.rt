@@ -48,7 +48,7 @@ fn new_lane(alloc: Global, setting: &Setting) -> Result<Lane, NoMemory>
 /// Says that the input failed.
 fn say_read_fault<K: Sink>(output: &mut K)
     ensures { (before : Option (List ℕ)) (done : List ℕ) → Appends before (K.held output.old) done
-        → Wrote before (K.held output.new) (done ++ read_fault) (K.faults output.old) (K.faults output.new) }
+        → Wrote before (K.held output.new) done read_fault (K.faults output.old) (K.faults output.new) }
 {
     let _ = write_all(output, b"read fault\n");
 }
@@ -61,6 +61,7 @@ fn take_piece<S: Source, K: Sink>(
     output: &mut K,
 ) -> Result<(), Stop>
     requires some { 0 < length buffer.old }
+    requires small { length buffer.old ≤ PIECE }
     requires room { lane.old.counts.all.count + length buffer.old < 2 ^ 63 }
     ensures taken { (input_before before : Option (List ℕ)) (taken : List ℕ) → Consumes input_before (S.left input.old) taken
         → Reached lane.old.setting before (K.held output.old) taken lane.old

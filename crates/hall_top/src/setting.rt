@@ -1,7 +1,6 @@
-ghost use Rattle.std.specs.Prelude.{◌≡◌, ◌≤◌, map, IfSome};
-ghost use Rattle.std.specs.String.{string_bytes};
+ghost use Rattle.std.specs.Prelude.{◌≡◌, ◌≤◌, IfSome};
 ghost use Rattle.counts_and_texts.specs.Number.{number_of};
-ghost use Rattle.hall_top.specs.Setting.{setting_of};
+ghost use Rattle.hall_top.specs.Setting.{setting_in};
 
 use counts_and_texts::read_number_within;
 
@@ -27,7 +26,7 @@ pub struct Setting {
 
 /// The setting that the words give: `run`, a nominal quantity and a tare, both in mg and of 1 to 8 digits.
 pub fn read_setting(words: &[String]) -> Option<Setting>
-    ensures value { result ≡ setting_of (map (λ word. string_bytes word) words.now) }
+    ensures value { result ≡ setting_in words.now }
     ensures least { IfSome result (λ setting. 5000 ≤ setting.nominal) }
     ensures greatest { IfSome result (λ setting. setting.nominal ≤ 10000000) }
     ensures tare { IfSome result (λ setting. setting.tare ≤ 5000000) }

@@ -1,11 +1,10 @@
-ghost use Rattle.std.specs.Prelude.{◌≡◌, ◌≢◌, ◌↔◌, ◌⊎◌, ◌<◌, true, false, map, length, IsTrue, IsNone, IfSome};
-ghost use Rattle.std.specs.String.{string_bytes};
+ghost use Rattle.std.specs.Prelude.{◌≡◌, ◌≢◌, ◌↔◌, ◌⊎◌, ◌<◌, true, false, length, [], IsTrue, IsNone, IfSome};
 ghost use Rattle.std.specs.Io.KnownBytes.{Appends, IsAtEnd};
-ghost use Rattle.counts_and_texts.specs.Count.{Calm, Rose};
-ghost use Rattle.hall_top.specs.Setting.{setting_of};
+ghost use Rattle.counts_and_texts.specs.Count.{Calm, Counted};
+ghost use Rattle.hall_top.specs.Setting.{setting_in};
 ghost use Rattle.hall_top.specs.Lines.{lines_of, all_good};
 ghost use Rattle.hall_top.specs.Texts as texts;
-ghost use Rattle.hall_top.specs.Run.{is_status, Given, Wrote, AnsweredThen, IsCutShort, IsSpent};
+ghost use Rattle.hall_top.specs.Run.{is_status, Given, Wrote, WroteFrontOf, AnsweredThen, IsCutShort, IsSpent, StopsWithin};
 
 use crate::pieces::run;
 use crate::setting::read_setting;
@@ -27,35 +26,39 @@ pub fn hall<S: Source, K: Sink>(
     ensures status { IsTrue (is_status result) }
 
     // Wrong words, and nothing else, give 2: nothing was read, and one line went out.
-    ensures usage { (result ≡ 2) ↔ IsNone (setting_of (map (λ word. string_bytes word) words.now)) }
+    ensures usage { (result ≡ 2) ↔ IsNone (setting_in words.now) }
     ensures usage_unread { result ≡ 2 → input.new ≡ input.old }
-    ensures usage_text { result ≡ 2 → Wrote (K.held output.old) (K.held output.new) texts.usage
+    ensures usage_text { result ≡ 2 → Wrote (K.held output.old) (K.held output.new) [] texts.usage
         (K.faults output.old) (K.faults output.new) }
 
     // The whole input is good: its whole text went out.
-    ensures finished { result ≡ 0 → Given (setting_of (map (λ word. string_bytes word) words.now)) (S.left input.old)
+    ensures finished { result ≡ 0 → Given (setting_in words.now) (S.left input.old)
         (λ setting bytes. (all_good (lines_of bytes) ≡ true)
         × Appends (K.held output.old) (K.held output.new) (texts.text_of setting bytes)) }
     ensures to_the_end { result ≡ 0 → IsAtEnd (S.left input.new) }
 
     // A line is bad: the text ends with its number.
-    ensures bad_line { result ≡ 3 → Given (setting_of (map (λ word. string_bytes word) words.now)) (S.left input.old)
+    ensures bad_line { result ≡ 3 → Given (setting_in words.now) (S.left input.old)
         (λ setting bytes. (all_good (lines_of bytes) ≡ false)
-        × Wrote (K.held output.old) (K.held output.new) (texts.text_of setting bytes)
+        × WroteFrontOf (K.held output.old) (K.held output.new) (texts.text_of setting bytes)
         (K.faults output.old) (K.faults output.new)) }
 
+    ensures bad_line_judged { result ≡ 3 → IfSome (setting_in words.now) (λ setting.
+        StopsWithin setting (S.left input.old) (S.left input.new) (K.held output.old) (K.held output.new)
+        (K.faults output.old) (K.faults output.new) Stop.BadLine) }
+
     // The input failed: the lines that it gave are good and answered, and then comes the one line of this status.
-    ensures read_fault { result ≡ 4 → IfSome (setting_of (map (λ word. string_bytes word) words.now)) (λ setting.
+    ensures read_fault { result ≡ 4 → IfSome (setting_in words.now) (λ setting.
         AnsweredThen setting (S.left input.old) (S.left input.new) (K.held output.old) (K.held output.new)
         texts.read_fault (K.faults output.old) (K.faults output.new)) }
-    ensures read_cause { result ≡ 4 → Rose (S.faults input.old) (S.faults input.new) }
+    ensures read_cause { result ≡ 4 → Counted (S.faults input.old) (S.faults input.new) 1 }
     ensures read_calm { result ≢ 4 → S.faults input.new ≡ S.faults input.old }
 
     // The output failed: a front of the text that would have gone out otherwise did.
-    ensures write_fault { result ≡ 5 → IfSome (setting_of (map (λ word. string_bytes word) words.now)) (λ setting.
+    ensures write_fault { result ≡ 5 → IfSome (setting_in words.now) (λ setting.
         IsCutShort setting (S.left input.old) (S.left input.new) (K.held output.old) (K.held output.new)
         (K.faults output.old) (K.faults output.new)) }
-    ensures write_cause { result ≡ 5 → Rose (K.faults output.old) (K.faults output.new) }
+    ensures write_cause { result ≡ 5 → Counted (K.faults output.old) (K.faults output.new) 1 }
     ensures write_calm { (result ≡ 0) ⊎ ((result ≡ 7) ⊎ (result ≡ 12)) → K.faults output.new ≡ K.faults output.old }
 
     // There was no memory: nothing was read, and one line went out.
@@ -63,11 +66,11 @@ pub fn hall<S: Source, K: Sink>(
     ensures no_memory { result ≡ 7 → Appends (K.held output.old) (K.held output.new) texts.no_memory }
 
     // The reads were spent: each gave a byte, and the lines that they gave are good and answered.
-    ensures spent { result ≡ 12 → IfSome (setting_of (map (λ word. string_bytes word) words.now)) (λ setting.
+    ensures spent { result ≡ 12 → IfSome (setting_in words.now) (λ setting.
         IsSpent setting (S.left input.old) (S.left input.new) (K.held output.old) (K.held output.new)) }
 
     // A good input of fewer bytes than the reads, with no fault, gives the whole text, or there is no memory.
-    ensures complete { Given (setting_of (map (λ word. string_bytes word) words.now)) (S.left input.old) (λ setting bytes.
+    ensures complete { Given (setting_in words.now) (S.left input.old) (λ setting bytes.
         all_good (lines_of bytes) ≡ true → length bytes < 100000000 → Calm (S.faults input.old) (S.faults input.new)
         → Calm (K.faults output.old) (K.faults output.new) → (result ≡ 0) ⊎ (result ≡ 7)) }
 {

@@ -1,4 +1,4 @@
-use Rattle.std.proofs.Common.{◌≡◌, ◌++◌, ◌+◌, List, ℕ, length, length-append, subst, sym, ◌∙◌, arith}
+use Rattle.std.proofs.Common.{◌++◌, length-append, subst, sym, ◌∙◌, arith}
 use Rattle.hall_top.specs.declared.setting.Setting.{Setting}
 use Rattle.hall_top.specs.Reached.{Reached}
 use Rattle.hall_top.proofs.Explaining.{explained_since}

@@ -1,4 +1,4 @@
-use Rattle.std.proofs.Common.{◌≡◌, [], subst, sym, ◌∙◌, refl}
+use Rattle.std.proofs.Common.{[], subst, sym, refl}
 use Rattle.hall_top.specs.declared.setting.Setting.{Setting}
 use Rattle.hall_top.specs.Counts.{CountsFor}
 use Rattle.hall_top.proofs.Explaining.{explained_since, begins}

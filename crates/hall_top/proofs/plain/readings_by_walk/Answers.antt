@@ -1,9 +1,8 @@
-use Rattle.std.proofs.Common.{◌≡◌, ◌≤◌, List, ℕ, ◌∷◌, [], ◌++◌, ◌+◌, length, get_or, take, sym, ap, ◌∙◌, subst}
+use Rattle.std.proofs.Common.{◌≡◌, ◌≤◌, ◌∷◌, [], ◌++◌, ◌+◌, get_or, take, sym, ap, ◌∙◌, subst}
 use Rattle.std.specs.List.{All}
 use Rattle.std.proofs.lemmas.List.{take_more}
 use Rattle.std.proofs.lemmas.List.Elements.{All-push}
 use Rattle.pack_judge.specs.declared.types.Signal.{Signal}
-use Rattle.hall_top.specs.declared.reading.Reading.{Reading}
 use Rattle.hall_top.specs.Readings.{readings_of, reading_in, signal_in}
 use Rattle.hall_top.proofs.LineLists.{readings_after-append}
 use Rattle.hall_top.proofs.plain.readings_by_walk.Goals as goal
