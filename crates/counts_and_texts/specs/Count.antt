@@ -1,10 +1,6 @@
 -- How often a device failed: a count that never falls and stands still at the greatest number of 64 bits.
 use Rattle.std.specs.Prelude.{◌≡◌, ℕ, ◌+◌, ◌-◌, ◌^◌, ◌<◌, ◌≤◌, min, MatchResult, Result}
 
--- where a count stands still
-abbrev pub end_of_count : ℕ
-end_of_count = 2 ^ 64 - 1
-
 -- the count is higher than before, or stands at its end
 abbrev pub Rose : ℕ → ℕ → Type 0
 Rose before now = min (before + 1) (2 ^ 64 - 1) ≤ now

@@ -3,10 +3,11 @@ ghost use Rattle.std.specs.Prelude.{◌≡◌, ◌+◌, ◌≤◌, ◌++◌, OnO
 use itoa::Buffer;
 use std::alloc::AllocError;
 
-/// No decimal text of 128 bits is longer.
+/// No decimal text of a number of 128 bits has more bytes.
 pub const LONGEST_DECIMAL: usize = 40;
 
-/// Appends the decimal digits of a number. With room for `LONGEST_DECIMAL` bytes it takes no memory; a refusal changes nothing.
+/// Appends the decimal digits of a number. With room for `LONGEST_DECIMAL` bytes it takes no memory; a refusal leaves
+/// the bytes as they were.
 pub fn push_decimal(to: &mut Vec<u8>, number: u128) -> Result<(), AllocError>
     ensures text { OnOk result (to.new.items ≡ to.old.items ++ decimal number) }
     ensures refused { OnErr result (to.new.items ≡ to.old.items) }

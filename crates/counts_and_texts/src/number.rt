@@ -26,7 +26,7 @@ fn value_of_digits(text: &[u8]) -> u128
 }
 
 /// The number that 1 to `most` decimal digits spell, leading zeros among them, where it is at most `limit`;
-/// `None` exactly for every other text.
+/// `None` exactly for every other text. `most` is at most `MOST_DIGITS`.
 pub fn read_number_within(most: usize, limit: u64, text: &[u8]) -> Option<u64>
     requires { most ≤ MOST_DIGITS }
     ensures { result ≡ number_of most limit text.now }

@@ -26,7 +26,8 @@ impl MemorySink {
     ghost use Rattle.std.specs.Prelude.{◌≡◌, []};
     ghost use Rattle.disk_core.specs.Streams.{Collection};
 
-    /// A sink that holds nothing and has failed nowhere yet; its calls with these numbers will fail.
+    /// A sink that holds nothing and has failed nowhere yet; its calls with these numbers will fail. The number of a
+    /// call stands still at the greatest `u32`.
     pub fn new(alloc: Global, fails: Vec<u32>) -> Self
         ensures { result ≡ record { held = []; calls = 0; fails = fails.items; faults = 0 } }
     {

@@ -28,7 +28,8 @@ impl MemorySource {
     ghost use Rattle.std.specs.Prelude.{◌≡◌};
     ghost use Rattle.disk_core.specs.Streams.{Supply};
 
-    /// A source that has these bytes left and has failed nowhere yet; its calls with these numbers will fail.
+    /// A source that has these bytes left and has failed nowhere yet; its calls with these numbers will fail. The
+    /// number of a call stands still at the greatest `u32`.
     pub fn new(bytes: Vec<u8>, fails: Vec<u32>) -> Self
         ensures { result ≡ record { left = bytes.items; calls = 0; fails = fails.items; faults = 0 } }
     {

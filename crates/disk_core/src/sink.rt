@@ -13,8 +13,8 @@ pub trait Sink {
     /// How often it failed, up to the greatest number of 64 bits.
     ghost faults: { Self → ℕ };
 
-    /// Takes a front of the bytes and tells how many they are: at least one, where there is one. A call that fails
-    /// takes nothing.
+    /// Takes a front of the bytes and tells how many they are: at least one, where there is one. `Failed` takes
+    /// nothing and raises the count of faults by one.
     fn write(&mut self, bytes: &[u8]) -> Result<usize, Failed>
         ensures bound { IfOk result (λ count. count ≤ length bytes.now) }
         ensures some { IfOk result (λ count. 0 < length bytes.now → 0 < count) }
@@ -23,8 +23,8 @@ pub trait Sink {
         ensures cause { CountsFault (faults self.old) (faults self.new) result };
 }
 
-/// Writes all of the bytes. `Partly` comes only where the sink failed; then the first `done` bytes went out, and
-/// at least one didn't.
+/// Writes all of the bytes; it takes no memory. `Partly` comes only where the sink failed; then the first `done`
+/// bytes went out, and at least one didn't.
 pub fn write_all<K: Sink>(sink: &mut K, bytes: &[u8]) -> Result<(), Partly>
     ensures written { OnOk result (Appends (K.held sink.old) (K.held sink.new) bytes.now) }
     ensures partly { IfErr result (λ partly.

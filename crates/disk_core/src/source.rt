@@ -14,7 +14,7 @@ pub trait Source {
     ghost faults: { Self → ℕ };
 
     /// Reads the next bytes, in order, into the front of a buffer, and tells how many they are. For a buffer that
-    /// isn't empty, 0 is the end. A call that fails takes nothing.
+    /// isn't empty, 0 is the end. `Failed` takes nothing and raises the count of faults by one.
     fn read(&mut self, into: &mut [u8]) -> Result<usize, Failed>
         ensures bound { IfOk result (λ count. count ≤ length into.new) }
         ensures bytes { ReadConsumes (left self.old) (left self.new) result into.new }

@@ -20,6 +20,7 @@ impl Error for Failed {}
 /// A device failed while bytes were written: only the first `done` of them went out.
 #[derive(Clone, Copy, Debug, PartialEq, Eq, Hash)]
 pub struct Partly {
+    /// How many bytes went out.
     pub done: usize,
 }
 

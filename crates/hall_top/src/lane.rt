@@ -7,7 +7,7 @@ use crate::counts::Counts;
 use crate::setting::Setting;
 use annex_tables::Limits;
 
-/// A line of the input is at most so long.
+/// A line of the input has at most so many bytes, without its LF.
 pub const LONGEST_LINE: usize = 8;
 
 /// One lane with one product: what it is set to, its counters, the line that has begun, and room for a text.

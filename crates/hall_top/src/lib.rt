@@ -16,6 +16,8 @@ mod texts;
 mod top;
 mod weigh;
 
+pub use reading::Reading;
+pub use setting::Setting;
 pub use top::hall;
 
 #[cfg(test)]

@@ -20,7 +20,7 @@ use std::alloc::Global;
 /// A run makes at most so many reads, each of which gives a byte.
 const MOST_READS: u32 = 100_000_000;
 
-/// So many bytes are read at once.
+/// At most so many bytes are read at once.
 const PIECE: usize = 65_536;
 
 /// A lane that has weighed nothing, with room for all that it keeps.

@@ -7,9 +7,10 @@ use counts_and_texts::read_number_within;
 /// The most digits of a mass on the command line and in a line of the input.
 pub(crate) const MOST_DIGITS: usize = 8;
 
-/// The least and the greatest nominal quantity, in mg.
+/// The least nominal quantity of the tables, in mg.
 const LEAST_NOMINAL: u64 = 5_000;
 
+/// The greatest nominal quantity of the tables, in mg.
 const GREATEST_NOMINAL: u64 = 10_000_000;
 
 /// The greatest tare, in mg.
@@ -18,9 +19,9 @@ const GREATEST_TARE: u64 = 5_000_000;
 /// What the words of the program settle.
 #[derive(Clone, Copy, Debug, PartialEq, Eq)]
 pub struct Setting {
-    /// The nominal quantity of the product, in mg.
+    /// The nominal quantity of the product, 5 000 to 10 000 000 mg.
     pub nominal: u64,
-    /// The tare of a pack, in mg.
+    /// The tare of a pack, 0 to 5 000 000 mg.
     pub tare: u64,
 }
 

@@ -132,7 +132,14 @@ fn lines_good_and_bad(rt: HostRuntime) -> Result<(), Fail> {
 #[test]
 fn faults_in_mid_stream(rt: HostRuntime) -> Result<(), Fail> {
     let alloc = rt.alloc();
-    let table: [(&[u8], u32, u32, &[u8], u8); 8] = [
+    let table: [(&[u8], u32, u32, &[u8], u8); 9] = [
+        (
+            b"251000\n",
+            3,
+            0,
+            b"1 pass\nreadings 1 gross 251000\npassed 1 gross 251000\nrejected 0 gross 0\n",
+            0,
+        ),
         (b"251000\n2510", 2, 0, b"1 pass\nread fault\n", 4),
         (b"251000\n", 1, 0, b"read fault\n", 4),
         (b"251000\n", 2, 2, b"1 pass\n", 4),
@@ -237,13 +244,16 @@ fn running_counters_agree_with_the_walk(rt: HostRuntime) -> Result<(), Fail> {
     Ok(())
 }
 
-// Gives one byte a read, and never ends: lines of seven zeros.
+// Gives lines of seven zeros, so many bytes a read and in so many reads, and keeps the room of the last buffer.
 #[derive(Drop)]
-struct Endless {
+struct Zeros {
+    piece: usize,
+    reads: u32,
     place: u8,
+    room: usize,
 }
 
-impl Source for Endless {
+impl Source for Zeros {
     ghost use Rattle.std.specs.Prelude.{None};
 
     ghost left = { λ _. None };
@@ -251,12 +261,17 @@ impl Source for Endless {
     ghost faults = { λ _. 0 };
 
     fn read(&mut self, into: &mut [u8]) -> Result<usize, Failed> {
-        if into.is_empty() {
+        self.room = into.len();
+        if self.reads == 0 {
             return Ok(0);
         }
-        self.place = self.place.wrapping_add(1) % 8;
-        into[0] = if self.place == 0 { b'\n' } else { b'0' };
-        Ok(1)
+        self.reads -= 1;
+        let count = self.piece.min(into.len());
+        for i in 0..count {
+            self.place = self.place.wrapping_add(1) % 8;
+            into[i] = if self.place == 0 { b'\n' } else { b'0' };
+        }
+        Ok(count)
     }
 }
 
@@ -279,16 +294,28 @@ impl Sink for Nowhere {
     }
 }
 
+// Reads that each give a byte are spent at 100 000 000; larger ones may give more bytes than that in all.
 #[test]
-fn reads_that_see_no_end_are_spent(rt: HostRuntime) -> Result<(), Fail> {
+fn spent_are_the_reads_and_not_the_bytes(rt: HostRuntime) -> Result<(), Fail> {
     let alloc = rt.alloc();
     let words = words_of(alloc, &["run", "250000", "10000"])?;
+    let mut single = Zeros {
+        piece: 1,
+        reads: u32::MAX,
+        place: 0,
+        room: 0,
+    };
     let mut sink = Nowhere { bytes: 0 };
-    assert_eq!(rt;
-        hall(alloc, &words, &mut Endless { place: 0 }, &mut sink),
-        12
-    );
+    assert_eq!(rt; hall(alloc, &words, &mut single, &mut sink), 12);
+    assert!(rt; single.room >= 65_536);
     // 12 500 000 lines of " reject inadequate" and LF, behind numbers of 88 888 897 digits in all
     assert_eq!(rt; sink.bytes, 12_500_000 * 19 + 88_888_897);
+    let mut large = Zeros {
+        piece: 65_536,
+        reads: 1_600,
+        place: 0,
+        room: 0,
+    };
+    assert_eq!(rt; hall(alloc, &words, &mut large, &mut sink), 0);
     Ok(())
 }

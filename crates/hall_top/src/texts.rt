@@ -9,7 +9,7 @@ use counts_and_texts::push_decimal;
 use disk_core::NoMemory;
 use pack_judge::{Cause, Signal};
 
-/// No text that is printed at once is longer: three sums of two numbers each.
+/// No text that is printed at once has more bytes: three sums of two numbers each.
 pub const LONGEST_TEXT: usize = 512;
 
 fn signal_word(signal: Signal) -> &'static [u8]

@@ -12,11 +12,16 @@ use crate::stop::Stop;
 use disk_core::{Sink, Source, write_all};
 use std::alloc::Global;
 
-/// Does what the words say: `run NOMINAL TARE`, both in mg, reads a gross in mg a line and prints a signal for each
-/// as it comes, and the balance of the piles at the end. The status is 0 where the input was read to its end and
-/// the balance went out, 2 at wrong words, 3 at a line that is no gross, 4 where the input failed, 5 where the output
-/// did, 7 for want of memory, and 12 where 100 000 000 reads gave no end. Where several hold it is the smallest,
-/// but 7 comes last.
+/// Does what the words say; the program's own name isn't among them. `run NOMINAL TARE`, a nominal quantity of 5 000
+/// to 10 000 000 mg and a tare of 0 to 5 000 000 mg, reads one gross a line, 0 to 30 000 000 mg. Each of these numbers
+/// is 1 to 8 decimal digits, leading zeros among them. A line ends in LF, which the last may lack. For each line a
+/// signal goes out before the next is judged, and at the end the balance of the piles in mg.
+///
+/// The status is 0 where the input was read to its end and the balance went out. It is 2 at wrong words, 3 at a line
+/// that is no gross, 4 where the input failed, 5 where the output did, 7 for want of memory, and 12 where 100 000 000
+/// reads each gave a byte and no end was seen. Where several hold it is the smallest, but 7 comes last. The last line
+/// at 2, 3, 4 and 7 is `usage: hall COMMAND [OPTIONS]`, `bad line N`, `read fault` and `no memory`; at 5 and 12 there
+/// is none.
 pub fn hall<S: Source, K: Sink>(
     alloc: Global,
     words: &[String],

@@ -17,9 +17,10 @@ pub fn class(net: i64, limits: &Limits) -> Class
     }
 }
 
-/// The signal of a new net in mg, in a batch with `n` packs in its population, `nonstandard` of them with a net
-/// below `t1`, inadequate ones among them; `held` says that some are inadequate. The first cause that holds is
-/// given. Non-standard packs are allowed while they are at most one in forty (Annex II).
+/// The signal of a new net in mg, in a batch with `n` packs in its population (at most `GREATEST_POPULATION`),
+/// `nonstandard` of them (at most `n`) with a net below `t1`, inadequate ones among them; `held` says that some are
+/// inadequate. The first cause that holds is given. That non-standard packs are let through while they are at most
+/// one in forty is this project's own rule for packers; the two limits are those of Annex I.
 pub fn signal(net: i64, limits: &Limits, held: bool, n: u32, nonstandard: u32) -> Signal
     requires counted { nonstandard ≤ n }
     requires limited { n ≤ GREATEST_POPULATION }

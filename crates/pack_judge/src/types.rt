@@ -1,14 +1,14 @@
-/// The most packs that the population of a batch may have (Annex II limits a batch to 10 000 packs).
+/// The most packs that the population of a batch may have: this project's own limit, on every batch.
 pub const GREATEST_POPULATION: u32 = 10_000;
 
 /// What a net is by the two limits of its nominal quantity (Annex I).
 #[derive(Clone, Copy, Debug, PartialEq, Eq, Hash)]
 pub enum Class {
-    /// At least one tolerable negative error below the nominal quantity, or more.
+    /// Not below the nominal quantity less one tolerable negative error.
     Standard,
-    /// Below that, but not below two errors.
+    /// Below that, but not below the nominal quantity less two errors.
     NonStandard,
-    /// Below two errors.
+    /// Below the nominal quantity less two errors.
     Inadequate,
 }
 
@@ -28,22 +28,30 @@ pub enum Cause {
 /// What the gate is told about a pack.
 #[derive(Clone, Copy, Debug, PartialEq, Eq, Hash)]
 pub enum Signal {
+    /// The gate may open.
     Pass,
+    /// The pack is taken out, for this cause.
     Reject(Cause),
 }
 
 /// Where a reading lies: in exactly one of the four piles.
 #[derive(Clone, Copy, Debug, PartialEq, Eq, Hash)]
 pub enum Pile {
+    /// Passed, and in none of the other piles.
     Passed,
+    /// Rejected by its signal, or left behind by a gate that stayed shut.
     Rejected,
+    /// Passed, and drawn for a reference test.
     Sampled,
+    /// Taken back by the office, or of unknown whereabouts.
     Voided,
 }
 
 /// How many readings a pile has, and the sum of their gross masses in mg.
 #[derive(Clone, Copy, Debug, PartialEq, Eq, Hash)]
 pub struct Tally {
+    /// How many readings.
     pub count: u32,
+    /// The sum of their gross masses, in mg.
     pub gross: i64,
 }
