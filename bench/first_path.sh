@@ -43,17 +43,17 @@ END {
 AWK
 
 milliseconds() { echo $(($(date +%s%N) / 1000000)); }
-ours=0 theirs=0
-for turn in 1 2 3; do
-    a=$(milliseconds)
+least() { if [ "$1" -lt "$2" ]; then echo "$1"; else echo "$2"; fi; }
+ours=1000000000
+theirs=1000000000
+for _ in 1 2 3; do
+    before=$(milliseconds)
     "$program" run 250000 10000 <"$work/weights" >"$work/ours"
-    b=$(milliseconds)
+    between=$(milliseconds)
     mawk -f "$work/job.awk" <"$work/weights" >"$work/theirs"
-    c=$(milliseconds)
-    [ "$turn" = 1 ] || [ $((b - a)) -ge "$ours" ] || ours=$((b - a))
-    [ "$turn" != 1 ] || ours=$((b - a))
-    [ "$turn" = 1 ] || [ $((c - b)) -ge "$theirs" ] || theirs=$((c - b))
-    [ "$turn" != 1 ] || theirs=$((c - b))
+    after=$(milliseconds)
+    ours=$(least "$ours" $((between - before)))
+    theirs=$(least "$theirs" $((after - between)))
 done
 cmp "$work/ours" "$work/theirs"
 echo "hall $ours ms, awk $theirs ms, best of 3 for $weights weights to a file"
