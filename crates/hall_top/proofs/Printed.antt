@@ -10,10 +10,10 @@ use Rattle.counts_and_texts.specs.CountLaws.{calm_counts_none}
 use Rattle.disk_core.specs.declared.types.Partly.{Partly}
 use Rattle.hall_top.specs.Run.{Wrote, WroteFrontOf, WroteFront, IsCutIn}
 use Rattle.hall_top.specs.Reached.{GoesBad}
-use Rattle.hall_top.specs.Lines.{ended_lines, ended_after, rest_of, rest_after, last_line, lines_of, all_good, front_grosses}
+use Rattle.hall_top.specs.Lines.{ended_lines, rest_of, last_line, lines_of, all_good, front_grosses}
 use Rattle.hall_top.specs.Readings.{readings_of}
 use Rattle.hall_top.specs.Texts.{answers_to, answers, text_of, bad_line, balance}
-use Rattle.hall_top.proofs.LineLists.{front_grosses-bad, front_grosses-append, all_good-bad, lines_of-append, readings_after-append, earlier_stay}
+use Rattle.hall_top.proofs.LineLists.{ended_after, rest_after, front_grosses-bad, front_grosses-append, all_good-bad, lines_of-append, readings_after-append, earlier_stay}
 use Rattle.hall_top.specs.declared.setting.Setting.{Setting}
 use Rattle.hall_top.specs.declared.reading.Reading.{Reading}
 use Rattle.hall_top.specs.Readings.{reading_in, signal_in}

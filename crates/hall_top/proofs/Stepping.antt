@@ -1,7 +1,7 @@
 -- Lemmas on a run that takes bytes.
 use Rattle.std.proofs.Common.{◌≡◌, ℕ, ◌+◌, ◌<◌, true, false, List, [], ◌∷◌, ◌++◌, length, take, Option, Some, None, eqb, cond, refl, sym, ap, ◌∙◌, arith, append_assoc, append-nil, length-append, subst}
 use Rattle.std.proofs.lemmas.List.{length_push}
-use Rattle.hall_top.specs.Lines.{ended_lines, ended_after, rest_of, rest_after, last_line, lines_of, all_good, front_grosses, gross_of}
+use Rattle.hall_top.specs.Lines.{ended_lines, rest_of, last_line, lines_of, all_good, front_grosses, gross_of}
 use Rattle.std.specs.Io.KnownBytes.{Appends}
 use Rattle.std.proofs.KnownBytes.{Appends-trans}
 use Rattle.counts_and_texts.specs.Count.{Counted}
@@ -16,7 +16,7 @@ use Rattle.hall_top.specs.Readings.{readings_of, reading_in, signal_in}
 use Rattle.hall_top.specs.Texts.{answers, answers_from, answer_line, text_of, balance}
 use Rattle.hall_top.specs.Run.{EndsSo, WroteFront, IsCutIn, StopsAtLast}
 use Rattle.hall_top.specs.Reached.{Reached, GoesBad, GoesOn, StopsAfter, Answered}
-use Rattle.hall_top.proofs.LineLists.{lines_of-append, line_goes_on, last_line_is, too_long, front_grosses-push, all_good-push, readings_after-append, readings_of_lines, ended_with_end, rest_with_end, ended_with_other, rest_with_other}
+use Rattle.hall_top.proofs.LineLists.{ended_after, rest_after, lines_of-append, line_goes_on, last_line_is, too_long, front_grosses-push, all_good-push, readings_after-append, readings_of_lines, ended_with_end, rest_with_end, ended_with_other, rest_with_other}
 use Rattle.hall_top.proofs.Printed.{answers_are_front, front_of_more, front_of_front, whole_text, answered, cut_is_front}
 
 -- a line that is full goes on
@@ -39,7 +39,7 @@ pub goes_bad_end : (taken rest : List ℕ) → gross_of (rest_of taken) ≡ None
 goes_bad_end taken rest bad =
     record {
       line = rest_of taken;
-      more = lines_of rest;
+      more = ended_after [] rest ++ last_line (rest_after [] rest);
       lines = ap lines_of (append_assoc taken (10 ∷ []) rest) ∙ lines_of-append taken (10 ∷ rest);
       bad = bad;
     }

@@ -1,27 +1,22 @@
 -- The lines of a text. A line ends in LF; the last one may lack it.
-use Rattle.std.specs.Prelude.{ℕ, Bool, List, [], ◌∷◌, ◌++◌, ◌==◌, if◌then◌else◌, Option, is_some}
-use Rattle.std.specs.List.{list_all}
-use Rattle.std.specs.Option.{option_map_or}
+use Rattle.std.specs.Prelude.{ℕ, Bool, List, [], ◌∷◌, ◌++◌, ◌==◌, if◌then◌else◌, Option, Some, None, is_some}
+use Rattle.std.specs.List.{list_all, list_any}
 use Rattle.counts_and_texts.specs.Number.{number_of}
 
--- the lines whose end is there, where the first has begun so
-abbrev pub ended_after : List ℕ → List ℕ → List (List ℕ)
-ended_after begun [] = []
-ended_after begun (byte ∷ bytes) =
-    if byte == 10 then begun ∷ ended_after [] bytes else ended_after (begun ++ byte ∷ []) bytes
-
--- what stands behind the last LF, where the first line has begun so
-abbrev pub rest_after : List ℕ → List ℕ → List ℕ
-rest_after begun [] = begun
-rest_after begun (byte ∷ bytes) = if byte == 10 then rest_after [] bytes else rest_after (begun ++ byte ∷ []) bytes
+-- a byte goes onto the first of the lines that have ended, where there is one
+abbrev pub onto_ended : ℕ → List (List ℕ) → List (List ℕ)
+onto_ended byte [] = []
+onto_ended byte (line ∷ lines) = (byte ∷ line) ∷ lines
 
 -- the lines that end in LF
 abbrev pub ended_lines : List ℕ → List (List ℕ)
-ended_lines bytes = ended_after [] bytes
+ended_lines [] = []
+ended_lines (byte ∷ bytes) = if byte == 10 then [] ∷ ended_lines bytes else onto_ended byte (ended_lines bytes)
 
 -- what stands behind the last LF
 abbrev pub rest_of : List ℕ → List ℕ
-rest_of bytes = rest_after [] bytes
+rest_of [] = []
+rest_of (byte ∷ bytes) = if list_any (λ b. b == 10) (byte ∷ bytes) then rest_of bytes else byte ∷ bytes
 
 -- a last line that lacks its LF, where there is one
 abbrev pub last_line : List ℕ → List (List ℕ)
@@ -40,7 +35,12 @@ gross_of line = number_of 8 30000000 line
 abbrev pub all_good : List (List ℕ) → Bool
 all_good lines = list_all (λ line. is_some (gross_of line)) lines
 
+-- the gross of a line before those of the lines behind it; a line that gives none ends the list
+abbrev pub before_grosses : Option ℕ → List ℕ → List ℕ
+before_grosses None grosses = []
+before_grosses (Some gross) grosses = gross ∷ grosses
+
 -- the grosses of the lines before the first that gives none
 abbrev pub front_grosses : List (List ℕ) → List ℕ
 front_grosses [] = []
-front_grosses (line ∷ lines) = option_map_or (λ gross. gross ∷ front_grosses lines) (gross_of line) []
+front_grosses (line ∷ lines) = before_grosses (gross_of line) (front_grosses lines)
