@@ -4,6 +4,8 @@
 mod count;
 mod decimal;
 mod number;
+#[cfg(test)]
+mod tests;
 
 pub use count::counted_once_more;
 pub use decimal::{LONGEST_DECIMAL, push_decimal};
