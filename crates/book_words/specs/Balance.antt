@@ -1,0 +1,35 @@
+-- The piles add up, and a pack moves between them only at its lane's next act.
+use Rattle.std.specs.Prelude.{◌≡◌, ℕ, ◌+◌, ◌+ℤ◌, Bool, ◌&&◌, List, [], ◌∷◌, ◌++◌, length, map, if◌then◌else◌, Option, Some, None}
+use Rattle.pack_judge.specs.declared.types.Pile.{Pile}
+use Rattle.pack_judge.specs.declared.types.Pile.TheVariants.{Passed, Rejected, Sampled, Voided}
+use Rattle.book_words.specs.declared.name.Name.{Name}
+use Rattle.book_words.specs.declared.types.Act.{Act}
+use Rattle.book_words.specs.declared.types.Act.TheVariants.{Weigh}
+use Rattle.book_words.specs.declared.types.Entry.{Entry}
+use Rattle.book_words.specs.declared.types.Reading.{Reading}
+use Rattle.book_words.specs.Acts.{prior_in}
+use Rattle.book_words.specs.Readings.{readings}
+use Rattle.book_words.specs.Piles.{pile_of, pile_by, in_pile, is_unsettled, gross_sum, readings_of}
+
+-- some readings are as many, and weigh as much, as their four piles together
+pub record AddUp (some : List Reading) : Type 0 where
+  pub count : length some ≡ length (in_pile Passed some) + length (in_pile Rejected some) + length (in_pile Sampled some) + length (in_pile Voided some)
+  pub gross : gross_sum some ≡ gross_sum (in_pile Passed some) +ℤ gross_sum (in_pile Rejected some) +ℤ gross_sum (in_pile Sampled some) +ℤ gross_sum (in_pile Voided some)
+
+-- the piles add up in the whole hall and in each batch
+pub record IsBalanced (entries : List Entry) : Type 0 where
+  pub hall : AddUp (readings entries)
+  pub batch : (name : Name) → AddUp (readings_of entries name)
+
+-- the pile of a reading once an act came after it: an unsettled one goes where its lane's weighing or stop says, any other stays
+abbrev pub pile_after : Act → Reading → Pile
+pile_after act reading = if is_unsettled reading then pile_by reading.signal (prior_in reading.lane act) else pile_of reading
+
+-- the pile of an entry's own reading, where it is a weighing: by its signal
+abbrev pub own_pile : Entry → Act → List Pile
+own_pile entry (Weigh lane gross prior) = pile_by entry.signal None ∷ []
+own_pile entry _ = []
+
+-- an entry moves the packs so, and no others
+abbrev pub MovesOnly : List Entry → Entry → Type 0
+MovesOnly entries entry = map pile_of (readings (entries ++ entry ∷ [])) ≡ map (pile_after entry.act) (readings entries) ++ own_pile entry entry.act

@@ -1,0 +1,10 @@
+pub mod Names
+pub mod Numbers
+pub mod Acts
+pub mod Tares
+pub mod Readings
+pub mod Piles
+pub mod Signals
+pub mod Refusals
+pub mod Answers
+pub mod Balance

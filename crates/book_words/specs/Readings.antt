@@ -1,0 +1,72 @@
+-- The readings of a list, and their nets. All masses are milligrams.
+use Rattle.std.specs.Prelude.{ℕ, ℤ, pos, ◌+◌, ◌-ℤ◌, Bool, false, List, take, drop, length, filter, slice_get, Option, Some, None}
+use Rattle.std.specs.List.{filter_map, range_with_len}
+use Rattle.std.specs.Option.{option_and_then, option_map_or, unwrap_or}
+use Rattle.annex_tables.specs.declared.types.Limits.{Limits}
+use Rattle.annex_tables.specs.Errors.{limits_of}
+use Rattle.pack_judge.specs.declared.types.Class.{Class}
+use Rattle.pack_judge.specs.declared.types.Signal.{Signal}
+use Rattle.pack_judge.specs.Judge.{class_of}
+use Rattle.book_words.specs.declared.name.Name.{Name}
+use Rattle.book_words.specs.declared.types.Act.{Act}
+use Rattle.book_words.specs.declared.types.Act.TheVariants.{Weigh}
+use Rattle.book_words.specs.declared.types.Entry.{Entry}
+use Rattle.book_words.specs.declared.types.Reading.{Reading}
+use Rattle.book_words.specs.Names.{same_name}
+use Rattle.book_words.specs.Acts.{first_said, prior_in, newest_day, nominal_of, product_of, started_for}
+use Rattle.book_words.specs.Tares.{tare_of}
+
+-- a weighing as a reading of its number: its day and its batch are told by the entries before it, and what the gate did by its lane's first weighing or stop after it
+abbrev pub reading_from : ℕ → List Entry → Act → Option Signal → List Entry → Option Reading
+reading_from number before (Weigh lane gross prior) signal after =
+    Some (record {
+      number = number;
+      lane = lane;
+      gross = gross;
+      signal = signal;
+      day = newest_day before;
+      batch = started_for before lane;
+      next = first_said (prior_in lane) after;
+    })
+reading_from number before _ signal after = None
+
+-- the reading at a place of the list, where a weighing stands there; places are counted from 0, numbers from 1
+abbrev pub reading_at : List Entry → ℕ → Option Reading
+reading_at entries place =
+    option_and_then (λ entry. reading_from (place + 1) (take place entries) entry.act entry.signal (drop (place + 1) entries)) (slice_get entries place)
+
+-- the readings among so many of the first entries, as the whole list shows them
+abbrev pub readings_among : ℕ → List Entry → List Reading
+readings_among many entries = filter_map (reading_at entries) (range_with_len 0 many)
+
+-- the readings of the list
+abbrev pub readings : List Entry → List Reading
+readings entries = readings_among (length entries) entries
+
+-- whether a reading is one of a batch
+abbrev pub is_of_batch : Name → Reading → Bool
+is_of_batch batch reading = option_map_or (λ name. same_name name batch) reading.batch false
+
+-- the tare of a batch's product on a day, by all tares of the list as it now is
+abbrev pub tare_on : List Entry → Name → ℤ → Option ℤ
+tare_on entries batch day = option_and_then (λ product. tare_of entries product day) (product_of entries batch)
+
+-- the tare of a reading: that of its batch's product on its day
+abbrev pub tare_at : List Entry → Option Name → Option ℤ → Option ℤ
+tare_at entries batch day = option_and_then (λ name. option_and_then (tare_on entries name) day) batch
+
+-- a gross less the tare of its batch and day; in a legal list each reading has a tare
+abbrev pub net_from : List Entry → Option Name → Option ℤ → ℤ → ℤ
+net_from entries batch day gross = gross -ℤ unwrap_or (tare_at entries batch day) (pos 0)
+
+-- the net of a reading, by the tares of the whole list as it now is
+abbrev pub net_of : List Entry → Reading → ℤ
+net_of entries reading = net_from entries reading.batch reading.day reading.gross
+
+-- the limits of a batch's product; in a legal list each batch has a product, and that a nominal quantity
+abbrev pub limits_in : List Entry → Name → Limits
+limits_in entries batch = limits_of (unwrap_or (option_and_then (nominal_of entries) (product_of entries batch)) (pos 0))
+
+-- the class of a reading by the limits of its batch's product
+abbrev pub class_in : List Entry → Name → Reading → Class
+class_in entries batch reading = class_of (net_of entries reading) (limits_in entries batch)
