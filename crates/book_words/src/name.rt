@@ -50,14 +50,20 @@ mod tests {
     use super::*;
     use std::test::Fail;
 
+    const LONGEST: [u8; 16] = *b"rice250-0123456.";
+
+    const TOO_LONG: [u8; 17] = *b"rice250-0123456.7";
+
     #[test]
     fn names_of_up_to_sixteen_bytes(rt: HostRuntime) -> Result<(), Fail> {
-        let longest = Name::new(b"rice250-0123456.")?;
-        assert_eq!(rt; longest.as_bytes(), b"rice250-0123456.");
-        assert_eq!(rt; Name::new(b"rice250-0123456.7"), None);
-        assert_eq!(rt; Name::new(b"")?.as_bytes(), b"");
-        assert!(rt; Name::new(b"A")? == Name::new(b"A")?);
-        assert!(rt; !Name::new(b"A")?.is(&Name::new(b"A\0")?));
+        let longest = Name::new(&LONGEST).ok_or(std::fmt::Error)?;
+        assert!(rt; longest.as_bytes() == LONGEST.as_slice());
+        assert_eq!(rt; Name::new(&TOO_LONG), None);
+        let a = Name::new(&[65]).ok_or(std::fmt::Error)?;
+        let a_and_zero = Name::new(&[65, 0]).ok_or(std::fmt::Error)?;
+        assert!(rt; a.is(&a));
+        assert!(rt; !a.is(&a_and_zero));
+        assert!(rt; a.as_bytes() == [65].as_slice());
         Ok(())
     }
 }
