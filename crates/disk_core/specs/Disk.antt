@@ -42,3 +42,9 @@ pub record Writes {T E : Type 0} (place : ℕ) (bytes : List ℕ) (result : Resu
   pub done : OnOk result (now ≡ overwritten old place bytes)
   pub cut_short : OnErr result (Torn place (length bytes) (place + length bytes) old now)
   pub images : Follows (Torn place (length bytes) (length now)) before after
+
+-- A crash at any moment since the time of the old disk leaves what has P, also where the count of moments began earlier.
+pub record LeavesOnly {D : Type 0} (time : D → ℕ) (since : D → ℕ → List ℕ → Type 0) (old new : D) (P : List ℕ → Type 0) : Type 0 where
+  pub later : time old ≤ time new
+  pub each : (c : List ℕ) → since new (time old) c → P c
+  pub before : (t : ℕ) (c : List ℕ) → t ≤ time old → since new t c → since old t c ⊎ P c

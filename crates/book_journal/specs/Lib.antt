@@ -1,0 +1,4 @@
+pub mod Journal
+pub mod Mounting
+pub mod Rows
+pub mod Settles
