@@ -11,5 +11,10 @@ mod settle;
 mod slots;
 mod types;
 
-pub use journal::Journal;
+pub use journal::{Journal, MOST_ROWS};
 pub use types::{JournalFault, JournalRefused};
+
+#[cfg(test)]
+mod kept;
+#[cfg(test)]
+mod tests;
