@@ -4,6 +4,18 @@ use Rattle.disk_core.specs.Disk.{WhereTold}
 use Rattle.book_journal.specs.Rows.{HasHeader, Recovers, rows_of, gate_behind, row_behind}
 use Rattle.book_journal.specs.declared.journal.Journal.{Journal}
 
+-- the disk that a journal stands on
+abbrev pub disk_of : {D : Type 0} → Journal D → D
+disk_of journal = journal.disk
+
+-- how many rows a journal has
+abbrev pub count_of : {D : Type 0} → Journal D → ℕ
+count_of journal = journal.count
+
+-- an append failed so late that a crash may leave its row or not
+abbrev pub Hangs : {D : Type 0} → Journal D → Type 0
+Hangs journal = IsTrue journal.hanging
+
 -- an image has the rows that are read, and a closed gate behind them
 pub record IsClosedAs (count : ℕ) (bytes image : List ℕ) : Type 0 where
   pub long : gate_behind count < length image
@@ -34,7 +46,7 @@ HasRows reads journal rows = (bytes : List ℕ) × (reads journal.disk ≡ Some 
 
 -- the journal hangs with this row, as its disk tells: a crash may leave it behind the others or not
 abbrev pub HangsWith : {D : Type 0} → (D → Option (List ℕ)) → Journal D → List ℕ → Type 0
-HangsWith reads journal row = IsTrue journal.hanging × ((bytes : List ℕ) × (reads journal.disk ≡ Some bytes) × (row_behind journal.count bytes ≡ row))
+HangsWith reads journal row = Hangs journal × ((bytes : List ℕ) × (reads journal.disk ≡ Some bytes) × (row_behind journal.count bytes ≡ row))
 
 -- an image recovers these rows, or these and the one that hangs
 abbrev pub RecoversOrHangs : {D : Type 0} → (D → Option (List ℕ)) → Journal D → List (List ℕ) → List ℕ → Type 0

@@ -27,7 +27,7 @@ impl<D: Disk> Journal<D> {
     ghost use Rattle.counts_and_texts.specs.Known.{TellsAsBefore};
     ghost use Rattle.disk_core.specs.Disk.{LeavesOnly};
     ghost use Rattle.book_journal.specs.Rows.{Recovers};
-    ghost use Rattle.book_journal.specs.Journal.{IsSound, HasRows, HangsWith, RecoversOrHangs, ImagesKeepRows};
+    ghost use Rattle.book_journal.specs.Journal.{disk_of, count_of, Hangs, IsSound, HasRows, HangsWith, RecoversOrHangs, ImagesKeepRows};
 
     /// Appends a row behind the others: 64 bytes of which the first, its gate, is 1. At an Ok the row is
     /// acknowledged, and it tells its number, which is the new count: from then on each crash leaves it. At a
@@ -37,36 +37,36 @@ impl<D: Disk> Journal<D> {
     /// A journal has at most a million rows.
     pub fn append(&mut self, row: &[u8; ROW]) -> Result<u32, Failed>
         requires gate { slice_index row.now 0 ≡ 1 }
-        requires room { self.old.count < 1000000 }
+        requires room { count_of self.old < 1000000 }
         requires sound { IsSound D.reads D.image self.old }
 
         // At an Ok the row is one of the journal's, and it answers its number.
-        ensures number { IfOk result (λ number. number ≡ self.new.count) }
-        ensures count_ok { OnOk result (self.new.count ≡ self.old.count + 1) }
+        ensures number { IfOk result (λ number. number ≡ count_of self.new) }
+        ensures count_ok { OnOk result (count_of self.new ≡ count_of self.old + 1) }
         ensures rows_ok { (rows : List (List ℕ)) → HasRows D.reads self.old rows →
             OnOk result (HasRows D.reads self.new (rows ++ row.now ∷ [])) }
 
         // After a failure the rows are those from before.
-        ensures count_err { OnErr result (self.new.count ≡ self.old.count) }
+        ensures count_err { OnErr result (count_of self.new ≡ count_of self.old) }
         ensures rows_err { (rows : List (List ℕ)) → HasRows D.reads self.old rows →
             OnErr result (HasRows D.reads self.new rows) }
 
         // Each crash from now on leaves the rows, or where a row hangs these and that one.
         ensures images { ImagesKeepRows D.reads D.image self.new }
-        ensures settled { OnOk result (self.new.hanging ≡ false) }
+        ensures settled { OnOk result (¬ Hangs self.new) }
         ensures hung { (hung : List ℕ) → HangsWith D.reads self.new hung →
             OnErr result ((hung ≡ row.now) ⊎ HangsWith D.reads self.old hung) }
 
         // A crash at any moment of the call leaves the rows from before it, or these and one more: the row that
         // was offered, or the one that hung before.
         ensures any_moment { (rows : List (List ℕ)) → HasRows D.reads self.old rows →
-            LeavesOnly D.time D.since self.old.disk self.new.disk
+            LeavesOnly D.time D.since (disk_of self.old) (disk_of self.new)
             (λ c. RecoversOrHangs D.reads self.old rows c ⊎ Recovers c (rows ++ row.now ∷ [])) }
 
         // It fails only where the disk did.
-        ensures cause { CountsFault (D.faults self.old.disk) (D.faults self.new.disk) result }
-        ensures asked { D.asked self.new.disk ≡ D.asked self.old.disk }
-        ensures tells { TellsAsBefore (D.reads self.old.disk) (D.reads self.new.disk) }
+        ensures cause { CountsFault (D.faults (disk_of self.old)) (D.faults (disk_of self.new)) result }
+        ensures asked { D.asked (disk_of self.new) ≡ D.asked (disk_of self.old) }
+        ensures tells { TellsAsBefore (D.reads (disk_of self.old)) (D.reads (disk_of self.new)) }
         ensures sound { IsSound D.reads D.image self.new }
     {
         self.close()?;

@@ -16,25 +16,26 @@ pub struct Journal<D: Disk> {
 }
 
 impl<D: Disk> Journal<D> {
-    ghost use Rattle.std.specs.Prelude.{◌≡◌};
+    ghost use Rattle.std.specs.Prelude.{◌≡◌, ◌↔◌, IsTrue};
+    ghost use Rattle.book_journal.specs.Journal.{disk_of, count_of, Hangs};
 
     /// How many rows it has.
     pub fn count(&self) -> u32
-        ensures { result ≡ self.now.count }
+        ensures { result ≡ count_of self.now }
     {
         self.count
     }
 
     /// Whether an append failed so late that a crash may leave its row or not. The next append settles that first.
     pub fn hanging(&self) -> bool
-        ensures { result ≡ self.now.hanging }
+        ensures { IsTrue result ↔ Hangs self.now }
     {
         self.hanging
     }
 
     /// Hands the disk back.
     pub fn give_back(self) -> D
-        ensures { result ≡ self.disk }
+        ensures { result ≡ disk_of self }
     {
         self.disk
     }

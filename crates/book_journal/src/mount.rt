@@ -66,8 +66,7 @@ fn start<D: Disk>(disk: &mut D) -> Result<u32, JournalFault>
 
 impl<D: Disk> Journal<D> {
     ghost use Rattle.book_journal.specs.Mounting.{CountedRows};
-    ghost use Rattle.std.specs.Prelude.{false};
-    ghost use Rattle.book_journal.specs.Journal.{IsSound, HasRows, ImagesKeepRows};
+    ghost use Rattle.book_journal.specs.Journal.{disk_of, count_of, Hangs, IsSound, HasRows, ImagesKeepRows};
 
     /// Mounts a disk as a journal, or hands it back with the reason. The disk is synced first. A disk of at most 65
     /// bytes that doesn't begin with the header is made a journal without rows; a longer one isn't a journal. The
@@ -77,32 +76,32 @@ impl<D: Disk> Journal<D> {
         // It has the rows that are counted of what the disk reads: those that this recovers, if they are at most a
         // million.
         ensures rows { WhereTold (D.reads disk) (λ bytes. IfOk result (λ journal. (rows : List (List ℕ)) ×
-            CountedRows bytes rows × (length rows ≡ journal.count) × HasRows D.reads journal rows)) }
+            CountedRows bytes rows × (length rows ≡ count_of journal) × HasRows D.reads journal rows)) }
         ensures recovered { WhereTold (D.reads disk) (λ bytes. (rows : List (List ℕ)) → Recovers bytes rows →
             length rows ≤ 1000000 → IfOk result (λ journal. HasRows D.reads journal rows)) }
-        ensures most { IfOk result (λ journal. journal.count ≤ 1000001) }
-        ensures calm { IfOk result (λ journal. journal.hanging ≡ false) }
-        ensures images { IfOk result (λ journal. journal.count ≤ 1000000 → ImagesKeepRows D.reads D.image journal) }
+        ensures most { IfOk result (λ journal. count_of journal ≤ 1000001) }
+        ensures calm { IfOk result (λ journal. ¬ Hangs journal) }
+        ensures images { IfOk result (λ journal. count_of journal ≤ 1000000 → ImagesKeepRows D.reads D.image journal) }
 
         // Whatever it answers, each crash from its first sync on leaves these rows, and before that sync, or where
         // it failed, what a crash might have left of the disk that was handed in.
         ensures synced { WhereTold (D.reads disk) (λ bytes. (rows : List (List ℕ)) → Recovers bytes rows →
             length rows ≤ 1000000 →
             MatchResult result
-            (λ journal. KeepsFromSync D.time D.image D.since disk journal.disk (λ c. Recovers c rows))
+            (λ journal. KeepsFromSync D.time D.image D.since disk (disk_of journal) (λ c. Recovers c rows))
             (λ refused. KeepsFromSync D.time D.image D.since disk refused.disk (λ c. Recovers c rows)
             ⊎ IsUnmoved D.reads D.time D.image D.since disk refused.disk)) }
 
         // It refuses a disk that isn't a journal, and otherwise only where the disk failed.
         ensures not_journal { WhereTold (D.reads disk) (λ bytes. IfErr result (λ refused.
             NamesDifference bytes refused.why)) }
-        ensures cause { MatchResult result (λ journal. D.faults journal.disk ≡ D.faults disk)
+        ensures cause { MatchResult result (λ journal. D.faults (disk_of journal) ≡ D.faults disk)
             (λ refused. IsCauseOf refused.why (D.faults disk) (D.faults refused.disk)) }
-        ensures tells { MatchResult result (λ journal. TellsAsBefore (D.reads disk) (D.reads journal.disk))
+        ensures tells { MatchResult result (λ journal. TellsAsBefore (D.reads disk) (D.reads (disk_of journal)))
             (λ refused. TellsAsBefore (D.reads disk) (D.reads refused.disk)) }
         ensures asked { IfOk result (λ journal.
-            D.asked journal.disk ≤ D.asked disk + 64 * journal.count + 4161) }
-        ensures sound { IfOk result (λ journal. journal.count ≤ 1000000 → IsSound D.reads D.image journal) }
+            D.asked (disk_of journal) ≤ D.asked disk + 64 * count_of journal + 4161) }
+        ensures sound { IfOk result (λ journal. count_of journal ≤ 1000000 → IsSound D.reads D.image journal) }
     {
         let mut disk = disk;
         match start(&mut disk) {
