@@ -1,7 +1,7 @@
 #!/bin/sh
 # Appends 250 000, 500 000 and 1 000 000 rows to a journal in memory, and mounts the greatest ten times.
 # There is no disk over a real file yet, so this shows what the journal's own work costs and how it grows.
-# The program in bench/journal isn't a crate of the product: it is built in a folder of its own.
+# The program isn't a crate of the product: it is proved and built in a folder of its own.
 set -eu
 here=$(dirname "$(readlink -f "$0")")
 work=$(mktemp -d)
@@ -13,10 +13,85 @@ for name in counts_and_texts disk_core book_journal; do
     cp -r "$here/../crates/$name" "$work/crates/$name"
     grep "^$name:" "$here/../crates.txt" >>"$work/crates.txt"
 done
-cp -r "$here/journal" "$work/crates/journal_bench"
+bench=$work/crates/journal_bench
+mkdir -p "$bench/src" "$bench/proofs/append_all"
+cat >"$bench/src/main.rt" <<'RATTLE'
+//! Appends rows to a journal in memory, then mounts what was written again and again.
+#![tactic(auto)]
+
+ghost use Rattle.book_journal.specs.Journal.{IsSound};
+
+use book_journal::{Journal, MOST_ROWS};
+use counts_and_texts::read_number_within;
+use disk_core::{Disk, QuietDisk};
+use std::env;
+use std::process::ExitCode;
+
+fn append_one<D: Disk>(journal: &mut Journal<D>) -> bool
+    requires { IsSound D.reads D.image journal.old }
+    ensures { IsSound D.reads D.image journal.new }
+{
+    let mut row = [0; 64];
+    row[0] = 1;
+    journal.count() < MOST_ROWS && journal.append(&row).is_ok()
+}
+
+fn append_all<D: Disk>(journal: &mut Journal<D>, rows: u64) -> bool
+    requires { IsSound D.reads D.image journal.old }
+{
+    for _ in 0..rows {
+        if !append_one(journal) {
+            return false;
+        }
+    }
+    true
+}
+
+fn mount_all<D: Disk + Drop>(disk: D, mounts: u64) -> Option<u32> {
+    let mut journal = Journal::mount(disk).ok()?;
+    for _ in 0..mounts {
+        journal = Journal::mount(journal.give_back()).ok()?;
+    }
+    Some(journal.count())
+}
+
+fn run(rt: &HostRuntime, rows: u64, mounts: u64) -> Option<u32> {
+    let room = Vec::with_capacity(rt.alloc(), 64_000_065).ok()?;
+    let mut journal = Journal::mount(QuietDisk::new(room)).ok()?;
+    if journal.count() != 0 || !append_all(&mut journal, rows) {
+        return None;
+    }
+    mount_all(journal.give_back(), mounts)
+}
+
+fn number(text: &str) -> Option<u64> {
+    read_number_within(7, 1_000_000, text.as_bytes())
+}
+
+fn main(rt: HostRuntime) -> ExitCode {
+    let Ok(args) = env::args(&rt) else {
+        return ExitCode::from(2);
+    };
+    let mut numbers = args.skip(1).filter_map(|word| number(&word));
+    let (Some(rows), Some(mounts)) = (numbers.next(), numbers.next()) else {
+        return ExitCode::from(2);
+    };
+    match run(&rt, rows, mounts) {
+        Some(count) if u64::from(count) == rows => ExitCode::from(0),
+        _ => ExitCode::from(1),
+    }
+}
+RATTLE
+cat >"$bench/proofs/append_all/Invariants.antt" <<'ANTT'
+use Rattle.book_journal.specs.Journal.{IsSound}
+use Rattle.journal_bench.proofs.append_all.Given as goal
+
+abbrev pub invariant-loop : goal.invariant-loop
+invariant-loop g l = IsSound g.D.Disk.reads g.D.Disk.image l.journal
+ANTT
 echo 'journal_bench: book_journal counts_and_texts disk_core' >>"$work/crates.txt"
-(cd "$work/crates/journal_bench" && rt run </dev/null) >"$work/log" 2>&1 || true
-program=$work/crates/journal_bench/out/journal_bench
+(cd "$bench" && rt run </dev/null) >"$work/log" 2>&1 || true
+program=$bench/out/journal_bench
 [ -x "$program" ] || { cat "$work/log" >&2; exit 70; }
 
 milliseconds() { echo $(($(date +%s%N) / 1000000)); }

@@ -68,54 +68,56 @@ fn words_right_and_wrong(rt: HostRuntime) -> Result<(), Fail> {
     Ok(())
 }
 
-// 250 g and a tare of 10 g: the limits of the gross are 251.000 g and 242.000 g.
+// 250 g and a tare of 10 g: the limits of the gross are 251.000 g and 242.000 g. Each row has lines, what goes out and
+// the status.
+const LINES: [(&[u8], &[u8], u8); 17] = [
+    (
+        b"251000\n251000\n",
+        b"1 pass\n2 pass\nreadings 2 gross 502000\npassed 2 gross 502000\nrejected 0 gross 0\n",
+        0,
+    ),
+    (
+        b"251000\n251000",
+        b"1 pass\n2 pass\nreadings 2 gross 502000\npassed 2 gross 502000\nrejected 0 gross 0\n",
+        0,
+    ),
+    (
+        b"250999\n250999\n",
+        b"1 pass\n2 reject allowance\nreadings 2 gross 501998\npassed 1 gross 250999\nrejected 1 gross 250999\n",
+        0,
+    ),
+    (
+        b"242000\n241999\n",
+        b"1 pass\n2 reject inadequate\nreadings 2 gross 483999\npassed 1 gross 242000\nrejected 1 gross 241999\n",
+        0,
+    ),
+    (
+        b"0\n30000000\n00000000",
+        b"1 reject inadequate\n2 pass\n3 reject inadequate\nreadings 3 gross 30000000\npassed 1 gross 30000000\nrejected 2 gross 0\n",
+        0,
+    ),
+    (b"251000\nx\n251000\n", b"1 pass\nbad line 2\n", 3),
+    (b"251000\n\n", b"1 pass\nbad line 2\n", 3),
+    (b"\n", b"bad line 1\n", 3),
+    (b"251000\r\n", b"bad line 1\n", 3),
+    (b" 251000\n", b"bad line 1\n", 3),
+    (b"251000\t\n", b"bad line 1\n", 3),
+    (b"000251000\n", b"bad line 1\n", 3),
+    (b"30000001\n", b"bad line 1\n", 3),
+    (b"251000\n-1", b"1 pass\nbad line 2\n", 3),
+    (b"25\x001000\n", b"bad line 1\n", 3),
+    (b"251000\n\xff\xfe\n", b"1 pass\nbad line 2\n", 3),
+    (
+        b"251000\n2510002510002510002510002510002510002510002510002510002510002510",
+        b"1 pass\nbad line 2\n",
+        3,
+    ),
+];
+
 #[test]
 fn lines_good_and_bad(rt: HostRuntime) -> Result<(), Fail> {
     let alloc = rt.alloc();
-    let table: [(&[u8], &[u8], u8); 17] = [
-        (
-            b"251000\n251000\n",
-            b"1 pass\n2 pass\nreadings 2 gross 502000\npassed 2 gross 502000\nrejected 0 gross 0\n",
-            0,
-        ),
-        (
-            b"251000\n251000",
-            b"1 pass\n2 pass\nreadings 2 gross 502000\npassed 2 gross 502000\nrejected 0 gross 0\n",
-            0,
-        ),
-        (
-            b"250999\n250999\n",
-            b"1 pass\n2 reject allowance\nreadings 2 gross 501998\npassed 1 gross 250999\nrejected 1 gross 250999\n",
-            0,
-        ),
-        (
-            b"242000\n241999\n",
-            b"1 pass\n2 reject inadequate\nreadings 2 gross 483999\npassed 1 gross 242000\nrejected 1 gross 241999\n",
-            0,
-        ),
-        (
-            b"0\n30000000\n00000000",
-            b"1 reject inadequate\n2 pass\n3 reject inadequate\nreadings 3 gross 30000000\npassed 1 gross 30000000\nrejected 2 gross 0\n",
-            0,
-        ),
-        (b"251000\nx\n251000\n", b"1 pass\nbad line 2\n", 3),
-        (b"251000\n\n", b"1 pass\nbad line 2\n", 3),
-        (b"\n", b"bad line 1\n", 3),
-        (b"251000\r\n", b"bad line 1\n", 3),
-        (b" 251000\n", b"bad line 1\n", 3),
-        (b"251000\t\n", b"bad line 1\n", 3),
-        (b"000251000\n", b"bad line 1\n", 3),
-        (b"30000001\n", b"bad line 1\n", 3),
-        (b"251000\n-1", b"1 pass\nbad line 2\n", 3),
-        (b"25\x001000\n", b"bad line 1\n", 3),
-        (b"251000\n\xff\xfe\n", b"1 pass\nbad line 2\n", 3),
-        (
-            b"251000\n2510002510002510002510002510002510002510002510002510002510002510",
-            b"1 pass\nbad line 2\n",
-            3,
-        ),
-    ];
-    for (at, (input, text, wanted)) in table.iter().enumerate() {
+    for (at, (input, text, wanted)) in LINES.iter().enumerate() {
         let mut source = MemorySource::new(Vec::from_slice(alloc, input)?, Vec::new(alloc));
         let mut sink = MemorySink::new(alloc, Vec::new(alloc));
         assert_eq!(rt;
