@@ -1,0 +1,47 @@
+-- The signal of a weighing from what was counted.
+use Rattle.std.proofs.Common.{◌≡◌, ℕ, ℤ, List, length, take, nat_lt, Option, Some, option_map, sym, ◌∙◌, ap}
+use Rattle.std.proofs.Math.Seq.{take-append_seam}
+use Rattle.annex_tables.specs.declared.types.Limits.{Limits}
+use Rattle.pack_judge.specs.declared.types.Signal.{Signal}
+use Rattle.pack_judge.specs.Judge.{signal_of}
+use Rattle.book_words.specs.declared.name.Name.{Name}
+use Rattle.book_words.specs.declared.types.Prior.{Prior}
+use Rattle.book_words.specs.declared.types.Act.{Act}
+use Rattle.book_words.specs.declared.types.Act.TheVariants.{Weigh}
+use Rattle.book_words.specs.declared.types.Entry.{Entry}
+use Rattle.book_words.specs.declared.types.Reading.{Reading}
+use Rattle.book_words.specs.Acts.{newest_day, started_for}
+use Rattle.book_words.specs.Readings.{limits_in, net_from, readings_among}
+use Rattle.book_words.specs.Piles.{population_among, count_below}
+use Rattle.book_words.specs.Signals.{followed_by, signal_for}
+use Rattle.book_core.specs.declared.counters.Population.{Population}
+use Rattle.book_core.specs.Counting.{CountsOf}
+use Rattle.book_core.specs.Judging.{signal_by}
+
+-- the signal by the counters is that by the population that they stand for
+pub judged : (entries : List Entry) (batch : Name) (gross : ℤ) (some : List Reading) (limits : Limits) (population : Population) (net : ℤ) (signal : Signal)
+    → limits ≡ limits_in entries batch → CountsOf entries limits some population → net ≡ net_from entries (Some batch) (newest_day entries) gross
+    → signal ≡ signal_of net limits (nat_lt 0 population.inadequate) population.n population.nonstandard
+    → signal ≡ signal_by entries batch gross some
+judged entries batch gross some limits population net signal limits_is counts net_is is =
+    is ∙ ap (λ (n : ℕ). signal_of net limits (nat_lt 0 population.inadequate) n population.nonstandard) counts.n
+    ∙ ap (λ (n : ℕ). signal_of net limits (nat_lt 0 population.inadequate) (length some) n) counts.nonstandard
+    ∙ ap (λ (n : ℕ). signal_of net limits (nat_lt 0 n) (length some) (count_below entries limits.t1 some)) counts.inadequate
+    ∙ ap (λ (x : ℤ). signal_of x limits (nat_lt 0 (count_below entries limits.t2 some)) (length some) (count_below entries limits.t1 some)) net_is
+    ∙ ap (λ (l : Limits). signal_of (net_from entries (Some batch) (newest_day entries) gross) l (nat_lt 0 (count_below entries l.t2 some)) (length some) (count_below entries l.t1 some)) limits_is
+
+-- what is recorded with a weighing, by the entries before it
+abbrev recorded_by : ℕ → ℤ → List Entry → ℕ → List Entry → Option Signal
+recorded_by lane gross entries many whole =
+    option_map (λ batch. signal_by entries batch gross (population_among batch (readings_among many whole))) (started_for entries lane)
+
+pub recorded : (entries whole : List Entry) (many lane : ℕ) (gross : ℤ) (prior : Prior) (act : Act) (signal : Option Signal) → whole ≡ followed_by entries act → many ≡ length entries → act ≡ Weigh lane gross prior
+    → signal ≡ option_map (λ batch. signal_by (take many whole) batch gross (population_among batch (readings_among many whole))) (started_for (take many whole) lane)
+    → signal ≡ signal_for entries act
+recorded entries whole many lane gross prior act signal whole_is many_is act_is is =
+    let weighing = Weigh lane gross prior in
+    is ∙ ap (λ (n : ℕ). recorded_by lane gross (take n whole) n whole) many_is
+    ∙ ap (λ (w : List Entry). recorded_by lane gross (take (length entries) w) (length entries) w) whole_is
+    ∙ ap (λ (a : Act). recorded_by lane gross (take (length entries) (followed_by entries a)) (length entries) (followed_by entries a)) act_is
+    ∙ ap (λ (es : List Entry). recorded_by lane gross es (length entries) (followed_by entries weighing)) (take-append_seam entries _)
+    ∙ sym (ap (signal_for entries) act_is)

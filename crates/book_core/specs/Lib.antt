@@ -1,0 +1,10 @@
+pub mod Sight
+pub mod Ranges
+pub mod Deciding
+pub mod Picking
+pub mod Counting
+pub mod Adding
+pub mod Judging
+pub mod View
+pub mod Steps
+pub mod Keeping

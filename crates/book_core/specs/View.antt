@@ -1,0 +1,14 @@
+-- A book as contracts see it.
+use Rattle.std.specs.Prelude.{ℕ, List, Option}
+use Rattle.book_words.specs.declared.types.Entry.{Entry}
+
+-- an act that is ready to be entered: the row that it will have, and the entry
+pub record ReadyEntry : Type 0 where
+  pub number : ℕ
+  pub entry : Entry
+
+-- the accepted commands, the most rows that the book may have, and what is ready to be entered
+pub record BookView : Type 0 where
+  pub entries : List Entry
+  pub limit : ℕ
+  pub pending : Option ReadyEntry

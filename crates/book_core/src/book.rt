@@ -1,0 +1,132 @@
+ghost use Rattle.std.specs.Prelude.{◌≡◌, ◌+◌, ◌≤◌, [], ◌∷◌, ◌++◌, length, Ok, None, Some, IfOk};
+ghost use Rattle.book_words.specs.declared.types.Want.TheVariants as want;
+ghost use Rattle.book_words.specs.Answers.{answer, IsLegal};
+ghost use Rattle.book_words.specs.Balance.{IsBalanced, MovesOnly};
+ghost use Rattle.book_core.specs.Steps.{step_for, GivesUnlessNoMemory, made_ready, handed_on};
+
+use crate::ready::Ready;
+use crate::rows::Rows;
+use crate::types::{BookError, NoMemory, Step};
+use crate::{growth, rules, summaries};
+use book_words::{Act, Answered, Entry, Question, Refused, Reply};
+use std::alloc::Global;
+use std::marker::Model;
+
+/// The batch book: the list of accepted commands, and the most rows that it may have.
+///
+/// Each answer is computed by a walk over the list. A contract sees beside the list what was made ready last.
+#[derive(Drop)]
+pub struct Book {
+    entries: Vec<Entry>,
+    limit: u32,
+    pending: Option<Ready>,
+}
+
+impl Model for Book {
+    ghost use Rattle.std.specs.Prelude.{vec_capacity};
+    ghost use Rattle.book_core.specs.View.{BookView};
+    ghost use Rattle.book_core.specs.Keeping.{IsKept, IsPendingKept};
+
+    ghost Value = { BookView };
+
+    ghost view = { λ b. record { entries = b.entries.items; limit = b.limit; pending = b.pending } };
+
+    ghost invariant = { λ b. IsKept b.entries.items b.limit × IsPendingKept b.entries.items b.limit (vec_capacity b.entries) b.pending };
+}
+
+impl Book {
+    /// A book without entries that may have `limit` rows, 1 to 1 000 000.
+    pub fn new(alloc: Global, limit: u32) -> Result<Book, NoMemory>
+        requires least { 1 ≤ limit }
+        requires most { limit ≤ 1000000 }
+        ensures { IfOk result (λ book. book ≡ record { entries = []; limit = limit; pending = None }) }
+    {
+        Ok(Book {
+            entries: Vec::new(alloc),
+            limit,
+            pending: None,
+        })
+    }
+
+    /// Makes an act ready: it is refused, or room is taken for it and its entry is made. The list stays as it is.
+    ///
+    /// Desk and request are those of the hall's own commands, 0. Of several refusals that hold, the one with the
+    /// least number is answered, with the length of the list. Want of memory is answered only for a lawful act.
+    pub fn ready(&mut self, by: u16, desk: u16, request: u32, act: &Act) -> Result<Step, BookError>
+        requires desk { desk ≡ 0 }
+        requires request { request ≡ 0 }
+        ensures exact { GivesUnlessNoMemory result (step_for self.old by desk request act.now) }
+        ensures pending { self.new.pending ≡ made_ready result }
+        ensures entries { self.new.entries ≡ self.old.entries }
+        ensures limit { self.new.limit ≡ self.old.limit }
+    {
+        self.pending = None;
+        let at = self.entries.len() as u32;
+        if let Some(refusal) = rules::refuse_within(self.limit, &self.entries, act) {
+            return Err(BookError::Refused(Refused { at, refusal }));
+        }
+        let Ok(signal) = growth::sign(&mut self.entries, act) else {
+            return Err(BookError::NoMemory);
+        };
+        let entry = Entry {
+            by,
+            desk,
+            request,
+            act: *act,
+            signal,
+        };
+        self.pending = Some(Ready::new(at + 1, entry));
+        Ok(Step::New(Ready::new(at + 1, entry)))
+    }
+
+    /// Enters what was made ready last, and answers it. It can't fail.
+    pub fn enter(&mut self, ready: Ready) -> Answered
+        requires { self.old.pending ≡ Some ready }
+        ensures entries { self.new.entries ≡ self.old.entries ++ ready.entry ∷ [] }
+        ensures limit { self.new.limit ≡ self.old.limit }
+        ensures pending { self.new.pending ≡ None }
+        ensures answer { Ok result ≡ answer self.old.limit self.old.entries (want.Act ready.entry.act) }
+        ensures legal { IsLegal self.new.entries }
+        ensures moves { MovesOnly self.old.entries ready.entry }
+    {
+        let row = ready.number();
+        let entry = *ready.entry();
+        self.pending = None;
+        growth::enter(&mut self.entries, entry);
+        Answered {
+            at: row,
+            reply: match entry.signal {
+                Some(signal) => Reply::Judged { row, signal },
+                None => Reply::Done { row },
+            },
+        }
+    }
+
+    /// Answers a question over the list as it stands. It takes no memory.
+    pub fn look(&self, question: &Question) -> Result<Answered, BookError>
+        ensures { result ≡ handed_on (answer self.now.limit self.now.entries (want.Question question.now)) }
+    {
+        match question {
+            Question::Summary => Ok(Answered {
+                at: self.entries.len() as u32,
+                reply: Reply::SummaryIs(summaries::summarize(&self.entries)),
+            }),
+        }
+    }
+
+    /// The number of rows.
+    pub fn len(&self) -> u32
+        ensures { result ≡ length self.now.entries }
+    {
+        self.entries.len() as u32
+    }
+
+    /// The rows. They are legal, and their piles add up.
+    pub fn rows(self) -> Rows
+        ensures rows { result ≡ self.entries }
+        ensures legal { IsLegal result }
+        ensures balanced { IsBalanced result }
+    {
+        Rows::new(self.entries)
+    }
+}

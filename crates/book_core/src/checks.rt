@@ -1,0 +1,199 @@
+ghost use Rattle.std.specs.Prelude.{◌≡◌, ◌≤◌, length, not};
+ghost use Rattle.std.specs.List.{list_all};
+ghost use Rattle.book_words.specs.Names.{bytes_of, is_name_byte, is_name_shape};
+ghost use Rattle.book_words.specs.Refusals.{refused_if, is_within, book_full, day_unset, day_back, product_known, product_unknown, name_shape, nominal_range, day_range, batch_known, batch_unknown, not_running, lane_number, lane_busy, lane_idle, no_tare, gross_range, prior_wrong, tare_range};
+
+use crate::unsettled::has_unsettled;
+use crate::{acts, tares};
+use book_words::{BatchState, Entry, Name, Prior, Refusal};
+
+// A refusal where a test holds.
+fn refuse_if(test: bool, refusal: Refusal) -> Option<Refusal>
+    ensures { result ≡ refused_if test refusal }
+{
+    if test { Some(refusal) } else { None }
+}
+
+/// The list has as many rows as it may have, or more.
+pub fn is_full(limit: u32, entries: &[Entry]) -> Option<Refusal>
+    ensures { result ≡ book_full limit entries.now }
+{
+    refuse_if(limit as usize <= entries.len(), Refusal::BookFull { limit })
+}
+
+/// No day is set.
+pub fn has_no_day(entries: &[Entry]) -> Option<Refusal>
+    ensures { result ≡ day_unset entries.now }
+{
+    refuse_if(acts::last_day(entries).is_none(), Refusal::DayUnset)
+}
+
+/// The new day is before the newest.
+pub fn goes_back(entries: &[Entry], day: i32) -> Option<Refusal>
+    ensures { result ≡ day_back entries.now day }
+{
+    match acts::last_day(entries) {
+        Some(last) if day < last => Some(Refusal::DayBack { last }),
+        _ => None,
+    }
+}
+
+/// The name is a product.
+pub fn is_product(entries: &[Entry], name: &Name) -> Option<Refusal>
+    ensures { result ≡ product_known entries.now name.now }
+{
+    refuse_if(
+        acts::nominal(entries, name).is_some(),
+        Refusal::ProductKnown,
+    )
+}
+
+/// The product isn't there.
+pub fn is_no_product(entries: &[Entry], name: &Name) -> Option<Refusal>
+    ensures { result ≡ product_unknown entries.now name.now }
+{
+    refuse_if(
+        acts::nominal(entries, name).is_none(),
+        Refusal::ProductUnknown,
+    )
+}
+
+// Whether a byte may stand behind the first of a name.
+fn is_in_names(byte: u8) -> bool
+    ensures { result ≡ is_name_byte byte }
+{
+    byte.is_ascii_alphanumeric() || byte == b'-' || byte == b'_' || byte == b'.'
+}
+
+// Whether all bytes may stand behind the first of a name.
+fn are_in_names(bytes: &[u8]) -> bool
+    ensures { result ≡ list_all is_name_byte bytes.now }
+{
+    bytes.iter().all(|byte| is_in_names(*byte))
+}
+
+// Whether some bytes have the shape of a name.
+fn has_name_shape(bytes: &[u8]) -> bool
+    ensures { result ≡ is_name_shape bytes.now }
+{
+    match bytes.split_first() {
+        None => false,
+        Some((first, rest)) => {
+            first.is_ascii_alphanumeric() && are_in_names(rest) && rest.len() <= 15
+        }
+    }
+}
+
+/// The new name has not the shape of a name.
+pub fn is_misshapen(name: &Name) -> Option<Refusal>
+    ensures { result ≡ name_shape name.now }
+{
+    refuse_if(!has_name_shape(name.as_bytes()), Refusal::NameShape)
+}
+
+/// The nominal quantity in mg isn't 5 g to 10 kg.
+pub fn is_no_nominal(nominal: i64) -> Option<Refusal>
+    ensures { result ≡ nominal_range nominal }
+{
+    refuse_if(
+        !(5_000 <= nominal && nominal <= 10_000_000),
+        Refusal::NominalRange,
+    )
+}
+
+/// The day isn't 1970-01-01 to 9999-12-31.
+pub fn is_no_day(day: i32) -> Option<Refusal>
+    ensures { result ≡ day_range day }
+{
+    refuse_if(!(0 <= day && day <= 2_932_896), Refusal::DayRange)
+}
+
+/// The name is a batch.
+pub fn is_batch(entries: &[Entry], name: &Name) -> Option<Refusal>
+    ensures { result ≡ batch_known entries.now name.now }
+{
+    refuse_if(acts::product(entries, name).is_some(), Refusal::BatchKnown)
+}
+
+/// The batch isn't there.
+pub fn is_no_batch(entries: &[Entry], name: &Name) -> Option<Refusal>
+    ensures { result ≡ batch_unknown entries.now name.now }
+{
+    refuse_if(
+        acts::product(entries, name).is_none(),
+        Refusal::BatchUnknown,
+    )
+}
+
+/// The batch isn't running.
+pub fn runs_no_more(entries: &[Entry], batch: &Name) -> Option<Refusal>
+    ensures { result ≡ not_running entries.now batch.now }
+{
+    match acts::state(entries, batch) {
+        None | Some(BatchState::Running) => None,
+        Some(state) => Some(Refusal::BatchState { state }),
+    }
+}
+
+/// The lane isn't 1 to 16.
+pub fn is_no_lane(lane: u8) -> Option<Refusal>
+    ensures { result ≡ lane_number lane }
+{
+    refuse_if(!(1 <= lane && lane <= 16), Refusal::LaneNumber)
+}
+
+/// The lane has a batch.
+pub fn is_busy(entries: &[Entry], lane: u8) -> Option<Refusal>
+    ensures { result ≡ lane_busy entries.now lane }
+{
+    let batch = acts::batch_of_lane(entries, lane)?;
+    Some(Refusal::LaneBusy { batch })
+}
+
+/// The lane has no batch.
+pub fn is_idle(entries: &[Entry], lane: u8) -> Option<Refusal>
+    ensures { result ≡ lane_idle entries.now lane }
+{
+    refuse_if(
+        acts::batch_of_lane(entries, lane).is_none(),
+        Refusal::LaneIdle,
+    )
+}
+
+/// There is no tare for the batch's product on the newest day.
+pub fn has_no_tare(entries: &[Entry], batch: &Name) -> Option<Refusal>
+    ensures { result ≡ no_tare entries.now batch.now }
+{
+    let product = acts::product(entries, batch)?;
+    let day = acts::last_day(entries)?;
+    refuse_if(
+        tares::tare(entries, &product, day).is_none(),
+        Refusal::NoTare { product },
+    )
+}
+
+/// The gross in mg isn't 0 to 30 kg.
+pub fn is_no_gross(gross: i64) -> Option<Refusal>
+    ensures { result ≡ gross_range gross }
+{
+    refuse_if(!(0 <= gross && gross <= 30_000_000), Refusal::GrossRange)
+}
+
+/// What the gate did is wanted and isn't said, or is said and isn't wanted.
+pub fn has_wrong_prior(entries: &[Entry], lane: u8, prior: Prior) -> Option<Refusal>
+    requires { length entries.now ≤ 1000000 }
+    ensures { result ≡ prior_wrong entries.now lane prior }
+{
+    let wanted = has_unsettled(entries, lane);
+    match prior {
+        Prior::Nothing => refuse_if(wanted, Refusal::PriorWrong { wanted: true }),
+        _ => refuse_if(!wanted, Refusal::PriorWrong { wanted: false }),
+    }
+}
+
+/// The tare in mg isn't 0 to 5 kg.
+pub fn is_no_tare(tare: i64) -> Option<Refusal>
+    ensures { result ≡ tare_range tare }
+{
+    refuse_if(!(0 <= tare && tare <= 5_000_000), Refusal::TareRange)
+}

@@ -1,0 +1,40 @@
+ghost use Rattle.std.specs.Prelude.{◌≡◌, ◌+◌, ◌<◌, ◌≤◌, [], ◌∷◌, ◌++◌, length, vec_len, vec_capacity, true, IfOk, OnOk};
+ghost use Rattle.book_words.specs.Signals.{signal_for};
+ghost use Rattle.book_core.specs.Ranges.{AllInRange, is_in_range};
+ghost use Rattle.book_core.specs.Judging.{IsLimitedIn};
+
+use crate::signals;
+use crate::types::NoMemory;
+use book_words::{Act, Entry};
+use pack_judge::Signal;
+
+/// Takes room for an act, and finds the signal that is recorded with it. The list stays as it is.
+pub fn sign(entries: &mut Vec<Entry>, act: &Act) -> Result<Option<Signal>, NoMemory>
+    requires few { length entries.old.items < 1000000 }
+    requires in_range { AllInRange entries.old.items }
+    requires act { is_in_range act.now ≡ true }
+    requires limited { IsLimitedIn (length entries.old.items) entries.old.items }
+    ensures entries { entries.new.items ≡ entries.old.items }
+    ensures signal { IfOk result (λ signal. signal ≡ signal_for entries.old.items act.now) }
+    ensures room { OnOk result (length entries.old.items < vec_capacity entries.new) }
+{
+    let many = entries.as_slice().len();
+    entries.push(Entry {
+        by: 0,
+        desk: 0,
+        request: 0,
+        act: *act,
+        signal: None,
+    })?;
+    let signal = signals::record(entries, many, act);
+    let _ = entries.pop();
+    Ok(signal)
+}
+
+/// Enters an entry that there is room for.
+pub fn enter(entries: &mut Vec<Entry>, entry: Entry)
+    requires { length entries.old.items < vec_capacity entries.old }
+    ensures { entries.new.items ≡ entries.old.items ++ entry ∷ [] }
+{
+    let _ = entries.push(entry);
+}

@@ -1,0 +1,108 @@
+ghost use Rattle.std.specs.Prelude.{◌≡◌, ◌+◌, ◌<◌, ◌≤◌, pos, ◌-ℤ◌, ◌≤ℤ◌, IfSome, Some, List, length, take, nat_lt, true};
+ghost use Rattle.std.specs.Option.{unwrap_or, option_and_then, option_map};
+ghost use Rattle.annex_tables.specs.Errors.{limits_of};
+ghost use Rattle.pack_judge.specs.Judge.{signal_of};
+ghost use Rattle.book_words.specs.declared.types.Entry.{Entry};
+ghost use Rattle.book_words.specs.Acts.{nominal_of, product_of, newest_day, started_for};
+ghost use Rattle.book_words.specs.Readings.{limits_in, net_from, readings_among};
+ghost use Rattle.book_words.specs.Piles.{population_among, count_below};
+ghost use Rattle.book_words.specs.Signals.{followed_by, signal_for, signal_in};
+ghost use Rattle.book_core.specs.Ranges.{AllInRange, is_in_range};
+ghost use Rattle.book_core.specs.Judging.{signal_by, IsLimitedIn};
+
+use crate::acts;
+use crate::population::{population, tare_on_day};
+use annex_tables::Limits;
+use book_words::{Act, Entry, Name};
+use pack_judge::{Signal, signal};
+
+/// The limits of a quantity of nothing.
+const NO_LIMITS: Limits = Limits {
+    t1: 0,
+    t2: 0,
+    tne: 0,
+};
+
+// The nominal quantity of a batch's product, in mg.
+fn nominal_in(entries: &[Entry], batch: &Name) -> Option<i64>
+    ensures value { result ≡ option_and_then (nominal_of entries.now) (product_of entries.now batch.now) }
+    ensures in_range { AllInRange entries.now → IfSome result (λ nominal. (pos 5000 ≤ℤ nominal) × (nominal ≤ℤ pos 10000000)) }
+{
+    let product = acts::product(entries, batch)?;
+    acts::nominal(entries, &product)
+}
+
+/// The limits of a batch's product.
+pub fn limits(entries: &[Entry], batch: &Name) -> Limits
+    requires { AllInRange entries.now }
+    ensures { result ≡ limits_in entries.now batch.now }
+{
+    match nominal_in(entries, batch) {
+        Some(nominal) => annex_tables::limits(nominal).unwrap(),
+        None => NO_LIMITS,
+    }
+}
+
+// The net of a gross in a batch on the newest day, all in mg.
+fn net_in(entries: &[Entry], batch: &Name, gross: i64) -> i64
+    requires in_range { AllInRange entries.now }
+    requires low { pos 0 ≤ℤ gross }
+    requires high { gross ≤ℤ pos 30000000 }
+    ensures { result ≡ net_from entries.now (Some batch.now) (newest_day entries.now) gross }
+{
+    let tare = tare_on_day(entries, batch, acts::last_day(entries)).unwrap_or(0);
+    gross - tare
+}
+
+// The signal of a gross in a batch, by the entries before the last one and by the piles that the last one leaves.
+fn judge(whole: &[Entry], many: usize, batch: &Name, gross: i64) -> Signal
+    requires inside { many ≤ length whole.now }
+    requires few { length whole.now ≤ 1000000 }
+    requires in_range { AllInRange whole.now }
+    requires low { pos 0 ≤ℤ gross }
+    requires high { gross ≤ℤ pos 30000000 }
+    requires limited { IsLimitedIn many whole.now }
+    ensures { result ≡ signal_by (take many whole.now) batch.now gross (population_among batch.now (readings_among many whole.now)) }
+{
+    let (entries, _) = whole.split_at(many);
+    let limits = limits(entries, batch);
+    let some = population(whole, many, batch, &limits);
+    signal(
+        net_in(entries, batch, gross),
+        &limits,
+        some.inadequate > 0,
+        some.n,
+        some.nonstandard,
+    )
+}
+
+// The signal that is recorded with a weighing.
+fn weigh(whole: &[Entry], many: usize, lane: u8, gross: i64) -> Option<Signal>
+    requires inside { many ≤ length whole.now }
+    requires few { length whole.now ≤ 1000000 }
+    requires in_range { AllInRange whole.now }
+    requires low { pos 0 ≤ℤ gross }
+    requires high { gross ≤ℤ pos 30000000 }
+    requires limited { IsLimitedIn many whole.now }
+    ensures { result ≡ option_map (λ batch. signal_by (take many whole.now) batch gross (population_among batch (readings_among many whole.now)))
+        (started_for (take many whole.now) lane) }
+{
+    let (entries, _) = whole.split_at(many);
+    let batch = acts::last_started(entries, lane)?;
+    Some(judge(whole, many, &batch, gross))
+}
+
+/// The signal that is recorded with an act, which stands last in the list, by the entries before it.
+pub fn record(whole: &[Entry], many: usize, act: &Act) -> Option<Signal>
+    requires inside { many ≤ length whole.now }
+    requires few { length whole.now ≤ 1000000 }
+    requires in_range { AllInRange whole.now }
+    requires act { is_in_range act.now ≡ true }
+    requires limited { IsLimitedIn many whole.now }
+    ensures { (entries : List Entry) → whole.now ≡ followed_by entries act.now → many ≡ length entries → result ≡ signal_for entries act.now }
+{
+    match act {
+        Act::Weigh { lane, gross, .. } => weigh(whole, many, *lane, *gross),
+        _ => None,
+    }
+}

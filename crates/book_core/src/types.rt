@@ -1,0 +1,24 @@
+use crate::ready::Ready;
+use book_words::{Answered, Refused};
+use std::alloc::AllocError;
+
+/// Memory was refused.
+pub type NoMemory = AllocError;
+
+/// What making an act ready gives.
+#[derive(Debug, Drop)]
+pub enum Step {
+    /// The act is lawful, and there is room for it.
+    New(Ready),
+    /// The act repeats the newest one of its desk, which was answered so.
+    Known(Answered),
+}
+
+/// Why a book doesn't answer as was asked.
+#[derive(Clone, Copy, Debug, PartialEq, Eq)]
+pub enum BookError {
+    /// The act is refused.
+    Refused(Refused),
+    /// Memory was refused.
+    NoMemory,
+}
