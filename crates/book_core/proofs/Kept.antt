@@ -50,7 +50,7 @@ same_name_is a b h =
     ap (λ n. make n a.bytes) (eqb-true a.len b.len parts.0) ∙ ap (make b.len) (same_text a.bytes b.bytes (sym parts.1))
 
 -- of several refusals none holds
-none_of_two : (a b : Option Refusal) → option_or a b ≡ None → (a ≡ None) × (b ≡ None)
+pub none_of_two : (a b : Option Refusal) → option_or a b ≡ None → (a ≡ None) × (b ≡ None)
 none_of_two None b h = (refl, h)
 none_of_two (Some refusal) b h = absurd (cc)
 

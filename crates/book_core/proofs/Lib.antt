@@ -9,3 +9,4 @@ pub mod Judged
 pub mod Onward
 pub mod Kept
 pub mod Moving
+pub mod Signed

@@ -7,7 +7,7 @@ use Rattle.book_words.specs.declared.types.Act.{Act}
 use Rattle.book_words.specs.declared.types.Entry.{Entry}
 use Rattle.book_words.specs.Acts.{last_said}
 
-last_or-cons : {A : Type 0} (o p : Option A) (xs : List A) → last_or o (cons_option p xs) ≡ last_or (option_or p o) xs
+pub last_or-cons : {A : Type 0} (o p : Option A) (xs : List A) → last_or o (cons_option p xs) ≡ last_or (option_or p o) xs
 last_or-cons o None xs = refl
 last_or-cons o (Some x) xs = refl
 

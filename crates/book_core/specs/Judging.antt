@@ -1,8 +1,11 @@
 -- The signal of a weighing, by the population that the piles leave.
 use Rattle.std.specs.Prelude.{ℕ, ℤ, ◌≤◌, List, length, nat_lt, Some}
+use Rattle.std.specs.Prelude.{◌≡◌, Bool, true, false, is_some}
 use Rattle.pack_judge.specs.declared.types.Signal.{Signal}
 use Rattle.pack_judge.specs.Judge.{signal_of}
 use Rattle.book_words.specs.declared.name.Name.{Name}
+use Rattle.book_words.specs.declared.types.Act.{Act}
+use Rattle.book_words.specs.declared.types.Act.TheVariants.{Weigh}
 use Rattle.book_words.specs.declared.types.Entry.{Entry}
 use Rattle.book_words.specs.declared.types.Reading.{Reading}
 use Rattle.book_words.specs.Acts.{newest_day}
@@ -18,3 +21,11 @@ signal_by entries batch gross some =
 -- no population has more packs than it may have
 abbrev pub IsLimitedIn : ℕ → List Entry → Type 0
 IsLimitedIn many whole = (batch : Name) → length (population_among batch (readings_among many whole)) ≤ 10000
+
+abbrev pub is_weighing : Act → Bool
+is_weighing (Weigh lane gross prior) = true
+is_weighing _ = false
+
+-- a weighing has a signal, and no other act has one
+abbrev pub HasItsSignal : Entry → Type 0
+HasItsSignal entry = is_some entry.signal ≡ is_weighing entry.act

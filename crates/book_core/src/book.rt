@@ -2,6 +2,7 @@ ghost use Rattle.std.specs.Prelude.{◌≡◌, ◌+◌, ◌≤◌, [], ◌∷◌
 ghost use Rattle.book_words.specs.declared.types.Want.TheVariants as want;
 ghost use Rattle.book_words.specs.Answers.{answer, IsLegal};
 ghost use Rattle.book_words.specs.Balance.{IsBalanced, MovesOnly};
+ghost use Rattle.book_core.specs.Judging.{HasItsSignal};
 ghost use Rattle.book_core.specs.Steps.{step_for, GivesUnlessNoMemory, made_ready, handed_on};
 
 use crate::ready::Ready;
@@ -86,6 +87,7 @@ impl Book {
         ensures limit { self.new.limit ≡ self.old.limit }
         ensures pending { self.new.pending ≡ None }
         ensures answer { Ok result ≡ answer self.old.limit self.old.entries (want.Act ready.entry.act) }
+        ensures judged { HasItsSignal ready.entry }
         ensures legal { IsLegal self.new.entries }
         ensures moves { MovesOnly self.old.entries ready.entry }
     {

@@ -5,6 +5,7 @@ use Rattle.book_core.specs.View.{BookView}
 use Rattle.book_core.specs.Keeping.{IsKept}
 use Rattle.book_core.proofs.Kept.{kept-push}
 use Rattle.book_core.proofs.Moving.{moves_only}
+use Rattle.book_core.proofs.Signed.{has_its_signal}
 use Rattle.book_core.proofs.book.Book.enter.Goals as goal
 
 pub enter-requires : goal.enter-requires
@@ -27,3 +28,8 @@ returns-clause-legal c =
 
 pub returns-clause-moves : goal.returns-clause-moves
 returns-clause-moves c = moves_only c.args.self.now.entries c.args.ready.entry
+
+pub returns-clause-judged : goal.returns-clause-judged
+returns-clause-judged c =
+    let room = c.self.invariant.1 c.args.ready (ap (λ (v : BookView). v.pending) c.self.view_is ∙ c.requires) in
+    has_its_signal c.self.inside.entries.items c.args.ready.entry room.lawful
