@@ -18,7 +18,7 @@ signal_by entries batch gross some =
     signal_of (net_from entries (Some batch) (newest_day entries) gross) (limits_in entries batch)
     (nat_lt 0 (count_below entries (limits_in entries batch).t2 some)) (length some) (count_below entries (limits_in entries batch).t1 some)
 
--- no population has more packs than it may have
+-- among so many of the first entries no batch has a population of more packs than it may have
 abbrev pub IsLimitedIn : ℕ → List Entry → Type 0
 IsLimitedIn many whole = (batch : Name) → length (population_among batch (readings_among many whole)) ≤ 10000
 

@@ -13,7 +13,7 @@ use Rattle.book_words.specs.declared.types.Entry.{Entry}
 use Rattle.book_words.specs.declared.types.Reading.{Reading}
 use Rattle.book_words.specs.Readings.{readings, is_of_batch, net_of, limits_in}
 
--- where a reading lies, by its signal and by what the lane's next act says: a passed one is voided where nobody knows what the gate did, rejected where the gate stayed shut
+-- where a reading lies, by its signal and by what the lane's next act says: a passed one is voided where nobody knows what the gate did, and rejected where the gate stayed shut; one that was signalled a reject is rejected; any other lies among the passed
 abbrev pub pile_by : Option Signal → Option Prior → Pile
 pile_by (Some Pass) (Some Unknown) = Voided
 pile_by (Some Pass) (Some Stayed) = Rejected

@@ -4,8 +4,8 @@ ghost use Rattle.book_words.specs.Names.{bytes_of, name_of, same_name};
 /// The most bytes that a name may have.
 pub const LONGEST_NAME: usize = 16;
 
-/// The name of a product or a batch: at most 16 bytes. Places that the name doesn't use hold 0, so that two names
-/// are equal exactly where their bytes are.
+/// The name of a product or a batch: at most 16 bytes. `Name::new`, which alone makes names, puts 0 into places that the
+/// name doesn't use, so that two names are equal exactly where their bytes are.
 #[derive(Clone, Copy, Debug, PartialEq, Eq, Hash)]
 pub struct Name {
     len: u8,
