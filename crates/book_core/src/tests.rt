@@ -41,6 +41,26 @@ fn weigh(gross: i64, prior: Prior) -> Act {
     }
 }
 
+fn product(name: Name, nominal: i64) -> Act {
+    Act::PutProduct { name, nominal }
+}
+
+fn tare(product: Name, day: i32, tare: i64) -> Act {
+    Act::PutTare { product, day, tare }
+}
+
+fn batch_of(batch: Name, product: Name) -> Act {
+    Act::OpenBatch { batch, product }
+}
+
+fn start(lane: u8, batch: Name) -> Act {
+    Act::StartLane { lane, batch }
+}
+
+fn stop(lane: u8, prior: Prior) -> Act {
+    Act::StopLane { lane, prior }
+}
+
 fn take(book: &mut Book, act: &Act) -> Taken {
     match book.ready(0, 0, 0, act)? {
         Step::New(ready) => Ok(book.enter(ready)),
@@ -62,20 +82,10 @@ fn begin(alloc: Global, limit: u32) -> Result<Book, fmt::Error>
     let mut book = Book::new(alloc, limit).map_err(|_| fmt::Error)?;
     let acts = [
         Act::NewDay { day: MARCH_3 },
-        Act::PutProduct {
-            name: rice,
-            nominal: 250_000,
-        },
-        Act::PutTare {
-            product: rice,
-            day: MARCH_3,
-            tare: 10_000,
-        },
-        Act::OpenBatch {
-            batch,
-            product: rice,
-        },
-        Act::StartLane { lane: 1, batch },
+        product(rice, 250_000),
+        tare(rice, MARCH_3, 10_000),
+        batch_of(batch, rice),
+        start(1, batch),
     ];
     for act in acts {
         take(&mut book, &act).map_err(|_| fmt::Error)?;
@@ -83,15 +93,12 @@ fn begin(alloc: Global, limit: u32) -> Result<Book, fmt::Error>
     Ok(book)
 }
 
-#[test]
-fn signals_of_the_worked_days(rt: HostRuntime) -> Result<(), Fail> {
-    let rice = named(b"rice250".as_slice())?;
-    let corrected = Act::PutTare {
-        product: rice,
-        day: MARCH_3,
-        tare: 12_000,
-    };
-    let days = [
+// Each day begins with five acts.
+fn worked_days(corrected: Act) -> [[(Act, Taken); 3]; 5] {
+    let allowance = Signal::Reject(Cause::Allowance);
+    let inadequate = Signal::Reject(Cause::Inadequate);
+    let held = Signal::Reject(Cause::Held);
+    [
         [
             (weigh(251_000, Prior::Nothing), judged(6, Signal::Pass)),
             (weigh(251_000, Prior::Opened), judged(7, Signal::Pass)),
@@ -99,18 +106,12 @@ fn signals_of_the_worked_days(rt: HostRuntime) -> Result<(), Fail> {
         ],
         [
             (weigh(250_999, Prior::Nothing), judged(6, Signal::Pass)),
-            (
-                weigh(250_999, Prior::Opened),
-                judged(7, Signal::Reject(Cause::Allowance)),
-            ),
+            (weigh(250_999, Prior::Opened), judged(7, allowance)),
             (weigh(251_000, Prior::Nothing), judged(8, Signal::Pass)),
         ],
         [
             (weigh(242_000, Prior::Nothing), judged(6, Signal::Pass)),
-            (
-                weigh(241_999, Prior::Opened),
-                judged(7, Signal::Reject(Cause::Inadequate)),
-            ),
+            (weigh(241_999, Prior::Opened), judged(7, inadequate)),
             (
                 weigh(260_000, Prior::Opened),
                 refused(7, Refusal::PriorWrong { wanted: false }),
@@ -119,18 +120,20 @@ fn signals_of_the_worked_days(rt: HostRuntime) -> Result<(), Fail> {
         [
             (weigh(243_000, Prior::Nothing), judged(6, Signal::Pass)),
             (corrected, done(7)),
-            (
-                weigh(260_000, Prior::Opened),
-                judged(8, Signal::Reject(Cause::Held)),
-            ),
+            (weigh(260_000, Prior::Opened), judged(8, held)),
         ],
         [
             (weigh(243_000, Prior::Nothing), judged(6, Signal::Pass)),
             (corrected, done(7)),
             (weigh(260_000, Prior::Stayed), judged(8, Signal::Pass)),
         ],
-    ];
-    for day in days {
+    ]
+}
+
+#[test]
+fn signals_of_the_worked_days(rt: HostRuntime) -> Result<(), Fail> {
+    let rice = named(b"rice250".as_slice())?;
+    for day in worked_days(tare(rice, MARCH_3, 12_000)) {
         let mut book = begin(rt.alloc(), 100)?;
         for (act, wanted) in day {
             assert_eq!(rt; take(&mut book, &act), wanted);
@@ -140,190 +143,71 @@ fn signals_of_the_worked_days(rt: HostRuntime) -> Result<(), Fail> {
 }
 
 #[test]
-fn refusals_in_turn(rt: HostRuntime) -> Result<(), Fail> {
+fn refusals_of_days_and_products(rt: HostRuntime) -> Result<(), Fail> {
     let nobody = named(b"".as_slice())?;
     let dash = named(b"-a".as_slice())?;
     let rice = named(b"rice250".as_slice())?;
-    let batch = named(b"A".as_slice())?;
-    let mut book = Book::new(rt.alloc(), 7)?;
-    let steps = [
+    let back = Refusal::DayBack { last: MARCH_3 };
+    let mut book = Book::new(rt.alloc(), 100)?;
+    for (act, wanted) in [
         (weigh(0, Prior::Nothing), refused(0, Refusal::DayUnset)),
         (Act::NewDay { day: MARCH_3 }, done(1)),
-        (
-            Act::NewDay { day: MARCH_2 },
-            refused(1, Refusal::DayBack { last: MARCH_3 }),
-        ),
+        (Act::NewDay { day: MARCH_2 }, refused(1, back)),
         (
             Act::NewDay { day: 2_932_897 },
             refused(1, Refusal::DayRange),
         ),
-        (
-            Act::PutProduct {
-                name: nobody,
-                nominal: 0,
-            },
-            refused(1, Refusal::NameShape),
-        ),
-        (
-            Act::PutProduct {
-                name: dash,
-                nominal: 250_000,
-            },
-            refused(1, Refusal::NameShape),
-        ),
-        (
-            Act::PutProduct {
-                name: rice,
-                nominal: 4_999,
-            },
-            refused(1, Refusal::NominalRange),
-        ),
-        (
-            Act::PutProduct {
-                name: rice,
-                nominal: 10_000_001,
-            },
-            refused(1, Refusal::NominalRange),
-        ),
-        (
-            Act::PutProduct {
-                name: rice,
-                nominal: 250_000,
-            },
-            done(2),
-        ),
-        (
-            Act::PutProduct {
-                name: rice,
-                nominal: 250_000,
-            },
-            refused(2, Refusal::ProductKnown),
-        ),
-        (
-            Act::PutTare {
-                product: batch,
-                day: -1,
-                tare: -1,
-            },
-            refused(2, Refusal::ProductUnknown),
-        ),
-        (
-            Act::PutTare {
-                product: rice,
-                day: -1,
-                tare: -1,
-            },
-            refused(2, Refusal::DayRange),
-        ),
-        (
-            Act::PutTare {
-                product: rice,
-                day: 0,
-                tare: 5_000_001,
-            },
-            refused(2, Refusal::TareRange),
-        ),
-        (
-            Act::OpenBatch {
-                batch: nobody,
-                product: batch,
-            },
-            refused(2, Refusal::ProductUnknown),
-        ),
-        (
-            Act::OpenBatch {
-                batch: nobody,
-                product: rice,
-            },
-            refused(2, Refusal::NameShape),
-        ),
-        (
-            Act::OpenBatch {
-                batch,
-                product: rice,
-            },
-            done(3),
-        ),
-        (
-            Act::OpenBatch {
-                batch,
-                product: rice,
-            },
-            refused(3, Refusal::BatchKnown),
-        ),
-        (
-            Act::StartLane {
-                lane: 0,
-                batch: rice,
-            },
-            refused(3, Refusal::BatchUnknown),
-        ),
-        (
-            Act::StartLane { lane: 0, batch },
-            refused(3, Refusal::LaneNumber),
-        ),
-        (
-            Act::StartLane { lane: 17, batch },
-            refused(3, Refusal::LaneNumber),
-        ),
-        (
-            Act::StartLane { lane: 1, batch },
-            refused(3, Refusal::NoTare { product: rice }),
-        ),
-        (
-            Act::PutTare {
-                product: rice,
-                day: MARCH_3,
-                tare: 10_000,
-            },
-            done(4),
-        ),
-        (Act::StartLane { lane: 1, batch }, done(5)),
-        (
-            Act::StartLane { lane: 1, batch },
-            refused(5, Refusal::LaneBusy { batch }),
-        ),
-        (
-            Act::StopLane {
-                lane: 2,
-                prior: Prior::Opened,
-            },
-            refused(5, Refusal::LaneIdle),
-        ),
-        (
-            weigh(30_000_001, Prior::Opened),
-            refused(5, Refusal::GrossRange),
-        ),
-        (
-            weigh(260_000, Prior::Opened),
-            refused(5, Refusal::PriorWrong { wanted: false }),
-        ),
-        (weigh(260_000, Prior::Nothing), judged(6, Signal::Pass)),
-        (
-            weigh(260_000, Prior::Nothing),
-            refused(6, Refusal::PriorWrong { wanted: true }),
-        ),
-        (
-            Act::StopLane {
-                lane: 1,
-                prior: Prior::Unknown,
-            },
-            done(7),
-        ),
-        (
-            weigh(260_000, Prior::Nothing),
-            refused(7, Refusal::BookFull { limit: 7 }),
-        ),
-    ];
-    for (act, wanted) in steps {
+        (product(nobody, 0), refused(1, Refusal::NameShape)),
+        (product(dash, 250_000), refused(1, Refusal::NameShape)),
+        (product(rice, 4_999), refused(1, Refusal::NominalRange)),
+        (product(rice, 10_000_001), refused(1, Refusal::NominalRange)),
+        (product(rice, 250_000), done(2)),
+        (product(rice, 250_000), refused(2, Refusal::ProductKnown)),
+        (tare(dash, -1, -1), refused(2, Refusal::ProductUnknown)),
+        (tare(rice, -1, -1), refused(2, Refusal::DayRange)),
+        (tare(rice, 0, 5_000_001), refused(2, Refusal::TareRange)),
+    ] {
         assert_eq!(rt; take(&mut book, &act), wanted);
     }
+    Ok(())
+}
+
+#[test]
+fn refusals_of_batches_and_lanes(rt: HostRuntime) -> Result<(), Fail> {
+    let nobody = named(b"".as_slice())?;
+    let rice = named(b"rice250".as_slice())?;
+    let batch = named(b"A".as_slice())?;
+    let no_tare = Refusal::NoTare { product: rice };
+    let mut book = Book::new(rt.alloc(), 100)?;
+    for (act, wanted) in [
+        (Act::NewDay { day: MARCH_3 }, done(1)),
+        (product(rice, 250_000), done(2)),
+        (batch_of(nobody, batch), refused(2, Refusal::ProductUnknown)),
+        (batch_of(nobody, rice), refused(2, Refusal::NameShape)),
+        (batch_of(batch, rice), done(3)),
+        (batch_of(batch, rice), refused(3, Refusal::BatchKnown)),
+        (start(0, rice), refused(3, Refusal::BatchUnknown)),
+        (start(0, batch), refused(3, Refusal::LaneNumber)),
+        (start(17, batch), refused(3, Refusal::LaneNumber)),
+        (start(1, batch), refused(3, no_tare)),
+        (tare(rice, MARCH_3, 10_000), done(4)),
+        (start(1, batch), done(5)),
+        (start(1, batch), refused(5, Refusal::LaneBusy { batch })),
+        (stop(2, Prior::Opened), refused(5, Refusal::LaneIdle)),
+    ] {
+        assert_eq!(rt; take(&mut book, &act), wanted);
+    }
+    Ok(())
+}
+
+// The summary of a book of one batch and seven rows, whose one pack is voided.
+fn one_voided() -> SummaryView {
     let nothing = Tally { count: 0, gross: 0 };
     let one = Tally {
         count: 1,
         gross: 260_000,
     };
-    let view = SummaryView {
+    SummaryView {
         rows: 7,
         readings: one,
         passed: nothing,
@@ -334,13 +218,32 @@ fn refusals_in_turn(rt: HostRuntime) -> Result<(), Fail> {
         ended: 0,
         drawn: 0,
         closed: 0,
-    };
+    }
+}
+
+#[test]
+fn refusals_of_weighings_and_the_summary(rt: HostRuntime) -> Result<(), Fail> {
+    let unwanted = Refusal::PriorWrong { wanted: false };
+    let wanting = Refusal::PriorWrong { wanted: true };
+    let full = Refusal::BookFull { limit: 7 };
+    let mut book = begin(rt.alloc(), 7)?;
+    for (act, wanted) in [
+        (
+            weigh(30_000_001, Prior::Opened),
+            refused(5, Refusal::GrossRange),
+        ),
+        (weigh(260_000, Prior::Opened), refused(5, unwanted)),
+        (weigh(260_000, Prior::Nothing), judged(6, Signal::Pass)),
+        (weigh(260_000, Prior::Nothing), refused(6, wanting)),
+        (stop(1, Prior::Unknown), done(7)),
+        (weigh(260_000, Prior::Nothing), refused(7, full)),
+    ] {
+        assert_eq!(rt; take(&mut book, &act), wanted);
+    }
+    let reply = Reply::SummaryIs(one_voided());
     assert_eq!(rt;
         book.look(&Question::Summary),
-        Ok(Answered {
-            at: 7,
-            reply: Reply::SummaryIs(view)
-        })
+        Ok(Answered { at: 7, reply })
     );
     assert_eq!(rt; book.len(), 7);
     assert_eq!(rt; book.rows().as_slice().len(), 7);
