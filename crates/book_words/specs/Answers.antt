@@ -83,8 +83,11 @@ entry_for entries by desk request act = record { by = by; desk = desk; request =
 abbrev pub most_rows : ℕ
 most_rows = 1000000
 
--- an entry is lawful behind a list where there is room for it, no rule refuses its act, and its signal is the one that the act gets
+-- an entry is lawful behind a list where there is room for it, no rule refuses its act, and its signal is the one that the act gets;
+-- there are no desks yet that number their requests, so both numbers are 0
 pub record IsLawful (entries : List Entry) (entry : Entry) : Type 0 where
+  pub desk : entry.desk ≡ 0
+  pub request : entry.request ≡ 0
   pub room : length entries < most_rows
   pub rules : refusal_by_rule entries entry.act ≡ None
   pub signal : entry.signal ≡ signal_for entries entry.act
