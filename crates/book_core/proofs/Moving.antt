@@ -16,7 +16,7 @@ use Rattle.book_words.specs.declared.types.Reading.{Reading}
 use Rattle.book_words.specs.Acts.{prior_in}
 use Rattle.book_words.specs.Readings.{readings, reading_from}
 use Rattle.book_words.specs.Piles.{pile_of, pile_by, is_pass, in_pile, gross_sum, readings_of}
-use Rattle.book_words.specs.Balance.{AddUp, IsBalanced, pile_after, own_pile, MovesOnly}
+use Rattle.book_words.specs.Balance.{AddUp, IsBalanced, pile_after, own_pile, MovesOnly, EachMovesBehind, EachMoves}
 use Rattle.book_core.proofs.Onward.{advance, own_reading, readings-push}
 
 pile_by_later : (signal : Option Signal) (next later : Option Prior) → pile_by signal (option_or next later) ≡ cond (is_pass signal && is_none next) (pile_by signal later) (pile_by signal next)
@@ -49,6 +49,14 @@ moves_only entries entry =
     ∙ map-append pile_of (map (advance entry.act) (readings entries)) (cons_option (own_reading entries entry) [])
     ∙ ap (λ (ps : List Pile). ps ++ map pile_of (cons_option (own_reading entries entry) [])) (piles_onward entry.act (readings entries))
     ∙ ap (λ (ps : List Pile). map (pile_after entry.act) (readings entries) ++ ps) (own_pile_is (length entries + 1) entries entry entry.act)
+
+each_moves_behind : (before after : List Entry) → EachMovesBehind before after
+each_moves_behind before [] = tt
+each_moves_behind before (entry ∷ after) = (moves_only before entry, each_moves_behind (before ++ entry ∷ []) after)
+
+-- each entry of a list moves the packs as it may
+pub each_moves : (entries : List Entry) → EachMoves entries
+each_moves entries = each_moves_behind [] entries
 
 four : (x g p r s v : ℤ) → g ≡ p +ℤ r +ℤ s +ℤ v → (x +ℤ g ≡ (x +ℤ p) +ℤ r +ℤ s +ℤ v) × (x +ℤ g ≡ p +ℤ (x +ℤ r) +ℤ s +ℤ v) × (x +ℤ g ≡ p +ℤ r +ℤ (x +ℤ s) +ℤ v) × (x +ℤ g ≡ p +ℤ r +ℤ s +ℤ (x +ℤ v))
 four x g p r s v h = (omega (arith, ints), omega (arith, ints), omega (arith, ints), omega (arith, ints))

@@ -1,7 +1,7 @@
 ghost use Rattle.std.specs.Prelude.{◌≡◌, ◌+◌, ◌≤◌, [], ◌∷◌, ◌++◌, length, Ok, None, Some, IfOk};
 ghost use Rattle.book_words.specs.declared.types.Want.TheVariants as want;
 ghost use Rattle.book_words.specs.Answers.{answer, IsLegal};
-ghost use Rattle.book_words.specs.Balance.{IsBalanced, MovesOnly};
+ghost use Rattle.book_words.specs.Balance.{IsBalanced, MovesOnly, EachMoves};
 ghost use Rattle.book_core.specs.Judging.{HasItsSignal};
 ghost use Rattle.book_core.specs.Steps.{step_for, GivesUnlessNoMemory, made_ready, handed_on};
 
@@ -123,11 +123,12 @@ impl Book {
         self.entries.len() as u32
     }
 
-    /// The rows. They are legal, and their piles add up.
+    /// The rows. They are legal, their piles add up, and each of them moves the packs only as it may.
     pub fn rows(self) -> Rows
         ensures rows { result ≡ self.entries }
         ensures legal { IsLegal result }
         ensures balanced { IsBalanced result }
+        ensures moves { EachMoves result }
     {
         Rows::new(self.entries)
     }

@@ -33,3 +33,12 @@ own_pile entry _ = []
 -- an entry moves the packs so, and no others
 abbrev pub MovesOnly : List Entry → Entry → Type 0
 MovesOnly entries entry = map pile_of (readings (entries ++ entry ∷ [])) ≡ map (pile_after entry.act) (readings entries) ++ own_pile entry entry.act
+
+-- each of some entries moves the packs as it may, behind those before it
+abbrev pub EachMovesBehind : List Entry → List Entry → Type 0
+EachMovesBehind before [] = Unit {0}
+EachMovesBehind before (entry ∷ after) = MovesOnly before entry × EachMovesBehind (before ++ entry ∷ []) after
+
+-- each entry of a list moves the packs as it may
+abbrev pub EachMoves : List Entry → Type 0
+EachMoves entries = EachMovesBehind [] entries
