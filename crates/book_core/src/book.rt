@@ -1,5 +1,6 @@
 ghost use Rattle.std.specs.Prelude.{◌≡◌, ◌+◌, ◌≤◌, [], ◌∷◌, ◌++◌, length, Ok, None, Some, IfOk};
 ghost use Rattle.book_words.specs.declared.types.Want.TheVariants as want;
+ghost use Rattle.book_words.specs.Refusals.{has_unsettled};
 ghost use Rattle.book_words.specs.Answers.{answer, IsLegal};
 ghost use Rattle.book_words.specs.Balance.{IsBalanced, MovesOnly, EachMoves};
 ghost use Rattle.book_core.specs.Judging.{HasItsSignal};
@@ -8,7 +9,7 @@ ghost use Rattle.book_core.specs.Steps.{step_for, GivesUnlessNoMemory, made_read
 use crate::ready::Ready;
 use crate::rows::Rows;
 use crate::types::{BookError, NoMemory, Step};
-use crate::{growth, rules, summaries};
+use crate::{growth, rules, summaries, unsettled};
 use book_words::{Act, Answered, Entry, Question, Refused, Reply};
 use std::alloc::Global;
 use std::marker::Model;
@@ -114,6 +115,15 @@ impl Book {
                 reply: Reply::SummaryIs(summaries::summarize(&self.entries)),
             }),
         }
+    }
+
+    /// Whether a lane has an unsettled reading: one that passed, and no weighing or stop of the lane came after it.
+    ///
+    /// Where it has, the lane's next weighing or stop has to say what the gate did, and else it may not.
+    pub fn has_unsettled(&self, lane: u8) -> bool
+        ensures { result ≡ has_unsettled self.now.entries lane }
+    {
+        unsettled::has_unsettled(&self.entries, lane)
     }
 
     /// The number of rows.
