@@ -21,7 +21,7 @@ use Rattle.book_words.specs.Acts.{started_for, newest_day}
 use Rattle.book_words.specs.Readings.{readings, reading_from, net_from, limits_in}
 use Rattle.book_words.specs.Piles.{pile_by, is_counted, count_below}
 use Rattle.book_words.specs.Signals.{population_at, signal_in, signal_for}
-use Rattle.book_words.specs.Refusals.{refused_if, refusal_by_rule, refusal_of, book_full, day_unset, lane_number, lane_idle, product_known, product_unknown, name_shape, day_range}
+use Rattle.book_words.specs.Refusals.{refused_if, refusal_by_rule, refusal_of, book_full, day_unset, day_back, lane_number, lane_idle, product_known, product_unknown, name_shape, day_range}
 use Rattle.book_words.specs.declared.refusal.Refusal.TheVariants.{BookFull}
 use Rattle.book_words.specs.declared.types.Answered.{Answered}
 use Rattle.book_words.specs.declared.types.Question.{Question}
@@ -58,7 +58,7 @@ not_refused : (test : Bool) (refusal : Refusal) → refused_if (not test) refusa
 not_refused true refusal h = refl
 not_refused false refusal h = absurd (cc)
 
--- the mass of an act that no rule refuses is within its limits
+-- the mass of an act that no rule refuses is within its limits, and so is the day that it sets
 pub rules_in_range : (entries : List Entry) (act : Act) → refusal_by_rule entries act ≡ None → is_in_range act ≡ true
 rules_in_range entries (PutProduct name nominal) h =
     let a = none_of_two (day_unset entries) _ h in
@@ -78,7 +78,10 @@ rules_in_range entries (Weigh lane gross prior) h =
     let c = none_of_two (lane_idle entries lane) _ b.1 in
     let d = none_of_two _ _ c.1 in
     not_refused _ _ d.0
-rules_in_range entries (NewDay day) h = refl
+rules_in_range entries (NewDay day) h =
+    let a = none_of_two (day_back entries day) _ h in
+    let b = none_of_two _ None a.1 in
+    not_refused _ _ b.0
 rules_in_range entries (OpenBatch batch product) h = refl
 rules_in_range entries (StartLane lane batch) h = refl
 rules_in_range entries (StopLane lane prior) h = refl

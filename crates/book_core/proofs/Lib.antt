@@ -10,3 +10,4 @@ pub mod Onward
 pub mod Kept
 pub mod Moving
 pub mod Signed
+pub mod Telling

@@ -7,6 +7,7 @@ use Rattle.book_words.specs.declared.types.Entry.{Entry}
 use Rattle.book_words.specs.declared.refusal.Refusal.{Refusal}
 use Rattle.book_words.specs.Refusals.{refusal_of}
 use Rattle.book_words.specs.Answers.{entry_for}
+use Rattle.book_words.specs.Told.{IsRefusalInRange}
 use Rattle.book_core.specs.declared.types.Step.{Step}
 use Rattle.book_core.specs.declared.types.Step.TheVariants.{New}
 use Rattle.book_core.specs.declared.types.BookError.{BookError}
@@ -40,3 +41,8 @@ made_ready _ = None
 abbrev pub handed_on : Result Answered Refused → Result Answered BookError
 handed_on (Ok answered) = Ok answered
 handed_on (Err refused) = Err (error.Refused refused)
+
+-- the refusal that an error tells is in range
+abbrev pub IsErrorInRange : BookError → Type 0
+IsErrorInRange (error.Refused refused) = IsRefusalInRange refused.refusal
+IsErrorInRange error.NoMemory = Unit {0}

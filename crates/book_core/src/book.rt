@@ -1,10 +1,11 @@
-ghost use Rattle.std.specs.Prelude.{◌≡◌, ◌+◌, ◌≤◌, [], ◌∷◌, ◌++◌, length, Ok, None, Some, IfOk};
+ghost use Rattle.std.specs.Prelude.{◌≡◌, ◌+◌, ◌≤◌, [], ◌∷◌, ◌++◌, length, Ok, None, Some, IfOk, IfErr};
 ghost use Rattle.book_words.specs.declared.types.Want.TheVariants as want;
 ghost use Rattle.book_words.specs.Refusals.{has_unsettled};
 ghost use Rattle.book_words.specs.Answers.{answer, IsLegal};
 ghost use Rattle.book_words.specs.Balance.{IsBalanced, MovesOnly, EachMoves};
+ghost use Rattle.book_words.specs.Told.{IsReplyInRange};
 ghost use Rattle.book_core.specs.Judging.{HasItsSignal};
-ghost use Rattle.book_core.specs.Steps.{step_for, GivesUnlessNoMemory, made_ready, handed_on};
+ghost use Rattle.book_core.specs.Steps.{step_for, GivesUnlessNoMemory, made_ready, handed_on, IsErrorInRange};
 
 use crate::ready::Ready;
 use crate::rows::Rows;
@@ -61,6 +62,7 @@ impl Book {
         ensures pending { self.new.pending ≡ made_ready result }
         ensures entries { self.new.entries ≡ self.old.entries }
         ensures limit { self.new.limit ≡ self.old.limit }
+        ensures in_range { IfErr result IsErrorInRange }
     {
         self.pending = None;
         let at = self.entries.len() as u32;
@@ -91,6 +93,7 @@ impl Book {
         ensures judged { HasItsSignal ready.entry }
         ensures legal { IsLegal self.new.entries }
         ensures moves { MovesOnly self.old.entries ready.entry }
+        ensures in_range { IsReplyInRange result.reply }
     {
         let row = ready.number();
         let entry = *ready.entry();
@@ -107,7 +110,8 @@ impl Book {
 
     /// Answers a question over the list as it stands. It takes no memory.
     pub fn look(&self, question: &Question) -> Result<Answered, BookError>
-        ensures { result ≡ handed_on (answer self.now.limit self.now.entries (want.Question question.now)) }
+        ensures answer { result ≡ handed_on (answer self.now.limit self.now.entries (want.Question question.now)) }
+        ensures in_range { IfOk result (λ answered. IsReplyInRange answered.reply) }
     {
         match question {
             Question::Summary => Ok(Answered {

@@ -4,6 +4,7 @@ ghost use Rattle.book_words.specs.Acts.{state_of};
 ghost use Rattle.book_words.specs.Readings.{readings};
 ghost use Rattle.book_words.specs.Piles.{tally, in_pile};
 ghost use Rattle.book_words.specs.Answers.{same_state, batches_in, summary};
+ghost use Rattle.book_words.specs.Told.{IsGrossInRange, IsSummaryInRange};
 ghost use Rattle.book_core.specs.Ranges.{AllInRange};
 
 use crate::{acts, says, tallies};
@@ -14,7 +15,8 @@ use pack_judge::{Pile, Tally};
 fn tally_all(entries: &[Entry]) -> Tally
     requires few { length entries.now ≤ 1000000 }
     requires in_range { AllInRange entries.now }
-    ensures { result ≡ tally (readings entries.now) }
+    ensures value { result ≡ tally (readings entries.now) }
+    ensures in_range { IsGrossInRange result }
 {
     tallies::add_up(entries, None)
 }
@@ -23,7 +25,8 @@ fn tally_all(entries: &[Entry]) -> Tally
 fn tally_in(entries: &[Entry], pile: Pile) -> Tally
     requires few { length entries.now ≤ 1000000 }
     requires in_range { AllInRange entries.now }
-    ensures { result ≡ tally (in_pile pile (readings entries.now)) }
+    ensures value { result ≡ tally (in_pile pile (readings entries.now)) }
+    ensures in_range { IsGrossInRange result }
 {
     tallies::add_up(entries, Some(pile))
 }
@@ -58,7 +61,8 @@ fn count_batches(entries: &[Entry], state: BatchState) -> u32
 pub fn summarize(entries: &[Entry]) -> SummaryView
     requires few { length entries.now ≤ 1000000 }
     requires in_range { AllInRange entries.now }
-    ensures { result ≡ summary entries.now }
+    ensures value { result ≡ summary entries.now }
+    ensures in_range { IsSummaryInRange result }
 {
     SummaryView {
         rows: entries.len() as u32,

@@ -3,6 +3,7 @@ ghost use Rattle.std.specs.List.{cons_option};
 ghost use Rattle.book_words.specs.declared.types.Reading.{Reading};
 ghost use Rattle.book_words.specs.Readings.{reading_at, readings};
 ghost use Rattle.book_words.specs.Piles.{tally, in_pile, gross_sum};
+ghost use Rattle.book_words.specs.Told.{IsGrossInRange};
 ghost use Rattle.book_core.specs.Sight.{Sees};
 ghost use Rattle.book_core.specs.Ranges.{AllInRange};
 ghost use Rattle.book_core.specs.Picking.{picked, lies_in, is_any};
@@ -63,7 +64,8 @@ fn meant_at(sight: &Sight, entries: &[Entry], place: usize, pile: Option<Pile>) 
 pub fn add_up(entries: &[Entry], pile: Option<Pile>) -> Tally
     requires few { length entries.now ≤ 1000000 }
     requires in_range { AllInRange entries.now }
-    ensures { result ≡ tally (filter (is_any pile) (readings entries.now)) }
+    ensures value { result ≡ tally (filter (is_any pile) (readings entries.now)) }
+    ensures in_range { IsGrossInRange result }
 {
     let mut sight = walk::begin();
     let mut tally = Tally { count: 0, gross: 0 };

@@ -8,3 +8,4 @@ pub mod Signals
 pub mod Refusals
 pub mod Answers
 pub mod Balance
+pub mod Told

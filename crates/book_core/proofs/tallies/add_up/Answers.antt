@@ -33,5 +33,5 @@ loop-place-preserved c =
       count = omega arith;
     }
 
-pub returns : goal.returns
-returns c = left_end c.args.pile c.args.entries.now c.loop-place.place c.loop-place.tally c.loop-place-test.false c.loop-place.invariant.left
+pub returns-clause-value : goal.returns-clause-value
+returns-clause-value c = left_end c.args.pile c.args.entries.now c.loop-place.place c.loop-place.tally c.loop-place-test.false c.loop-place.invariant.left
