@@ -22,7 +22,7 @@ pub fn is_full(limit: u32, entries: &[Entry]) -> Option<Refusal>
 }
 
 /// No day is set.
-pub fn has_no_day(entries: &[Entry]) -> Option<Refusal>
+pub fn no_day_is_set(entries: &[Entry]) -> Option<Refusal>
     ensures { result ≡ day_unset entries.now }
 {
     refuse_if(acts::last_day(entries).is_none(), Refusal::DayUnset)
@@ -92,7 +92,7 @@ pub fn is_misshapen(name: &Name) -> Option<Refusal>
 }
 
 /// The nominal quantity in mg isn't 5 g to 10 kg.
-pub fn is_no_nominal(nominal: i64) -> Option<Refusal>
+pub fn nominal_out_of_range(nominal: i64) -> Option<Refusal>
     ensures { result ≡ nominal_range nominal }
 {
     refuse_if(
@@ -102,7 +102,7 @@ pub fn is_no_nominal(nominal: i64) -> Option<Refusal>
 }
 
 /// The day isn't 1970-01-01 to 9999-12-31.
-pub fn is_no_day(day: i32) -> Option<Refusal>
+pub fn day_out_of_range(day: i32) -> Option<Refusal>
     ensures { result ≡ day_range day }
 {
     refuse_if(!(0 <= day && day <= 2_932_896), Refusal::DayRange)
@@ -136,7 +136,7 @@ pub fn runs_no_more(entries: &[Entry], batch: &Name) -> Option<Refusal>
 }
 
 /// The lane isn't 1 to 16.
-pub fn is_no_lane(lane: u8) -> Option<Refusal>
+pub fn lane_out_of_range(lane: u8) -> Option<Refusal>
     ensures { result ≡ lane_number lane }
 {
     refuse_if(!(1 <= lane && lane <= 16), Refusal::LaneNumber)
@@ -161,7 +161,7 @@ pub fn is_idle(entries: &[Entry], lane: u8) -> Option<Refusal>
 }
 
 /// There is no tare for the batch's product on the newest day.
-pub fn has_no_tare(entries: &[Entry], batch: &Name) -> Option<Refusal>
+pub fn tare_is_missing(entries: &[Entry], batch: &Name) -> Option<Refusal>
     ensures { result ≡ no_tare entries.now batch.now }
 {
     let product = acts::product(entries, batch)?;
@@ -173,7 +173,7 @@ pub fn has_no_tare(entries: &[Entry], batch: &Name) -> Option<Refusal>
 }
 
 /// The gross in mg isn't 0 to 30 kg.
-pub fn is_no_gross(gross: i64) -> Option<Refusal>
+pub fn gross_out_of_range(gross: i64) -> Option<Refusal>
     ensures { result ≡ gross_range gross }
 {
     refuse_if(!(0 <= gross && gross <= 30_000_000), Refusal::GrossRange)
@@ -192,7 +192,7 @@ pub fn has_wrong_prior(entries: &[Entry], lane: u8, prior: Prior) -> Option<Refu
 }
 
 /// The tare in mg isn't 0 to 5 kg.
-pub fn is_no_tare(tare: i64) -> Option<Refusal>
+pub fn tare_out_of_range(tare: i64) -> Option<Refusal>
     ensures { result ≡ tare_range tare }
 {
     refuse_if(!(0 <= tare && tare <= 5_000_000), Refusal::TareRange)

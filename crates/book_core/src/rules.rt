@@ -8,34 +8,34 @@ use book_words::{Act, Entry, Name, Prior, Refusal};
 fn refuse_day(entries: &[Entry], day: i32) -> Option<Refusal>
     ensures { result ≡ refusal_by_rule entries.now (Act.NewDay day) }
 {
-    checks::goes_back(entries, day).or(checks::is_no_day(day))
+    checks::goes_back(entries, day).or(checks::day_out_of_range(day))
 }
 
 // A product.
 fn refuse_product(entries: &[Entry], name: &Name, nominal: i64) -> Option<Refusal>
     ensures { result ≡ refusal_by_rule entries.now (Act.PutProduct name.now nominal) }
 {
-    checks::has_no_day(entries)
+    checks::no_day_is_set(entries)
         .or(checks::is_product(entries, name))
         .or(checks::is_misshapen(name))
-        .or(checks::is_no_nominal(nominal))
+        .or(checks::nominal_out_of_range(nominal))
 }
 
 // A tare.
 fn refuse_tare(entries: &[Entry], product: &Name, day: i32, tare: i64) -> Option<Refusal>
     ensures { result ≡ refusal_by_rule entries.now (Act.PutTare product.now day tare) }
 {
-    checks::has_no_day(entries)
+    checks::no_day_is_set(entries)
         .or(checks::is_no_product(entries, product))
-        .or(checks::is_no_day(day))
-        .or(checks::is_no_tare(tare))
+        .or(checks::day_out_of_range(day))
+        .or(checks::tare_out_of_range(tare))
 }
 
 // The opening of a batch.
 fn refuse_opening(entries: &[Entry], batch: &Name, product: &Name) -> Option<Refusal>
     ensures { result ≡ refusal_by_rule entries.now (Act.OpenBatch batch.now product.now) }
 {
-    checks::has_no_day(entries)
+    checks::no_day_is_set(entries)
         .or(checks::is_no_product(entries, product))
         .or(checks::is_misshapen(batch))
         .or(checks::is_batch(entries, batch))
@@ -45,12 +45,12 @@ fn refuse_opening(entries: &[Entry], batch: &Name, product: &Name) -> Option<Ref
 fn refuse_start(entries: &[Entry], lane: u8, batch: &Name) -> Option<Refusal>
     ensures { result ≡ refusal_by_rule entries.now (Act.StartLane lane batch.now) }
 {
-    checks::has_no_day(entries)
+    checks::no_day_is_set(entries)
         .or(checks::is_no_batch(entries, batch))
         .or(checks::runs_no_more(entries, batch))
-        .or(checks::is_no_lane(lane))
+        .or(checks::lane_out_of_range(lane))
         .or(checks::is_busy(entries, lane))
-        .or(checks::has_no_tare(entries, batch))
+        .or(checks::tare_is_missing(entries, batch))
 }
 
 // A weighing.
@@ -58,10 +58,10 @@ fn refuse_weighing(entries: &[Entry], lane: u8, gross: i64, prior: Prior) -> Opt
     requires { length entries.now ≤ 1000000 }
     ensures { result ≡ refusal_by_rule entries.now (Act.Weigh lane gross prior) }
 {
-    checks::has_no_day(entries)
-        .or(checks::is_no_lane(lane))
+    checks::no_day_is_set(entries)
+        .or(checks::lane_out_of_range(lane))
         .or(checks::is_idle(entries, lane))
-        .or(checks::is_no_gross(gross))
+        .or(checks::gross_out_of_range(gross))
         .or(checks::has_wrong_prior(entries, lane, prior))
 }
 
@@ -70,8 +70,8 @@ fn refuse_stop(entries: &[Entry], lane: u8, prior: Prior) -> Option<Refusal>
     requires { length entries.now ≤ 1000000 }
     ensures { result ≡ refusal_by_rule entries.now (Act.StopLane lane prior) }
 {
-    checks::has_no_day(entries)
-        .or(checks::is_no_lane(lane))
+    checks::no_day_is_set(entries)
+        .or(checks::lane_out_of_range(lane))
         .or(checks::is_idle(entries, lane))
         .or(checks::has_wrong_prior(entries, lane, prior))
 }
