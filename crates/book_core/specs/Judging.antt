@@ -1,5 +1,5 @@
 -- The signal of a weighing, by the population that the piles leave.
-use Rattle.std.specs.Prelude.{ℕ, ℤ, ◌≤◌, List, length, nat_lt, Some}
+use Rattle.std.specs.Prelude.{ℕ, ℤ, ◌≤◌, List, length, Some}
 use Rattle.std.specs.Prelude.{◌≡◌, Bool, true, false, is_some}
 use Rattle.pack_judge.specs.declared.types.Signal.{Signal}
 use Rattle.pack_judge.specs.Judge.{signal_of}
@@ -10,13 +10,13 @@ use Rattle.book_words.specs.declared.types.Entry.{Entry}
 use Rattle.book_words.specs.declared.types.Reading.{Reading}
 use Rattle.book_words.specs.Acts.{newest_day}
 use Rattle.book_words.specs.Readings.{readings_among, net_from, limits_in}
-use Rattle.book_words.specs.Piles.{population_among, count_below}
+use Rattle.book_words.specs.Piles.{population_among, count_below, has_inadequate}
 
 -- the signal of a gross in a batch, by some population
 abbrev pub signal_by : List Entry → Name → ℤ → List Reading → Signal
 signal_by entries batch gross some =
     signal_of (net_from entries (Some batch) (newest_day entries) gross) (limits_in entries batch)
-    (nat_lt 0 (count_below entries (limits_in entries batch).t2 some)) (length some) (count_below entries (limits_in entries batch).t1 some)
+    (has_inadequate entries batch some) (length some) (count_below entries (limits_in entries batch).t1 some)
 
 -- among so many of the first entries no batch has a population of more packs than it may have
 abbrev pub IsLimitedIn : ℕ → List Entry → Type 0

@@ -65,9 +65,13 @@ population entries batch = population_among batch (readings entries)
 abbrev pub count_below : List Entry → ℤ → List Reading → ℕ
 count_below entries limit some = count_by (λ reading. int_lt (net_of entries reading) limit) some
 
+-- whether one of some readings is inadequate by the limits of a batch
+abbrev pub has_inadequate : List Entry → Name → List Reading → Bool
+has_inadequate entries batch some = nat_lt 0 (count_below entries (limits_in entries batch).t2 some)
+
 -- a batch is held where a pack of its population is inadequate
 abbrev pub is_held : List Entry → Name → Bool
-is_held entries batch = nat_lt 0 (count_below entries (limits_in entries batch).t2 (population entries batch))
+is_held entries batch = has_inadequate entries batch (population entries batch)
 
 -- the sum of the grosses of some readings
 abbrev pub gross_sum : List Reading → ℤ

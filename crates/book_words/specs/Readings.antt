@@ -55,7 +55,7 @@ tare_on entries batch day = option_and_then (λ product. tare_of entries product
 abbrev pub tare_at : List Entry → Option Name → Option ℤ → Option ℤ
 tare_at entries batch day = option_and_then (λ name. option_and_then (tare_on entries name) day) batch
 
--- a gross less the tare of its batch and day; in a legal list each reading has a tare
+-- a gross less the tare of its batch and day; where there is no such tare, the gross alone
 abbrev pub net_from : List Entry → Option Name → Option ℤ → ℤ → ℤ
 net_from entries batch day gross = gross -ℤ unwrap_or (tare_at entries batch day) (pos 0)
 
@@ -63,7 +63,7 @@ net_from entries batch day gross = gross -ℤ unwrap_or (tare_at entries batch d
 abbrev pub net_of : List Entry → Reading → ℤ
 net_of entries reading = net_from entries reading.batch reading.day reading.gross
 
--- the limits of a batch's product; in a legal list each batch has a product, and that a nominal quantity
+-- the limits of a batch's product; where there is no product or no nominal quantity of it, those of a quantity of 0
 abbrev pub limits_in : List Entry → Name → Limits
 limits_in entries batch = limits_of (unwrap_or (option_and_then (nominal_of entries) (product_of entries batch)) (pos 0))
 

@@ -1,5 +1,5 @@
 -- The signal that a weighing gets.
-use Rattle.std.specs.Prelude.{ℕ, ℤ, List, [], ◌∷◌, ◌++◌, length, nat_lt, Option, Some, None, option_map}
+use Rattle.std.specs.Prelude.{ℕ, ℤ, List, [], ◌∷◌, ◌++◌, length, Option, Some, None, option_map}
 use Rattle.pack_judge.specs.declared.types.Signal.{Signal}
 use Rattle.pack_judge.specs.Judge.{signal_of}
 use Rattle.book_words.specs.declared.name.Name.{Name}
@@ -10,7 +10,7 @@ use Rattle.book_words.specs.declared.types.Entry.{Entry}
 use Rattle.book_words.specs.declared.types.Reading.{Reading}
 use Rattle.book_words.specs.Acts.{newest_day, started_for}
 use Rattle.book_words.specs.Readings.{readings_among, net_from, limits_in}
-use Rattle.book_words.specs.Piles.{population_among, count_below}
+use Rattle.book_words.specs.Piles.{population_among, count_below, has_inadequate}
 
 -- an act at the end of the list, before anybody has judged it
 abbrev pub followed_by : List Entry → Act → List Entry
@@ -26,7 +26,7 @@ signal_in entries act gross batch =
     let limits = limits_in entries batch in
     let some = population_at entries act batch in
     signal_of (net_from entries (Some batch) (newest_day entries) gross) limits
-    (nat_lt 0 (count_below entries limits.t2 some)) (length some) (count_below entries limits.t1 some)
+    (has_inadequate entries batch some) (length some) (count_below entries limits.t1 some)
 
 -- the signal that is recorded with an act: a weighing gets one in the batch of its lane, any other act has none
 abbrev pub signal_for : List Entry → Act → Option Signal
