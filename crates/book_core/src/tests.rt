@@ -1,5 +1,13 @@
 ghost use Rattle.std.specs.Prelude.{◌≤◌};
 
+mod comparison;
+mod drawn_acts;
+mod plain_book;
+mod plain_lines;
+mod plain_rules;
+mod plain_signals;
+mod worked_lists;
+
 use super::*;
 use book_words::{Act, Answered, Name, Prior, Question, Refusal, Refused, Reply, SummaryView};
 use pack_judge::{Cause, Signal, Tally};
@@ -33,12 +41,12 @@ fn refused(at: u32, refusal: Refusal) -> Taken {
     Err(BookError::Refused(Refused { at, refusal }))
 }
 
+fn weigh_on(lane: u8, gross: i64, prior: Prior) -> Act {
+    Act::Weigh { lane, gross, prior }
+}
+
 fn weigh(gross: i64, prior: Prior) -> Act {
-    Act::Weigh {
-        lane: 1,
-        gross,
-        prior,
-    }
+    weigh_on(1, gross, prior)
 }
 
 fn product(name: Name, nominal: i64) -> Act {
@@ -61,11 +69,15 @@ fn stop(lane: u8, prior: Prior) -> Act {
     Act::StopLane { lane, prior }
 }
 
-fn take(book: &mut Book, act: &Act) -> Taken {
-    match book.ready(0, 0, 0, act)? {
+fn take_by(book: &mut Book, by: u16, act: &Act) -> Taken {
+    match book.ready(by, 0, 0, act)? {
         Step::New(ready) => Ok(book.enter(ready)),
         Step::Known(answered) => Ok(answered),
     }
+}
+
+fn take(book: &mut Book, act: &Act) -> Taken {
+    take_by(book, 0, act)
 }
 
 fn named(bytes: &[u8]) -> Result<Name, fmt::Error> {

@@ -1,0 +1,107 @@
+//! A second and plainer reading of the rules: a book that keeps a list, and walks it for every answer.
+
+use super::plain_lines::{Line, is_open, pack_at};
+use super::plain_rules::refuse;
+use super::plain_signals::signal_of_last;
+use super::{Taken, done, judged, refused};
+use crate::{NoMemory, Rows};
+use book_words::{Act, SummaryView};
+use pack_judge::{Pile, Tally};
+use std::alloc::Global;
+
+/// A list of accepted acts, which may have at most `limit` lines.
+#[derive(Drop)]
+pub struct PlainBook {
+    lines: Vec<Line>,
+    limit: u32,
+}
+
+// A length as a number of rows.
+fn rows(many: usize) -> u32 {
+    u32::try_from(many).unwrap_or(u32::MAX)
+}
+
+// The packs of some lines that lie in a pile, or all of them where no pile is meant.
+fn tally(lines: &[Line], pile: Option<Pile>) -> Tally {
+    let mut tally = Tally { count: 0, gross: 0 };
+    for place in 0..lines.len() {
+        if let Some(pack) = pack_at(lines, place) {
+            if pile.map_or(true, |pile| pile == pack.pile) {
+                tally.count = tally.count.saturating_add(1);
+                tally.gross = tally.gross.saturating_add(pack.gross);
+            }
+        }
+    }
+    tally
+}
+
+// How many batches were opened.
+fn count_batches(lines: &[Line]) -> u32 {
+    let mut count: u32 = 0;
+    for line in lines {
+        if matches!(line.act, Act::OpenBatch { .. }) {
+            count = count.saturating_add(1);
+        }
+    }
+    count
+}
+
+impl PlainBook {
+    pub fn new(alloc: Global, limit: u32) -> PlainBook {
+        PlainBook {
+            lines: Vec::new(alloc),
+            limit,
+        }
+    }
+
+    /// Takes an act down, or refuses it. Only want of memory is an error of this call.
+    pub fn take(&mut self, act: &Act) -> Result<Taken, NoMemory> {
+        let at = rows(self.lines.len());
+        if let Some(refusal) = refuse(&self.lines, self.limit, act) {
+            return Ok(refused(at, refusal));
+        }
+        let act = *act;
+        self.lines.push(Line { act, signal: None })?;
+        let signal = signal_of_last(&self.lines);
+        let _ = self.lines.pop();
+        self.lines.push(Line { act, signal })?;
+        let row = at.saturating_add(1);
+        match signal {
+            Some(signal) => Ok(judged(row, signal)),
+            None => Ok(done(row)),
+        }
+    }
+
+    /// Whether the last weighing or stop of a lane is a weighing that passed.
+    pub fn is_open(&self, lane: u8) -> bool {
+        is_open(&self.lines, lane)
+    }
+
+    /// The balance.
+    pub fn summary(&self) -> SummaryView {
+        let lines = self.lines.as_slice();
+        SummaryView {
+            rows: rows(lines.len()),
+            readings: tally(lines, None),
+            passed: tally(lines, Some(Pile::Passed)),
+            rejected: tally(lines, Some(Pile::Rejected)),
+            sampled: tally(lines, Some(Pile::Sampled)),
+            voided: tally(lines, Some(Pile::Voided)),
+            running: count_batches(lines),
+            ended: 0,
+            drawn: 0,
+            closed: 0,
+        }
+    }
+
+    /// Whether some rows have the same acts and signals in the same order, all brought by `by`.
+    pub fn has_the_rows(&self, rows: &Rows, by: u16) -> bool {
+        let entries = rows.as_slice();
+        for (entry, line) in entries.iter().zip(self.lines.iter()) {
+            if entry.act != line.act || entry.signal != line.signal || entry.by != by {
+                return false;
+            }
+        }
+        entries.len() == self.lines.len()
+    }
+}
