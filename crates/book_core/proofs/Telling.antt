@@ -1,5 +1,5 @@
 -- What a book tells is in range.
-use Rattle.std.proofs.Common.{◌≡◌, ℕ, ℤ, pos, suc, ◌≤ℤ◌, Bool, true, false, not, int_le, int_lt, List, [], ◌∷◌, length, Option, Some, None, IfSome, is_none, option_map, sym, ◌∙◌, subst, arith}
+use Rattle.std.proofs.Common.{◌≡◌, ℕ, ℤ, pos, suc, ◌≤ℤ◌, Bool, true, false, not, int_le, int_lt, List, [], ◌∷◌, Option, Some, None, IfSome, is_none, option_map, sym, ◌∙◌, subst, arith}
 use Rattle.std.proofs.lemmas.Bool.{and_parts}
 use Rattle.std.proofs.lemmas.Int.{ints}
 use Rattle.std.specs.List.{last_or}
@@ -14,7 +14,7 @@ use Rattle.book_words.specs.declared.types.Entry.{Entry}
 use Rattle.book_words.specs.declared.refusal.Refusal.{Refusal}
 use Rattle.book_words.specs.declared.refusal.Refusal.TheVariants.{BookFull, DayUnset, DayBack, ProductKnown, ProductUnknown, NameShape, NominalRange, DayRange, BatchKnown, BatchUnknown, BatchState, LaneNumber, LaneBusy, LaneIdle, NoTare, GrossRange, PriorWrong, TareRange}
 use Rattle.book_words.specs.Acts.{said, day_in, newest_day, product_of, state_of, batch_on}
-use Rattle.book_words.specs.Refusals.{refused_if, first_refusal, is_within, is_running, refusals_of, refusal_of, day_back, not_running, lane_busy, no_tare, prior_wrong}
+use Rattle.book_words.specs.Refusals.{refused_if, first_refusal, is_within, is_running, refusals_of, refusal_of, not_running, no_tare, prior_wrong}
 use Rattle.book_words.specs.Tares.{tare_of}
 use Rattle.book_words.specs.Told.{IsRefusalInRange}
 use Rattle.book_core.specs.Ranges.{is_in_range, AllInRange}

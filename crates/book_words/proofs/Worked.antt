@@ -1,20 +1,18 @@
 -- Days that were worked out by hand, computed by the definitions: a product of 250 g, whose limits are 241 g and 232 g, and a tare of 10 g.
-use Rattle.std.proofs.Common.{◌≡◌, ℕ, ℤ, pos, negsuc, List, [], ◌∷◌, ◌++◌, Option, Some, None, Result, Ok, Err, true, false, map, refl}
+use Rattle.std.proofs.Common.{◌≡◌, ℤ, pos, List, [], ◌∷◌, ◌++◌, Option, Some, None, Result, Ok, Err, true, false, map, refl}
 use Rattle.pack_judge.specs.declared.types.Cause.TheVariants as cause
 use Rattle.pack_judge.specs.declared.types.Signal.{Signal}
 use Rattle.pack_judge.specs.declared.types.Signal.TheVariants.{Pass, Reject}
-use Rattle.pack_judge.specs.declared.types.Pile.TheVariants.{Passed, Rejected, Sampled, Voided}
 use Rattle.book_words.specs.declared.name.Name.{Name}
-use Rattle.book_words.specs.declared.types.Prior.TheVariants.{Nothing, Opened, Stayed, Unknown}
+use Rattle.book_words.specs.declared.types.Prior.TheVariants.{Nothing, Opened, Stayed}
 use Rattle.book_words.specs.declared.types.Act.{Act}
 use Rattle.book_words.specs.declared.types.Act.TheVariants.{NewDay, PutProduct, PutTare, OpenBatch, StartLane, Weigh, StopLane}
 use Rattle.book_words.specs.declared.types.Entry.{Entry}
 use Rattle.book_words.specs.declared.types.Want.TheVariants as want
-use Rattle.book_words.specs.declared.types.Question.TheVariants.{Summary}
-use Rattle.book_words.specs.declared.types.Reply.TheVariants.{Done, Judged, SummaryIs}
+use Rattle.book_words.specs.declared.types.Reply.TheVariants.{Done}
 use Rattle.book_words.specs.declared.types.Answered.{Answered}
 use Rattle.book_words.specs.declared.types.Refused.{Refused}
-use Rattle.book_words.specs.declared.refusal.Refusal.TheVariants.{DayUnset, DayBack, ProductKnown, ProductUnknown, NameShape, NominalRange, BatchUnknown, LaneNumber, LaneBusy, LaneIdle, NoTare, GrossRange, PriorWrong, TareRange, BookFull}
+use Rattle.book_words.specs.declared.refusal.Refusal.TheVariants.{NominalRange, LaneNumber, LaneBusy, PriorWrong}
 use Rattle.book_words.specs.Names.{name_of}
 use Rattle.book_words.specs.Tares.{latest}
 use Rattle.book_words.specs.Answers.{answer, entry_for, summary}

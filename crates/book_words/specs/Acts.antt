@@ -1,5 +1,5 @@
 -- What the acts of a list say, and which of them counts.
-use Rattle.std.specs.Prelude.{ℕ, ℤ, Bool, true, false, List, ◌==◌, if◌then◌else◌, Option, Some, None, slice_get}
+use Rattle.std.specs.Prelude.{ℕ, ℤ, List, ◌==◌, if◌then◌else◌, Option, Some, None, slice_get}
 use Rattle.std.specs.List.{filter_map, last_or}
 use Rattle.std.specs.Option.{option_flatten}
 use Rattle.book_words.specs.declared.name.Name.{Name}

@@ -1,5 +1,5 @@
 -- Names of products and batches.
-use Rattle.std.specs.Prelude.{ℕ, ◌-◌, Bool, ◌&&◌, ◌||◌, false, List, [], ◌∷◌, ◌++◌, ◌==◌, nat_le, nat_lt, length, take, replicate}
+use Rattle.std.specs.Prelude.{ℕ, ◌-◌, Bool, ◌&&◌, ◌||◌, false, List, [], ◌∷◌, ◌++◌, ◌==◌, nat_le, length, take, replicate}
 use Rattle.std.specs.List.{list_all}
 use Rattle.std.specs.Str.{bytes_eq}
 use Rattle.std.specs.Char.{is_ascii_alphanumeric}

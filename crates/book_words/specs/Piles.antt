@@ -1,6 +1,5 @@
 -- The four piles, and the population of a batch.
-use Rattle.std.specs.Prelude.{ℕ, ℤ, pos, ◌+ℤ◌, Bool, true, false, ◌&&◌, List, [], ◌∷◌, length, filter, count_by, int_lt, nat_lt, Option, Some, None, is_none}
-use Rattle.annex_tables.specs.declared.types.Limits.{Limits}
+use Rattle.std.specs.Prelude.{ℕ, ℤ, pos, ◌+ℤ◌, Bool, true, false, ◌&&◌, List, [], ◌∷◌, length, filter, count_by, int_lt, nat_lt, Option, Some, is_none}
 use Rattle.pack_judge.specs.declared.types.Pile.{Pile}
 use Rattle.pack_judge.specs.declared.types.Pile.TheVariants.{Passed, Rejected, Sampled, Voided}
 use Rattle.pack_judge.specs.declared.types.Signal.{Signal}
@@ -8,7 +7,7 @@ use Rattle.pack_judge.specs.declared.types.Signal.TheVariants.{Pass, Reject}
 use Rattle.pack_judge.specs.declared.types.Tally.{Tally}
 use Rattle.book_words.specs.declared.name.Name.{Name}
 use Rattle.book_words.specs.declared.types.Prior.{Prior}
-use Rattle.book_words.specs.declared.types.Prior.TheVariants.{Nothing, Opened, Stayed, Unknown}
+use Rattle.book_words.specs.declared.types.Prior.TheVariants.{Stayed, Unknown}
 use Rattle.book_words.specs.declared.types.Entry.{Entry}
 use Rattle.book_words.specs.declared.types.Reading.{Reading}
 use Rattle.book_words.specs.Readings.{readings, is_of_batch, net_of, limits_in}

@@ -1,5 +1,5 @@
 -- The readings of a list, and their nets. All masses are milligrams.
-use Rattle.std.specs.Prelude.{ℕ, ℤ, pos, ◌+◌, ◌-ℤ◌, Bool, false, List, take, drop, length, filter, slice_get, Option, Some, None}
+use Rattle.std.specs.Prelude.{ℕ, ℤ, pos, ◌+◌, ◌-ℤ◌, Bool, false, List, take, drop, length, slice_get, Option, Some, None}
 use Rattle.std.specs.List.{filter_map, range_with_len}
 use Rattle.std.specs.Option.{option_and_then, option_map_or, unwrap_or}
 use Rattle.annex_tables.specs.declared.types.Limits.{Limits}

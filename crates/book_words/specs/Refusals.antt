@@ -4,7 +4,7 @@ use Rattle.std.specs.List.{list_any}
 use Rattle.std.specs.Option.{option_and_then, option_or}
 use Rattle.book_words.specs.declared.name.Name.{Name}
 use Rattle.book_words.specs.declared.types.Prior.{Prior}
-use Rattle.book_words.specs.declared.types.Prior.TheVariants.{Nothing, Opened, Stayed, Unknown}
+use Rattle.book_words.specs.declared.types.Prior.TheVariants.{Nothing}
 use Rattle.book_words.specs.declared.types.BatchState as states
 use Rattle.book_words.specs.declared.types.BatchState.TheVariants.{Running, Ended, Drawn, Closed}
 use Rattle.book_words.specs.declared.types.Act.{Act}

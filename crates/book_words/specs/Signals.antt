@@ -1,9 +1,8 @@
 -- The signal that a weighing gets.
-use Rattle.std.specs.Prelude.{ℕ, ℤ, List, [], ◌∷◌, ◌++◌, length, Option, Some, None, option_map}
+use Rattle.std.specs.Prelude.{ℤ, List, [], ◌∷◌, ◌++◌, length, Option, Some, None, option_map}
 use Rattle.pack_judge.specs.declared.types.Signal.{Signal}
 use Rattle.pack_judge.specs.Judge.{signal_of}
 use Rattle.book_words.specs.declared.name.Name.{Name}
-use Rattle.book_words.specs.declared.types.Prior.{Prior}
 use Rattle.book_words.specs.declared.types.Act.{Act}
 use Rattle.book_words.specs.declared.types.Act.TheVariants.{Weigh}
 use Rattle.book_words.specs.declared.types.Entry.{Entry}

@@ -1,5 +1,5 @@
 -- The tare of a product on a day. All masses are milligrams.
-use Rattle.std.specs.Prelude.{ℤ, Bool, List, filter, int_le, if◌then◌else◌, Option, Some, None, option_map}
+use Rattle.std.specs.Prelude.{ℤ, List, filter, int_le, if◌then◌else◌, Option, Some, None, option_map}
 use Rattle.std.specs.List.{last_or, list_all}
 use Rattle.book_words.specs.declared.name.Name.{Name}
 use Rattle.book_words.specs.declared.types.Act.{Act}

@@ -1,5 +1,5 @@
 -- The ranges of what is told.
-use Rattle.std.specs.Prelude.{ℤ, pos, ◌≤ℤ◌}
+use Rattle.std.specs.Prelude.{pos, ◌≤ℤ◌}
 use Rattle.pack_judge.specs.declared.types.Tally.{Tally}
 use Rattle.book_words.specs.declared.types.SummaryView.{SummaryView}
 use Rattle.book_words.specs.declared.types.Reply.{Reply}
