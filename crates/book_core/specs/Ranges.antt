@@ -1,4 +1,4 @@
--- The masses and days of a legal list are within their limits.
+-- The masses of a legal list, and the days that it sets, are within their limits.
 use Rattle.std.specs.Prelude.{pos, Bool, true, List}
 use Rattle.std.specs.List.{AllPass}
 use Rattle.book_words.specs.declared.types.Act.{Act}

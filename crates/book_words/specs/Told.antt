@@ -7,7 +7,7 @@ use Rattle.book_words.specs.declared.types.Reply.TheVariants.{SummaryIs}
 use Rattle.book_words.specs.declared.refusal.Refusal.{Refusal}
 use Rattle.book_words.specs.declared.refusal.Refusal.TheVariants.{DayBack}
 
--- a sum of grosses is at most 30 kg for each of a million readings
+-- a sum of grosses is 0 to 30 000 000 000 000 mg: 30 kg for each of a million readings
 abbrev pub IsGrossInRange : Tally → Type 0
 IsGrossInRange tally = (pos 0 ≤ℤ tally.gross) × (tally.gross ≤ℤ pos 30000000000000)
 

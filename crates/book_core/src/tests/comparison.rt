@@ -73,7 +73,7 @@ fn note(met: &mut Met, taken: &Taken) {
 // Whether both books say the same of the unsettled readings of some lanes.
 fn agree_on_lanes(book: &Book, plain: &PlainBook) -> bool {
     for lane in [0, 1, 2, 3, 17] {
-        if book.has_unsettled(lane) != plain.is_open(lane) {
+        if book.has_unsettled(lane) != plain.is_unsettled(lane) {
             return false;
         }
     }

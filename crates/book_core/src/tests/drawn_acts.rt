@@ -15,6 +15,7 @@ pub struct Names {
 }
 
 impl Names {
+    /// Three good names of each, and one that isn't.
     pub fn new() -> Result<Names, fmt::Error> {
         let nobody = named(b"-nobody".as_slice())?;
         let rice = named(b"rice".as_slice())?;

@@ -1,6 +1,6 @@
 //! A second and plainer reading of the rules: a book that keeps a list, and walks it for every answer.
 
-use super::plain_lines::{Line, is_open, pack_at};
+use super::plain_lines::{Line, is_unsettled, pack_at};
 use super::plain_rules::refuse;
 use super::plain_signals::signal_of_last;
 use super::{Taken, done, judged, refused};
@@ -47,6 +47,7 @@ fn count_batches(lines: &[Line]) -> u32 {
 }
 
 impl PlainBook {
+    /// A book without lines.
     pub fn new(alloc: Global, limit: u32) -> PlainBook {
         PlainBook {
             lines: Vec::new(alloc),
@@ -72,9 +73,9 @@ impl PlainBook {
         }
     }
 
-    /// Whether the last weighing or stop of a lane is a weighing that passed.
-    pub fn is_open(&self, lane: u8) -> bool {
-        is_open(&self.lines, lane)
+    /// Whether a lane has an unsettled reading.
+    pub fn is_unsettled(&self, lane: u8) -> bool {
+        is_unsettled(&self.lines, lane)
     }
 
     /// The balance.

@@ -73,21 +73,22 @@ pub fn runs(lines: &[Line], wanted: u8) -> bool {
     running
 }
 
-/// Whether the last weighing or stop of a lane is a weighing that passed.
-pub fn is_open(lines: &[Line], wanted: u8) -> bool {
-    let mut open = false;
+/// Whether a lane has an unsettled reading: its last weighing or stop is a weighing that passed.
+pub fn is_unsettled(lines: &[Line], wanted: u8) -> bool {
+    let mut unsettled = false;
     for line in lines {
         match line.act {
-            Act::Weigh { lane, .. } if lane == wanted => open = line.signal == Some(Signal::Pass),
-            Act::StopLane { lane, .. } if lane == wanted => open = false,
+            Act::Weigh { lane, .. } if lane == wanted => unsettled = line.signal
+                == Some(Signal::Pass),
+            Act::StopLane { lane, .. } if lane == wanted => unsettled = false,
             _ => {}
         }
     }
-    open
+    unsettled
 }
 
 // What the first weighing or stop of a lane says of the gate.
-fn first_word(lines: &[Line], wanted: u8) -> Option<Prior> {
+fn first_prior(lines: &[Line], wanted: u8) -> Option<Prior> {
     for line in lines {
         match line.act {
             Act::Weigh { lane, prior, .. } if lane == wanted => return Some(prior),
@@ -143,11 +144,11 @@ pub struct Pack {
 }
 
 // The pile of a pack, by its signal and by what its lane says of the gate afterwards.
-fn pile_of(signal: Option<Signal>, word: Option<Prior>) -> Pile {
+fn pile_of(signal: Option<Signal>, next: Option<Prior>) -> Pile {
     match signal {
         None => Pile::Passed,
         Some(Signal::Reject(_)) => Pile::Rejected,
-        Some(Signal::Pass) => match word {
+        Some(Signal::Pass) => match next {
             Some(Prior::Stayed) => Pile::Rejected,
             Some(Prior::Unknown) => Pile::Voided,
             _ => Pile::Passed,
@@ -165,7 +166,7 @@ pub fn pack_at(lines: &[Line], place: usize) -> Option<Pack> {
             gross,
             day: newest_day(before),
             batch: last_start(before, lane),
-            pile: pile_of(line.signal, first_word(after, lane)),
+            pile: pile_of(line.signal, first_prior(after, lane)),
         }),
         _ => None,
     }

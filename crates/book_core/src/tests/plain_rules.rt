@@ -1,7 +1,7 @@
 //! A second and plainer reading of the rules: why an act is refused.
 
 use super::plain_lines::{
-    Line, is_open, last_start, newest_day, nominal_of, product_of, runs, tare_of,
+    Line, is_unsettled, last_start, newest_day, nominal_of, product_of, runs, tare_of,
 };
 use book_words::{Act, Name, Prior, Refusal};
 
@@ -88,8 +88,8 @@ fn refuse_start(lines: &[Line], lane: u8, batch: Name) -> Option<Refusal> {
     }
 }
 
-fn refuse_word(lines: &[Line], lane: u8, prior: Prior) -> Option<Refusal> {
-    let wanted = is_open(lines, lane);
+fn refuse_prior(lines: &[Line], lane: u8, prior: Prior) -> Option<Refusal> {
+    let wanted = is_unsettled(lines, lane);
     if wanted == (prior == Prior::Nothing) {
         Some(Refusal::PriorWrong { wanted })
     } else {
@@ -105,7 +105,7 @@ fn refuse_weighing(lines: &[Line], lane: u8, gross: i64, prior: Prior) -> Option
     } else if gross < 0 || gross > 30_000_000 {
         Some(Refusal::GrossRange)
     } else {
-        refuse_word(lines, lane, prior)
+        refuse_prior(lines, lane, prior)
     }
 }
 
@@ -115,7 +115,7 @@ fn refuse_stop(lines: &[Line], lane: u8, prior: Prior) -> Option<Refusal> {
     } else if !runs(lines, lane) {
         Some(Refusal::LaneIdle)
     } else {
-        refuse_word(lines, lane, prior)
+        refuse_prior(lines, lane, prior)
     }
 }
 
