@@ -32,6 +32,7 @@ impl Names {
     }
 }
 
+// Two of ten are out of range.
 const LANES: [u8; 10] = [1, 1, 1, 2, 2, 2, 3, 3, 0, 17];
 
 // What is said of the gate where a reading of the lane is unsettled, mostly as it should be.
@@ -58,13 +59,16 @@ const UNWANTED: [Prior; 8] = [
     Prior::Unknown,
 ];
 
+// In mg.
 const NOMINALS: [i64; 5] = [50_000, 250_000, 10_000_000, 4_999, 10_000_001];
 
+// In mg.
 const TARES: [i64; 10] = [
     10_000, 10_000, 10_000, 10_000, 10_000, 9_000, 11_000, 0, -1, 5_000_001,
 ];
 
-// In mg. With a tare of 10 g the pairs stand on both sides of a limit of 250 g, 50 g or 10 kg,.
+// In mg. With a tare of 9 g, 10 g or 11 g each of the first nine pairs stands on both sides of a limit of 250 g, 50 g or
+// 10 kg.
 const GROSSES: [i64; 24] = [
     250_000, 249_999, 252_000, 251_999, 251_000, 250_999, 242_000, 241_999, 243_000, 242_999,
     55_500, 55_499, 51_000, 50_999, 9_860_000, 9_859_999, 9_710_000, 9_709_999, 260_000, 62_000, 0,
