@@ -1,11 +1,5 @@
 ghost use Rattle.std.specs.Prelude.{◌≤◌};
 
-mod comparison;
-mod drawn_acts;
-mod plain_book;
-mod plain_lines;
-mod plain_rules;
-mod plain_signals;
 mod worked_lists;
 
 use super::*;
@@ -69,15 +63,11 @@ fn stop(lane: u8, prior: Prior) -> Act {
     Act::StopLane { lane, prior }
 }
 
-fn take_by(book: &mut Book, by: u16, act: &Act) -> Taken {
-    match book.ready(by, 0, 0, act)? {
+fn take(book: &mut Book, act: &Act) -> Taken {
+    match book.ready(0, 0, 0, act)? {
         Step::New(ready) => Ok(book.enter(ready)),
         Step::Known(answered) => Ok(answered),
     }
-}
-
-fn take(book: &mut Book, act: &Act) -> Taken {
-    take_by(book, 0, act)
 }
 
 fn named(bytes: &[u8]) -> Result<Name, fmt::Error> {

@@ -1,11 +1,11 @@
 //! A second and plainer reading of the rules: why an act is refused.
 
-use super::plain_lines::{
-    Line, is_unsettled, last_start, newest_day, nominal_of, product_of, runs, tare_of,
+use crate::lines::{
+    Accepted, is_unsettled, last_start, newest_day, nominal_of, product_of, runs, tare_of,
 };
 use book_words::{Act, Name, Prior, Refusal};
 
-fn refuse_day(lines: &[Line], day: i32) -> Option<Refusal> {
+fn refuse_day(lines: &[Accepted], day: i32) -> Option<Refusal> {
     if let Some(last) = newest_day(lines) {
         if day < last {
             return Some(Refusal::DayBack { last });
@@ -35,7 +35,7 @@ fn has_shape(name: &Name) -> bool {
     good
 }
 
-fn refuse_product(lines: &[Line], name: Name, nominal: i64) -> Option<Refusal> {
+fn refuse_product(lines: &[Accepted], name: Name, nominal: i64) -> Option<Refusal> {
     if nominal_of(lines, name).is_some() {
         Some(Refusal::ProductKnown)
     } else if !has_shape(&name) {
@@ -47,7 +47,7 @@ fn refuse_product(lines: &[Line], name: Name, nominal: i64) -> Option<Refusal> {
     }
 }
 
-fn refuse_tare(lines: &[Line], product: Name, day: i32, tare: i64) -> Option<Refusal> {
+fn refuse_tare(lines: &[Accepted], product: Name, day: i32, tare: i64) -> Option<Refusal> {
     if nominal_of(lines, product).is_none() {
         Some(Refusal::ProductUnknown)
     } else if day < 0 || day > 2_932_896 {
@@ -59,7 +59,7 @@ fn refuse_tare(lines: &[Line], product: Name, day: i32, tare: i64) -> Option<Ref
     }
 }
 
-fn refuse_batch(lines: &[Line], batch: Name, product: Name) -> Option<Refusal> {
+fn refuse_batch(lines: &[Accepted], batch: Name, product: Name) -> Option<Refusal> {
     if nominal_of(lines, product).is_none() {
         Some(Refusal::ProductUnknown)
     } else if !has_shape(&batch) {
@@ -71,7 +71,7 @@ fn refuse_batch(lines: &[Line], batch: Name, product: Name) -> Option<Refusal> {
     }
 }
 
-fn refuse_start(lines: &[Line], lane: u8, batch: Name) -> Option<Refusal> {
+fn refuse_start(lines: &[Accepted], lane: u8, batch: Name) -> Option<Refusal> {
     let Some(product) = product_of(lines, batch) else {
         return Some(Refusal::BatchUnknown);
     };
@@ -88,7 +88,7 @@ fn refuse_start(lines: &[Line], lane: u8, batch: Name) -> Option<Refusal> {
     }
 }
 
-fn refuse_prior(lines: &[Line], lane: u8, prior: Prior) -> Option<Refusal> {
+fn refuse_prior(lines: &[Accepted], lane: u8, prior: Prior) -> Option<Refusal> {
     let wanted = is_unsettled(lines, lane);
     if wanted == (prior == Prior::Nothing) {
         Some(Refusal::PriorWrong { wanted })
@@ -97,7 +97,7 @@ fn refuse_prior(lines: &[Line], lane: u8, prior: Prior) -> Option<Refusal> {
     }
 }
 
-fn refuse_weighing(lines: &[Line], lane: u8, gross: i64, prior: Prior) -> Option<Refusal> {
+fn refuse_weighing(lines: &[Accepted], lane: u8, gross: i64, prior: Prior) -> Option<Refusal> {
     if lane < 1 || lane > 16 {
         Some(Refusal::LaneNumber)
     } else if !runs(lines, lane) {
@@ -109,7 +109,7 @@ fn refuse_weighing(lines: &[Line], lane: u8, gross: i64, prior: Prior) -> Option
     }
 }
 
-fn refuse_stop(lines: &[Line], lane: u8, prior: Prior) -> Option<Refusal> {
+fn refuse_stop(lines: &[Accepted], lane: u8, prior: Prior) -> Option<Refusal> {
     if lane < 1 || lane > 16 {
         Some(Refusal::LaneNumber)
     } else if !runs(lines, lane) {
@@ -119,7 +119,7 @@ fn refuse_stop(lines: &[Line], lane: u8, prior: Prior) -> Option<Refusal> {
     }
 }
 
-fn refuse_on_a_day(lines: &[Line], act: &Act) -> Option<Refusal> {
+fn refuse_on_a_day(lines: &[Accepted], act: &Act) -> Option<Refusal> {
     match *act {
         Act::NewDay { day } => refuse_day(lines, day),
         Act::PutProduct { name, nominal } => refuse_product(lines, name, nominal),
@@ -132,7 +132,7 @@ fn refuse_on_a_day(lines: &[Line], act: &Act) -> Option<Refusal> {
 }
 
 /// Why an act is refused behind some lines, of which there may be at most `limit`.
-pub fn refuse(lines: &[Line], limit: u32, act: &Act) -> Option<Refusal> {
+pub fn refuse(lines: &[Accepted], limit: u32, act: &Act) -> Option<Refusal> {
     if lines.len() >= limit as usize {
         return Some(Refusal::BookFull { limit });
     }

@@ -1,7 +1,7 @@
 //! A second and plainer reading of the rules: the signal of a weighing.
 
-use super::plain_lines::{
-    Line, Pack, last_start, newest_day, nominal_of, pack_at, product_of, tare_of,
+use crate::lines::{
+    Accepted, Pack, last_start, newest_day, nominal_of, pack_at, product_of, tare_of,
 };
 use book_words::{Act, Name};
 use pack_judge::{Cause, Pile, Signal};
@@ -18,17 +18,17 @@ fn limits_of(nominal: i64) -> (i64, i64) {
 }
 
 // The tare of a batch's product on a day, in mg.
-fn tare_in(lines: &[Line], batch: Name, day: Option<i32>) -> Option<i64> {
+fn tare_in(lines: &[Accepted], batch: Name, day: Option<i32>) -> Option<i64> {
     tare_of(lines, product_of(lines, batch)?, day?)
 }
 
 // A gross less the tare of its batch and day, in mg.
-fn net(lines: &[Line], batch: Name, day: Option<i32>, gross: i64) -> i64 {
+fn net(lines: &[Accepted], batch: Name, day: Option<i32>, gross: i64) -> i64 {
     gross.wrapping_sub(tare_in(lines, batch, day).unwrap_or(0))
 }
 
 // Whether a pack counts for a batch with a net below a limit, by the tares of these lines.
-fn counts_below(lines: &[Line], pack: &Pack, batch: Name, limit: i64) -> bool {
+fn counts_below(lines: &[Accepted], pack: &Pack, batch: Name, limit: i64) -> bool {
     pack.batch == Some(batch)
         && (pack.pile == Pile::Passed || pack.pile == Pile::Sampled)
         && net(lines, batch, pack.day, pack.gross) < limit
@@ -36,7 +36,7 @@ fn counts_below(lines: &[Line], pack: &Pack, batch: Name, limit: i64) -> bool {
 
 // How many of the packs before the last line count for a batch with a net below a limit: the piles are those that all
 // lines show, the tares those that the lines before the last one have.
-fn count_below(lines: &[Line], batch: Name, limit: i64) -> u32 {
+fn count_below(lines: &[Accepted], batch: Name, limit: i64) -> u32 {
     let many = lines.len().saturating_sub(1);
     let before = lines.get(..many).unwrap_or(lines);
     let mut count: u32 = 0;
@@ -51,7 +51,7 @@ fn count_below(lines: &[Line], batch: Name, limit: i64) -> u32 {
 }
 
 // The signal of the weighing that stands last, in its batch.
-fn judge(lines: &[Line], batch: Name, gross: i64) -> Signal {
+fn judge(lines: &[Accepted], batch: Name, gross: i64) -> Signal {
     let before = lines.get(..lines.len().saturating_sub(1)).unwrap_or(lines);
     let nominal = product_of(before, batch).and_then(|product| nominal_of(before, product));
     let (first, second) = limits_of(nominal.unwrap_or(0));
@@ -71,7 +71,7 @@ fn judge(lines: &[Line], batch: Name, gross: i64) -> Signal {
 }
 
 /// The signal of the act that stands last, where it is a weighing.
-pub fn signal_of_last(lines: &[Line]) -> Option<Signal> {
+pub fn signal_of_last(lines: &[Accepted]) -> Option<Signal> {
     let last = lines.last()?;
     match last.act {
         Act::Weigh { lane, gross, .. } => Some(judge(lines, last_start(lines, lane)?, gross)),

@@ -2,10 +2,13 @@
 
 ghost use Rattle.std.specs.Prelude.{◌<◌};
 
-use super::named;
-use crate::Book;
+use book_core::Book;
 use book_words::{Act, Name, Prior};
 use std::fmt;
+
+fn named(bytes: &[u8]) -> Result<Name, fmt::Error> {
+    Name::new(bytes).ok_or(fmt::Error)
+}
 
 /// The names from which acts are drawn. The last of each has not the shape of a name.
 #[derive(Clone, Copy)]

@@ -1,10 +1,10 @@
 //! A second and plainer reading of the rules: a book that keeps a list, and walks it for every answer.
 
-use super::plain_lines::{Line, is_unsettled, pack_at};
-use super::plain_rules::refuse;
-use super::plain_signals::signal_of_last;
-use super::{Taken, done, judged, refused};
-use crate::{NoMemory, Rows};
+use crate::lines::{Accepted, is_unsettled, pack_at};
+use crate::rules::refuse;
+use crate::signals::signal_of_last;
+use crate::taken::{Taken, done, judged, refused};
+use book_core::{NoMemory, Rows};
 use book_words::{Act, SummaryView};
 use pack_judge::{Pile, Tally};
 use std::alloc::Global;
@@ -12,7 +12,7 @@ use std::alloc::Global;
 /// A list of accepted acts, which may have at most `limit` lines.
 #[derive(Drop)]
 pub struct PlainBook {
-    lines: Vec<Line>,
+    lines: Vec<Accepted>,
     limit: u32,
 }
 
@@ -22,7 +22,7 @@ fn rows(many: usize) -> u32 {
 }
 
 // The packs of some lines that lie in a pile, or all of them where no pile is meant.
-fn tally(lines: &[Line], pile: Option<Pile>) -> Tally {
+fn tally(lines: &[Accepted], pile: Option<Pile>) -> Tally {
     let mut tally = Tally { count: 0, gross: 0 };
     for place in 0..lines.len() {
         if let Some(pack) = pack_at(lines, place) {
@@ -36,7 +36,7 @@ fn tally(lines: &[Line], pile: Option<Pile>) -> Tally {
 }
 
 // How many batches were opened.
-fn count_batches(lines: &[Line]) -> u32 {
+fn count_batches(lines: &[Accepted]) -> u32 {
     let mut count: u32 = 0;
     for line in lines {
         if matches!(line.act, Act::OpenBatch { .. }) {
@@ -62,10 +62,10 @@ impl PlainBook {
             return Ok(refused(at, refusal));
         }
         let act = *act;
-        self.lines.push(Line { act, signal: None })?;
+        self.lines.push(Accepted { act, signal: None })?;
         let signal = signal_of_last(&self.lines);
         let _ = self.lines.pop();
-        self.lines.push(Line { act, signal })?;
+        self.lines.push(Accepted { act, signal })?;
         let row = at.saturating_add(1);
         match signal {
             Some(signal) => Ok(judged(row, signal)),

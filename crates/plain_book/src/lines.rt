@@ -5,13 +5,13 @@ use pack_judge::{Pile, Signal};
 
 /// An accepted act, with the signal that it got.
 #[derive(Clone, Copy, Debug, PartialEq, Eq)]
-pub struct Line {
+pub struct Accepted {
     pub act: Act,
     pub signal: Option<Signal>,
 }
 
 /// The day that was set last.
-pub fn newest_day(lines: &[Line]) -> Option<i32> {
+pub fn newest_day(lines: &[Accepted]) -> Option<i32> {
     let mut newest = None;
     for line in lines {
         if let Act::NewDay { day } = line.act {
@@ -22,7 +22,7 @@ pub fn newest_day(lines: &[Line]) -> Option<i32> {
 }
 
 /// The nominal quantity of a product in mg.
-pub fn nominal_of(lines: &[Line], product: Name) -> Option<i64> {
+pub fn nominal_of(lines: &[Accepted], product: Name) -> Option<i64> {
     let mut found = None;
     for line in lines {
         if let Act::PutProduct { name, nominal } = line.act {
@@ -35,7 +35,7 @@ pub fn nominal_of(lines: &[Line], product: Name) -> Option<i64> {
 }
 
 /// The product of a batch.
-pub fn product_of(lines: &[Line], wanted: Name) -> Option<Name> {
+pub fn product_of(lines: &[Accepted], wanted: Name) -> Option<Name> {
     let mut found = None;
     for line in lines {
         if let Act::OpenBatch { batch, product } = line.act {
@@ -48,7 +48,7 @@ pub fn product_of(lines: &[Line], wanted: Name) -> Option<Name> {
 }
 
 /// The batch for which a lane was started last.
-pub fn last_start(lines: &[Line], wanted: u8) -> Option<Name> {
+pub fn last_start(lines: &[Accepted], wanted: u8) -> Option<Name> {
     let mut found = None;
     for line in lines {
         if let Act::StartLane { lane, batch } = line.act {
@@ -61,7 +61,7 @@ pub fn last_start(lines: &[Line], wanted: u8) -> Option<Name> {
 }
 
 /// Whether a lane runs: it was started, and no stop came after its last start.
-pub fn runs(lines: &[Line], wanted: u8) -> bool {
+pub fn runs(lines: &[Accepted], wanted: u8) -> bool {
     let mut running = false;
     for line in lines {
         match line.act {
@@ -74,7 +74,7 @@ pub fn runs(lines: &[Line], wanted: u8) -> bool {
 }
 
 /// Whether a lane has an unsettled reading: its last weighing or stop is a weighing that passed.
-pub fn is_unsettled(lines: &[Line], wanted: u8) -> bool {
+pub fn is_unsettled(lines: &[Accepted], wanted: u8) -> bool {
     let mut unsettled = false;
     for line in lines {
         match line.act {
@@ -88,7 +88,7 @@ pub fn is_unsettled(lines: &[Line], wanted: u8) -> bool {
 }
 
 // What the first weighing or stop of a lane says of the gate.
-fn first_prior(lines: &[Line], wanted: u8) -> Option<Prior> {
+fn first_prior(lines: &[Accepted], wanted: u8) -> Option<Prior> {
     for line in lines {
         match line.act {
             Act::Weigh { lane, prior, .. } if lane == wanted => return Some(prior),
@@ -100,7 +100,7 @@ fn first_prior(lines: &[Line], wanted: u8) -> Option<Prior> {
 }
 
 // The greatest day, up to some day, for which a product has a tare.
-fn greatest_tare_day(lines: &[Line], wanted: Name, until: i32) -> Option<i32> {
+fn greatest_tare_day(lines: &[Accepted], wanted: Name, until: i32) -> Option<i32> {
     let mut greatest: Option<i32> = None;
     for line in lines {
         if let Act::PutTare { product, day, .. } = line.act {
@@ -113,7 +113,7 @@ fn greatest_tare_day(lines: &[Line], wanted: Name, until: i32) -> Option<i32> {
 }
 
 // The tare in mg that was put last for a product and just this day.
-fn last_tare_for(lines: &[Line], wanted: Name, from: i32) -> Option<i64> {
+fn last_tare_for(lines: &[Accepted], wanted: Name, from: i32) -> Option<i64> {
     let mut found = None;
     for line in lines {
         if let Act::PutTare { product, day, tare } = line.act {
@@ -126,7 +126,7 @@ fn last_tare_for(lines: &[Line], wanted: Name, from: i32) -> Option<i64> {
 }
 
 /// The tare of a product on a day, in mg.
-pub fn tare_of(lines: &[Line], product: Name, day: i32) -> Option<i64> {
+pub fn tare_of(lines: &[Accepted], product: Name, day: i32) -> Option<i64> {
     last_tare_for(lines, product, greatest_tare_day(lines, product, day)?)
 }
 
@@ -157,7 +157,7 @@ fn pile_of(signal: Option<Signal>, next: Option<Prior>) -> Pile {
 }
 
 /// The pack at a place, counted from 0, where a weighing stands there.
-pub fn pack_at(lines: &[Line], place: usize) -> Option<Pack> {
+pub fn pack_at(lines: &[Accepted], place: usize) -> Option<Pack> {
     let line = lines.get(place)?;
     let before = lines.get(..place)?;
     let after = lines.get(place.saturating_add(1)..)?;

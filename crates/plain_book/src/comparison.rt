@@ -1,9 +1,9 @@
 //! The book beside a plain reading of its rules, on drawn acts.
 
-use super::drawn_acts::{Draws, Names};
-use super::plain_book::PlainBook;
-use super::{Taken, take_by};
-use crate::{Book, BookError, NoMemory};
+use crate::book::PlainBook;
+use crate::drawn_acts::{Draws, Names};
+use crate::taken::Taken;
+use book_core::{Book, BookError, NoMemory, Step};
 use book_words::{Act, Answered, Question, Reply};
 use pack_judge::{Cause, Signal};
 use std::test::Fail;
@@ -31,6 +31,14 @@ struct Met {
     held: bool,
     inadequate: bool,
     allowance: bool,
+}
+
+// What the book answers to an act that somebody brings.
+fn take_by(book: &mut Book, by: u16, act: &Act) -> Taken {
+    match book.ready(by, 0, 0, act)? {
+        Step::New(ready) => Ok(book.enter(ready)),
+        Step::Known(answered) => Ok(answered),
+    }
 }
 
 fn nothing_met() -> Met {
