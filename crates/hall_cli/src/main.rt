@@ -22,5 +22,5 @@ fn main(rt: HostRuntime) -> ExitCode {
     let words = words(&rt);
     let mut input = StdSource::new(rt.stdin());
     let mut output = StdSink::new(rt.stdout());
-    ExitCode::from(hall(rt.alloc(), &words, &mut input, &mut output))
+    ExitCode::from(hall(rt.alloc(), &words, &mut input, &mut output).status)
 }

@@ -1,7 +1,8 @@
-pub mod Setting
 pub mod Lines
-pub mod Readings
+pub mod Script
 pub mod Texts
-pub mod Counts
+pub mod Transcript
+pub mod Streams
 pub mod Run
 pub mod Reached
+pub mod Words

@@ -1,7 +1,6 @@
 -- The lines of a text. A line ends in LF; the last one may lack it.
-use Rattle.std.specs.Prelude.{ℕ, Bool, List, [], ◌∷◌, ◌++◌, ◌==◌, if◌then◌else◌, Option, Some, None, is_some}
-use Rattle.std.specs.List.{list_all, list_any}
-use Rattle.counts_and_texts.specs.Number.{number_of}
+use Rattle.std.specs.Prelude.{ℕ, List, [], ◌∷◌, ◌==◌, if◌then◌else◌}
+use Rattle.std.specs.List.{list_any}
 
 -- a byte goes onto the first of the lines that have ended, where there is one
 abbrev pub onto_ended : ℕ → List (List ℕ) → List (List ℕ)
@@ -22,25 +21,3 @@ rest_of (byte ∷ bytes) = if list_any (λ b. b == 10) (byte ∷ bytes) then res
 abbrev pub last_line : List ℕ → List (List ℕ)
 last_line [] = []
 last_line (byte ∷ bytes) = (byte ∷ bytes) ∷ []
-
--- all lines
-abbrev pub lines_of : List ℕ → List (List ℕ)
-lines_of bytes = ended_lines bytes ++ last_line (rest_of bytes)
-
--- the gross in milligrams that a line gives: 1 to 8 digits, at most 30 000 000
-abbrev pub gross_of : List ℕ → Option ℕ
-gross_of line = number_of 8 30000000 line
-
--- each line gives a gross
-abbrev pub all_good : List (List ℕ) → Bool
-all_good lines = list_all (λ line. is_some (gross_of line)) lines
-
--- the gross of a line before those of the lines behind it; a line that gives none ends the list
-abbrev pub before_grosses : Option ℕ → List ℕ → List ℕ
-before_grosses None grosses = []
-before_grosses (Some gross) grosses = gross ∷ grosses
-
--- the grosses of the lines before the first that gives none
-abbrev pub front_grosses : List (List ℕ) → List ℕ
-front_grosses [] = []
-front_grosses (line ∷ lines) = before_grosses (gross_of line) (front_grosses lines)

@@ -1,87 +1,105 @@
 -- Where a run stands between two bytes.
-use Rattle.std.specs.Prelude.{◌≡◌, ℕ, ◌<◌, ◌≤◌, ◌⊎◌, true, List, ◌∷◌, ◌++◌, length, Option, None, Result, MatchResult}
-use Rattle.std.specs.Io.KnownBytes.{Appends, Consumes}
-use Rattle.hall_top.specs.declared.setting.Setting.{Setting}
-use Rattle.hall_top.specs.declared.lane.Lane.{Lane}
-use Rattle.hall_top.specs.declared.counts.Counts.{Counts}
-use Rattle.hall_top.specs.Lines.{ended_lines, rest_of, lines_of, gross_of, all_good, front_grosses}
-use Rattle.hall_top.specs.Readings.{readings_of}
-use Rattle.hall_top.specs.Counts.{CountsFor}
-use Rattle.hall_top.specs.Texts.{answers, answers_to, balance}
+use Rattle.std.specs.Prelude.{◌≡◌, ℕ, ◌<◌, ◌≤◌, ◌⊎◌, true, List, [], ◌++◌, length, Result, Err, MatchResult, IsSome}
+use Rattle.std.specs.Io.KnownBytes.{Consumes}
+use Rattle.book_words.specs.declared.types.Answered.{Answered}
+use Rattle.book_words.specs.declared.types.Refused.{Refused}
+use Rattle.book_words.specs.declared.types.Entry.{Entry}
+use Rattle.book_core.specs.View.{BookView}
+use Rattle.book_core.specs.Steps.{handed_on}
+use Rattle.book_core.specs.declared.types.BookError.{BookError}
+use Rattle.book_core.specs.declared.types.BookError.TheVariants as error
+use Rattle.hall_top.specs.declared.command.Command.{Command}
+use Rattle.hall_top.specs.declared.run.Run.{Run}
 use Rattle.hall_top.specs.declared.stop.Stop.{Stop}
-use Rattle.hall_top.specs.declared.stop.Stop.TheVariants.{BadLine, WriteFault}
-use Rattle.hall_top.specs.Run.{EndsSo, StopsAtLast, IsCutIn}
+use Rattle.hall_top.specs.declared.stop.Stop.TheVariants.{Finished, BadLine, WriteFault, NoMemory}
+use Rattle.hall_top.specs.Lines.{ended_lines, rest_of}
+use Rattle.hall_top.specs.Script.{ended_in, lines_in, all_good, commands_of}
+use Rattle.hall_top.specs.Texts.{no_memory}
+use Rattle.hall_top.specs.Transcript.{BookState, after_commands, row_told, answers}
+use Rattle.hall_top.specs.Streams.{Stream, Streams, WroteAll, IsCutIn}
+use Rattle.hall_top.specs.Run.{StopsIn, HasLine, IsDone, IsDoneButCut}
+
+-- a book as it stands
+abbrev pub book_state : BookView → BookState
+book_state book = record { limit = book.limit; entries = book.entries }
+
+-- a book gives the answer that is wanted; only in place of a new row may there be no memory
+abbrev pub GivesAnswer : Result Answered BookError → Result Answered Refused → Type 0
+GivesAnswer (Err error.NoMemory) wanted = IsSome (row_told wanted)
+GivesAnswer given wanted = given ≡ handed_on wanted
+
+-- the book becomes the one that is wanted; without memory it stays
+abbrev pub Becomes : Result Answered BookError → (old wanted new : BookState) → Type 0
+Becomes (Err error.NoMemory) old wanted new = new ≡ old
+Becomes _ old wanted new = new ≡ wanted
+
+-- the line went out that says that there is no memory, or was cut
+abbrev pub SaysNoMemory : Stream → Stream → Stop → Type 0
+SaysNoMemory before now NoMemory = WroteAll before now no_memory
+SaysNoMemory before now WriteFault = IsCutIn before now [] no_memory
+SaysNoMemory before now _ = ⊥
+
+-- commands were answered, and this is the book that they leave
+pub record HasAnswered (book : BookState) (before now : Stream) (after : BookState) (commands : List Command) : Type 0 where
+  pub wrote : WroteAll before now (answers book commands)
+  pub left : after ≡ after_commands book commands
 
 -- the lines that ended were good and are counted and answered, and the one that has begun is kept
-pub record Reached (setting : Setting) (before held : Option (List ℕ)) (taken : List ℕ) (lane : Lane) : Type 0 where
-  pub same : lane.setting ≡ setting
-  pub good : all_good (ended_lines taken) ≡ true
-  pub begun : lane.line.items ≡ rest_of taken
-  pub short : length (rest_of taken) ≤ 8
-  pub counts : CountsFor setting (readings_of setting (front_grosses (ended_lines taken))) lane.counts
-  pub out : Appends before held (answers_to setting taken)
+pub record Reached (book : BookState) (before now : Stream) (taken : List ℕ) (run : Run) : Type 0 where
+  pub good : all_good (ended_in taken) ≡ true
+  pub begun : run.line.items ≡ rest_of taken
+  pub short : length (rest_of taken) ≤ 200
+  pub count : run.lines ≡ length (ended_lines taken)
+  pub answered : HasAnswered book before now (book_state run.book) (commands_of (ended_in taken))
 
--- the bytes go on from those taken with a line that gives no gross
-pub record GoesBad (taken bytes : List ℕ) : Type 0 where
-  pub line : List ℕ
-  pub more : List (List ℕ)
-  pub lines : lines_of bytes ≡ ended_lines taken ++ line ∷ more
-  pub bad : gross_of line ≡ None
+-- wherever a run stood, it now stands behind these bytes too
+abbrev pub GoesOn : Stream → Stream → Run → Run → List ℕ → Type 0
+GoesOn old now run_before run bytes =
+    (book : BookState) (before : Stream) (taken : List ℕ) → Reached book before old taken run_before → Reached book before now (taken ++ bytes) run
 
--- wherever a run stood, it now stands behind these bytes too, and nothing failed
-pub record GoesOn (held_before held : Option (List ℕ)) (faults_before faults_now : ℕ) (lane_before lane : Lane) (bytes : List ℕ) : Type 0 where
-  pub reached : (before : Option (List ℕ)) (taken : List ℕ) → Reached lane_before.setting before held_before taken lane_before → Reached lane_before.setting before held (taken ++ bytes) lane
-  pub calm : faults_now ≡ faults_before
+-- a run stops at the last line of what it judged, whatever follows
+pub record StopsOver (book : BookState) (before now : Stream) (rows : List Entry) (stop : Stop) (judged : List ℕ) : Type 0 where
+  pub here : StopsIn book before now rows stop judged
+  pub whole : (more : List ℕ) → HasLine here.lines here.line (judged ++ more)
 
--- a run ends before its input does at a bad line or a failed write
-abbrev pub IsEarly : Stop → Type 0
-IsEarly BadLine = Unit {0}
-IsEarly WriteFault = Unit {0}
-IsEarly _ = ⊥
-
--- of these bytes some were judged, and the run stopped at the last line of those
-pub record JudgedUpTo (setting : Setting) (before held : Option (List ℕ)) (faults_before faults_now : ℕ) (stop : Stop) (taken bytes : List ℕ) : Type 0 where
+-- wherever a run stood, of these bytes it judged some, and stops at the last line of those
+pub record StopsAfter (old now : Stream) (run_before : Run) (rows : List Entry) (bytes : List ℕ) (stop : Stop) : Type 0 where
   pub judged : List ℕ
   pub rest : List ℕ
   pub parts : bytes ≡ judged ++ rest
   pub some : 0 < length judged
-  pub stands : StopsAtLast setting before held faults_before faults_now stop (taken ++ judged)
-
--- wherever a run stood, it ends so over the bytes taken and these, whatever follows
-pub record StopsAfter (held_before held : Option (List ℕ)) (faults_before faults_now : ℕ) (lane_before : Lane) (bytes : List ℕ) (stop : Stop) : Type 0 where
-  pub early : IsEarly stop
-  pub ends : (before : Option (List ℕ)) (taken rest : List ℕ) → Reached lane_before.setting before held_before taken lane_before → EndsSo lane_before.setting before held faults_before faults_now stop ((taken ++ bytes) ++ rest)
-  pub judged : (before : Option (List ℕ)) (taken : List ℕ) → Reached lane_before.setting before held_before taken lane_before → JudgedUpTo lane_before.setting before held faults_before faults_now stop taken bytes
+  pub stops : (book : BookState) (before : Stream) (taken : List ℕ) → Reached book before old taken run_before → StopsOver book before now rows stop (taken ++ judged)
 
 -- a step over these bytes goes on, or ends the run
-abbrev pub Steps : Option (List ℕ) → Option (List ℕ) → ℕ → ℕ → Lane → Lane → List ℕ → {T : Type 0} → Result T Stop → Type 0
-Steps held_before held faults_before faults_now lane_before lane bytes r =
-    MatchResult r (λ _. GoesOn held_before held faults_before faults_now lane_before lane bytes) (λ stop. StopsAfter held_before held faults_before faults_now lane_before bytes stop)
+abbrev pub Steps : Stream → Stream → Run → Run → List ℕ → {T : Type 0} → Result T Stop → Type 0
+Steps old now run_before run bytes result =
+    MatchResult result (λ _. GoesOn old now run_before run bytes) (λ stop. StopsAfter old now run_before run.book.entries bytes stop)
 
--- all lines are good, counted and answered
-pub record Answered (setting : Setting) (before held : Option (List ℕ)) (bytes : List ℕ) (counts : Counts) : Type 0 where
-  pub good : all_good (lines_of bytes) ≡ true
-  pub stands : CountsFor setting (readings_of setting (front_grosses (lines_of bytes))) counts
-  pub out : Appends before held (answers setting (front_grosses (lines_of bytes)))
+-- all lines of a script are good and answered
+pub record IsWholeSoFar (book : BookState) (before now : Stream) (script : List ℕ) (run : Run) : Type 0 where
+  pub good : all_good (lines_in script) ≡ true
+  pub answered : HasAnswered book before now (book_state run.book) (commands_of (lines_in script))
+
+-- how a run over a whole script ends
+abbrev pub EndsSo : BookState → Stream → Stream → List Entry → List ℕ → Stop → Type 0
+EndsSo book before now rows script Finished = IsDone book before now rows script
+EndsSo book before now rows script BadLine = StopsIn book before now rows BadLine script
+EndsSo book before now rows script WriteFault = StopsIn book before now rows WriteFault script ⊎ IsDoneButCut book before now rows script
+EndsSo book before now rows script NoMemory = StopsIn book before now rows NoMemory script
+EndsSo book before now rows script _ = ⊥
 
 -- more bytes were taken
-pub record WentOn (setting : Setting) (input_before input_now before held : Option (List ℕ)) (taken : List ℕ) (lane : Lane) : Type 0 where
+pub record WentOn (book : BookState) (before now : Streams) (taken : List ℕ) (run : Run) : Type 0 where
   pub more : List ℕ
   pub some : 0 < length more
-  pub read : Consumes input_before input_now (taken ++ more)
-  pub reached : Reached setting before held (taken ++ more) lane
+  pub read : Consumes before.input.bytes now.input.bytes (taken ++ more)
+  pub calm : now.input.faults ≡ before.input.faults
+  pub reached : Reached book before.output now.output (taken ++ more) run
 
--- a run that began with the bytes that were left: what it took, and where it stands after so many reads
-pub record HasTaken (setting : Setting) (input_before input_now before held : Option (List ℕ)) (reads : ℕ) (lane : Lane) : Type 0 where
+-- a run that began with these streams: what it took, and where it stands after so many reads
+pub record HasTaken (book : BookState) (before now : Streams) (reads : ℕ) (run : Run) : Type 0 where
   pub taken : List ℕ
   pub many : reads ≤ length taken
-  pub read : Consumes input_before input_now taken
-  pub reached : Reached setting before held taken lane
-
--- how the run of a whole input stopped
-abbrev pub StopsAtEnd : Setting → Option (List ℕ) → Option (List ℕ) → ℕ → ℕ → List ℕ → Stop → Type 0
-StopsAtEnd setting before held faults_before faults_now taken BadLine = StopsAtLast setting before held faults_before faults_now BadLine taken
-StopsAtEnd setting before held faults_before faults_now taken WriteFault =
-    StopsAtLast setting before held faults_before faults_now WriteFault taken
-    ⊎ ((all_good (lines_of taken) ≡ true) × IsCutIn before held (answers setting (front_grosses (lines_of taken))) (balance (readings_of setting (front_grosses (lines_of taken)))) faults_before faults_now)
-StopsAtEnd setting before held faults_before faults_now taken _ = Unit {0}
+  pub read : Consumes before.input.bytes now.input.bytes taken
+  pub calm : now.input.faults ≡ before.input.faults
+  pub reached : Reached book before.output now.output taken run

@@ -1,69 +1,67 @@
-ghost use Rattle.std.specs.Prelude.{◌≡◌, ◌≢◌, ◌+◌, ◌<◌, ◌≤◌, ◌^◌, List, [], ◌∷◌, ◌++◌, length};
+ghost use Rattle.std.specs.Prelude.{◌≡◌, ◌≢◌, ◌+◌, ◌<◌, ◌≤◌, ◌^◌, [], ◌∷◌, length};
+ghost use Rattle.hall_top.specs.Streams.{stream};
 ghost use Rattle.hall_top.specs.Reached.{Steps};
 
-use crate::answers::{answer, refuse};
-use crate::gross::read_gross;
-use crate::lane::{LONGEST_LINE, Lane};
+use crate::answers::judge;
+use crate::command::Line;
+use crate::run::{LONGEST_LINE, Run};
+use crate::script::read_ended_line;
 use crate::stop::Stop;
 use disk_core::Sink;
 
-/// Judges the line that has begun, whose end was read.
-fn end_line<K: Sink>(lane: &mut Lane, output: &mut K) -> Result<(), Stop>
-    requires room { lane.old.counts.all.count < 2 ^ 63 }
-    ensures steps { Steps (K.held output.old) (K.held output.new) (K.faults output.old) (K.faults output.new)
-        lane.old lane.new (10 ∷ []) result }
-    ensures one { lane.new.counts.all.count ≤ lane.old.counts.all.count + 1 }
-    ensures setting { lane.new.setting ≡ lane.old.setting }
+// Judges the line that has begun, whose LF was read.
+fn end_line<K: Sink>(run: &mut Run, output: &mut K) -> Result<(), Stop>
+    requires room { run.old.lines < 2 ^ 63 }
+    ensures steps { Steps (stream (K.held output.old) (K.faults output.old)) (stream (K.held output.new) (K.faults output.new))
+        run.old run.new (10 ∷ []) result }
+    ensures one { run.new.lines ≤ run.old.lines + 1 }
 {
-    let Some(gross) = read_gross(&lane.line) else {
-        return Err(refuse(lane, output));
-    };
-    answer(lane, gross, output)?;
-    lane.line.clear();
+    let line = read_ended_line(&run.line);
+    judge(run, &line, output)?;
+    run.lines += 1;
+    run.line.clear();
     Ok(())
 }
 
-/// Takes one byte of a line: a line that is longer than any gross is bad at once.
-fn begin_line<K: Sink>(lane: &mut Lane, byte: u8, output: &mut K) -> Result<(), Stop>
-    requires room { lane.old.counts.all.count < 2 ^ 63 }
+// Takes one byte of a line: a line that is longer than any may be is bad at once.
+fn begin_line<K: Sink>(run: &mut Run, byte: u8, output: &mut K) -> Result<(), Stop>
+    requires room { run.old.lines < 2 ^ 63 }
     requires no_end { byte ≢ 10 }
-    ensures steps { Steps (K.held output.old) (K.held output.new) (K.faults output.old) (K.faults output.new)
-        lane.old lane.new (byte ∷ []) result }
-    ensures none { lane.new.counts.all.count ≡ lane.old.counts.all.count }
-    ensures setting { lane.new.setting ≡ lane.old.setting }
+    ensures steps { Steps (stream (K.held output.old) (K.faults output.old)) (stream (K.held output.new) (K.faults output.new))
+        run.old run.new (byte ∷ []) result }
+    ensures same { run.new.lines ≡ run.old.lines }
 {
-    if lane.line.len() == LONGEST_LINE {
-        return Err(refuse(lane, output));
+    if run.line.len() == LONGEST_LINE {
+        judge(run, &Line::Bad, output)?;
+        return Ok(());
     }
-    lane.line.push(byte).unwrap();
+    run.line.push(byte).unwrap();
     Ok(())
 }
 
-/// Takes one byte of the input.
-fn take_byte<K: Sink>(lane: &mut Lane, byte: u8, output: &mut K) -> Result<(), Stop>
-    requires room { lane.old.counts.all.count < 2 ^ 63 }
-    ensures steps { Steps (K.held output.old) (K.held output.new) (K.faults output.old) (K.faults output.new)
-        lane.old lane.new (byte ∷ []) result }
-    ensures one { lane.new.counts.all.count ≤ lane.old.counts.all.count + 1 }
-    ensures setting { lane.new.setting ≡ lane.old.setting }
+// Takes one byte of the input.
+fn take_byte<K: Sink>(run: &mut Run, byte: u8, output: &mut K) -> Result<(), Stop>
+    requires room { run.old.lines < 2 ^ 63 }
+    ensures steps { Steps (stream (K.held output.old) (K.faults output.old)) (stream (K.held output.new) (K.faults output.new))
+        run.old run.new (byte ∷ []) result }
+    ensures one { run.new.lines ≤ run.old.lines + 1 }
 {
     if byte == b'\n' {
-        end_line(lane, output)
+        end_line(run, output)
     } else {
-        begin_line(lane, byte, output)
+        begin_line(run, byte, output)
     }
 }
 
 /// Takes bytes of the input: judges each line that ends among them, and answers it before the next.
-pub fn feed<K: Sink>(lane: &mut Lane, bytes: &[u8], output: &mut K) -> Result<(), Stop>
-    requires room { lane.old.counts.all.count + length bytes.now < 2 ^ 63 }
-    ensures steps { Steps (K.held output.old) (K.held output.new) (K.faults output.old) (K.faults output.new)
-        lane.old lane.new bytes.now result }
-    ensures most { lane.new.counts.all.count ≤ lane.old.counts.all.count + length bytes.now }
-    ensures setting { lane.new.setting ≡ lane.old.setting }
+pub fn feed<K: Sink>(run: &mut Run, bytes: &[u8], output: &mut K) -> Result<(), Stop>
+    requires room { run.old.lines + length bytes.now < 2 ^ 63 }
+    ensures steps { Steps (stream (K.held output.old) (K.faults output.old)) (stream (K.held output.new) (K.faults output.new))
+        run.old run.new bytes.now result }
+    ensures most { run.new.lines ≤ run.old.lines + length bytes.now }
 {
     for byte in bytes {
-        take_byte(lane, *byte, output)?;
+        take_byte(run, *byte, output)?;
     }
     Ok(())
 }

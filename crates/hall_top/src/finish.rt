@@ -1,66 +1,69 @@
-ghost use Rattle.std.specs.Prelude.{◌≡◌, ◌+◌, ◌<◌, ◌≤◌, ◌^◌, ℕ, List, Option, OnOk, IfErr};
-ghost use Rattle.hall_top.specs.Run.{EndsSo};
-ghost use Rattle.hall_top.specs.Reached.{Reached, Answered, StopsAtEnd};
+ghost use Rattle.std.specs.Prelude.{◌≡◌, ◌<◌, ◌^◌, ℕ, List, OnOk, IfErr};
+ghost use Rattle.book_words.specs.Answers.{summary};
+ghost use Rattle.hall_top.specs.Texts.{summary_text};
+ghost use Rattle.hall_top.specs.Transcript.{BookState};
+ghost use Rattle.hall_top.specs.Streams.{Stream, stream};
+ghost use Rattle.hall_top.specs.Run.{StopsIn};
+ghost use Rattle.hall_top.specs.Reached.{Reached, IsWholeSoFar, EndsSo};
 
-use crate::answers::{answer, refuse};
-use crate::gross::read_gross;
-use crate::lane::Lane;
+use crate::answers::judge;
+use crate::run::Run;
+use crate::script::read_last_line;
 use crate::stop::Stop;
-use crate::texts::push_balance;
+use crate::texts::push_reply;
+use book_words::Question;
 use disk_core::{Sink, write_all};
 
-/// Judges a last line that lacks its LF, where there is one.
-fn finish_line<K: Sink>(lane: &mut Lane, output: &mut K) -> Result<(), Stop>
-    requires room { lane.old.counts.all.count < 2 ^ 63 }
-    ensures answered { (before : Option (List ℕ)) (taken : List ℕ) → Reached lane.old.setting before (K.held output.old) taken lane.old
-        → OnOk result (Answered lane.old.setting before (K.held output.new) taken lane.new.counts) }
-    ensures calm { OnOk result (K.faults output.new ≡ K.faults output.old) }
-    ensures stops { (before : Option (List ℕ)) (taken : List ℕ) → Reached lane.old.setting before (K.held output.old) taken lane.old
-        → IfErr result (λ stop. EndsSo lane.old.setting before (K.held output.new) (K.faults output.old) (K.faults output.new) stop taken) }
-    ensures most { lane.new.counts.all.count ≤ lane.old.counts.all.count + 1 }
-    ensures judged { (before : Option (List ℕ)) (taken : List ℕ) → Reached lane.old.setting before (K.held output.old) taken lane.old
-        → IfErr result (StopsAtEnd lane.old.setting before (K.held output.new) (K.faults output.old) (K.faults output.new) taken) }
-    ensures setting { lane.new.setting ≡ lane.old.setting }
+// Judges a last line that lacks its LF, where there is one.
+fn finish_line<K: Sink>(run: &mut Run, output: &mut K) -> Result<(), Stop>
+    requires room { run.old.lines < 2 ^ 63 }
+    ensures whole { (book : BookState) (before : Stream) (taken : List ℕ) → Reached book before (stream (K.held output.old) (K.faults output.old)) taken run.old
+        → OnOk result (IsWholeSoFar book before (stream (K.held output.new) (K.faults output.new)) taken run.new) }
+    ensures stops { (book : BookState) (before : Stream) (taken : List ℕ) → Reached book before (stream (K.held output.old) (K.faults output.old)) taken run.old
+        → IfErr result (λ stop. StopsIn book before (stream (K.held output.new) (K.faults output.new)) run.new.book.entries stop taken) }
+    ensures lines { run.new.lines ≡ run.old.lines }
 {
-    if lane.line.is_empty() {
+    if run.line.is_empty() {
         return Ok(());
     }
-    let Some(gross) = read_gross(&lane.line) else {
-        return Err(refuse(lane, output));
-    };
-    answer(lane, gross, output)?;
+    let line = read_last_line(&run.line);
+    judge(run, &line, output)?;
     Ok(())
 }
 
-/// Writes the balance of the piles.
-fn balance<K: Sink>(lane: &mut Lane, output: &mut K) -> Stop
-    ensures ends { (before : Option (List ℕ)) (bytes : List ℕ) → Answered lane.old.setting before (K.held output.old) bytes lane.old.counts
-        → EndsSo lane.old.setting before (K.held output.new) (K.faults output.old) (K.faults output.new) result bytes }
-    ensures judged { (before : Option (List ℕ)) (bytes : List ℕ) → Answered lane.old.setting before (K.held output.old) bytes lane.old.counts
-        → StopsAtEnd lane.old.setting before (K.held output.new) (K.faults output.old) (K.faults output.new) bytes result }
-    ensures counts { lane.new.counts ≡ lane.old.counts }
-    ensures setting { lane.new.setting ≡ lane.old.setting }
+// Makes the text of the summary.
+fn compose_summary(run: &mut Run)
+    ensures text { run.new.text.items ≡ summary_text (summary run.old.book.entries) }
+    ensures book { run.new.book ≡ run.old.book }
+    ensures lines { run.new.lines ≡ run.old.lines }
 {
-    lane.text.clear();
-    push_balance(&mut lane.text, &lane.counts).unwrap();
-    match write_all(output, &lane.text) {
+    run.text.clear();
+    let answered = run.book.look(&Question::Summary).unwrap();
+    push_reply(&mut run.text, &answered.reply).unwrap();
+}
+
+// Writes the summary.
+fn summarize<K: Sink>(run: &mut Run, output: &mut K) -> Stop
+    ensures ends { (book : BookState) (before : Stream) (taken : List ℕ) → IsWholeSoFar book before (stream (K.held output.old) (K.faults output.old)) taken run.old
+        → EndsSo book before (stream (K.held output.new) (K.faults output.new)) run.new.book.entries taken result }
+    ensures lines { run.new.lines ≡ run.old.lines }
+{
+    compose_summary(run);
+    match write_all(output, &run.text) {
         Ok(()) => Stop::Finished,
         Err(_) => Stop::WriteFault,
     }
 }
 
-/// Ends a run whose input was read to its end: a last line may lack its LF, and then comes the balance.
-pub fn finish<K: Sink>(lane: &mut Lane, output: &mut K) -> Stop
-    requires room { lane.old.counts.all.count < 2 ^ 63 }
-    ensures ends { (before : Option (List ℕ)) (taken : List ℕ) → Reached lane.old.setting before (K.held output.old) taken lane.old
-        → EndsSo lane.old.setting before (K.held output.new) (K.faults output.old) (K.faults output.new) result taken }
-    ensures judged { (before : Option (List ℕ)) (taken : List ℕ) → Reached lane.old.setting before (K.held output.old) taken lane.old
-        → StopsAtEnd lane.old.setting before (K.held output.new) (K.faults output.old) (K.faults output.new) taken result }
-    ensures most { lane.new.counts.all.count ≤ lane.old.counts.all.count + 1 }
-    ensures setting { lane.new.setting ≡ lane.old.setting }
+/// Ends a run whose input was read to its end: a last line may lack its LF, and then comes the summary.
+pub fn finish<K: Sink>(run: &mut Run, output: &mut K) -> Stop
+    requires room { run.old.lines < 2 ^ 63 }
+    ensures ends { (book : BookState) (before : Stream) (taken : List ℕ) → Reached book before (stream (K.held output.old) (K.faults output.old)) taken run.old
+        → EndsSo book before (stream (K.held output.new) (K.faults output.new)) run.new.book.entries taken result }
+    ensures lines { run.new.lines ≡ run.old.lines }
 {
-    match finish_line(lane, output) {
-        Ok(()) => balance(lane, output),
+    match finish_line(run, output) {
+        Ok(()) => summarize(run, output),
         Err(stop) => stop,
     }
 }

@@ -1,24 +1,28 @@
-//! The program: weights of one product on one lane in, signals and the balance of the piles out.
+//! The program: a script of commands in, the book's answers and the summary out.
 #![tactic(auto)]
 
 mod answers;
-mod counts;
+mod asking;
+mod command;
 mod feed;
 mod finish;
-mod gross;
-mod lane;
+mod line_words;
 mod pieces;
-pub mod plain;
-mod reading;
-mod setting;
+mod refusal_texts;
+mod run;
+mod script;
+#[cfg(test)]
+mod script_tests;
 mod stop;
-mod texts;
-mod top;
-mod weigh;
-
-pub use reading::Reading;
-pub use setting::Setting;
-pub use top::hall;
-
 #[cfg(test)]
 mod tests;
+mod texts;
+#[cfg(test)]
+mod texts_tests;
+mod told;
+mod top;
+mod words;
+
+pub use command::{Command, Line};
+pub use told::Told;
+pub use top::hall;

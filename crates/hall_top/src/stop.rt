@@ -1,16 +1,35 @@
 /// How a run ended.
 #[derive(Clone, Copy, Debug, PartialEq, Eq)]
 pub enum Stop {
-    /// The input was read to its end and the balance went out.
+    /// The input was read to its end and the summary went out.
     Finished,
-    /// A line isn't a gross.
+    /// A line is outside the grammar of scripts.
     BadLine,
     /// The input failed.
     ReadFault,
     /// The output failed.
     WriteFault,
-    /// The buffers couldn't be had.
+    /// There was no memory.
     NoMemory,
     /// The reads that a run may make were made, and the end wasn't seen.
     Spent,
+}
+
+impl Stop {
+    ghost use Rattle.std.specs.Prelude.{◌≡◌};
+    ghost use Rattle.hall_top.specs.Run.{status_of};
+
+    /// The status with which the program ends.
+    pub fn status(self) -> u8
+        ensures { result ≡ status_of self }
+    {
+        match self {
+            Stop::Finished => 0,
+            Stop::BadLine => 3,
+            Stop::ReadFault => 4,
+            Stop::WriteFault => 5,
+            Stop::NoMemory => 7,
+            Stop::Spent => 12,
+        }
+    }
 }

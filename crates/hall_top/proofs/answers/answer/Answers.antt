@@ -1,28 +1,23 @@
-use Rattle.std.proofs.Common.{◌≡◌, ℕ, List, ◌++◌, ◌+◌, length, ap, subst, ◌∙◌, arith}
-use Rattle.std.proofs.KnownBytes.{Appends-trans}
-use Rattle.std.proofs.lemmas.Result.{IfOk-at_ok}
-use Rattle.std.specs.Io.KnownBytes.{Appends}
-use Rattle.hall_top.specs.Readings.{signal_in}
-use Rattle.hall_top.specs.Run.{IsCutIn}
-use Rattle.hall_top.specs.Texts.{answer_line, answers_from}
-use Rattle.hall_top.proofs.Printed.{answered}
+use Rattle.std.proofs.Common.{◌≡◌, List, ℕ, [], ◌∷◌, Result, Ok, Err, is_err, false, OnOk, inl, ap, sym, ◌∙◌, subst}
+use Rattle.hall_top.specs.Transcript.{BookState}
+use Rattle.hall_top.specs.Streams.{IsCutIn, stream}
+use Rattle.hall_top.specs.Reached.{book_state}
+use Rattle.hall_top.proofs.Acknowledged.{are_left}
 use Rattle.hall_top.proofs.answers.answer.Goals as goal
 
-pub returns-in-Ok-clause-ok : goal.returns-in-Ok-clause-ok
-returns-in-Ok-clause-ok g c = λ earlier before stands out.
-    let printed = IfOk-at_ok _ c.unwrap.ensures c.push_answer.ensures.text in
-    let text : c.deref.result.now ≡ answer_line c.weigh-signal.new.counts.all.count c.weigh-signal.result =
-    c.deref.ensures.value ∙ (printed ∙ ap (λ xs. xs ++ answer_line c.weigh-signal.new.counts.all.count c.weigh-signal.result) c.clear.ensures.items) in
-    let said = answered c.args.lane.now.setting earlier c.args.gross c.weigh-signal.new.counts.all.count c.weigh-signal.result c.deref.result.now text (omega (arith, stands.all.count, c.weigh-signal.ensures.one)) (c.weigh-signal.ensures.signal earlier stands) in
-    subst (Appends before (g.K.Sink.held c.write_all.new.sink)) said (Appends-trans _ _ _ _ _ out c.in-Ok.ensures.written)
+-- what holds of an Ok, where there is no error
+at_ok : {T E P : Type 0} (result : Result T E) → is_err result ≡ false → OnOk result P → P
+at_ok (Ok x) none holds = holds
+at_ok (Err e) none holds = absurd (cc)
 
-pub returns-in-Err-clause-failed : goal.returns-in-Err-clause-failed
-returns-in-Err-clause-failed g c = λ earlier before stands out.
-    let setting = c.args.lane.now.setting in
-    let printed = IfOk-at_ok _ c.unwrap.ensures c.push_answer.ensures.text in
-    let number : c.weigh-signal.new.counts.all.count ≡ length earlier + 1 = omega (arith, stands.all.count, c.weigh-signal.ensures.one) in
-    let text : c.deref.result.now ≡ answer_line (length earlier + 1) (signal_in setting earlier c.args.gross) =
-    c.deref.ensures.value ∙ (printed ∙ ap (λ xs. xs ++ answer_line c.weigh-signal.new.counts.all.count c.weigh-signal.result) c.clear.ensures.items
-    ∙ ap (λ n. answer_line n c.weigh-signal.result) number ∙ ap (answer_line (length earlier + 1)) (c.weigh-signal.ensures.signal earlier stands)) in
-    subst (λ (t : List ℕ). IsCutIn before (g.K.Sink.held c.write_all.new.sink) (answers_from 1 earlier) t (g.K.Sink.faults c.args.output.now) (g.K.Sink.faults c.write_all.new.sink)) text
-    (record { part = c.in-Err.field-0.done; less = c.in-Err.ensures.some_left; out = Appends-trans _ _ _ _ _ out c.in-Err.ensures.partly; failed = c.in-Err.ensures.cause })
+pub returns-in-Err-clause-stops : goal.returns-in-Err-clause-stops
+returns-in-Err-clause-stops g c =
+    let none = sym c.is_err.ensures.value ∙ c.if-is_err.false in
+    let text = c.deref.ensures.value ∙ at_ok c.compose.result none c.compose.ensures.text in
+    let becomes = at_ok c.compose.result none c.compose.ensures.becomes in
+    let sink = g.K.Sink in
+    inl (record {
+      cut = subst (λ (t : List ℕ). IsCutIn (stream (sink.held c.args.output.now) (sink.faults c.args.output.now)) (stream (sink.held c.write_all.new.sink) (sink.faults c.write_all.new.sink)) [] t) text
+          (record { part = c.in-Err.field-0.done; less = c.in-Err.ensures.some_left; out = c.in-Err.ensures.partly; failed = c.in-Err.ensures.cause });
+      rows_left = are_left (book_state c.args.run.now.book) (c.args.command.now ∷ []) c.compose.new.run.book.entries (ap (λ (b : BookState). b.entries) becomes);
+    })

@@ -1,4 +1,5 @@
-use Rattle.std.proofs.Common.{◌≡◌, ◌+◌, ◌≤◌, take}
+use Rattle.std.proofs.Common.{◌+◌, ◌≤◌, take}
+use Rattle.hall_top.specs.Streams.{stream}
 use Rattle.hall_top.specs.Reached.{GoesOn}
 use Rattle.hall_top.proofs.feed.feed.Given as goal
 
@@ -7,7 +8,6 @@ abbrev pub invariant-loop-byte : goal.invariant-loop-byte
 invariant-loop-byte g l =
     let sink = g.K.Sink in
     record {
-      on : GoesOn (sink.held l.fn.output) (sink.held l.output) (sink.faults l.fn.output) (sink.faults l.output) l.fn.lane l.lane (take l.byte-index l.bytes);
-      most : l.lane.counts.all.count ≤ l.fn.lane.counts.all.count + l.byte-index;
-      same : l.lane.setting ≡ l.fn.lane.setting;
+      on : GoesOn (stream (sink.held l.fn.output) (sink.faults l.fn.output)) (stream (sink.held l.output) (sink.faults l.output)) l.fn.run l.run (take l.byte-index l.bytes);
+      most : l.run.lines ≤ l.fn.run.lines + l.byte-index;
     }

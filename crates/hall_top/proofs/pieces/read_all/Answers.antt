@@ -1,31 +1,46 @@
-use Rattle.std.proofs.Common.{◌++◌, length-append, subst, sym, ◌∙◌, arith}
-use Rattle.hall_top.specs.declared.setting.Setting.{Setting}
-use Rattle.hall_top.specs.Reached.{Reached}
-use Rattle.hall_top.proofs.Explaining.{explained_since}
+use Rattle.std.proofs.Common.{◌++◌, length-append, subst, arith}
+use Rattle.hall_top.specs.declared.stop.Stop.TheVariants.{Spent}
+use Rattle.hall_top.specs.Transcript.{BookState}
+use Rattle.hall_top.specs.Streams.{streams}
+use Rattle.hall_top.specs.Run.{Explains}
+use Rattle.hall_top.specs.Reached.{book_state}
+use Rattle.hall_top.proofs.Explaining.{spent_explained}
 use Rattle.hall_top.proofs.pieces.read_all.Goals as goal
 
 pub returns-in-Err : goal.returns-in-Err
-returns-in-Err g c =
-    let at = c.loop-turn.invariant in
-    let stands = subst (λ (s : Setting). Reached s (g.K.Sink.held c.args.output.now) (g.K.Sink.held c.loop-turn.output) at.taken.taken c.loop-turn.lane) (sym at.same) at.taken.reached in
-    let explained = c.in-Err.ensures.taken (g.S.Source.left c.args.input.now) (g.K.Sink.held c.args.output.now) at.taken.taken at.taken.read stands in
-    explained_since c.loop-turn.lane.setting c.args.lane.now.setting _ _ _ _ _ _ _ _ _ _ c.in-Err.stop at.same at.read at.written explained
+returns-in-Err g c = λ book same.
+    let source = g.S.Source in
+    let sink = g.K.Sink in
+    let at = c.loop-turn.invariant.taken in
+    let before = streams (source.left c.args.input.now) (source.faults c.args.input.now) (sink.held c.args.output.now) (sink.faults c.args.output.now) in
+    let now = streams (source.left c.take_piece.new.input) (source.faults c.take_piece.new.input) (sink.held c.take_piece.new.output) (sink.faults c.take_piece.new.output) in
+    subst (λ (b : BookState). Explains b before now c.take_piece.new.run.book.entries c.in-Err.stop) same
+    (c.in-Err.ensures.taken (book_state c.args.run.now.book) before at.taken at.read at.calm at.reached)
 
 pub loop-turn-preserved : goal.loop-turn-preserved
 loop-turn-preserved g c =
-    let at = c.loop-turn.invariant in
-    let stands = subst (λ (s : Setting). Reached s (g.K.Sink.held c.args.output.now) (g.K.Sink.held c.loop-turn.output) at.taken.taken c.loop-turn.lane) (sym at.same) at.taken.reached in
-    let on = c.in_default.ensures.taken (g.S.Source.left c.args.input.now) (g.K.Sink.held c.args.output.now) at.taken.taken at.taken.read stands in
+    let at = c.loop-turn.invariant.taken in
+    let source = g.S.Source in
+    let sink = g.K.Sink in
+    let before = streams (source.left c.args.input.now) (source.faults c.args.input.now) (sink.held c.args.output.now) (sink.faults c.args.output.now) in
+    let on = c.in_default.ensures.taken (book_state c.args.run.now.book) before at.taken at.read at.calm at.reached in
     record {
       taken = record {
-        taken = at.taken.taken ++ on.more;
-        many = omega (arith, at.taken.many, on.some, length-append at.taken.taken on.more);
+        taken = at.taken ++ on.more;
+        many = omega (arith, at.many, on.some, length-append at.taken on.more);
         read = on.read;
-        reached = subst (λ (s : Setting). Reached s (g.K.Sink.held c.args.output.now) (g.K.Sink.held c.take_piece.new.output) (at.taken.taken ++ on.more) c.take_piece.new.lane) at.same on.reached;
+        calm = on.calm;
+        reached = on.reached;
       };
-      read = c.in_default.ensures.read ∙ at.read;
-      written = c.in_default.ensures.written ∙ at.written;
-      most = omega (arith, c.take_piece.ensures.most, at.most, at.room);
-      same = c.take_piece.ensures.setting ∙ at.same;
+      most = omega (arith, c.take_piece.ensures.most, c.loop-turn.invariant.most, c.loop-turn.invariant.room);
       room = omega arith;
     }
+
+pub returns : goal.returns
+returns g c = λ book same.
+    let source = g.S.Source in
+    let sink = g.K.Sink in
+    let before = streams (source.left c.args.input.now) (source.faults c.args.input.now) (sink.held c.args.output.now) (sink.faults c.args.output.now) in
+    let now = streams (source.left c.loop-turn.input) (source.faults c.loop-turn.input) (sink.held c.loop-turn.output) (sink.faults c.loop-turn.output) in
+    subst (λ (b : BookState). Explains b before now c.loop-turn.run.book.entries Spent) same
+    (spent_explained (book_state c.args.run.now.book) before now c.loop-turn.run c.loop-turn._turn (omega arith) c.loop-turn.invariant.taken)

@@ -1,0 +1,159 @@
+-- What the lines of a script say.
+use Rattle.std.specs.Prelude.{ℕ, Bool, true, false, ◌||◌, List, [], ◌∷◌, ◌++◌, length, map, filter, ◌==◌, nat_lt, nat_le, if◌then◌else◌, Option, Some, None, option_map, codes, filter_map}
+use Rattle.std.specs.List.{slice_split, list_all}
+use Rattle.std.specs.Option.{option_and_then}
+use Rattle.std.specs.Str.{bytes_eq}
+use Rattle.std.specs.Str.Lines.{strip_carriage_return}
+use Rattle.counts_and_texts.specs.Number.{number_of}
+use Rattle.hall_units.specs.Grams.{milligrams_of}
+use Rattle.hall_units.specs.Days.{day_of}
+use Rattle.book_words.specs.declared.name.Name.{Name}
+use Rattle.book_words.specs.declared.types.Act.{Act}
+use Rattle.book_words.specs.declared.types.Act.TheVariants.{NewDay, PutProduct, PutTare, OpenBatch, StartLane}
+use Rattle.book_words.specs.declared.types.Question.TheVariants.{Summary}
+use Rattle.book_words.specs.declared.types.Want.TheVariants as want
+use Rattle.book_words.specs.Names.{name_of}
+use Rattle.hall_top.specs.declared.command.Command.{Command}
+use Rattle.hall_top.specs.declared.command.Command.TheVariants as command
+use Rattle.hall_top.specs.declared.command.Line.{Line}
+use Rattle.hall_top.specs.declared.command.Line.TheVariants.{Nothing, Asks, Bad}
+use Rattle.hall_top.specs.Lines.{ended_lines, rest_of, last_line}
+
+-- a space or a tab
+abbrev pub is_blank : ℕ → Bool
+is_blank byte = byte == 32 || byte == 9
+
+-- the words of a line: what stands between its blanks
+abbrev pub words_of : List ℕ → List (List ℕ)
+words_of line = filter (λ word. nat_lt 0 (length word)) (slice_split is_blank line)
+
+-- there is just one word
+abbrev pub is_one_word : List (List ℕ) → Bool
+is_one_word (word ∷ []) = true
+is_one_word _ = false
+
+-- a word of at most 16 bytes as a name
+abbrev pub name_in : List ℕ → Option Name
+name_in word = if nat_le (length word) 16 then Some (name_of word) else None
+
+-- the number of a lane in a word: 1 to 20 digits, and no more than a byte holds
+abbrev pub lane_in : List ℕ → Option ℕ
+lane_in word = number_of 20 255 word
+
+-- what two things make, where both are there
+abbrev pub from_both : {A B C : Type 0} → (A → B → C) → Option A → Option B → Option C
+from_both make a b = option_and_then (λ x. option_map (make x) b) a
+
+-- what three things make, where all are there
+abbrev pub from_three : {A B C D : Type 0} → (A → B → C → D) → Option A → Option B → Option C → Option D
+from_three make a b c = option_and_then (λ x. from_both (make x) b c) a
+
+-- an act that says all that the book has to know
+abbrev pub command_for : Act → Command
+command_for act = command.Ask (want.Act act)
+
+-- `day DATE`, without its first word, as the others
+abbrev pub day_line : List (List ℕ) → Option Command
+day_line (date ∷ []) = option_map (λ day. command_for (NewDay day)) (day_of date)
+day_line _ = None
+
+-- `product NAME GRAMS`
+abbrev pub product_line : List (List ℕ) → Option Command
+product_line (name ∷ grams ∷ []) = from_both (λ product nominal. command_for (PutProduct product nominal)) (name_in name) (milligrams_of grams)
+product_line _ = None
+
+-- `tare NAME DATE GRAMS`
+abbrev pub tare_line : List (List ℕ) → Option Command
+tare_line (name ∷ date ∷ grams ∷ []) = from_three (λ product day tare. command_for (PutTare product day tare)) (name_in name) (day_of date) (milligrams_of grams)
+tare_line _ = None
+
+-- `open BATCH NAME`
+abbrev pub open_line : List (List ℕ) → Option Command
+open_line (batch ∷ name ∷ []) = from_both (λ opened product. command_for (OpenBatch opened product)) (name_in batch) (name_in name)
+open_line _ = None
+
+-- `start LANE BATCH`
+abbrev pub start_line : List (List ℕ) → Option Command
+start_line (number ∷ batch ∷ []) = from_both (λ lane started. command_for (StartLane lane started)) (lane_in number) (name_in batch)
+start_line _ = None
+
+-- `weigh LANE GRAMS`
+abbrev pub weigh_line : List (List ℕ) → Option Command
+weigh_line (number ∷ grams ∷ []) = from_both (λ lane gross. command.Weigh lane gross) (lane_in number) (milligrams_of grams)
+weigh_line _ = None
+
+-- `stop LANE`
+abbrev pub stop_line : List (List ℕ) → Option Command
+stop_line (number ∷ []) = option_map (λ lane. command.Stop lane) (lane_in number)
+stop_line _ = None
+
+-- `summary`
+abbrev pub summary_line : List (List ℕ) → Option Command
+summary_line [] = Some (command.Ask (want.Question Summary))
+summary_line _ = None
+
+-- the command of a first word and the others, where there is such a command
+abbrev pub command_by : List ℕ → List (List ℕ) → Option Command
+command_by word others =
+    if bytes_eq word (codes "day") then day_line others
+    else (if bytes_eq word (codes "product") then product_line others
+    else (if bytes_eq word (codes "tare") then tare_line others
+    else (if bytes_eq word (codes "open") then open_line others
+    else (if bytes_eq word (codes "start") then start_line others
+    else (if bytes_eq word (codes "weigh") then weigh_line others
+    else (if bytes_eq word (codes "stop") then stop_line others
+    else (if bytes_eq word (codes "summary") then summary_line others
+    else None)))))))
+
+-- a line that gives no command is bad
+abbrev pub by_command : Option Command → Line
+by_command (Some command) = Asks command
+by_command None = Bad
+
+-- whether a word begins a comment
+abbrev pub is_comment : List ℕ → Bool
+is_comment [] = false
+is_comment (byte ∷ word) = byte == 35
+
+-- what words say: nothing where there are none or the first begins a comment, and else a command
+abbrev pub words_say : List (List ℕ) → Line
+words_say [] = Nothing
+words_say (word ∷ others) = if is_comment word then Nothing else by_command (command_by word others)
+
+-- what a line says whose words stand in a text; a line of more than 200 bytes is bad
+abbrev pub line_says : List ℕ → List ℕ → Line
+line_says line text = if nat_le (length line) 200 then words_say (words_of text) else Bad
+
+-- what a line that ends in LF says: one CR before the LF is passed over, though it counts
+abbrev pub ended_says : List ℕ → Line
+ended_says line = line_says line (strip_carriage_return line)
+
+-- what a last line without its LF says: a CR is a byte like another there
+abbrev pub last_says : List ℕ → Line
+last_says line = line_says line line
+
+-- what the lines that have ended say
+abbrev pub ended_in : List ℕ → List Line
+ended_in bytes = map ended_says (ended_lines bytes)
+
+-- what the lines of a script say
+abbrev pub lines_in : List ℕ → List Line
+lines_in bytes = ended_in bytes ++ map last_says (last_line (rest_of bytes))
+
+-- a line is good where it isn't bad
+abbrev pub is_good : Line → Bool
+is_good Bad = false
+is_good _ = true
+
+-- no line is bad
+abbrev pub all_good : List Line → Bool
+all_good lines = list_all is_good lines
+
+-- the command that a line asks, where it asks one
+abbrev pub asked : Line → Option Command
+asked (Asks command) = Some command
+asked _ = None
+
+-- the commands of some lines
+abbrev pub commands_of : List Line → List Command
+commands_of lines = filter_map asked lines

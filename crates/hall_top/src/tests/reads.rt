@@ -1,0 +1,119 @@
+use super::{run_script, words_of};
+use crate::hall;
+use disk_core::{Failed, MemorySink, Sink, Source};
+use std::alloc::{AllocError, Global};
+use std::test::Fail;
+
+// Gives lines of seven times the same byte, so many bytes a read and in so many reads, and keeps the room of the last
+// buffer.
+#[derive(Drop)]
+struct Lines {
+    byte: u8,
+    piece: usize,
+    reads: u32,
+    place: u8,
+    room: usize,
+}
+
+impl Source for Lines {
+    ghost use Rattle.std.specs.Prelude.{None};
+
+    ghost left = { λ _. None };
+
+    ghost faults = { λ _. 0 };
+
+    fn read(&mut self, into: &mut [u8]) -> Result<usize, Failed> {
+        self.room = into.len();
+        if self.reads == 0 {
+            return Ok(0);
+        }
+        self.reads -= 1;
+        let count = self.piece.min(into.len());
+        for i in 0..count {
+            self.place = self.place.wrapping_add(1) % 8;
+            into[i] = if self.place == 0 { b'\n' } else { self.byte };
+        }
+        Ok(count)
+    }
+}
+
+// Takes everything, and keeps the number of bytes alone.
+#[derive(Drop)]
+struct Nowhere {
+    bytes: u64,
+}
+
+impl Sink for Nowhere {
+    ghost use Rattle.std.specs.Prelude.{None};
+
+    ghost held = { λ _. None };
+
+    ghost faults = { λ _. 0 };
+
+    fn write(&mut self, bytes: &[u8]) -> Result<usize, Failed> {
+        self.bytes = self.bytes.saturating_add(bytes.len() as u64);
+        Ok(bytes.len())
+    }
+}
+
+// Reads that each give a byte are spent at 100 000 000; larger ones may give more bytes than that in all. Where they
+// are spent nothing is printed, and a summary of an empty list has 160 bytes.
+#[test]
+fn spent_are_the_reads_and_not_the_bytes(rt: HostRuntime) -> Result<(), Fail> {
+    let alloc = rt.alloc();
+    let words = words_of(alloc, &["run"])?;
+    for (byte, piece, reads, status, printed) in [
+        (b' ', 1, u32::MAX, 12, 0),
+        (b'#', 65_536, 1_600, 0, 160),
+    ] {
+        let mut source = Lines {
+            byte,
+            piece,
+            reads,
+            place: 0,
+            room: 0,
+        };
+        let mut sink = Nowhere { bytes: 0 };
+        let told = hall(alloc, &words, &mut source, &mut sink);
+        assert_eq!(rt; told.status, status);
+        assert_eq!(rt; told.rows.as_slice().len(), 0);
+        assert_eq!(rt; sink.bytes, printed);
+        assert!(rt; source.room >= 65_536);
+    }
+    Ok(())
+}
+
+// The setup and 10 001 weighings.
+fn full_script(alloc: Global) -> Result<String, AllocError> {
+    let mut script = String::from_str(
+        alloc,
+        "day 2025-03-03\nproduct rice250 250\ntare rice250 2025-03-03 10\nopen A rice250\nstart 1 A\n",
+    )?;
+    for _ in 0..10_001 {
+        script.push_str("weigh 1 260.000\n")?;
+    }
+    Ok(script)
+}
+
+fn full_text(alloc: Global) -> Result<String, AllocError> {
+    let mut text = String::from_str(alloc, "1 ok\n2 ok\n3 ok\n4 ok\n5 ok\n")?;
+    for row in 6..10_006 {
+        text.push_str(format!(in alloc; "{row} pass\n")?.as_str())?;
+    }
+    text.push_str(
+        "10006 reject full\nrows 10006\nreadings 10001 gross 2600260.000\npassed 10000 gross 2600000.000\nrejected 1 gross 260.000\nsampled 0 gross 0.000\nvoided 0 gross 0.000\nbatches running 1 ended 0 drawn 0 closed 0\n",
+    )?;
+    Ok(text)
+}
+
+#[test]
+fn a_batch_has_ten_thousand_packs(rt: HostRuntime) -> Result<(), Fail> {
+    let alloc = rt.alloc();
+    let script = full_script(alloc)?;
+    let mut sink = MemorySink::new(alloc, Vec::new(alloc));
+    let told = run_script(alloc, script.as_bytes(), &mut sink)?;
+    assert_eq!(rt; sink.bytes(), full_text(alloc)?.as_bytes());
+    assert_eq!(rt; told.status, 0);
+    assert_eq!(rt; told.rows.as_slice().len(), 10_006);
+    Ok(())
+}
