@@ -11,3 +11,4 @@ pub mod Kept
 pub mod Moving
 pub mod Signed
 pub mod Telling
+pub mod Weighed

@@ -5,6 +5,7 @@ pub mod Picking
 pub mod Counting
 pub mod Adding
 pub mod Judging
+pub mod Weighing
 pub mod View
 pub mod Steps
 pub mod Keeping

@@ -5,6 +5,7 @@ ghost use Rattle.book_words.specs.Answers.{answer, IsLegal};
 ghost use Rattle.book_words.specs.Balance.{IsBalanced, MovesOnly, EachMoves};
 ghost use Rattle.book_words.specs.Told.{IsReplyInRange};
 ghost use Rattle.book_core.specs.Judging.{HasItsSignal};
+ghost use Rattle.book_core.specs.Weighing.{AllHaveTares};
 ghost use Rattle.book_core.specs.Steps.{step_for, GivesUnlessNoMemory, made_ready, handed_on, IsErrorInRange};
 
 use crate::ready::Ready;
@@ -137,12 +138,14 @@ impl Book {
         self.entries.len() as u32
     }
 
-    /// The rows. They are legal, their piles add up, and each of them moves the packs only as it may.
+    /// The rows. They are legal, their piles add up, and each of them moves the packs only as it may. Each reading has a
+    /// tare on its day, and its batch's product a nominal quantity.
     pub fn rows(self) -> Rows
         ensures rows { result ≡ self.entries }
         ensures legal { IsLegal result }
         ensures balanced { IsBalanced result }
         ensures moves { EachMoves result }
+        ensures weighed { AllHaveTares result }
     {
         Rows::new(self.entries)
     }

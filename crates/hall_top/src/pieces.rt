@@ -2,6 +2,7 @@ ghost use Rattle.std.specs.Prelude.{◌≡◌, ◌+◌, ◌<◌, ◌≤◌, ◌^
 ghost use Rattle.std.specs.Io.KnownBytes.{Consumes};
 ghost use Rattle.book_words.specs.Answers.{IsLegal};
 ghost use Rattle.book_words.specs.Balance.{IsBalanced, EachMoves};
+ghost use Rattle.book_core.specs.Weighing.{AllHaveTares};
 ghost use Rattle.hall_top.specs.declared.run.Run.{Run};
 ghost use Rattle.hall_top.specs.Texts.{read_fault};
 ghost use Rattle.hall_top.specs.Transcript.{BookState, new_book};
@@ -109,6 +110,7 @@ pub fn run<S: Source, K: Sink>(alloc: Global, input: &mut S, output: &mut K) -> 
     ensures legal { IsLegal result.rows }
     ensures balanced { IsBalanced result.rows }
     ensures moves { EachMoves result.rows }
+    ensures weighed { AllHaveTares result.rows }
 {
     let Ok(mut run) = Run::new(alloc) else {
         return out_of_memory(alloc, output);

@@ -29,6 +29,7 @@ impl Run {
     ghost use Rattle.std.specs.Prelude.{◌≡◌, [], IfOk};
     ghost use Rattle.book_words.specs.Answers.{IsLegal, most_rows};
     ghost use Rattle.book_words.specs.Balance.{IsBalanced, EachMoves};
+    ghost use Rattle.book_core.specs.Weighing.{AllHaveTares};
 
     /// A run that has taken nothing, with room for all that it keeps but the entries of its book.
     pub fn new(alloc: Global) -> Result<Run, NoMemory>
@@ -51,6 +52,7 @@ impl Run {
         ensures legal { IsLegal result }
         ensures balanced { IsBalanced result }
         ensures moves { EachMoves result }
+        ensures weighed { AllHaveTares result }
     {
         self.book.rows()
     }

@@ -2,6 +2,7 @@ ghost use Rattle.std.specs.Prelude.{◌≡◌, ◌≢◌, ◌↔◌, ◌⊎◌, 
 ghost use Rattle.counts_and_texts.specs.Count.{Calm, Counted};
 ghost use Rattle.book_words.specs.Answers.{IsLegal};
 ghost use Rattle.book_words.specs.Balance.{IsBalanced, EachMoves};
+ghost use Rattle.book_core.specs.Weighing.{AllHaveTares};
 ghost use Rattle.hall_top.specs.declared.stop.Stop.TheVariants as stop;
 ghost use Rattle.hall_top.specs.Words.{asks_to_run};
 ghost use Rattle.hall_top.specs.Script.{lines_in, all_good};
@@ -73,10 +74,11 @@ pub fn hall<S: Source, K: Sink>(
     ensures spent { result.status ≡ 12 → ReadsAreSpent new_book (streams (S.left input.old) (S.faults input.old) (K.held output.old) (K.faults output.old))
         (streams (S.left input.new) (S.faults input.new) (K.held output.new) (K.faults output.new)) result.rows }
 
-    // The rows are legal, and their piles add up and move only as they may.
+    // The rows are legal, their piles add up and move only as they may, and each reading has a tare and a nominal quantity.
     ensures legal { IsLegal result.rows }
     ensures balanced { IsBalanced result.rows }
     ensures moves { EachMoves result.rows }
+    ensures weighed { AllHaveTares result.rows }
 
     // A good script of fewer bytes than the reads, with no fault, gives the whole transcript, or there is no memory.
     ensures complete { asks_to_run words.now ≡ true → IfSome (S.left input.old) (λ script. all_good (lines_in script) ≡ true
