@@ -14,7 +14,7 @@ use Rattle.book_words.specs.declared.refusal.Refusal.{Refusal}
 use Rattle.book_words.specs.Answers.{answer, act_answer, reply_to}
 use Rattle.book_words.specs.Refusals.{refusal_of}
 use Rattle.book_words.specs.Signals.{signal_for}
-use Rattle.hall_top.specs.declared.command.Command.{Command}
+use Rattle.script_lines.specs.declared.command.Command.{Command}
 use Rattle.hall_top.specs.Run.{AreLeft}
 use Rattle.hall_top.specs.Transcript.{BookState, Exchange, want_at, answer_to, entry_of, left_by, after_command, after_commands, exchanges, row_in, row_told, StandsAsTold, StandsIn, StandOnce}
 

@@ -4,9 +4,9 @@ use Rattle.std.proofs.lemmas.Grind.{flat_map-append}
 use Rattle.std.proofs.KnownBytes.{Appends-nil, Appends-trans}
 use Rattle.counts_and_texts.specs.Count.{Counted}
 use Rattle.book_words.specs.declared.types.Entry.{Entry}
-use Rattle.hall_top.specs.declared.command.Command.{Command}
-use Rattle.hall_top.specs.declared.command.Line.{Line}
-use Rattle.hall_top.specs.declared.command.Line.TheVariants.{Nothing, Asks, Bad}
+use Rattle.script_lines.specs.declared.command.Command.{Command}
+use Rattle.script_lines.specs.declared.command.Line.{Line}
+use Rattle.script_lines.specs.declared.command.Line.TheVariants.{Nothing, Asks, Bad}
 use Rattle.hall_top.specs.declared.stop.Stop.{Stop}
 use Rattle.hall_top.specs.declared.stop.Stop.TheVariants.{Finished, BadLine, ReadFault, WriteFault, NoMemory, Spent}
 use Rattle.hall_top.specs.Texts.{answer_text, bad_line, no_memory}

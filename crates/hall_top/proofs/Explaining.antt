@@ -4,13 +4,13 @@ use Rattle.std.specs.Io.KnownBytes.{Consumes, IsAtEnd}
 use Rattle.std.proofs.KnownBytes.{Consumes-whole}
 use Rattle.counts_and_texts.specs.Count.{Counted}
 use Rattle.book_words.specs.declared.types.Entry.{Entry}
-use Rattle.hall_top.specs.declared.command.Command.{Command}
-use Rattle.hall_top.specs.declared.command.Line.{Line}
-use Rattle.hall_top.specs.declared.command.Line.TheVariants.{Nothing, Asks, Bad}
+use Rattle.script_lines.specs.declared.command.Command.{Command}
+use Rattle.script_lines.specs.declared.command.Line.{Line}
+use Rattle.script_lines.specs.declared.command.Line.TheVariants.{Nothing, Asks, Bad}
 use Rattle.hall_top.specs.declared.run.Run.{Run}
 use Rattle.hall_top.specs.declared.stop.Stop.{Stop}
 use Rattle.hall_top.specs.declared.stop.Stop.TheVariants.{Finished, BadLine, ReadFault, WriteFault, NoMemory, Spent}
-use Rattle.hall_top.specs.Script.{lines_in, all_good}
+use Rattle.script_lines.specs.Script.{lines_in, all_good}
 use Rattle.hall_top.specs.Transcript.{BookState}
 use Rattle.hall_top.specs.Streams.{Stream, Streams}
 use Rattle.hall_top.specs.Run.{StopsAt, StopsIn, HasLine, StopsWithin, IsDone, Explains, status_of}

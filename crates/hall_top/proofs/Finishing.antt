@@ -5,7 +5,7 @@ use Rattle.book_words.specs.Answers.{summary}
 use Rattle.book_core.specs.View.{BookView}
 use Rattle.hall_top.specs.declared.run.Run.{Run}
 use Rattle.hall_top.specs.Texts.{summary_text}
-use Rattle.hall_top.specs.Script.{lines_in, commands_of}
+use Rattle.script_lines.specs.Script.{lines_in, commands_of}
 use Rattle.hall_top.specs.Transcript.{BookState, after_commands, answers}
 use Rattle.hall_top.specs.Streams.{Stream, WroteAll, IsCutIn}
 use Rattle.hall_top.specs.Run.{IsDone, IsDoneButCut}

@@ -1,10 +1,8 @@
-pub mod LineLists
 pub mod ScriptLines
 pub mod BookAnswers
 pub mod Acknowledged
 pub mod Answering
 pub mod Stepping
-pub mod FrontWords
 pub mod Finishing
 pub mod Printed
 pub mod Explaining

@@ -4,12 +4,12 @@ use Rattle.std.proofs.lemmas.Bool.Decides.{nat_tests}
 use Rattle.std.proofs.lemmas.List.{length_push, map-append}
 use Rattle.std.proofs.lemmas.List.Elements.{filter_map-append}
 use Rattle.std.specs.Str.Lines.{strip_carriage_return}
-use Rattle.hall_top.specs.declared.command.Line.{Line}
-use Rattle.hall_top.specs.declared.command.Line.TheVariants.{Bad}
-use Rattle.hall_top.specs.Lines.{ended_lines, rest_of, last_line}
-use Rattle.hall_top.specs.Script.{words_say, words_of, line_says, ended_says, last_says, ended_in, lines_in, is_good, all_good, asked, commands_of}
+use Rattle.script_lines.specs.declared.command.Line.{Line}
+use Rattle.script_lines.specs.declared.command.Line.TheVariants.{Bad}
+use Rattle.script_lines.specs.Lines.{ended_lines, rest_of, last_line}
+use Rattle.script_lines.specs.Script.{words_say, words_of, line_says, ended_says, last_says, ended_in, lines_in, is_good, all_good, asked, commands_of}
 use Rattle.hall_top.specs.Run.{HasLine}
-use Rattle.hall_top.proofs.LineLists.{ended_after, rest_after, last_line_is, ended_lines-append, rest_of-append, ended_with_end, rest_with_end, ended_with_other, rest_with_other}
+use Rattle.script_lines.proofs.LineLists.{ended_after, rest_after, last_line_is, ended_lines-append, rest_of-append, ended_with_end, rest_with_end, ended_with_other, rest_with_other}
 
 -- the lines behind those that have ended, where the first of them has begun so
 abbrev pub lines_behind : List ℕ → List ℕ → List Line

@@ -3,16 +3,16 @@ use Rattle.std.proofs.Common.{◌≡◌, ℕ, ◌+◌, ◌<◌, true, false, Lis
 use Rattle.std.proofs.lemmas.List.{length_push, length-map}
 use Rattle.book_words.specs.declared.types.Entry.{Entry}
 use Rattle.book_core.specs.View.{BookView}
-use Rattle.hall_top.specs.declared.command.Line.{Line}
+use Rattle.script_lines.specs.declared.command.Line.{Line}
 use Rattle.hall_top.specs.declared.run.Run.{Run}
 use Rattle.hall_top.specs.declared.stop.Stop.{Stop}
-use Rattle.hall_top.specs.Lines.{ended_lines, rest_of}
-use Rattle.hall_top.specs.Script.{ended_says, last_says, ended_in, lines_in, is_good, all_good, commands_of}
+use Rattle.script_lines.specs.Lines.{ended_lines, rest_of}
+use Rattle.script_lines.specs.Script.{ended_says, last_says, ended_in, lines_in, is_good, all_good, commands_of}
 use Rattle.hall_top.specs.Transcript.{BookState}
 use Rattle.hall_top.specs.Streams.{Stream}
 use Rattle.hall_top.specs.Run.{StopsAt, StopsIn, HasLine}
 use Rattle.hall_top.specs.Reached.{book_state, HasAnswered, Reached, GoesOn, StopsOver, StopsAfter, IsWholeSoFar}
-use Rattle.hall_top.proofs.LineLists.{ended_with_end, rest_with_end, ended_with_other, rest_with_other}
+use Rattle.script_lines.proofs.LineLists.{ended_with_end, rest_with_end, ended_with_other, rest_with_other}
 use Rattle.hall_top.proofs.ScriptLines.{ended_in_with_end, ended_in_with_other, commands_of-push, all_good-push, line_last_is, lines_ended}
 use Rattle.hall_top.proofs.Answering.{answered_more, stops_behind}
 

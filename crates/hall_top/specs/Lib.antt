@@ -1,5 +1,3 @@
-pub mod Lines
-pub mod Script
 pub mod Texts
 pub mod Transcript
 pub mod Streams

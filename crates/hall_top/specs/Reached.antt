@@ -8,12 +8,12 @@ use Rattle.book_core.specs.View.{BookView}
 use Rattle.book_core.specs.Steps.{handed_on}
 use Rattle.book_core.specs.declared.types.BookError.{BookError}
 use Rattle.book_core.specs.declared.types.BookError.TheVariants as error
-use Rattle.hall_top.specs.declared.command.Command.{Command}
+use Rattle.script_lines.specs.declared.command.Command.{Command}
 use Rattle.hall_top.specs.declared.run.Run.{Run}
 use Rattle.hall_top.specs.declared.stop.Stop.{Stop}
 use Rattle.hall_top.specs.declared.stop.Stop.TheVariants.{Finished, BadLine, WriteFault, NoMemory}
-use Rattle.hall_top.specs.Lines.{ended_lines, rest_of}
-use Rattle.hall_top.specs.Script.{ended_in, lines_in, all_good, commands_of}
+use Rattle.script_lines.specs.Lines.{ended_lines, rest_of}
+use Rattle.script_lines.specs.Script.{ended_in, lines_in, all_good, commands_of}
 use Rattle.hall_top.specs.Texts.{no_memory}
 use Rattle.hall_top.specs.Transcript.{BookState, after_commands, row_told, answers}
 use Rattle.hall_top.specs.Streams.{Stream, Streams, WroteAll, IsCutIn}

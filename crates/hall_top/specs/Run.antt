@@ -4,13 +4,13 @@ use Rattle.std.specs.Io.KnownBytes.{Consumes, IsAtEnd}
 use Rattle.counts_and_texts.specs.Count.{Counted}
 use Rattle.book_words.specs.declared.types.Entry.{Entry}
 use Rattle.book_words.specs.Answers.{summary}
-use Rattle.hall_top.specs.declared.command.Command.{Command}
-use Rattle.hall_top.specs.declared.command.Line.{Line}
-use Rattle.hall_top.specs.declared.command.Line.TheVariants.{Asks, Bad}
+use Rattle.script_lines.specs.declared.command.Command.{Command}
+use Rattle.script_lines.specs.declared.command.Line.{Line}
+use Rattle.script_lines.specs.declared.command.Line.TheVariants.{Asks, Bad}
 use Rattle.hall_top.specs.declared.stop.Stop.{Stop}
 use Rattle.hall_top.specs.declared.stop.Stop.TheVariants.{Finished, BadLine, ReadFault, WriteFault, NoMemory, Spent}
-use Rattle.hall_top.specs.Lines.{rest_of}
-use Rattle.hall_top.specs.Script.{ended_in, lines_in, all_good, commands_of}
+use Rattle.script_lines.specs.Lines.{rest_of}
+use Rattle.script_lines.specs.Script.{ended_in, lines_in, all_good, commands_of}
 use Rattle.hall_top.specs.Texts.{answer_text, summary_text, bad_line, read_fault, no_memory}
 use Rattle.hall_top.specs.Transcript.{BookState, answer_to, after_commands, row_told, answers, transcript, StandOnce}
 use Rattle.hall_top.specs.Streams.{Stream, Streams, WroteAll, IsCutIn, Wrote}

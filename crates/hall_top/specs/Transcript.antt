@@ -15,8 +15,8 @@ use Rattle.book_words.specs.declared.types.Answered.{Answered}
 use Rattle.book_words.specs.declared.types.Refused.{Refused}
 use Rattle.book_words.specs.Refusals.{has_unsettled}
 use Rattle.book_words.specs.Answers.{answer, entry_for, summary, most_rows}
-use Rattle.hall_top.specs.declared.command.Command.{Command}
-use Rattle.hall_top.specs.declared.command.Command.TheVariants as command
+use Rattle.script_lines.specs.declared.command.Command.{Command}
+use Rattle.script_lines.specs.declared.command.Command.TheVariants as command
 use Rattle.hall_top.specs.Texts.{answer_text, summary_text}
 
 -- a book at one moment: the most rows that it may have, and its entries

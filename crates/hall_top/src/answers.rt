@@ -1,6 +1,6 @@
 ghost use Rattle.std.specs.Prelude.{◌≡◌, ◌+◌, ◌<◌, ◌^◌, true, [], ◌∷◌, OnOk, OnErr, IfErr, IsSome};
-ghost use Rattle.hall_top.specs.declared.command.Line.TheVariants as line;
-ghost use Rattle.hall_top.specs.Script.{is_good, commands_of};
+ghost use Rattle.script_lines.specs.declared.command.Line.TheVariants as line;
+ghost use Rattle.script_lines.specs.Script.{is_good, commands_of};
 ghost use Rattle.hall_top.specs.Texts.{answer_text};
 ghost use Rattle.hall_top.specs.Transcript.{answer_to, after_command, row_told};
 ghost use Rattle.hall_top.specs.Streams.{stream};
@@ -8,12 +8,12 @@ ghost use Rattle.hall_top.specs.Run.{StopsAt};
 ghost use Rattle.hall_top.specs.Reached.{book_state, HasAnswered, SaysNoMemory};
 
 use crate::asking::ask;
-use crate::command::{Command, Line};
 use crate::run::Run;
 use crate::stop::Stop;
 use crate::texts::{push_bad_line, push_refused, push_reply};
 use book_core::BookError;
 use disk_core::{NoMemory, Sink, write_all};
+use script_lines::{Command, Line};
 use std::alloc::AllocError;
 
 // Asks the book a command and makes the text of its answer.

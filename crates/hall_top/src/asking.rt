@@ -6,9 +6,9 @@ ghost use Rattle.book_core.specs.Steps.{IsErrorInRange};
 ghost use Rattle.hall_top.specs.Transcript.{prior_at, want_at, left_by, answer_to, after_command};
 ghost use Rattle.hall_top.specs.Reached.{book_state, GivesAnswer, Becomes};
 
-use crate::command::Command;
 use book_core::{Book, BookError, Step};
 use book_words::{Act, Answered, Prior, Want};
+use script_lines::Command;
 
 /// The number that the entries of a script bear.
 const SCRIPT: u16 = 0;

@@ -3,11 +3,10 @@ ghost use Rattle.hall_top.specs.Streams.{stream};
 ghost use Rattle.hall_top.specs.Reached.{Steps};
 
 use crate::answers::judge;
-use crate::command::Line;
-use crate::run::{LONGEST_LINE, Run};
-use crate::script::read_ended_line;
+use crate::run::Run;
 use crate::stop::Stop;
 use disk_core::Sink;
+use script_lines::{LONGEST_LINE, Line, read_ended_line};
 
 // Judges the line that has begun, whose LF was read.
 fn end_line<K: Sink>(run: &mut Run, output: &mut K) -> Result<(), Stop>

@@ -8,11 +8,11 @@ ghost use Rattle.hall_top.specs.Reached.{Reached, IsWholeSoFar, EndsSo};
 
 use crate::answers::judge;
 use crate::run::Run;
-use crate::script::read_last_line;
 use crate::stop::Stop;
 use crate::texts::push_reply;
 use book_words::Question;
 use disk_core::{Sink, write_all};
+use script_lines::read_last_line;
 
 // Judges a last line that lacks its LF, where there is one.
 fn finish_line<K: Sink>(run: &mut Run, output: &mut K) -> Result<(), Stop>

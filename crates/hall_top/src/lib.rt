@@ -3,16 +3,11 @@
 
 mod answers;
 mod asking;
-mod command;
 mod feed;
 mod finish;
-mod line_words;
 mod pieces;
 mod refusal_texts;
 mod run;
-mod script;
-#[cfg(test)]
-mod script_tests;
 mod stop;
 #[cfg(test)]
 mod tests;
@@ -23,6 +18,5 @@ mod told;
 mod top;
 mod words;
 
-pub use command::{Command, Line};
 pub use told::Told;
 pub use top::hall;

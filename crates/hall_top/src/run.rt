@@ -1,14 +1,12 @@
 ghost use Rattle.std.specs.Prelude.{◌≡◌, ◌≤◌, vec_len, vec_capacity};
-ghost use Rattle.hall_top.specs.declared.run.TheConstants.{LONGEST_LINE};
+ghost use Rattle.script_lines.specs.declared.script.TheConstants.{LONGEST_LINE};
 ghost use Rattle.hall_top.specs.declared.texts.TheConstants.{LONGEST_TEXT};
 
 use crate::texts::LONGEST_TEXT;
 use book_core::{Book, Rows};
 use disk_core::NoMemory;
+use script_lines::LONGEST_LINE;
 use std::alloc::Global;
-
-/// A line of a script has at most so many bytes, its CR among them and its LF not.
-pub const LONGEST_LINE: usize = 200;
 
 /// A book may have so many rows.
 const MOST_ROWS: u32 = 1_000_000;

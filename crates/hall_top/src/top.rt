@@ -5,7 +5,7 @@ ghost use Rattle.book_words.specs.Balance.{IsBalanced, EachMoves};
 ghost use Rattle.book_core.specs.Weighing.{AllHaveTares};
 ghost use Rattle.hall_top.specs.declared.stop.Stop.TheVariants as stop;
 ghost use Rattle.hall_top.specs.Words.{asks_to_run};
-ghost use Rattle.hall_top.specs.Script.{lines_in, all_good};
+ghost use Rattle.script_lines.specs.Script.{lines_in, all_good};
 ghost use Rattle.hall_top.specs.Texts as texts;
 ghost use Rattle.hall_top.specs.Transcript.{new_book};
 ghost use Rattle.hall_top.specs.Streams.{stream, streams, Wrote};

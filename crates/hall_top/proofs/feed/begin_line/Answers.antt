@@ -1,7 +1,7 @@
 use Rattle.std.proofs.Common.{◌≡◌, ◌≢◌, ◌<◌, ℕ, false, eqb, cond, Result, is_ok, length, [], ◌∷◌, ◌++◌, ap, ◌∙◌, arith, refl}
 use Rattle.std.proofs.lemmas.Bool.Decides.{nat_tests}
 use Rattle.std.proofs.lemmas.Result.{err_from_is_err_and}
-use Rattle.hall_top.specs.Lines.{rest_of}
+use Rattle.script_lines.specs.Lines.{rest_of}
 use Rattle.hall_top.proofs.ScriptLines.{line_too_long, line_too_long_last}
 use Rattle.hall_top.proofs.Stepping.{reached_more, stops_over_line}
 use Rattle.hall_top.proofs.feed.begin_line.Goals as goal

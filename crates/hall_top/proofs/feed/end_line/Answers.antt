@@ -1,6 +1,6 @@
 use Rattle.std.proofs.Common.{◌+◌, [], ◌∷◌, refl, ap, ◌∙◌, arith}
 use Rattle.std.proofs.lemmas.Result.{err_from_is_err_and}
-use Rattle.hall_top.specs.Script.{ended_says}
+use Rattle.script_lines.specs.Script.{ended_says}
 use Rattle.hall_top.proofs.ScriptLines.{line_ended, line_ended_last}
 use Rattle.hall_top.proofs.Stepping.{reached_end, stops_over_line}
 use Rattle.hall_top.proofs.feed.end_line.Goals as goal

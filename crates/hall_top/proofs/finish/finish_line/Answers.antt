@@ -1,8 +1,8 @@
 use Rattle.std.proofs.Common.{◌≡◌, ◌<◌, ℕ, Bool, true, false, eqb, [], ◌∷◌, List, refl, length, ap, sym, ◌∙◌, arith}
 use Rattle.std.proofs.lemmas.Result.{err_from_is_err_and}
 use Rattle.std.proofs.lemmas.Bool.Decides.{nat_tests}
-use Rattle.hall_top.specs.Lines.{rest_of}
-use Rattle.hall_top.specs.Script.{last_says}
+use Rattle.script_lines.specs.Lines.{rest_of}
+use Rattle.script_lines.specs.Script.{last_says}
 use Rattle.hall_top.proofs.ScriptLines.{line_last_is}
 use Rattle.hall_top.proofs.Stepping.{whole_ended, whole_last, stops_at_line}
 use Rattle.hall_top.proofs.finish.finish_line.Goals as goal

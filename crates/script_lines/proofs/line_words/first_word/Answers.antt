@@ -1,8 +1,8 @@
 use Rattle.std.proofs.Common.{◌≡◌, ◌<◌, length, drop, arith, rules}
 use Rattle.std.specs.List.{prefix_len}
-use Rattle.hall_top.specs.Script.{is_blank}
-use Rattle.hall_top.proofs.FrontWords.{words_of-wordless, words_of-first}
-use Rattle.hall_top.proofs.line_words.first_word.Goals as goal
+use Rattle.script_lines.specs.Script.{is_blank}
+use Rattle.script_lines.proofs.FrontWords.{words_of-wordless, words_of-first}
+use Rattle.script_lines.proofs.line_words.first_word.Goals as goal
 
 pub returns-then-is_empty : goal.returns-then-is_empty
 returns-then-is_empty c =

@@ -1,6 +1,6 @@
 ghost use Rattle.std.specs.Prelude.{◌≡◌, ◌≤◌, ◌∷◌, [], false, length, MatchOption};
 ghost use Rattle.std.specs.List.{prefix_len, position_or_len};
-ghost use Rattle.hall_top.specs.Script.{is_blank, words_of, is_one_word};
+ghost use Rattle.script_lines.specs.Script.{is_blank, words_of, is_one_word};
 
 /// The first word of a line and what stands behind it, where there is a word.
 pub fn first_word(line: &[u8]) -> Option<(&[u8], &[u8])>

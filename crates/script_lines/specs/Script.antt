@@ -13,11 +13,11 @@ use Rattle.book_words.specs.declared.types.Act.TheVariants.{NewDay, PutProduct, 
 use Rattle.book_words.specs.declared.types.Question.TheVariants.{Summary}
 use Rattle.book_words.specs.declared.types.Want.TheVariants as want
 use Rattle.book_words.specs.Names.{name_of}
-use Rattle.hall_top.specs.declared.command.Command.{Command}
-use Rattle.hall_top.specs.declared.command.Command.TheVariants as command
-use Rattle.hall_top.specs.declared.command.Line.{Line}
-use Rattle.hall_top.specs.declared.command.Line.TheVariants.{Nothing, Asks, Bad}
-use Rattle.hall_top.specs.Lines.{ended_lines, rest_of, last_line}
+use Rattle.script_lines.specs.declared.command.Command.{Command}
+use Rattle.script_lines.specs.declared.command.Command.TheVariants as command
+use Rattle.script_lines.specs.declared.command.Line.{Line}
+use Rattle.script_lines.specs.declared.command.Line.TheVariants.{Nothing, Asks, Bad}
+use Rattle.script_lines.specs.Lines.{ended_lines, rest_of, last_line}
 
 -- a space or a tab
 abbrev pub is_blank : ℕ → Bool

@@ -1,7 +1,7 @@
 -- Lemmas on the lines of a text that goes on.
 use Rattle.std.proofs.Common.{◌≡◌, ℕ, ◌<◌, Bool, true, false, ◌||◌, ◌==◌, if◌then◌else◌, List, [], ◌∷◌, ◌++◌, length, cond, eqb, refl, sym, ap, ◌∙◌, arith, append_assoc, append-nil}
 use Rattle.std.specs.List.{list_any}
-use Rattle.hall_top.specs.Lines.{onto_ended, ended_lines, rest_of, last_line}
+use Rattle.script_lines.specs.Lines.{onto_ended, ended_lines, rest_of, last_line}
 
 -- the lines that end in LF, where the first has begun so
 abbrev pub ended_after : List ℕ → List ℕ → List (List ℕ)

@@ -1,12 +1,14 @@
 ghost use Rattle.std.specs.Prelude.{◌≡◌};
-ghost use Rattle.hall_top.specs.Script.{ended_says, last_says, line_says, words_say, words_of, name_in, lane_in, command_by, is_comment, day_line, product_line, tare_line, open_line, start_line, weigh_line, stop_line, summary_line};
+ghost use Rattle.script_lines.specs.Script.{ended_says, last_says, line_says, words_say, words_of, name_in, lane_in, command_by, is_comment, day_line, product_line, tare_line, open_line, start_line, weigh_line, stop_line, summary_line};
 
 use crate::command::{Command, Line};
 use crate::line_words::{first_word, last_word};
-use crate::run::LONGEST_LINE;
 use book_words::{Act, Name, Question, Want};
 use counts_and_texts::read_number_within;
 use hall_units::{read_day, read_grams};
+
+/// A line of a script has at most so many bytes, its CR among them and its LF not.
+pub const LONGEST_LINE: usize = 200;
 
 /// The greatest number of digits of the number of a lane.
 const LANE_DIGITS: usize = 20;

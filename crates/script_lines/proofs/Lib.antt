@@ -1,0 +1,2 @@
+pub mod FrontWords
+pub mod LineLists
