@@ -14,8 +14,8 @@ use Rattle.book_words.specs.Acts.{newest_day, started_for}
 use Rattle.book_words.specs.Readings.{limits_in, net_from, readings_among}
 use Rattle.book_words.specs.Piles.{population_among, count_below}
 use Rattle.book_words.specs.Signals.{followed_by, signal_for}
-use Rattle.book_core.specs.declared.counters.Population.{Population}
-use Rattle.book_core.specs.Counting.{CountsOf}
+use Rattle.book_walks.specs.declared.counters.Population.{Population}
+use Rattle.book_walks.specs.Counting.{CountsOf}
 use Rattle.book_core.specs.Judging.{signal_by}
 
 -- the signal by the counters is that by the population that they stand for

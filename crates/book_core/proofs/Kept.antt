@@ -33,8 +33,8 @@ use Rattle.book_words.specs.Answers.{IsLawful, IsLegal, IsLegalBehind, summary, 
 use Rattle.book_core.specs.declared.types.BookError.{BookError}
 use Rattle.book_core.specs.View.{ReadyEntry}
 use Rattle.book_core.specs.Keeping.{IsKept, IsRoomFor}
-use Rattle.book_core.specs.Ranges.{is_in_range, AllInRange}
-use Rattle.book_core.specs.Picking.{counts_for}
+use Rattle.book_walks.specs.Ranges.{is_in_range, AllInRange}
+use Rattle.book_walks.specs.Picking.{counts_for}
 use Rattle.book_core.specs.Judging.{IsLimitedIn}
 use Rattle.book_core.proofs.Onward.{advance, own_reading, readings-push, readings_among-push, population_onward}
 

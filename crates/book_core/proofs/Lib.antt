@@ -1,10 +1,3 @@
-pub mod Said
-pub mod Seeing
-pub mod Rest
-pub mod Latest
-pub mod Decided
-pub mod Counted
-pub mod Added
 pub mod Judged
 pub mod Onward
 pub mod Kept

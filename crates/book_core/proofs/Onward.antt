@@ -16,7 +16,7 @@ use Rattle.book_words.specs.declared.types.Reading.{Reading}
 use Rattle.book_words.specs.Acts.{said, first_said, prior_in, newest_day, started_for}
 use Rattle.book_words.specs.Readings.{reading_from, reading_at, readings_among, readings, is_of_batch}
 use Rattle.book_words.specs.Piles.{pile_by, pile_of, is_counted}
-use Rattle.book_core.specs.Picking.{counts_for}
+use Rattle.book_walks.specs.Picking.{counts_for}
 
 -- a reading once an act came after it
 abbrev pub advance : Act → Reading → Reading

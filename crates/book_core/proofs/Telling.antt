@@ -17,8 +17,8 @@ use Rattle.book_words.specs.Acts.{said, day_in, newest_day, product_of, state_of
 use Rattle.book_words.specs.Refusals.{refused_if, first_refusal, is_within, is_running, refusals_of, refusal_of, not_running, no_tare, prior_wrong}
 use Rattle.book_words.specs.Tares.{tare_of}
 use Rattle.book_words.specs.Told.{IsRefusalInRange}
-use Rattle.book_core.specs.Ranges.{is_in_range, AllInRange}
-use Rattle.book_core.proofs.Said.{last_or-cons}
+use Rattle.book_walks.specs.Ranges.{is_in_range, AllInRange}
+use Rattle.book_walks.proofs.Said.{last_or-cons}
 
 -- a day within its limits
 abbrev DayInRange : ℤ → Type 0

@@ -21,8 +21,8 @@ use Rattle.book_words.specs.Readings.{readings, reading_from, tare_at}
 use Rattle.book_words.specs.Refusals.{refused_if, refusal_by_rule, day_unset, day_back, product_unknown, name_shape, batch_known, batch_unknown, not_running, lane_number, lane_busy, lane_idle, no_tare}
 use Rattle.book_words.specs.Answers.{IsLegalBehind, IsLegal}
 use Rattle.book_core.specs.Weighing.{has_tare_and_nominal, AllHaveTares}
-use Rattle.book_core.proofs.Said.{last_or-cons, last_said-push}
-use Rattle.book_core.proofs.Latest.{none_greater, latest-append, latest_nothing}
+use Rattle.book_walks.proofs.Said.{last_or-cons, last_said-push}
+use Rattle.book_walks.proofs.Latest.{none_greater, latest-append, latest_nothing}
 use Rattle.book_core.proofs.Kept.{same_name_is, none_of_two}
 use Rattle.book_core.proofs.Onward.{advance, readings-push}
 

@@ -3,7 +3,7 @@ use Rattle.std.specs.Prelude.{◌≡◌, ℕ, ◌+◌, ◌<◌, ◌≤◌, List,
 use Rattle.book_words.specs.declared.types.Entry.{Entry}
 use Rattle.book_words.specs.Answers.{IsLawful, IsLegal}
 use Rattle.book_words.specs.Refusals.{refusal_of}
-use Rattle.book_core.specs.Ranges.{AllInRange}
+use Rattle.book_walks.specs.Ranges.{AllInRange}
 use Rattle.book_core.specs.Judging.{IsLimitedIn}
 use Rattle.book_core.specs.View.{ReadyEntry}
 

@@ -1,9 +1,3 @@
-pub mod Sight
-pub mod Ranges
-pub mod Deciding
-pub mod Picking
-pub mod Counting
-pub mod Adding
 pub mod Judging
 pub mod Weighing
 pub mod View

@@ -11,7 +11,8 @@ ghost use Rattle.book_core.specs.Steps.{step_for, GivesUnlessNoMemory, made_read
 use crate::ready::Ready;
 use crate::rows::Rows;
 use crate::types::{BookError, NoMemory, Step};
-use crate::{growth, rules, summaries, unsettled};
+use crate::{growth, rules};
+use book_walks::{summaries, unsettled};
 use book_words::{Act, Answered, Entry, Question, Refused, Reply};
 use std::alloc::Global;
 use std::marker::Model;

@@ -3,8 +3,8 @@ ghost use Rattle.std.specs.List.{list_all};
 ghost use Rattle.book_words.specs.Names.{bytes_of, is_name_byte, is_name_shape};
 ghost use Rattle.book_words.specs.Refusals.{refused_if, is_within, book_full, day_unset, day_back, product_known, product_unknown, name_shape, nominal_range, day_range, batch_known, batch_unknown, not_running, lane_number, lane_busy, lane_idle, no_tare, gross_range, prior_wrong, tare_range};
 
-use crate::unsettled::has_unsettled;
-use crate::{acts, tares};
+use book_walks::unsettled::has_unsettled;
+use book_walks::{acts, tares};
 use book_words::{BatchState, Entry, Name, Prior, Refusal};
 
 // A refusal where a test holds.

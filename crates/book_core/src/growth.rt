@@ -1,6 +1,6 @@
 ghost use Rattle.std.specs.Prelude.{◌≡◌, ◌+◌, ◌<◌, ◌≤◌, [], ◌∷◌, ◌++◌, length, vec_len, vec_capacity, true, IfOk, OnOk};
 ghost use Rattle.book_words.specs.Signals.{signal_for};
-ghost use Rattle.book_core.specs.Ranges.{AllInRange, is_in_range};
+ghost use Rattle.book_walks.specs.Ranges.{AllInRange, is_in_range};
 ghost use Rattle.book_core.specs.Judging.{IsLimitedIn};
 
 use crate::signals;

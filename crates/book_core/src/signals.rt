@@ -7,12 +7,12 @@ ghost use Rattle.book_words.specs.Acts.{nominal_of, product_of, newest_day, star
 ghost use Rattle.book_words.specs.Readings.{limits_in, net_from, readings_among};
 ghost use Rattle.book_words.specs.Piles.{population_among, count_below};
 ghost use Rattle.book_words.specs.Signals.{followed_by, signal_for, signal_in};
-ghost use Rattle.book_core.specs.Ranges.{AllInRange, is_in_range};
+ghost use Rattle.book_walks.specs.Ranges.{AllInRange, is_in_range};
 ghost use Rattle.book_core.specs.Judging.{signal_by, IsLimitedIn};
 
-use crate::acts;
-use crate::population::{population, tare_on_day};
 use annex_tables::Limits;
+use book_walks::acts;
+use book_walks::population::{population, tare_on_day};
 use book_words::{Act, Entry, Name};
 use pack_judge::{Signal, signal};
 

@@ -1,0 +1,53 @@
+-- A walk that passes one more entry.
+use Rattle.std.proofs.Common.{◌≡◌, ℕ, ℤ, ◌+◌, ◌<◌, List, length, take, drop, get_or, Option, Some, None, refl, sym, ◌∙◌, ap}
+use Rattle.std.proofs.lemmas.Option.{slice_get-get_or}
+use Rattle.std.specs.Option.{option_or, option_and_then}
+use Rattle.book_words.specs.declared.name.Name.{Name}
+use Rattle.pack_judge.specs.declared.types.Signal.{Signal}
+use Rattle.book_words.specs.declared.types.Prior.{Prior}
+use Rattle.book_words.specs.declared.types.Act.{Act}
+use Rattle.book_words.specs.declared.types.Act.TheVariants.{NewDay, PutProduct, PutTare, OpenBatch, StartLane, Weigh, StopLane}
+use Rattle.book_words.specs.declared.types.Entry.{Entry}
+use Rattle.book_words.specs.Acts.{day_in, started_in, newest_day, started_for, first_said, prior_in}
+use Rattle.book_words.specs.Readings.{reading_from, reading_at}
+use Rattle.book_walks.specs.declared.sight.Sight.{Sight}
+use Rattle.book_walks.specs.Sight.{Sees}
+use Rattle.book_walks.proofs.Said.{last_said_more}
+
+-- one more entry is seen
+pub sees_next : (entries : List Entry) (place : ℕ) (d : Entry) (old new : Sight) → place < length entries → Sees (take place entries) old
+    → new.day ≡ option_or (day_in (get_or entries place d).act) old.day
+    → ((lane : ℕ) (e : Option Name) → lane < 256 → get_or new.batches lane e ≡ option_or (started_in lane (get_or entries place d).act) (get_or old.batches lane e))
+    → Sees (take (place + 1) entries) new
+sees_next entries place d old new inside seen day batches =
+    record {
+      day = day ∙ ap (λ o. option_or (day_in (get_or entries place d).act) o) seen.day ∙ sym (last_said_more day_in entries place d inside);
+      batches = λ lane e h. batches lane e h ∙ ap (λ o. option_or (started_in lane (get_or entries place d).act) o) (seen.batches lane e h) ∙ sym (last_said_more (started_in lane) entries place d inside);
+    }
+
+-- the reading at a place where a weighing stands
+pub reading_here : (entries : List Entry) (place lane : ℕ) (gross : ℤ) (prior : Prior) (d : Entry) (day : Option ℤ) (batch : Option Name) (next : Option Prior) → place < length entries
+    → (get_or entries place d).act ≡ Weigh lane gross prior → day ≡ newest_day (take place entries) → batch ≡ started_for (take place entries) lane → next ≡ first_said (prior_in lane) (drop (place + 1) entries)
+    → Some (record { number = place + 1; lane = lane; gross = gross; signal = (get_or entries place d).signal; day = day; batch = batch; next = next }) ≡ reading_at entries place
+reading_here entries place lane gross prior d day batch next inside act day_is batch_is next_is =
+    let before = take place entries in
+    let after = drop (place + 1) entries in
+    let entry = get_or entries place d in
+    let said : Some (record { number = place + 1; lane = lane; gross = gross; signal = entry.signal; day = day; batch = batch; next = next }) ≡ reading_from (place + 1) before (Weigh lane gross prior) entry.signal after = rw (day_is, batch_is, next_is) refl in
+    said ∙ ap (λ (a : Act). reading_from (place + 1) before a entry.signal after) (sym act)
+    ∙ ap (option_and_then (λ (e : Entry). reading_from (place + 1) before e.act e.signal after)) (sym (slice_get-get_or entries place d inside))
+
+none_from : (number : ℕ) (before : List Entry) (act : Act) (signal : Option Signal) (after : List Entry) → ((lane : ℕ) (gross : ℤ) (prior : Prior) → act ≡ Weigh lane gross prior → ⊥) → None ≡ reading_from number before act signal after
+none_from number before (Weigh lane gross prior) signal after other = absurd (other lane gross prior refl)
+none_from number before (NewDay day) signal after other = refl
+none_from number before (PutProduct name nominal) signal after other = refl
+none_from number before (PutTare product day tare) signal after other = refl
+none_from number before (OpenBatch batch product) signal after other = refl
+none_from number before (StartLane lane batch) signal after other = refl
+none_from number before (StopLane lane prior) signal after other = refl
+
+-- there is no reading where another act stands
+pub no_reading_here : (entries : List Entry) (place : ℕ) (d : Entry) → place < length entries → ((lane : ℕ) (gross : ℤ) (prior : Prior) → (get_or entries place d).act ≡ Weigh lane gross prior → ⊥) → None ≡ reading_at entries place
+no_reading_here entries place d inside other =
+    none_from (place + 1) (take place entries) (get_or entries place d).act (get_or entries place d).signal (drop (place + 1) entries) other
+    ∙ ap (option_and_then (λ (e : Entry). reading_from (place + 1) (take place entries) e.act e.signal (drop (place + 1) entries))) (sym (slice_get-get_or entries place d inside))

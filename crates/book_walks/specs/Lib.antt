@@ -1,0 +1,6 @@
+pub mod Sight
+pub mod Ranges
+pub mod Deciding
+pub mod Picking
+pub mod Counting
+pub mod Adding
