@@ -1,7 +1,7 @@
 -- What is known of a journal where its disk tells.
 use Rattle.std.proofs.Common.{◌≡◌, ◌⊎◌, inl, inr, ⊎_elim, ℕ, Bool, true, false, not, Option, Some, None, is_some, List, [], ◌∷◌, ◌++◌, length, get_or, drop, refl, sym, ◌∙◌, ap, subst, arith}
 use Rattle.std.proofs.lemmas.List.{drop_more}
-use Rattle.counts_and_texts.specs.Known.{TellsAsBefore}
+use Rattle.device_facts.specs.Known.{TellsAsBefore}
 use Rattle.disk_core.specs.Disk.{WhereTold}
 use Rattle.book_journal.specs.Rows.{Recovers, rows_of, row_behind}
 use Rattle.book_journal.specs.Journal.{StandsAs, IsSound, RecoversOrHangs, ImagesKeepRows}

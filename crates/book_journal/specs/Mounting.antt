@@ -1,6 +1,6 @@
 -- What mounting a disk counts, and what it leaves of it.
 use Rattle.std.specs.Prelude.{◌≡◌, ◌⊎◌, ℕ, ◌*◌, ◌<◌, ◌≤◌, false, List, [], length, drop, Option, Some}
-use Rattle.counts_and_texts.specs.Count.{Counted}
+use Rattle.device_facts.specs.Count.{Counted}
 use Rattle.disk_core.specs.Disk.{AddsNoImage, Elapses, Only}
 use Rattle.book_journal.specs.Rows.{HasHeader, FirstDiffersAt, Recovers, open_rows, rows_of, starts_open}
 use Rattle.book_journal.specs.Journal.{StandsAs}

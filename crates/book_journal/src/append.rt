@@ -23,8 +23,8 @@ fn behind_gate(row: &[u8; ROW]) -> [u8; ROW]
 
 impl<D: Disk> Journal<D> {
     ghost use Rattle.std.specs.Prelude.{◌≡◌, ◌≢◌, ◌⊎◌, ◌+◌, ◌<◌, ◌≤◌, ℕ, List, [], ◌∷◌, ◌++◌, false, true, IfOk, OnOk, OnErr, slice_index};
-    ghost use Rattle.counts_and_texts.specs.Count.{CountsFault};
-    ghost use Rattle.counts_and_texts.specs.Known.{TellsAsBefore};
+    ghost use Rattle.device_facts.specs.Count.{CountsFault};
+    ghost use Rattle.device_facts.specs.Known.{TellsAsBefore};
     ghost use Rattle.disk_core.specs.Disk.{LeavesOnly};
     ghost use Rattle.book_journal.specs.Rows.{Recovers};
     ghost use Rattle.book_journal.specs.Journal.{disk_of, count_of, Hangs, IsSound, HasRows, HangsWith, RecoversOrHangs, ImagesKeepRows};

@@ -1,5 +1,5 @@
 ghost use Rattle.std.specs.Prelude.{◌≡◌, ◌⊎◌, ◌+◌, ◌-◌, ◌*◌, ◌≤◌, min, false, IfOk, length, drop};
-ghost use Rattle.counts_and_texts.specs.Count.{CountsFault};
+ghost use Rattle.device_facts.specs.Count.{CountsFault};
 ghost use Rattle.disk_core.specs.Disk.{WhereTold};
 ghost use Rattle.book_journal.specs.Rows.{open_rows, starts_open, rows_of, gate_behind};
 ghost use Rattle.book_journal.specs.Mounting.{IsUnmoved};

@@ -1,6 +1,6 @@
 ghost use Rattle.std.specs.Prelude.{◌≡◌, ℕ, ◌+◌, ◌-◌, ◌^◌, ◌<◌, ◌≤◌, ◌++◌, min, List, length, take, drop, Option, Some, IfOk, OnOk};
-ghost use Rattle.counts_and_texts.specs.Count.{CountsFault};
-ghost use Rattle.counts_and_texts.specs.Known.{TellsAsBefore};
+ghost use Rattle.device_facts.specs.Count.{CountsFault};
+ghost use Rattle.device_facts.specs.Known.{TellsAsBefore};
 ghost use Rattle.disk_core.specs.Disk.{WhereTold, Only, AddsNoImage, Elapses, Writes};
 
 use crate::types::Failed;

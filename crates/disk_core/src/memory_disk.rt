@@ -8,7 +8,7 @@ use crate::disk_types::Keep;
 use crate::overwrite::overwrite;
 use crate::source::fill_front;
 use crate::types::{Failed, NoMemory};
-use counts_and_texts::counted_once_more;
+use device_facts::counted_once_more;
 use std::alloc::Global;
 use std::marker::Model;
 
@@ -146,7 +146,7 @@ impl MemoryDisk {
     ghost use Rattle.disk_core.specs.declared.disk_call.DiskCall.TheVariants.{Looked, Wrote, Synced};
     ghost use Rattle.disk_core.specs.Disk.{AddsNoImage};
     ghost use Rattle.disk_core.specs.DiskLog.{read_after, stored, IsImage, GoesOn, number_of_next, fails_next};
-    ghost use Rattle.counts_and_texts.specs.Count.{Counted, CountsFault};
+    ghost use Rattle.device_facts.specs.Count.{Counted, CountsFault};
 
     // Tells whether the next call is to fail.
     fn is_listed(&self) -> bool

@@ -1,6 +1,6 @@
 use crate::sink::Sink;
 use crate::types::Failed;
-use counts_and_texts::counted_once_more;
+use device_facts::counted_once_more;
 use std::alloc::Global;
 use std::marker::Model;
 
@@ -50,8 +50,8 @@ impl MemorySink {
 impl Sink for MemorySink {
     ghost use Rattle.std.specs.Prelude.{◌≡◌, ◌<◌, ◌≤◌, length, IfOk, IsErr, Some, Contains};
     ghost use Rattle.std.specs.Io.KnownBytes.{WriteAppends};
-    ghost use Rattle.counts_and_texts.specs.Count.{CountsFault};
-    ghost use Rattle.counts_and_texts.specs.Known.{TellsAsBefore};
+    ghost use Rattle.device_facts.specs.Count.{CountsFault};
+    ghost use Rattle.device_facts.specs.Known.{TellsAsBefore};
     ghost use Rattle.disk_core.specs.Streams.{next_call};
 
     ghost held = { λ s. Some s.held };

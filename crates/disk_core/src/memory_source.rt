@@ -1,6 +1,6 @@
 use crate::source::{Source, fill_front};
 use crate::types::Failed;
-use counts_and_texts::counted_once_more;
+use device_facts::counted_once_more;
 use std::marker::Model;
 
 /// A source over bytes in memory, of which the calls with the numbers in a list fail, counted from 1.
@@ -46,8 +46,8 @@ impl MemorySource {
 impl Source for MemorySource {
     ghost use Rattle.std.specs.Prelude.{◌≡◌, ◌↔◌, ◌≤◌, length, IfOk, IsErr, Some, Contains};
     ghost use Rattle.std.specs.Io.KnownBytes.{ReadConsumes};
-    ghost use Rattle.counts_and_texts.specs.Count.{CountsFault};
-    ghost use Rattle.counts_and_texts.specs.Known.{TellsAsBefore};
+    ghost use Rattle.device_facts.specs.Count.{CountsFault};
+    ghost use Rattle.device_facts.specs.Known.{TellsAsBefore};
     ghost use Rattle.disk_core.specs.Streams.{next_call};
 
     ghost left = { λ s. Some s.left };

@@ -2,7 +2,7 @@ use crate::disk::Disk;
 use crate::overwrite::overwrite;
 use crate::source::fill_front;
 use crate::types::Failed;
-use counts_and_texts::counted_once_more;
+use device_facts::counted_once_more;
 use std::marker::Model;
 
 /// A disk over a buffer whose capacity is all the room that there is. It takes no memory and keeps no record of its
@@ -44,8 +44,8 @@ impl QuietDisk {
 
 impl Disk for QuietDisk {
     ghost use Rattle.std.specs.Prelude.{◌≡◌, ◌↔◌, ◌+◌, ◌^◌, ◌<◌, length, IsErr};
-    ghost use Rattle.counts_and_texts.specs.Count.{CountsFault};
-    ghost use Rattle.counts_and_texts.specs.Known.{TellsAsBefore};
+    ghost use Rattle.device_facts.specs.Count.{CountsFault};
+    ghost use Rattle.device_facts.specs.Known.{TellsAsBefore};
     ghost use Rattle.disk_core.specs.Disk.{WhereTold, Writes, Elapses};
     ghost use Rattle.disk_core.specs.QuietDisk.{NoImage, NoMoment, untold, asked_for, told_nothing};
 

@@ -1,6 +1,6 @@
 use crate::sink::Sink;
 use crate::types::Failed;
-use counts_and_texts::counted_once_more;
+use device_facts::counted_once_more;
 use std::marker::Model;
 
 /// A sink over a buffer whose capacity is all the room that there is. It takes no memory, and fails exactly at a
@@ -49,8 +49,8 @@ impl QuietSink {
 impl Sink for QuietSink {
     ghost use Rattle.std.specs.Prelude.{◌≡◌, ◌↔◌, ◌<◌, ◌≤◌, length, IfOk, IsErr, Some};
     ghost use Rattle.std.specs.Io.KnownBytes.{WriteAppends};
-    ghost use Rattle.counts_and_texts.specs.Count.{CountsFault};
-    ghost use Rattle.counts_and_texts.specs.Known.{TellsAsBefore};
+    ghost use Rattle.device_facts.specs.Count.{CountsFault};
+    ghost use Rattle.device_facts.specs.Known.{TellsAsBefore};
 
     ghost held = { λ s. Some s.held };
 

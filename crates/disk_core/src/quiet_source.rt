@@ -33,8 +33,8 @@ impl QuietSource {
 impl Source for QuietSource {
     ghost use Rattle.std.specs.Prelude.{◌≤◌, length, IfOk, IsOk, Some};
     ghost use Rattle.std.specs.Io.KnownBytes.{ReadConsumes};
-    ghost use Rattle.counts_and_texts.specs.Count.{CountsFault};
-    ghost use Rattle.counts_and_texts.specs.Known.{TellsAsBefore};
+    ghost use Rattle.device_facts.specs.Count.{CountsFault};
+    ghost use Rattle.device_facts.specs.Known.{TellsAsBefore};
 
     ghost left = { λ s. Some s };
 

@@ -1,7 +1,7 @@
 ghost use Rattle.std.specs.Prelude.{ℕ, ◌<◌, ◌≤◌, List, length, take, IfOk, IfErr, OnOk, Option};
 ghost use Rattle.std.specs.Io.KnownBytes.{Appends, WriteAppends};
-ghost use Rattle.counts_and_texts.specs.Count.{CountsFault};
-ghost use Rattle.counts_and_texts.specs.Known.{TellsAsBefore};
+ghost use Rattle.device_facts.specs.Count.{CountsFault};
+ghost use Rattle.device_facts.specs.Known.{TellsAsBefore};
 
 use crate::types::{Failed, Partly};
 

@@ -1,7 +1,7 @@
 ghost use Rattle.std.specs.Prelude.{◌≡◌, ℕ, ◌≤◌, min, List, length, take, IfOk, Option};
 ghost use Rattle.std.specs.Io.KnownBytes.{ReadConsumes};
-ghost use Rattle.counts_and_texts.specs.Count.{CountsFault};
-ghost use Rattle.counts_and_texts.specs.Known.{TellsAsBefore};
+ghost use Rattle.device_facts.specs.Count.{CountsFault};
+ghost use Rattle.device_facts.specs.Known.{TellsAsBefore};
 
 use crate::types::Failed;
 

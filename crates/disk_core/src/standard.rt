@@ -1,12 +1,12 @@
 ghost use Rattle.std.specs.Prelude.{◌≡◌, ◌<◌, ◌≤◌, length, None, IfOk};
 ghost use Rattle.std.specs.Io.KnownBytes.{ReadConsumes, WriteAppends};
-ghost use Rattle.counts_and_texts.specs.Count.{CountsFault};
-ghost use Rattle.counts_and_texts.specs.Known.{TellsAsBefore};
+ghost use Rattle.device_facts.specs.Count.{CountsFault};
+ghost use Rattle.device_facts.specs.Known.{TellsAsBefore};
 
 use crate::sink::Sink;
 use crate::source::Source;
 use crate::types::Failed;
-use counts_and_texts::counted_once_more;
+use device_facts::counted_once_more;
 use std::io::{ErrorKind, Read, Write};
 
 /// A source over one of the real streams, or any reader. It tells no bytes; a call that is interrupted is made again.

@@ -1,7 +1,7 @@
 -- What was acknowledged stands once.
 use Rattle.std.proofs.Common.{◌≡◌, ℕ, ◌+◌, ◌-◌, ◌≤◌, suc, List, [], ◌∷◌, ◌++◌, length, Option, Some, None, Result, inl, inr, ◌⊎◌, refl, sym, ap, ◌∙◌, subst, arith, append_assoc, append-nil, length-append}
 use Rattle.std.specs.List.{slice_get, filter_map, cons_option, range_with_len, AllByRecursion}
-use Rattle.counts_and_texts.specs.Front.{IsFrontOf}
+use Rattle.device_facts.specs.Prefix.{IsPrefixOf}
 use Rattle.pack_judge.specs.declared.types.Signal.{Signal}
 use Rattle.book_words.specs.declared.types.Act.{Act}
 use Rattle.book_words.specs.declared.types.Question.TheVariants.{Summary}
@@ -55,14 +55,14 @@ abbrev tells_command : (book : BookState) (command : Command) → Tells book.ent
 tells_command book command = tells book.limit book.entries (want_at book.entries command)
 
 -- the entries of a book stay where more commands come
-grown_front : (entries left : List Entry) (want : Want) (answer : Result Answered Refused) → Tells entries left want answer → IsFrontOf entries left
+grown_front : (entries left : List Entry) (want : Want) (answer : Result Answered Refused) → Tells entries left want answer → IsPrefixOf entries left
 grown_front entries left want answer (inl none) = ([], none.same ∙ sym (append-nil entries))
 grown_front entries left want answer (inr next) = (next.entry ∷ [], next.grown)
 
-front_on : (a b c : List Entry) → IsFrontOf a b → IsFrontOf b c → IsFrontOf a c
+front_on : (a b c : List Entry) → IsPrefixOf a b → IsPrefixOf b c → IsPrefixOf a c
 front_on a b c first second = (first.0 ++ second.0, second.1 ∙ ap (λ xs. xs ++ second.0) first.1 ∙ append_assoc a first.0 second.0)
 
-entries_stay : (book : BookState) (commands : List Command) → IsFrontOf book.entries (after_commands book commands).entries
+entries_stay : (book : BookState) (commands : List Command) → IsPrefixOf book.entries (after_commands book commands).entries
 entries_stay book [] = ([], sym (append-nil book.entries))
 entries_stay book (command ∷ commands) =
     front_on book.entries (after_command book command).entries _ (grown_front book.entries _ (want_at book.entries command) (answer_to book command) (tells_command book command)) (entries_stay (after_command book command) commands)
@@ -71,15 +71,15 @@ seam : (entries more : List Entry) (entry : Entry) → slice_get (entries ++ ent
 seam [] more entry = refl
 seam (x ∷ entries) more entry = seam entries more entry
 
-next_stands : (entries left rows : List Entry) (entry : Entry) → left ≡ entries ++ entry ∷ [] → IsFrontOf left rows → slice_get rows (length entries) ≡ Some entry
+next_stands : (entries left rows : List Entry) (entry : Entry) → left ≡ entries ++ entry ∷ [] → IsPrefixOf left rows → slice_get rows (length entries) ≡ Some entry
 next_stands entries left rows entry grown front =
     ap (λ (xs : List Entry). slice_get xs (length entries)) (front.1 ∙ ap (λ xs. xs ++ front.0) grown ∙ append_assoc entries (entry ∷ []) front.0) ∙ seam entries front.0 entry
 
-stands_one : (entries left rows : List Entry) (want : Want) (answer : Result Answered Refused) → Tells entries left want answer → IsFrontOf left rows → StandsIn rows want answer
+stands_one : (entries left rows : List Entry) (want : Want) (answer : Result Answered Refused) → Tells entries left want answer → IsPrefixOf left rows → StandsIn rows want answer
 stands_one entries left rows want answer (inl none) front = none.stands rows
 stands_one entries left rows want answer (inr next) front = next.stands rows (next_stands entries left rows next.entry next.grown front)
 
-each_stands : (book : BookState) (commands : List Command) (rows : List Entry) → IsFrontOf (after_commands book commands).entries rows → AllByRecursion (λ (e : Exchange). StandsIn rows e.want e.answer) (exchanges book commands)
+each_stands : (book : BookState) (commands : List Command) (rows : List Entry) → IsPrefixOf (after_commands book commands).entries rows → AllByRecursion (λ (e : Exchange). StandsIn rows e.want e.answer) (exchanges book commands)
 each_stands book [] rows front = tt
 each_stands book (command ∷ commands) rows front =
     let behind = after_command book command in (
@@ -98,7 +98,7 @@ told_before entries left rows want answer others (inr next) long is =
     ap (λ o. cons_option o others) next.told ∙ ap (λ ns. (length entries + 1) ∷ ns) (is ∙ ap (λ n. range_with_len (n + 1) (length rows - length left)) longer)
     ∙ ap (λ n. range_with_len (length entries + 1) n) (sym one)
 
-front_length : (a b : List Entry) → IsFrontOf a b → length a ≤ length b
+front_length : (a b : List Entry) → IsPrefixOf a b → length a ≤ length b
 front_length a b front = omega (arith, ap length front.1, length-append a front.0)
 
 told_once : (book : BookState) (commands : List Command) (rows : List Entry) → rows ≡ (after_commands book commands).entries → filter_map (λ (e : Exchange). row_told e.answer) (exchanges book commands) ≡ range_with_len (length book.entries + 1) (length rows - length book.entries)

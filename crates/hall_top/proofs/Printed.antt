@@ -2,7 +2,7 @@
 use Rattle.std.proofs.Common.{ℕ, ◌<◌, List, [], length, take, Result, Ok, Err, OnOk, IfErr, Option, inl, inr, ◌∙◌, subst, refl}
 use Rattle.std.specs.Io.KnownBytes.{Appends}
 use Rattle.std.proofs.KnownBytes.{Appends-nil, Appends-trans}
-use Rattle.counts_and_texts.specs.Count.{Counted, CountsFault}
+use Rattle.device_facts.specs.Count.{Counted, CountsFault}
 use Rattle.disk_core.specs.declared.types.Partly.{Partly}
 use Rattle.hall_top.specs.Streams.{Stream, stream, WroteAll, Wrote}
 

@@ -1,7 +1,7 @@
 -- How a run ends, what has then gone out, and which rows it leaves.
 use Rattle.std.specs.Prelude.{◌≡◌, ℕ, ◌+◌, ◌<◌, ◌≤◌, ◌⊎◌, Bool, true, List, [], ◌∷◌, ◌++◌, length, ◌==◌, ◌||◌, IsSome, IfSome}
 use Rattle.std.specs.Io.KnownBytes.{Consumes, IsAtEnd}
-use Rattle.counts_and_texts.specs.Count.{Counted}
+use Rattle.device_facts.specs.Count.{Counted}
 use Rattle.book_words.specs.declared.types.Entry.{Entry}
 use Rattle.book_words.specs.Answers.{summary}
 use Rattle.script_lines.specs.declared.command.Command.{Command}

@@ -1,7 +1,7 @@
 -- What went out of a run, and what its streams tell.
 use Rattle.std.specs.Prelude.{◌≡◌, ℕ, ◌<◌, ◌⊎◌, List, ◌++◌, length, take, Option}
 use Rattle.std.specs.Io.KnownBytes.{Appends}
-use Rattle.counts_and_texts.specs.Count.{Counted}
+use Rattle.device_facts.specs.Count.{Counted}
 
 -- a stream at one moment: its bytes, where it tells them, and how often it failed
 pub record Stream : Type 0 where

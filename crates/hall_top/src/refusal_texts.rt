@@ -5,12 +5,11 @@ ghost use Rattle.hall_units.specs.Days.{IsDay, day_text};
 ghost use Rattle.hall_top.specs.Texts.{refusal_name, kept_text, state_text};
 
 use book_words::{BatchState, Name, Refusal};
-use counts_and_texts::{LONGEST_DECIMAL, push_decimal};
 use disk_core::NoMemory;
-use hall_units::print_day;
+use hall_units::{MAX_DECIMAL, print_day, push_decimal};
 
 /// What a refusal keeps has no longer text: a blank and a number.
-pub const LONGEST_KEPT: usize = 1 + LONGEST_DECIMAL;
+pub const LONGEST_KEPT: usize = 1 + MAX_DECIMAL;
 
 /// The name of a refusal.
 pub fn refusal_word(refusal: &Refusal) -> &'static [u8]

@@ -4,9 +4,8 @@ ghost use Rattle.hall_top.specs.Texts.{signal_text, tally_line, batches_line, su
 
 use crate::refusal_texts::{push_kept, refusal_word};
 use book_words::{Refused, Reply, SummaryView};
-use counts_and_texts::push_decimal;
 use disk_core::NoMemory;
-use hall_units::print_grams;
+use hall_units::{print_grams, push_decimal};
 use pack_judge::{Cause, Signal, Tally};
 
 /// No text that is printed at once has more bytes. The longest is a summary: the rows take at most 46, and then come five

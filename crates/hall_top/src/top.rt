@@ -1,5 +1,5 @@
 ghost use Rattle.std.specs.Prelude.{◌≡◌, ◌≢◌, ◌↔◌, ◌⊎◌, ◌<◌, ◌≤◌, true, false, length, [], IsTrue, IfSome};
-ghost use Rattle.counts_and_texts.specs.Count.{Calm, Counted};
+ghost use Rattle.device_facts.specs.Count.{Calm, Counted};
 ghost use Rattle.book_words.specs.Answers.{IsLegal};
 ghost use Rattle.book_words.specs.Balance.{IsBalanced, EachMoves};
 ghost use Rattle.book_core.specs.Weighing.{AllHaveTares};

@@ -6,12 +6,12 @@ use Rattle.std.proofs.lemmas.Bool.{cases_Bool, le-leb, leb-true, eqb-true, and_p
 use Rattle.std.proofs.lemmas.Bool.Decides.{nat_tests}
 use Rattle.std.proofs.lemmas.List.{take_all, take-append-drop, length-take-le, drop-drop, length-drop}
 use Rattle.std.proofs.Math.Seq.{drop-cons}
-use Rattle.counts_and_texts.specs.Number.{is_numeral, number_of}
+use Rattle.hall_units.specs.Number.{is_numeral, bounded_number}
 use Rattle.jiff_core.specs.Calendar.{days_in_month, days_from_civil}
 use Rattle.jiff_core.proofs.SignedLemmas.{signed_arith}
 use Rattle.jiff_core.proofs.CalendarLemmas.{days_in_month_bounds}
 use Rattle.hall_units.specs.Days.{YearMonthDay, IsDay, is_day, is_date_form, date_after, day_text, day_number, day_of, date_text, two_digits, four_digits}
-use Rattle.hall_units.proofs.Numerals.{number_of-is, number_of-from, number_of-within}
+use Rattle.hall_units.proofs.Numerals.{bounded_number-is, bounded_number-from, bounded_number-within}
 use Rattle.hall_units.proofs.Calendar.{IsReal, number, natural_day, number_natural, number_within, date_after-real, date_after-number}
 
 digit_is : (k : ℕ) → k < 10 → is_ascii_digit (48 + k) ≡ true
@@ -33,15 +33,15 @@ four_value : (a b c d : ℕ) → a < 10 → b < 10 → c < 10 → d < 10 → dig
 four_value a b c d ha hb hc hd = rw (digit_value_is a ha, digit_value_is b hb, digit_value_is c hc, digit_value_is d hd) (omega arith)
 
 -- two digits spell their number
-number_of-two_digits : (n : ℕ) → n ≤ 99 → number_of 2 99 (two_digits n) ≡ Some n
-number_of-two_digits n small =
-    number_of-is 2 99 (two_digits n) n (two_numeral (n / 10) (n % 10) (omega arith) (omega arith))
+bounded_number-two_digits : (n : ℕ) → n ≤ 99 → bounded_number 2 99 (two_digits n) ≡ Some n
+bounded_number-two_digits n small =
+    bounded_number-is 2 99 (two_digits n) n (two_numeral (n / 10) (n % 10) (omega arith) (omega arith))
     (two_value (n / 10) (n % 10) (omega arith) (omega arith) ∙ omega arith) small
 
 -- and so do four
-number_of-four_digits : (n : ℕ) → n ≤ 9999 → number_of 4 9999 (four_digits n) ≡ Some n
-number_of-four_digits n small =
-    number_of-is 4 9999 (four_digits n) n
+bounded_number-four_digits : (n : ℕ) → n ≤ 9999 → bounded_number 4 9999 (four_digits n) ≡ Some n
+bounded_number-four_digits n small =
+    bounded_number-is 4 9999 (four_digits n) n
     (four_numeral (n / 100 / 10) (n / 100 % 10) (n % 100 / 10) (n % 100 % 10) (omega arith) (omega arith) (omega arith) (omega arith))
     (four_value (n / 100 / 10) (n / 100 % 10) (n % 100 / 10) (n % 100 % 10) (omega arith) (omega arith) (omega arith) (omega arith) ∙ omega arith) small
 
@@ -53,7 +53,7 @@ day_number-parts : (y m d : Option ℕ) (year month day : ℕ) → y ≡ Some ye
     day_number y m d ≡ Some (days_from_civil (pos year) month day)
 day_number-parts y m d year month day is_year is_month is_day_of_month real = rw (is_year, is_month, is_day_of_month, real) refl
 
-day_of-form : (date : YearMonthDay) → day_of (date_text date) ≡ day_number (number_of 4 9999 (four_digits date.year)) (number_of 2 99 (two_digits date.month)) (number_of 2 99 (two_digits date.day))
+day_of-form : (date : YearMonthDay) → day_of (date_text date) ≡ day_number (bounded_number 4 9999 (four_digits date.year)) (bounded_number 2 99 (two_digits date.month)) (bounded_number 2 99 (two_digits date.day))
 unfolding day_of
 day_of-form date = refl
 
@@ -61,7 +61,7 @@ day_of-form date = refl
 pub day_of-date_text : (date : YearMonthDay) → IsReal date → date.year ≤ 9999 → date.day ≤ 31 → day_of (date_text date) ≡ Some (number date)
 day_of-date_text date real early short =
     day_of-form date ∙ day_number-parts _ _ _ date.year date.month date.day
-    (number_of-four_digits date.year early) (number_of-two_digits date.month (omega (arith, real.1.1))) (number_of-two_digits date.day (omega arith)) (is_day-real date real)
+    (bounded_number-four_digits date.year early) (bounded_number-two_digits date.month (omega (arith, real.1.1))) (bounded_number-two_digits date.day (omega arith)) (is_day-real date real)
 
 -- what is printed of a day is read as that day
 pub day_of-day_text : (day : ℤ) → IsDay day → day_of (day_text day) ≡ Some day
@@ -168,23 +168,23 @@ counted_text date day real early is =
     let year : date.year ≡ (date_after (unsigned_abs day)).year = let e = parts.0 in cc in
     rw (year, parts.1, parts.2) refl
 
-day_read : (y m d : List ℕ) (day : ℤ) → day_number (number_of 4 9999 y) (number_of 2 99 m) (number_of 2 99 d) ≡ Some day → IsDay day
+day_read : (y m d : List ℕ) (day : ℤ) → day_number (bounded_number 4 9999 y) (bounded_number 2 99 m) (bounded_number 2 99 d) ≡ Some day → IsDay day
 day_read y m d day e =
-    let read = read_parts (number_of 4 9999 y) (number_of 2 99 m) (number_of 2 99 d) day e in
+    let read = read_parts (bounded_number 4 9999 y) (bounded_number 2 99 m) (bounded_number 2 99 d) day e in
     let real : IsReal read.0 = real_from_day read.0 read.4 in
-    let early : read.0.year ≤ 9999 = number_of-within 4 9999 y read.0.year (sym read.1) in
+    let early : read.0.year ≤ 9999 = bounded_number-within 4 9999 y read.0.year (sym read.1) in
     (subst (λ z. pos 0 ≤ℤ z) read.5 (number_natural read.0 real), subst (λ z. z ≤ℤ pos 2_932_896) read.5 (number_within read.0 real early))
 
 spelled_by : (text : List ℕ) (day : ℤ) → length text ≡ 10 → get_or text 4 0 ≡ 45 → get_or text 7 0 ≡ 45 →
-    day_number (number_of 4 9999 (take 4 text)) (number_of 2 99 (take 2 (drop 5 text))) (number_of 2 99 (take 2 (drop 8 text))) ≡ Some day → text ≡ day_text day
+    day_number (bounded_number 4 9999 (take 4 text)) (bounded_number 2 99 (take 2 (drop 5 text))) (bounded_number 2 99 (take 2 (drop 8 text))) ≡ Some day → text ≡ day_text day
 spelled_by text day len hyphen second e =
-    let read = read_parts (number_of 4 9999 (take 4 text)) (number_of 2 99 (take 2 (drop 5 text))) (number_of 2 99 (take 2 (drop 8 text))) day e in
+    let read = read_parts (bounded_number 4 9999 (take 4 text)) (bounded_number 2 99 (take 2 (drop 5 text))) (bounded_number 2 99 (take 2 (drop 8 text))) day e in
     let date : YearMonthDay = read.0 in
-    let year = number_of-from 4 9999 (take 4 text) date.year read.1 in
-    let month = number_of-from 2 99 (take 2 (drop 5 text)) date.month read.2 in
-    let day_of_month = number_of-from 2 99 (take 2 (drop 8 text)) date.day read.3 in
+    let year = bounded_number-from 4 9999 (take 4 text) date.year read.1 in
+    let month = bounded_number-from 2 99 (take 2 (drop 5 text)) date.month read.2 in
+    let day_of_month = bounded_number-from 2 99 (take 2 (drop 8 text)) date.day read.3 in
     let real : IsReal date = real_from_day date read.4 in
-    let early : date.year ≤ 9999 = number_of-within 4 9999 (take 4 text) date.year (sym read.1) in
+    let early : date.year ≤ 9999 = bounded_number-within 4 9999 (take 4 text) date.year (sym read.1) in
     let year_text = four_digits-value (take 4 text) (length-take-le 4 text (omega (arith, len))) year.0 ∙ ap four_digits year.1 in
     let month_text = two_digits-value (take 2 (drop 5 text)) (length-take-le 2 (drop 5 text) (omega (arith, length-drop 5 text, len))) month.0 ∙ ap two_digits month.1 in
     let date_end = two_digits-value (take 2 (drop 8 text)) (length-take-le 2 (drop 8 text) (omega (arith, length-drop 8 text, len))) day_of_month.0 ∙ ap two_digits day_of_month.1 in

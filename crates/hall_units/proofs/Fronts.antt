@@ -7,7 +7,7 @@ use Rattle.std.proofs.lemmas.Bool.{cases_Bool, and_parts, and_from, and_right, a
 use Rattle.std.specs.Prelude.{nat_lt, nat_le}
 use Rattle.std.specs.List.{prefix_len, list_all}
 use Rattle.std.specs.Char.{is_ascii_digit}
-use Rattle.counts_and_texts.specs.Number.{is_numeral}
+use Rattle.hall_units.specs.Number.{is_numeral}
 use Rattle.hall_units.specs.Grams.{milligrams_of, mass_of, numeral_of, places_of, BeginsGrams, IsSpelledTo}
 
 -- how many digits a text begins with

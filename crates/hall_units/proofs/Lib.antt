@@ -3,3 +3,4 @@ pub mod Dates
 pub mod DayTexts
 pub mod Fronts
 pub mod Numerals
+pub mod Digits

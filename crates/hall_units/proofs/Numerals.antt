@@ -6,8 +6,8 @@ use Rattle.std.specs.Str.Parse.{digits_value}
 use Rattle.std.proofs.lemmas.Bool.{cases_Bool, and_parts, le-leb, leb-true}
 use Rattle.std.proofs.lemmas.Int.Digits.{digits_value-lt}
 use Rattle.std.proofs.Math.Nat.{pow-le-pow_right}
-use Rattle.counts_and_texts.specs.Number.{is_numeral, number_of}
-use Rattle.counts_and_texts.proofs.Digits.{digits_from_test}
+use Rattle.hall_units.specs.Number.{is_numeral, bounded_number}
+use Rattle.hall_units.proofs.Digits.{digits_from_test}
 use Rattle.hall_units.specs.Grams.{numeral_of}
 
 -- a number of so many digits is below that power of ten
@@ -21,8 +21,8 @@ numeral_below most text h =
     omega arith
 
 -- a limit that no number of so many digits passes says nothing
-pub number_of-numeral : (most limit : ℕ) (text : List ℕ) → 10 ^ most ≤ limit + 1 → number_of most limit text ≡ numeral_of most text
-number_of-numeral most limit text wide = elim (cases_Bool (is_numeral most text)) [
+pub bounded_number-numeral : (most limit : ℕ) (text : List ℕ) → 10 ^ most ≤ limit + 1 → bounded_number most limit text ≡ numeral_of most text
+bounded_number-numeral most limit text wide = elim (cases_Bool (is_numeral most text)) [
   | inl h ↦
       let below = numeral_below most text h in
       let within : digits_value 10 text ≤ limit = omega arith in
@@ -31,8 +31,8 @@ number_of-numeral most limit text wide = elim (cases_Bool (is_numeral most text)
 ]
 
 -- a number that is read is within its limit
-pub number_of-within : (most limit : ℕ) (text : List ℕ) (number : ℕ) → Some number ≡ number_of most limit text → number ≤ limit
-number_of-within most limit text number e = elim (cases_Bool (is_numeral most text && nat_le (digits_value 10 text) limit)) [
+pub bounded_number-within : (most limit : ℕ) (text : List ℕ) (number : ℕ) → Some number ≡ bounded_number most limit text → number ≤ limit
+bounded_number-within most limit text number e = elim (cases_Bool (is_numeral most text && nat_le (digits_value 10 text) limit)) [
   | inl h ↦
       let parts = and_parts (is_numeral most text) (nat_le (digits_value 10 text) limit) h in
       let is : Some number ≡ Some (digits_value 10 text) = e ∙ rw h refl in
@@ -42,12 +42,12 @@ number_of-within most limit text number e = elim (cases_Bool (is_numeral most te
 ]
 
 -- a text of so many digits with a value within the limit is read
-pub number_of-is : (most limit : ℕ) (text : List ℕ) (number : ℕ) → is_numeral most text ≡ true → digits_value 10 text ≡ number → number ≤ limit → number_of most limit text ≡ Some number
-number_of-is most limit text number digits value within = rw (digits, value, le-leb number limit within) refl
+pub bounded_number-is : (most limit : ℕ) (text : List ℕ) (number : ℕ) → is_numeral most text ≡ true → digits_value 10 text ≡ number → number ≤ limit → bounded_number most limit text ≡ Some number
+bounded_number-is most limit text number digits value within = rw (digits, value, le-leb number limit within) refl
 
 -- what is read is the value of so many digits
-pub number_of-from : (most limit : ℕ) (text : List ℕ) (number : ℕ) → number_of most limit text ≡ Some number → (is_numeral most text ≡ true) × (digits_value 10 text ≡ number)
-number_of-from most limit text number e = elim (cases_Bool (is_numeral most text && nat_le (digits_value 10 text) limit)) [
+pub bounded_number-from : (most limit : ℕ) (text : List ℕ) (number : ℕ) → bounded_number most limit text ≡ Some number → (is_numeral most text ≡ true) × (digits_value 10 text ≡ number)
+bounded_number-from most limit text number e = elim (cases_Bool (is_numeral most text && nat_le (digits_value 10 text) limit)) [
   | inl h ↦
       let parts = and_parts (is_numeral most text) (nat_le (digits_value 10 text) limit) h in
       let is : Some (digits_value 10 text) ≡ Some number = rw h at e in

@@ -1,5 +1,5 @@
 use Rattle.std.specs.Prelude.{◌≡◌, ℕ, zero, suc, ◌+◌, ◌/◌, ◌%◌, ◌==◌, ◌&&◌, nat_lt, nat_le, Bool, ℤ, pos, ◌≤ℤ◌, unsigned_abs, List, [], ◌∷◌, ◌++◌, length, slice_index, slice_range, Option, Some, None, if◌then◌else◌}
-use Rattle.counts_and_texts.specs.Number.{number_of}
+use Rattle.hall_units.specs.Number.{bounded_number}
 use Rattle.jiff_core.specs.Calendar.{days_in_month, days_from_civil}
 use Rattle.jiff_core.specs.Date.{epoch_day}
 use Rattle.jiff_core.specs.declared.civil.date.Date.{Date}
@@ -22,7 +22,7 @@ is_date_form text = (length text == 10) && (slice_index text 4 == 45) && (slice_
 unfoldable pub day_of : List ℕ → Option ℤ
 day_of text =
     if is_date_form text
-    then day_number (number_of 4 9999 (slice_range text 0 4)) (number_of 2 99 (slice_range text 5 7)) (number_of 2 99 (slice_range text 8 10))
+    then day_number (bounded_number 4 9999 (slice_range text 0 4)) (bounded_number 2 99 (slice_range text 5 7)) (bounded_number 2 99 (slice_range text 8 10))
     else None
 
 -- the days of which texts are read and printed, from 1970-01-01 to 9999-12-31

@@ -2,7 +2,7 @@ use Rattle.std.specs.Prelude.{ℕ, ◌+◌, ◌-◌, ◌*◌, ◌/◌, ◌%◌, 
 use Rattle.std.specs.List.{prefix_len}
 use Rattle.std.specs.Char.{is_ascii_digit}
 use Rattle.std.specs.Str.Parse.{digits_value}
-use Rattle.counts_and_texts.specs.Number.{is_numeral}
+use Rattle.hall_units.specs.Number.{is_numeral}
 
 -- the number that 1 to `most` digits spell
 abbrev pub numeral_of : ℕ → List ℕ → Option ℕ

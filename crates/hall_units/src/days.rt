@@ -1,12 +1,12 @@
 ghost use Rattle.std.specs.Prelude.{◌≡◌, ◌+◌, ◌≤◌, ◌++◌, length, Some, None, if◌then◌else◌, pos, slice_range, IsOk, IfOk, OnOk, OnErr, vec_len, vec_capacity};
 ghost use Rattle.std.specs.Result.{result_ok};
-ghost use Rattle.counts_and_texts.specs.Number.{number_of};
+ghost use Rattle.hall_units.specs.Number.{bounded_number};
 ghost use Rattle.jiff_core.specs.Calendar.{days_from_civil};
 ghost use Rattle.jiff_core.specs.Date.{epoch_day};
 ghost use Rattle.hall_units.specs.Days.{day_of, day_number, day_text, is_date_form, is_day, IsDay, IsWrittenByJiff};
 
+use crate::number::read_bounded;
 use crate::types::{DayText, NoMemory};
-use counts_and_texts::read_number_within;
 use jiff::civil::Date;
 use jiff::fmt::temporal::DateTimePrinter;
 use jiff_core::civil::Date as PlainDate;
@@ -15,7 +15,7 @@ use jiff_core::civil::Date as PlainDate;
 const FIRST_YEAR: u64 = 1_970;
 
 /// The length of the text of a day.
-pub const LONGEST_DAY: usize = 10;
+pub const MAX_DAY_TEXT: usize = 10;
 
 /// Reads a day: exactly ten bytes `YYYY-MM-DD` that name a date of the calendar from 1970-01-01 on. Answers the
 /// days since 1970-01-01. It takes no memory.
@@ -40,11 +40,11 @@ fn has_date_form(text: &[u8]) -> bool
 // The day number of the date whose year, month and day stand in ten bytes.
 fn read_date(text: &[u8]) -> Option<i32>
     requires { length text.now ≡ 10 }
-    ensures { result ≡ day_number (number_of 4 9999 (slice_range text.now 0 4)) (number_of 2 99 (slice_range text.now 5 7)) (number_of 2 99 (slice_range text.now 8 10)) }
+    ensures { result ≡ day_number (bounded_number 4 9999 (slice_range text.now 0 4)) (bounded_number 2 99 (slice_range text.now 5 7)) (bounded_number 2 99 (slice_range text.now 8 10)) }
 {
-    let year = read_number_within(4, 9_999, &text[0..4])?;
-    let month = read_number_within(2, 99, &text[5..7])?;
-    let day = read_number_within(2, 99, &text[8..10])?;
+    let year = read_bounded(4, 9_999, &text[0..4])?;
+    let month = read_bounded(2, 99, &text[5..7])?;
+    let day = read_bounded(2, 99, &text[8..10])?;
     number_of_date(year, month, day)
 }
 
@@ -66,16 +66,16 @@ fn number_of_date(year: u64, month: u64, day: u64) -> Option<i32>
 
 /// Appends a day as `YYYY-MM-DD`. Days are counted from 1970-01-01 and go to 9999-12-31.
 ///
-/// With room for `LONGEST_DAY` bytes it takes no memory. A refusal changes nothing.
+/// With room for `MAX_DAY_TEXT` bytes it takes no memory. A refusal changes nothing.
 pub fn print_day(day: i32, to: &mut Vec<u8>) -> Result<(), NoMemory>
     requires { IsDay day }
     ensures text { OnOk result (to.new.items ≡ to.old.items ++ day_text day) }
     ensures read_back { day_of (day_text day) ≡ Some day }
     ensures calendar { IsWrittenByJiff day }
     ensures err { OnErr result (to.new.items ≡ to.old.items) }
-    ensures room { vec_len to.old + LONGEST_DAY ≤ vec_capacity to.old → IsOk result }
+    ensures room { vec_len to.old + MAX_DAY_TEXT ≤ vec_capacity to.old → IsOk result }
     ensures capacity { vec_capacity to.old ≤ vec_capacity to.new }
-    ensures longest { OnOk result (vec_len to.new ≤ vec_len to.old + LONGEST_DAY) }
+    ensures longest { OnOk result (vec_len to.new ≤ vec_len to.old + MAX_DAY_TEXT) }
 {
     let text = DateTimePrinter::new().date_text(date_of(day));
     to.extend_from_slice(text.as_bytes())?;

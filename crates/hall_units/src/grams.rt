@@ -4,8 +4,9 @@ ghost use Rattle.std.specs.Result.{result_ok};
 ghost use Rattle.std.specs.Char.{is_ascii_digit};
 ghost use Rattle.hall_units.specs.Grams.{milligrams_of, mass_of, numeral_of, places_of, gram_text, sign_text, three_digits, IsReadMass, IsSpelledTo};
 
+use crate::decimal::{MAX_DECIMAL, push_decimal};
+use crate::number::read_bounded;
 use crate::types::{GramText, NoMemory};
-use counts_and_texts::{LONGEST_DECIMAL, push_decimal, read_number_within};
 
 /// The greatest number of digits before the point that is read.
 const GRAM_DIGITS: usize = 8;
@@ -14,13 +15,13 @@ const GRAM_DIGITS: usize = 8;
 const GRAM_PLACES: usize = 3;
 
 /// The number of whole grams that 8 digits reach.
-const MOST_GRAMS: u64 = 99_999_999;
+const MAX_WHOLE_GRAMS: u64 = 99_999_999;
 
 /// The number of milligrams that 3 places reach.
-const MOST_PLACES: u64 = 999;
+const MAX_PLACES: u64 = 999;
 
 /// No text of grams is longer.
-pub const LONGEST_GRAMS: usize = LONGEST_DECIMAL + 5;
+pub const MAX_GRAM_TEXT: usize = MAX_DECIMAL + 5;
 
 /// Reads a mass in grams: 1 to 8 digits, then nothing or a point and 1 to 3 digits. Answers it in milligrams.
 ///
@@ -63,7 +64,7 @@ fn read_whole(digits: &[u8]) -> Option<u64>
     ensures value { result ≡ numeral_of 8 digits.now }
     ensures bound { IfSome result (λ grams. grams < 10 ^ 8) }
 {
-    read_number_within(GRAM_DIGITS, MOST_GRAMS, digits)
+    read_bounded(GRAM_DIGITS, MAX_WHOLE_GRAMS, digits)
 }
 
 // The milligrams behind the whole grams.
@@ -78,7 +79,7 @@ fn read_places(behind: &[u8]) -> Option<u64>
         return None;
     }
     let digits = &behind[1..];
-    let value = read_number_within(GRAM_PLACES, MOST_PLACES, digits)?;
+    let value = read_bounded(GRAM_PLACES, MAX_PLACES, digits)?;
     Some(match digits.len() {
         1 => 100 * value,
         2 => 10 * value,
@@ -100,17 +101,17 @@ fn spelled_length(text: &[u8], whole: usize) -> usize
 
 /// Appends a mass as grams: a minus sign where it is negative, the whole grams, a point and three digits.
 ///
-/// With room for `LONGEST_GRAMS` bytes it takes no memory. A refusal changes nothing.
+/// With room for `MAX_GRAM_TEXT` bytes it takes no memory. A refusal changes nothing.
 #[tactic(auto, unfolding(crate::specs::Grams::gram_text))]
 pub fn print_grams(mg: i64, to: &mut Vec<u8>) -> Result<(), NoMemory>
     requires { unsigned_abs mg ≤ 10 ^ 15 }
     ensures text { OnOk result (to.new.items ≡ to.old.items ++ gram_text mg) }
     ensures err { OnErr result (to.new.items ≡ to.old.items) }
-    ensures room { vec_len to.old + LONGEST_GRAMS ≤ vec_capacity to.old → IsOk result }
+    ensures room { vec_len to.old + MAX_GRAM_TEXT ≤ vec_capacity to.old → IsOk result }
     ensures capacity { vec_capacity to.old ≤ vec_capacity to.new }
-    ensures longest { OnOk result (vec_len to.new ≤ vec_len to.old + LONGEST_GRAMS) }
+    ensures longest { OnOk result (vec_len to.new ≤ vec_len to.old + MAX_GRAM_TEXT) }
 {
-    to.reserve(LONGEST_GRAMS)?;
+    to.reserve(MAX_GRAM_TEXT)?;
     push_sign(mg, to)?;
     let mass = mg.unsigned_abs();
     push_decimal(to, u128::from(mass / 1_000))?;

@@ -2,15 +2,17 @@
 #![tactic(auto)]
 
 mod days;
+mod decimal;
 mod fields;
 mod grams;
-mod numbers;
+mod number;
 #[cfg(test)]
 mod tests;
 mod types;
 
-pub use days::{LONGEST_DAY, print_day, read_day};
+pub use days::{MAX_DAY_TEXT, print_day, read_day};
+pub use decimal::{MAX_DECIMAL, push_decimal};
 pub use fields::{get_u16, get_u32, get_u64, put_u16, put_u32, put_u64};
-pub use grams::{LONGEST_GRAMS, print_grams, read_grams};
-pub use numbers::read_number;
+pub use grams::{MAX_GRAM_TEXT, print_grams, read_grams};
+pub use number::{MAX_DIGITS, read_bounded, read_number};
 pub use types::{DayText, GramText, NoMemory};

@@ -1,6 +1,6 @@
 use crate::{
-    DayText, GramText, get_u16, get_u32, get_u64, print_day, print_grams, put_u16, put_u32,
-    put_u64, read_day, read_grams, read_number,
+    DayText, GramText, get_u16, get_u32, get_u64, print_day, print_grams, push_decimal, put_u16,
+    put_u32, put_u64, read_bounded, read_day, read_grams, read_number,
 };
 use std::test::Fail;
 
@@ -76,4 +76,40 @@ fn fields_have_their_little_end_first(rt: HostRuntime) {
     assert_eq!(rt; get_u16(&bytes, 1), 0x0302);
     assert_eq!(rt; get_u32(&bytes, 1), 0x0504_0302);
     assert_eq!(rt; get_u64(&bytes, 1), 0x0908_0706_0504_0302);
+}
+
+#[test]
+fn decimal_texts_of_the_ends(rt: HostRuntime) -> Result<(), Fail> {
+    let alloc = rt.alloc();
+    for (number, wanted) in [
+        (0, "of 0"),
+        (10_000, "of 10000"),
+        (u128::MAX, "of 340282366920938463463374607431768211455"),
+    ] {
+        let mut text = Vec::new(alloc);
+        text.extend_from_slice(b"of ")?;
+        push_decimal(&mut text, number)?;
+        assert_eq!(rt; text.as_slice(), wanted.as_bytes(), "{number}");
+    }
+    Ok(())
+}
+
+#[test]
+fn numbers_within_their_digits_and_limit(rt: HostRuntime) -> Result<(), Fail> {
+    for (text, wanted) in [
+        ("", None),
+        ("0", Some(0)),
+        ("00012", Some(12)),
+        ("99990", Some(99_990)),
+        ("99991", None),
+        ("000012", None),
+        ("+12", None),
+        ("1 2", None),
+        ("12:", None),
+        ("1/2", None),
+    ] {
+        let read = read_bounded(5, 99_990, text.as_bytes());
+        assert_eq!(rt; read, wanted, "{text}");
+    }
+    Ok(())
 }

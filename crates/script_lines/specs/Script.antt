@@ -4,7 +4,7 @@ use Rattle.std.specs.List.{slice_split, list_all}
 use Rattle.std.specs.Option.{option_and_then}
 use Rattle.std.specs.Str.{bytes_eq}
 use Rattle.std.specs.Str.Lines.{strip_carriage_return}
-use Rattle.counts_and_texts.specs.Number.{number_of}
+use Rattle.hall_units.specs.Number.{bounded_number}
 use Rattle.hall_units.specs.Grams.{milligrams_of}
 use Rattle.hall_units.specs.Days.{day_of}
 use Rattle.book_words.specs.declared.name.Name.{Name}
@@ -38,7 +38,7 @@ name_in word = if nat_le (length word) 16 then Some (name_of word) else None
 
 -- the number of a lane in a word: 1 to 20 digits, and no more than a byte holds
 abbrev pub lane_in : List ℕ → Option ℕ
-lane_in word = number_of 20 255 word
+lane_in word = bounded_number 20 255 word
 
 -- what two things make, where both are there
 abbrev pub from_both : {A B C : Type 0} → (A → B → C) → Option A → Option B → Option C

@@ -4,8 +4,7 @@ ghost use Rattle.script_lines.specs.Script.{ended_says, last_says, line_says, wo
 use crate::command::{Command, Line};
 use crate::line_words::{first_word, last_word};
 use book_words::{Act, Name, Question, Want};
-use counts_and_texts::read_number_within;
-use hall_units::{read_day, read_grams};
+use hall_units::{read_bounded, read_day, read_grams};
 
 /// A line of a script has at most so many bytes, its CR among them and its LF not.
 pub const LONGEST_LINE: usize = 200;
@@ -185,6 +184,6 @@ fn read_name(word: &[u8]) -> Option<Name>
 fn read_lane(word: &[u8]) -> Option<u8>
     ensures { result ≡ lane_in word.now }
 {
-    let number = read_number_within(LANE_DIGITS, u64::from(u8::MAX), word)?;
+    let number = read_bounded(LANE_DIGITS, u64::from(u8::MAX), word)?;
     Some(number as u8)
 }

@@ -1,6 +1,6 @@
 use Rattle.std.proofs.Common.{◌≡◌, ◌≤◌, ◌-◌, length, take}
 use Rattle.std.specs.Io.KnownBytes.{Appends}
-use Rattle.counts_and_texts.specs.Known.{TellsAsBefore}
+use Rattle.device_facts.specs.Known.{TellsAsBefore}
 use Rattle.disk_core.proofs.sink.write_all.Given as goal
 
 -- the bytes so far went out, and nothing failed

@@ -1,4 +1,4 @@
-ghost use Rattle.counts_and_texts.specs.Count.{Counted};
+ghost use Rattle.device_facts.specs.Count.{Counted};
 
 /// The count of faults after one more: it stands still at the greatest `u64`.
 pub fn counted_once_more(count: u64) -> u64

@@ -1,6 +1,6 @@
 use Rattle.std.proofs.Common.{◌≡◌, ◌<◌, ◌^◌, take}
 use Rattle.std.specs.Str.Parse.{digits_value}
-use Rattle.counts_and_texts.proofs.number.value_of_digits.Given as goal
+use Rattle.hall_units.proofs.number.value_of_digits.Given as goal
 
 -- the digits so far and their bound
 abbrev pub invariant-loop-byte : goal.invariant-loop-byte

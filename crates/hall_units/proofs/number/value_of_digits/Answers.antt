@@ -2,8 +2,8 @@ use Rattle.std.proofs.Common.{get_or, arith}
 use Rattle.std.proofs.lemmas.Str.Parse.{digit_at}
 use Rattle.std.proofs.lemmas.Str.{digit_value_digit}
 use Rattle.std.proofs.lemmas.Int.Digits.{digits_value_more}
-use Rattle.counts_and_texts.proofs.Digits.{next_digit_below, digit_fits}
-use Rattle.counts_and_texts.proofs.number.value_of_digits.Goals as goal
+use Rattle.hall_units.proofs.Digits.{next_digit_below, digit_fits}
+use Rattle.hall_units.proofs.number.value_of_digits.Goals as goal
 
 pub overflow_mul-value : goal.overflow_mul-value
 overflow_mul-value c =

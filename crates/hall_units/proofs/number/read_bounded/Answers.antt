@@ -1,6 +1,6 @@
 use Rattle.std.proofs.Common.{rules}
-use Rattle.counts_and_texts.proofs.Digits.{digits_from_test}
-use Rattle.counts_and_texts.proofs.number.read_number_within.Goals as goal
+use Rattle.hall_units.proofs.Digits.{digits_from_test}
+use Rattle.hall_units.proofs.number.read_bounded.Goals as goal
 
 pub value_of_digits-value-requires-clause-digits :
     goal.value_of_digits-value-requires-clause-digits

@@ -2,10 +2,13 @@ ghost use Rattle.std.specs.Prelude.{◌≡◌, ◌≤◌, ◌<◌, ◌^◌, leng
 ghost use Rattle.std.specs.List.{list_all};
 ghost use Rattle.std.specs.Char.{is_ascii_digit};
 ghost use Rattle.std.specs.Str.Parse.{AllDigits, digits_value};
-ghost use Rattle.counts_and_texts.specs.Number.{is_numeral, number_of};
+ghost use Rattle.hall_units.specs.Number.{is_numeral, bounded_number};
+
+/// The greatest number of digits of a number: those of the greatest `u64`.
+const NUMBER_DIGITS: usize = 20;
 
 /// The greatest number of digits that is read: their value fits 128 bits.
-pub const MOST_DIGITS: usize = 38;
+pub const MAX_DIGITS: usize = 38;
 
 fn are_digits(text: &[u8]) -> bool
     ensures { result ≡ list_all is_ascii_digit text.now }
@@ -15,7 +18,7 @@ fn are_digits(text: &[u8]) -> bool
 
 fn value_of_digits(text: &[u8]) -> u128
     requires digits { AllDigits 10 text.now }
-    requires short { length text.now ≤ MOST_DIGITS }
+    requires short { length text.now ≤ MAX_DIGITS }
     ensures { result ≡ digits_value 10 text.now }
 {
     let mut value: u128 = 0;
@@ -26,10 +29,10 @@ fn value_of_digits(text: &[u8]) -> u128
 }
 
 /// The number that 1 to `most` decimal digits spell, leading zeros among them, where it is at most `limit`;
-/// `None` exactly for every other text. `most` is at most `MOST_DIGITS`.
-pub fn read_number_within(most: usize, limit: u64, text: &[u8]) -> Option<u64>
-    requires { most ≤ MOST_DIGITS }
-    ensures { result ≡ number_of most limit text.now }
+/// `None` exactly for every other text. `most` is at most `MAX_DIGITS`.
+pub fn read_bounded(most: usize, limit: u64, text: &[u8]) -> Option<u64>
+    requires { most ≤ MAX_DIGITS }
+    ensures { result ≡ bounded_number most limit text.now }
 {
     if text.is_empty() || text.len() > most || !are_digits(text) {
         return None;
@@ -39,4 +42,12 @@ pub fn read_number_within(most: usize, limit: u64, text: &[u8]) -> Option<u64>
         return None;
     }
     Some(value as u64)
+}
+
+/// The number that 1 to 20 decimal digits spell, leading zeros among them. `None` exactly for every
+/// other text and where the value doesn't fit 64 bits.
+pub fn read_number(text: &[u8]) -> Option<u64>
+    ensures { result ≡ bounded_number 20 u64.MAX text.now }
+{
+    read_bounded(NUMBER_DIGITS, u64::MAX, text)
 }

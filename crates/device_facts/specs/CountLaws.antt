@@ -1,7 +1,7 @@
 -- What follows from a count that rose, stayed or was calm.
 use Rattle.std.proofs.Common.{◌≡◌, ℕ, ◌+◌, ◌-◌, ◌^◌, inl, inr, arith}
 use Rattle.std.proofs.lemmas.Bool.{cases_lt}
-use Rattle.counts_and_texts.specs.Count.{Rose, Calm, Counted}
+use Rattle.device_facts.specs.Count.{Rose, Calm, Counted}
 
 -- a calm count has counted nothing
 pub calm_counts_none : {P : Type 0} (before now k : ℕ) → Calm before now → Counted before now (k + 1) → P

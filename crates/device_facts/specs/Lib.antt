@@ -1,5 +1,4 @@
 pub mod Count
 pub mod CountLaws
-pub mod Front
+pub mod Prefix
 pub mod Known
-pub mod Number
