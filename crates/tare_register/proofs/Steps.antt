@@ -6,39 +6,72 @@ use Rattle.std.specs.Prelude.{map}
 use Rattle.std.specs.Option.{option_map_or}
 use Rattle.std.specs.Int.Signed.{le_z, lt_z}
 use Rattle.tare_register.specs.declared.types.DatedTare.{DatedTare}
-use Rattle.tare_register.specs.Tares.{dated_by, days_after, latest, least_day, deciding_entry, first_day_after}
+use Rattle.tare_register.specs.declared.types.ProductTare.{ProductTare}
+use Rattle.tare_register.specs.Tares.{dated_by, days_after, latest, least_day, decides, deciding_tare, next_day, tares_of}
 use Rattle.tare_register.proofs.Latest.{none_greater, latest-append, latest_tells}
 use Rattle.tare_register.proofs.Least.{least_day-append}
 
--- with one more entry, that one decides where it is dated by the day and none of the others has a greater day
-pub deciding_entry-append : (entries : List DatedTare) (entry : DatedTare) (product : ℕ) (day : ℤ) →
-    deciding_entry (entries ++ entry ∷ []) product day ≡
-    cond ((entry.product == product) && le_z entry.day day && none_greater (dated_by entries product day) entry) (Some entry) (deciding_entry entries product day)
-deciding_entry-append entries entry product day =
-    let dated : DatedTare → Bool = λ e. (e.product == product) && le_z e.day day in
-    let others : List DatedTare = dated_by entries product day in
-    ap latest (filter-append dated entries (entry ∷ [])) ∙ elim (cases_Bool (dated entry)) [
-      | inl h ↦ rw h (latest-append others entry)
+-- with one more tare, that one decides where it is dated by the day and none of the others has a
+-- greater day
+pub deciding_tare-append : (tares : List DatedTare) (dated : DatedTare) (day : ℤ) →
+    deciding_tare (tares ++ dated ∷ []) day ≡
+    cond (le_z dated.day day && none_greater (dated_by tares day) dated) (Some dated) (deciding_tare tares day)
+deciding_tare-append tares dated day =
+    let test : DatedTare → Bool = λ e. le_z e.day day in
+    let others : List DatedTare = dated_by tares day in
+    ap latest (filter-append test tares (dated ∷ [])) ∙ elim (cases_Bool (test dated)) [
+      | inl h ↦ rw h (latest-append others dated)
       | inr h ↦ rw h (ap latest (append-nil others))
     ]
 
--- the same in a walk, where the entry that decides so far is known
-pub deciding_step : (entries : List DatedTare) (entry : DatedTare) (product : ℕ) (day : ℤ) (known : Option DatedTare) →
-    known ≡ deciding_entry entries product day →
-    cond ((entry.product == product) && le_z entry.day day && option_map_or (λ before. le_z before.day entry.day) known true) (Some entry) known ≡
-    deciding_entry (entries ++ entry ∷ []) product day
-deciding_step entries entry product day known is =
-    rw (is, latest_tells (dated_by entries product day) entry) (sym (deciding_entry-append entries entry product day))
+-- the same in a walk, where the tare that decides so far is known
+pub decides_next : (tares : List DatedTare) (dated : DatedTare) (day : ℤ) (known : Option DatedTare) →
+    known ≡ deciding_tare tares day →
+    cond (decides dated day known) (Some dated) known ≡ deciding_tare (tares ++ dated ∷ []) day
+decides_next tares dated day known is =
+    rw (is, latest_tells (dated_by tares day) dated) (sym (deciding_tare-append tares dated day))
 
--- with one more entry, its day is the next where it comes after the day and before the next one of the others
-pub next_step : (entries : List DatedTare) (entry : DatedTare) (product : ℕ) (day : ℤ) (known : Option ℤ) →
-    known ≡ first_day_after entries product day →
-    cond ((entry.product == product) && lt_z day entry.day && option_map_or (λ next. lt_z entry.day next) known true) (Some entry.day) known ≡
-    first_day_after (entries ++ entry ∷ []) product day
-next_step entries entry product day known is =
-    let later : DatedTare → Bool = λ e. (e.product == product) && lt_z day e.day in
-    let days : List ℤ = days_after entries product day in
-    rw is (sym (ap (λ es. least_day (map (λ e. e.day) es)) (filter-append later entries (entry ∷ [])) ∙ elim (cases_Bool (later entry)) [
-      | inl h ↦ rw (h, map-append) (least_day-append days entry.day)
+-- the tares of a product among some entries and one more
+pub tares_of-append : (entries : List ProductTare) (entry : ProductTare) (product : ℕ) →
+    tares_of (entries ++ entry ∷ []) product ≡
+    cond (entry.product == product) (tares_of entries product ++ entry.dated ∷ []) (tares_of entries product)
+tares_of-append entries entry product =
+    let own : ProductTare → Bool = λ e. e.product == product in
+    ap (λ es. map (λ e. e.dated) es) (filter-append own entries (entry ∷ [])) ∙ elim (cases_Bool (own entry)) [
+      | inl h ↦ rw (h, map-append) refl
+      | inr h ↦ rw (h, append-nil) refl
+    ]
+
+-- one more entry of any product in a walk
+pub deciding_step : (entries : List ProductTare) (entry : ProductTare) (product : ℕ) (day : ℤ) (known : Option DatedTare) →
+    known ≡ deciding_tare (tares_of entries product) day →
+    cond ((entry.product == product) && decides entry.dated day known) (Some entry.dated) known ≡
+    deciding_tare (tares_of (entries ++ entry ∷ []) product) day
+deciding_step entries entry product day known is = elim (cases_Bool (entry.product == product)) [
+  | inl h ↦ rw (tares_of-append, h) (decides_next (tares_of entries product) entry.dated day known is)
+  | inr h ↦ rw (tares_of-append, h) is
+]
+
+-- with one more tare, its day is the next where it comes after the day and before the next one of
+-- the others
+next_more : (tares : List DatedTare) (dated : DatedTare) (day : ℤ) (known : Option ℤ) →
+    known ≡ next_day tares day →
+    cond (lt_z day dated.day && option_map_or (λ next. lt_z dated.day next) known true) (Some dated.day) known ≡
+    next_day (tares ++ dated ∷ []) day
+next_more tares dated day known is =
+    let later : DatedTare → Bool = λ e. lt_z day e.day in
+    let days : List ℤ = days_after tares day in
+    rw is (sym (ap (λ es. least_day (map (λ e. e.day) es)) (filter-append later tares (dated ∷ [])) ∙ elim (cases_Bool (later dated)) [
+      | inl h ↦ rw (h, map-append) (least_day-append days dated.day)
       | inr h ↦ rw (h, append-nil) refl
     ]))
+
+-- one more entry of any product in a walk
+pub next_step : (entries : List ProductTare) (entry : ProductTare) (product : ℕ) (day : ℤ) (known : Option ℤ) →
+    known ≡ next_day (tares_of entries product) day →
+    cond ((entry.product == product) && (lt_z day entry.dated.day && option_map_or (λ next. lt_z entry.dated.day next) known true)) (Some entry.dated.day) known ≡
+    next_day (tares_of (entries ++ entry ∷ []) product) day
+next_step entries entry product day known is = elim (cases_Bool (entry.product == product)) [
+  | inl h ↦ rw (tares_of-append, h) (next_more (tares_of entries product) entry.dated day known is)
+  | inr h ↦ rw (tares_of-append, h) is
+]

@@ -1,12 +1,13 @@
-use Rattle.std.proofs.Common.{◌≡◌, ℕ, ℤ, true, false, ◌==◌, nat_eq, List, [], ◌∷◌, refl, arith, inl, inr}
+use Rattle.std.proofs.Common.{◌≡◌, ℕ, ℤ, true, false, ◌==◌, cond, List, [], ◌∷◌, ◌++◌, Some, refl, arith, inl, inr}
 use Rattle.std.proofs.lemmas.Int.{ints}
 use Rattle.std.proofs.lemmas.Bool.{cases_Bool, eqb-true}
 use Rattle.std.specs.List.{list_all}
 use Rattle.std.specs.Int.Signed.{le_z, lt_z}
 use Rattle.tare_register.specs.declared.types.DatedTare.{DatedTare}
-use Rattle.tare_register.specs.Tares.{dated_by, days_after, span_of, DecidesWithin}
+use Rattle.tare_register.specs.declared.types.ProductTare.{ProductTare}
+use Rattle.tare_register.specs.Tares.{dated_by, days_after, next_day, covers, tare_by_rule, tares_of, entry_of, span_of, DecidesWithin}
 use Rattle.tare_register.proofs.Latest.{none_greater}
-use Rattle.tare_register.proofs.Steps.{deciding_entry-append}
+use Rattle.tare_register.proofs.Steps.{deciding_tare-append, tares_of-append}
 use Rattle.tare_register.proofs.Least.{lt_z-least_day}
 
 le_z_false : (x y : ℤ) → le_z x y ≡ false → lt_z y x ≡ true
@@ -18,33 +19,36 @@ le_z_true x y h = grind (arith, ints)
 le_z_chain : (x y z : ℤ) → le_z x y ≡ true → le_z y z ≡ true → le_z x z ≡ true
 le_z_chain x y z h k = grind (arith, ints)
 
--- no later day of the product is reached by then, exactly where no entry dated by then has a greater day
-pub later_days_reached : (entries : List DatedTare) (entry : DatedTare) (later : ℤ) → le_z entry.day later ≡ true →
-    list_all (λ day. lt_z later day) (days_after entries entry.product entry.day) ≡ none_greater (dated_by entries entry.product later) entry
-later_days_reached [] entry later h = refl
-later_days_reached (x ∷ xs) entry later h =
-    let rest = later_days_reached xs entry later h in
-    elim (cases_Bool (nat_eq x.product entry.product)) [
-      | inl same ↦ rw same (elim (cases_Bool (le_z x.day entry.day)) [
-        | inl old ↦ rw (le_z_true x.day entry.day old, le_z_chain x.day entry.day later old h, old) rest
-        | inr new ↦ rw (le_z_false x.day entry.day new) (elim (cases_Bool (le_z x.day later)) [
-          | inl reached ↦ rw (reached, new, le_z_true x.day later reached) refl
-          | inr ahead ↦ rw (ahead, le_z_false x.day later ahead) rest
-        ])
+-- no later day is reached by then, exactly where no tare dated by then has a greater day
+pub later_days_reached : (tares : List DatedTare) (dated : DatedTare) (later : ℤ) → le_z dated.day later ≡ true →
+    list_all (λ day. lt_z later day) (days_after tares dated.day) ≡ none_greater (dated_by tares later) dated
+later_days_reached [] dated later h = refl
+later_days_reached (x ∷ xs) dated later h =
+    let rest = later_days_reached xs dated later h in
+    elim (cases_Bool (le_z x.day dated.day)) [
+      | inl old ↦ rw (le_z_true x.day dated.day old, le_z_chain x.day dated.day later old h, old) rest
+      | inr new ↦ rw (le_z_false x.day dated.day new) (elim (cases_Bool (le_z x.day later)) [
+        | inl reached ↦ rw (reached, new, le_z_true x.day later reached) refl
+        | inr ahead ↦ rw (ahead, le_z_false x.day later ahead) rest
       ])
-      | inr other ↦ rw other rest
     ]
 
--- an entry put last decides the tare of its product on the days of its span, and no other tare
-pub span_decides : (entries : List DatedTare) (product : ℕ) (day : ℤ) → DecidesWithin (span_of entries product day) entries product day
-span_decides entries product day tare other_product other_day =
-    let entry : DatedTare = record { product = product; day = day; tare = tare } in
-    let last = deciding_entry-append entries entry other_product other_day in
-    rw last (elim (cases_Bool (product == other_product)) [
-      | inl same ↦ rw (same, ← eqb-true product other_product same) (elim (cases_Bool (le_z day other_day)) [
-        | inl reached ↦ rw (reached, lt_z-least_day other_day (days_after entries product day), later_days_reached entries entry other_day reached)
-            (elim (cases_Bool (none_greater (dated_by entries product other_day) entry)) [ inl h ↦ rw h refl | inr h ↦ rw h refl ])
-        | inr ahead ↦ rw ahead refl
-      ])
-      | inr other ↦ rw other refl
+-- a tare put last decides on the days of its span, and on no other
+tare_decides : (tares : List DatedTare) (dated : DatedTare) (day : ℤ) →
+    tare_by_rule (tares ++ dated ∷ []) day ≡
+    cond (covers (record { from = dated.day; until = next_day tares dated.day }) day) (Some dated.tare) (tare_by_rule tares day)
+tare_decides tares dated day =
+    rw (deciding_tare-append tares dated day) (elim (cases_Bool (le_z dated.day day)) [
+      | inl reached ↦ rw (reached, lt_z-least_day day (days_after tares dated.day), later_days_reached tares dated day reached)
+          (elim (cases_Bool (none_greater (dated_by tares day) dated)) [ inl h ↦ rw h refl | inr h ↦ rw h refl ])
+      | inr ahead ↦ rw ahead refl
     ])
+
+-- an entry put last decides the tare of its product on the days of its span, and no other tare
+pub span_decides : (entries : List ProductTare) (product : ℕ) (day : ℤ) → DecidesWithin (span_of entries product day) entries product day
+span_decides entries product day tare other_product other_day =
+    let entry : ProductTare = entry_of product day tare in
+    elim (cases_Bool (product == other_product)) [
+      | inl same ↦ rw (tares_of-append, same, ← eqb-true product other_product same) (tare_decides (tares_of entries product) entry.dated other_day)
+      | inr other ↦ rw (tares_of-append, other) refl
+    ]

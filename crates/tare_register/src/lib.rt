@@ -6,4 +6,4 @@ mod tares;
 mod types;
 
 pub use tares::Tares;
-pub use types::{DatedTare, NoMemory, Span};
+pub use types::{DatedTare, NoMemory, ProductTare, Span};

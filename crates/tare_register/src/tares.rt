@@ -1,8 +1,8 @@
 ghost use Rattle.std.specs.Prelude.{◌≡◌, ◌+◌, ◌<◌, ◌≤◌, [], ◌∷◌, ◌++◌, IsOk, OnOk, OnErr};
-ghost use Rattle.tare_register.specs.Tares.{tare_of, span_of, DecidesWithin};
+ghost use Rattle.tare_register.specs.Tares.{entry_of, tare_of, span_of, DecidesWithin};
 
 use crate::deciding::{find_deciding, find_next_day};
-use crate::types::{DatedTare, NoMemory, Span};
+use crate::types::{DatedTare, NoMemory, ProductTare, Span};
 use std::alloc::Global;
 use std::marker::Model;
 
@@ -12,7 +12,7 @@ use std::marker::Model;
 /// A look-up goes through all entries: a product has few tares.
 #[derive(Drop)]
 pub struct Tares {
-    entries: Vec<DatedTare>,
+    entries: Vec<ProductTare>,
 }
 
 impl Model for Tares {
@@ -38,12 +38,15 @@ impl Tares {
     ///
     /// It is refused only for want of memory, and never while a place is reserved.
     pub fn put(&mut self, product: u32, day: i32, tare: i64) -> Result<(), NoMemory>
-        ensures ok { OnOk result (self.new.entries ≡ self.old.entries ++ record { product = product; day = day; tare = tare } ∷ []) }
+        ensures ok { OnOk result (self.new.entries ≡ self.old.entries ++ entry_of product day tare ∷ []) }
         ensures err { OnErr result (self.new.entries ≡ self.old.entries) }
         ensures room { 0 < self.old.spare → IsOk result }
         ensures spare { self.old.spare ≤ self.new.spare + 1 }
     {
-        self.entries.push(DatedTare { product, day, tare })?;
+        self.entries.push(ProductTare {
+            product,
+            dated: DatedTare { day, tare },
+        })?;
         Ok(())
     }
 
@@ -91,8 +94,8 @@ mod tests {
     #[test]
     fn a_tare_is_corrected_twice(rt: HostRuntime) -> Result<(), Fail> {
         let mut tares = Tares::new(rt.alloc());
-        tares.reserve(4)?;
         tares.put(1, MARCH_3, 10_000)?;
+        tares.reserve(3)?;
         tares.put(2, MARCH_3, 99)?;
         tares.put(1, MARCH_13, 11_000)?;
         tares.put(1, MARCH_3, 12_000)?;
