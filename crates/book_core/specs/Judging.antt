@@ -9,18 +9,18 @@ use Rattle.book_words.specs.declared.types.Act.TheVariants.{Weigh}
 use Rattle.book_words.specs.declared.types.Entry.{Entry}
 use Rattle.book_words.specs.declared.types.Reading.{Reading}
 use Rattle.book_words.specs.Acts.{newest_day}
-use Rattle.book_words.specs.Readings.{readings_among, net_from, limits_in}
-use Rattle.book_words.specs.Piles.{population_among, count_below, has_inadequate}
+use Rattle.book_words.specs.Readings.{readings_among, net_of_gross, limits_of_batch}
+use Rattle.book_words.specs.Piles.{population_of, count_below, is_held}
 
 -- the signal of a gross in a batch, by some population
 abbrev pub signal_by : List Entry → Name → ℤ → List Reading → Signal
 signal_by entries batch gross some =
-    signal_of (net_from entries (Some batch) (newest_day entries) gross) (limits_in entries batch)
-    (has_inadequate entries batch some) (length some) (count_below entries (limits_in entries batch).t1 some)
+    signal_of (net_of_gross entries (Some batch) (newest_day entries) gross) (limits_of_batch entries batch)
+    (is_held entries batch some) (length some) (count_below entries (limits_of_batch entries batch).t1 some)
 
 -- among so many of the first entries no batch has a population of more packs than it may have
 abbrev pub IsLimitedIn : ℕ → List Entry → Type 0
-IsLimitedIn many whole = (batch : Name) → length (population_among batch (readings_among many whole)) ≤ 10000
+IsLimitedIn many whole = (batch : Name) → length (population_of batch (readings_among many whole)) ≤ 10000
 
 abbrev pub is_weighing : Act → Bool
 is_weighing (Weigh lane gross prior) = true

@@ -1,7 +1,7 @@
 ghost use Rattle.std.specs.Prelude.{◌≡◌, ◌≤◌, length, not};
 ghost use Rattle.std.specs.List.{list_all};
 ghost use Rattle.book_words.specs.Names.{bytes_of, is_name_byte, is_name_shape};
-ghost use Rattle.book_words.specs.Refusals.{refused_if, is_within, book_full, day_unset, day_back, product_known, product_unknown, name_shape, nominal_range, day_range, batch_known, batch_unknown, not_running, lane_number, lane_busy, lane_idle, no_tare, gross_range, prior_wrong, tare_range};
+ghost use Rattle.book_words.specs.Refusals.{refused_if, is_within, book_full, day_unset, day_back, product_known, product_unknown, name_shape, nominal_range, day_range, batch_known, batch_unknown, batch_state, lane_number, lane_busy, lane_idle, no_tare, gross_range, prior_wrong, tare_range};
 
 use book_walks::unsettled::has_unsettled;
 use book_walks::{acts, tares};
@@ -15,45 +15,45 @@ fn refuse_if(test: bool, refusal: Refusal) -> Option<Refusal>
 }
 
 /// The list has as many rows as it may have, or more.
-pub fn is_full(limit: u32, entries: &[Entry]) -> Option<Refusal>
+pub fn book_full(limit: u32, entries: &[Entry]) -> Option<Refusal>
     ensures { result ≡ book_full limit entries.now }
 {
     refuse_if(limit as usize <= entries.len(), Refusal::BookFull { limit })
 }
 
 /// No day is set.
-pub fn no_day_is_set(entries: &[Entry]) -> Option<Refusal>
+pub fn day_unset(entries: &[Entry]) -> Option<Refusal>
     ensures { result ≡ day_unset entries.now }
 {
-    refuse_if(acts::last_day(entries).is_none(), Refusal::DayUnset)
+    refuse_if(acts::newest_day(entries).is_none(), Refusal::DayUnset)
 }
 
 /// The new day is before the newest.
-pub fn goes_back(entries: &[Entry], day: i32) -> Option<Refusal>
+pub fn day_back(entries: &[Entry], day: i32) -> Option<Refusal>
     ensures { result ≡ day_back entries.now day }
 {
-    match acts::last_day(entries) {
+    match acts::newest_day(entries) {
         Some(last) if day < last => Some(Refusal::DayBack { last }),
         _ => None,
     }
 }
 
 /// The name is a product.
-pub fn is_product(entries: &[Entry], name: &Name) -> Option<Refusal>
+pub fn product_known(entries: &[Entry], name: &Name) -> Option<Refusal>
     ensures { result ≡ product_known entries.now name.now }
 {
     refuse_if(
-        acts::nominal(entries, name).is_some(),
+        acts::nominal_of(entries, name).is_some(),
         Refusal::ProductKnown,
     )
 }
 
 /// The product isn't there.
-pub fn is_no_product(entries: &[Entry], name: &Name) -> Option<Refusal>
+pub fn product_unknown(entries: &[Entry], name: &Name) -> Option<Refusal>
     ensures { result ≡ product_unknown entries.now name.now }
 {
     refuse_if(
-        acts::nominal(entries, name).is_none(),
+        acts::nominal_of(entries, name).is_none(),
         Refusal::ProductUnknown,
     )
 }
@@ -85,14 +85,14 @@ fn has_name_shape(bytes: &[u8]) -> bool
 }
 
 /// The new name has not the shape of a name.
-pub fn is_misshapen(name: &Name) -> Option<Refusal>
+pub fn name_shape(name: &Name) -> Option<Refusal>
     ensures { result ≡ name_shape name.now }
 {
     refuse_if(!has_name_shape(name.as_bytes()), Refusal::NameShape)
 }
 
 /// The nominal quantity in mg isn't 5 g to 10 kg.
-pub fn nominal_out_of_range(nominal: i64) -> Option<Refusal>
+pub fn nominal_range(nominal: i64) -> Option<Refusal>
     ensures { result ≡ nominal_range nominal }
 {
     refuse_if(
@@ -102,85 +102,85 @@ pub fn nominal_out_of_range(nominal: i64) -> Option<Refusal>
 }
 
 /// The day isn't 1970-01-01 to 9999-12-31.
-pub fn day_out_of_range(day: i32) -> Option<Refusal>
+pub fn day_range(day: i32) -> Option<Refusal>
     ensures { result ≡ day_range day }
 {
     refuse_if(!(0 <= day && day <= 2_932_896), Refusal::DayRange)
 }
 
 /// The name is a batch.
-pub fn is_batch(entries: &[Entry], name: &Name) -> Option<Refusal>
+pub fn batch_known(entries: &[Entry], name: &Name) -> Option<Refusal>
     ensures { result ≡ batch_known entries.now name.now }
 {
-    refuse_if(acts::product(entries, name).is_some(), Refusal::BatchKnown)
+    refuse_if(acts::product_of(entries, name).is_some(), Refusal::BatchKnown)
 }
 
 /// The batch isn't there.
-pub fn is_no_batch(entries: &[Entry], name: &Name) -> Option<Refusal>
+pub fn batch_unknown(entries: &[Entry], name: &Name) -> Option<Refusal>
     ensures { result ≡ batch_unknown entries.now name.now }
 {
     refuse_if(
-        acts::product(entries, name).is_none(),
+        acts::product_of(entries, name).is_none(),
         Refusal::BatchUnknown,
     )
 }
 
 /// The batch isn't running.
-pub fn runs_no_more(entries: &[Entry], batch: &Name) -> Option<Refusal>
-    ensures { result ≡ not_running entries.now batch.now }
+pub fn batch_state(entries: &[Entry], batch: &Name) -> Option<Refusal>
+    ensures { result ≡ batch_state entries.now batch.now }
 {
-    match acts::state(entries, batch) {
+    match acts::state_of(entries, batch) {
         None | Some(BatchState::Running) => None,
         Some(state) => Some(Refusal::BatchState { state }),
     }
 }
 
 /// The lane isn't 1 to 16.
-pub fn lane_out_of_range(lane: u8) -> Option<Refusal>
+pub fn lane_number(lane: u8) -> Option<Refusal>
     ensures { result ≡ lane_number lane }
 {
     refuse_if(!(1 <= lane && lane <= 16), Refusal::LaneNumber)
 }
 
 /// The lane has a batch.
-pub fn is_busy(entries: &[Entry], lane: u8) -> Option<Refusal>
+pub fn lane_busy(entries: &[Entry], lane: u8) -> Option<Refusal>
     ensures { result ≡ lane_busy entries.now lane }
 {
-    let batch = acts::batch_of_lane(entries, lane)?;
+    let batch = acts::lane_batch(entries, lane)?;
     Some(Refusal::LaneBusy { batch })
 }
 
 /// The lane has no batch.
-pub fn is_idle(entries: &[Entry], lane: u8) -> Option<Refusal>
+pub fn lane_idle(entries: &[Entry], lane: u8) -> Option<Refusal>
     ensures { result ≡ lane_idle entries.now lane }
 {
     refuse_if(
-        acts::batch_of_lane(entries, lane).is_none(),
+        acts::lane_batch(entries, lane).is_none(),
         Refusal::LaneIdle,
     )
 }
 
 /// There is no tare for the batch's product on the newest day.
-pub fn tare_is_missing(entries: &[Entry], batch: &Name) -> Option<Refusal>
+pub fn no_tare(entries: &[Entry], batch: &Name) -> Option<Refusal>
     ensures { result ≡ no_tare entries.now batch.now }
 {
-    let product = acts::product(entries, batch)?;
-    let day = acts::last_day(entries)?;
+    let product = acts::product_of(entries, batch)?;
+    let day = acts::newest_day(entries)?;
     refuse_if(
-        tares::tare(entries, &product, day).is_none(),
+        tares::tare_of_product(entries, &product, day).is_none(),
         Refusal::NoTare { product },
     )
 }
 
 /// The gross in mg isn't 0 to 30 kg.
-pub fn gross_out_of_range(gross: i64) -> Option<Refusal>
+pub fn gross_range(gross: i64) -> Option<Refusal>
     ensures { result ≡ gross_range gross }
 {
     refuse_if(!(0 <= gross && gross <= 30_000_000), Refusal::GrossRange)
 }
 
 /// What the gate did is wanted and isn't said, or is said and isn't wanted.
-pub fn has_wrong_prior(entries: &[Entry], lane: u8, prior: Prior) -> Option<Refusal>
+pub fn prior_wrong(entries: &[Entry], lane: u8, prior: Prior) -> Option<Refusal>
     requires { length entries.now ≤ 1000000 }
     ensures { result ≡ prior_wrong entries.now lane prior }
 {
@@ -192,7 +192,7 @@ pub fn has_wrong_prior(entries: &[Entry], lane: u8, prior: Prior) -> Option<Refu
 }
 
 /// The tare in mg isn't 0 to 5 kg.
-pub fn tare_out_of_range(tare: i64) -> Option<Refusal>
+pub fn tare_range(tare: i64) -> Option<Refusal>
     ensures { result ≡ tare_range tare }
 {
     refuse_if(!(0 <= tare && tare <= 5_000_000), Refusal::TareRange)

@@ -1,5 +1,5 @@
 ghost use Rattle.std.specs.Prelude.{◌≡◌, ◌+◌, ◌<◌, ◌≤◌, [], ◌∷◌, ◌++◌, length, vec_len, vec_capacity, true, IfOk, OnOk};
-ghost use Rattle.book_words.specs.Signals.{signal_for};
+ghost use Rattle.book_words.specs.Signals.{recorded_signal};
 ghost use Rattle.book_walks.specs.Ranges.{AllInRange, is_in_range};
 ghost use Rattle.book_core.specs.Judging.{IsLimitedIn};
 
@@ -15,7 +15,7 @@ pub fn sign(entries: &mut Vec<Entry>, act: &Act) -> Result<Option<Signal>, NoMem
     requires act { is_in_range act.now ≡ true }
     requires limited { IsLimitedIn (length entries.old.items) entries.old.items }
     ensures entries { entries.new.items ≡ entries.old.items }
-    ensures signal { IfOk result (λ signal. signal ≡ signal_for entries.old.items act.now) }
+    ensures signal { IfOk result (λ signal. signal ≡ recorded_signal entries.old.items act.now) }
     ensures room { OnOk result (length entries.old.items < vec_capacity entries.new) }
 {
     let many = entries.as_slice().len();

@@ -8,49 +8,49 @@ use book_words::{Act, Entry, Name, Prior, Refusal};
 fn refuse_day(entries: &[Entry], day: i32) -> Option<Refusal>
     ensures { result ≡ refusal_by_rule entries.now (Act.NewDay day) }
 {
-    checks::goes_back(entries, day).or(checks::day_out_of_range(day))
+    checks::day_back(entries, day).or(checks::day_range(day))
 }
 
 // A product.
 fn refuse_product(entries: &[Entry], name: &Name, nominal: i64) -> Option<Refusal>
     ensures { result ≡ refusal_by_rule entries.now (Act.PutProduct name.now nominal) }
 {
-    checks::no_day_is_set(entries)
-        .or(checks::is_product(entries, name))
-        .or(checks::is_misshapen(name))
-        .or(checks::nominal_out_of_range(nominal))
+    checks::day_unset(entries)
+        .or(checks::product_known(entries, name))
+        .or(checks::name_shape(name))
+        .or(checks::nominal_range(nominal))
 }
 
 // A tare.
 fn refuse_tare(entries: &[Entry], product: &Name, day: i32, tare: i64) -> Option<Refusal>
     ensures { result ≡ refusal_by_rule entries.now (Act.PutTare product.now day tare) }
 {
-    checks::no_day_is_set(entries)
-        .or(checks::is_no_product(entries, product))
-        .or(checks::day_out_of_range(day))
-        .or(checks::tare_out_of_range(tare))
+    checks::day_unset(entries)
+        .or(checks::product_unknown(entries, product))
+        .or(checks::day_range(day))
+        .or(checks::tare_range(tare))
 }
 
 // The opening of a batch.
 fn refuse_opening(entries: &[Entry], batch: &Name, product: &Name) -> Option<Refusal>
     ensures { result ≡ refusal_by_rule entries.now (Act.OpenBatch batch.now product.now) }
 {
-    checks::no_day_is_set(entries)
-        .or(checks::is_no_product(entries, product))
-        .or(checks::is_misshapen(batch))
-        .or(checks::is_batch(entries, batch))
+    checks::day_unset(entries)
+        .or(checks::product_unknown(entries, product))
+        .or(checks::name_shape(batch))
+        .or(checks::batch_known(entries, batch))
 }
 
 // The start of a lane.
 fn refuse_start(entries: &[Entry], lane: u8, batch: &Name) -> Option<Refusal>
     ensures { result ≡ refusal_by_rule entries.now (Act.StartLane lane batch.now) }
 {
-    checks::no_day_is_set(entries)
-        .or(checks::is_no_batch(entries, batch))
-        .or(checks::runs_no_more(entries, batch))
-        .or(checks::lane_out_of_range(lane))
-        .or(checks::is_busy(entries, lane))
-        .or(checks::tare_is_missing(entries, batch))
+    checks::day_unset(entries)
+        .or(checks::batch_unknown(entries, batch))
+        .or(checks::batch_state(entries, batch))
+        .or(checks::lane_number(lane))
+        .or(checks::lane_busy(entries, lane))
+        .or(checks::no_tare(entries, batch))
 }
 
 // A weighing.
@@ -58,11 +58,11 @@ fn refuse_weighing(entries: &[Entry], lane: u8, gross: i64, prior: Prior) -> Opt
     requires { length entries.now ≤ 1000000 }
     ensures { result ≡ refusal_by_rule entries.now (Act.Weigh lane gross prior) }
 {
-    checks::no_day_is_set(entries)
-        .or(checks::lane_out_of_range(lane))
-        .or(checks::is_idle(entries, lane))
-        .or(checks::gross_out_of_range(gross))
-        .or(checks::has_wrong_prior(entries, lane, prior))
+    checks::day_unset(entries)
+        .or(checks::lane_number(lane))
+        .or(checks::lane_idle(entries, lane))
+        .or(checks::gross_range(gross))
+        .or(checks::prior_wrong(entries, lane, prior))
 }
 
 // The stop of a lane.
@@ -70,10 +70,10 @@ fn refuse_stop(entries: &[Entry], lane: u8, prior: Prior) -> Option<Refusal>
     requires { length entries.now ≤ 1000000 }
     ensures { result ≡ refusal_by_rule entries.now (Act.StopLane lane prior) }
 {
-    checks::no_day_is_set(entries)
-        .or(checks::lane_out_of_range(lane))
-        .or(checks::is_idle(entries, lane))
-        .or(checks::has_wrong_prior(entries, lane, prior))
+    checks::day_unset(entries)
+        .or(checks::lane_number(lane))
+        .or(checks::lane_idle(entries, lane))
+        .or(checks::prior_wrong(entries, lane, prior))
 }
 
 /// Why the rules refuse an act behind a list; `None` where they don't.
@@ -97,5 +97,5 @@ pub fn refuse_within(limit: u32, entries: &[Entry], act: &Act) -> Option<Refusal
     requires { length entries.now ≤ 1000000 }
     ensures { result ≡ refusal_of limit entries.now act.now }
 {
-    checks::is_full(limit, entries).or(refuse(entries, act))
+    checks::book_full(limit, entries).or(refuse(entries, act))
 }

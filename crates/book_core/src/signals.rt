@@ -3,16 +3,16 @@ ghost use Rattle.std.specs.Option.{unwrap_or, option_and_then, option_map};
 ghost use Rattle.annex_tables.specs.Errors.{limits_of};
 ghost use Rattle.pack_judge.specs.Judge.{signal_of};
 ghost use Rattle.book_words.specs.declared.types.Entry.{Entry};
-ghost use Rattle.book_words.specs.Acts.{nominal_of, product_of, newest_day, started_for};
-ghost use Rattle.book_words.specs.Readings.{limits_in, net_from, readings_among};
-ghost use Rattle.book_words.specs.Piles.{population_among, count_below};
-ghost use Rattle.book_words.specs.Signals.{followed_by, signal_for, signal_in};
+ghost use Rattle.book_words.specs.Acts.{nominal_of, product_of, newest_day, last_batch};
+ghost use Rattle.book_words.specs.Readings.{limits_of_batch, net_of_gross, readings_among};
+ghost use Rattle.book_words.specs.Piles.{population_of, count_below};
+ghost use Rattle.book_words.specs.Signals.{with_act, recorded_signal, judged_signal};
 ghost use Rattle.book_walks.specs.Ranges.{AllInRange, is_in_range};
 ghost use Rattle.book_core.specs.Judging.{signal_by, IsLimitedIn};
 
 use annex_tables::Limits;
 use book_walks::acts;
-use book_walks::population::{population, tare_on_day};
+use book_walks::population::{population, tare_of_reading};
 use book_words::{Act, Entry, Name};
 use pack_judge::{Signal, signal};
 
@@ -24,20 +24,20 @@ const NO_LIMITS: Limits = Limits {
 };
 
 // The nominal quantity of a batch's product, in mg.
-fn nominal_in(entries: &[Entry], batch: &Name) -> Option<i64>
+fn nominal_put(entries: &[Entry], batch: &Name) -> Option<i64>
     ensures value { result ≡ option_and_then (nominal_of entries.now) (product_of entries.now batch.now) }
     ensures in_range { AllInRange entries.now → IfSome result (λ nominal. (pos 5000 ≤ℤ nominal) × (nominal ≤ℤ pos 10000000)) }
 {
-    let product = acts::product(entries, batch)?;
-    acts::nominal(entries, &product)
+    let product = acts::product_of(entries, batch)?;
+    acts::nominal_of(entries, &product)
 }
 
 /// The limits of a batch's product.
 pub fn limits(entries: &[Entry], batch: &Name) -> Limits
     requires { AllInRange entries.now }
-    ensures { result ≡ limits_in entries.now batch.now }
+    ensures { result ≡ limits_of_batch entries.now batch.now }
 {
-    match nominal_in(entries, batch) {
+    match nominal_put(entries, batch) {
         Some(nominal) => annex_tables::limits(nominal).unwrap(),
         None => NO_LIMITS,
     }
@@ -48,9 +48,9 @@ fn net_in(entries: &[Entry], batch: &Name, gross: i64) -> i64
     requires in_range { AllInRange entries.now }
     requires low { pos 0 ≤ℤ gross }
     requires high { gross ≤ℤ pos 30000000 }
-    ensures { result ≡ net_from entries.now (Some batch.now) (newest_day entries.now) gross }
+    ensures { result ≡ net_of_gross entries.now (Some batch.now) (newest_day entries.now) gross }
 {
-    let tare = tare_on_day(entries, batch, acts::last_day(entries)).unwrap_or(0);
+    let tare = tare_of_reading(entries, batch, acts::newest_day(entries)).unwrap_or(0);
     gross - tare
 }
 
@@ -62,7 +62,7 @@ fn judge(whole: &[Entry], many: usize, batch: &Name, gross: i64) -> Signal
     requires low { pos 0 ≤ℤ gross }
     requires high { gross ≤ℤ pos 30000000 }
     requires limited { IsLimitedIn many whole.now }
-    ensures { result ≡ signal_by (take many whole.now) batch.now gross (population_among batch.now (readings_among many whole.now)) }
+    ensures { result ≡ signal_by (take many whole.now) batch.now gross (population_of batch.now (readings_among many whole.now)) }
 {
     let (entries, _) = whole.split_at(many);
     let limits = limits(entries, batch);
@@ -84,11 +84,11 @@ fn weigh(whole: &[Entry], many: usize, lane: u8, gross: i64) -> Option<Signal>
     requires low { pos 0 ≤ℤ gross }
     requires high { gross ≤ℤ pos 30000000 }
     requires limited { IsLimitedIn many whole.now }
-    ensures { result ≡ option_map (λ batch. signal_by (take many whole.now) batch gross (population_among batch (readings_among many whole.now)))
-        (started_for (take many whole.now) lane) }
+    ensures { result ≡ option_map (λ batch. signal_by (take many whole.now) batch gross (population_of batch (readings_among many whole.now)))
+        (last_batch (take many whole.now) lane) }
 {
     let (entries, _) = whole.split_at(many);
-    let batch = acts::last_started(entries, lane)?;
+    let batch = acts::last_batch(entries, lane)?;
     Some(judge(whole, many, &batch, gross))
 }
 
@@ -99,7 +99,7 @@ pub fn record(whole: &[Entry], many: usize, act: &Act) -> Option<Signal>
     requires in_range { AllInRange whole.now }
     requires act { is_in_range act.now ≡ true }
     requires limited { IsLimitedIn many whole.now }
-    ensures { (entries : List Entry) → whole.now ≡ followed_by entries act.now → many ≡ length entries → result ≡ signal_for entries act.now }
+    ensures { (entries : List Entry) → whole.now ≡ with_act entries act.now → many ≡ length entries → result ≡ recorded_signal entries act.now }
 {
     match act {
         Act::Weigh { lane, gross, .. } => weigh(whole, many, *lane, *gross),

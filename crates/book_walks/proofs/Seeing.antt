@@ -8,26 +8,26 @@ use Rattle.book_words.specs.declared.types.Prior.{Prior}
 use Rattle.book_words.specs.declared.types.Act.{Act}
 use Rattle.book_words.specs.declared.types.Act.TheVariants.{NewDay, PutProduct, PutTare, OpenBatch, StartLane, Weigh, StopLane}
 use Rattle.book_words.specs.declared.types.Entry.{Entry}
-use Rattle.book_words.specs.Acts.{day_in, started_in, newest_day, started_for, first_said, prior_in}
+use Rattle.book_words.specs.Acts.{day_set, batch_started, newest_day, last_batch, first_said, prior_told}
 use Rattle.book_words.specs.Readings.{reading_from, reading_at}
 use Rattle.book_walks.specs.declared.sight.Sight.{Sight}
 use Rattle.book_walks.specs.Sight.{Sees}
-use Rattle.book_walks.proofs.Said.{last_said_more}
+use Rattle.book_words.proofs.LastSaid.{last_said_more}
 
 -- one more entry is seen
 pub sees_next : (entries : List Entry) (place : ℕ) (d : Entry) (old new : Sight) → place < length entries → Sees (take place entries) old
-    → new.day ≡ option_or (day_in (get_or entries place d).act) old.day
-    → ((lane : ℕ) (e : Option Name) → lane < 256 → get_or new.batches lane e ≡ option_or (started_in lane (get_or entries place d).act) (get_or old.batches lane e))
+    → new.day ≡ option_or (day_set (get_or entries place d).act) old.day
+    → ((lane : ℕ) (e : Option Name) → lane < 256 → get_or new.batches lane e ≡ option_or (batch_started lane (get_or entries place d).act) (get_or old.batches lane e))
     → Sees (take (place + 1) entries) new
 sees_next entries place d old new inside seen day batches =
     record {
-      day = day ∙ ap (λ o. option_or (day_in (get_or entries place d).act) o) seen.day ∙ sym (last_said_more day_in entries place d inside);
-      batches = λ lane e h. batches lane e h ∙ ap (λ o. option_or (started_in lane (get_or entries place d).act) o) (seen.batches lane e h) ∙ sym (last_said_more (started_in lane) entries place d inside);
+      day = day ∙ ap (λ o. option_or (day_set (get_or entries place d).act) o) seen.day ∙ sym (last_said_more day_set entries place d inside);
+      batches = λ lane e h. batches lane e h ∙ ap (λ o. option_or (batch_started lane (get_or entries place d).act) o) (seen.batches lane e h) ∙ sym (last_said_more (batch_started lane) entries place d inside);
     }
 
 -- the reading at a place where a weighing stands
 pub reading_here : (entries : List Entry) (place lane : ℕ) (gross : ℤ) (prior : Prior) (d : Entry) (day : Option ℤ) (batch : Option Name) (next : Option Prior) → place < length entries
-    → (get_or entries place d).act ≡ Weigh lane gross prior → day ≡ newest_day (take place entries) → batch ≡ started_for (take place entries) lane → next ≡ first_said (prior_in lane) (drop (place + 1) entries)
+    → (get_or entries place d).act ≡ Weigh lane gross prior → day ≡ newest_day (take place entries) → batch ≡ last_batch (take place entries) lane → next ≡ first_said (prior_told lane) (drop (place + 1) entries)
     → Some (record { number = place + 1; lane = lane; gross = gross; signal = (get_or entries place d).signal; day = day; batch = batch; next = next }) ≡ reading_at entries place
 reading_here entries place lane gross prior d day batch next inside act day_is batch_is next_is =
     let before = take place entries in

@@ -5,7 +5,7 @@ use Rattle.annex_tables.specs.declared.types.Limits.{Limits}
 use Rattle.book_words.specs.declared.name.Name.{Name}
 use Rattle.book_words.specs.declared.types.Entry.{Entry}
 use Rattle.book_words.specs.declared.types.Reading.{Reading}
-use Rattle.book_words.specs.Readings.{tare_at}
+use Rattle.book_words.specs.Readings.{tare_of_reading}
 use Rattle.book_words.specs.Piles.{count_below}
 use Rattle.book_walks.specs.declared.counters.Population.{Population}
 use Rattle.book_walks.specs.declared.counters.TareOfDay.{TareOfDay}
@@ -18,7 +18,7 @@ pub record CountsOf (entries : List Entry) (limits : Limits) (some : List Readin
 
 -- the tare is that of the batch's product on the day
 abbrev pub IsTareOf : List Entry → Name → TareOfDay → Type 0
-IsTareOf entries batch known = known.tare ≡ unwrap_or (tare_at entries (Some batch) known.day) (pos 0)
+IsTareOf entries batch known = known.tare ≡ unwrap_or (tare_of_reading entries (Some batch) known.day) (pos 0)
 
 -- of all readings, those that aren't left are counted
 pub record Left (entries : List Entry) (limits : Limits) (all rest : List Reading) (population : Population) : Type 0 where

@@ -1,5 +1,4 @@
 pub mod Sight
-pub mod Ranges
 pub mod Deciding
 pub mod Picking
 pub mod Counting

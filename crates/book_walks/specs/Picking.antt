@@ -1,10 +1,10 @@
 -- The readings that are counted.
-use Rattle.std.specs.Prelude.{Bool, true, ◌&&◌, Option, Some, None, if◌then◌else◌}
+use Rattle.std.specs.Prelude.{ℕ, ◌==◌, Bool, true, ◌&&◌, Option, Some, None, if◌then◌else◌}
 use Rattle.pack_judge.specs.declared.types.Pile.{Pile}
 use Rattle.book_words.specs.declared.name.Name.{Name}
 use Rattle.book_words.specs.declared.types.Reading.{Reading}
 use Rattle.book_words.specs.Readings.{is_of_batch}
-use Rattle.book_words.specs.Piles.{pile_of, is_counted, same_pile}
+use Rattle.book_words.specs.Piles.{pile_of, is_counted, same_pile, is_unsettled}
 
 -- a reading where it passes a test
 abbrev pub picked : (Reading → Bool) → Option Reading → Option Reading
@@ -23,3 +23,7 @@ lies_in pile = λ reading. same_pile (pile_of reading) pile
 abbrev pub is_any : Option Pile → Reading → Bool
 is_any (Some pile) = lies_in pile
 is_any None = λ reading. true
+
+-- an unsettled reading of a lane
+abbrev pub awaits : ℕ → Reading → Bool
+awaits lane = λ reading. (reading.lane == lane) && is_unsettled reading

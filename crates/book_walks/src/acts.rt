@@ -1,12 +1,13 @@
 ghost use Rattle.std.specs.Prelude.{◌≡◌, pos, ◌≤ℤ◌, IfSome};
-ghost use Rattle.book_words.specs.Acts.{newest_day, nominal_of, product_of, state_of, started_for, batch_on, first_said, prior_in};
-ghost use Rattle.book_walks.specs.Ranges.{AllInRange};
+ghost use Rattle.hall_limits.specs.declared.TheConstants.{MIN_NOMINAL, MAX_NOMINAL};
+ghost use Rattle.book_words.specs.Acts.{newest_day, nominal_of, product_of, state_of, last_batch, lane_batch, next_prior};
+ghost use Rattle.book_words.specs.Ranges.{AllInRange};
 
 use crate::says;
 use book_words::{BatchState, Entry, Name, Prior};
 
 /// The newest day of a list.
-pub fn last_day(entries: &[Entry]) -> Option<i32>
+pub fn newest_day(entries: &[Entry]) -> Option<i32>
     ensures { result ≡ newest_day entries.now }
 {
     let mut last = None;
@@ -19,9 +20,12 @@ pub fn last_day(entries: &[Entry]) -> Option<i32>
 }
 
 /// The nominal quantity of a product in mg; `None` where it isn't a product.
-pub fn nominal(entries: &[Entry], product: &Name) -> Option<i64>
+pub fn nominal_of(entries: &[Entry], product: &Name) -> Option<i64>
     ensures value { result ≡ nominal_of entries.now product.now }
-    ensures in_range { AllInRange entries.now → IfSome result (λ nominal. (pos 5000 ≤ℤ nominal) × (nominal ≤ℤ pos 10000000)) }
+    ensures in_range {
+        AllInRange entries.now
+        → IfSome result (λ nominal. (MIN_NOMINAL ≤ℤ nominal) × (nominal ≤ℤ MAX_NOMINAL))
+    }
 {
     let mut last = None;
     for entry in entries {
@@ -33,7 +37,7 @@ pub fn nominal(entries: &[Entry], product: &Name) -> Option<i64>
 }
 
 /// The product of a batch; `None` where it isn't a batch.
-pub fn product(entries: &[Entry], batch: &Name) -> Option<Name>
+pub fn product_of(entries: &[Entry], batch: &Name) -> Option<Name>
     ensures { result ≡ product_of entries.now batch.now }
 {
     let mut last = None;
@@ -46,7 +50,7 @@ pub fn product(entries: &[Entry], batch: &Name) -> Option<Name>
 }
 
 /// The state of a batch; `None` where it isn't a batch.
-pub fn state(entries: &[Entry], batch: &Name) -> Option<BatchState>
+pub fn state_of(entries: &[Entry], batch: &Name) -> Option<BatchState>
     ensures { result ≡ state_of entries.now batch.now }
 {
     let mut last = None;
@@ -59,8 +63,8 @@ pub fn state(entries: &[Entry], batch: &Name) -> Option<BatchState>
 }
 
 /// The batch for which a lane was started last.
-pub fn last_started(entries: &[Entry], lane: u8) -> Option<Name>
-    ensures { result ≡ started_for entries.now lane }
+pub fn last_batch(entries: &[Entry], lane: u8) -> Option<Name>
+    ensures { result ≡ last_batch entries.now lane }
 {
     let mut last = None;
     for entry in entries {
@@ -72,8 +76,8 @@ pub fn last_started(entries: &[Entry], lane: u8) -> Option<Name>
 }
 
 /// The batch that a lane has.
-pub fn batch_of_lane(entries: &[Entry], lane: u8) -> Option<Name>
-    ensures { result ≡ batch_on entries.now lane }
+pub fn lane_batch(entries: &[Entry], lane: u8) -> Option<Name>
+    ensures { result ≡ lane_batch entries.now lane }
 {
     let mut last = None;
     for entry in entries {
@@ -85,8 +89,8 @@ pub fn batch_of_lane(entries: &[Entry], lane: u8) -> Option<Name>
 }
 
 /// What the first weighing or stop of a lane says of the gate.
-pub fn first_prior(entries: &[Entry], lane: u8) -> Option<Prior>
-    ensures { result ≡ first_said (prior_in lane) entries.now }
+pub fn next_prior(entries: &[Entry], lane: u8) -> Option<Prior>
+    ensures { result ≡ next_prior entries.now lane }
 {
     for entry in entries {
         if let Some(prior) = says::prior_told(&entry.act, lane) {

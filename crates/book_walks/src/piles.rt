@@ -1,6 +1,6 @@
 ghost use Rattle.std.specs.Prelude.{◌≡◌, ◌&&◌};
 ghost use Rattle.book_words.specs.Readings.{is_of_batch};
-ghost use Rattle.book_words.specs.Piles.{pile_of, pile_by, is_counted};
+ghost use Rattle.book_words.specs.Piles.{pile_of, settled_pile, is_counted};
 ghost use Rattle.book_walks.specs.Picking.{counts_for, lies_in};
 
 use book_words::{Name, Prior, Reading};
@@ -10,7 +10,7 @@ use pack_judge::{Pile, Signal};
 pub fn pile(reading: &Reading) -> Pile
     ensures { result ≡ pile_of reading.now }
 {
-    match (reading.signal, reading.next) {
+    match (reading.signal, reading.next_prior) {
         (Some(Signal::Pass), Some(Prior::Unknown)) => Pile::Voided,
         (Some(Signal::Pass), Some(Prior::Stayed)) => Pile::Rejected,
         (Some(Signal::Reject(_)), _) => Pile::Rejected,

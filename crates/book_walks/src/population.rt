@@ -1,12 +1,13 @@
 ghost use Rattle.std.specs.Prelude.{◌≡◌, ◌+◌, ◌<◌, ◌≤◌, ◌^◌, pos, ◌-ℤ◌, ◌≤ℤ◌, int_lt, if◌then◌else◌, length, take, List, Some, IfSome, nat_lt};
 ghost use Rattle.std.specs.List.{cons_option};
+ghost use Rattle.hall_limits.specs.declared.TheConstants.{MAX_GROSS, MAX_TARE, MAX_ROWS};
 ghost use Rattle.book_words.specs.declared.types.Reading.{Reading};
 ghost use Rattle.std.specs.Option.{unwrap_or};
 ghost use Rattle.pack_judge.specs.Judge.{signal_of};
-ghost use Rattle.book_words.specs.Readings.{reading_at, readings_among, tare_at, is_of_batch, limits_in};
-ghost use Rattle.book_words.specs.Piles.{pile_of, is_counted, population_among, count_below};
+ghost use Rattle.book_words.specs.Readings.{reading_at, readings_among, tare_of_reading, is_of_batch, limits_of_batch};
+ghost use Rattle.book_words.specs.Piles.{pile_of, is_counted, population_of, count_below};
 ghost use Rattle.book_walks.specs.Sight.{Sees};
-ghost use Rattle.book_walks.specs.Ranges.{AllInRange};
+ghost use Rattle.book_words.specs.Ranges.{AllInRange};
 ghost use Rattle.book_walks.specs.Picking.{picked, counts_for};
 ghost use Rattle.book_walks.specs.Counting.{CountsOf, IsTareOf, Left};
 
@@ -17,13 +18,13 @@ use annex_tables::Limits;
 use book_words::{Entry, Name, Reading};
 
 /// The tare of a batch's product on a day, in mg.
-pub fn tare_on_day(entries: &[Entry], batch: &Name, day: Option<i32>) -> Option<i64>
-    ensures value { result ≡ tare_at entries.now (Some batch.now) day }
-    ensures in_range { AllInRange entries.now → IfSome result (λ tare. (pos 0 ≤ℤ tare) × (tare ≤ℤ pos 5000000)) }
+pub fn tare_of_reading(entries: &[Entry], batch: &Name, day: Option<i32>) -> Option<i64>
+    ensures value { result ≡ tare_of_reading entries.now (Some batch.now) day }
+    ensures in_range { AllInRange entries.now → IfSome result (λ tare. (pos 0 ≤ℤ tare) × (tare ≤ℤ MAX_TARE)) }
 {
     let day = day?;
-    let product = acts::product(entries, batch)?;
-    tares::tare(entries, &product, day)
+    let product = acts::product_of(entries, batch)?;
+    tares::tare_of_product(entries, &product, day)
 }
 
 // Turns to a day, and looks the tare up where it is another day than before.
@@ -31,24 +32,24 @@ fn turn_to(known: &mut TareOfDay, entries: &[Entry], batch: &Name, reading: &Rea
     requires in_range { AllInRange entries.now }
     requires known { IsTareOf entries.now batch.now known.old }
     requires low { pos 0 ≤ℤ known.old.tare }
-    requires high { known.old.tare ≤ℤ pos 5000000 }
+    requires high { known.old.tare ≤ℤ MAX_TARE }
     ensures known { IsTareOf entries.now batch.now known.new }
     ensures day { known.new.day ≡ reading.now.day }
     ensures low { pos 0 ≤ℤ known.new.tare }
-    ensures high { known.new.tare ≤ℤ pos 5000000 }
+    ensures high { known.new.tare ≤ℤ MAX_TARE }
 {
     if known.day != reading.day {
         known.day = reading.day;
-        known.tare = tare_on_day(entries, batch, reading.day).unwrap_or(0);
+        known.tare = tare_of_reading(entries, batch, reading.day).unwrap_or(0);
     }
 }
 
 // Whether the net of a reading is below a limit, all in mg.
 fn is_below(reading: &Reading, known: &TareOfDay, limit: i64) -> bool
     requires gross_low { pos 0 ≤ℤ reading.now.gross }
-    requires gross_high { reading.now.gross ≤ℤ pos 30000000 }
+    requires gross_high { reading.now.gross ≤ℤ MAX_GROSS }
     requires tare_low { pos 0 ≤ℤ known.now.tare }
-    requires tare_high { known.now.tare ≤ℤ pos 5000000 }
+    requires tare_high { known.now.tare ≤ℤ MAX_TARE }
     ensures { result ≡ int_lt (reading.now.gross -ℤ known.now.tare) limit }
 {
     reading.gross - known.tare < limit
@@ -57,9 +58,9 @@ fn is_below(reading: &Reading, known: &TareOfDay, limit: i64) -> bool
 // Counts a reading of this tare.
 fn add(population: &mut Population, reading: &Reading, known: &TareOfDay, limits: &Limits)
     requires gross_low { pos 0 ≤ℤ reading.now.gross }
-    requires gross_high { reading.now.gross ≤ℤ pos 30000000 }
+    requires gross_high { reading.now.gross ≤ℤ MAX_GROSS }
     requires tare_low { pos 0 ≤ℤ known.now.tare }
-    requires tare_high { known.now.tare ≤ℤ pos 5000000 }
+    requires tare_high { known.now.tare ≤ℤ MAX_TARE }
     requires room { population.old.n < 2 ^ 31 }
     requires nonstandard { population.old.nonstandard ≤ population.old.n }
     requires inadequate { population.old.inadequate ≤ population.old.n }
@@ -81,12 +82,12 @@ fn add(population: &mut Population, reading: &Reading, known: &TareOfDay, limits
 // The reading at a place, where it counts for a batch.
 fn counted_at(sight: &Sight, entries: &[Entry], place: usize, batch: &Name) -> Option<Reading>
     requires inside { place < length entries.now }
-    requires few { length entries.now ≤ 1000000 }
+    requires few { length entries.now ≤ MAX_ROWS }
     requires seen { Sees (take place entries.now) sight.now }
     requires in_range { AllInRange entries.now }
     ensures value { result ≡ picked (counts_for batch.now) (reading_at entries.now place) }
     ensures gross_low { IfSome result (λ reading. pos 0 ≤ℤ reading.gross) }
-    ensures gross_high { IfSome result (λ reading. reading.gross ≤ℤ pos 30000000) }
+    ensures gross_high { IfSome result (λ reading. reading.gross ≤ℤ MAX_GROSS) }
     ensures of_batch { IfSome result (λ reading. reading.batch ≡ Some batch.now) }
 {
     let reading = walk::reading(sight, entries, place)?;
@@ -107,12 +108,12 @@ fn count(
     limits: &Limits,
 )
     requires gross_low { IfSome reading (λ reading. pos 0 ≤ℤ reading.gross) }
-    requires gross_high { IfSome reading (λ reading. reading.gross ≤ℤ pos 30000000) }
+    requires gross_high { IfSome reading (λ reading. reading.gross ≤ℤ MAX_GROSS) }
     requires of_batch { IfSome reading (λ reading. reading.batch ≡ Some batch.now) }
     requires in_range { AllInRange entries.now }
     requires known { IsTareOf entries.now batch.now known.old }
     requires tare_low { pos 0 ≤ℤ known.old.tare }
-    requires tare_high { known.old.tare ≤ℤ pos 5000000 }
+    requires tare_high { known.old.tare ≤ℤ MAX_TARE }
     requires room { population.old.n < 2 ^ 31 }
     requires nonstandard { population.old.nonstandard ≤ population.old.n }
     requires inadequate { population.old.inadequate ≤ population.old.n }
@@ -123,7 +124,7 @@ fn count(
     ensures inadequate_within { population.new.inadequate ≤ population.new.n }
     ensures known { IsTareOf entries.now batch.now known.new }
     ensures tare_low { pos 0 ≤ℤ known.new.tare }
-    ensures tare_high { known.new.tare ≤ℤ pos 5000000 }
+    ensures tare_high { known.new.tare ≤ℤ MAX_TARE }
 {
     if let Some(reading) = reading {
         turn_to(known, entries, batch, &reading);
@@ -135,9 +136,9 @@ fn count(
 /// the tares as the first entries have them.
 pub fn population(whole: &[Entry], many: usize, batch: &Name, limits: &Limits) -> Population
     requires inside { many ≤ length whole.now }
-    requires few { length whole.now ≤ 1000000 }
+    requires few { length whole.now ≤ MAX_ROWS }
     requires in_range { AllInRange whole.now }
-    ensures counts { CountsOf (take many whole.now) limits.now (population_among batch.now (readings_among many whole.now)) result }
+    ensures counts { CountsOf (take many whole.now) limits.now (population_of batch.now (readings_among many whole.now)) result }
     ensures nonstandard { result.nonstandard ≤ result.n }
 {
     let (entries, _) = whole.split_at(many);

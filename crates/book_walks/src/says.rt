@@ -1,12 +1,13 @@
 ghost use Rattle.std.specs.Prelude.{◌≡◌};
-ghost use Rattle.book_words.specs.Acts.{day_in, nominal_in, opened_in, product_in, state_in, started_in, use_in, prior_in};
-ghost use Rattle.book_words.specs.Tares.{tare_in};
+ghost use Rattle.book_words.specs.Acts.{day_set, nominal_put, batch_opened, product_given, state_set, batch_started, lane_used, prior_told};
+ghost use Rattle.book_words.specs.Tares.{tare_put};
 
-use book_words::{Act, BatchState, DatedTare, Name, Prior};
+use book_words::{Act, BatchState, Name, Prior};
+use tare_register::DatedTare;
 
 /// The day that an act sets.
 pub fn day_set(act: &Act) -> Option<i32>
-    ensures { result ≡ day_in act.now }
+    ensures { result ≡ day_set act.now }
 {
     match act {
         Act::NewDay { day } => Some(*day),
@@ -16,7 +17,7 @@ pub fn day_set(act: &Act) -> Option<i32>
 
 /// The nominal quantity in mg that an act puts for a product.
 pub fn nominal_put(act: &Act, product: &Name) -> Option<i64>
-    ensures { result ≡ nominal_in product.now act.now }
+    ensures { result ≡ nominal_put product.now act.now }
 {
     match act {
         Act::PutProduct { name, nominal } if name.is(product) => Some(*nominal),
@@ -26,7 +27,7 @@ pub fn nominal_put(act: &Act, product: &Name) -> Option<i64>
 
 /// The dated tare that an act puts for a product.
 pub fn tare_put(act: &Act, product: &Name) -> Option<DatedTare>
-    ensures { result ≡ tare_in product.now act.now }
+    ensures { result ≡ tare_put product.now act.now }
 {
     match act {
         Act::PutTare {
@@ -43,7 +44,7 @@ pub fn tare_put(act: &Act, product: &Name) -> Option<DatedTare>
 
 /// The batch that an act opens.
 pub fn batch_opened(act: &Act) -> Option<Name>
-    ensures { result ≡ opened_in act.now }
+    ensures { result ≡ batch_opened act.now }
 {
     match act {
         Act::OpenBatch { batch, .. } => Some(*batch),
@@ -53,7 +54,7 @@ pub fn batch_opened(act: &Act) -> Option<Name>
 
 /// The product of a batch, in the act that opens it.
 pub fn product_given(act: &Act, batch: &Name) -> Option<Name>
-    ensures { result ≡ product_in batch.now act.now }
+    ensures { result ≡ product_given batch.now act.now }
 {
     match act {
         Act::OpenBatch {
@@ -66,7 +67,7 @@ pub fn product_given(act: &Act, batch: &Name) -> Option<Name>
 
 /// The state of a batch from an act on.
 pub fn state_set(act: &Act, batch: &Name) -> Option<BatchState>
-    ensures { result ≡ state_in batch.now act.now }
+    ensures { result ≡ state_set batch.now act.now }
 {
     match act {
         Act::OpenBatch { batch: name, .. } if name.is(batch) => Some(BatchState::Running),
@@ -76,7 +77,7 @@ pub fn state_set(act: &Act, batch: &Name) -> Option<BatchState>
 
 /// The batch for which an act starts a lane.
 pub fn batch_started(act: &Act, lane: u8) -> Option<Name>
-    ensures { result ≡ started_in lane act.now }
+    ensures { result ≡ batch_started lane act.now }
 {
     match act {
         Act::StartLane {
@@ -89,7 +90,7 @@ pub fn batch_started(act: &Act, lane: u8) -> Option<Name>
 
 /// The batch that a lane has from an act on: one at a start, none at a stop.
 pub fn lane_used(act: &Act, lane: u8) -> Option<Option<Name>>
-    ensures { result ≡ use_in lane act.now }
+    ensures { result ≡ lane_used lane act.now }
 {
     match act {
         Act::StartLane {
@@ -103,7 +104,7 @@ pub fn lane_used(act: &Act, lane: u8) -> Option<Option<Name>>
 
 /// What a weighing or a stop of a lane says of the gate.
 pub fn prior_told(act: &Act, lane: u8) -> Option<Prior>
-    ensures { result ≡ prior_in lane act.now }
+    ensures { result ≡ prior_told lane act.now }
 {
     match act {
         Act::Weigh {

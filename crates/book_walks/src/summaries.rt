@@ -1,11 +1,12 @@
 ghost use Rattle.std.specs.Prelude.{◌≡◌, ◌≤◌, false, length};
 ghost use Rattle.std.specs.Option.{option_map_or};
+ghost use Rattle.hall_limits.specs.declared.TheConstants.{MAX_ROWS};
 ghost use Rattle.book_words.specs.Acts.{state_of};
 ghost use Rattle.book_words.specs.Readings.{readings};
 ghost use Rattle.book_words.specs.Piles.{tally, in_pile};
 ghost use Rattle.book_words.specs.Answers.{same_state, batches_in, summary};
-ghost use Rattle.book_words.specs.Told.{IsGrossInRange, IsSummaryInRange};
-ghost use Rattle.book_walks.specs.Ranges.{AllInRange};
+ghost use Rattle.book_words.specs.Ranges.{IsGrossInRange, IsSummaryInRange};
+ghost use Rattle.book_words.specs.Ranges.{AllInRange};
 
 use crate::{acts, says, tallies};
 use book_words::{BatchState, Entry, Name, SummaryView};
@@ -13,7 +14,7 @@ use pack_judge::{Pile, Tally};
 
 // The readings of a list.
 fn tally_all(entries: &[Entry]) -> Tally
-    requires few { length entries.now ≤ 1000000 }
+    requires few { length entries.now ≤ MAX_ROWS }
     requires in_range { AllInRange entries.now }
     ensures value { result ≡ tally (readings entries.now) }
     ensures in_range { IsGrossInRange result }
@@ -23,7 +24,7 @@ fn tally_all(entries: &[Entry]) -> Tally
 
 // The readings of a list that lie in a pile.
 fn tally_in(entries: &[Entry], pile: Pile) -> Tally
-    requires few { length entries.now ≤ 1000000 }
+    requires few { length entries.now ≤ MAX_ROWS }
     requires in_range { AllInRange entries.now }
     ensures value { result ≡ tally (in_pile pile (readings entries.now)) }
     ensures in_range { IsGrossInRange result }
@@ -35,7 +36,7 @@ fn tally_in(entries: &[Entry], pile: Pile) -> Tally
 fn is_in_state(entries: &[Entry], batch: &Name, state: BatchState) -> bool
     ensures { result ≡ option_map_or (λ now. same_state now state) (state_of entries.now batch.now) false }
 {
-    match acts::state(entries, batch) {
+    match acts::state_of(entries, batch) {
         Some(now) => now == state,
         None => false,
     }
@@ -43,7 +44,7 @@ fn is_in_state(entries: &[Entry], batch: &Name, state: BatchState) -> bool
 
 // How many batches are in a state.
 fn count_batches(entries: &[Entry], state: BatchState) -> u32
-    requires { length entries.now ≤ 1000000 }
+    requires { length entries.now ≤ MAX_ROWS }
     ensures { result ≡ batches_in entries.now state }
 {
     let mut count = 0;
@@ -59,7 +60,7 @@ fn count_batches(entries: &[Entry], state: BatchState) -> u32
 
 /// The balance of the whole hall.
 pub fn summarize(entries: &[Entry]) -> SummaryView
-    requires few { length entries.now ≤ 1000000 }
+    requires few { length entries.now ≤ MAX_ROWS }
     requires in_range { AllInRange entries.now }
     ensures value { result ≡ summary entries.now }
     ensures in_range { IsSummaryInRange result }

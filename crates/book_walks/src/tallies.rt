@@ -1,11 +1,12 @@
-ghost use Rattle.std.specs.Prelude.{◌≡◌, ◌+◌, ◌*◌, ◌<◌, ◌≤◌, ◌^◌, pos, ◌+ℤ◌, ◌≤ℤ◌, List, filter, length, take, IfSome};
+ghost use Rattle.std.specs.Prelude.{unsigned_abs, ◌≡◌, ◌+◌, ◌*◌, ◌<◌, ◌≤◌, ◌^◌, pos, ◌+ℤ◌, ◌≤ℤ◌, List, filter, length, take, IfSome};
 ghost use Rattle.std.specs.List.{cons_option};
+ghost use Rattle.hall_limits.specs.declared.TheConstants.{MAX_GROSS, MAX_ROWS};
 ghost use Rattle.book_words.specs.declared.types.Reading.{Reading};
 ghost use Rattle.book_words.specs.Readings.{reading_at, readings};
 ghost use Rattle.book_words.specs.Piles.{tally, in_pile, gross_sum};
-ghost use Rattle.book_words.specs.Told.{IsGrossInRange};
+ghost use Rattle.book_words.specs.Ranges.{IsGrossInRange};
 ghost use Rattle.book_walks.specs.Sight.{Sees};
-ghost use Rattle.book_walks.specs.Ranges.{AllInRange};
+ghost use Rattle.book_words.specs.Ranges.{AllInRange};
 ghost use Rattle.book_walks.specs.Picking.{picked, lies_in, is_any};
 ghost use Rattle.book_walks.specs.Adding.{LeftOf};
 
@@ -17,14 +18,14 @@ use pack_judge::{Pile, Tally};
 // Adds a reading, where there is one.
 fn add(tally: &mut Tally, reading: Option<Reading>)
     requires gross_low { IfSome reading (λ reading. pos 0 ≤ℤ reading.gross) }
-    requires gross_high { IfSome reading (λ reading. reading.gross ≤ℤ pos 30000000) }
+    requires gross_high { IfSome reading (λ reading. reading.gross ≤ℤ MAX_GROSS) }
     requires room { tally.old.count < 2 ^ 21 }
     requires low { pos 0 ≤ℤ tally.old.gross }
-    requires high { tally.old.gross ≤ℤ pos (30000000 * tally.old.count) }
+    requires high { tally.old.gross ≤ℤ pos (unsigned_abs MAX_GROSS * tally.old.count) }
     ensures left { (all rest : List Reading) → LeftOf all (cons_option reading rest) tally.old → LeftOf all rest tally.new }
     ensures count { tally.new.count ≤ tally.old.count + 1 }
     ensures low { pos 0 ≤ℤ tally.new.gross }
-    ensures high { tally.new.gross ≤ℤ pos (30000000 * tally.new.count) }
+    ensures high { tally.new.gross ≤ℤ pos (unsigned_abs MAX_GROSS * tally.new.count) }
 {
     if let Some(reading) = reading {
         tally.count += 1;
@@ -45,12 +46,12 @@ fn is_meant(reading: &Reading, pile: Option<Pile>) -> bool
 // The reading at a place, where it lies in the pile that is meant.
 fn meant_at(sight: &Sight, entries: &[Entry], place: usize, pile: Option<Pile>) -> Option<Reading>
     requires inside { place < length entries.now }
-    requires few { length entries.now ≤ 1000000 }
+    requires few { length entries.now ≤ MAX_ROWS }
     requires seen { Sees (take place entries.now) sight.now }
     requires in_range { AllInRange entries.now }
     ensures value { result ≡ picked (is_any pile) (reading_at entries.now place) }
     ensures gross_low { IfSome result (λ reading. pos 0 ≤ℤ reading.gross) }
-    ensures gross_high { IfSome result (λ reading. reading.gross ≤ℤ pos 30000000) }
+    ensures gross_high { IfSome result (λ reading. reading.gross ≤ℤ MAX_GROSS) }
 {
     let reading = walk::reading(sight, entries, place)?;
     if is_meant(&reading, pile) {
@@ -62,7 +63,7 @@ fn meant_at(sight: &Sight, entries: &[Entry], place: usize, pile: Option<Pile>) 
 
 /// The readings of a list that lie in a pile, or all of them where no pile is meant.
 pub fn add_up(entries: &[Entry], pile: Option<Pile>) -> Tally
-    requires few { length entries.now ≤ 1000000 }
+    requires few { length entries.now ≤ MAX_ROWS }
     requires in_range { AllInRange entries.now }
     ensures value { result ≡ tally (filter (is_any pile) (readings entries.now)) }
     ensures in_range { IsGrossInRange result }

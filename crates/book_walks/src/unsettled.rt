@@ -1,9 +1,9 @@
-ghost use Rattle.std.specs.Prelude.{◌≡◌, ◌<◌, ◌≤◌, ◌&&◌, ◌==◌, false, length, take};
-ghost use Rattle.std.specs.Option.{option_map_or};
+ghost use Rattle.std.specs.Prelude.{◌≡◌, ◌<◌, ◌≤◌, ◌&&◌, ◌==◌, length, take};
+ghost use Rattle.hall_limits.specs.declared.TheConstants.{MAX_ROWS};
 ghost use Rattle.book_words.specs.Readings.{reading_at};
-ghost use Rattle.book_words.specs.Piles.{is_unsettled, is_pass};
-ghost use Rattle.book_words.specs.Refusals.{has_unsettled};
+ghost use Rattle.book_words.specs.Piles.{is_unsettled, unsettled_reading};
 ghost use Rattle.book_walks.specs.Sight.{Sees};
+ghost use Rattle.book_walks.specs.Picking.{picked, awaits};
 
 use crate::sight::Sight;
 use crate::walk;
@@ -11,36 +11,39 @@ use book_words::{Entry, Reading};
 use pack_judge::Signal;
 
 // Whether a reading is an unsettled one of a lane.
-fn is_unsettled_on(reading: &Reading, lane: u8) -> bool
-    ensures { result ≡ ((reading.now.lane == lane) && is_unsettled reading.now) }
+fn awaits(reading: &Reading, lane: u8) -> bool
+    ensures { result ≡ awaits lane reading.now }
 {
-    reading.lane == lane && reading.signal == Some(Signal::Pass) && reading.next.is_none()
+    reading.lane == lane
+        && (reading.signal == Some(Signal::Pass) && reading.next_prior.is_none())
 }
 
-// Whether the reading at a place is an unsettled one of a lane.
-fn is_unsettled_at(sight: &Sight, entries: &[Entry], place: usize, lane: u8) -> bool
+// The reading at a place, where it is an unsettled one of a lane.
+fn unsettled_at(sight: &Sight, entries: &[Entry], place: usize, lane: u8) -> Option<Reading>
     requires inside { place < length entries.now }
-    requires few { length entries.now ≤ 1000000 }
+    requires few { length entries.now ≤ MAX_ROWS }
     requires seen { Sees (take place entries.now) sight.now }
-    ensures { result ≡ option_map_or (λ reading. (reading.lane == lane) && is_unsettled reading) (reading_at entries.now place) false }
+    ensures { result ≡ picked (awaits lane) (reading_at entries.now place) }
 {
-    match walk::reading(sight, entries, place) {
-        Some(reading) => is_unsettled_on(&reading, lane),
-        None => false,
+    let reading = walk::reading(sight, entries, place)?;
+    if awaits(&reading, lane) {
+        Some(reading)
+    } else {
+        None
     }
 }
 
-/// Whether a lane has an unsettled reading: one that passed, and no weighing or stop of the lane came after it.
-pub fn has_unsettled(entries: &[Entry], lane: u8) -> bool
-    requires { length entries.now ≤ 1000000 }
-    ensures { result ≡ has_unsettled entries.now lane }
+/// The unsettled reading of a lane: one that passed, and no weighing or stop of the lane came after it.
+pub fn unsettled_reading(entries: &[Entry], lane: u8) -> Option<Reading>
+    requires { length entries.now ≤ MAX_ROWS }
+    ensures { result ≡ unsettled_reading entries.now lane }
 {
     let mut sight = walk::begin();
     for place in 0..entries.len() {
-        if is_unsettled_at(&sight, entries, place, lane) {
-            return true;
+        if let Some(reading) = unsettled_at(&sight, entries, place, lane) {
+            return Some(reading);
         }
         walk::pass(&mut sight, entries, place);
     }
-    false
+    None
 }

@@ -1,10 +1,11 @@
 ghost use Rattle.std.specs.Prelude.{◌≡◌, ℕ, ◌+◌, ◌<◌, ◌^◌, length, take, [], List, get_or, Option, pos, ◌≤ℤ◌, IfSome};
 ghost use Rattle.std.specs.Option.{option_or};
+ghost use Rattle.hall_limits.specs.declared.TheConstants.{MAX_GROSS};
 ghost use Rattle.book_words.specs.declared.name.Name.{Name};
 ghost use Rattle.book_words.specs.declared.types.Entry.{Entry};
-ghost use Rattle.book_words.specs.Acts.{started_in, started_for};
+ghost use Rattle.book_words.specs.Acts.{batch_started, last_batch};
 ghost use Rattle.book_words.specs.Readings.{reading_at};
-ghost use Rattle.book_walks.specs.Ranges.{AllInRange};
+ghost use Rattle.book_words.specs.Ranges.{AllInRange};
 ghost use Rattle.book_walks.specs.Sight.{Sees};
 
 use crate::sight::{LANE_NUMBERS, Sight};
@@ -24,7 +25,7 @@ pub fn begin() -> Sight
 // Notes the batch for which a lane is started.
 fn start_lane(batches: &mut [Option<Name>; LANE_NUMBERS], lane: u8, batch: Name)
     ensures { (number : ℕ) (d : Option Name) → number < 256
-        → get_or batches.new number d ≡ option_or (started_in number (Act.StartLane lane batch)) (get_or batches.old number d) }
+        → get_or batches.new number d ≡ option_or (batch_started number (Act.StartLane lane batch)) (get_or batches.old number d) }
 {
     batches[lane as usize] = Some(batch);
 }
@@ -32,7 +33,7 @@ fn start_lane(batches: &mut [Option<Name>; LANE_NUMBERS], lane: u8, batch: Name)
 // Notes the start of a lane, where the act is one.
 fn note_start(batches: &mut [Option<Name>; LANE_NUMBERS], act: &Act)
     ensures { (number : ℕ) (d : Option Name) → number < 256
-        → get_or batches.new number d ≡ option_or (started_in number act.now) (get_or batches.old number d) }
+        → get_or batches.new number d ≡ option_or (batch_started number act.now) (get_or batches.old number d) }
 {
     if let Act::StartLane { lane, batch } = act {
         start_lane(batches, *lane, *batch);
@@ -52,7 +53,7 @@ pub fn pass(sight: &mut Sight, entries: &[Entry], place: usize)
 
 // The batch for which a lane was started last.
 fn batch_for(sight: &Sight, lane: u8) -> Option<Name>
-    ensures { (entries : List Entry) → Sees entries sight.now → result ≡ started_for entries lane }
+    ensures { (entries : List Entry) → Sees entries sight.now → result ≡ last_batch entries lane }
 {
     sight.batches[lane as usize]
 }
@@ -63,7 +64,7 @@ pub fn reading(sight: &Sight, entries: &[Entry], place: usize) -> Option<Reading
     requires few { length entries.now < 2 ^ 32 }
     requires seen { Sees (take place entries.now) sight.now }
     ensures value { result ≡ reading_at entries.now place }
-    ensures in_range { AllInRange entries.now → IfSome result (λ reading. (pos 0 ≤ℤ reading.gross) × (reading.gross ≤ℤ pos 30000000)) }
+    ensures in_range { AllInRange entries.now → IfSome result (λ reading. (pos 0 ≤ℤ reading.gross) × (reading.gross ≤ℤ MAX_GROSS)) }
 {
     let (_, after) = entries.split_at(place + 1);
     let entry = &entries[place];
@@ -75,7 +76,7 @@ pub fn reading(sight: &Sight, entries: &[Entry], place: usize) -> Option<Reading
             signal: entry.signal,
             day: sight.day,
             batch: batch_for(sight, *lane),
-            next: acts::first_prior(after, *lane),
+            next_prior: acts::next_prior(after, *lane),
         }),
         _ => None,
     }

@@ -8,25 +8,31 @@ use Rattle.book_words.specs.declared.types.Prior.TheVariants.{Nothing, Opened, S
 use Rattle.book_words.specs.declared.types.Act.{Act}
 use Rattle.book_words.specs.declared.types.Act.TheVariants.{NewDay, PutProduct, PutTare, OpenBatch, StartLane, Weigh, StopLane}
 use Rattle.book_words.specs.declared.types.Entry.{Entry}
+use Rattle.book_words.specs.declared.types.Ask.{Ask}
 use Rattle.book_words.specs.declared.types.Want.TheVariants as want
 use Rattle.book_words.specs.declared.types.Reply.TheVariants.{Done}
 use Rattle.book_words.specs.declared.types.Answered.{Answered}
 use Rattle.book_words.specs.declared.types.Refused.{Refused}
 use Rattle.book_words.specs.declared.refusal.Refusal.TheVariants.{NominalRange, LaneNumber, LaneBusy, PriorWrong}
-use Rattle.book_words.specs.Names.{name_of}
-use Rattle.book_words.specs.Tares.{latest}
-use Rattle.book_words.specs.Answers.{answer, entry_for, summary}
+use Rattle.hall_limits.specs.declared.TheConstants.{MAX_ROWS}
+use Rattle.book_words.specs.Names.{name_with}
+use Rattle.tare_register.specs.Tares.{latest}
+use Rattle.book_words.specs.Answers.{answer, entries_after, summary}
 
--- the list that some acts leave, each accepted
+-- an act as the hall's own command
+abbrev asked : Act → Ask
+asked act = record { desk = 0; request = 0; want = want.Act act }
+
+-- the list that some acts leave
 abbrev taken : List Entry → List Act → List Entry
 taken entries [] = entries
-taken entries (act ∷ acts) = taken (entries ++ entry_for entries 0 0 0 act ∷ []) acts
+taken entries (act ∷ acts) = taken (entries_after MAX_ROWS entries 0 (asked act)) acts
 
 abbrev rice : Name
-rice = name_of (114 ∷ 105 ∷ 99 ∷ 101 ∷ [])
+rice = name_with (114 ∷ 105 ∷ 99 ∷ 101 ∷ []) refl
 
 abbrev batch_a : Name
-batch_a = name_of (65 ∷ [])
+batch_a = name_with (65 ∷ []) refl
 
 -- 2025-03-03
 abbrev march_3 : ℤ
@@ -42,7 +48,7 @@ signals acts = map (λ entry. entry.signal) (taken (taken [] begun) acts)
 
 -- what one more act is answered behind some acts
 abbrev answered_behind : List Act → Act → Result Answered Refused
-answered_behind acts act = answer 1000000 (taken [] acts) (want.Act act)
+answered_behind acts act = answer MAX_ROWS (taken [] acts) (asked act)
 
 none_five : List (Option Signal) → List (Option Signal)
 none_five later = None ∷ None ∷ None ∷ None ∷ None ∷ later
@@ -92,9 +98,11 @@ nominal_too_great : answered_behind (NewDay march_3 ∷ []) (PutProduct rice (po
 nominal_too_great = refl
 
 accepted_row : answered_behind begun (StopLane 1 Nothing) ≡ Ok (record { at = 6; reply = Done 6 })
+unfolding latest
 accepted_row = refl
 
 lane_that_has_a_batch : answered_behind begun (StartLane 1 batch_a) ≡ Err (record { at = 5; refusal = LaneBusy batch_a })
+unfolding latest
 lane_that_has_a_batch = refl
 
 gate_not_told : answered_behind (begun ++ Weigh 1 (pos 260000) Nothing ∷ []) (Weigh 1 (pos 260000) Nothing) ≡ Err (record { at = 6; refusal = PriorWrong true })
@@ -102,8 +110,10 @@ unfolding latest
 gate_not_told = refl
 
 gate_told_for_nothing : answered_behind begun (Weigh 1 (pos 260000) Opened) ≡ Err (record { at = 5; refusal = PriorWrong false })
+unfolding latest
 gate_told_for_nothing = refl
 
 -- of two refusals that hold, the one with the least number
 first_of_two : answered_behind begun (Weigh 0 (pos 30000001) Opened) ≡ Err (record { at = 5; refusal = LaneNumber })
+unfolding latest
 first_of_two = refl

@@ -24,67 +24,71 @@ abbrev pub first_said : {A : Type 0} → (Act → Option A) → List Entry → O
 first_said says entries = slice_get (said says entries) 0
 
 -- the day that an act sets
-abbrev pub day_in : Act → Option ℤ
-day_in (NewDay day) = Some day
-day_in _ = None
+abbrev pub day_set : Act → Option ℤ
+day_set (NewDay day) = Some day
+day_set _ = None
 
 -- the nominal quantity that an act puts for a product
-abbrev pub nominal_in : Name → Act → Option ℤ
-nominal_in product (PutProduct name nominal) = if same_name name product then Some nominal else None
-nominal_in product _ = None
+abbrev pub nominal_put : Name → Act → Option ℤ
+nominal_put product (PutProduct name nominal) = if same_name name product then Some nominal else None
+nominal_put product _ = None
 
 -- the batch that an act opens
-abbrev pub opened_in : Act → Option Name
-opened_in (OpenBatch batch product) = Some batch
-opened_in _ = None
+abbrev pub batch_opened : Act → Option Name
+batch_opened (OpenBatch batch product) = Some batch
+batch_opened _ = None
 
 -- the product of a batch, in the act that opens it
-abbrev pub product_in : Name → Act → Option Name
-product_in batch (OpenBatch name product) = if same_name name batch then Some product else None
-product_in batch _ = None
+abbrev pub product_given : Name → Act → Option Name
+product_given batch (OpenBatch name product) = if same_name name batch then Some product else None
+product_given batch _ = None
 
 -- the state of a batch from an act on
-abbrev pub state_in : Name → Act → Option BatchState
-state_in batch (OpenBatch name product) = if same_name name batch then Some Running else None
-state_in batch _ = None
+abbrev pub state_set : Name → Act → Option BatchState
+state_set batch (OpenBatch name product) = if same_name name batch then Some Running else None
+state_set batch _ = None
 
 -- the batch for which an act starts a lane
-abbrev pub started_in : ℕ → Act → Option Name
-started_in lane (StartLane number batch) = if number == lane then Some batch else None
-started_in lane _ = None
+abbrev pub batch_started : ℕ → Act → Option Name
+batch_started lane (StartLane number batch) = if number == lane then Some batch else None
+batch_started lane _ = None
 
 -- the batch that a lane has from an act on: one at a start, none at a stop
-abbrev pub use_in : ℕ → Act → Option (Option Name)
-use_in lane (StartLane number batch) = if number == lane then Some (Some batch) else None
-use_in lane (StopLane number prior) = if number == lane then Some None else None
-use_in lane _ = None
+abbrev pub lane_used : ℕ → Act → Option (Option Name)
+lane_used lane (StartLane number batch) = if number == lane then Some (Some batch) else None
+lane_used lane (StopLane number prior) = if number == lane then Some None else None
+lane_used lane _ = None
 
 -- what an act of a lane that can follow a reading, a weighing or a stop, says of the gate
-abbrev pub prior_in : ℕ → Act → Option Prior
-prior_in lane (Weigh number gross prior) = if number == lane then Some prior else None
-prior_in lane (StopLane number prior) = if number == lane then Some prior else None
-prior_in lane _ = None
+abbrev pub prior_told : ℕ → Act → Option Prior
+prior_told lane (Weigh number gross prior) = if number == lane then Some prior else None
+prior_told lane (StopLane number prior) = if number == lane then Some prior else None
+prior_told lane _ = None
 
 -- the newest day
 abbrev pub newest_day : List Entry → Option ℤ
-newest_day entries = last_said day_in entries
+newest_day entries = last_said day_set entries
 
 -- the nominal quantity of a product; there is none where it isn't a product
 abbrev pub nominal_of : List Entry → Name → Option ℤ
-nominal_of entries product = last_said (nominal_in product) entries
+nominal_of entries product = last_said (nominal_put product) entries
 
 -- the product of a batch; there is none where it isn't a batch
 abbrev pub product_of : List Entry → Name → Option Name
-product_of entries batch = last_said (product_in batch) entries
+product_of entries batch = last_said (product_given batch) entries
 
 -- the state of a batch; there is none where it isn't a batch
 abbrev pub state_of : List Entry → Name → Option BatchState
-state_of entries batch = last_said (state_in batch) entries
+state_of entries batch = last_said (state_set batch) entries
 
 -- the batch for which a lane was started last
-abbrev pub started_for : List Entry → ℕ → Option Name
-started_for entries lane = last_said (started_in lane) entries
+abbrev pub last_batch : List Entry → ℕ → Option Name
+last_batch entries lane = last_said (batch_started lane) entries
 
 -- the batch that a lane has: that of its last start, where no stop came after it
-abbrev pub batch_on : List Entry → ℕ → Option Name
-batch_on entries lane = option_flatten (last_said (use_in lane) entries)
+abbrev pub lane_batch : List Entry → ℕ → Option Name
+lane_batch entries lane = option_flatten (last_said (lane_used lane) entries)
+
+-- what the first weighing or stop of a lane among some entries says of the gate
+abbrev pub next_prior : List Entry → ℕ → Option Prior
+next_prior entries lane = first_said (prior_told lane) entries

@@ -7,9 +7,9 @@ use Rattle.book_words.specs.declared.types.Act.{Act}
 use Rattle.book_words.specs.declared.types.Act.TheVariants.{Weigh}
 use Rattle.book_words.specs.declared.types.Entry.{Entry}
 use Rattle.book_words.specs.declared.types.Reading.{Reading}
-use Rattle.book_words.specs.Acts.{prior_in}
+use Rattle.book_words.specs.Acts.{prior_told}
 use Rattle.book_words.specs.Readings.{readings}
-use Rattle.book_words.specs.Piles.{pile_of, pile_by, in_pile, is_unsettled, gross_sum, readings_of}
+use Rattle.book_words.specs.Piles.{pile_of, settled_pile, in_pile, is_unsettled, gross_sum, readings_of_batch}
 
 -- some readings are as many, and weigh as much, as their four piles together
 pub record AddUp (some : List Reading) : Type 0 where
@@ -19,26 +19,22 @@ pub record AddUp (some : List Reading) : Type 0 where
 -- the piles add up in the whole hall and in each batch
 pub record IsBalanced (entries : List Entry) : Type 0 where
   pub hall : AddUp (readings entries)
-  pub batch : (name : Name) → AddUp (readings_of entries name)
+  pub batch : (name : Name) → AddUp (readings_of_batch entries name)
 
 -- the pile of a reading once an act came after it: an unsettled one goes where its lane's weighing or stop says, any other stays
-abbrev pub pile_after : Act → Reading → Pile
-pile_after act reading = if is_unsettled reading then pile_by reading.signal (prior_in reading.lane act) else pile_of reading
+abbrev pub moved_pile : Act → Reading → Pile
+moved_pile act reading = if is_unsettled reading then settled_pile reading.signal (prior_told reading.lane act) else pile_of reading
 
 -- the pile of an entry's own reading, where it is a weighing: by its signal
 abbrev pub own_pile : Entry → Act → List Pile
-own_pile entry (Weigh lane gross prior) = pile_by entry.signal None ∷ []
+own_pile entry (Weigh lane gross prior) = settled_pile entry.signal None ∷ []
 own_pile entry _ = []
 
 -- an entry moves the packs so, and no others
 abbrev pub MovesOnly : List Entry → Entry → Type 0
-MovesOnly entries entry = map pile_of (readings (entries ++ entry ∷ [])) ≡ map (pile_after entry.act) (readings entries) ++ own_pile entry entry.act
-
--- each of some entries moves the packs as it may, behind those before it
-abbrev pub EachMovesBehind : List Entry → List Entry → Type 0
-EachMovesBehind before [] = Unit {0}
-EachMovesBehind before (entry ∷ after) = MovesOnly before entry × EachMovesBehind (before ++ entry ∷ []) after
+MovesOnly entries entry = map pile_of (readings (entries ++ entry ∷ [])) ≡ map (moved_pile entry.act) (readings entries) ++ own_pile entry entry.act
 
 -- each entry of a list moves the packs as it may
 abbrev pub EachMoves : List Entry → Type 0
-EachMoves entries = EachMovesBehind [] entries
+EachMoves entries =
+    (before : List Entry) (entry : Entry) (after : List Entry) → entries ≡ before ++ entry ∷ after → MovesOnly before entry

@@ -1,3 +1,4 @@
+pub mod NamePlaces
 pub mod Names
 pub mod Numbers
 pub mod Acts
@@ -8,4 +9,5 @@ pub mod Signals
 pub mod Refusals
 pub mod Answers
 pub mod Balance
-pub mod Told
+pub mod Ranges
+pub mod Soundness

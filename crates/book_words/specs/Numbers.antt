@@ -1,25 +1,71 @@
--- The numbers of the refusals.
-use Rattle.std.specs.Prelude.{ℕ}
+-- The numbers and the names of the refusals.
+use Rattle.std.specs.Prelude.{◌≡◌, ℕ, ◌+◌, Bool, true, ◌&&◌, nat_le, List, [], ◌∷◌, codes, Option, IfSome}
+use Rattle.book_words.specs.declared.types.Act.{Act}
+use Rattle.book_words.specs.declared.types.Act.TheVariants.{NewDay, PutProduct, PutTare, OpenBatch, StartLane, Weigh, StopLane}
 use Rattle.book_words.specs.declared.refusal.Refusal.{Refusal}
 use Rattle.book_words.specs.declared.refusal.Refusal.TheVariants.{BookFull, DayUnset, DayBack, ProductKnown, ProductUnknown, NameShape, NominalRange, DayRange, BatchKnown, BatchUnknown, BatchState, LaneNumber, LaneBusy, LaneIdle, NoTare, GrossRange, PriorWrong, TareRange}
 
 -- the number of each refusal; of several that hold, the one with the least number is told
-abbrev pub number_of : Refusal → ℕ
-number_of (BookFull limit) = 5
-number_of DayUnset = 6
-number_of (DayBack last) = 7
-number_of ProductKnown = 8
-number_of ProductUnknown = 9
-number_of NameShape = 10
-number_of NominalRange = 11
-number_of DayRange = 12
-number_of BatchKnown = 13
-number_of BatchUnknown = 14
-number_of (BatchState state) = 15
-number_of LaneNumber = 16
-number_of (LaneBusy batch) = 17
-number_of LaneIdle = 18
-number_of (NoTare product) = 19
-number_of GrossRange = 20
-number_of (PriorWrong wanted) = 21
-number_of TareRange = 23
+abbrev pub refusal_number : Refusal → ℕ
+refusal_number (BookFull limit) = 5
+refusal_number DayUnset = 6
+refusal_number (DayBack last) = 7
+refusal_number ProductKnown = 8
+refusal_number ProductUnknown = 9
+refusal_number NameShape = 10
+refusal_number NominalRange = 11
+refusal_number DayRange = 12
+refusal_number BatchKnown = 13
+refusal_number BatchUnknown = 14
+refusal_number (BatchState state) = 15
+refusal_number LaneNumber = 16
+refusal_number (LaneBusy batch) = 17
+refusal_number LaneIdle = 18
+refusal_number (NoTare product) = 19
+refusal_number GrossRange = 20
+refusal_number (PriorWrong wanted) = 21
+refusal_number TareRange = 23
+
+-- the name of each refusal
+abbrev pub refusal_name : Refusal → List ℕ
+refusal_name (BookFull limit) = codes "BookFull"
+refusal_name DayUnset = codes "DayUnset"
+refusal_name (DayBack last) = codes "DayBack"
+refusal_name ProductKnown = codes "ProductKnown"
+refusal_name ProductUnknown = codes "ProductUnknown"
+refusal_name NameShape = codes "NameShape"
+refusal_name NominalRange = codes "NominalRange"
+refusal_name DayRange = codes "DayRange"
+refusal_name BatchKnown = codes "BatchKnown"
+refusal_name BatchUnknown = codes "BatchUnknown"
+refusal_name (BatchState state) = codes "BatchState"
+refusal_name LaneNumber = codes "LaneNumber"
+refusal_name (LaneBusy batch) = codes "LaneBusy"
+refusal_name LaneIdle = codes "LaneIdle"
+refusal_name (NoTare product) = codes "NoTare"
+refusal_name GrossRange = codes "GrossRange"
+refusal_name (PriorWrong wanted) = codes "PriorWrong"
+refusal_name TareRange = codes "TareRange"
+
+-- the numbers of the refusals that an act may meet by the rules, in the order in which they are
+-- tested; beside these each act may find that the book is full, which is 5
+abbrev pub refusal_numbers : Act → List ℕ
+refusal_numbers (NewDay day) = 7 ∷ 12 ∷ []
+refusal_numbers (PutProduct name nominal) = 6 ∷ 8 ∷ 10 ∷ 11 ∷ []
+refusal_numbers (PutTare product day tare) = 6 ∷ 9 ∷ 12 ∷ 23 ∷ []
+refusal_numbers (OpenBatch batch product) = 6 ∷ 9 ∷ 10 ∷ 13 ∷ []
+refusal_numbers (StartLane lane batch) = 6 ∷ 14 ∷ 15 ∷ 16 ∷ 17 ∷ 19 ∷ []
+refusal_numbers (Weigh lane gross prior) = 6 ∷ 16 ∷ 18 ∷ 20 ∷ 21 ∷ []
+refusal_numbers (StopLane lane prior) = 6 ∷ 16 ∷ 18 ∷ 21 ∷ []
+
+-- of some refusals, each that is there has the number of its place
+abbrev pub HaveNumbers : List (Option Refusal) → List ℕ → Type 0
+HaveNumbers [] [] = Unit {0}
+HaveNumbers (refusal ∷ refusals) (number ∷ numbers) =
+    IfSome refusal (λ there. refusal_number there ≡ number) × HaveNumbers refusals numbers
+HaveNumbers _ _ = ⊥
+
+-- some numbers ascend from one on
+abbrev pub ascend_from : ℕ → List ℕ → Bool
+ascend_from least [] = true
+ascend_from least (number ∷ numbers) = nat_le least number && ascend_from (number + 1) numbers

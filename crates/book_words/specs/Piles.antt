@@ -1,5 +1,5 @@
 -- The four piles, and the population of a batch.
-use Rattle.std.specs.Prelude.{ℕ, ℤ, pos, ◌+ℤ◌, Bool, true, false, ◌&&◌, List, [], ◌∷◌, length, filter, count_by, int_lt, nat_lt, Option, Some, is_none}
+use Rattle.std.specs.Prelude.{ℕ, ℤ, pos, ◌+ℤ◌, Bool, true, false, ◌&&◌, List, [], ◌∷◌, length, filter, count_by, int_lt, nat_lt, ◌==◌, slice_get, Option, Some, is_none}
 use Rattle.pack_judge.specs.declared.types.Pile.{Pile}
 use Rattle.pack_judge.specs.declared.types.Pile.TheVariants.{Passed, Rejected, Sampled, Voided}
 use Rattle.pack_judge.specs.declared.types.Signal.{Signal}
@@ -10,18 +10,18 @@ use Rattle.book_words.specs.declared.types.Prior.{Prior}
 use Rattle.book_words.specs.declared.types.Prior.TheVariants.{Stayed, Unknown}
 use Rattle.book_words.specs.declared.types.Entry.{Entry}
 use Rattle.book_words.specs.declared.types.Reading.{Reading}
-use Rattle.book_words.specs.Readings.{readings, is_of_batch, net_of, limits_in}
+use Rattle.book_words.specs.Readings.{readings, is_of_batch, net_of_reading, limits_of_batch}
 
 -- where a reading lies, by its signal and by what the lane's next act says: a passed one is voided where nobody knows what the gate did, and rejected where the gate stayed shut; one that was signalled a reject is rejected; any other lies among the passed
-abbrev pub pile_by : Option Signal → Option Prior → Pile
-pile_by (Some Pass) (Some Unknown) = Voided
-pile_by (Some Pass) (Some Stayed) = Rejected
-pile_by (Some (Reject cause)) next = Rejected
-pile_by signal next = Passed
+abbrev pub settled_pile : Option Signal → Option Prior → Pile
+settled_pile (Some Pass) (Some Unknown) = Voided
+settled_pile (Some Pass) (Some Stayed) = Rejected
+settled_pile (Some (Reject cause)) next_prior = Rejected
+settled_pile signal next_prior = Passed
 
 -- the pile of a reading
 abbrev pub pile_of : Reading → Pile
-pile_of reading = pile_by reading.signal reading.next
+pile_of reading = settled_pile reading.signal reading.next_prior
 
 abbrev pub same_pile : Pile → Pile → Bool
 same_pile Passed Passed = true
@@ -32,7 +32,7 @@ same_pile _ _ = false
 
 -- those of some readings that lie in a pile
 abbrev pub in_pile : Pile → List Reading → List Reading
-in_pile pile some = filter (λ reading. same_pile (pile_of reading) pile) some
+in_pile pile readings = filter (λ reading. same_pile (pile_of reading) pile) readings
 
 abbrev pub is_pass : Option Signal → Bool
 is_pass (Some Pass) = true
@@ -40,11 +40,16 @@ is_pass _ = false
 
 -- a passed reading is unsettled until its lane's next act
 abbrev pub is_unsettled : Reading → Bool
-is_unsettled reading = is_pass reading.signal && is_none reading.next
+is_unsettled reading = is_pass reading.signal && is_none reading.next_prior
+
+-- the unsettled reading of a lane, where it has one
+abbrev pub unsettled_reading : List Entry → ℕ → Option Reading
+unsettled_reading entries lane =
+    slice_get (filter (λ reading. (reading.lane == lane) && is_unsettled reading) (readings entries)) 0
 
 -- the readings of a batch
-abbrev pub readings_of : List Entry → Name → List Reading
-readings_of entries batch = filter (is_of_batch batch) (readings entries)
+abbrev pub readings_of_batch : List Entry → Name → List Reading
+readings_of_batch entries batch = filter (is_of_batch batch) (readings entries)
 
 -- a pack counts for its batch where it lies among the passed or the sampled
 abbrev pub is_counted : Pile → Bool
@@ -53,24 +58,16 @@ is_counted Sampled = true
 is_counted _ = false
 
 -- the population among some readings: those that count for the batch
-abbrev pub population_among : Name → List Reading → List Reading
-population_among batch some = filter (λ reading. is_of_batch batch reading && is_counted (pile_of reading)) some
-
--- the population of a batch
-abbrev pub population : List Entry → Name → List Reading
-population entries batch = population_among batch (readings entries)
+abbrev pub population_of : Name → List Reading → List Reading
+population_of batch some = filter (λ reading. is_of_batch batch reading && is_counted (pile_of reading)) some
 
 -- how many of some readings have a net below a limit
 abbrev pub count_below : List Entry → ℤ → List Reading → ℕ
-count_below entries limit some = count_by (λ reading. int_lt (net_of entries reading) limit) some
-
--- whether one of some readings is inadequate by the limits of a batch
-abbrev pub has_inadequate : List Entry → Name → List Reading → Bool
-has_inadequate entries batch some = nat_lt 0 (count_below entries (limits_in entries batch).t2 some)
+count_below entries limit some = count_by (λ reading. int_lt (net_of_reading entries reading) limit) some
 
 -- a batch is held where a pack of its population is inadequate
-abbrev pub is_held : List Entry → Name → Bool
-is_held entries batch = has_inadequate entries batch (population entries batch)
+abbrev pub is_held : List Entry → Name → List Reading → Bool
+is_held entries batch some = nat_lt 0 (count_below entries (limits_of_batch entries batch).t2 some)
 
 -- the sum of the grosses of some readings
 abbrev pub gross_sum : List Reading → ℤ

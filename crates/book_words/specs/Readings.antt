@@ -4,17 +4,15 @@ use Rattle.std.specs.List.{filter_map, range_with_len}
 use Rattle.std.specs.Option.{option_and_then, option_map_or, unwrap_or}
 use Rattle.annex_tables.specs.declared.types.Limits.{Limits}
 use Rattle.annex_tables.specs.Errors.{limits_of}
-use Rattle.pack_judge.specs.declared.types.Class.{Class}
 use Rattle.pack_judge.specs.declared.types.Signal.{Signal}
-use Rattle.pack_judge.specs.Judge.{class_of}
 use Rattle.book_words.specs.declared.name.Name.{Name}
 use Rattle.book_words.specs.declared.types.Act.{Act}
 use Rattle.book_words.specs.declared.types.Act.TheVariants.{Weigh}
 use Rattle.book_words.specs.declared.types.Entry.{Entry}
 use Rattle.book_words.specs.declared.types.Reading.{Reading}
 use Rattle.book_words.specs.Names.{same_name}
-use Rattle.book_words.specs.Acts.{first_said, prior_in, newest_day, nominal_of, product_of, started_for}
-use Rattle.book_words.specs.Tares.{tare_of}
+use Rattle.book_words.specs.Acts.{next_prior, newest_day, nominal_of, product_of, last_batch}
+use Rattle.book_words.specs.Tares.{tare_of_product}
 
 -- a weighing as a reading of its number: its day and its batch are told by the entries before it, and what the gate did by its lane's first weighing or stop after it
 abbrev pub reading_from : ℕ → List Entry → Act → Option Signal → List Entry → Option Reading
@@ -25,8 +23,8 @@ reading_from number before (Weigh lane gross prior) signal after =
       gross = gross;
       signal = signal;
       day = newest_day before;
-      batch = started_for before lane;
-      next = first_said (prior_in lane) after;
+      batch = last_batch before lane;
+      next_prior = next_prior after lane;
     })
 reading_from number before _ signal after = None
 
@@ -37,7 +35,7 @@ reading_at entries place =
 
 -- the readings among so many of the first entries, as the whole list shows them
 abbrev pub readings_among : ℕ → List Entry → List Reading
-readings_among many entries = filter_map (reading_at entries) (range_with_len 0 many)
+readings_among count entries = filter_map (reading_at entries) (range_with_len 0 count)
 
 -- the readings of the list
 abbrev pub readings : List Entry → List Reading
@@ -48,25 +46,21 @@ abbrev pub is_of_batch : Name → Reading → Bool
 is_of_batch batch reading = option_map_or (λ name. same_name name batch) reading.batch false
 
 -- the tare of a batch's product on a day, by all tares of the list as it now is
-abbrev pub tare_on : List Entry → Name → ℤ → Option ℤ
-tare_on entries batch day = option_and_then (λ product. tare_of entries product day) (product_of entries batch)
+abbrev pub tare_of_batch : List Entry → Name → ℤ → Option ℤ
+tare_of_batch entries batch day = option_and_then (λ product. tare_of_product entries product day) (product_of entries batch)
 
 -- the tare of a reading: that of its batch's product on its day
-abbrev pub tare_at : List Entry → Option Name → Option ℤ → Option ℤ
-tare_at entries batch day = option_and_then (λ name. option_and_then (tare_on entries name) day) batch
+abbrev pub tare_of_reading : List Entry → Option Name → Option ℤ → Option ℤ
+tare_of_reading entries batch day = option_and_then (λ name. option_and_then (tare_of_batch entries name) day) batch
 
 -- a gross less the tare of its batch and day; where there is no such tare, the gross alone
-abbrev pub net_from : List Entry → Option Name → Option ℤ → ℤ → ℤ
-net_from entries batch day gross = gross -ℤ unwrap_or (tare_at entries batch day) (pos 0)
+abbrev pub net_of_gross : List Entry → Option Name → Option ℤ → ℤ → ℤ
+net_of_gross entries batch day gross = gross -ℤ unwrap_or (tare_of_reading entries batch day) (pos 0)
 
 -- the net of a reading, by the tares of the whole list as it now is
-abbrev pub net_of : List Entry → Reading → ℤ
-net_of entries reading = net_from entries reading.batch reading.day reading.gross
+abbrev pub net_of_reading : List Entry → Reading → ℤ
+net_of_reading entries reading = net_of_gross entries reading.batch reading.day reading.gross
 
 -- the limits of a batch's product; where there is no product or no nominal quantity of it, those of a quantity of 0
-abbrev pub limits_in : List Entry → Name → Limits
-limits_in entries batch = limits_of (unwrap_or (option_and_then (nominal_of entries) (product_of entries batch)) (pos 0))
-
--- the class of a reading by the limits of its batch's product
-abbrev pub class_in : List Entry → Name → Reading → Class
-class_in entries batch reading = class_of (net_of entries reading) (limits_in entries batch)
+abbrev pub limits_of_batch : List Entry → Name → Limits
+limits_of_batch entries batch = limits_of (unwrap_or (option_and_then (nominal_of entries) (product_of entries batch)) (pos 0))

@@ -7,27 +7,27 @@ use Rattle.book_words.specs.declared.types.Act.{Act}
 use Rattle.book_words.specs.declared.types.Act.TheVariants.{Weigh}
 use Rattle.book_words.specs.declared.types.Entry.{Entry}
 use Rattle.book_words.specs.declared.types.Reading.{Reading}
-use Rattle.book_words.specs.Acts.{newest_day, started_for}
-use Rattle.book_words.specs.Readings.{readings_among, net_from, limits_in}
-use Rattle.book_words.specs.Piles.{population_among, count_below, has_inadequate}
+use Rattle.book_words.specs.Acts.{newest_day, last_batch}
+use Rattle.book_words.specs.Readings.{readings_among, net_of_gross, limits_of_batch}
+use Rattle.book_words.specs.Piles.{population_of, count_below, is_held}
 
 -- an act at the end of the list, before anybody has judged it
-abbrev pub followed_by : List Entry → Act → List Entry
-followed_by entries act = entries ++ record { by = 0; desk = 0; request = 0; act = act; signal = None } ∷ []
+abbrev pub with_act : List Entry → Act → List Entry
+with_act entries act = entries ++ record { by = 0; desk = 0; request = 0; act = act; signal = None } ∷ []
 
 -- the population of a batch at an act: the piles are those that the act leaves, over the readings before it
 abbrev pub population_at : List Entry → Act → Name → List Reading
-population_at entries act batch = population_among batch (readings_among (length entries) (followed_by entries act))
+population_at entries act batch = population_of batch (readings_among (length entries) (with_act entries act))
 
 -- the signal of a gross in a batch: by its net, and by the population at the act
-abbrev pub signal_in : List Entry → Act → ℤ → Name → Signal
-signal_in entries act gross batch =
-    let limits = limits_in entries batch in
+abbrev pub judged_signal : List Entry → Act → ℤ → Name → Signal
+judged_signal entries act gross batch =
+    let limits = limits_of_batch entries batch in
     let some = population_at entries act batch in
-    signal_of (net_from entries (Some batch) (newest_day entries) gross) limits
-    (has_inadequate entries batch some) (length some) (count_below entries limits.t1 some)
+    signal_of (net_of_gross entries (Some batch) (newest_day entries) gross) limits
+    (is_held entries batch some) (length some) (count_below entries limits.t1 some)
 
 -- the signal that is recorded with an act: a weighing gets one in the batch of its lane, any other act has none
-abbrev pub signal_for : List Entry → Act → Option Signal
-signal_for entries (Weigh lane gross prior) = option_map (signal_in entries (Weigh lane gross prior) gross) (started_for entries lane)
-signal_for entries _ = None
+abbrev pub recorded_signal : List Entry → Act → Option Signal
+recorded_signal entries (Weigh lane gross prior) = option_map (judged_signal entries (Weigh lane gross prior) gross) (last_batch entries lane)
+recorded_signal entries _ = None

@@ -8,6 +8,6 @@ mod types;
 pub use name::Name;
 pub use refusal::Refusal;
 pub use types::{
-    Act, Answered, Ask, BatchState, DatedTare, Entry, Prior, Question, Reading, Refused, Reply,
-    SummaryView, Want,
+    Act, Answered, Ask, BatchState, Entry, Prior, Question, Reading, Refused, Reply, SummaryView,
+    Want,
 };

@@ -1,69 +1,59 @@
-ghost use Rattle.std.specs.Prelude.{◌≡◌, ◌↔◌, ◌<◌, ◌≤◌, length, replicate, drop, IfSome, IsSome, IsNone};
-ghost use Rattle.book_words.specs.Names.{bytes_of, name_of, same_name};
+ghost use Rattle.std.specs.Prelude.{IsTrue};
+ghost use Rattle.book_words.specs.NamePlaces.{is_padded};
 
-/// The most bytes that a name may have.
-pub const LONGEST_NAME: usize = 16;
+use hall_limits::NAME_BYTES;
 
-/// The name of a product or a batch: at most 16 bytes. `Name::new`, which alone makes names, puts 0 into places that the
-/// name doesn't use, so that two names are equal exactly where their bytes are.
+/// The name of a product or a batch: 1 to 32 bytes.
+///
+/// The places behind its bytes hold 0, so that two names are equal exactly where their bytes are.
 #[derive(Clone, Copy, Debug, PartialEq, Eq, Hash)]
 pub struct Name {
     len: u8,
-    bytes: [u8; LONGEST_NAME],
+    places: [u8; NAME_BYTES],
+    ghost padded: { IsTrue (is_padded len places) },
 }
 
 impl Name {
-    /// The name of these bytes; `None` exactly where they are more than 16.
+    ghost use Rattle.std.specs.Prelude.{◌≡◌, ◌↔◌, length, true, IfSome, IsSome};
+    ghost use Rattle.book_words.specs.NamePlaces.{is_name_length};
+    ghost use Rattle.book_words.specs.Names.{bytes_of, name_of, same_name};
+
+    /// The name of these bytes; `None` exactly where they aren't 1 to 32.
     pub fn new(bytes: &[u8]) -> Option<Name>
-        ensures value { IfSome result (λ name. name ≡ name_of bytes.now) }
+        ensures value { result ≡ name_of bytes.now }
         ensures bytes { IfSome result (λ name. bytes_of name ≡ bytes.now) }
-        ensures too_long { IsNone result ↔ (16 < length bytes.now) }
+        ensures length { IsSome result ↔ (is_name_length (length bytes.now) ≡ true) }
     {
-        if bytes.len() > LONGEST_NAME {
+        if bytes.is_empty() || bytes.len() > NAME_BYTES {
             return None;
         }
-        let mut places = [0; LONGEST_NAME];
+        Some(Name::padded(bytes))
+    }
+
+    // The name of 1 to 32 bytes.
+    fn padded(bytes: &[u8]) -> Name
+        requires { is_name_length (length bytes.now) ≡ true }
+        ensures { bytes_of result ≡ bytes.now }
+    {
+        let mut places = [0; NAME_BYTES];
         places[..bytes.len()].copy_from_slice(bytes);
-        Some(Name {
+        Name {
             len: bytes.len() as u8,
-            bytes: places,
-        })
+            places,
+        }
     }
 
     /// The bytes of the name.
     pub fn as_bytes(&self) -> &[u8]
         ensures { result.now ≡ bytes_of self.now }
     {
-        self.bytes.get(..self.len as usize).unwrap_or(&self.bytes)
+        &self.places[..self.len as usize]
     }
 
-    /// Whether two names are the same.
+    /// Whether two names are the same: their bytes are.
     pub fn is(&self, other: &Name) -> bool
         ensures { result ≡ same_name self.now other.now }
     {
-        self == other
-    }
-}
-
-#[cfg(test)]
-mod tests {
-    use super::*;
-    use std::test::Fail;
-
-    const LONGEST: [u8; 16] = *b"rice250-0123456.";
-
-    const TOO_LONG: [u8; 17] = *b"rice250-0123456.7";
-
-    #[test]
-    fn names_of_up_to_sixteen_bytes(rt: HostRuntime) -> Result<(), Fail> {
-        let longest = Name::new(&LONGEST).ok_or(std::fmt::Error)?;
-        assert!(rt; longest.as_bytes() == LONGEST.as_slice());
-        assert_eq!(rt; Name::new(&TOO_LONG), None);
-        let a = Name::new(&[65]).ok_or(std::fmt::Error)?;
-        let a_and_zero = Name::new(&[65, 0]).ok_or(std::fmt::Error)?;
-        assert!(rt; a.is(&a));
-        assert!(rt; !a.is(&a_and_zero));
-        assert!(rt; a.as_bytes() == [65].as_slice());
-        Ok(())
+        self.as_bytes() == other.as_bytes()
     }
 }

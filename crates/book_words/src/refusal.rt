@@ -1,8 +1,11 @@
-ghost use Rattle.std.specs.Prelude.{◌≡◌};
-ghost use Rattle.book_words.specs.Numbers.{number_of};
+ghost use Rattle.std.specs.Prelude.{◌≡◌, ◌≤◌, length};
+ghost use Rattle.book_words.specs.Numbers.{refusal_name, refusal_number};
 
 use crate::name::Name;
 use crate::types::BatchState;
+
+/// The most bytes of the name of a refusal.
+pub const MAX_NAME: usize = 14;
 
 /// Why an act isn't accepted. Of all that hold, the one with the least number is told.
 #[derive(Clone, Copy, Debug, PartialEq, Eq)]
@@ -17,7 +20,7 @@ pub enum Refusal {
     ProductKnown,
     /// There is no product of that name.
     ProductUnknown,
-    /// The new name isn't 1 to 16 letters, digits, `-`, `_` or `.` of ASCII, the first a letter or digit.
+    /// The new name isn't 1 to 32 letters, digits, `-`, `_` or `.` of ASCII, the first a letter or digit.
     NameShape,
     /// The nominal quantity isn't 5 g to 10 kg.
     NominalRange,
@@ -49,7 +52,7 @@ pub enum Refusal {
 impl Refusal {
     /// The number of the refusal.
     pub fn number(&self) -> u8
-        ensures { result ≡ number_of self.now }
+        ensures { result ≡ refusal_number self.now }
     {
         match self {
             Refusal::BookFull { .. } => 5,
@@ -70,6 +73,33 @@ impl Refusal {
             Refusal::GrossRange => 20,
             Refusal::PriorWrong { .. } => 21,
             Refusal::TareRange => 23,
+        }
+    }
+
+    /// The name of the refusal, as it is printed.
+    pub fn name(&self) -> &'static str
+        ensures text { result.now ≡ refusal_name self.now }
+        ensures short { length result.now ≤ MAX_NAME }
+    {
+        match self {
+            Refusal::BookFull { .. } => "BookFull",
+            Refusal::DayUnset => "DayUnset",
+            Refusal::DayBack { .. } => "DayBack",
+            Refusal::ProductKnown => "ProductKnown",
+            Refusal::ProductUnknown => "ProductUnknown",
+            Refusal::NameShape => "NameShape",
+            Refusal::NominalRange => "NominalRange",
+            Refusal::DayRange => "DayRange",
+            Refusal::BatchKnown => "BatchKnown",
+            Refusal::BatchUnknown => "BatchUnknown",
+            Refusal::BatchState { .. } => "BatchState",
+            Refusal::LaneNumber => "LaneNumber",
+            Refusal::LaneBusy { .. } => "LaneBusy",
+            Refusal::LaneIdle => "LaneIdle",
+            Refusal::NoTare { .. } => "NoTare",
+            Refusal::GrossRange => "GrossRange",
+            Refusal::PriorWrong { .. } => "PriorWrong",
+            Refusal::TareRange => "TareRange",
         }
     }
 }

@@ -76,16 +76,6 @@ pub struct Entry {
     pub signal: Option<Signal>,
 }
 
-/// A tare of a product as it was put: from its day on, until the next day for which there is one, the empty package
-/// weighs this much.
-#[derive(Clone, Copy, Debug, PartialEq, Eq)]
-pub struct DatedTare {
-    /// In days since 1970-01-01.
-    pub day: i32,
-    /// In mg.
-    pub tare: i64,
-}
-
 /// A weighing of the list, with what the entries round it say of it.
 #[derive(Clone, Copy, Debug, PartialEq, Eq)]
 pub struct Reading {
@@ -101,7 +91,7 @@ pub struct Reading {
     /// The batch for which its lane was started last.
     pub batch: Option<Name>,
     /// What the lane's next act says of the gate, where there is such an act.
-    pub next: Option<Prior>,
+    pub next_prior: Option<Prior>,
 }
 
 /// The balance of the whole hall: the rows of its list, its readings and the four piles, and how many batches are in
@@ -121,7 +111,7 @@ pub struct SummaryView {
 }
 
 /// What is told where nothing stands against it.
-#[derive(Clone, Copy, Debug, PartialEq, Eq)]
+#[derive(Debug, PartialEq, Eq, Drop)]
 pub enum Reply {
     /// The act is taken down in this row.
     Done { row: u32 },
@@ -132,7 +122,7 @@ pub enum Reply {
 }
 
 /// A reply, and the place in the list that it speaks of: the new row, or the length of the list.
-#[derive(Clone, Copy, Debug, PartialEq, Eq)]
+#[derive(Debug, PartialEq, Eq, Drop)]
 pub struct Answered {
     pub at: u32,
     pub reply: Reply,

@@ -126,7 +126,7 @@ fn last_tare_for(lines: &[Accepted], wanted: Name, from: i32) -> Option<i64> {
 }
 
 /// The tare of a product on a day, in mg.
-pub fn tare_of(lines: &[Accepted], product: Name, day: i32) -> Option<i64> {
+pub fn tare_of_product(lines: &[Accepted], product: Name, day: i32) -> Option<i64> {
     last_tare_for(lines, product, greatest_tare_day(lines, product, day)?)
 }
 

@@ -1,7 +1,7 @@
 //! A second and plainer reading of the rules: why an act is refused.
 
 use crate::lines::{
-    Accepted, is_unsettled, last_start, newest_day, nominal_of, product_of, runs, tare_of,
+    Accepted, is_unsettled, last_start, newest_day, nominal_of, product_of, runs, tare_of_product,
 };
 use book_words::{Act, Name, Prior, Refusal};
 
@@ -82,7 +82,7 @@ fn refuse_start(lines: &[Accepted], lane: u8, batch: Name) -> Option<Refusal> {
         let batch = last_start(lines, lane)?;
         return Some(Refusal::LaneBusy { batch });
     }
-    match tare_of(lines, product, newest_day(lines)?) {
+    match tare_of_product(lines, product, newest_day(lines)?) {
         None => Some(Refusal::NoTare { product }),
         Some(_) => None,
     }

@@ -1,7 +1,7 @@
 //! A second and plainer reading of the rules: the signal of a weighing.
 
 use crate::lines::{
-    Accepted, Pack, last_start, newest_day, nominal_of, pack_at, product_of, tare_of,
+    Accepted, Pack, last_start, newest_day, nominal_of, pack_at, product_of, tare_of_product,
 };
 use book_words::{Act, Name};
 use pack_judge::{Cause, Pile, Signal};
@@ -18,13 +18,13 @@ fn limits_of(nominal: i64) -> (i64, i64) {
 }
 
 // The tare of a batch's product on a day, in mg.
-fn tare_in(lines: &[Accepted], batch: Name, day: Option<i32>) -> Option<i64> {
-    tare_of(lines, product_of(lines, batch)?, day?)
+fn tare_put(lines: &[Accepted], batch: Name, day: Option<i32>) -> Option<i64> {
+    tare_of_product(lines, product_of(lines, batch)?, day?)
 }
 
 // A gross less the tare of its batch and day, in mg.
 fn net(lines: &[Accepted], batch: Name, day: Option<i32>, gross: i64) -> i64 {
-    gross.wrapping_sub(tare_in(lines, batch, day).unwrap_or(0))
+    gross.wrapping_sub(tare_put(lines, batch, day).unwrap_or(0))
 }
 
 // Whether a pack counts for a batch with a net below a limit, by the tares of these lines.

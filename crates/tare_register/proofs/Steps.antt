@@ -4,7 +4,7 @@ use Rattle.std.proofs.lemmas.List.{append-nil, map-append}
 use Rattle.std.proofs.lemmas.List.Elements.{filter-append}
 use Rattle.std.specs.Prelude.{map}
 use Rattle.std.specs.Option.{option_map_or}
-use Rattle.std.specs.Int.Signed.{le_z, lt_z}
+use Rattle.std.specs.Prelude.{int_le, int_lt}
 use Rattle.tare_register.specs.declared.types.DatedTare.{DatedTare}
 use Rattle.tare_register.specs.declared.types.ProductTare.{ProductTare}
 use Rattle.tare_register.specs.Tares.{dated_by, days_after, latest, least_day, decides, deciding_tare, next_day, tares_of}
@@ -15,9 +15,9 @@ use Rattle.tare_register.proofs.Least.{least_day-append}
 -- greater day
 pub deciding_tare-append : (tares : List DatedTare) (dated : DatedTare) (day : ℤ) →
     deciding_tare (tares ++ dated ∷ []) day ≡
-    cond (le_z dated.day day && none_greater (dated_by tares day) dated) (Some dated) (deciding_tare tares day)
+    cond (int_le dated.day day && none_greater (dated_by tares day) dated) (Some dated) (deciding_tare tares day)
 deciding_tare-append tares dated day =
-    let test : DatedTare → Bool = λ e. le_z e.day day in
+    let test : DatedTare → Bool = λ e. int_le e.day day in
     let others : List DatedTare = dated_by tares day in
     ap latest (filter-append test tares (dated ∷ [])) ∙ elim (cases_Bool (test dated)) [
       | inl h ↦ rw h (latest-append others dated)
@@ -56,10 +56,10 @@ deciding_step entries entry product day known is = elim (cases_Bool (entry.produ
 -- the others
 next_more : (tares : List DatedTare) (dated : DatedTare) (day : ℤ) (known : Option ℤ) →
     known ≡ next_day tares day →
-    cond (lt_z day dated.day && option_map_or (λ next. lt_z dated.day next) known true) (Some dated.day) known ≡
+    cond (int_lt day dated.day && option_map_or (λ next. int_lt dated.day next) known true) (Some dated.day) known ≡
     next_day (tares ++ dated ∷ []) day
 next_more tares dated day known is =
-    let later : DatedTare → Bool = λ e. lt_z day e.day in
+    let later : DatedTare → Bool = λ e. int_lt day e.day in
     let days : List ℤ = days_after tares day in
     rw is (sym (ap (λ es. least_day (map (λ e. e.day) es)) (filter-append later tares (dated ∷ [])) ∙ elim (cases_Bool (later dated)) [
       | inl h ↦ rw (h, map-append) (least_day-append days dated.day)
@@ -69,7 +69,7 @@ next_more tares dated day known is =
 -- one more entry of any product in a walk
 pub next_step : (entries : List ProductTare) (entry : ProductTare) (product : ℕ) (day : ℤ) (known : Option ℤ) →
     known ≡ next_day (tares_of entries product) day →
-    cond ((entry.product == product) && (lt_z day entry.dated.day && option_map_or (λ next. lt_z entry.dated.day next) known true)) (Some entry.dated.day) known ≡
+    cond ((entry.product == product) && (int_lt day entry.dated.day && option_map_or (λ next. int_lt entry.dated.day next) known true)) (Some entry.dated.day) known ≡
     next_day (tares_of (entries ++ entry ∷ []) product) day
 next_step entries entry product day known is = elim (cases_Bool (entry.product == product)) [
   | inl h ↦ rw (tares_of-append, h) (next_more (tares_of entries product) entry.dated day known is)

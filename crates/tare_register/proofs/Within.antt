@@ -2,34 +2,34 @@ use Rattle.std.proofs.Common.{◌≡◌, ℕ, ℤ, true, false, ◌==◌, cond, 
 use Rattle.std.proofs.lemmas.Int.{ints}
 use Rattle.std.proofs.lemmas.Bool.{cases_Bool, eqb-true}
 use Rattle.std.specs.List.{list_all}
-use Rattle.std.specs.Int.Signed.{le_z, lt_z}
+use Rattle.std.specs.Prelude.{int_le, int_lt}
 use Rattle.tare_register.specs.declared.types.DatedTare.{DatedTare}
 use Rattle.tare_register.specs.declared.types.ProductTare.{ProductTare}
 use Rattle.tare_register.specs.Tares.{dated_by, days_after, next_day, covers, tare_by_rule, tares_of, entry_of, span_of, DecidesWithin}
 use Rattle.tare_register.proofs.Latest.{none_greater}
 use Rattle.tare_register.proofs.Steps.{deciding_tare-append, tares_of-append}
-use Rattle.tare_register.proofs.Least.{lt_z-least_day}
+use Rattle.tare_register.proofs.Least.{int_lt-least_day}
 
-le_z_false : (x y : ℤ) → le_z x y ≡ false → lt_z y x ≡ true
-le_z_false x y h = grind (arith, ints)
+int_le_false : (x y : ℤ) → int_le x y ≡ false → int_lt y x ≡ true
+int_le_false x y h = grind (arith, ints)
 
-le_z_true : (x y : ℤ) → le_z x y ≡ true → lt_z y x ≡ false
-le_z_true x y h = grind (arith, ints)
+int_le_true : (x y : ℤ) → int_le x y ≡ true → int_lt y x ≡ false
+int_le_true x y h = grind (arith, ints)
 
-le_z_chain : (x y z : ℤ) → le_z x y ≡ true → le_z y z ≡ true → le_z x z ≡ true
-le_z_chain x y z h k = grind (arith, ints)
+int_le_chain : (x y z : ℤ) → int_le x y ≡ true → int_le y z ≡ true → int_le x z ≡ true
+int_le_chain x y z h k = grind (arith, ints)
 
 -- no later day is reached by then, exactly where no tare dated by then has a greater day
-pub later_days_reached : (tares : List DatedTare) (dated : DatedTare) (later : ℤ) → le_z dated.day later ≡ true →
-    list_all (λ day. lt_z later day) (days_after tares dated.day) ≡ none_greater (dated_by tares later) dated
+pub later_days_reached : (tares : List DatedTare) (dated : DatedTare) (later : ℤ) → int_le dated.day later ≡ true →
+    list_all (λ day. int_lt later day) (days_after tares dated.day) ≡ none_greater (dated_by tares later) dated
 later_days_reached [] dated later h = refl
 later_days_reached (x ∷ xs) dated later h =
     let rest = later_days_reached xs dated later h in
-    elim (cases_Bool (le_z x.day dated.day)) [
-      | inl old ↦ rw (le_z_true x.day dated.day old, le_z_chain x.day dated.day later old h, old) rest
-      | inr new ↦ rw (le_z_false x.day dated.day new) (elim (cases_Bool (le_z x.day later)) [
-        | inl reached ↦ rw (reached, new, le_z_true x.day later reached) refl
-        | inr ahead ↦ rw (ahead, le_z_false x.day later ahead) rest
+    elim (cases_Bool (int_le x.day dated.day)) [
+      | inl old ↦ rw (int_le_true x.day dated.day old, int_le_chain x.day dated.day later old h, old) rest
+      | inr new ↦ rw (int_le_false x.day dated.day new) (elim (cases_Bool (int_le x.day later)) [
+        | inl reached ↦ rw (reached, new, int_le_true x.day later reached) refl
+        | inr ahead ↦ rw (ahead, int_le_false x.day later ahead) rest
       ])
     ]
 
@@ -38,8 +38,8 @@ tare_decides : (tares : List DatedTare) (dated : DatedTare) (day : ℤ) →
     tare_by_rule (tares ++ dated ∷ []) day ≡
     cond (covers (record { from = dated.day; until = next_day tares dated.day }) day) (Some dated.tare) (tare_by_rule tares day)
 tare_decides tares dated day =
-    rw (deciding_tare-append tares dated day) (elim (cases_Bool (le_z dated.day day)) [
-      | inl reached ↦ rw (reached, lt_z-least_day day (days_after tares dated.day), later_days_reached tares dated day reached)
+    rw (deciding_tare-append tares dated day) (elim (cases_Bool (int_le dated.day day)) [
+      | inl reached ↦ rw (reached, int_lt-least_day day (days_after tares dated.day), later_days_reached tares dated day reached)
           (elim (cases_Bool (none_greater (dated_by tares day) dated)) [ inl h ↦ rw h refl | inr h ↦ rw h refl ])
       | inr ahead ↦ rw ahead refl
     ])

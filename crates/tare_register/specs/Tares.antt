@@ -4,7 +4,7 @@ use Rattle.std.specs.Prelude.{Option, Some, None, option_map, filter, map}
 use Rattle.std.specs.List.{last_or, list_all}
 use Rattle.std.specs.Option.{option_map_or}
 use Rattle.std.specs.Int.{int_min}
-use Rattle.std.specs.Int.Signed.{le_z, lt_z}
+use Rattle.std.specs.Prelude.{int_le, int_lt}
 use Rattle.tare_register.specs.declared.types.DatedTare.{DatedTare}
 use Rattle.tare_register.specs.declared.types.ProductTare.{ProductTare}
 use Rattle.tare_register.specs.declared.types.Span.{Span}
@@ -17,11 +17,11 @@ pub record Register : Type 0 where
 
 -- the tares of one product that are dated on a day or before it
 abbrev pub dated_by : List DatedTare → ℤ → List DatedTare
-dated_by tares day = filter (λ dated. le_z dated.day day) tares
+dated_by tares day = filter (λ dated. int_le dated.day day) tares
 
 -- those of some tares that have the greatest day
 abbrev pub of_greatest_day : List DatedTare → List DatedTare
-of_greatest_day tares = filter (λ dated. list_all (λ other. le_z other.day dated.day) tares) tares
+of_greatest_day tares = filter (λ dated. list_all (λ other. int_le other.day dated.day) tares) tares
 
 -- the last of those of some tares that have the greatest day
 unfoldable pub latest : List DatedTare → Option DatedTare
@@ -40,7 +40,7 @@ tare_by_rule tares day = option_map (λ dated. dated.tare) (deciding_tare tares 
 -- is dated by that day, and that one has no greater day
 abbrev pub decides : DatedTare → ℤ → Option DatedTare → Bool
 decides dated day known =
-    le_z dated.day day && option_map_or (λ before. le_z before.day dated.day) known true
+    int_le dated.day day && option_map_or (λ before. int_le before.day dated.day) known true
 
 -- the tares of a product among the entries, in the order in which they were put
 abbrev pub tares_of : List ProductTare → ℕ → List DatedTare
@@ -53,7 +53,7 @@ tare_of entries product day = tare_by_rule (tares_of entries product) day
 
 -- the days after a day for which there is a tare
 abbrev pub days_after : List DatedTare → ℤ → List ℤ
-days_after tares day = map (λ dated. dated.day) (filter (λ dated. lt_z day dated.day) tares)
+days_after tares day = map (λ dated. dated.day) (filter (λ dated. int_lt day dated.day) tares)
 
 -- the least of some days
 abbrev pub least_day : List ℤ → Option ℤ
@@ -71,7 +71,7 @@ span_of entries product day =
 
 -- whether a day is one of the days of a span
 abbrev pub covers : Span → ℤ → Bool
-covers span day = le_z span.from day && option_map_or (λ until. lt_z day until) span.until true
+covers span day = int_le span.from day && option_map_or (λ until. int_lt day until) span.until true
 
 -- a tare of a product for a day
 abbrev pub entry_of : ℕ → ℤ → ℤ → ProductTare

@@ -1,5 +1,5 @@
 ghost use Rattle.std.specs.Prelude.{◌≡◌, ◌==◌, ◌&&◌, true};
-ghost use Rattle.std.specs.Int.Signed.{lt_z};
+ghost use Rattle.std.specs.Prelude.{int_lt};
 ghost use Rattle.std.specs.Option.{option_map_or};
 ghost use Rattle.tare_register.specs.Tares.{decides, deciding_tare, next_day, tares_of};
 
@@ -40,8 +40,8 @@ pub fn find_next_day(entries: &[ProductTare], product: u32, day: i32) -> Option<
 
 // Whether the entry's day comes after that day, and before the one that was known.
 fn comes_next(entry: &ProductTare, product: u32, day: i32, known: Option<i32>) -> bool
-    ensures { result ≡ ((entry.now.product == product) && (lt_z day entry.now.dated.day
-        && option_map_or (λ next. lt_z entry.now.dated.day next) known true)) }
+    ensures { result ≡ ((entry.now.product == product) && (int_lt day entry.now.dated.day
+        && option_map_or (λ next. int_lt entry.now.dated.day next) known true)) }
 {
     entry.product == product
         && (entry.dated.day > day && known.map_or(true, |next| entry.dated.day < next))

@@ -1,6 +1,0 @@
-use Rattle.std.proofs.Common.{◌≡◌, drop}
-use Rattle.book_words.specs.Acts.{first_said, prior_in}
-use Rattle.book_walks.proofs.acts.first_prior.Given as goal
-
-abbrev pub invariant-loop-entry : goal.invariant-loop-entry
-invariant-loop-entry l = first_said (prior_in l.lane) l.entries ≡ first_said (prior_in l.lane) (drop l.entry-index l.entries)

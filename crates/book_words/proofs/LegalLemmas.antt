@@ -1,0 +1,81 @@
+-- What holds of each legal list.
+use Rattle.std.proofs.Common.{◌≡◌, zero, suc, ◌≤◌, ◌⊎◌, inl, inr, List, [], ◌∷◌, ◌++◌, length, refl, sym, ◌∙◌, ap, subst, arith, append_assoc, append-nil, length-append}
+use Rattle.hall_limits.specs.declared.TheConstants.{MAX_ROWS}
+use Rattle.book_words.specs.declared.types.Entry.{Entry}
+use Rattle.book_words.specs.Answers.{IsLawful, IsLegal}
+use Rattle.book_words.specs.Ranges.{AllInRange}
+use Rattle.book_words.specs.Soundness.{IsSound}
+use Rattle.book_words.proofs.MoveLaws.{balanced, each_moves}
+use Rattle.book_words.proofs.RefusalLemmas.{rules_in_range}
+use Rattle.book_words.proofs.TareLaws.{tares_known}
+
+abbrev head_or : Entry → List Entry → Entry
+head_or other [] = other
+head_or other (entry ∷ entries) = entry
+
+abbrev tail_of : List Entry → List Entry
+tail_of [] = []
+tail_of (entry ∷ entries) = entries
+
+-- where a list with one more entry is parted at an entry, that is the last one or stands before it
+parted : (entries : List Entry) (last entry : Entry) (before after : List Entry) → entries ++ last ∷ [] ≡ before ++ entry ∷ after
+    → ((entries ≡ before) × (last ≡ entry)) ⊎ ((rest : List Entry) × (entries ≡ before ++ entry ∷ rest))
+parted [] last entry [] after h = inl (refl, ap (head_or last) h)
+parted [] last entry (b ∷ bs) after h =
+    let tails : [] ≡ bs ++ entry ∷ after = ap tail_of h in
+    let lengths = ap length tails ∙ length-append bs (entry ∷ after) in
+    absurd (omega (arith, lengths))
+parted (e ∷ es) last entry [] after h = inr (es, ap (λ x. x ∷ es) (ap (head_or last) h))
+parted (e ∷ es) last entry (b ∷ bs) after h =
+    let heads : e ≡ b = ap (head_or last) h in
+    elim (parted es last entry bs after (ap tail_of h)) [
+      | inl same ↦ inl (ap (λ x. x ∷ es) heads ∙ ap (λ xs. b ∷ xs) same.0, same.1)
+      | inr found ↦ inr (found.0, ap (λ x. x ∷ es) heads ∙ ap (λ xs. b ∷ xs) found.1)
+    ]
+
+-- a lawful entry behind a legal list makes a legal one
+pub legal-push : (entries : List Entry) (entry : Entry) → IsLegal entries → IsLawful entries entry → IsLegal (entries ++ entry ∷ [])
+legal-push entries last legal lawful before entry after parts =
+    elim (parted entries last entry before after parts) [
+      | inl same ↦ subst (λ (es : List Entry). IsLawful es entry) same.0 (subst (λ (e : Entry). IsLawful entries e) same.1 lawful)
+      | inr found ↦ legal before entry found.0 found.1
+    ]
+
+-- the empty list is legal
+pub legal-nil : IsLegal []
+legal-nil before entry after parts =
+    let lengths = ap length parts ∙ length-append before (entry ∷ after) in
+    absurd (omega (arith, lengths))
+
+-- each prefix of a legal list is legal
+pub legal-prefix : (entries more : List Entry) → IsLegal (entries ++ more) → IsLegal entries
+legal-prefix entries more legal before entry after parts =
+    legal before entry (after ++ more) (ap (λ es. es ++ more) parts ∙ append_assoc before (entry ∷ after) more)
+
+in_range_from : (before after : List Entry) → IsLegal (before ++ after) → AllInRange after
+in_range_from before [] legal k d inside = absurd (omega arith)
+in_range_from before (e ∷ es) legal zero d inside = rules_in_range before e.act (legal before e es refl).rules
+in_range_from before (e ∷ es) legal (suc k) d inside =
+    in_range_from (before ++ e ∷ []) es (subst IsLegal (sym (append_assoc before (e ∷ []) es)) legal) k d (omega arith)
+
+-- the masses and days of a legal list are within their limits
+pub legal_in_range : (entries : List Entry) → IsLegal entries → AllInRange entries
+legal_in_range entries legal = in_range_from [] entries legal
+
+few_from : (before after : List Entry) → IsLegal (before ++ after) → length before ≤ MAX_ROWS → length (before ++ after) ≤ MAX_ROWS
+few_from before [] legal few = rw append-nil few
+few_from before (e ∷ es) legal few =
+    let whole : (before ++ e ∷ []) ++ es ≡ before ++ e ∷ es = append_assoc before (e ∷ []) es in
+    let room = (legal before e es refl).room in
+    let count = length-append before (e ∷ []) in
+    subst (λ (all : List Entry). length all ≤ MAX_ROWS) whole
+    (few_from (before ++ e ∷ []) es (subst IsLegal (sym whole) legal) (omega (arith, room, count)))
+
+-- a legal list has no more rows than a book may have
+pub legal_few : (entries : List Entry) → IsLegal entries → length entries ≤ MAX_ROWS
+legal_few entries legal = few_from [] entries legal (omega arith)
+
+-- legal rows are sound
+pub sound_of_legal : (rows : List Entry) → IsLegal rows → IsSound rows
+sound_of_legal rows legal =
+    record { legal = legal; balanced = balanced rows; moves = each_moves rows; tares = tares_known rows legal }

@@ -1,0 +1,120 @@
+-- What one more entry changes of the readings before it: only what the lane's next act says, where there was none.
+use Rattle.std.proofs.Common.{◌≡◌, ℕ, zero, suc, ◌+◌, ◌<◌, ◌≤◌, List, [], ◌∷◌, ◌++◌, length, take, drop, map, slice_get, Option, Some, None, option_map, refl, ◌∙◌, ap, arith, length-append}
+use Rattle.std.proofs.lemmas.List.{take-append-le}
+use Rattle.std.proofs.Math.Seq.{take-append_seam}
+use Rattle.std.specs.List.{filter_map, range_with_len, cons_option}
+use Rattle.std.specs.Option.{option_or, option_and_then}
+use Rattle.pack_judge.specs.declared.types.Signal.{Signal}
+use Rattle.book_words.specs.declared.types.Prior.{Prior}
+use Rattle.book_words.specs.declared.types.Act.{Act}
+use Rattle.book_words.specs.declared.types.Act.TheVariants.{NewDay, PutProduct, PutTare, OpenBatch, StartLane, Weigh, StopLane}
+use Rattle.book_words.specs.declared.types.Entry.{Entry}
+use Rattle.book_words.specs.declared.types.Reading.{Reading}
+use Rattle.book_words.specs.Acts.{said, first_said, prior_told, newest_day, last_batch}
+use Rattle.book_words.specs.Readings.{reading_from, reading_at, readings_among, readings}
+
+-- a reading once an act came after it
+abbrev pub advance : Act → Reading → Reading
+advance act reading = record reading { next_prior = option_or reading.next_prior (prior_told reading.lane act) }
+
+first_said-push : {A : Type 0} (says : Act → Option A) (entries : List Entry) (entry : Entry) → first_said says (entries ++ entry ∷ []) ≡ option_or (first_said says entries) (says entry.act)
+first_said-push {A} says [] entry = only (says entry.act)
+  where
+    only : (o : Option A) → slice_get (cons_option o []) 0 ≡ o
+    only None = refl
+    only (Some x) = refl
+first_said-push {A} says (e ∷ es) entry = first (says e.act) (first_said-push says es entry)
+  where
+    first : (o : Option A) → slice_get (said says (es ++ entry ∷ [])) 0 ≡ option_or (slice_get (said says es) 0) (says entry.act)
+        → slice_get (cons_option o (said says (es ++ entry ∷ []))) 0 ≡ option_or (slice_get (cons_option o (said says es)) 0) (says entry.act)
+    first None h = h
+    first (Some x) h = refl
+
+reading_from-push : (number : ℕ) (before : List Entry) (act : Act) (signal : Option Signal) (after : List Entry) (entry : Entry)
+    → reading_from number before act signal (after ++ entry ∷ []) ≡ option_map (advance entry.act) (reading_from number before act signal after)
+reading_from-push number before (Weigh lane gross prior) signal after entry =
+    let reading : Option Prior → Option Reading = λ o. Some (record { number = number; lane = lane; gross = gross; signal = signal; day = newest_day before; batch = last_batch before lane; next_prior = o }) in
+    ap reading (first_said-push (prior_told lane) after entry)
+reading_from-push number before (NewDay day) signal after entry = refl
+reading_from-push number before (PutProduct name nominal) signal after entry = refl
+reading_from-push number before (PutTare product day tare) signal after entry = refl
+reading_from-push number before (OpenBatch batch product) signal after entry = refl
+reading_from-push number before (StartLane lane batch) signal after entry = refl
+reading_from-push number before (StopLane lane prior) signal after entry = refl
+
+slice_get-push : (entries : List Entry) (entry : Entry) (place : ℕ) → place < length entries → slice_get (entries ++ entry ∷ []) place ≡ slice_get entries place
+slice_get-push [] entry place h = absurd (omega arith)
+slice_get-push (e ∷ es) entry zero h = refl
+slice_get-push (e ∷ es) entry (suc place) h = slice_get-push es entry place (omega arith)
+
+drop-push : (entries : List Entry) (entry : Entry) (n : ℕ) → n ≤ length entries → drop n (entries ++ entry ∷ []) ≡ drop n entries ++ entry ∷ []
+drop-push entries entry zero h = refl
+drop-push [] entry (suc n) h = absurd (omega arith)
+drop-push (e ∷ es) entry (suc n) h = drop-push es entry n (omega arith)
+
+-- the readings before an entry, once it came
+pub reading_at-push : (entries : List Entry) (entry : Entry) (place : ℕ) → place < length entries → reading_at (entries ++ entry ∷ []) place ≡ option_map (advance entry.act) (reading_at entries place)
+reading_at-push entries entry place h =
+    ap (option_and_then (λ (e : Entry). reading_from (place + 1) (take place (entries ++ entry ∷ [])) e.act e.signal (drop (place + 1) (entries ++ entry ∷ [])))) (slice_get-push entries entry place h)
+    ∙ ap (λ (before : List Entry). option_and_then (λ (e : Entry). reading_from (place + 1) before e.act e.signal (drop (place + 1) (entries ++ entry ∷ []))) (slice_get entries place)) (take-append-le place entries (entry ∷ []) (omega arith))
+    ∙ ap (λ (after : List Entry). option_and_then (λ (e : Entry). reading_from (place + 1) (take place entries) e.act e.signal after) (slice_get entries place)) (drop-push entries entry (place + 1) (omega arith))
+    ∙ each (slice_get entries place)
+  where
+    each : (o : Option Entry) → option_and_then (λ (e : Entry). reading_from (place + 1) (take place entries) e.act e.signal (drop (place + 1) entries ++ entry ∷ [])) o
+        ≡ option_map (advance entry.act) (option_and_then (λ (e : Entry). reading_from (place + 1) (take place entries) e.act e.signal (drop (place + 1) entries)) o)
+    each None = refl
+    each (Some e) = reading_from-push (place + 1) (take place entries) e.act e.signal (drop (place + 1) entries) entry
+
+map-cons_option : (f : Reading → Reading) (o : Option Reading) (some : List Reading) → cons_option (option_map f o) (map f some) ≡ map f (cons_option o some)
+map-cons_option f None some = refl
+map-cons_option f (Some reading) some = refl
+
+among-push : (entries : List Entry) (entry : Entry) (from many : ℕ) → from + many ≤ length entries
+    → filter_map (reading_at (entries ++ entry ∷ [])) (range_with_len from many) ≡ map (advance entry.act) (filter_map (reading_at entries) (range_with_len from many))
+among-push entries entry from zero h = refl
+among-push entries entry from (suc many) h =
+    ap (λ (o : Option Reading). cons_option o (filter_map (reading_at (entries ++ entry ∷ [])) (range_with_len (from + 1) many))) (reading_at-push entries entry from (omega arith))
+    ∙ ap (cons_option (option_map (advance entry.act) (reading_at entries from))) (among-push entries entry (from + 1) many (omega arith))
+    ∙ map-cons_option (advance entry.act) (reading_at entries from) (filter_map (reading_at entries) (range_with_len (from + 1) many))
+
+-- the readings before an entry, once it came
+pub readings_among-push : (entries : List Entry) (entry : Entry) → readings_among (length entries) (entries ++ entry ∷ []) ≡ map (advance entry.act) (readings entries)
+readings_among-push entries entry = among-push entries entry 0 (length entries) (omega arith)
+
+cons_option-append : (o : Option Reading) (some more : List Reading) → cons_option o (some ++ more) ≡ cons_option o some ++ more
+cons_option-append None some more = refl
+cons_option-append (Some reading) some more = refl
+
+range-push : (f : ℕ → Option Reading) (from many : ℕ) → filter_map f (range_with_len from (suc many)) ≡ filter_map f (range_with_len from many) ++ cons_option (f (from + many)) []
+range-push f from zero = ap (λ n. cons_option (f n) []) (let same : from ≡ from + 0 = omega arith in same)
+range-push f from (suc many) =
+    ap (cons_option (f from)) (range-push f (from + 1) many)
+    ∙ cons_option-append (f from) (filter_map f (range_with_len (from + 1) many)) (cons_option (f ((from + 1) + many)) [])
+    ∙ ap (λ n. filter_map f (range_with_len from (suc many)) ++ cons_option (f n) []) (let same : (from + 1) + many ≡ from + suc many = omega arith in same)
+
+-- the reading of the last entry, where it is a weighing
+abbrev pub own_reading : List Entry → Entry → Option Reading
+own_reading entries entry = reading_from (length entries + 1) entries entry.act entry.signal []
+
+own_reading-at : (entries : List Entry) (entry : Entry) → reading_at (entries ++ entry ∷ []) (length entries) ≡ own_reading entries entry
+own_reading-at entries entry =
+    ap (option_and_then (λ (e : Entry). reading_from (length entries + 1) (take (length entries) (entries ++ entry ∷ [])) e.act e.signal (drop (length entries + 1) (entries ++ entry ∷ [])))) (slice_get-last entries entry)
+    ∙ ap (λ (before : List Entry). reading_from (length entries + 1) before entry.act entry.signal (drop (length entries + 1) (entries ++ entry ∷ []))) (take-append_seam entries (entry ∷ []))
+    ∙ ap (reading_from (length entries + 1) entries entry.act entry.signal) (drop-all entries entry)
+  where
+    slice_get-last : (es : List Entry) (e : Entry) → slice_get (es ++ e ∷ []) (length es) ≡ Some e
+    slice_get-last [] e = refl
+    slice_get-last (x ∷ xs) e = slice_get-last xs e
+
+    drop-all : (es : List Entry) (e : Entry) → drop (length es + 1) (es ++ e ∷ []) ≡ []
+    drop-all [] e = refl
+    drop-all (x ∷ xs) e = ap (λ n. drop n (x ∷ (xs ++ e ∷ []))) (let same : suc (length xs) + 1 ≡ suc (length xs + 1) = omega arith in same) ∙ drop-all xs e
+
+-- the readings with one more entry
+pub readings-push : (entries : List Entry) (entry : Entry) → readings (entries ++ entry ∷ []) ≡ map (advance entry.act) (readings entries) ++ cons_option (own_reading entries entry) []
+readings-push entries entry =
+    ap (λ n. readings_among n (entries ++ entry ∷ [])) (let same : length (entries ++ entry ∷ []) ≡ suc (length entries) = omega (arith, length-append entries (entry ∷ [])) in same)
+    ∙ range-push (reading_at (entries ++ entry ∷ [])) 0 (length entries)
+    ∙ ap (λ some. some ++ cons_option (reading_at (entries ++ entry ∷ []) (0 + length entries)) []) (readings_among-push entries entry)
+    ∙ ap (λ n. map (advance entry.act) (readings entries) ++ cons_option (reading_at (entries ++ entry ∷ []) n) []) (let same : 0 + length entries ≡ length entries = omega arith in same)
+    ∙ ap (λ o. map (advance entry.act) (readings entries) ++ cons_option o []) (own_reading-at entries entry)
