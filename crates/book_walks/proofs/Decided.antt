@@ -1,11 +1,9 @@
 -- The tare that decides, one entry at a time.
-use Rattle.std.proofs.Common.{◌≡◌, ℕ, ℤ, pos, ◌+◌, ◌<◌, ◌≤◌, ◌≤ℤ◌, Bool, true, false, ◌&&◌, cond, List, [], ◌∷◌, ◌++◌, length, take, get_or, Option, Some, None, IfSome, refl, sym, ◌∙◌, ap, subst, option_map, inl, inr, arith, int_le}
-use Rattle.std.proofs.lemmas.Bool.{cases_Bool, and_parts}
+use Rattle.std.proofs.Common.{◌≡◌, ℕ, ℤ, pos, ◌+◌, ◌<◌, ◌≤◌, ◌≤ℤ◌, Bool, true, false, cond, List, [], ◌∷◌, ◌++◌, length, take, get_or, Option, Some, None, IfSome, refl, sym, ◌∙◌, ap, subst, option_map, arith, int_le}
+use Rattle.std.proofs.lemmas.Bool.{and_parts}
 use Rattle.std.proofs.lemmas.Int.{ints}
 use Rattle.std.proofs.lemmas.List.{append-nil, take_more, take_all}
-use Rattle.std.proofs.lemmas.List.Elements.{filter-append}
-use Rattle.std.specs.List.{filter, cons_option}
-use Rattle.std.specs.Option.{option_map_or}
+use Rattle.std.specs.List.{cons_option}
 use Rattle.hall_limits.specs.declared.TheConstants.{MAX_TARE, MIN_NOMINAL, MAX_NOMINAL}
 use Rattle.book_words.specs.declared.name.Name.{Name}
 use Rattle.book_words.specs.declared.types.Act.{Act}
@@ -74,17 +72,19 @@ deciding_in_range day known (Some dated) h k = either (decides dated day known)
     either true = k
     either false = h
 
-pub decided_next : (entries : List Entry) (product : Name) (day : ℤ) (place : ℕ) (d : Entry) (known now : Option DatedTare) → place < length entries
-    → known ≡ deciding_tare (tares_put (take place entries) product) day → now ≡ deciding day known (tare_put product (get_or entries place d).act)
+pub decided_next : (entries : List Entry) (product : Name) (day : ℤ) (place : ℕ) (entry : Entry) (known now : Option DatedTare) → place < length entries → entry ≡ get_or entries place entry
+    → known ≡ deciding_tare (tares_put (take place entries) product) day → now ≡ deciding day known (tare_put product entry.act)
     → now ≡ deciding_tare (tares_put (take (place + 1) entries) product) day
-decided_next entries product day place d known now inside is next =
-    next ∙ ap (λ k. deciding day k (tare_put product (get_or entries place d).act)) is ∙ decided_more entries product day place d inside
+decided_next entries product day place entry known now inside here is next =
+    next ∙ ap (λ k. deciding day k (tare_put product entry.act)) is
+    ∙ ap (λ (e : Entry). deciding day (deciding_tare (tares_put (take place entries) product) day) (tare_put product e.act)) here
+    ∙ decided_more entries product day place entry inside
 
-pub decided_in_range : (entries : List Entry) (product : Name) (day : ℤ) (place : ℕ) (d : Entry) (known now : Option DatedTare) → place < length entries
-    → AllInRange entries → IfSome known TareInRange → now ≡ deciding day known (tare_put product (get_or entries place d).act) → IfSome now TareInRange
-decided_in_range entries product day place d known now inside all h next =
-    let entry = get_or entries place d in
-    subst (λ (o : Option DatedTare). IfSome o TareInRange) (sym next) (deciding_in_range day known (tare_put product entry.act) h (put_in_range product entry.act (all place d inside)))
+pub decided_in_range : (entries : List Entry) (product : Name) (day : ℤ) (place : ℕ) (entry : Entry) (known now : Option DatedTare) → place < length entries → entry ≡ get_or entries place entry
+    → AllInRange entries → IfSome known TareInRange → now ≡ deciding day known (tare_put product entry.act) → IfSome now TareInRange
+decided_in_range entries product day place entry known now inside here all h next =
+    let within = subst (λ (e : Entry). is_act_in_range e.act ≡ true) (sym here) (all place entry inside) in
+    subst (λ (o : Option DatedTare). IfSome o TareInRange) (sym next) (deciding_in_range day known (tare_put product entry.act) h (put_in_range product entry.act within))
 
 pub decided_whole : (entries : List Entry) (product : Name) (day : ℤ) (place : ℕ) (known : Option DatedTare) (dated : DatedTare) → length entries ≤ place
     → known ≡ deciding_tare (tares_put (take place entries) product) day → known ≡ Some dated → Some dated.tare ≡ tare_of_product entries product day

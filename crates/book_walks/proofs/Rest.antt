@@ -1,11 +1,9 @@
 -- The readings that a walk still has before it.
-use Rattle.std.proofs.Common.{◌≡◌, ℕ, suc, ◌+◌, ◌-◌, ◌<◌, ◌≤◌, Bool, true, false, cond, ◌||◌, ◌&&◌, ◌==◌, List, [], ◌∷◌, Option, Some, None, refl, ◌∙◌, ap, arith}
-use Rattle.std.specs.List.{filter, filter_map, range_with_len, cons_option, list_any}
-use Rattle.std.specs.Option.{option_map_or}
+use Rattle.std.proofs.Common.{◌≡◌, ℕ, suc, ◌+◌, ◌-◌, ◌<◌, ◌≤◌, Bool, true, false, cond, List, [], ◌∷◌, Option, Some, None, refl, ◌∙◌, ap, arith}
+use Rattle.std.specs.List.{filter, filter_map, range_with_len, cons_option}
 use Rattle.book_words.specs.declared.types.Entry.{Entry}
 use Rattle.book_words.specs.declared.types.Reading.{Reading}
 use Rattle.book_words.specs.Readings.{reading_at, readings_among}
-use Rattle.book_words.specs.Piles.{is_unsettled}
 use Rattle.book_walks.specs.Picking.{picked}
 
 -- the readings from a place on, among so many of the first entries
@@ -37,21 +35,3 @@ picked_end test entries many place h = ap (filter test) (rest_end entries many p
 pub picked_step : (test : Reading → Bool) (entries : List Entry) (many place : ℕ) → place < many
     → filter test (rest_readings entries many place) ≡ cons_option (picked test (reading_at entries place)) (filter test (rest_readings entries many (place + 1)))
 picked_step test entries many place h = ap (filter test) (rest_step entries many place h) ∙ filter-cons test (reading_at entries place) (rest_readings entries many (place + 1))
-
-any-cons : (test : Reading → Bool) (o : Option Reading) (some : List Reading) → list_any test (cons_option o some) ≡ cond (option_map_or test o false) true (list_any test some)
-any-cons test None some = refl
-any-cons test (Some reading) some = elim (test reading) as (λ b. (b || list_any test some) ≡ cond b true (list_any test some)) [ true ↦ refl | false ↦ refl ]
-
-pub any_begin : (test : Reading → Bool) (entries : List Entry) (many : ℕ) → list_any test (rest_readings entries many 0) ≡ list_any test (readings_among many entries)
-any_begin test entries many = ap (list_any test) (rest_begin entries many)
-
-pub any_end : (test : Reading → Bool) (entries : List Entry) (many place : ℕ) → many ≤ place → list_any test (rest_readings entries many place) ≡ false
-any_end test entries many place h = ap (list_any test) (rest_end entries many place h)
-
-pub any_step : (test : Reading → Bool) (entries : List Entry) (many place : ℕ) → place < many
-    → list_any test (rest_readings entries many place) ≡ cond (option_map_or test (reading_at entries place) false) true (list_any test (rest_readings entries many (place + 1)))
-any_step test entries many place h = ap (list_any test) (rest_step entries many place h) ∙ any-cons test (reading_at entries place) (rest_readings entries many (place + 1))
-
--- an unsettled reading of a lane
-abbrev pub unsettled_on : ℕ → Reading → Bool
-unsettled_on lane = λ reading. (reading.lane == lane) && is_unsettled reading

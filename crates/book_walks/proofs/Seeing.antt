@@ -8,7 +8,7 @@ use Rattle.book_words.specs.declared.types.Prior.{Prior}
 use Rattle.book_words.specs.declared.types.Act.{Act}
 use Rattle.book_words.specs.declared.types.Act.TheVariants.{NewDay, PutProduct, PutTare, OpenBatch, StartLane, Weigh, StopLane}
 use Rattle.book_words.specs.declared.types.Entry.{Entry}
-use Rattle.book_words.specs.Acts.{day_set, batch_started, newest_day, last_batch, first_said, prior_told}
+use Rattle.book_words.specs.Acts.{day_set, batch_started, newest_day, last_batch, next_prior}
 use Rattle.book_words.specs.Readings.{reading_from, reading_at}
 use Rattle.book_walks.specs.declared.sight.Sight.{Sight}
 use Rattle.book_walks.specs.Sight.{Sees}
@@ -26,16 +26,16 @@ sees_next entries place d old new inside seen day batches =
     }
 
 -- the reading at a place where a weighing stands
-pub reading_here : (entries : List Entry) (place lane : ℕ) (gross : ℤ) (prior : Prior) (d : Entry) (day : Option ℤ) (batch : Option Name) (next : Option Prior) → place < length entries
-    → (get_or entries place d).act ≡ Weigh lane gross prior → day ≡ newest_day (take place entries) → batch ≡ last_batch (take place entries) lane → next ≡ first_said (prior_told lane) (drop (place + 1) entries)
-    → Some (record { number = place + 1; lane = lane; gross = gross; signal = (get_or entries place d).signal; day = day; batch = batch; next = next }) ≡ reading_at entries place
-reading_here entries place lane gross prior d day batch next inside act day_is batch_is next_is =
+pub reading_here : (entries : List Entry) (place lane : ℕ) (gross : ℤ) (prior : Prior) (entry : Entry) (day : Option ℤ) (batch : Option Name) (next : Option Prior) → place < length entries
+    → entry ≡ get_or entries place entry → entry.act ≡ Weigh lane gross prior → day ≡ newest_day (take place entries) → batch ≡ last_batch (take place entries) lane → next ≡ next_prior (drop (place + 1) entries) lane
+    → Some (record { number = place + 1; lane = lane; gross = gross; signal = entry.signal; day = day; batch = batch; next_prior = next }) ≡ reading_at entries place
+reading_here entries place lane gross prior entry day batch next inside here act day_is batch_is next_is =
     let before = take place entries in
     let after = drop (place + 1) entries in
-    let entry = get_or entries place d in
-    let said : Some (record { number = place + 1; lane = lane; gross = gross; signal = entry.signal; day = day; batch = batch; next = next }) ≡ reading_from (place + 1) before (Weigh lane gross prior) entry.signal after = rw (day_is, batch_is, next_is) refl in
+    let said : Some (record { number = place + 1; lane = lane; gross = gross; signal = entry.signal; day = day; batch = batch; next_prior = next }) ≡ reading_from (place + 1) before (Weigh lane gross prior) entry.signal after = rw (day_is, batch_is, next_is) refl in
     said ∙ ap (λ (a : Act). reading_from (place + 1) before a entry.signal after) (sym act)
-    ∙ ap (option_and_then (λ (e : Entry). reading_from (place + 1) before e.act e.signal after)) (sym (slice_get-get_or entries place d inside))
+    ∙ ap (λ (e : Entry). reading_from (place + 1) before e.act e.signal after) here
+    ∙ ap (option_and_then (λ (e : Entry). reading_from (place + 1) before e.act e.signal after)) (sym (slice_get-get_or entries place entry inside))
 
 none_from : (number : ℕ) (before : List Entry) (act : Act) (signal : Option Signal) (after : List Entry) → ((lane : ℕ) (gross : ℤ) (prior : Prior) → act ≡ Weigh lane gross prior → ⊥) → None ≡ reading_from number before act signal after
 none_from number before (Weigh lane gross prior) signal after other = absurd (other lane gross prior refl)
@@ -47,7 +47,8 @@ none_from number before (StartLane lane batch) signal after other = refl
 none_from number before (StopLane lane prior) signal after other = refl
 
 -- there is no reading where another act stands
-pub no_reading_here : (entries : List Entry) (place : ℕ) (d : Entry) → place < length entries → ((lane : ℕ) (gross : ℤ) (prior : Prior) → (get_or entries place d).act ≡ Weigh lane gross prior → ⊥) → None ≡ reading_at entries place
-no_reading_here entries place d inside other =
-    none_from (place + 1) (take place entries) (get_or entries place d).act (get_or entries place d).signal (drop (place + 1) entries) other
-    ∙ ap (option_and_then (λ (e : Entry). reading_from (place + 1) (take place entries) e.act e.signal (drop (place + 1) entries))) (sym (slice_get-get_or entries place d inside))
+pub no_reading_here : (entries : List Entry) (place : ℕ) (entry : Entry) → place < length entries → entry ≡ get_or entries place entry → ((lane : ℕ) (gross : ℤ) (prior : Prior) → entry.act ≡ Weigh lane gross prior → ⊥) → None ≡ reading_at entries place
+no_reading_here entries place entry inside here other =
+    none_from (place + 1) (take place entries) entry.act entry.signal (drop (place + 1) entries) other
+    ∙ ap (λ (e : Entry). reading_from (place + 1) (take place entries) e.act e.signal (drop (place + 1) entries)) here
+    ∙ ap (option_and_then (λ (e : Entry). reading_from (place + 1) (take place entries) e.act e.signal (drop (place + 1) entries))) (sym (slice_get-get_or entries place entry inside))

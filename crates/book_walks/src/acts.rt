@@ -22,10 +22,8 @@ pub fn newest_day(entries: &[Entry]) -> Option<i32>
 /// The nominal quantity of a product in mg; `None` where it isn't a product.
 pub fn nominal_of(entries: &[Entry], product: &Name) -> Option<i64>
     ensures value { result ≡ nominal_of entries.now product.now }
-    ensures in_range {
-        AllInRange entries.now
-        → IfSome result (λ nominal. (MIN_NOMINAL ≤ℤ nominal) × (nominal ≤ℤ MAX_NOMINAL))
-    }
+    ensures in_range { AllInRange entries.now
+        → IfSome result (λ nominal. (MIN_NOMINAL ≤ℤ nominal) × (nominal ≤ℤ MAX_NOMINAL)) }
 {
     let mut last = None;
     for entry in entries {

@@ -4,7 +4,8 @@ ghost use Rattle.hall_limits.specs.declared.TheConstants.{MAX_ROWS};
 ghost use Rattle.book_words.specs.Acts.{state_of};
 ghost use Rattle.book_words.specs.Readings.{readings};
 ghost use Rattle.book_words.specs.Piles.{tally, in_pile};
-ghost use Rattle.book_words.specs.Answers.{same_state, batches_in, summary};
+ghost use Rattle.book_words.specs.Refusals.{same_state};
+ghost use Rattle.book_words.specs.Answers.{batches_in, summary};
 ghost use Rattle.book_words.specs.Ranges.{IsGrossInRange, IsSummaryInRange};
 ghost use Rattle.book_words.specs.Ranges.{AllInRange};
 

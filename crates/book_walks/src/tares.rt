@@ -22,9 +22,7 @@ fn decide(known: Option<DatedTare>, act: &Act, product: &Name, day: i32) -> Opti
 /// and of these the one put last.
 pub fn tare_of_product(entries: &[Entry], product: &Name, day: i32) -> Option<i64>
     ensures value { result ≡ tare_of_product entries.now product.now day }
-    ensures in_range {
-        AllInRange entries.now → IfSome result (λ tare. (pos 0 ≤ℤ tare) × (tare ≤ℤ MAX_TARE))
-    }
+    ensures in_range { AllInRange entries.now → IfSome result (λ tare. (pos 0 ≤ℤ tare) × (tare ≤ℤ MAX_TARE)) }
 {
     let mut known: Option<DatedTare> = None;
     for entry in entries {

@@ -14,8 +14,7 @@ use pack_judge::Signal;
 fn awaits(reading: &Reading, lane: u8) -> bool
     ensures { result ≡ awaits lane reading.now }
 {
-    reading.lane == lane
-        && (reading.signal == Some(Signal::Pass) && reading.next_prior.is_none())
+    reading.lane == lane && (reading.signal == Some(Signal::Pass) && reading.next_prior.is_none())
 }
 
 // The reading at a place, where it is an unsettled one of a lane.

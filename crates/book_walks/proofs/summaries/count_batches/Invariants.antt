@@ -1,7 +1,8 @@
 use Rattle.std.proofs.Common.{◌≡◌, ◌+◌, ◌≤◌, drop, false, count_by}
 use Rattle.std.specs.Option.{option_map_or}
 use Rattle.book_words.specs.Acts.{said, batch_opened, state_of}
-use Rattle.book_words.specs.Answers.{same_state, batches_in}
+use Rattle.book_words.specs.Refusals.{same_state}
+use Rattle.book_words.specs.Answers.{batches_in}
 use Rattle.book_walks.proofs.summaries.count_batches.Given as goal
 
 abbrev pub invariant-loop-entry : goal.invariant-loop-entry

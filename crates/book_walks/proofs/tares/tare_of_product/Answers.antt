@@ -14,8 +14,8 @@ loop-entry-preserved c =
     let day = to_z-of_z w32 c.args.day c.ranges.day in
     let next = rw day at c.decide-known.ensures in
     record {
-      known = rw day (decided_next c.args.entries.now c.args.product.now c.args.day c.loop-entry.entry-index _ c.loop-entry.known _ c.loop-entry-test.true (rw day at c.loop-entry.invariant.known) next);
-      in_range = λ all. decided_in_range c.args.entries.now c.args.product.now c.args.day c.loop-entry.entry-index _ c.loop-entry.known _ c.loop-entry-test.true all (c.loop-entry.invariant.in_range all) next;
+      known = rw day (decided_next c.args.entries.now c.args.product.now c.args.day c.loop-entry.entry-index c.entry-item.result c.loop-entry.known _ c.loop-entry-test.true c.entry-item.is (rw day at c.loop-entry.invariant.known) next);
+      in_range = λ all. decided_in_range c.args.entries.now c.args.product.now c.args.day c.loop-entry.entry-index c.entry-item.result c.loop-entry.known _ c.loop-entry-test.true c.entry-item.is all (c.loop-entry.invariant.in_range all) next;
     }
 
 pub returns-clause-value : goal.returns-clause-value

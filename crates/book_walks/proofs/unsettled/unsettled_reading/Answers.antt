@@ -1,25 +1,33 @@
-use Rattle.std.proofs.Common.{◌+◌, true, cond, length, sym, ◌∙◌, ap}
-use Rattle.std.specs.List.{list_any}
-use Rattle.book_walks.proofs.Rest.{rest_readings, unsettled_on, any_begin, any_step, any_end}
-use Rattle.book_walks.proofs.unsettled.has_unsettled.Goals as goal
+use Rattle.std.proofs.Common.{◌+◌, List, Option, length, filter, slice_get, sym, ◌∙◌, ap}
+use Rattle.std.specs.List.{cons_option}
+use Rattle.book_words.specs.declared.types.Reading.{Reading}
+use Rattle.book_walks.specs.Picking.{awaits}
+use Rattle.book_walks.proofs.Rest.{rest_readings, picked_begin, picked_step, picked_end}
+use Rattle.book_walks.proofs.unsettled.unsettled_reading.Goals as goal
+
+abbrev first : List Reading → Option Reading
+first readings = slice_get readings 0
 
 pub loop-place-init : goal.loop-place-init
 loop-place-init c = record {
   sees = c.begin-sight.ensures;
-  left = sym (any_begin (unsettled_on c.args.lane) c.args.entries.now (length c.args.entries.now));
+  left = ap first (sym (picked_begin (awaits c.args.lane) c.args.entries.now (length c.args.entries.now)));
 }
 
-pub returns-then-is_unsettled_at : goal.returns-then-is_unsettled_at
-returns-then-is_unsettled_at c =
-    sym (c.loop-place.invariant.left ∙ any_step (unsettled_on c.args.lane) c.args.entries.now (length c.args.entries.now) c.loop-place.place c.loop-place-test.true
-    ∙ ap (λ b. cond b true (list_any (unsettled_on c.args.lane) (rest_readings c.args.entries.now (length c.args.entries.now) (c.loop-place.place + 1)))) (sym c.is_unsettled_at.ensures ∙ c.if-is_unsettled_at.true))
+pub returns-in-Some : goal.returns-in-Some
+returns-in-Some c =
+    let rest : List Reading = filter (awaits c.args.lane) (rest_readings c.args.entries.now (length c.args.entries.now) (c.loop-place.place + 1)) in
+    sym (c.loop-place.invariant.left ∙ ap first (picked_step (awaits c.args.lane) c.args.entries.now (length c.args.entries.now) c.loop-place.place c.loop-place-test.true)
+    ∙ ap (λ (o : Option Reading). first (cons_option o rest)) (sym c.unsettled_at.ensures ∙ c.in-Some.is))
 
 pub loop-place-preserved : goal.loop-place-preserved
-loop-place-preserved c = record {
-  sees = c.pass.ensures;
-  left = c.loop-place.invariant.left ∙ any_step (unsettled_on c.args.lane) c.args.entries.now (length c.args.entries.now) c.loop-place.place c.loop-place-test.true
-      ∙ ap (λ b. cond b true (list_any (unsettled_on c.args.lane) (rest_readings c.args.entries.now (length c.args.entries.now) (c.loop-place.place + 1)))) (sym c.is_unsettled_at.ensures ∙ c.if-is_unsettled_at.false);
-}
+loop-place-preserved c =
+    let rest : List Reading = filter (awaits c.args.lane) (rest_readings c.args.entries.now (length c.args.entries.now) (c.loop-place.place + 1)) in
+    record {
+      sees = c.pass.ensures;
+      left = c.loop-place.invariant.left ∙ ap first (picked_step (awaits c.args.lane) c.args.entries.now (length c.args.entries.now) c.loop-place.place c.loop-place-test.true)
+          ∙ ap (λ (o : Option Reading). first (cons_option o rest)) (sym c.unsettled_at.ensures ∙ c.in_default.is);
+    }
 
 pub returns : goal.returns
-returns c = sym (c.loop-place.invariant.left ∙ any_end (unsettled_on c.args.lane) c.args.entries.now (length c.args.entries.now) c.loop-place.place c.loop-place-test.false)
+returns c = sym (c.loop-place.invariant.left ∙ ap first (picked_end (awaits c.args.lane) c.args.entries.now (length c.args.entries.now) c.loop-place.place c.loop-place-test.false))
