@@ -1,27 +1,27 @@
 -- What a lawful entry keeps of a list.
-use Rattle.std.proofs.Common.{◌≡◌, ℕ, ℤ, ◌+◌, ◌<◌, ◌≤◌, Bool, true, false, not, cond, ◌==◌, nat_eq, List, [], ◌∷◌, ◌++◌, length, map, Option, Some, None, IfSome, Result, Ok, nat_le, option_map, refl, sym, ◌∙◌, ap, subst, inl, inr, ◌⊎◌, arith, length-append, append_assoc, append-nil}
-use Rattle.std.proofs.lemmas.Bool.{and_parts, cases_Bool, eqb-true}
+use Rattle.std.proofs.Common.{◌≡◌, ℕ, ℤ, ◌+◌, ◌<◌, ◌≤◌, Bool, true, false, cond, nat_eq, List, [], ◌∷◌, ◌++◌, length, map, Option, Some, None, IfSome, Result, Ok, nat_le, option_map, refl, sym, ◌∙◌, ap, subst, inl, inr, ◌⊎◌, arith, length-append}
+use Rattle.std.proofs.lemmas.Bool.{and_parts, cases_Bool}
+use Rattle.std.proofs.lemmas.Bool.Decides.{nat_tests}
 use Rattle.std.proofs.lemmas.List.Elements.{All-push, filter-append}
-use Rattle.std.specs.Cmp.Lexicographic.{same_text}
 use Rattle.std.specs.List.{filter, cons_option}
-use Rattle.std.specs.Option.{option_or, option_map_or}
+use Rattle.std.specs.Option.{option_map_or}
 use Rattle.annex_tables.specs.declared.types.Limits.{Limits}
 use Rattle.pack_judge.specs.declared.types.Signal.{Signal}
 use Rattle.pack_judge.specs.declared.types.Signal.TheVariants.{Pass, Reject}
 use Rattle.pack_judge.specs.declared.types.Cause.TheVariants as cause
 use Rattle.pack_judge.specs.Judge.{signal_of}
+use Rattle.hall_limits.specs.declared.TheConstants.{MAX_POPULATION}
 use Rattle.book_words.specs.declared.name.Name.{Name}
 use Rattle.book_words.specs.declared.types.Act.{Act}
 use Rattle.book_words.specs.declared.types.Act.TheVariants.{NewDay, PutProduct, PutTare, OpenBatch, StartLane, Weigh, StopLane}
 use Rattle.book_words.specs.declared.types.Entry.{Entry}
 use Rattle.book_words.specs.declared.types.Reading.{Reading}
-use Rattle.book_words.specs.declared.refusal.Refusal.{Refusal}
 use Rattle.book_words.specs.Names.{same_name}
 use Rattle.book_words.specs.Acts.{last_batch, newest_day}
 use Rattle.book_words.specs.Readings.{readings, reading_from, net_of_gross, limits_of_batch}
 use Rattle.book_words.specs.Piles.{settled_pile, is_counted, count_below}
 use Rattle.book_words.specs.Signals.{population_at, judged_signal, recorded_signal}
-use Rattle.book_words.specs.Refusals.{refused_if, refusal_by_rule, refusal_of, book_full, day_unset, day_back, lane_number, lane_idle, product_known, product_unknown, name_shape, day_range}
+use Rattle.book_words.specs.Refusals.{refusal_by_rule, refusal_of, book_full}
 use Rattle.book_words.specs.declared.refusal.Refusal.TheVariants.{BookFull}
 use Rattle.book_words.specs.declared.types.Answered.{Answered}
 use Rattle.book_words.specs.declared.types.Question.{Question}
@@ -29,83 +29,35 @@ use Rattle.book_words.specs.declared.types.Question.TheVariants.{Summary}
 use Rattle.book_words.specs.declared.types.Reply.{Reply}
 use Rattle.book_words.specs.declared.types.Reply.TheVariants.{SummaryIs}
 use Rattle.book_words.specs.declared.types.SummaryView.{SummaryView}
-use Rattle.book_words.specs.Answers.{IsLawful, IsLegal, IsLegalBehind, summary, view_of}
+use Rattle.book_words.specs.Answers.{summary, view_of}
 use Rattle.book_core.specs.declared.types.BookError.{BookError}
 use Rattle.book_core.specs.View.{ReadyEntry}
 use Rattle.book_core.specs.Keeping.{IsKept, IsRoomFor}
-use Rattle.book_walks.specs.Ranges.{is_in_range, AllInRange}
+use Rattle.book_words.specs.Ranges.{is_act_in_range, AllInRange}
 use Rattle.book_walks.specs.Picking.{counts_for}
 use Rattle.book_core.specs.Judging.{IsLimitedIn}
-use Rattle.book_core.proofs.Onward.{advance, own_reading, readings-push, readings_among-push, population_onward}
+use Rattle.book_words.proofs.NameLemmas.{same_name_is}
+use Rattle.book_words.proofs.RefusalLemmas.{none_of_two, rules_in_range}
+use Rattle.book_words.proofs.LegalLemmas.{legal-push, legal_few}
+use Rattle.book_words.proofs.OneMoreEntry.{advance, own_reading, readings-push, readings_among-push}
+use Rattle.book_core.proofs.PopulationLemmas.{population_no_greater}
 
 -- an answer that speaks of a place
 abbrev pub answer_of : ℕ → Reply → Result Answered BookError
 answer_of at reply = Ok (record { at = at; reply = reply })
 
--- two names that are the same are equal
-pub same_name_is : (a b : Name) → same_name a b ≡ true → a ≡ b
-same_name_is a b h =
-    let parts = and_parts (a.len == b.len) _ h in
-    let make : ℕ → List ℕ → Name = λ n bs. record { len = n; bytes = bs } in
-    ap (λ n. make n a.bytes) (eqb-true a.len b.len parts.0) ∙ ap (make b.len) (same_text a.bytes b.bytes (sym parts.1))
-
--- of several refusals none holds
-pub none_of_two : (a b : Option Refusal) → option_or a b ≡ None → (a ≡ None) × (b ≡ None)
-none_of_two None b h = (refl, h)
-none_of_two (Some refusal) b h = absurd (cc)
-
-not_refused : (test : Bool) (refusal : Refusal) → refused_if (not test) refusal ≡ None → test ≡ true
-not_refused true refusal h = refl
-not_refused false refusal h = absurd (cc)
-
--- the mass of an act that no rule refuses is within its limits, and so is the day that it sets
-pub rules_in_range : (entries : List Entry) (act : Act) → refusal_by_rule entries act ≡ None → is_in_range act ≡ true
-rules_in_range entries (PutProduct name nominal) h =
-    let a = none_of_two (day_unset entries) _ h in
-    let b = none_of_two (product_known entries name) _ a.1 in
-    let c = none_of_two (name_shape name) _ b.1 in
-    let d = none_of_two _ None c.1 in
-    not_refused _ _ d.0
-rules_in_range entries (PutTare product day tare) h =
-    let a = none_of_two (day_unset entries) _ h in
-    let b = none_of_two (product_unknown entries product) _ a.1 in
-    let c = none_of_two (day_range day) _ b.1 in
-    let d = none_of_two _ None c.1 in
-    not_refused _ _ d.0
-rules_in_range entries (Weigh lane gross prior) h =
-    let a = none_of_two (day_unset entries) _ h in
-    let b = none_of_two (lane_number lane) _ a.1 in
-    let c = none_of_two (lane_idle entries lane) _ b.1 in
-    let d = none_of_two _ _ c.1 in
-    not_refused _ _ d.0
-rules_in_range entries (NewDay day) h =
-    let a = none_of_two (day_back entries day) _ h in
-    let b = none_of_two _ None a.1 in
-    not_refused _ _ b.0
-rules_in_range entries (OpenBatch batch product) h = refl
-rules_in_range entries (StartLane lane batch) h = refl
-rules_in_range entries (StopLane lane prior) h = refl
-
-pub in_range-push : (entries : List Entry) (entry : Entry) → AllInRange entries → is_in_range entry.act ≡ true → AllInRange (entries ++ entry ∷ [])
-in_range-push entries entry all one = All-push (λ (e : Entry). is_in_range e.act ≡ true) entries entry all one
-
-legal_behind-push : (before after : List Entry) (entry : Entry) → IsLegalBehind before after → IsLawful (before ++ after) entry → IsLegalBehind before (after ++ entry ∷ [])
-legal_behind-push before [] entry legal lawful = (subst (λ (es : List Entry). IsLawful es entry) (append-nil before) lawful, tt)
-legal_behind-push before (e ∷ es) entry legal lawful =
-    (legal.0, legal_behind-push (before ++ e ∷ []) es entry legal.1 (subst (λ (ls : List Entry). IsLawful ls entry) (sym (append_assoc before (e ∷ []) es)) lawful))
-
-pub legal-push : (entries : List Entry) (entry : Entry) → IsLegal entries → IsLawful entries entry → IsLegal (entries ++ entry ∷ [])
-legal-push entries entry legal lawful = legal_behind-push [] entries entry legal lawful
+pub in_range-push : (entries : List Entry) (entry : Entry) → AllInRange entries → is_act_in_range entry.act ≡ true → AllInRange (entries ++ entry ∷ [])
+in_range-push entries entry all one = All-push (λ (e : Entry). is_act_in_range e.act ≡ true) entries entry all one
 
 -- whatever stands behind a list, the populations before it are limited
 pub limited_onward : (entries : List Entry) (entry : Entry) → IsLimitedIn (length entries) entries → IsLimitedIn (length entries) (entries ++ entry ∷ [])
-limited_onward entries entry limited batch = let bound = population_onward batch entries entry in let before = limited batch in omega (arith, bound, before)
+limited_onward entries entry limited batch = let bound = population_no_greater batch entries entry in let before = limited batch in omega (arith, bound, before)
 
 -- what passes isn't one too many
-passes_with_room : (net : ℤ) (limits : Limits) (held : Bool) (population nonstandard : ℕ) → signal_of net limits held population nonstandard ≡ Pass → nat_eq population 10000 ≡ false
+passes_with_room : (net : ℤ) (limits : Limits) (held : Bool) (population nonstandard : ℕ) → signal_of net limits held population nonstandard ≡ Pass → nat_eq population MAX_POPULATION ≡ false
 passes_with_room net limits true population nonstandard h = absurd (cc)
 passes_with_room net limits false population nonstandard h =
-    elim (cases_Bool (nat_eq population 10000)) [
+    elim (cases_Bool (nat_eq population MAX_POPULATION)) [
       | inl full ↦ absurd (let wrong : signal_of net limits false population nonstandard ≡ Reject cause.Full = rw full refl in cc)
       | inr room ↦ room
     ]
@@ -123,31 +75,31 @@ signalled given batch (Some name) signal h s c =
     pass Pass k = refl
     pass (Reject cause) k = absurd (cc)
 
-below_full : (n : ℕ) → n ≤ 10000 → nat_eq n 10000 ≡ false → n < 10000
+below_full : (n : ℕ) → n ≤ MAX_POPULATION → nat_eq n MAX_POPULATION ≡ false → n < MAX_POPULATION
 below_full n h k = grind arith
 
 -- the population before an entry, as the entry leaves it
 abbrev population_after : Name → List Entry → Act → List Reading
 population_after batch entries act = filter (counts_for batch) (map (advance act) (readings entries))
 
-own_length : (batch : Name) (some : List Reading) (o : Option Reading) → length some ≤ 10000 → (IfSome o (λ reading. counts_for batch reading ≡ true → length some < 10000))
-    → length some + length (filter (counts_for batch) (cons_option o [])) ≤ 10000
+own_length : (batch : Name) (some : List Reading) (o : Option Reading) → length some ≤ MAX_POPULATION → (IfSome o (λ reading. counts_for batch reading ≡ true → length some < MAX_POPULATION))
+    → length some + length (filter (counts_for batch) (cons_option o [])) ≤ MAX_POPULATION
 own_length batch some None h room = omega arith
 own_length batch some (Some reading) h room = either (cases_Bool (counts_for batch reading))
   where
-    either : (counts_for batch reading ≡ true) ⊎ (counts_for batch reading ≡ false) → length some + length (cond (counts_for batch reading) (reading ∷ []) []) ≤ 10000
+    either : (counts_for batch reading ≡ true) ⊎ (counts_for batch reading ≡ false) → length some + length (cond (counts_for batch reading) (reading ∷ []) []) ≤ MAX_POPULATION
     either (inl t) = let less = room t in rw t (omega (arith, less))
     either (inr f) = rw f (omega (arith, h))
 
-own_room : (entries : List Entry) (act : Act) (signal : Option Signal) (batch : Name) → signal ≡ recorded_signal entries act → length (population_after batch entries act) ≤ 10000
-    → IfSome (reading_from (length entries + 1) entries act signal []) (λ reading. counts_for batch reading ≡ true → length (population_after batch entries act) < 10000)
+own_room : (entries : List Entry) (act : Act) (signal : Option Signal) (batch : Name) → signal ≡ recorded_signal entries act → length (population_after batch entries act) ≤ MAX_POPULATION
+    → IfSome (reading_from (length entries + 1) entries act signal []) (λ reading. counts_for batch reading ≡ true → length (population_after batch entries act) < MAX_POPULATION)
 own_room entries (Weigh lane gross prior) signal batch is limited = λ counts.
     let act = Weigh lane gross prior in
     let parts = and_parts (option_map_or (λ name. same_name name batch) (last_batch entries lane) false) (is_counted (settled_pile signal None)) counts in
     let passes = signalled (judged_signal entries act gross) batch (last_batch entries lane) signal parts.0 is parts.1 in
     let room = passes_with_room (net_of_gross entries (Some batch) (newest_day entries) gross) (limits_of_batch entries batch) _ (length (population_at entries act batch)) (count_below entries (limits_of_batch entries batch).t1 (population_at entries act batch)) passes in
     let same : population_at entries act batch ≡ population_after batch entries act = ap (filter (counts_for batch)) (readings_among-push entries (record { by = 0; desk = 0; request = 0; act = act; signal = None })) in
-    below_full _ limited (subst (λ (some : List Reading). nat_eq (length some) 10000 ≡ false) same room)
+    below_full _ limited (subst (λ (some : List Reading). nat_eq (length some) MAX_POPULATION ≡ false) same room)
 own_room entries (NewDay day) signal batch is limited = tt
 own_room entries (PutProduct name nominal) signal batch is limited = tt
 own_room entries (PutTare product day tare) signal batch is limited = tt
@@ -159,14 +111,14 @@ own_room entries (StopLane lane prior) signal batch is limited = tt
 pub limited-push : (entries : List Entry) (entry : Entry) → IsLimitedIn (length entries) entries → entry.signal ≡ recorded_signal entries entry.act → IsLimitedIn (length (entries ++ entry ∷ [])) (entries ++ entry ∷ [])
 limited-push entries entry limited is batch =
     let some = population_after batch entries entry.act in
-    let bound = population_onward batch entries entry in
+    let bound = population_no_greater batch entries entry in
     let before = limited batch in
     let after : length some ≤ length (filter (counts_for batch) (readings entries)) = subst (λ (rs : List Reading). length (filter (counts_for batch) rs) ≤ length (filter (counts_for batch) (readings entries))) (readings_among-push entries entry) bound in
-    let within : length some ≤ 10000 = omega (arith, after, before) in
+    let within : length some ≤ MAX_POPULATION = omega (arith, after, before) in
     let split : filter (counts_for batch) (readings (entries ++ entry ∷ [])) ≡ some ++ filter (counts_for batch) (cons_option (own_reading entries entry) []) =
     ap (filter (counts_for batch)) (readings-push entries entry) ∙ filter-append (counts_for batch) (map (advance entry.act) (readings entries)) (cons_option (own_reading entries entry) []) in
     let sum = own_length batch some (own_reading entries entry) within (own_room entries entry.act entry.signal batch is within) in
-    subst (λ (n : ℕ). n ≤ 10000) (sym (ap length split ∙ length-append some (filter (counts_for batch) (cons_option (own_reading entries entry) [])))) sum
+    subst (λ (n : ℕ). n ≤ MAX_POPULATION) (sym (ap length split ∙ length-append some (filter (counts_for batch) (cons_option (own_reading entries entry) [])))) sum
 
 -- a book that isn't full has room for a row
 pub room_left : (limit : ℕ) (entries : List Entry) (act : Act) → refusal_of limit entries act ≡ None → length entries < limit
@@ -175,17 +127,16 @@ room_left limit entries act h = below (none_of_two (book_full limit entries) (re
     below : book_full limit entries ≡ None → length entries < limit
     below k = elim (cases_Bool (nat_le limit (length entries))) [
       | inl full ↦ absurd (let wrong : book_full limit entries ≡ Some (BookFull limit) = rw full refl in cc)
-      | inr room ↦ grind arith
+      | inr room ↦ grind (arith, nat_tests)
     ]
 
 -- what is ready keeps the book when it is entered
 pub kept-push : (entries : List Entry) (limit capacity : ℕ) (ready : ReadyEntry) → IsKept entries limit → IsRoomFor entries limit capacity ready → IsKept (entries ++ ready.entry ∷ []) limit
 kept-push entries limit capacity ready kept room =
-    let below = room_left limit entries ready.entry.act room.free in
-    let longer = length-append entries (ready.entry ∷ []) in
+    let legal = legal-push entries ready.entry kept.legal room.lawful in
     record {
-      legal = legal-push entries ready.entry kept.legal room.lawful;
-      few = omega (arith, below, longer);
+      legal = legal;
+      few = legal_few (entries ++ ready.entry ∷ []) legal;
       most = kept.most;
       in_range = in_range-push entries ready.entry kept.in_range (rules_in_range entries ready.entry.act room.lawful.rules);
       limited = limited-push entries ready.entry kept.limited room.lawful.signal;

@@ -1,7 +1,5 @@
-pub mod Judged
-pub mod Onward
-pub mod Kept
-pub mod Moving
-pub mod Signed
-pub mod Telling
-pub mod Weighed
+pub mod JudgedLemmas
+pub mod PopulationLemmas
+pub mod InvariantLemmas
+pub mod SignalLemmas
+pub mod AskLemmas

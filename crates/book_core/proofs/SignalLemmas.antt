@@ -12,8 +12,8 @@ use Rattle.book_words.specs.Signals.{recorded_signal, judged_signal}
 use Rattle.book_words.specs.Refusals.{refused_if, refusal_by_rule, day_unset, lane_number, lane_idle}
 use Rattle.book_words.specs.Answers.{IsLawful}
 use Rattle.book_core.specs.Judging.{HasItsSignal, is_weighing}
-use Rattle.book_walks.proofs.Said.{last_or-cons}
-use Rattle.book_core.proofs.Kept.{none_of_two}
+use Rattle.book_words.proofs.LastSaid.{last_or-cons}
+use Rattle.book_words.proofs.RefusalLemmas.{none_of_two}
 
 started_by : (lane : ℕ) (act : Act) (o : Option (Option Name)) (p : Option Name) → (is_some (option_flatten o) ≡ true → is_some p ≡ true)
     → is_some (option_flatten (option_or (lane_used lane act) o)) ≡ true → is_some (option_or (batch_started lane act) p) ≡ true

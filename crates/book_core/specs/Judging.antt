@@ -1,6 +1,6 @@
 -- The signal of a weighing, by the population that the piles leave.
-use Rattle.std.specs.Prelude.{ℕ, ℤ, ◌≤◌, List, length, Some}
-use Rattle.std.specs.Prelude.{◌≡◌, Bool, true, false, is_some}
+use Rattle.std.specs.Prelude.{◌≡◌, ℕ, ℤ, ◌≤◌, Bool, true, false, List, length, Some, is_some}
+use Rattle.hall_limits.specs.declared.TheConstants.{MAX_POPULATION}
 use Rattle.pack_judge.specs.declared.types.Signal.{Signal}
 use Rattle.pack_judge.specs.Judge.{signal_of}
 use Rattle.book_words.specs.declared.name.Name.{Name}
@@ -20,7 +20,7 @@ signal_by entries batch gross some =
 
 -- among so many of the first entries no batch has a population of more packs than it may have
 abbrev pub IsLimitedIn : ℕ → List Entry → Type 0
-IsLimitedIn many whole = (batch : Name) → length (population_of batch (readings_among many whole)) ≤ 10000
+IsLimitedIn many whole = (batch : Name) → length (population_of batch (readings_among many whole)) ≤ MAX_POPULATION
 
 abbrev pub is_weighing : Act → Bool
 is_weighing (Weigh lane gross prior) = true

@@ -1,5 +1,4 @@
 pub mod Judging
-pub mod Weighing
 pub mod View
 pub mod Steps
 pub mod Keeping

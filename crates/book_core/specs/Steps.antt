@@ -1,31 +1,46 @@
 -- What the calls of a book answer.
-use Rattle.std.specs.Prelude.{◌≡◌, ℕ, ◌+◌, List, length, Option, Some, None, Result, Ok, Err, IsOk}
+use Rattle.std.specs.Prelude.{◌≡◌, ℕ, ◌+◌, List, [], ◌++◌, length, Option, Some, None, Result, Ok, Err, IsOk, IsSome}
+use Rattle.std.specs.List.{cons_option}
 use Rattle.book_words.specs.declared.types.Act.{Act}
+use Rattle.book_words.specs.declared.types.Question.{Question}
+use Rattle.book_words.specs.declared.types.Want.TheVariants as want
+use Rattle.book_words.specs.declared.types.Ask.{Ask}
 use Rattle.book_words.specs.declared.types.Answered.{Answered}
 use Rattle.book_words.specs.declared.types.Refused.{Refused}
 use Rattle.book_words.specs.declared.types.Entry.{Entry}
 use Rattle.book_words.specs.declared.refusal.Refusal.{Refusal}
 use Rattle.book_words.specs.Refusals.{refusal_of}
 use Rattle.book_words.specs.Answers.{entry_for}
-use Rattle.book_words.specs.Told.{IsRefusalInRange}
 use Rattle.book_core.specs.declared.types.Step.{Step}
 use Rattle.book_core.specs.declared.types.Step.TheVariants.{New}
 use Rattle.book_core.specs.declared.types.BookError.{BookError}
 use Rattle.book_core.specs.declared.types.BookError.TheVariants as error
 use Rattle.book_core.specs.View.{ReadyEntry, BookView}
 
+-- an act that is asked
+abbrev pub asked_act : ℕ → ℕ → Act → Ask
+asked_act desk request act = record { desk = desk; request = request; want = want.Act act }
+
+-- a question that is asked
+abbrev pub asked_question : Question → Ask
+asked_question question = record { desk = 0; request = 0; want = want.Question question }
+
 -- the entry that an act will be, with its row
-abbrev pub ready_for : List Entry → ℕ → ℕ → ℕ → Act → ReadyEntry
-ready_for entries by desk request act = record { number = length entries + 1; entry = entry_for entries by desk request act }
+abbrev pub ready_for : List Entry → ℕ → Ask → Act → ReadyEntry
+ready_for entries by ask act =
+    record { number = length entries + 1; entry = entry_for entries by ask act }
 
 -- a refused act is answered its refusal, with the length of the list; any other act is ready
 abbrev pub step_by : List Entry → ReadyEntry → Option Refusal → Result Step BookError
-step_by entries ready (Some refusal) = Err (error.Refused (record { at = length entries; refusal = refusal }))
+step_by entries ready (Some refusal) =
+    Err (error.Refused (record { at = length entries; refusal = refusal }))
 step_by entries ready None = Ok (New ready)
 
 -- what making an act ready gives
 abbrev pub step_for : BookView → ℕ → ℕ → ℕ → Act → Result Step BookError
-step_for book by desk request act = step_by book.entries (ready_for book.entries by desk request act) (refusal_of book.limit book.entries act)
+step_for book by desk request act =
+    step_by book.entries (ready_for book.entries by (asked_act desk request act) act)
+    (refusal_of book.limit book.entries act)
 
 -- a call gives what is wanted; only in place of an Ok may it answer that there is no memory
 abbrev pub GivesUnlessNoMemory : Result Step BookError → Result Step BookError → Type 0
@@ -42,7 +57,12 @@ abbrev pub handed_on : Result Answered Refused → Result Answered BookError
 handed_on (Ok answered) = Ok answered
 handed_on (Err refused) = Err (error.Refused refused)
 
--- the refusal that an error tells is in range
-abbrev pub IsErrorInRange : BookError → Type 0
-IsErrorInRange (error.Refused refused) = IsRefusalInRange refused.refusal
-IsErrorInRange error.NoMemory = Unit {0}
+-- a book gives the answer that is wanted; only an ask that adds an entry may find no memory
+abbrev pub GivesAnswer : Result Answered BookError → Result Answered Refused → Option Entry → Type 0
+GivesAnswer (Err error.NoMemory) wanted new = IsSome new
+GivesAnswer given wanted new = given ≡ handed_on wanted
+
+-- the list behind an ask: its entry is added, unless there was no memory for it
+abbrev pub list_behind : Result Answered BookError → List Entry → Option Entry → List Entry
+list_behind (Err error.NoMemory) entries new = entries
+list_behind _ entries new = entries ++ cons_option new []

@@ -1,19 +1,18 @@
-ghost use Rattle.std.specs.Prelude.{◌≡◌, ◌+◌, ◌≤◌, [], ◌∷◌, ◌++◌, length, Ok, None, Some, IfOk, IfErr};
-ghost use Rattle.book_words.specs.declared.types.Want.TheVariants as want;
-ghost use Rattle.book_words.specs.Refusals.{has_unsettled};
-ghost use Rattle.book_words.specs.Answers.{answer, IsLegal};
-ghost use Rattle.book_words.specs.Balance.{IsBalanced, MovesOnly, EachMoves};
-ghost use Rattle.book_words.specs.Told.{IsReplyInRange};
+ghost use Rattle.std.specs.Prelude.{◌≡◌, ◌+◌, ◌≤◌, [], ◌∷◌, ◌++◌, length, Ok, None, Some};
+ghost use Rattle.std.specs.Option.{option_map};
+ghost use Rattle.hall_limits.specs.declared.TheConstants.{MAX_ROWS};
+ghost use Rattle.book_words.specs.Piles.{unsettled_reading};
+ghost use Rattle.book_words.specs.Answers.{answer, added, IsLegal};
+ghost use Rattle.book_words.specs.Soundness.{IsSound};
 ghost use Rattle.book_core.specs.Judging.{HasItsSignal};
-ghost use Rattle.book_core.specs.Weighing.{AllHaveTares};
-ghost use Rattle.book_core.specs.Steps.{step_for, GivesUnlessNoMemory, made_ready, handed_on, IsErrorInRange};
+ghost use Rattle.book_core.specs.Steps.{asked_act, asked_question, step_for, GivesUnlessNoMemory, made_ready, handed_on, GivesAnswer, list_behind};
 
 use crate::ready::Ready;
 use crate::rows::Rows;
-use crate::types::{BookError, NoMemory, Step};
+use crate::types::{BookError, Step};
 use crate::{growth, rules};
 use book_walks::{summaries, unsettled};
-use book_words::{Act, Answered, Entry, Question, Refused, Reply};
+use book_words::{Act, Answered, Ask, Entry, Question, Refused, Reply, Want};
 use std::alloc::Global;
 use std::marker::Model;
 
@@ -40,17 +39,41 @@ impl Model for Book {
 }
 
 impl Book {
-    /// A book without entries that may have `limit` rows, 1 to 1 000 000.
-    pub fn new(alloc: Global, limit: u32) -> Result<Book, NoMemory>
+    /// A book without entries that may have `limit` rows, 1 to 1 000 000. It takes no memory.
+    pub fn new(alloc: Global, limit: u32) -> Book
         requires least { 1 ≤ limit }
-        requires most { limit ≤ 1000000 }
-        ensures { IfOk result (λ book. book ≡ record { entries = []; limit = limit; pending = None }) }
+        requires most { limit ≤ MAX_ROWS }
+        ensures { result ≡ record { entries = []; limit = limit; pending = None } }
     {
-        Ok(Book {
+        Book {
             entries: Vec::new(alloc),
             limit,
             pending: None,
-        })
+        }
+    }
+
+    /// Answers an ask of the caller `by`: an act is made ready and entered, or refused, and a question is looked up.
+    ///
+    /// Desk and request are those of the hall's own commands, 0. Of several refusals that hold, the one with the
+    /// least number is answered, with the length of the list. Only where the ask would have added an entry may there
+    /// be no memory instead; the list then stays as it is.
+    pub fn ask(&mut self, by: u16, ask: &Ask) -> Result<Answered, BookError>
+        requires desk { ask.now.desk ≡ 0 }
+        requires request { ask.now.request ≡ 0 }
+        ensures answer { GivesAnswer result (answer self.old.limit self.old.entries ask.now)
+            (added self.old.limit self.old.entries by ask.now) }
+        ensures entries { self.new.entries
+            ≡ list_behind result self.old.entries (added self.old.limit self.old.entries by ask.now) }
+        ensures limit { self.new.limit ≡ self.old.limit }
+        ensures legal { IsLegal self.old.entries }
+    {
+        match &ask.want {
+            Want::Act(act) => match self.ready(by, ask.desk, ask.request, act)? {
+                Step::New(ready) => Ok(self.enter(ready)),
+                Step::Known(answered) => Ok(answered),
+            },
+            Want::Question(question) => self.look(question),
+        }
     }
 
     /// Makes an act ready: it is refused, or room is taken for it and its entry is made. The list stays as it is.
@@ -64,14 +87,14 @@ impl Book {
         ensures pending { self.new.pending ≡ made_ready result }
         ensures entries { self.new.entries ≡ self.old.entries }
         ensures limit { self.new.limit ≡ self.old.limit }
-        ensures in_range { IfErr result IsErrorInRange }
+        ensures legal { IsLegal self.new.entries }
     {
         self.pending = None;
         let at = self.entries.len() as u32;
         if let Some(refusal) = rules::refuse_within(self.limit, &self.entries, act) {
             return Err(BookError::Refused(Refused { at, refusal }));
         }
-        let Ok(signal) = growth::sign(&mut self.entries, act) else {
+        let Ok(signal) = growth::reserve_and_judge(&mut self.entries, act) else {
             return Err(BookError::NoMemory);
         };
         let entry = Entry {
@@ -91,11 +114,10 @@ impl Book {
         ensures entries { self.new.entries ≡ self.old.entries ++ ready.entry ∷ [] }
         ensures limit { self.new.limit ≡ self.old.limit }
         ensures pending { self.new.pending ≡ None }
-        ensures answer { Ok result ≡ answer self.old.limit self.old.entries (want.Act ready.entry.act) }
+        ensures answer { Ok result ≡ answer self.old.limit self.old.entries
+            (asked_act ready.entry.desk ready.entry.request ready.entry.act) }
         ensures judged { HasItsSignal ready.entry }
         ensures legal { IsLegal self.new.entries }
-        ensures moves { MovesOnly self.old.entries ready.entry }
-        ensures in_range { IsReplyInRange result.reply }
     {
         let row = ready.number();
         let entry = *ready.entry();
@@ -112,8 +134,8 @@ impl Book {
 
     /// Answers a question over the list as it stands. It takes no memory.
     pub fn look(&self, question: &Question) -> Result<Answered, BookError>
-        ensures answer { result ≡ handed_on (answer self.now.limit self.now.entries (want.Question question.now)) }
-        ensures in_range { IfOk result (λ answered. IsReplyInRange answered.reply) }
+        ensures answer { result ≡ handed_on (answer self.now.limit self.now.entries (asked_question question.now)) }
+        ensures legal { IsLegal self.now.entries }
     {
         match question {
             Question::Summary => Ok(Answered {
@@ -123,13 +145,14 @@ impl Book {
         }
     }
 
-    /// Whether a lane has an unsettled reading: one that passed, and no weighing or stop of the lane came after it.
+    /// The number of the unsettled pack of a lane: it passed, and no weighing or stop of the lane came after it.
     ///
-    /// Where it has, the lane's next weighing or stop has to say what the gate did, and else it may not.
-    pub fn has_unsettled(&self, lane: u8) -> bool
-        ensures { result ≡ has_unsettled self.now.entries lane }
+    /// Where a lane has one, its next weighing or stop has to say what the gate did, and else it may not.
+    pub fn unsettled(&self, lane: u8) -> Option<u32>
+        ensures { result
+            ≡ option_map (λ reading. reading.number) (unsettled_reading self.now.entries lane) }
     {
-        unsettled::has_unsettled(&self.entries, lane)
+        Some(unsettled::unsettled_reading(&self.entries, lane)?.number)
     }
 
     /// The number of rows.
@@ -139,14 +162,11 @@ impl Book {
         self.entries.len() as u32
     }
 
-    /// The rows. They are legal, their piles add up, and each of them moves the packs only as it may. Each reading has a
-    /// tare on its day, and its batch's product a nominal quantity.
+    /// The rows: they are legal, their piles add up, each of them moves the packs only as it may, and each reading
+    /// has a tare and a nominal quantity.
     pub fn rows(self) -> Rows
         ensures rows { result ≡ self.entries }
-        ensures legal { IsLegal result }
-        ensures balanced { IsBalanced result }
-        ensures moves { EachMoves result }
-        ensures weighed { AllHaveTares result }
+        ensures sound { IsSound result }
     {
         Rows::new(self.entries)
     }

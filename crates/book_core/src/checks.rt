@@ -1,11 +1,13 @@
-ghost use Rattle.std.specs.Prelude.{◌≡◌, ◌≤◌, length, not};
+ghost use Rattle.std.specs.Prelude.{◌≡◌, ◌≤◌, ◌∷◌, [], length, not};
+ghost use Rattle.hall_limits.specs.declared.TheConstants.{MAX_ROWS};
 ghost use Rattle.std.specs.List.{list_all};
 ghost use Rattle.book_words.specs.Names.{bytes_of, is_name_byte, is_name_shape};
 ghost use Rattle.book_words.specs.Refusals.{refused_if, is_within, book_full, day_unset, day_back, product_known, product_unknown, name_shape, nominal_range, day_range, batch_known, batch_unknown, batch_state, lane_number, lane_busy, lane_idle, no_tare, gross_range, prior_wrong, tare_range};
 
-use book_walks::unsettled::has_unsettled;
+use book_walks::unsettled::unsettled_reading;
 use book_walks::{acts, tares};
 use book_words::{BatchState, Entry, Name, Prior, Refusal};
+use hall_limits::{MAX_DAY, MAX_GROSS, MAX_LANE, MAX_NOMINAL, MAX_TARE, MIN_NOMINAL, NAME_BYTES};
 
 // A refusal where a test holds.
 fn refuse_if(test: bool, refusal: Refusal) -> Option<Refusal>
@@ -79,7 +81,7 @@ fn has_name_shape(bytes: &[u8]) -> bool
     match bytes.split_first() {
         None => false,
         Some((first, rest)) => {
-            first.is_ascii_alphanumeric() && are_in_names(rest) && rest.len() <= 15
+            first.is_ascii_alphanumeric() && are_in_names(rest) && rest.len() < NAME_BYTES
         }
     }
 }
@@ -96,7 +98,7 @@ pub fn nominal_range(nominal: i64) -> Option<Refusal>
     ensures { result ≡ nominal_range nominal }
 {
     refuse_if(
-        !(5_000 <= nominal && nominal <= 10_000_000),
+        !(MIN_NOMINAL <= nominal && nominal <= MAX_NOMINAL),
         Refusal::NominalRange,
     )
 }
@@ -105,14 +107,17 @@ pub fn nominal_range(nominal: i64) -> Option<Refusal>
 pub fn day_range(day: i32) -> Option<Refusal>
     ensures { result ≡ day_range day }
 {
-    refuse_if(!(0 <= day && day <= 2_932_896), Refusal::DayRange)
+    refuse_if(!(0 <= day && day <= MAX_DAY), Refusal::DayRange)
 }
 
 /// The name is a batch.
 pub fn batch_known(entries: &[Entry], name: &Name) -> Option<Refusal>
     ensures { result ≡ batch_known entries.now name.now }
 {
-    refuse_if(acts::product_of(entries, name).is_some(), Refusal::BatchKnown)
+    refuse_if(
+        acts::product_of(entries, name).is_some(),
+        Refusal::BatchKnown,
+    )
 }
 
 /// The batch isn't there.
@@ -125,21 +130,19 @@ pub fn batch_unknown(entries: &[Entry], name: &Name) -> Option<Refusal>
     )
 }
 
-/// The batch isn't running.
-pub fn batch_state(entries: &[Entry], batch: &Name) -> Option<Refusal>
-    ensures { result ≡ batch_state entries.now batch.now }
+/// The batch is in another state than the one that the act allows.
+pub fn batch_state(allowed: BatchState, entries: &[Entry], batch: &Name) -> Option<Refusal>
+    ensures { result ≡ batch_state (allowed ∷ []) entries.now batch.now }
 {
-    match acts::state_of(entries, batch) {
-        None | Some(BatchState::Running) => None,
-        Some(state) => Some(Refusal::BatchState { state }),
-    }
+    let state = acts::state_of(entries, batch)?;
+    refuse_if(state != allowed, Refusal::BatchState { state })
 }
 
 /// The lane isn't 1 to 16.
 pub fn lane_number(lane: u8) -> Option<Refusal>
     ensures { result ≡ lane_number lane }
 {
-    refuse_if(!(1 <= lane && lane <= 16), Refusal::LaneNumber)
+    refuse_if(!(1 <= lane && lane <= MAX_LANE), Refusal::LaneNumber)
 }
 
 /// The lane has a batch.
@@ -154,10 +157,7 @@ pub fn lane_busy(entries: &[Entry], lane: u8) -> Option<Refusal>
 pub fn lane_idle(entries: &[Entry], lane: u8) -> Option<Refusal>
     ensures { result ≡ lane_idle entries.now lane }
 {
-    refuse_if(
-        acts::lane_batch(entries, lane).is_none(),
-        Refusal::LaneIdle,
-    )
+    refuse_if(acts::lane_batch(entries, lane).is_none(), Refusal::LaneIdle)
 }
 
 /// There is no tare for the batch's product on the newest day.
@@ -176,15 +176,15 @@ pub fn no_tare(entries: &[Entry], batch: &Name) -> Option<Refusal>
 pub fn gross_range(gross: i64) -> Option<Refusal>
     ensures { result ≡ gross_range gross }
 {
-    refuse_if(!(0 <= gross && gross <= 30_000_000), Refusal::GrossRange)
+    refuse_if(!(0 <= gross && gross <= MAX_GROSS), Refusal::GrossRange)
 }
 
 /// What the gate did is wanted and isn't said, or is said and isn't wanted.
 pub fn prior_wrong(entries: &[Entry], lane: u8, prior: Prior) -> Option<Refusal>
-    requires { length entries.now ≤ 1000000 }
+    requires { length entries.now ≤ MAX_ROWS }
     ensures { result ≡ prior_wrong entries.now lane prior }
 {
-    let wanted = has_unsettled(entries, lane);
+    let wanted = unsettled_reading(entries, lane).is_some();
     match prior {
         Prior::Nothing => refuse_if(wanted, Refusal::PriorWrong { wanted: true }),
         _ => refuse_if(!wanted, Refusal::PriorWrong { wanted: false }),
@@ -195,5 +195,5 @@ pub fn prior_wrong(entries: &[Entry], lane: u8, prior: Prior) -> Option<Refusal>
 pub fn tare_range(tare: i64) -> Option<Refusal>
     ensures { result ≡ tare_range tare }
 {
-    refuse_if(!(0 <= tare && tare <= 5_000_000), Refusal::TareRange)
+    refuse_if(!(0 <= tare && tare <= MAX_TARE), Refusal::TareRange)
 }

@@ -14,6 +14,3 @@ pub use book::Book;
 pub use ready::Ready;
 pub use rows::Rows;
 pub use types::{BookError, NoMemory, Step};
-
-#[cfg(test)]
-mod tests;

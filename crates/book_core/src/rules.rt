@@ -1,8 +1,9 @@
 ghost use Rattle.std.specs.Prelude.{◌≡◌, ◌≤◌, length};
+ghost use Rattle.hall_limits.specs.declared.TheConstants.{MAX_ROWS};
 ghost use Rattle.book_words.specs.Refusals.{refusals_of, first_refusal, refusal_by_rule, refusal_of};
 
 use crate::checks;
-use book_words::{Act, Entry, Name, Prior, Refusal};
+use book_words::{Act, BatchState, Entry, Name, Prior, Refusal};
 
 // A new day.
 fn refuse_day(entries: &[Entry], day: i32) -> Option<Refusal>
@@ -47,7 +48,7 @@ fn refuse_start(entries: &[Entry], lane: u8, batch: &Name) -> Option<Refusal>
 {
     checks::day_unset(entries)
         .or(checks::batch_unknown(entries, batch))
-        .or(checks::batch_state(entries, batch))
+        .or(checks::batch_state(BatchState::Running, entries, batch))
         .or(checks::lane_number(lane))
         .or(checks::lane_busy(entries, lane))
         .or(checks::no_tare(entries, batch))
@@ -55,7 +56,7 @@ fn refuse_start(entries: &[Entry], lane: u8, batch: &Name) -> Option<Refusal>
 
 // A weighing.
 fn refuse_weighing(entries: &[Entry], lane: u8, gross: i64, prior: Prior) -> Option<Refusal>
-    requires { length entries.now ≤ 1000000 }
+    requires { length entries.now ≤ MAX_ROWS }
     ensures { result ≡ refusal_by_rule entries.now (Act.Weigh lane gross prior) }
 {
     checks::day_unset(entries)
@@ -67,7 +68,7 @@ fn refuse_weighing(entries: &[Entry], lane: u8, gross: i64, prior: Prior) -> Opt
 
 // The stop of a lane.
 fn refuse_stop(entries: &[Entry], lane: u8, prior: Prior) -> Option<Refusal>
-    requires { length entries.now ≤ 1000000 }
+    requires { length entries.now ≤ MAX_ROWS }
     ensures { result ≡ refusal_by_rule entries.now (Act.StopLane lane prior) }
 {
     checks::day_unset(entries)
@@ -78,7 +79,7 @@ fn refuse_stop(entries: &[Entry], lane: u8, prior: Prior) -> Option<Refusal>
 
 /// Why the rules refuse an act behind a list; `None` where they don't.
 pub fn refuse(entries: &[Entry], act: &Act) -> Option<Refusal>
-    requires { length entries.now ≤ 1000000 }
+    requires { length entries.now ≤ MAX_ROWS }
     ensures { result ≡ refusal_by_rule entries.now act.now }
 {
     match act {
@@ -94,7 +95,7 @@ pub fn refuse(entries: &[Entry], act: &Act) -> Option<Refusal>
 
 /// Why an act is refused in a book of at most so many rows; `None` where it isn't.
 pub fn refuse_within(limit: u32, entries: &[Entry], act: &Act) -> Option<Refusal>
-    requires { length entries.now ≤ 1000000 }
+    requires { length entries.now ≤ MAX_ROWS }
     ensures { result ≡ refusal_of limit entries.now act.now }
 {
     checks::book_full(limit, entries).or(refuse(entries, act))

@@ -3,8 +3,8 @@
 use crate::book::PlainBook;
 use crate::drawn_acts::{Draws, Names};
 use crate::taken::Taken;
-use book_core::{Book, BookError, NoMemory, Step};
-use book_words::{Act, Answered, Question, Reply};
+use book_core::{Book, BookError, NoMemory};
+use book_words::{Act, Answered, Ask, Question, Reply, Want};
 use pack_judge::{Cause, Signal};
 use std::test::Fail;
 
@@ -35,10 +35,14 @@ struct Met {
 
 // What the book answers to an act that somebody brings.
 fn take_by(book: &mut Book, by: u16, act: &Act) -> Taken {
-    match book.ready(by, 0, 0, act)? {
-        Step::New(ready) => Ok(book.enter(ready)),
-        Step::Known(answered) => Ok(answered),
-    }
+    book.ask(
+        by,
+        &Ask {
+            desk: 0,
+            request: 0,
+            want: Want::Act(*act),
+        },
+    )
 }
 
 fn nothing_met() -> Met {
@@ -81,7 +85,7 @@ fn note(met: &mut Met, taken: &Taken) {
 // Whether both books say the same of the unsettled readings of some lanes.
 fn agree_on_lanes(book: &Book, plain: &PlainBook) -> bool {
     for lane in [0, 1, 2, 3, 17] {
-        if book.has_unsettled(lane) != plain.is_unsettled(lane) {
+        if book.unsettled(lane).is_some() != plain.is_unsettled(lane) {
             return false;
         }
     }
@@ -130,7 +134,7 @@ fn a_plain_reading_of_the_rules_gives_the_same_answers(rt: HostRuntime) -> Resul
     let names = Names::new()?;
     let mut met = nothing_met();
     for word in 0..20 {
-        let mut book = Book::new(rt.alloc(), 300)?;
+        let mut book = Book::new(rt.alloc(), 300);
         let mut plain = PlainBook::new(rt.alloc(), 300);
         let mut draws = Draws::begin(word);
         let difference = first_difference(&mut book, &mut plain, &mut draws, &names, &mut met)?;

@@ -23,14 +23,14 @@ impl Names {
         let nobody = named(b"-nobody".as_slice())?;
         let rice = named(b"rice".as_slice())?;
         let salt = named(b"salt.50".as_slice())?;
-        let flour = named(b"Flour_10000-gram".as_slice())?;
+        let flour = named(b"Flour_10000-gramFlour_10000-gram".as_slice())?;
         let a = named(b"A".as_slice())?;
         let b = named(b"2".as_slice())?;
         let c = named(b"C-3".as_slice())?;
-        let nothing = named(b"".as_slice())?;
+        let under = named(b"_rice".as_slice())?;
         Ok(Names {
             products: [rice, salt, flour, nobody],
-            batches: [a, b, c, nothing],
+            batches: [a, b, c, under],
         })
     }
 }
@@ -110,7 +110,7 @@ impl Draws {
     // What is said of the gate of a lane.
     fn prior(&mut self, book: &Book, lane: u8) -> Prior {
         let number = self.below(8);
-        if book.has_unsettled(lane) {
+        if book.unsettled(lane).is_some() {
             WANTED[number]
         } else {
             UNWANTED[number]

@@ -2,7 +2,7 @@
 #![tactic(auto)]
 
 mod book;
-mod lines;
+mod entries;
 mod rules;
 mod signals;
 mod taken;

@@ -1,12 +1,12 @@
 //! A second and plainer reading of the rules: why an act is refused.
 
-use crate::lines::{
+use crate::entries::{
     Accepted, is_unsettled, last_start, newest_day, nominal_of, product_of, runs, tare_of_product,
 };
 use book_words::{Act, Name, Prior, Refusal};
 
-fn refuse_day(lines: &[Accepted], day: i32) -> Option<Refusal> {
-    if let Some(last) = newest_day(lines) {
+fn refuse_day(entries: &[Accepted], day: i32) -> Option<Refusal> {
+    if let Some(last) = newest_day(entries) {
         if day < last {
             return Some(Refusal::DayBack { last });
         }
@@ -22,7 +22,7 @@ fn is_letter_or_digit(byte: u8) -> bool {
     matches!(byte, b'a'..=b'z' | b'A'..=b'Z' | b'0'..=b'9')
 }
 
-// Whether a name is 1 to 16 letters, digits, `-`, `_` or `.`, the first a letter or digit.
+// Whether a name is 1 to 32 letters, digits, `-`, `_` or `.`, the first a letter or digit.
 fn has_shape(name: &Name) -> bool {
     let mut good = false;
     for (at, byte) in name.as_bytes().iter().enumerate() {
@@ -35,8 +35,8 @@ fn has_shape(name: &Name) -> bool {
     good
 }
 
-fn refuse_product(lines: &[Accepted], name: Name, nominal: i64) -> Option<Refusal> {
-    if nominal_of(lines, name).is_some() {
+fn refuse_product(entries: &[Accepted], name: Name, nominal: i64) -> Option<Refusal> {
+    if nominal_of(entries, name).is_some() {
         Some(Refusal::ProductKnown)
     } else if !has_shape(&name) {
         Some(Refusal::NameShape)
@@ -47,8 +47,8 @@ fn refuse_product(lines: &[Accepted], name: Name, nominal: i64) -> Option<Refusa
     }
 }
 
-fn refuse_tare(lines: &[Accepted], product: Name, day: i32, tare: i64) -> Option<Refusal> {
-    if nominal_of(lines, product).is_none() {
+fn refuse_tare(entries: &[Accepted], product: Name, day: i32, tare: i64) -> Option<Refusal> {
+    if nominal_of(entries, product).is_none() {
         Some(Refusal::ProductUnknown)
     } else if day < 0 || day > 2_932_896 {
         Some(Refusal::DayRange)
@@ -59,37 +59,37 @@ fn refuse_tare(lines: &[Accepted], product: Name, day: i32, tare: i64) -> Option
     }
 }
 
-fn refuse_batch(lines: &[Accepted], batch: Name, product: Name) -> Option<Refusal> {
-    if nominal_of(lines, product).is_none() {
+fn refuse_batch(entries: &[Accepted], batch: Name, product: Name) -> Option<Refusal> {
+    if nominal_of(entries, product).is_none() {
         Some(Refusal::ProductUnknown)
     } else if !has_shape(&batch) {
         Some(Refusal::NameShape)
-    } else if product_of(lines, batch).is_some() {
+    } else if product_of(entries, batch).is_some() {
         Some(Refusal::BatchKnown)
     } else {
         None
     }
 }
 
-fn refuse_start(lines: &[Accepted], lane: u8, batch: Name) -> Option<Refusal> {
-    let Some(product) = product_of(lines, batch) else {
+fn refuse_start(entries: &[Accepted], lane: u8, batch: Name) -> Option<Refusal> {
+    let Some(product) = product_of(entries, batch) else {
         return Some(Refusal::BatchUnknown);
     };
     if lane < 1 || lane > 16 {
         return Some(Refusal::LaneNumber);
     }
-    if runs(lines, lane) {
-        let batch = last_start(lines, lane)?;
+    if runs(entries, lane) {
+        let batch = last_start(entries, lane)?;
         return Some(Refusal::LaneBusy { batch });
     }
-    match tare_of_product(lines, product, newest_day(lines)?) {
+    match tare_of_product(entries, product, newest_day(entries)?) {
         None => Some(Refusal::NoTare { product }),
         Some(_) => None,
     }
 }
 
-fn refuse_prior(lines: &[Accepted], lane: u8, prior: Prior) -> Option<Refusal> {
-    let wanted = is_unsettled(lines, lane);
+fn refuse_prior(entries: &[Accepted], lane: u8, prior: Prior) -> Option<Refusal> {
+    let wanted = is_unsettled(entries, lane);
     if wanted == (prior == Prior::Nothing) {
         Some(Refusal::PriorWrong { wanted })
     } else {
@@ -97,47 +97,47 @@ fn refuse_prior(lines: &[Accepted], lane: u8, prior: Prior) -> Option<Refusal> {
     }
 }
 
-fn refuse_weighing(lines: &[Accepted], lane: u8, gross: i64, prior: Prior) -> Option<Refusal> {
+fn refuse_weighing(entries: &[Accepted], lane: u8, gross: i64, prior: Prior) -> Option<Refusal> {
     if lane < 1 || lane > 16 {
         Some(Refusal::LaneNumber)
-    } else if !runs(lines, lane) {
+    } else if !runs(entries, lane) {
         Some(Refusal::LaneIdle)
     } else if gross < 0 || gross > 30_000_000 {
         Some(Refusal::GrossRange)
     } else {
-        refuse_prior(lines, lane, prior)
+        refuse_prior(entries, lane, prior)
     }
 }
 
-fn refuse_stop(lines: &[Accepted], lane: u8, prior: Prior) -> Option<Refusal> {
+fn refuse_stop(entries: &[Accepted], lane: u8, prior: Prior) -> Option<Refusal> {
     if lane < 1 || lane > 16 {
         Some(Refusal::LaneNumber)
-    } else if !runs(lines, lane) {
+    } else if !runs(entries, lane) {
         Some(Refusal::LaneIdle)
     } else {
-        refuse_prior(lines, lane, prior)
+        refuse_prior(entries, lane, prior)
     }
 }
 
-fn refuse_on_a_day(lines: &[Accepted], act: &Act) -> Option<Refusal> {
+fn refuse_on_a_day(entries: &[Accepted], act: &Act) -> Option<Refusal> {
     match *act {
-        Act::NewDay { day } => refuse_day(lines, day),
-        Act::PutProduct { name, nominal } => refuse_product(lines, name, nominal),
-        Act::PutTare { product, day, tare } => refuse_tare(lines, product, day, tare),
-        Act::OpenBatch { batch, product } => refuse_batch(lines, batch, product),
-        Act::StartLane { lane, batch } => refuse_start(lines, lane, batch),
-        Act::Weigh { lane, gross, prior } => refuse_weighing(lines, lane, gross, prior),
-        Act::StopLane { lane, prior } => refuse_stop(lines, lane, prior),
+        Act::NewDay { day } => refuse_day(entries, day),
+        Act::PutProduct { name, nominal } => refuse_product(entries, name, nominal),
+        Act::PutTare { product, day, tare } => refuse_tare(entries, product, day, tare),
+        Act::OpenBatch { batch, product } => refuse_batch(entries, batch, product),
+        Act::StartLane { lane, batch } => refuse_start(entries, lane, batch),
+        Act::Weigh { lane, gross, prior } => refuse_weighing(entries, lane, gross, prior),
+        Act::StopLane { lane, prior } => refuse_stop(entries, lane, prior),
     }
 }
 
-/// Why an act is refused behind some lines, of which there may be at most `limit`.
-pub fn refuse(lines: &[Accepted], limit: u32, act: &Act) -> Option<Refusal> {
-    if lines.len() >= limit as usize {
+/// Why an act is refused behind some entries, of which there may be at most `limit`.
+pub fn refuse(entries: &[Accepted], limit: u32, act: &Act) -> Option<Refusal> {
+    if entries.len() >= limit as usize {
         return Some(Refusal::BookFull { limit });
     }
-    if newest_day(lines).is_none() && !matches!(act, Act::NewDay { .. }) {
+    if newest_day(entries).is_none() && !matches!(act, Act::NewDay { .. }) {
         return Some(Refusal::DayUnset);
     }
-    refuse_on_a_day(lines, act)
+    refuse_on_a_day(entries, act)
 }

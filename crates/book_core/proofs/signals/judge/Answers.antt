@@ -2,7 +2,7 @@ use Rattle.std.proofs.Common.{take, rules}
 use Rattle.std.proofs.lemmas.Int.{to_z-of_z}
 use mir.Syntax.{w64}
 use mir.Val.{SFits}
-use Rattle.book_core.proofs.Judged.{judged}
+use Rattle.book_core.proofs.JudgedLemmas.{judged}
 use Rattle.book_core.proofs.signals.judge.Goals as goal
 
 pub returns : goal.returns

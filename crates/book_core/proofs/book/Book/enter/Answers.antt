@@ -3,9 +3,8 @@ use Rattle.std.specs.Vec.{vec_capacity}
 use Rattle.book_words.specs.declared.types.Entry.{Entry}
 use Rattle.book_core.specs.View.{BookView}
 use Rattle.book_core.specs.Keeping.{IsKept}
-use Rattle.book_core.proofs.Kept.{kept-push}
-use Rattle.book_core.proofs.Moving.{moves_only}
-use Rattle.book_core.proofs.Signed.{has_its_signal}
+use Rattle.book_core.proofs.InvariantLemmas.{kept-push}
+use Rattle.book_core.proofs.SignalLemmas.{has_its_signal}
 use Rattle.book_core.proofs.book.Book.enter.Goals as goal
 
 pub enter-requires : goal.enter-requires
@@ -25,9 +24,6 @@ returns-clause-legal c =
     let items = c.enter.ensures ∙ ap (λ (e : Entry). c.self.inside.entries.items ++ e ∷ []) c.entry-entry.ensures in
     let kept = subst (λ (es : List Entry). IsKept es c.self.inside.limit) (sym items) (kept-push c.self.inside.entries.items c.self.inside.limit (vec_capacity c.self.inside.entries) c.args.ready c.self.invariant.0 room) in
     kept.legal
-
-pub returns-clause-moves : goal.returns-clause-moves
-returns-clause-moves c = moves_only c.args.self.now.entries c.args.ready.entry
 
 pub returns-clause-judged : goal.returns-clause-judged
 returns-clause-judged c =

@@ -1,6 +1,6 @@
 use Rattle.std.proofs.Common.{ap, sym, ◌∙◌, length}
 use Rattle.book_words.specs.Answers.{summary}
-use Rattle.book_core.proofs.Kept.{looked}
+use Rattle.book_core.proofs.InvariantLemmas.{looked}
 use Rattle.book_core.proofs.book.Book.look.Goals as goal
 
 pub returns-clause-answer : goal.returns-clause-answer

@@ -2,8 +2,8 @@ use Rattle.std.proofs.Common.{rules}
 use Rattle.std.proofs.lemmas.Int.{to_z-of_z}
 use mir.Syntax.{w64}
 use mir.Val.{SFits}
-use Rattle.book_core.proofs.Judged.{recorded}
-use Rattle.book_core.proofs.signals.record.Goals as goal
+use Rattle.book_core.proofs.JudgedLemmas.{recorded}
+use Rattle.book_core.proofs.signals.recorded_signal.Goals as goal
 
 pub returns-in-Weigh : goal.returns-in-Weigh
 returns-in-Weigh c = λ entries whole many.

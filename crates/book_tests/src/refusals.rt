@@ -1,99 +1,11 @@
-ghost use Rattle.std.specs.Prelude.{◌≤◌};
-
-mod worked_lists;
-
-use super::*;
-use book_words::{Act, Answered, Name, Prior, Question, Refusal, Refused, Reply, SummaryView};
+use crate::begun::{
+    MARCH_2, MARCH_3, Taken, batch_of, begin, done, judged, named, product, refused, start, stop,
+    summarize, take, tare, weigh,
+};
+use book_core::Book;
+use book_words::{Act, Answered, Prior, Refusal, Reply, SummaryView};
 use pack_judge::{Cause, Signal, Tally};
-use std::alloc::Global;
-use std::fmt;
 use std::test::Fail;
-
-type Taken = Result<Answered, BookError>;
-
-// 2025-03-03.
-const MARCH_3: i32 = 20_150;
-
-// 2025-03-02.
-const MARCH_2: i32 = 20_149;
-
-fn done(row: u32) -> Taken {
-    Ok(Answered {
-        at: row,
-        reply: Reply::Done { row },
-    })
-}
-
-fn judged(row: u32, signal: Signal) -> Taken {
-    Ok(Answered {
-        at: row,
-        reply: Reply::Judged { row, signal },
-    })
-}
-
-fn refused(at: u32, refusal: Refusal) -> Taken {
-    Err(BookError::Refused(Refused { at, refusal }))
-}
-
-fn weigh_on(lane: u8, gross: i64, prior: Prior) -> Act {
-    Act::Weigh { lane, gross, prior }
-}
-
-fn weigh(gross: i64, prior: Prior) -> Act {
-    weigh_on(1, gross, prior)
-}
-
-fn product(name: Name, nominal: i64) -> Act {
-    Act::PutProduct { name, nominal }
-}
-
-fn tare(product: Name, day: i32, tare: i64) -> Act {
-    Act::PutTare { product, day, tare }
-}
-
-fn batch_of(batch: Name, product: Name) -> Act {
-    Act::OpenBatch { batch, product }
-}
-
-fn start(lane: u8, batch: Name) -> Act {
-    Act::StartLane { lane, batch }
-}
-
-fn stop(lane: u8, prior: Prior) -> Act {
-    Act::StopLane { lane, prior }
-}
-
-fn take(book: &mut Book, act: &Act) -> Taken {
-    match book.ready(0, 0, 0, act)? {
-        Step::New(ready) => Ok(book.enter(ready)),
-        Step::Known(answered) => Ok(answered),
-    }
-}
-
-fn named(bytes: &[u8]) -> Result<Name, fmt::Error> {
-    Name::new(bytes).ok_or(fmt::Error)
-}
-
-// A day, a product of 250 g with a tare of 10 g, a batch and a lane that weighs it.
-fn begin(alloc: Global, limit: u32) -> Result<Book, fmt::Error>
-    requires least { 1 ≤ limit }
-    requires most { limit ≤ 1000000 }
-{
-    let rice = named(b"rice250".as_slice())?;
-    let batch = named(b"A".as_slice())?;
-    let mut book = Book::new(alloc, limit).map_err(|_| fmt::Error)?;
-    let acts = [
-        Act::NewDay { day: MARCH_3 },
-        product(rice, 250_000),
-        tare(rice, MARCH_3, 10_000),
-        batch_of(batch, rice),
-        start(1, batch),
-    ];
-    for act in acts {
-        take(&mut book, &act).map_err(|_| fmt::Error)?;
-    }
-    Ok(book)
-}
 
 // Each day begins with five acts.
 fn worked_days(corrected: Act) -> [[(Act, Taken); 3]; 5] {
@@ -146,11 +58,11 @@ fn signals_of_the_worked_days(rt: HostRuntime) -> Result<(), Fail> {
 
 #[test]
 fn refusals_of_days_and_products(rt: HostRuntime) -> Result<(), Fail> {
-    let nobody = named(b"".as_slice())?;
+    let under = named(b"_".as_slice())?;
     let dash = named(b"-a".as_slice())?;
     let rice = named(b"rice250".as_slice())?;
     let back = Refusal::DayBack { last: MARCH_3 };
-    let mut book = Book::new(rt.alloc(), 100)?;
+    let mut book = Book::new(rt.alloc(), 100);
     for (act, wanted) in [
         (weigh(0, Prior::Nothing), refused(0, Refusal::DayUnset)),
         (Act::NewDay { day: MARCH_3 }, done(1)),
@@ -159,7 +71,7 @@ fn refusals_of_days_and_products(rt: HostRuntime) -> Result<(), Fail> {
             Act::NewDay { day: 2_932_897 },
             refused(1, Refusal::DayRange),
         ),
-        (product(nobody, 0), refused(1, Refusal::NameShape)),
+        (product(under, 0), refused(1, Refusal::NameShape)),
         (product(dash, 250_000), refused(1, Refusal::NameShape)),
         (product(rice, 4_999), refused(1, Refusal::NominalRange)),
         (product(rice, 10_000_001), refused(1, Refusal::NominalRange)),
@@ -176,16 +88,16 @@ fn refusals_of_days_and_products(rt: HostRuntime) -> Result<(), Fail> {
 
 #[test]
 fn refusals_of_batches_and_lanes(rt: HostRuntime) -> Result<(), Fail> {
-    let nobody = named(b"".as_slice())?;
+    let under = named(b"_".as_slice())?;
     let rice = named(b"rice250".as_slice())?;
     let batch = named(b"A".as_slice())?;
     let no_tare = Refusal::NoTare { product: rice };
-    let mut book = Book::new(rt.alloc(), 100)?;
+    let mut book = Book::new(rt.alloc(), 100);
     for (act, wanted) in [
         (Act::NewDay { day: MARCH_3 }, done(1)),
         (product(rice, 250_000), done(2)),
-        (batch_of(nobody, batch), refused(2, Refusal::ProductUnknown)),
-        (batch_of(nobody, rice), refused(2, Refusal::NameShape)),
+        (batch_of(under, batch), refused(2, Refusal::ProductUnknown)),
+        (batch_of(under, rice), refused(2, Refusal::NameShape)),
         (batch_of(batch, rice), done(3)),
         (batch_of(batch, rice), refused(3, Refusal::BatchKnown)),
         (start(0, rice), refused(3, Refusal::BatchUnknown)),
@@ -243,10 +155,7 @@ fn refusals_of_weighings_and_the_summary(rt: HostRuntime) -> Result<(), Fail> {
         assert_eq!(rt; take(&mut book, &act), wanted);
     }
     let reply = Reply::SummaryIs(one_voided());
-    assert_eq!(rt;
-        book.look(&Question::Summary),
-        Ok(Answered { at: 7, reply })
-    );
+    assert_eq!(rt; summarize(&mut book), Ok(Answered { at: 7, reply }));
     assert_eq!(rt; book.len(), 7);
     assert_eq!(rt; book.rows().as_slice().len(), 7);
     Ok(())

@@ -11,10 +11,10 @@ pub struct Accepted {
 }
 
 /// The day that was set last.
-pub fn newest_day(lines: &[Accepted]) -> Option<i32> {
+pub fn newest_day(entries: &[Accepted]) -> Option<i32> {
     let mut newest = None;
-    for line in lines {
-        if let Act::NewDay { day } = line.act {
+    for entry in entries {
+        if let Act::NewDay { day } = entry.act {
             newest = Some(day);
         }
     }
@@ -22,10 +22,10 @@ pub fn newest_day(lines: &[Accepted]) -> Option<i32> {
 }
 
 /// The nominal quantity of a product in mg.
-pub fn nominal_of(lines: &[Accepted], product: Name) -> Option<i64> {
+pub fn nominal_of(entries: &[Accepted], product: Name) -> Option<i64> {
     let mut found = None;
-    for line in lines {
-        if let Act::PutProduct { name, nominal } = line.act {
+    for entry in entries {
+        if let Act::PutProduct { name, nominal } = entry.act {
             if name == product {
                 found = Some(nominal);
             }
@@ -35,10 +35,10 @@ pub fn nominal_of(lines: &[Accepted], product: Name) -> Option<i64> {
 }
 
 /// The product of a batch.
-pub fn product_of(lines: &[Accepted], wanted: Name) -> Option<Name> {
+pub fn product_of(entries: &[Accepted], wanted: Name) -> Option<Name> {
     let mut found = None;
-    for line in lines {
-        if let Act::OpenBatch { batch, product } = line.act {
+    for entry in entries {
+        if let Act::OpenBatch { batch, product } = entry.act {
             if batch == wanted {
                 found = Some(product);
             }
@@ -48,10 +48,10 @@ pub fn product_of(lines: &[Accepted], wanted: Name) -> Option<Name> {
 }
 
 /// The batch for which a lane was started last.
-pub fn last_start(lines: &[Accepted], wanted: u8) -> Option<Name> {
+pub fn last_start(entries: &[Accepted], wanted: u8) -> Option<Name> {
     let mut found = None;
-    for line in lines {
-        if let Act::StartLane { lane, batch } = line.act {
+    for entry in entries {
+        if let Act::StartLane { lane, batch } = entry.act {
             if lane == wanted {
                 found = Some(batch);
             }
@@ -61,10 +61,10 @@ pub fn last_start(lines: &[Accepted], wanted: u8) -> Option<Name> {
 }
 
 /// Whether a lane runs: it was started, and no stop came after its last start.
-pub fn runs(lines: &[Accepted], wanted: u8) -> bool {
+pub fn runs(entries: &[Accepted], wanted: u8) -> bool {
     let mut running = false;
-    for line in lines {
-        match line.act {
+    for entry in entries {
+        match entry.act {
             Act::StartLane { lane, .. } if lane == wanted => running = true,
             Act::StopLane { lane, .. } if lane == wanted => running = false,
             _ => {}
@@ -74,11 +74,11 @@ pub fn runs(lines: &[Accepted], wanted: u8) -> bool {
 }
 
 /// Whether a lane has an unsettled reading: its last weighing or stop is a weighing that passed.
-pub fn is_unsettled(lines: &[Accepted], wanted: u8) -> bool {
+pub fn is_unsettled(entries: &[Accepted], wanted: u8) -> bool {
     let mut unsettled = false;
-    for line in lines {
-        match line.act {
-            Act::Weigh { lane, .. } if lane == wanted => unsettled = line.signal
+    for entry in entries {
+        match entry.act {
+            Act::Weigh { lane, .. } if lane == wanted => unsettled = entry.signal
                 == Some(Signal::Pass),
             Act::StopLane { lane, .. } if lane == wanted => unsettled = false,
             _ => {}
@@ -88,9 +88,9 @@ pub fn is_unsettled(lines: &[Accepted], wanted: u8) -> bool {
 }
 
 // What the first weighing or stop of a lane says of the gate.
-fn first_prior(lines: &[Accepted], wanted: u8) -> Option<Prior> {
-    for line in lines {
-        match line.act {
+fn first_prior(entries: &[Accepted], wanted: u8) -> Option<Prior> {
+    for entry in entries {
+        match entry.act {
             Act::Weigh { lane, prior, .. } if lane == wanted => return Some(prior),
             Act::StopLane { lane, prior } if lane == wanted => return Some(prior),
             _ => {}
@@ -100,10 +100,10 @@ fn first_prior(lines: &[Accepted], wanted: u8) -> Option<Prior> {
 }
 
 // The greatest day, up to some day, for which a product has a tare.
-fn greatest_tare_day(lines: &[Accepted], wanted: Name, until: i32) -> Option<i32> {
+fn greatest_tare_day(entries: &[Accepted], wanted: Name, until: i32) -> Option<i32> {
     let mut greatest: Option<i32> = None;
-    for line in lines {
-        if let Act::PutTare { product, day, .. } = line.act {
+    for entry in entries {
+        if let Act::PutTare { product, day, .. } = entry.act {
             if product == wanted && day <= until && greatest.map_or(true, |known| known < day) {
                 greatest = Some(day);
             }
@@ -113,10 +113,10 @@ fn greatest_tare_day(lines: &[Accepted], wanted: Name, until: i32) -> Option<i32
 }
 
 // The tare in mg that was put last for a product and just this day.
-fn last_tare_for(lines: &[Accepted], wanted: Name, from: i32) -> Option<i64> {
+fn last_tare_for(entries: &[Accepted], wanted: Name, from: i32) -> Option<i64> {
     let mut found = None;
-    for line in lines {
-        if let Act::PutTare { product, day, tare } = line.act {
+    for entry in entries {
+        if let Act::PutTare { product, day, tare } = entry.act {
             if product == wanted && day == from {
                 found = Some(tare);
             }
@@ -126,8 +126,8 @@ fn last_tare_for(lines: &[Accepted], wanted: Name, from: i32) -> Option<i64> {
 }
 
 /// The tare of a product on a day, in mg.
-pub fn tare_of_product(lines: &[Accepted], product: Name, day: i32) -> Option<i64> {
-    last_tare_for(lines, product, greatest_tare_day(lines, product, day)?)
+pub fn tare_of_product(entries: &[Accepted], product: Name, day: i32) -> Option<i64> {
+    last_tare_for(entries, product, greatest_tare_day(entries, product, day)?)
 }
 
 /// A pack that was weighed.
@@ -157,16 +157,16 @@ fn pile_of(signal: Option<Signal>, next: Option<Prior>) -> Pile {
 }
 
 /// The pack at a place, counted from 0, where a weighing stands there.
-pub fn pack_at(lines: &[Accepted], place: usize) -> Option<Pack> {
-    let line = lines.get(place)?;
-    let before = lines.get(..place)?;
-    let after = lines.get(place.saturating_add(1)..)?;
-    match line.act {
+pub fn pack_at(entries: &[Accepted], place: usize) -> Option<Pack> {
+    let entry = entries.get(place)?;
+    let before = entries.get(..place)?;
+    let after = entries.get(place.saturating_add(1)..)?;
+    match entry.act {
         Act::Weigh { lane, gross, .. } => Some(Pack {
             gross,
             day: newest_day(before),
             batch: last_start(before, lane),
-            pile: pile_of(line.signal, first_prior(after, lane)),
+            pile: pile_of(entry.signal, first_prior(after, lane)),
         }),
         _ => None,
     }
