@@ -1,7 +1,8 @@
 -- The two writes of an append, and the closing of a gate that hangs.
 use Rattle.std.proofs.Common.{◌≡◌, ◌≢◌, ◌⊎◌, inl, inr, ⊎_elim, ℕ, ◌+◌, ◌<◌, ◌≤◌, true, false, Option, Some, Result, List, [], ◌∷◌, ◌++◌, length, get_or, take, drop, refl, sym, ◌∙◌, ap, subst, arith, length-append, append_assoc}
 use Rattle.std.proofs.lemmas.List.{take_at, drop_at, length-take-le, get_or_at}
-use Rattle.disk_core.specs.Disk.{overwritten, Only, LeavesOnly}
+use Rattle.disk_core.specs.Disk.{overwritten, Only}
+use Rattle.book_journal.specs.Past.{LeavesOnly}
 use Rattle.disk_core.specs.Tears.{length-overwritten}
 use Rattle.book_journal.specs.Rows.{HasHeader, Recovers, rows_of, gate_behind, row_behind}
 use Rattle.book_journal.specs.Journal.{IsClosedAs, IsHungAs, StandsAs}

@@ -1,6 +1,7 @@
 -- How a run of calls on a disk goes on.
 use Rattle.std.proofs.Common.{inl, inr, ⊎_elim, ℕ, List, arith}
-use Rattle.disk_core.specs.Disk.{Elapses, LeavesOnly}
+use Rattle.disk_core.specs.Disk.{Elapses}
+use Rattle.book_journal.specs.Past.{LeavesOnly}
 
 -- the images of a time may be said of more
 pub elapses_in : {before now : ℕ} {past since : ℕ → List ℕ → Type 0} (image wider : List ℕ → Type 0) → Elapses before now past since image → ((c : List ℕ) → image c → wider c) → Elapses before now past since wider

@@ -2,7 +2,8 @@
 use Rattle.std.proofs.Common.{◌≡◌, ◌≢◌, ◌⊎◌, inl, inr, ⊎_elim, ℕ, ◌+◌, ◌-◌, ◌*◌, ◌<◌, ◌≤◌, min, max, true, false, Option, Some, None, MatchOption, Result, List, [], ◌∷◌, length, get_or, take, drop, refl, sym, ◌∙◌, ap, subst, arith, length-drop}
 use Rattle.std.proofs.lemmas.Bool.{cases_lt}
 use Rattle.std.proofs.lemmas.List.{get_or-take}
-use Rattle.disk_core.specs.Disk.{overwritten, Only, LeavesOnly, Elapses}
+use Rattle.disk_core.specs.Disk.{overwritten, Only, Elapses}
+use Rattle.book_journal.specs.Past.{LeavesOnly}
 use Rattle.disk_core.specs.Tears.{length-overwritten}
 use Rattle.book_journal.specs.Rows.{HasHeader, FirstDiffersAt, Recovers, starts_open, rows_of, gate_behind, title}
 use Rattle.book_journal.specs.Journal.{IsClosedAs, StandsAs}

@@ -1,4 +1,5 @@
 pub mod Journal
 pub mod Mounting
+pub mod Past
 pub mod Rows
 pub mod Settles

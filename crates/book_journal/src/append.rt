@@ -25,7 +25,7 @@ impl<D: Disk> Journal<D> {
     ghost use Rattle.std.specs.Prelude.{◌≡◌, ◌≢◌, ◌⊎◌, ◌+◌, ◌<◌, ◌≤◌, ℕ, List, [], ◌∷◌, ◌++◌, false, true, IfOk, OnOk, OnErr, slice_index};
     ghost use Rattle.device_facts.specs.Count.{CountsFault};
     ghost use Rattle.device_facts.specs.Known.{TellsAsBefore};
-    ghost use Rattle.disk_core.specs.Disk.{LeavesOnly};
+    ghost use Rattle.book_journal.specs.Past.{LeavesOnly};
     ghost use Rattle.book_journal.specs.Rows.{Recovers};
     ghost use Rattle.book_journal.specs.Journal.{disk_of, count_of, Hangs, IsSound, HasRows, HangsWith, RecoversOrHangs, ImagesKeepRows};
 

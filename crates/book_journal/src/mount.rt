@@ -1,6 +1,7 @@
 ghost use Rattle.std.specs.Prelude.{◌≡◌, ◌⊎◌, ◌+◌, ◌*◌, ◌≤◌, ℕ, List, IfOk, IfErr, MatchResult, length};
 ghost use Rattle.device_facts.specs.Known.{TellsAsBefore};
-ghost use Rattle.disk_core.specs.Disk.{WhereTold, Only, LeavesOnly};
+ghost use Rattle.disk_core.specs.Disk.{WhereTold, Only};
+ghost use Rattle.book_journal.specs.Past.{LeavesOnly};
 ghost use Rattle.book_journal.specs.Rows.{Recovers};
 ghost use Rattle.book_journal.specs.Mounting.{IsOpened, IsUnmoved, KeepsFromSync, IsCauseOf, NamesDifference};
 

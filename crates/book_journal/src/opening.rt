@@ -1,7 +1,8 @@
 ghost use Rattle.std.specs.Prelude.{◌≡◌, ◌≢◌, ◌+◌, ◌*◌, ◌<◌, ◌≤◌, ℕ, List, [], IsTrue, MatchOption, IfOk, OnOk, length, slice_index, false};
 ghost use Rattle.device_facts.specs.Count.{CountsFault};
 ghost use Rattle.device_facts.specs.Known.{TellsAsBefore};
-ghost use Rattle.disk_core.specs.Disk.{WhereTold, Only, LeavesOnly};
+ghost use Rattle.disk_core.specs.Disk.{WhereTold, Only};
+ghost use Rattle.book_journal.specs.Past.{LeavesOnly};
 ghost use Rattle.book_journal.specs.Rows.{HasHeader, FirstDiffersAt, Recovers, rows_of, gate_behind};
 ghost use Rattle.book_journal.specs.Journal.{StandsAs};
 ghost use Rattle.book_journal.specs.Mounting.{IsUnmoved, IsCounted, IsOpened};

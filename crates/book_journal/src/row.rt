@@ -4,7 +4,7 @@ use disk_core::{Disk, Failed};
 impl<D: Disk> Journal<D> {
     ghost use Rattle.std.specs.Prelude.{◌≡◌, ◌↔◌, ◌+◌, ◌-◌, ◌≤◌, ℕ, List, Some, IfOk, length, slice_get};
     ghost use Rattle.device_facts.specs.Count.{CountsFault};
-    ghost use Rattle.disk_core.specs.Disk.{LeavesOnly};
+    ghost use Rattle.book_journal.specs.Past.{LeavesOnly};
     ghost use Rattle.book_journal.specs.Journal.{disk_of, count_of, Hangs, IsSound, HasRows, RecoversOrHangs};
 
     /// Reads the row of a number, counted from 1.

@@ -1,5 +1,5 @@
--- What a device tells of its bytes: all of them, or nothing. std's `Consumes`, `Appends`, `Keeps` and `IsAtEnd`
--- say what a call does to bytes that are told.
+-- What a device tells of its bytes: all of them, or nothing. std's `Consumes`, `Appends`, `Keeps`
+-- and `IsAtEnd` say what a call does to bytes that are told.
 use Rattle.std.specs.Prelude.{◌≡◌, ℕ, List, is_some, Option}
 
 -- a device that tells goes on telling, and one that doesn't never begins to

@@ -1,4 +1,5 @@
 pub mod Count
 pub mod CountLaws
-pub mod Prefix
+pub mod Frame
 pub mod Known
+pub mod Prefix

@@ -1,4 +1,5 @@
-//! Facts about devices that every crate above cites: how faults are counted, and what a device tells of its bytes.
+//! Facts about devices that every crate above cites: how faults are counted, what a device tells of
+//! its bytes, and what its calls leave as it was.
 #![tactic(auto)]
 
 mod count;

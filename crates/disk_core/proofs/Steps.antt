@@ -1,121 +1,162 @@
 -- What one call does to a disk in memory.
-use Rattle.std.proofs.Common.{◌≡◌, ◌⊎◌, inl, inr, ⊎_elim, ℕ, ◌+◌, ◌≤◌, List, [], ◌∷◌, ◌++◌, length, Vec, Some, Result, false, is_err, OnOk, Ok, Err, refl, sym, ◌∙◌, ap, subst, arith}
-use Rattle.std.specs.declared.alloc.Global.{Global}
-use Rattle.disk_core.specs.Disk.{overwritten, Torn, AddsNoImage, Follows, Writes}
-use Rattle.disk_core.specs.DiskLog.{DiskLog, stored, IsImage, GoesOn}
+use Rattle.std.proofs.Common.{◌≡◌, ◌⊎◌, inl, inr, ⊎_elim, ℕ, ◌+◌, ◌≤◌, List, [], ◌∷◌, ◌++◌, length, Some, Result, OnOk, Ok, Err, refl, sym, ◌∙◌, ap, subst, arith}
+use Rattle.device_facts.specs.Count.{CountsFault}
+use Rattle.disk_core.specs.Disk.{overwritten, Torn, AddsNoImage, Only, Follows, Writes}
+use Rattle.disk_core.specs.DiskLog.{DiskLog, read_after, stored, IsImage, GoesOn, IsWrite, Remembers, faulted, Makes}
 use Rattle.disk_core.specs.declared.disk_call.DiskCall.{DiskCall}
 use Rattle.disk_core.specs.declared.disk_call.DiskCall.TheVariants.{Looked, Wrote, Synced}
 use Rattle.disk_core.specs.Tears.{length-overwritten, torn_by, torn_none}
 use Rattle.disk_core.proofs.Log.{read_after-append, left_looked, left_synced, left_wrote, elapses_same, elapses_more}
 
--- a disk with one call more
-abbrev pub called : DiskLog → DiskCall → DiskLog
-called log call = record log { calls = log.calls ++ call ∷ [] }
+-- one call more was made, of which this holds, or none
+pub record Stepped (Is : DiskCall → Type 0) (old new : DiskLog) : Type 0 where
+  pub first : new.first ≡ old.first
+  pub calls : (new.calls ≡ old.calls) ⊎ ((call : DiskCall) × Is call × (new.calls ≡ old.calls ++ call ∷ []))
 
--- one call more was made, or none
-abbrev pub Made : DiskLog → DiskCall → DiskLog → Type 0
-Made old call mid = (mid ≡ old) ⊎ (mid ≡ called old call)
+more_calls : (Is Any : DiskCall → Type 0) (old from new : DiskLog) → ((call : DiskCall) → Is call → Any call) → from.first ≡ old.first → from.calls ≡ old.calls → Remembers Is from new → Stepped Any old new
+more_calls Is Any old from new any first calls more = record {
+  first = ap (λ (l : DiskLog). l.first) more.2 ∙ first;
+  calls = inr (more.0, any more.0 more.1, ap (λ (l : DiskLog). l.calls) more.2 ∙ ap (λ (cs : List DiskCall). cs ++ more.0 ∷ []) calls);
+}
 
--- with faults counted
-abbrev pub Faulted : DiskLog → DiskLog → Type 0
-Faulted mid new = new ≡ record mid { faults = new.faults }
-
-pub faulted_none : (log : DiskLog) → Faulted log log
-faulted_none log = refl
-
-pub looked_stored : (old mid new : DiskLog) → Made old Looked mid → Faulted mid new → stored new ≡ stored old
-looked_stored old mid new made faulted = ap stored faulted ∙ ⊎_elim (λ same. ap stored same) (λ more. ap stored more ∙ read_after-append old.calls Looked old.first) made
-
-pub synced_stored : (old mid new : DiskLog) → Made old Synced mid → Faulted mid new → stored new ≡ stored old
-synced_stored old mid new made faulted = ap stored faulted ∙ ⊎_elim (λ same. ap stored same) (λ more. ap stored more ∙ read_after-append old.calls Synced old.first) made
-
-pub looked_images : (old mid new : DiskLog) → Made old Looked mid → Faulted mid new → AddsNoImage (IsImage old.first old.calls) (IsImage new.first new.calls)
-looked_images old mid new made faulted c is =
-    let at_mid = subst (λ (l : DiskLog). IsImage l.first l.calls c) faulted is in
+-- a call was made, done or failed, or none was for want of memory
+pub stepped : {T E : Type 0} (Done Failed : DiskCall → Type 0) (result : Result T E) (old new : DiskLog) → Makes Done Failed result old new → Stepped (λ call. Done call ⊎ Failed call) old new
+stepped Done Failed (Ok x) old new makes = more_calls Done _ old old new (λ call is. inl is) refl refl makes.ok
+stepped Done Failed (Err e) old new makes =
     ⊎_elim
-    (λ same. subst (λ (l : DiskLog). IsImage l.first l.calls c) same at_mid)
-    (λ more. left_looked old.calls old.first (λ e. e ≡ old.first) c (subst (λ (l : DiskLog). IsImage l.first l.calls c) more at_mid)) made
+    (λ more. more_calls Failed _ old (faulted old) new (λ call is. inr is) refl refl more)
+    (λ none. record { first = ap (λ (l : DiskLog). l.first) none; calls = inl (ap (λ (l : DiskLog). l.calls) none) }) makes.err
 
-pub goes_on : (old mid new : DiskLog) (call : DiskCall) → Made old call mid → Faulted mid new → GoesOn old new
-goes_on old mid new call made faulted =
-    subst (λ (l : DiskLog). GoesOn old l) (sym faulted)
+pub made_counts : {T E : Type 0} (Done Failed : DiskCall → Type 0) (result : Result T E) (old new : DiskLog) → Makes Done Failed result old new → CountsFault old.faults new.faults result
+made_counts Done Failed (Ok x) old new makes = ap (λ (l : DiskLog). l.faults) makes.ok.2
+made_counts Done Failed (Err e) old new makes =
+    ⊎_elim (λ more. ap (λ (l : DiskLog). l.faults) more.2) (λ none. ap (λ (l : DiskLog). l.faults) none) makes.err
+
+pub made_asked : {T E : Type 0} (Done Failed : DiskCall → Type 0) (result : Result T E) (old new : DiskLog) → Makes Done Failed result old new → new.asked ≡ old.asked
+made_asked Done Failed (Ok x) old new makes = ap (λ (l : DiskLog). l.asked) makes.ok.2
+made_asked Done Failed (Err e) old new makes =
+    ⊎_elim (λ more. ap (λ (l : DiskLog). l.asked) more.2) (λ none. ap (λ (l : DiskLog). l.asked) none) makes.err
+
+pub goes_on : (Is : DiskCall → Type 0) (old new : DiskLog) → Stepped Is old new → GoesOn old new
+goes_on Is old new step =
+    subst (λ (f : List ℕ). GoesOn old (record new { first = f })) (sym step.first)
     (⊎_elim
-    (λ same. subst (λ (l : DiskLog). GoesOn old l) (sym same) (elapses_same old.first old.calls))
-    (λ more. subst (λ (l : DiskLog). GoesOn old l) (sym more) (elapses_more old.first old.calls call)) made)
+    (λ same. subst (λ (cs : List DiskCall). GoesOn old (record new { first = old.first; calls = cs })) (sym same) (elapses_same old.first old.calls))
+    (λ more. subst (λ (cs : List DiskCall). GoesOn old (record new { first = old.first; calls = cs })) (sym more.2) (elapses_more old.first old.calls more.0)) step.calls)
+
+-- what is read stays where the call writes nothing
+pub reads_on : (Is : DiskCall → Type 0) (old new : DiskLog) → ((call : DiskCall) → Is call → (bytes : List ℕ) → read_after (call ∷ []) bytes ≡ bytes) → Stepped Is old new → stored new ≡ stored old
+reads_on Is old new none step =
+    ap (λ (f : List ℕ). read_after new.calls f) step.first
+    ∙ ⊎_elim
+    (λ same. ap (λ (cs : List DiskCall). read_after cs old.first) same)
+    (λ more. ap (λ (cs : List DiskCall). read_after cs old.first) more.2 ∙ read_after-append old.calls more.0 old.first ∙ none more.0 more.1 (stored old)) step.calls
+
+pub looks : (call : DiskCall) → (call ≡ Looked) ⊎ (call ≡ Looked) → (bytes : List ℕ) → read_after (call ∷ []) bytes ≡ bytes
+looks call is bytes = ⊎_elim (λ one. ap (λ (x : DiskCall). read_after (x ∷ []) bytes) one) (λ one. ap (λ (x : DiskCall). read_after (x ∷ []) bytes) one) is
+
+pub syncs : (call : DiskCall) → (call ≡ Synced) ⊎ (call ≡ Looked) → (bytes : List ℕ) → read_after (call ∷ []) bytes ≡ bytes
+syncs call is bytes = ⊎_elim (λ one. ap (λ (x : DiskCall). read_after (x ∷ []) bytes) one) (λ one. ap (λ (x : DiskCall). read_after (x ∷ []) bytes) one) is
+
+-- no image is added where the call adds none
+adds_none : (Is : DiskCall → Type 0) (old new : DiskLog) → ((call : DiskCall) → Is call → (c : List ℕ) → IsImage old.first (old.calls ++ call ∷ []) c → IsImage old.first old.calls c) → Stepped Is old new → AddsNoImage (IsImage old.first old.calls) (IsImage new.first new.calls)
+adds_none Is old new none step c is =
+    let at_first = subst (λ (f : List ℕ). IsImage f new.calls c) step.first is in
+    ⊎_elim
+    (λ same. subst (λ (cs : List DiskCall). IsImage old.first cs c) same at_first)
+    (λ more. none more.0 more.1 c (subst (λ (cs : List DiskCall). IsImage old.first cs c) more.2 at_first)) step.calls
+
+none_looked : (old : DiskLog) (call : DiskCall) → call ≡ Looked → (c : List ℕ) → IsImage old.first (old.calls ++ call ∷ []) c → IsImage old.first old.calls c
+none_looked old call one c is = left_looked old.calls old.first (λ e. e ≡ old.first) c (subst (λ (x : DiskCall). IsImage old.first (old.calls ++ x ∷ []) c) one is)
+
+none_synced : (old : DiskLog) → IsImage old.first old.calls (stored old) → (call : DiskCall) → call ≡ Synced → (c : List ℕ) → IsImage old.first (old.calls ++ call ∷ []) c → IsImage old.first old.calls c
+none_synced old reads call one c is =
+    subst (λ (e : List ℕ). IsImage old.first old.calls e) (sym (left_synced old.calls old.first (λ e. e ≡ old.first) c (subst (λ (x : DiskCall). IsImage old.first (old.calls ++ x ∷ []) c) one is))) reads
+
+pub looked_images : (old new : DiskLog) → Stepped (λ call. (call ≡ Looked) ⊎ (call ≡ Looked)) old new → AddsNoImage (IsImage old.first old.calls) (IsImage new.first new.calls)
+looked_images old new step = adds_none _ old new (λ call is c. ⊎_elim (λ one. none_looked old call one c) (λ one. none_looked old call one c) is) step
+
+pub synced_images : (old new : DiskLog) → IsImage old.first old.calls (stored old) → Stepped (λ call. (call ≡ Synced) ⊎ (call ≡ Looked)) old new → AddsNoImage (IsImage old.first old.calls) (IsImage new.first new.calls)
+synced_images old new reads step = adds_none _ old new (λ call is c. ⊎_elim (λ one. none_synced old reads call one c) (λ one. none_looked old call one c) is) step
 
 pub told_same : (now bytes : List ℕ) → Some now ≡ Some bytes → now ≡ bytes
 told_same now bytes told = cc
 
-pub synced_only : (old new : DiskLog) (bytes : List ℕ) → new ≡ called old Synced → Some (stored old) ≡ Some bytes → (c : List ℕ) → IsImage new.first new.calls c → c ≡ bytes
-synced_only old new bytes more told c is =
-    left_synced old.calls old.first (λ e. e ≡ old.first) c (subst (λ (l : DiskLog). IsImage l.first l.calls c) more is) ∙ told_same _ _ told
+pub synced_only : {T E : Type 0} (Failed : DiskCall → Type 0) (result : Result T E) (old new : DiskLog) (bytes : List ℕ) → Makes (λ done. done ≡ Synced) Failed result old new → Some (stored old) ≡ Some bytes → OnOk result (Only bytes (IsImage new.first new.calls))
+synced_only Failed (Err e) old new bytes makes told = tt
+synced_only Failed (Ok x) old new bytes makes told = λ c is.
+    let more = makes.ok in
+    let logged : new ≡ record old { calls = old.calls ++ Synced ∷ [] } = more.2 ∙ ap (λ (call : DiskCall). record old { calls = old.calls ++ call ∷ [] }) more.1 in
+    left_synced old.calls old.first (λ e. e ≡ old.first) c (subst (λ (l : DiskLog). IsImage l.first l.calls c) logged is) ∙ told_same _ _ told
 
-pub synced_images : (old mid new : DiskLog) → Made old Synced mid → Faulted mid new → IsImage old.first old.calls (stored old) → AddsNoImage (IsImage old.first old.calls) (IsImage new.first new.calls)
-synced_images old mid new made faulted reads c is =
-    let at_mid = subst (λ (l : DiskLog). IsImage l.first l.calls c) faulted is in
-    ⊎_elim
-    (λ same. subst (λ (l : DiskLog). IsImage l.first l.calls c) same at_mid)
-    (λ more. subst (λ e. IsImage old.first old.calls e) (sym (left_synced old.calls old.first (λ e. e ≡ old.first) c (subst (λ (l : DiskLog). IsImage l.first l.calls c) more at_mid))) reads) made
-
--- a write that is remembered, whatever it answers
-module _ (old mid new : DiskLog) (place : ℕ) (kept : Vec ℕ Global) (there : List ℕ) (more : mid ≡ called old (Wrote place kept)) (faulted : Faulted mid new) (told : Some (stored old) ≡ Some there) where
-  now : List ℕ
-  now = overwritten (stored old) place kept.items
-
-  told_now : Some (stored new) ≡ Some (overwritten (stored old) place kept.items)
-  told_now = ap (λ (b : List ℕ). Some b) (ap stored faulted ∙ ap stored more ∙ read_after-append old.calls (Wrote place kept) old.first)
-
-  images : Follows (Torn place (length kept.items) (length (overwritten (stored old) place kept.items))) (IsImage old.first old.calls) (IsImage new.first new.calls)
-  images c is = left_wrote old.calls place kept old.first (λ e. e ≡ old.first) c
-      (subst (λ (l : DiskLog). IsImage l.first l.calls c) more (subst (λ (l : DiskLog). IsImage l.first l.calls c) faulted is))
-
+-- a write that is remembered, whatever it answered
+module _ (old new : DiskLog) (place : ℕ) (bytes there : List ℕ) (within : place ≤ length there) (told : Some (stored old) ≡ Some there) where
   is_there : stored old ≡ there
   is_there = told_same _ _ told
 
-  pub wrote_ok : {E : Type 0} (bytes : List ℕ) → kept.items ≡ bytes → Writes {T = Unit {0}} {E = E} place bytes (Ok tt) there (Some (stored new)) (IsImage old.first old.calls) (IsImage new.first new.calls)
-  wrote_ok {E} bytes is = subst (λ (b : List ℕ). Writes {T = Unit {0}} {E = E} place b (Ok tt) there (Some (stored new)) (IsImage old.first old.calls) (IsImage new.first new.calls)) is record {
-    now = overwritten (stored old) place kept.items;
-    told_now = told_now;
-    done = ap (λ (o : List ℕ). overwritten o place kept.items) is_there;
-    cut_short = tt;
-    images = images;
-  }
+  wrote_now : (call : DiskCall) → IsWrite place bytes call → (was : List ℕ) → read_after (call ∷ []) was ≡ overwritten was place bytes
+  wrote_now Looked is was = absurd is
+  wrote_now Synced is was = absurd is
+  wrote_now (Wrote at those) is was = ap (λ (p : ℕ). overwritten was p those.items) is.0 ∙ ap (λ (b : List ℕ). overwritten was place b) is.1
 
-  pub wrote_err : {E : Type 0} (e : E) (bytes : List ℕ) → kept.items ≡ bytes → place ≤ length there → Writes {T = Unit {0}} {E = E} place bytes (Err e) there (Some (stored new)) (IsImage old.first old.calls) (IsImage new.first new.calls)
-  wrote_err {E} e bytes is within = subst (λ (b : List ℕ). Writes {T = Unit {0}} {E = E} place b (Err e) there (Some (stored new)) (IsImage old.first old.calls) (IsImage new.first new.calls)) is record {
-    now = overwritten (stored old) place kept.items;
-    told_now = told_now;
+  torn_from : List ℕ → Type 0
+  torn_from c = (d : List ℕ) × IsImage old.first old.calls d × Torn place (length bytes) (length (overwritten (stored old) place bytes)) d c
+
+  wrote_left : (call : DiskCall) → IsWrite place bytes call → (c : List ℕ) → IsImage old.first (old.calls ++ call ∷ []) c → (d : List ℕ) × IsImage old.first old.calls d × Torn place (length bytes) (length (overwritten (stored old) place bytes)) d c
+  wrote_left Looked is c left = absurd is
+  wrote_left Synced is c left = absurd is
+  wrote_left (Wrote at those) is c left =
+      let torn = left_wrote old.calls at those old.first (λ e. e ≡ old.first) c left in
+      let at_place = subst (λ (p : ℕ). Torn p (length those.items) (length (overwritten (stored old) p those.items)) torn.0 c) is.0 torn.2 in
+      (torn.0, torn.1, subst (λ (b : List ℕ). Torn place (length b) (length (overwritten (stored old) place b)) torn.0 c) is.1 at_place)
+
+  module _ (call : DiskCall) (is : IsWrite place bytes call) (first : new.first ≡ old.first) (calls : new.calls ≡ old.calls ++ call ∷ []) where
+    now_told : Some (stored new) ≡ Some (overwritten (stored old) place bytes)
+    now_told =
+        ap (λ (f : List ℕ). Some (read_after new.calls f)) first
+        ∙ ap (λ (cs : List DiskCall). Some (read_after cs old.first)) calls
+        ∙ ap (λ (b : List ℕ). Some b) (read_after-append old.calls call old.first ∙ wrote_now call is (stored old))
+
+    images : Follows (Torn place (length bytes) (length (overwritten (stored old) place bytes))) (IsImage old.first old.calls) (IsImage new.first new.calls)
+    images c left = wrote_left call is c (subst (λ (cs : List DiskCall). IsImage old.first cs c) calls (subst (λ (f : List ℕ). IsImage f new.calls c) first left))
+
+    pub write_done : {T E : Type 0} (x : T) → Writes {T = T} {E = E} place bytes (Ok x) there (Some (stored new)) (IsImage old.first old.calls) (IsImage new.first new.calls)
+    write_done x = record {
+      now = overwritten (stored old) place bytes;
+      told_now = now_told;
+      done = ap (λ (o : List ℕ). overwritten o place bytes) is_there;
+      cut_short = tt;
+      images = images;
+    }
+
+    pub write_failed : {T E : Type 0} (e : E) → Writes {T = T} {E = E} place bytes (Err e) there (Some (stored new)) (IsImage old.first old.calls) (IsImage new.first new.calls)
+    write_failed e = record {
+      now = overwritten (stored old) place bytes;
+      told_now = now_told;
+      done = tt;
+      cut_short =
+          subst (λ (o : List ℕ). Torn place (length bytes) (place + length bytes) there (overwritten o place bytes)) (sym is_there)
+          (torn_by there place (length bytes) (place + length bytes) bytes refl (omega (arith, within, length-overwritten there place bytes)));
+      images = images;
+    }
+
+  -- a write that memory refused
+  write_refused : {T E : Type 0} (e : E) → new.first ≡ old.first → new.calls ≡ old.calls → Writes {T = T} {E = E} place bytes (Err e) there (Some (stored new)) (IsImage old.first old.calls) (IsImage new.first new.calls)
+  write_refused e first calls = record {
+    now = there;
+    told_now = ap (λ (f : List ℕ). Some (read_after new.calls f)) first ∙ ap (λ (cs : List DiskCall). Some (read_after cs old.first)) calls ∙ told;
     done = tt;
-    cut_short =
-        subst (λ (o : List ℕ). Torn place (length kept.items) (place + length kept.items) there (overwritten o place kept.items)) (sym is_there)
-        (torn_by there place (length kept.items) (place + length kept.items) kept.items refl (omega (arith, within, length-overwritten there place kept.items)));
-    images = images;
+    cut_short = torn_none there place (length bytes) (place + length bytes);
+    images = λ c left. (
+      c,
+      subst (λ (cs : List DiskCall). IsImage old.first cs c) calls (subst (λ (f : List ℕ). IsImage f new.calls c) first left),
+      torn_none c place (length bytes) (length there),
+    );
   }
 
--- a write that memory refused
-pub refused : {E : Type 0} (e : E) (old mid new : DiskLog) (place : ℕ) (bytes there : List ℕ) → mid ≡ old → Faulted mid new → Some (stored old) ≡ Some there → Writes {T = Unit {0}} {E = E} place bytes (Err e) there (Some (stored new)) (IsImage old.first old.calls) (IsImage new.first new.calls)
-refused e old mid new place bytes there same faulted told = record {
-  now = there;
-  told_now = ap (λ (l : DiskLog). Some (stored l)) (faulted ∙ ap (λ (l : DiskLog). record l { faults = new.faults }) same) ∙ told;
-  done = tt;
-  cut_short = torn_none there place (length bytes) (place + length bytes);
-  images = λ c is. (
-    c,
-    subst (λ (l : DiskLog). IsImage l.first l.calls c) same (subst (λ (l : DiskLog). IsImage l.first l.calls c) faulted is),
-    torn_none c place (length bytes) (length there),
-  );
-}
-
--- a write that was remembered or refused, and failed
-pub failed : {E : Type 0} (e : E) (old mid new : DiskLog) (place : ℕ) (bytes there : List ℕ) → (mid ≡ old) ⊎ ((kept : Vec ℕ Global) × (kept.items ≡ bytes) × (mid ≡ called old (Wrote place kept))) → Faulted mid new → place ≤ length there → Some (stored old) ≡ Some there → Writes {T = Unit {0}} {E = E} place bytes (Err e) there (Some (stored new)) (IsImage old.first old.calls) (IsImage new.first new.calls)
-failed e old mid new place bytes there (inl same) faulted within told = refused e old mid new place bytes there same faulted told
-failed e old mid new place bytes there (inr kept) faulted within told = wrote_err old mid new place kept.0 there kept.2 faulted told e bytes kept.1 within
-
-pub write_goes_on : (old mid new : DiskLog) (place : ℕ) (bytes : List ℕ) → (mid ≡ old) ⊎ ((kept : Vec ℕ Global) × (kept.items ≡ bytes) × (mid ≡ called old (Wrote place kept))) → Faulted mid new → GoesOn old new
-write_goes_on old mid new place bytes (inl same) faulted = goes_on old mid new Looked (inl same) faulted
-write_goes_on old mid new place bytes (inr kept) faulted = goes_on old mid new (Wrote place kept.0) (inr kept.2) faulted
-
--- what holds at an Ok holds where the answer is none of the errors
-pub at_ok : {T E : Type 0} (result : Result T E) (P : Type 0) → false ≡ is_err result → OnOk result P → P
-at_ok (Ok x) P no_err holds = holds
-at_ok (Err e) P no_err holds = absurd cc
+  pub made_writes : {T E : Type 0} (result : Result T E) → Makes (IsWrite place bytes) (IsWrite place bytes) result old new → Writes place bytes result there (Some (stored new)) (IsImage old.first old.calls) (IsImage new.first new.calls)
+  made_writes (Ok x) makes = write_done makes.ok.0 makes.ok.1 (ap (λ (l : DiskLog). l.first) makes.ok.2) (ap (λ (l : DiskLog). l.calls) makes.ok.2) x
+  made_writes (Err e) makes =
+      ⊎_elim
+      (λ more. write_failed more.0 more.1 (ap (λ (l : DiskLog). l.first) more.2) (ap (λ (l : DiskLog). l.calls) more.2) e)
+      (λ none. write_refused e (ap (λ (l : DiskLog). l.first) none) (ap (λ (l : DiskLog). l.calls) none)) makes.err

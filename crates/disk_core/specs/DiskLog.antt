@@ -1,14 +1,17 @@
 -- A disk in memory: what it was at first, and the calls since.
-use Rattle.std.specs.Prelude.{◌≡◌, ℕ, ◌+◌, ◌-◌, ◌^◌, ◌≤◌, min, List, [], ◌∷◌, length, take, replicate, Bool, ◌==◌, Option, Some, None, Vec}
+use Rattle.std.specs.Prelude.{◌≡◌, ◌⊎◌, ℕ, ◌≤◌, List, [], ◌∷◌, ◌++◌, length, take, replicate, Bool, false, IsTrue, ◌==◌, Option, Some, None, Vec, Result, IsErr, OnOk, OnErr}
 use Rattle.std.specs.List.{list_any}
 use Rattle.std.specs.declared.alloc.Global.{Global}
+use Rattle.device_facts.specs.Count.{counted}
 use Rattle.disk_core.specs.Disk.{overwritten, Torn, Elapses}
+use Rattle.disk_core.specs.Streams.{next_call}
 use Rattle.disk_core.specs.declared.disk_call.DiskCall.{DiskCall}
 use Rattle.disk_core.specs.declared.disk_call.DiskCall.TheVariants.{Looked, Wrote, Synced}
 use Rattle.disk_core.specs.declared.disk_types.Keep.{Keep}
 use Rattle.disk_core.specs.declared.disk_types.Keep.TheVariants.{Earlier, Written, Fill}
 
--- a disk in memory: its bytes at first, the calls since, the numbers of those that fail, the faults counted, the bytes asked for
+-- a disk in memory: its bytes at first, the calls since, the numbers of those that fail, the faults
+-- counted, the bytes asked for
 pub record DiskLog : Type 0 where
   pub first : List ℕ
   pub calls : List DiskCall
@@ -23,7 +26,8 @@ read_after (Looked ∷ calls) now = read_after calls now
 read_after (Wrote place bytes ∷ calls) now = read_after calls (overwritten now place bytes.items)
 read_after (Synced ∷ calls) now = read_after calls now
 
--- what a crash may leave after these calls, where before them this was read and a crash might have left those
+-- what a crash may leave after these calls, where before them this was read and a crash might have
+-- left those
 abbrev pub IsLeftAfter : List DiskCall → List ℕ → (List ℕ → Type 0) → List ℕ → Type 0
 IsLeftAfter [] now left c = left c
 IsLeftAfter (Looked ∷ calls) now left c = IsLeftAfter calls now left c
@@ -63,14 +67,32 @@ abbrev pub content : List ℕ → Option (Vec ℕ Global) → List ℕ
 content first None = first
 content first (Some bytes) = bytes.items
 
--- the number of the next call, which stands still at the greatest number of 32 bits
-abbrev pub number_of_next : ℕ → ℕ
-number_of_next calls = min (calls + 1) (2 ^ 32 - 1)
-
 -- the next call is one of those that fail
 abbrev pub fails_next : DiskLog → Bool
-fails_next log = list_any (λ n. n == number_of_next (length log.calls)) log.fails
+fails_next log = list_any (λ n. n == next_call (length log.calls)) log.fails
 
--- time went on, and a crash since then may have left what it might have before or what it may leave now
+-- time went on, and a crash since then may have left what it might have before or what it may leave
+-- now
 abbrev pub GoesOn : DiskLog → DiskLog → Type 0
 GoesOn old new = Elapses (length old.calls) (length new.calls) (WasImage old.first old.calls) (WasImage new.first new.calls) (IsImage new.first new.calls)
+
+-- a call that wrote these bytes at this place
+abbrev pub IsWrite : ℕ → List ℕ → DiskCall → Type 0
+IsWrite place bytes (Wrote at those) = (at ≡ place) × (those.items ≡ bytes)
+IsWrite place bytes _ = ⊥
+
+-- one call more is remembered, and nothing else changed
+abbrev pub Remembers : (DiskCall → Type 0) → DiskLog → DiskLog → Type 0
+Remembers Is old new = (call : DiskCall) × Is call × (new ≡ record old { calls = old.calls ++ call ∷ [] })
+
+-- the log with one fault more
+abbrev pub faulted : DiskLog → DiskLog
+faulted log = record log { faults = counted log.faults 1 }
+
+-- How a call ends: a listed call fails; another one fails only for want of memory, and then nothing
+-- is remembered of it. A call that is done is remembered as one, and one that failed as another.
+pub record Makes {T E : Type 0} (Done Failed : DiskCall → Type 0) (result : Result T E) (old new : DiskLog) : Type 0 where
+  pub listed : IsTrue (fails_next old) → IsErr result
+  pub ok : OnOk result (Remembers Done old new)
+  pub err : OnErr result (Remembers Failed (faulted old) new ⊎ (new ≡ faulted old))
+  pub unlisted : fails_next old ≡ false → OnErr result (new ≡ faulted old)

@@ -18,7 +18,7 @@ mod standard;
 mod types;
 
 pub use disk::Disk;
-pub use disk_types::Keep;
+pub use disk_types::{DISK_END, Keep};
 pub use memory_disk::MemoryDisk;
 pub use memory_sink::MemorySink;
 pub use memory_source::MemorySource;
@@ -29,8 +29,3 @@ pub use sink::{Sink, write_all};
 pub use source::Source;
 pub use standard::{StdSink, StdSource};
 pub use types::{Failed, NoMemory, Partly};
-
-#[cfg(test)]
-mod disk_tests;
-#[cfg(test)]
-mod tests;

@@ -4,7 +4,7 @@ ghost use Rattle.disk_core.specs.DiskLog.{read_after, kept_after, content};
 
 use crate::disk::Disk;
 use crate::disk_call::DiskCall;
-use crate::disk_types::Keep;
+use crate::disk_types::{DISK_END, Keep};
 use crate::overwrite::overwrite;
 use crate::source::fill_front;
 use crate::types::{Failed, NoMemory};
@@ -12,9 +12,9 @@ use device_facts::counted_once_more;
 use std::alloc::Global;
 use std::marker::Model;
 
-/// A disk in memory, of which the calls with the numbers in a list fail, counted from 1. A growth that memory
-/// refuses is a failed call too. It remembers its calls, and so tells what a crash after each of them may leave.
-/// A write that fails has written its bytes nevertheless.
+/// A disk in memory, of which the calls with the numbers in a list fail, counted from 1. A growth
+/// that memory refuses is a failed call too. It remembers its calls, and so tells what a crash
+/// after each of them may leave. A write that fails has written its bytes nevertheless.
 #[derive(Drop)]
 pub struct MemoryDisk {
     alloc: Global,
@@ -33,7 +33,13 @@ impl Model for MemoryDisk {
 
     ghost Value = { DiskLog };
 
-    ghost view = { λ d. record { first = d.first.items; calls = d.calls.items; fails = d.fails.items; faults = d.faults; asked = d.asked } };
+    ghost view = { λ d. record {
+      first = d.first.items;
+      calls = d.calls.items;
+      fails = d.fails.items;
+      faults = d.faults;
+      asked = d.asked;
+    } };
 
     ghost invariant = { λ d. content d.first.items d.written ≡ read_after d.calls.items d.first.items };
 }
@@ -42,9 +48,16 @@ impl MemoryDisk {
     ghost use Rattle.std.specs.Prelude.{◌≡◌, ◌≤◌, [], length, take, IfOk};
     ghost use Rattle.disk_core.specs.DiskLog.{DiskLog, stored, IsImage, kept_after};
 
-    /// A disk of these bytes, all of them stable; its calls with these numbers will fail, and none has failed yet.
+    /// A disk of these bytes, all of them stable; its calls with these numbers will fail, and none
+    /// has failed yet.
     pub fn new(alloc: Global, bytes: Vec<u8>, fails: Vec<u32>) -> Self
-        ensures { result ≡ record { first = bytes.items; calls = []; fails = fails.items; faults = 0; asked = 0 } }
+        ensures { result ≡ record {
+          first = bytes.items;
+          calls = [];
+          fails = fails.items;
+          faults = 0;
+          asked = 0;
+        } }
     {
         MemoryDisk {
             alloc,
@@ -77,8 +90,10 @@ impl MemoryDisk {
     /// What a crash leaves after so many of the calls made: one of the disk's images then.
     pub fn crash(&self, after: u32, keep: Keep) -> Result<Vec<u8>, NoMemory>
         requires { after ≤ length self.now.calls }
-        ensures kept { IfOk result (λ bytes. bytes.items ≡ kept_after keep (take after self.now.calls) self.now.first self.now.first) }
-        ensures image { IfOk result (λ bytes. IsImage self.now.first (take after self.now.calls) bytes.items) }
+        ensures kept { IfOk result (λ bytes.
+            bytes.items ≡ kept_after keep (take after self.now.calls) self.now.first self.now.first) }
+        ensures image { IfOk result (λ bytes.
+            IsImage self.now.first (take after self.now.calls) bytes.items) }
     {
         let mut now = self.first.to_vec(self.alloc)?;
         let mut image = self.first.to_vec(self.alloc)?;
@@ -97,7 +112,8 @@ fn write_over(
     place: usize,
     bytes: &[u8],
 ) -> Result<(), NoMemory>
-    ensures ok { OnOk result (content first.now written.new ≡ overwritten (content first.now written.old) place bytes.now) }
+    ensures ok { OnOk result
+        (content first.now written.new ≡ overwritten (content first.now written.old) place bytes.now) }
     ensures err { OnErr result (content first.now written.new ≡ content first.now written.old) }
 {
     match written {
@@ -120,7 +136,8 @@ fn play(
     image: &mut Vec<u8>,
 ) -> Result<(), NoMemory>
     ensures now { OnOk result (now.new.items ≡ read_after (call.now ∷ []) now.old.items) }
-    ensures image { OnOk result (image.new.items ≡ kept_after keep (call.now ∷ []) now.old.items image.old.items) }
+    ensures image { OnOk result
+        (image.new.items ≡ kept_after keep (call.now ∷ []) now.old.items image.old.items) }
 {
     match call {
         DiskCall::Looked => {}
@@ -141,12 +158,13 @@ fn play(
 }
 
 impl MemoryDisk {
-    ghost use Rattle.std.specs.Prelude.{◌≡◌, ◌⊎◌, ◌+◌, ◌≤◌, ℕ, List, IsTrue, IsErr, OnOk, OnErr, length, [], ◌∷◌, ◌++◌, Vec};
+    ghost use Rattle.std.specs.Prelude.{◌≡◌, ◌⊎◌, ◌+◌, ◌≤◌, ℕ, List, OnOk, OnErr, length, [], ◌∷◌, ◌++◌, Vec};
     ghost use Rattle.std.specs.declared.alloc.Global.{Global};
-    ghost use Rattle.disk_core.specs.declared.disk_call.DiskCall.TheVariants.{Looked, Wrote, Synced};
+    ghost use Rattle.device_facts.specs.Count.{Counted, CountsFault, counted};
+    ghost use Rattle.disk_core.specs.declared.disk_call.DiskCall.TheVariants.{Looked, Wrote};
     ghost use Rattle.disk_core.specs.Disk.{AddsNoImage};
-    ghost use Rattle.disk_core.specs.DiskLog.{read_after, stored, IsImage, GoesOn, number_of_next, fails_next};
-    ghost use Rattle.device_facts.specs.Count.{Counted, CountsFault};
+    ghost use Rattle.disk_core.specs.DiskLog.{read_after, stored, IsImage, GoesOn, fails_next, faulted, Makes};
+    ghost use Rattle.disk_core.specs.Streams.{next_call};
 
     // Tells whether the next call is to fail.
     fn is_listed(&self) -> bool
@@ -157,18 +175,25 @@ impl MemoryDisk {
     }
 
     fn number_of_next(&self) -> u32
-        ensures { result ≡ number_of_next (length self.now.calls) }
+        ensures { result ≡ next_call (length self.now.calls) }
     {
         (self.calls.len() + 1).min(u32::MAX as usize) as u32
     }
 
     // Counts a fault.
     fn fault(&mut self) -> Failed
-        ensures counted { Counted self.old.faults self.new.faults 1 }
-        ensures rest { self.new ≡ record self.old { faults = self.new.faults } }
+        ensures { self.new ≡ faulted self.old }
     {
         self.faults = counted_once_more(self.faults);
         Failed
+    }
+
+    // Adds up the lengths of the buffers.
+    fn ask(&mut self, count: usize)
+        ensures asked { self.new ≡ record self.old { asked = counted self.old.asked count } }
+        ensures more { self.old.asked ≤ self.new.asked }
+    {
+        self.asked = self.asked.saturating_add(count as u64);
     }
 
     // Remembers a call that writes nothing.
@@ -176,7 +201,6 @@ impl MemoryDisk {
         requires { (bytes : List ℕ) → read_after (call ∷ []) bytes ≡ bytes }
         ensures ok { OnOk result (self.new ≡ record self.old { calls = self.old.calls ++ call ∷ [] }) }
         ensures err { OnErr result (self.new ≡ self.old) }
-        ensures either { (self.new ≡ self.old) ⊎ (self.new ≡ record self.old { calls = self.old.calls ++ call ∷ [] }) }
     {
         self.calls.push(call)?;
         Ok(())
@@ -186,8 +210,7 @@ impl MemoryDisk {
     fn store(&mut self, place: u64, bytes: &[u8]) -> Result<(), NoMemory>
         ensures ok { OnOk result ((kept : Vec ℕ Global) × (kept.items ≡ bytes.now)
             × (self.new ≡ record self.old { calls = self.old.calls ++ Wrote place kept ∷ [] })) }
-        ensures either { (self.new ≡ self.old) ⊎ ((kept : Vec ℕ Global) × (kept.items ≡ bytes.now)
-            × (self.new ≡ record self.old { calls = self.old.calls ++ Wrote place kept ∷ [] })) }
+        ensures err { OnErr result (self.new ≡ self.old) }
     {
         let kept = Vec::from_slice(self.alloc, bytes)?;
         self.calls.reserve(1)?;
@@ -204,49 +227,29 @@ impl MemoryDisk {
         Ok(())
     }
 
-    // Makes a call that fails and writes nothing.
-    fn fail(&mut self) -> Failed
-        ensures stored { stored self.new ≡ stored self.old }
-        ensures images { AddsNoImage (IsImage self.old.first self.old.calls) (IsImage self.new.first self.new.calls) }
-        ensures time { GoesOn self.old self.new }
-        ensures cause { Counted self.old.faults self.new.faults 1 }
-        ensures asked { self.new.asked ≡ self.old.asked }
-    {
-        let _ = self.remember(DiskCall::Looked);
-        self.fault()
-    }
-
-    // Makes a call that writes nothing.
-    fn look(&mut self) -> Result<(), Failed>
-        ensures listed { IsTrue (fails_next self.old) → IsErr result }
-        ensures stored { stored self.new ≡ stored self.old }
-        ensures images { AddsNoImage (IsImage self.old.first self.old.calls) (IsImage self.new.first self.new.calls) }
-        ensures time { GoesOn self.old self.new }
-        ensures cause { CountsFault self.old.faults self.new.faults result }
-        ensures asked { self.new.asked ≡ self.old.asked }
+    // Makes a call that writes nothing: it is remembered as this one, or as one that did nothing
+    // where it fails.
+    fn make(&mut self, call: DiskCall) -> Result<(), Failed>
+        requires { (bytes : List ℕ) → read_after (call ∷ []) bytes ≡ bytes }
+        ensures { Makes (λ done. done ≡ call) (λ failed. failed ≡ Looked) result self.old self.new }
     {
         if self.is_listed() {
-            return Err(self.fail());
+            let _ = self.remember(DiskCall::Looked);
+            return Err(self.fault());
         }
-        if self.remember(DiskCall::Looked).is_err() {
+        if self.remember(call).is_err() {
             return Err(self.fault());
         }
         Ok(())
     }
-
-    // Adds up the lengths of the buffers.
-    fn ask(&mut self, count: usize)
-        ensures more { self.old.asked ≤ self.new.asked }
-        ensures most { self.new.asked ≤ self.old.asked + count }
-        ensures rest { self.new ≡ record self.old { asked = self.new.asked } }
-    {
-        self.asked = self.asked.saturating_add(count as u64);
-    }
 }
 
 impl Disk for MemoryDisk {
-    ghost use Rattle.std.specs.Prelude.{Some, length};
-    ghost use Rattle.disk_core.specs.DiskLog.{stored, IsImage, WasImage};
+    ghost use Rattle.std.specs.Prelude.{◌≡◌, ◌+◌, ◌-◌, ◌<◌, ◌≤◌, min, Some, IfOk, OnOk, length, take, drop};
+    ghost use Rattle.device_facts.specs.Count.{CountsFault, counted};
+    ghost use Rattle.disk_core.specs.declared.disk_call.DiskCall.TheVariants.{Looked, Synced};
+    ghost use Rattle.disk_core.specs.Disk.{Only, AddsNoImage, Writes};
+    ghost use Rattle.disk_core.specs.DiskLog.{stored, IsImage, WasImage, GoesOn, IsWrite, Makes};
     ghost use Rattle.disk_core.specs.DiskLaws.{told_image, image_counts, image_only};
 
     ghost reads = { λ d. Some (stored d) };
@@ -267,20 +270,36 @@ impl Disk for MemoryDisk {
 
     ghost only_now = { λ d c was. image_only d.first d.calls c was };
 
-    fn len(&mut self) -> Result<u64, Failed> {
-        self.look()?;
+    fn len(&mut self) -> Result<u64, Failed>
+        ensures length { IfOk result (λ count. count ≡ length (stored self.old)) }
+        ensures made { Makes (λ done. done ≡ Looked) (λ failed. failed ≡ Looked) result
+            self.old self.new }
+    {
+        self.make(DiskCall::Looked)?;
         Ok(self.bytes().len() as u64)
     }
 
-    fn read_at(&mut self, place: u64, into: &mut [u8]) -> Result<usize, Failed> {
+    fn read_at(&mut self, place: u64, into: &mut [u8]) -> Result<usize, Failed>
+        ensures count { IfOk result (λ count.
+            count ≡ min (length into.new) (length (stored self.old) - place)) }
+        ensures bytes { IfOk result (λ count.
+            take count into.new ≡ take count (drop place (stored self.old))) }
+        ensures made { Makes (λ done. done ≡ Looked) (λ failed. failed ≡ Looked) result
+            (record self.old { asked = counted self.old.asked (length into.new) }) self.new }
+        ensures asked_more { self.old.asked ≤ self.new.asked }
+    {
         self.ask(into.len());
-        self.look()?;
+        self.make(DiskCall::Looked)?;
         let bytes = self.bytes();
         let start = (place as usize).min(bytes.len());
         Ok(fill_front(into, &bytes[start..]))
     }
 
-    fn write_at(&mut self, place: u64, bytes: &[u8]) -> Result<(), Failed> {
+    fn write_at(&mut self, place: u64, bytes: &[u8]) -> Result<(), Failed>
+        requires within { place ≤ length (stored self.old) }
+        requires end { place + length bytes.now < DISK_END }
+        ensures made { Makes (IsWrite place bytes.now) (IsWrite place bytes.now) result self.old self.new }
+    {
         let listed = self.is_listed();
         if self.store(place, bytes).is_err() || listed {
             return Err(self.fault());
@@ -288,13 +307,10 @@ impl Disk for MemoryDisk {
         Ok(())
     }
 
-    fn sync(&mut self) -> Result<(), Failed> {
-        if self.is_listed() {
-            return Err(self.fail());
-        }
-        if self.remember(DiskCall::Synced).is_err() {
-            return Err(self.fault());
-        }
-        Ok(())
+    fn sync(&mut self) -> Result<(), Failed>
+        ensures made { Makes (λ done. done ≡ Synced) (λ failed. failed ≡ Looked) result
+            self.old self.new }
+    {
+        self.make(DiskCall::Synced)
     }
 }

@@ -3,7 +3,8 @@ ghost use Rattle.disk_core.specs.Disk.{overwritten};
 
 use crate::types::NoMemory;
 
-/// Writes bytes over those of a vector from a place on, and past its end. After NoMemory it is as before.
+/// Writes bytes over those of a vector from a place on, and past its end. After NoMemory it is as
+/// before.
 pub(crate) fn overwrite(to: &mut Vec<u8>, place: usize, bytes: &[u8]) -> Result<(), NoMemory>
     ensures ok { OnOk result (to.new.items ≡ overwritten to.old.items place bytes.now) }
     ensures err { OnErr result (to.new.items ≡ to.old.items) }

@@ -1,4 +1,4 @@
-ghost use Rattle.std.specs.Prelude.{◌≡◌, ◌+◌, ◌<◌, ◌≤◌, ◌^◌, List, ℕ, [], length, Option, MatchResult};
+ghost use Rattle.std.specs.Prelude.{◌≡◌, ◌+◌, ◌<◌, ◌≤◌, ◌^◌, List, ℕ, [], length, false, Option, MatchResult, OnOk};
 ghost use Rattle.std.specs.Io.KnownBytes.{Consumes};
 ghost use Rattle.book_words.specs.Answers.{IsLegal};
 ghost use Rattle.book_words.specs.Balance.{IsBalanced, EachMoves};
@@ -48,6 +48,7 @@ fn take_piece<S: Source, K: Sink>(
     input: &mut S,
     output: &mut K,
 ) -> Result<(), Stop>
+    requires open { S.ended input.old ≡ false }
     requires some { 0 < length buffer.old }
     requires small { length buffer.old ≤ PIECE }
     requires room { run.old.lines + length buffer.old < 2 ^ 63 }
@@ -56,6 +57,7 @@ fn take_piece<S: Source, K: Sink>(
         → MatchResult result
         (λ _. WentOn book before (streams (S.left input.new) (S.faults input.new) (K.held output.new) (K.faults output.new)) taken run.new)
         (Explains book before (streams (S.left input.new) (S.faults input.new) (K.held output.new) (K.faults output.new)) run.new.book.entries) }
+    ensures open { OnOk result (S.ended input.new ≡ false) }
     ensures most { run.new.lines ≤ run.old.lines + length buffer.old }
 {
     match input.read(buffer) {
@@ -75,6 +77,7 @@ fn read_all<S: Source, K: Sink>(
     input: &mut S,
     output: &mut K,
 ) -> Stop
+    requires open { S.ended input.old ≡ false }
     requires some { 0 < length buffer.old }
     requires small { length buffer.old ≤ PIECE }
     requires lines { run.old.lines ≡ 0 }
@@ -105,6 +108,7 @@ fn out_of_memory<K: Sink>(alloc: Global, output: &mut K) -> Ended
 
 /// A run of a script over a new book. All memory but that of the book's entries is taken before the first read.
 pub fn run<S: Source, K: Sink>(alloc: Global, input: &mut S, output: &mut K) -> Ended
+    requires { S.ended input.old ≡ false }
     ensures explained { Explains new_book (streams (S.left input.old) (S.faults input.old) (K.held output.old) (K.faults output.old))
         (streams (S.left input.new) (S.faults input.new) (K.held output.new) (K.faults output.new)) result.rows result.stop }
     ensures legal { IsLegal result.rows }

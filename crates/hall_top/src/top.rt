@@ -27,12 +27,16 @@ use std::alloc::Global;
 /// reads each gave a byte and no end was seen. Where several hold it is the smallest, but 7 comes last. The last line
 /// at 2, 3, 4 and 7 is `usage: hall COMMAND [OPTIONS]`, `bad line N`, `read fault` and `no memory`; at 5 and 12 there
 /// is none. At 3, 4, 5, 7 and 12 what was accepted stands in the rows.
+///
+/// The end of the input wasn't given before; nothing is read after it.
 pub fn hall<S: Source, K: Sink>(
     alloc: Global,
     words: &[String],
     input: &mut S,
     output: &mut K,
 ) -> Told
+    requires { S.ended input.old ≡ false }
+
     ensures status { IsTrue (is_status result.status) }
 
     // Wrong words, and nothing else, give 2: nothing was read, one line went out, and there are no rows.

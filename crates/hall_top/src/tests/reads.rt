@@ -13,26 +13,33 @@ struct Lines {
     reads: u32,
     place: u8,
     room: usize,
+    ended: bool,
 }
 
 impl Source for Lines {
     ghost use Rattle.std.specs.Prelude.{None};
+    ghost use Rattle.device_facts.specs.Frame.{NothingElse, nothing_else};
 
     ghost left = { λ _. None };
 
+    ghost ended = { λ s. s.ended };
+
     ghost faults = { λ _. 0 };
+
+    ghost keeps_rest = { NothingElse };
+
+    ghost frame = { nothing_else };
 
     fn read(&mut self, into: &mut [u8]) -> Result<usize, Failed> {
         self.room = into.len();
-        if self.reads == 0 {
-            return Ok(0);
-        }
-        self.reads -= 1;
-        let count = self.piece.min(into.len());
+        let piece = if self.reads == 0 { 0 } else { self.piece };
+        let count = piece.min(into.len());
+        self.reads = self.reads.saturating_sub(1);
         for i in 0..count {
             self.place = self.place.wrapping_add(1) % 8;
             into[i] = if self.place == 0 { b'\n' } else { self.byte };
         }
+        self.ended = count == 0 && !into.is_empty();
         Ok(count)
     }
 }
@@ -45,10 +52,15 @@ struct Nowhere {
 
 impl Sink for Nowhere {
     ghost use Rattle.std.specs.Prelude.{None};
+    ghost use Rattle.device_facts.specs.Frame.{NothingElse, nothing_else};
 
     ghost held = { λ _. None };
 
     ghost faults = { λ _. 0 };
+
+    ghost keeps_rest = { NothingElse };
+
+    ghost frame = { nothing_else };
 
     fn write(&mut self, bytes: &[u8]) -> Result<usize, Failed> {
         self.bytes = self.bytes.saturating_add(bytes.len() as u64);
@@ -72,6 +84,7 @@ fn spent_are_the_reads_and_not_the_bytes(rt: HostRuntime) -> Result<(), Fail> {
             reads,
             place: 0,
             room: 0,
+            ended: false,
         };
         let mut sink = Nowhere { bytes: 0 };
         let told = hall(alloc, &words, &mut source, &mut sink);

@@ -12,4 +12,5 @@ loop-done-preserved g c =
       written = rw taken_further at (Appends-trans _ _ _ _ _ before.written now.bytes);
       tells = now.tells ∙ before.tells;
       kept = now.cause ∙ before.kept;
+      rest = g.met.K.Sink.frame.both _ _ _ before.rest now.rest;
     }

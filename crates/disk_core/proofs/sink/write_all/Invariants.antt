@@ -12,6 +12,7 @@ invariant-loop-done g l =
       written : Appends (sink.held l.fn.sink) (sink.held l.sink) (take l.done l.bytes);
       tells : TellsAsBefore (sink.held l.fn.sink) (sink.held l.sink);
       kept : sink.faults l.sink ≡ sink.faults l.fn.sink;
+      rest : sink.keeps_rest l.fn.sink l.sink;
     }
 
 abbrev pub decreases-loop-done : goal.decreases-loop-done

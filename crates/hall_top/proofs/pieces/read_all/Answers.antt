@@ -33,6 +33,7 @@ loop-turn-preserved g c =
         reached = on.reached;
       };
       most = omega (arith, c.take_piece.ensures.most, c.loop-turn.invariant.most, c.loop-turn.invariant.room);
+      open_input = c.in_default.ensures.open;
       room = omega arith;
     }
 

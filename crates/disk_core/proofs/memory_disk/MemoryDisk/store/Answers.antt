@@ -1,4 +1,4 @@
-use Rattle.std.proofs.Common.{◌≡◌, sym, ◌∙◌, ap, inr, ℕ, List, [], ◌∷◌, ◌++◌}
+use Rattle.std.proofs.Common.{◌≡◌, sym, ◌∙◌, ap, ℕ, List, [], ◌∷◌, ◌++◌}
 use Rattle.disk_core.specs.Disk.{overwritten}
 use Rattle.disk_core.specs.DiskLog.{DiskLog, read_after, content}
 use Rattle.disk_core.specs.declared.disk_call.DiskCall.{DiskCall}
@@ -28,6 +28,3 @@ returns-clause-ok c =
     let pushed : c.push.new.self.items ≡ calls ++ call ∷ [] = (rw c.unwrap.ensures at c.push.ensures.items) ∙ ap (λ (l : List DiskCall). l ++ call ∷ []) c.in_ok-reserve.ensures.items in
     let view : DiskLog = record { first = c.self.inside.first.items; calls = calls; fails = c.self.inside.fails.items; faults = c.self.inside.faults; asked = c.self.inside.asked } in
     (kept, c.in_ok-kept.ensures.items, ap (λ (l : List DiskCall). record view { calls = l }) pushed ∙ ap (λ (v : DiskLog). record v { calls = v.calls ++ call ∷ [] }) c.self.view_is)
-
-pub returns-clause-either : goal.returns-clause-either
-returns-clause-either c = inr (returns-clause-ok c)

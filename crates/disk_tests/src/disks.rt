@@ -1,4 +1,4 @@
-use super::*;
+use disk_core::{DISK_END, Disk, Failed, Keep, MemoryDisk, NoMemory, QuietDisk};
 use std::test::Fail;
 
 // Writes where there is a byte or the end.
@@ -26,7 +26,8 @@ fn a_crash_leaves_what_was_stable_and_any_bytes_where_something_was_written(
     assert_eq!(rt; disk.len(), Ok(5));
     assert_eq!(rt; disk.sync(), Err(Failed));
     assert_eq!(rt; disk.calls_made(), 5);
-    let images: [(u32, Keep, &[u8]); 8] = [
+    assert_eq!(rt; disk.sync(), Ok(()));
+    let images: [(u32, Keep, &[u8]); 9] = [
         (0, Keep::Written, b"abc"),
         (1, Keep::Earlier, b"abc"),
         (1, Keep::Fill(7), &[97, 7, 7]),
@@ -35,16 +36,12 @@ fn a_crash_leaves_what_was_stable_and_any_bytes_where_something_was_written(
         (3, Keep::Written, b"axpqr"),
         (3, Keep::Fill(0), &[97, 120, 0, 0, 0]),
         (5, Keep::Earlier, b"axy"),
+        (6, Keep::Earlier, b"axpqr"),
     ];
     for (after, keep, bytes) in images {
         let left = image(&disk, after, keep)?;
         assert_eq!(rt; left.as_slice(), bytes);
     }
-    assert_eq!(rt; disk.sync(), Ok(()));
-    assert_eq!(rt;
-        image(&disk, 6, Keep::Earlier)?.as_slice(),
-        b"axpqr".as_slice()
-    );
     Ok(())
 }
 
@@ -68,5 +65,7 @@ fn disks_read_what_is_there(rt: HostRuntime) -> Result<(), Fail> {
     assert_eq!(rt; memory.bytes(), b"abcde".as_slice());
     assert_eq!(rt; quiet.len(), Ok(4));
     assert_eq!(rt; quiet.sync(), Ok(()));
+    assert_eq!(rt; quiet.bytes(), b"abcd".as_slice());
+    assert_eq!(rt; DISK_END, 1_099_511_627_776);
     Ok(())
 }
