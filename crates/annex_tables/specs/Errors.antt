@@ -1,10 +1,11 @@
 -- Annex I: the tolerable negative error of a nominal quantity, and the two limits below it. All masses are milligrams.
 use Rattle.std.specs.Prelude.{ℕ, ℤ, pos, negsuc, ◌+◌, ◌*◌, ◌/◌, ◌-ℤ◌, ◌*ℤ◌, ◌≤ℤ◌, if◌then◌else◌, nat_le}
+use Rattle.hall_limits.specs.declared.TheConstants.{MIN_NOMINAL, MAX_NOMINAL}
 use Rattle.annex_tables.specs.declared.types.Limits.{Limits}
 
 -- a nominal quantity that the tables know: 5 g to 10 kg
 abbrev pub IsNominal : ℤ → Type 0
-IsNominal nominal = (pos 5000 ≤ℤ nominal) × (nominal ≤ℤ pos 10000000)
+IsNominal nominal = (MIN_NOMINAL ≤ℤ nominal) × (nominal ≤ℤ MAX_NOMINAL)
 
 -- so many thousandths of a quantity, rounded up to the next 100 mg
 abbrev pub thousandths_of : ℕ → ℕ → ℕ

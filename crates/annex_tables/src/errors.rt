@@ -1,27 +1,22 @@
-ghost use Rattle.std.specs.Prelude.{◌≡◌, ◌↔◌, ◌≤◌, ◌*◌, IfOk, IsOk, pos};
+ghost use Rattle.std.specs.Prelude.{◌≡◌, ◌↔◌, ◌≤◌, ◌*◌, IfOk, IsOk, pos, unsigned_abs};
 ghost use Rattle.annex_tables.specs.Errors.{IsNominal, thousandths_of, error_of, tolerable_error, limits_of};
 
 use crate::types::{Limits, NominalRange};
-
-/// The least nominal quantity of the tables, in mg: 5 g.
-const LEAST_NOMINAL: i64 = 5_000;
-
-/// The greatest nominal quantity of the tables, in mg: 10 kg.
-const GREATEST_NOMINAL: i64 = 10_000_000;
+use hall_limits::{MAX_NOMINAL, MIN_NOMINAL};
 
 /// So many thousandths of a quantity in mg, rounded up to the next 100 mg.
 fn thousandths(part: u64, quantity: u64) -> u64
     requires small { part ≤ 90 }
-    requires in_range { quantity ≤ 10000000 }
+    requires in_range { quantity ≤ unsigned_abs MAX_NOMINAL }
     ensures { result ≡ thousandths_of part quantity }
 {
     (part * quantity).div_ceil(100_000) * 100
 }
 
 fn error_in_row(quantity: u64) -> u64
-    requires { quantity ≤ 10000000 }
+    requires { quantity ≤ unsigned_abs MAX_NOMINAL }
     ensures value { result ≡ error_of quantity }
-    ensures within { 5000 ≤ quantity → 2 * result ≤ quantity }
+    ensures within { unsigned_abs MIN_NOMINAL ≤ quantity → 2 * result ≤ quantity }
 {
     match quantity {
         0..=50_000 => thousandths(90, quantity),
@@ -36,8 +31,8 @@ fn error_in_row(quantity: u64) -> u64
 
 /// The limits of a nominal quantity in mg that the tables know.
 fn limits_in_row(quantity: u64) -> Limits
-    requires least { 5000 ≤ quantity }
-    requires greatest { quantity ≤ 10000000 }
+    requires least { unsigned_abs MIN_NOMINAL ≤ quantity }
+    requires greatest { quantity ≤ unsigned_abs MAX_NOMINAL }
     ensures { result ≡ limits_of (pos quantity) }
 {
     let tne = error_in_row(quantity);
@@ -51,11 +46,11 @@ fn limits_in_row(quantity: u64) -> Limits
 /// The nominal quantity, where the tables know it.
 fn known(nominal: i64) -> Result<u64, NominalRange>
     ensures value { IfOk result (λ quantity. nominal ≡ pos quantity) }
-    ensures least { IfOk result (λ quantity. 5000 ≤ quantity) }
-    ensures greatest { IfOk result (λ quantity. quantity ≤ 10000000) }
+    ensures least { IfOk result (λ quantity. unsigned_abs MIN_NOMINAL ≤ quantity) }
+    ensures greatest { IfOk result (λ quantity. quantity ≤ unsigned_abs MAX_NOMINAL) }
     ensures in_range { IsOk result ↔ IsNominal nominal }
 {
-    if nominal < LEAST_NOMINAL || nominal > GREATEST_NOMINAL {
+    if nominal < MIN_NOMINAL || nominal > MAX_NOMINAL {
         return Err(NominalRange);
     }
     Ok(nominal as u64)

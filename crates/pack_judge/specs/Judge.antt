@@ -1,15 +1,12 @@
 -- What a net is by the two limits, and the signal that a pack gets. All masses are milligrams.
 use Rattle.std.specs.Prelude.{ℕ, ℤ, ◌*◌, Bool, if◌then◌else◌, nat_lt, ◌==◌, ◌&&◌, int_lt}
+use Rattle.hall_limits.specs.declared.TheConstants.{MAX_POPULATION}
 use Rattle.annex_tables.specs.declared.types.Limits.{Limits}
 use Rattle.pack_judge.specs.declared.types.Class.{Class}
 use Rattle.pack_judge.specs.declared.types.Class.TheVariants as class
 use Rattle.pack_judge.specs.declared.types.Cause.TheVariants as cause
 use Rattle.pack_judge.specs.declared.types.Signal.{Signal}
 use Rattle.pack_judge.specs.declared.types.Signal.TheVariants.{Pass, Reject}
-
--- the most packs that a population may have
-abbrev pub greatest_population : ℕ
-greatest_population = 10000
 
 -- inadequate below two errors under the nominal quantity, non-standard below one, else standard
 abbrev pub class_of : ℤ → Limits → Class
@@ -21,7 +18,7 @@ class_of net limits =
 abbrev pub signal_of : ℤ → Limits → Bool → ℕ → ℕ → Signal
 signal_of net limits held population nonstandard =
     if held then Reject cause.Held else
-    (if population == greatest_population then Reject cause.Full else
+    (if population == MAX_POPULATION then Reject cause.Full else
     (if int_lt net limits.t2 then Reject cause.Inadequate else
     (if (int_lt net limits.t1 && nat_lt population (40 * nonstandard)) then Reject cause.Allowance else
     Pass)))

@@ -1,8 +1,9 @@
 ghost use Rattle.std.specs.Prelude.{◌≡◌, ◌≤◌};
 ghost use Rattle.pack_judge.specs.Judge.{class_of, signal_of};
 
-use crate::types::{Cause, Class, GREATEST_POPULATION, Signal};
+use crate::types::{Cause, Class, Signal};
 use annex_tables::Limits;
+use hall_limits::MAX_POPULATION;
 
 /// The class of a net in mg (Annex I). Equality with a limit is not below it; a net may be negative.
 pub fn class(net: i64, limits: &Limits) -> Class
@@ -17,19 +18,19 @@ pub fn class(net: i64, limits: &Limits) -> Class
     }
 }
 
-/// The signal of a new net in mg, in a batch with `n` packs in its population (at most `GREATEST_POPULATION`),
+/// The signal of a new net in mg, in a batch with `n` packs in its population (at most `MAX_POPULATION`),
 /// `nonstandard` of them (at most `n`) with a net below `t1`, inadequate ones among them; `held` says that some are
 /// inadequate. The first cause that holds is given. That non-standard packs are let through while they are at most
 /// one in forty is this project's own rule for packers; the two limits are those of Annex I.
 pub fn signal(net: i64, limits: &Limits, held: bool, n: u32, nonstandard: u32) -> Signal
     requires counted { nonstandard ≤ n }
-    requires limited { n ≤ GREATEST_POPULATION }
+    requires limited { n ≤ MAX_POPULATION }
     ensures { result ≡ signal_of net limits.now held n nonstandard }
 {
     if held {
         return Signal::Reject(Cause::Held);
     }
-    if n == GREATEST_POPULATION {
+    if n == MAX_POPULATION {
         return Signal::Reject(Cause::Full);
     }
     match class(net, limits) {

@@ -5,7 +5,7 @@ mod judge;
 mod types;
 
 pub use judge::{class, signal};
-pub use types::{Cause, Class, GREATEST_POPULATION, Pile, Signal, Tally};
+pub use types::{Cause, Class, Pile, Signal, Tally};
 
 #[cfg(test)]
 mod tests;

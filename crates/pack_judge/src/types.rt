@@ -1,6 +1,3 @@
-/// The most packs that the population of a batch may have: this project's own limit, on every batch.
-pub const GREATEST_POPULATION: u32 = 10_000;
-
 /// What a net is by the two limits of its nominal quantity (Annex I).
 #[derive(Clone, Copy, Debug, PartialEq, Eq, Hash)]
 pub enum Class {
