@@ -1,3 +1,4 @@
 pub mod Number
 pub mod Grams
 pub mod Days
+pub mod Printing

@@ -3,9 +3,11 @@ ghost use Rattle.std.specs.Result.{result_ok};
 ghost use Rattle.hall_units.specs.Number.{bounded_number};
 ghost use Rattle.jiff_core.specs.Calendar.{days_from_civil};
 ghost use Rattle.jiff_core.specs.Date.{epoch_day};
+ghost use Rattle.hall_units.specs.Printing.{Prints};
 ghost use Rattle.hall_units.specs.Days.{day_of, day_number, day_text, is_date_form, is_day, IsDay, IsWrittenByJiff};
 
 use crate::number::read_bounded;
+use crate::push::push_bytes;
 use crate::types::{DayText, NoMemory};
 use jiff::civil::Date;
 use jiff::fmt::temporal::DateTimePrinter;
@@ -69,17 +71,12 @@ fn number_of_date(year: u64, month: u64, day: u64) -> Option<i32>
 /// With room for `MAX_DAY_TEXT` bytes it takes no memory. A refusal changes nothing.
 pub fn print_day(day: i32, to: &mut Vec<u8>) -> Result<(), NoMemory>
     requires { IsDay day }
-    ensures text { OnOk result (to.new.items ≡ to.old.items ++ day_text day) }
+    ensures prints { Prints to.old to.new result (day_text day) MAX_DAY_TEXT }
     ensures read_back { day_of (day_text day) ≡ Some day }
     ensures calendar { IsWrittenByJiff day }
-    ensures err { OnErr result (to.new.items ≡ to.old.items) }
-    ensures room { vec_len to.old + MAX_DAY_TEXT ≤ vec_capacity to.old → IsOk result }
-    ensures capacity { vec_capacity to.old ≤ vec_capacity to.new }
-    ensures longest { OnOk result (vec_len to.new ≤ vec_len to.old + MAX_DAY_TEXT) }
 {
     let text = DateTimePrinter::new().date_text(date_of(day));
-    to.extend_from_slice(text.as_bytes())?;
-    Ok(())
+    push_bytes(to, text.as_bytes())
 }
 
 // The date of a day.

@@ -1,21 +1,32 @@
-ghost use Rattle.std.specs.Prelude.{◌≡◌, ◌+◌, ◌≤◌, ◌++◌, OnOk, OnErr, IsOk, decimal, vec_len, vec_capacity};
+ghost use Rattle.std.specs.Prelude.{decimal};
+ghost use Rattle.hall_units.specs.Printing.{Prints};
 
+use crate::push::push_bytes;
+use crate::types::NoMemory;
 use itoa::Buffer;
-use std::alloc::AllocError;
 
 /// No decimal text of a number of 128 bits has more bytes.
 pub const MAX_DECIMAL: usize = 40;
 
+/// No decimal text of a number of 32 bits has more bytes.
+pub const MAX_COUNT: usize = 10;
+
 /// Appends the decimal digits of a number. With room for `MAX_DECIMAL` bytes it takes no memory; a refusal leaves
 /// the bytes as they were.
-pub fn push_decimal(to: &mut Vec<u8>, number: u128) -> Result<(), AllocError>
-    ensures text { OnOk result (to.new.items ≡ to.old.items ++ decimal number) }
-    ensures refused { OnErr result (to.new.items ≡ to.old.items) }
-    ensures room { vec_len to.old + MAX_DECIMAL ≤ vec_capacity to.old → IsOk result }
-    ensures capacity { vec_capacity to.old ≤ vec_capacity to.new }
-    ensures longest { OnOk result (vec_len to.new ≤ vec_len to.old + MAX_DECIMAL) }
+pub fn push_decimal(to: &mut Vec<u8>, number: u128) -> Result<(), NoMemory>
+    ensures { Prints to.old to.new result (decimal number) MAX_DECIMAL }
 {
     let mut buffer = Buffer::new();
-    to.extend_from_slice(buffer.format(number).as_bytes())?;
+    push_bytes(to, buffer.format(number).as_bytes())?;
+    Ok(())
+}
+
+/// Appends the decimal digits of a count. With room for `MAX_COUNT` bytes it takes no memory; a refusal leaves the
+/// bytes as they were.
+pub fn push_count(to: &mut Vec<u8>, count: u32) -> Result<(), NoMemory>
+    ensures { Prints to.old to.new result (decimal count) MAX_COUNT }
+{
+    let mut buffer = Buffer::new();
+    push_bytes(to, buffer.format(count).as_bytes())?;
     Ok(())
 }

@@ -2,10 +2,12 @@ ghost use Rattle.std.specs.Prelude.{◌≡◌, ◌+◌, ◌≤◌, ◌^◌, ◌+
 ghost use Rattle.std.specs.List.{prefix_len};
 ghost use Rattle.std.specs.Result.{result_ok};
 ghost use Rattle.std.specs.Char.{is_ascii_digit};
+ghost use Rattle.hall_units.specs.Printing.{Prints};
 ghost use Rattle.hall_units.specs.Grams.{milligrams_of, mass_of, numeral_of, places_of, gram_text, sign_text, three_digits, IsReadMass, IsSpelledTo};
 
 use crate::decimal::{MAX_DECIMAL, push_decimal};
 use crate::number::read_bounded;
+use crate::push::{make_room, push_bytes};
 use crate::types::{GramText, NoMemory};
 
 /// The greatest number of digits before the point that is read.
@@ -105,13 +107,9 @@ fn spelled_length(text: &[u8], whole: usize) -> usize
 #[tactic(auto, unfolding(crate::specs::Grams::gram_text))]
 pub fn print_grams(mg: i64, to: &mut Vec<u8>) -> Result<(), NoMemory>
     requires { unsigned_abs mg ≤ 10 ^ 15 }
-    ensures text { OnOk result (to.new.items ≡ to.old.items ++ gram_text mg) }
-    ensures err { OnErr result (to.new.items ≡ to.old.items) }
-    ensures room { vec_len to.old + MAX_GRAM_TEXT ≤ vec_capacity to.old → IsOk result }
-    ensures capacity { vec_capacity to.old ≤ vec_capacity to.new }
-    ensures longest { OnOk result (vec_len to.new ≤ vec_len to.old + MAX_GRAM_TEXT) }
+    ensures { Prints to.old to.new result (gram_text mg) MAX_GRAM_TEXT }
 {
-    to.reserve(MAX_GRAM_TEXT)?;
+    make_room(to, MAX_GRAM_TEXT)?;
     push_sign(mg, to)?;
     let mass = mg.unsigned_abs();
     push_decimal(to, u128::from(mass / 1_000))?;
@@ -121,14 +119,10 @@ pub fn print_grams(mg: i64, to: &mut Vec<u8>) -> Result<(), NoMemory>
 
 // Appends a minus sign where the mass is negative.
 fn push_sign(mg: i64, to: &mut Vec<u8>) -> Result<(), NoMemory>
-    ensures text { OnOk result (to.new.items ≡ to.old.items ++ sign_text mg) }
-    ensures err { OnErr result (to.new.items ≡ to.old.items) }
-    ensures room { vec_len to.old + 1 ≤ vec_capacity to.old → IsOk result }
-    ensures capacity { vec_capacity to.old ≤ vec_capacity to.new }
-    ensures longest { OnOk result (vec_len to.new ≤ vec_len to.old + 1) }
+    ensures { Prints to.old to.new result (sign_text mg) 1 }
 {
     if mg < 0 {
-        to.push(b'-')?;
+        push_bytes(to, b"-")?;
     }
     Ok(())
 }
@@ -136,11 +130,7 @@ fn push_sign(mg: i64, to: &mut Vec<u8>) -> Result<(), NoMemory>
 // Appends a point and the milligrams in three digits.
 fn push_places(milligrams: u64, to: &mut Vec<u8>) -> Result<(), NoMemory>
     requires { milligrams < 1_000 }
-    ensures text { OnOk result (to.new.items ≡ to.old.items ++ 46 ∷ three_digits milligrams) }
-    ensures err { OnErr result (to.new.items ≡ to.old.items) }
-    ensures room { vec_len to.old + 4 ≤ vec_capacity to.old → IsOk result }
-    ensures capacity { vec_capacity to.old ≤ vec_capacity to.new }
-    ensures longest { OnOk result (vec_len to.new ≤ vec_len to.old + 4) }
+    ensures { Prints to.old to.new result (46 ∷ three_digits milligrams) 4 }
 {
     let places = [
         b'.',
@@ -148,7 +138,7 @@ fn push_places(milligrams: u64, to: &mut Vec<u8>) -> Result<(), NoMemory>
         digit(milligrams / 10 % 10),
         digit(milligrams % 10),
     ];
-    to.extend_from_slice(&places)?;
+    push_bytes(to, &places)?;
     Ok(())
 }
 
