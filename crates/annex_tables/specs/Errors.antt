@@ -1,4 +1,5 @@
--- Annex I: the tolerable negative error of a nominal quantity, and the two limits below it. All masses are milligrams.
+-- Annex I: the tolerable negative error of a nominal quantity, and the two limits below it. All
+-- masses are milligrams.
 use Rattle.std.specs.Prelude.{ℕ, ℤ, pos, negsuc, ◌+◌, ◌*◌, ◌/◌, ◌-ℤ◌, ◌*ℤ◌, ◌≤ℤ◌, if◌then◌else◌, nat_le}
 use Rattle.hall_limits.specs.declared.TheConstants.{MIN_NOMINAL, MAX_NOMINAL}
 use Rattle.annex_tables.specs.declared.types.Limits.{Limits}

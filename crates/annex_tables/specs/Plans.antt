@@ -6,7 +6,8 @@ use Rattle.annex_tables.specs.declared.types.Plan.{Plan}
 use Rattle.annex_tables.specs.declared.types.PlanRefusal.{PlanRefusal}
 use Rattle.annex_tables.specs.declared.types.PlanRefusal.TheVariants.{Empty, Small}
 
--- a batch under 100 packs: all are measured, at most one in forty may be defective, and the mean may not fall short
+-- a batch under 100 packs: all are measured, at most one in forty may be defective, and the mean
+-- may not fall short
 abbrev pub plan_of_all : ℕ → Plan
 plan_of_all n =
     record { first = n; c1 = n / 40; r1 = n / 40 + 1; second = 0; c2 = 0; r2 = 0; mean_n = n; k1000 = 0 }

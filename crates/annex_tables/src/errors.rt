@@ -56,9 +56,9 @@ fn known(nominal: i64) -> Result<u64, NominalRange>
     Ok(nominal as u64)
 }
 
-/// The tolerable negative error of a nominal quantity, both in mg, by the table of Annex I. An error that the
-/// table gives as a percentage is rounded up to the next 100 mg. `NominalRange` exactly outside 5 000 mg to
-/// 10 000 000 mg.
+/// The tolerable negative error of a nominal quantity, both in mg, by the table of Annex I. An
+/// error that the table gives as a percentage is rounded up to the next 100 mg. `NominalRange`
+/// exactly outside 5 000 mg to 10 000 000 mg.
 pub fn tne(nominal: i64) -> Result<i64, NominalRange>
     ensures value { IfOk result (λ error. error ≡ tolerable_error nominal) }
     ensures in_range { IsOk result ↔ IsNominal nominal }
@@ -67,8 +67,8 @@ pub fn tne(nominal: i64) -> Result<i64, NominalRange>
     Ok(error_in_row(quantity) as i64)
 }
 
-/// The limits of a nominal quantity in mg: one and two tolerable negative errors below it. `NominalRange` exactly
-/// outside 5 000 mg to 10 000 000 mg.
+/// The limits of a nominal quantity in mg: one and two tolerable negative errors below it.
+/// `NominalRange` exactly outside 5 000 mg to 10 000 000 mg.
 pub fn limits(nominal: i64) -> Result<Limits, NominalRange>
     ensures value { IfOk result (λ limits. limits ≡ limits_of nominal) }
     ensures in_range { IsOk result ↔ IsNominal nominal }

@@ -1,4 +1,5 @@
-//! The tables of Directive 76/211/EEC: tolerable negative errors and the limits that follow (Annex I), and the plans of the reference test (Annex II). All masses are whole milligrams.
+//! The tables of Directive 76/211/EEC: tolerable negative errors and the limits that follow (Annex
+//! I), and the plans of the reference test (Annex II). All masses are whole milligrams.
 #![tactic(auto)]
 
 mod errors;

@@ -70,8 +70,9 @@ fn all_measured(n: u32) -> Plan
 
 /// The plan of the reference test for a batch of `n` packs, by the tables of Annex II.
 ///
-/// For a batch under 100 packs, for which the annex gives no numbers, all packs are measured: at most one in forty
-/// may be defective, the mean has to reach the nominal quantity, and there is no destructive test.
+/// For a batch under 100 packs, for which the annex gives no numbers, all packs are measured: at
+/// most one in forty may be defective, the mean has to reach the nominal quantity, and there is no
+/// destructive test.
 pub fn plan(n: u32, mode: Mode) -> Result<Plan, PlanRefusal>
     ensures table { result ≡ plan_of n mode }
 
@@ -101,7 +102,8 @@ mod tests {
     use super::*;
     use std::test::Fail;
 
-    // Each row of the tables at its ends, as first, c1, r1, second, c2, r2, mean_n and k1000, from Annex II by hand.
+    // Each row of the tables at its ends, as first, c1, r1, second, c2, r2, mean_n and k1000, from
+    // Annex II by hand.
     const KEPT: [(u32, [u32; 8]); 14] = [
         (1, [1, 0, 1, 0, 0, 0, 1, 0]),
         (39, [39, 0, 1, 0, 0, 0, 39, 0]),

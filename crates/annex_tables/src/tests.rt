@@ -1,7 +1,8 @@
 use super::*;
 use std::test::Fail;
 
-// Each row of the table at its ends, worked out from Annex I by hand; 333 g and 1 234 g show the rounding up.
+// Each row of the table at its ends, worked out from Annex I by hand; 333 g and 1 234 g show the
+// rounding up.
 const ERRORS: [(i64, i64); 16] = [
     (5_000, 500),
     (50_000, 4_500),

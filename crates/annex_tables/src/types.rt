@@ -1,8 +1,8 @@
 use std::error::Error;
 use std::fmt;
 
-/// The limits of a nominal quantity, in mg. A net below `t1` is non-standard, a net below `t2` inadequate;
-/// equality with a limit is not below it.
+/// The limits of a nominal quantity, in mg. A net below `t1` is non-standard, a net below `t2`
+/// inadequate; equality with a limit is not below it.
 #[derive(Clone, Copy, Debug, PartialEq, Eq, Hash)]
 pub struct Limits {
     /// The nominal quantity less one tolerable negative error.
@@ -25,7 +25,8 @@ impl fmt::Display for NominalRange {
 
 impl Error for NominalRange {}
 
-/// Whether the packs that are measured are kept (the non-destructive test) or emptied (the destructive test).
+/// Whether the packs that are measured are kept (the non-destructive test) or emptied (the
+/// destructive test).
 #[derive(Clone, Copy, Debug, PartialEq, Eq, Hash)]
 pub enum Mode {
     /// The non-destructive test.
@@ -51,7 +52,8 @@ pub struct Plan {
     pub r2: u32,
     /// How many packs of the first sample the mean looks at, in drawing order.
     pub mean_n: u32,
-    /// How many thousandths of the standard deviation the mean may fall short by; 0 where it may not fall short.
+    /// How many thousandths of the standard deviation the mean may fall short by; 0 where it may
+    /// not fall short.
     pub k1000: u32,
 }
 

@@ -18,7 +18,8 @@ use std::marker::Model;
 
 /// The batch book: the list of accepted commands, and the most rows that it may have.
 ///
-/// Each answer is computed by a walk over the list. A contract sees beside the list what was made ready last.
+/// Each answer is computed by a walk over the list. A contract sees beside the list what was made
+/// ready last.
 #[derive(Drop)]
 pub struct Book {
     entries: Vec<Entry>,
@@ -52,11 +53,12 @@ impl Book {
         }
     }
 
-    /// Answers an ask of the caller `by`: an act is made ready and entered, or refused, and a question is looked up.
+    /// Answers an ask of the caller `by`: an act is made ready and entered, or refused, and a
+    /// question is looked up.
     ///
-    /// Desk and request are those of the hall's own commands, 0. Of several refusals that hold, the one with the
-    /// least number is answered, with the length of the list. Only where the ask would have added an entry may there
-    /// be no memory instead; the list then stays as it is.
+    /// Desk and request are those of the hall's own commands, 0. Of several refusals that hold, the
+    /// one with the least number is answered, with the length of the list. Only where the ask would
+    /// have added an entry may there be no memory instead; the list then stays as it is.
     pub fn ask(&mut self, by: u16, ask: &Ask) -> Result<Answered, BookError>
         requires desk { ask.now.desk ≡ 0 }
         requires request { ask.now.request ≡ 0 }
@@ -76,10 +78,12 @@ impl Book {
         }
     }
 
-    /// Makes an act ready: it is refused, or room is taken for it and its entry is made. The list stays as it is.
+    /// Makes an act ready: it is refused, or room is taken for it and its entry is made. The list
+    /// stays as it is.
     ///
-    /// Desk and request are those of the hall's own commands, 0. Of several refusals that hold, the one with the
-    /// least number is answered, with the length of the list. Want of memory is answered only for a lawful act.
+    /// Desk and request are those of the hall's own commands, 0. Of several refusals that hold, the
+    /// one with the least number is answered, with the length of the list. Want of memory is
+    /// answered only for a lawful act.
     pub fn ready(&mut self, by: u16, desk: u16, request: u32, act: &Act) -> Result<Step, BookError>
         requires desk { desk ≡ 0 }
         requires request { request ≡ 0 }
@@ -145,9 +149,11 @@ impl Book {
         }
     }
 
-    /// The number of the unsettled pack of a lane: it passed, and no weighing or stop of the lane came after it.
+    /// The number of the unsettled pack of a lane: it passed, and no weighing or stop of the lane
+    /// came after it.
     ///
-    /// Where a lane has one, its next weighing or stop has to say what the gate did, and else it may not.
+    /// Where a lane has one, its next weighing or stop has to say what the gate did, and else it
+    /// may not.
     pub fn unsettled(&self, lane: u8) -> Option<u32>
         ensures { result
             ≡ option_map (λ reading. reading.number) (unsettled_reading self.now.entries lane) }
@@ -162,8 +168,8 @@ impl Book {
         self.entries.len() as u32
     }
 
-    /// The rows: they are legal, their piles add up, each of them moves the packs only as it may, and each reading
-    /// has a tare and a nominal quantity.
+    /// The rows: they are legal, their piles add up, each of them moves the packs only as it may,
+    /// and each reading has a tare and a nominal quantity.
     pub fn rows(self) -> Rows
         ensures rows { result ≡ self.entries }
         ensures sound { IsSound result }

@@ -1,4 +1,5 @@
-//! The batch book: one list of accepted commands, from which every answer is computed. Masses are whole milligrams, days are counted from 1970-01-01.
+//! The batch book: one list of accepted commands, from which every answer is computed. Masses are
+//! whole milligrams, days are counted from 1970-01-01.
 #![tactic(auto)]
 
 mod book;

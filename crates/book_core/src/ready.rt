@@ -1,7 +1,8 @@
 use book_words::Entry;
 use std::marker::Model;
 
-/// A lawful act with its row: room for it is taken, and it can be entered until another act is made ready.
+/// A lawful act with its row: room for it is taken, and it can be entered until another act is made
+/// ready.
 #[derive(Debug, Drop)]
 pub struct Ready {
     row: u32,

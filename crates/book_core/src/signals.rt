@@ -55,7 +55,8 @@ fn net_in(entries: &[Entry], batch: &Name, gross: i64) -> i64
     gross - tare
 }
 
-// The signal of a gross in a batch, by the entries before the last one and by the piles that the last one leaves.
+// The signal of a gross in a batch, by the entries before the last one and by the piles that the
+// last one leaves.
 fn judge(whole: &[Entry], many: usize, batch: &Name, gross: i64) -> Signal
     requires inside { many ≤ length whole.now }
     requires few { length whole.now ≤ MAX_ROWS }
@@ -93,7 +94,8 @@ fn weigh(whole: &[Entry], many: usize, lane: u8, gross: i64) -> Option<Signal>
     Some(judge(whole, many, &batch, gross))
 }
 
-/// The signal that is recorded with an act, which stands last in the list, by the entries before it.
+/// The signal that is recorded with an act, which stands last in the list, by the entries before
+/// it.
 pub fn recorded_signal(whole: &[Entry], many: usize, act: &Act) -> Option<Signal>
     requires inside { many ≤ length whole.now }
     requires few { length whole.now ≤ MAX_ROWS }

@@ -1,5 +1,5 @@
-//! Lists of a product of 250 g, worked out by hand: its tolerable negative error is 9 g, so its limits are 241 g and
-//! 232 g of the net.
+//! Lists of a product of 250 g, worked out by hand: its tolerable negative error is 9 g, so its
+//! limits are 241 g and 232 g of the net.
 
 use crate::begun::{
     MARCH_2, MARCH_3, Taken, batch_of, begin, done, judged, named, product, refused, start, stop,
@@ -15,8 +15,8 @@ use std::test::Fail;
 // 2025-03-04.
 const MARCH_4: i32 = 20_151;
 
-// The summary of two lanes in turn: the packs of rows 7 (its gate stayed shut), 8, 12 and 14 are rejected, that of row
-// 9 is voided, that of row 10 passed.
+// The summary of two lanes in turn: the packs of rows 7 (its gate stayed shut), 8, 12 and 14 are
+// rejected, that of row 9 is voided, that of row 10 passed.
 fn two_lanes() -> SummaryView {
     SummaryView {
         rows: 14,
@@ -95,8 +95,8 @@ fn two_lanes_in_turn_on_one_batch(rt: HostRuntime) -> Result<(), Fail> {
     Ok(())
 }
 
-// What the next pack is answered behind a pack of 233 g net, a stop that says this of its gate, and a corrected tare that
-// makes its net 231 g.
+// What the next pack is answered behind a pack of 233 g net, a stop that says this of its gate, and
+// a corrected tare that makes its net 231 g.
 fn answered_behind_a_stop(alloc: Global, prior: Prior) -> Result<Taken, fmt::Error> {
     let rice = named(b"rice250".as_slice())?;
     let batch = named(b"A".as_slice())?;
@@ -153,7 +153,8 @@ fn tares_of_other_days_and_two_corrections(rt: HostRuntime) -> Result<(), Fail> 
     Ok(())
 }
 
-// A tare of an earlier day serves until the day itself has one: 248 g less 7 g are 241 g, and less 16 g 232 g.
+// A tare of an earlier day serves until the day itself has one: 248 g less 7 g are 241 g, and less
+// 16 g 232 g.
 #[test]
 fn a_tare_of_an_earlier_day(rt: HostRuntime) -> Result<(), Fail> {
     let rice = named(b"rice250".as_slice())?;

@@ -10,7 +10,8 @@ use Rattle.book_words.specs.Piles.{count_below}
 use Rattle.book_walks.specs.declared.counters.Population.{Population}
 use Rattle.book_walks.specs.declared.counters.TareOfDay.{TareOfDay}
 
--- how many readings there are, and how many of them have a net below the first and below the second limit
+-- how many readings there are, and how many of them have a net below the first and below the second
+-- limit
 pub record CountsOf (entries : List Entry) (limits : Limits) (some : List Reading) (population : Population) : Type 0 where
   pub n : population.n ≡ length some
   pub nonstandard : population.nonstandard ≡ count_below entries limits.t1 some

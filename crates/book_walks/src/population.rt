@@ -132,8 +132,8 @@ fn count(
     }
 }
 
-/// The population of a batch among so many of the first entries, with the piles as the whole list shows them and
-/// the tares as the first entries have them.
+/// The population of a batch among so many of the first entries, with the piles as the whole list
+/// shows them and the tares as the first entries have them.
 pub fn population(whole: &[Entry], many: usize, batch: &Name, limits: &Limits) -> Population
     requires inside { many ≤ length whole.now }
     requires few { length whole.now ≤ MAX_ROWS }

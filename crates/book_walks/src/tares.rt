@@ -18,8 +18,8 @@ fn decide(known: Option<DatedTare>, act: &Act, product: &Name, day: i32) -> Opti
     }
 }
 
-/// The tare of a product on a day, in mg: of those dated on that day or before it, those with the greatest day,
-/// and of these the one put last.
+/// The tare of a product on a day, in mg: of those dated on that day or before it, those with the
+/// greatest day, and of these the one put last.
 pub fn tare_of_product(entries: &[Entry], product: &Name, day: i32) -> Option<i64>
     ensures value { result ≡ tare_of_product entries.now product.now day }
     ensures in_range { AllInRange entries.now → IfSome result (λ tare. (pos 0 ≤ℤ tare) × (tare ≤ℤ MAX_TARE)) }

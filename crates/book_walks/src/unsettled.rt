@@ -32,7 +32,8 @@ fn unsettled_at(sight: &Sight, entries: &[Entry], place: usize, lane: u8) -> Opt
     }
 }
 
-/// The unsettled reading of a lane: one that passed, and no weighing or stop of the lane came after it.
+/// The unsettled reading of a lane: one that passed, and no weighing or stop of the lane came after
+/// it.
 pub fn unsettled_reading(entries: &[Entry], lane: u8) -> Option<Reading>
     requires { length entries.now ≤ MAX_ROWS }
     ensures { result ≡ unsettled_reading entries.now lane }

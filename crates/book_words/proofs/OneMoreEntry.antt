@@ -1,4 +1,5 @@
--- What one more entry changes of the readings before it: only what the lane's next act says, where there was none.
+-- What one more entry changes of the readings before it: only what the lane's next act says, where
+-- there was none.
 use Rattle.std.proofs.Common.{◌≡◌, ℕ, zero, suc, ◌+◌, ◌<◌, ◌≤◌, List, [], ◌∷◌, ◌++◌, length, take, drop, map, slice_get, Option, Some, None, option_map, refl, ◌∙◌, ap, arith, length-append}
 use Rattle.std.proofs.lemmas.List.{take-append-le}
 use Rattle.std.proofs.Math.Seq.{take-append_seam}

@@ -1,4 +1,5 @@
--- Days that were worked out by hand, computed by the definitions: a product of 250 g, whose limits are 241 g and 232 g, and a tare of 10 g.
+-- Days that were worked out by hand, computed by the definitions: a product of 250 g, whose limits
+-- are 241 g and 232 g, and a tare of 10 g.
 use Rattle.std.proofs.Common.{◌≡◌, ℤ, pos, List, [], ◌∷◌, ◌++◌, Option, Some, None, Result, Ok, Err, true, false, map, refl}
 use Rattle.pack_judge.specs.declared.types.Cause.TheVariants as cause
 use Rattle.pack_judge.specs.declared.types.Signal.{Signal}

@@ -29,9 +29,11 @@ use Rattle.book_words.specs.Refusals.{same_state, refusal_of, refusal_by_rule}
 -- how many batches are in a state
 abbrev pub batches_in : List Entry → BatchState → ℕ
 batches_in entries state =
-    count_by (λ batch. option_map_or (λ now. same_state now state) (state_of entries batch) false) (said batch_opened entries)
+    count_by (λ batch. option_map_or (λ now. same_state now state) (state_of entries batch) false)
+    (said batch_opened entries)
 
--- the balance of the whole hall: the rows, the readings and the four piles, and the batches by their state
+-- the balance of the whole hall: the rows, the readings and the four piles, and the batches by
+-- their state
 abbrev pub summary : List Entry → SummaryView
 summary entries =
     let all = readings entries in
@@ -121,4 +123,5 @@ pub record IsLawful (entries : List Entry) (entry : Entry) : Type 0 where
 -- a list is legal where each entry is lawful behind those before it
 abbrev pub IsLegal : List Entry → Type 0
 IsLegal entries =
-    (before : List Entry) (entry : Entry) (after : List Entry) → entries ≡ before ++ entry ∷ after → IsLawful before entry
+    (before : List Entry) (entry : Entry) (after : List Entry)
+    → entries ≡ before ++ entry ∷ after → IsLawful before entry

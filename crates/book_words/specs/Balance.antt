@@ -13,17 +13,27 @@ use Rattle.book_words.specs.Piles.{pile_of, settled_pile, in_pile, is_unsettled,
 
 -- some readings are as many, and weigh as much, as their four piles together
 pub record AddUp (some : List Reading) : Type 0 where
-  pub count : length some ≡ length (in_pile Passed some) + length (in_pile Rejected some) + length (in_pile Sampled some) + length (in_pile Voided some)
-  pub gross : gross_sum some ≡ gross_sum (in_pile Passed some) +ℤ gross_sum (in_pile Rejected some) +ℤ gross_sum (in_pile Sampled some) +ℤ gross_sum (in_pile Voided some)
+  pub count :
+      length some
+      ≡ length (in_pile Passed some) + length (in_pile Rejected some)
+      + length (in_pile Sampled some) + length (in_pile Voided some)
+  pub gross :
+      gross_sum some
+      ≡ gross_sum (in_pile Passed some) +ℤ gross_sum (in_pile Rejected some)
+      +ℤ gross_sum (in_pile Sampled some) +ℤ gross_sum (in_pile Voided some)
 
 -- the piles add up in the whole hall and in each batch
 pub record IsBalanced (entries : List Entry) : Type 0 where
   pub hall : AddUp (readings entries)
   pub batch : (name : Name) → AddUp (readings_of_batch entries name)
 
--- the pile of a reading once an act came after it: an unsettled one goes where its lane's weighing or stop says, any other stays
+-- the pile of a reading once an act came after it: an unsettled one goes where its lane's weighing
+-- or stop says, any other stays
 abbrev pub moved_pile : Act → Reading → Pile
-moved_pile act reading = if is_unsettled reading then settled_pile reading.signal (prior_told reading.lane act) else pile_of reading
+moved_pile act reading =
+    if is_unsettled reading
+    then settled_pile reading.signal (prior_told reading.lane act)
+    else pile_of reading
 
 -- the pile of an entry's own reading, where it is a weighing: by its signal
 abbrev pub own_pile : Entry → Act → List Pile
@@ -32,9 +42,12 @@ own_pile entry _ = []
 
 -- an entry moves the packs so, and no others
 abbrev pub MovesOnly : List Entry → Entry → Type 0
-MovesOnly entries entry = map pile_of (readings (entries ++ entry ∷ [])) ≡ map (moved_pile entry.act) (readings entries) ++ own_pile entry entry.act
+MovesOnly entries entry =
+    map pile_of (readings (entries ++ entry ∷ []))
+    ≡ map (moved_pile entry.act) (readings entries) ++ own_pile entry entry.act
 
 -- each entry of a list moves the packs as it may
 abbrev pub EachMoves : List Entry → Type 0
 EachMoves entries =
-    (before : List Entry) (entry : Entry) (after : List Entry) → entries ≡ before ++ entry ∷ after → MovesOnly before entry
+    (before : List Entry) (entry : Entry) (after : List Entry)
+    → entries ≡ before ++ entry ∷ after → MovesOnly before entry

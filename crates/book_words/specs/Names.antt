@@ -20,13 +20,16 @@ abbrev pub name_with : (bytes : List ℕ) → IsTrue (is_padded (length bytes) (
 name_with bytes padded = record { len = length bytes; places = places_for bytes; padded = padded }
 
 -- the name of some bytes where a test says that they are 1 to 32
-abbrev pub name_if : (bytes : List ℕ) (test : Bool) → is_padded (length bytes) (places_for bytes) ≡ test → Option Name
+abbrev pub name_if : (bytes : List ℕ) (test : Bool)
+    → is_padded (length bytes) (places_for bytes) ≡ test → Option Name
 name_if bytes true padded = Some (name_with bytes padded)
 name_if bytes false _ = None
 
 -- the name of some bytes; there is none where they aren't 1 to 32
 unfoldable pub name_of : List ℕ → Option Name
-name_of bytes = name_if bytes (is_padded (length bytes) (places_for bytes)) (λ _. is_padded (length bytes) (places_for bytes))
+name_of bytes =
+    name_if bytes (is_padded (length bytes) (places_for bytes))
+    (λ _. is_padded (length bytes) (places_for bytes))
 
 -- two names are the same where their bytes are
 abbrev pub same_name : Name → Name → Bool
@@ -36,7 +39,9 @@ same_name a b = bytes_eq (bytes_of a) (bytes_of b)
 abbrev pub is_name_byte : ℕ → Bool
 is_name_byte byte = is_ascii_alphanumeric byte || byte == 45 || byte == 95 || byte == 46
 
--- the shape of a new name: 1 to 32 letters, digits, `-`, `_` or `.` of ASCII, the first a letter or digit
+-- the shape of a new name: 1 to 32 letters, digits, `-`, `_` or `.` of ASCII, the first a letter or
+-- digit
 abbrev pub is_name_shape : List ℕ → Bool
 is_name_shape [] = false
-is_name_shape (first ∷ rest) = is_ascii_alphanumeric first && list_all is_name_byte rest && nat_lt (length rest) NAME_BYTES
+is_name_shape (first ∷ rest) =
+    is_ascii_alphanumeric first && list_all is_name_byte rest && nat_lt (length rest) NAME_BYTES

@@ -12,7 +12,9 @@ use Rattle.book_words.specs.declared.types.Entry.{Entry}
 use Rattle.book_words.specs.declared.types.Reading.{Reading}
 use Rattle.book_words.specs.Readings.{readings, is_of_batch, net_of_reading, limits_of_batch}
 
--- where a reading lies, by its signal and by what the lane's next act says: a passed one is voided where nobody knows what the gate did, and rejected where the gate stayed shut; one that was signalled a reject is rejected; any other lies among the passed
+-- where a reading lies, by its signal and by what the lane's next act says: a passed one is voided
+-- where nobody knows what the gate did, and rejected where the gate stayed shut; one that was
+-- signalled a reject is rejected; any other lies among the passed
 abbrev pub settled_pile : Option Signal → Option Prior → Pile
 settled_pile (Some Pass) (Some Unknown) = Voided
 settled_pile (Some Pass) (Some Stayed) = Rejected
@@ -59,7 +61,8 @@ is_counted _ = false
 
 -- the population among some readings: those that count for the batch
 abbrev pub population_of : Name → List Reading → List Reading
-population_of batch some = filter (λ reading. is_of_batch batch reading && is_counted (pile_of reading)) some
+population_of batch readings =
+    filter (λ reading. is_of_batch batch reading && is_counted (pile_of reading)) readings
 
 -- how many of some readings have a net below a limit
 abbrev pub count_below : List Entry → ℤ → List Reading → ℕ

@@ -14,7 +14,8 @@ use Rattle.book_words.specs.Names.{same_name}
 use Rattle.book_words.specs.Acts.{next_prior, newest_day, nominal_of, product_of, last_batch}
 use Rattle.book_words.specs.Tares.{tare_of_product}
 
--- a weighing as a reading of its number: its day and its batch are told by the entries before it, and what the gate did by its lane's first weighing or stop after it
+-- a weighing as a reading of its number: its day and its batch are told by the entries before it,
+-- and what the gate did by its lane's first weighing or stop after it
 abbrev pub reading_from : ℕ → List Entry → Act → Option Signal → List Entry → Option Reading
 reading_from number before (Weigh lane gross prior) signal after =
     Some (record {
@@ -28,10 +29,14 @@ reading_from number before (Weigh lane gross prior) signal after =
     })
 reading_from number before _ signal after = None
 
--- the reading at a place of the list, where a weighing stands there; places are counted from 0, numbers from 1
+-- the reading at a place of the list, where a weighing stands there; places are counted from 0,
+-- numbers from 1
 abbrev pub reading_at : List Entry → ℕ → Option Reading
 reading_at entries place =
-    option_and_then (λ entry. reading_from (place + 1) (take place entries) entry.act entry.signal (drop (place + 1) entries)) (slice_get entries place)
+    option_and_then
+    (λ entry. reading_from (place + 1) (take place entries) entry.act entry.signal
+    (drop (place + 1) entries))
+    (slice_get entries place)
 
 -- the readings among so many of the first entries, as the whole list shows them
 abbrev pub readings_among : ℕ → List Entry → List Reading
@@ -47,11 +52,13 @@ is_of_batch batch reading = option_map_or (λ name. same_name name batch) readin
 
 -- the tare of a batch's product on a day, by all tares of the list as it now is
 abbrev pub tare_of_batch : List Entry → Name → ℤ → Option ℤ
-tare_of_batch entries batch day = option_and_then (λ product. tare_of_product entries product day) (product_of entries batch)
+tare_of_batch entries batch day =
+    option_and_then (λ product. tare_of_product entries product day) (product_of entries batch)
 
 -- the tare of a reading: that of its batch's product on its day
 abbrev pub tare_of_reading : List Entry → Option Name → Option ℤ → Option ℤ
-tare_of_reading entries batch day = option_and_then (λ name. option_and_then (tare_of_batch entries name) day) batch
+tare_of_reading entries batch day =
+    option_and_then (λ name. option_and_then (tare_of_batch entries name) day) batch
 
 -- a gross less the tare of its batch and day; where there is no such tare, the gross alone
 abbrev pub net_of_gross : List Entry → Option Name → Option ℤ → ℤ → ℤ
@@ -61,6 +68,8 @@ net_of_gross entries batch day gross = gross -ℤ unwrap_or (tare_of_reading ent
 abbrev pub net_of_reading : List Entry → Reading → ℤ
 net_of_reading entries reading = net_of_gross entries reading.batch reading.day reading.gross
 
--- the limits of a batch's product; where there is no product or no nominal quantity of it, those of a quantity of 0
+-- the limits of a batch's product; where there is no product or no nominal quantity of it, those of
+-- a quantity of 0
 abbrev pub limits_of_batch : List Entry → Name → Limits
-limits_of_batch entries batch = limits_of (unwrap_or (option_and_then (nominal_of entries) (product_of entries batch)) (pos 0))
+limits_of_batch entries batch =
+    limits_of (unwrap_or (option_and_then (nominal_of entries) (product_of entries batch)) (pos 0))

@@ -1,4 +1,5 @@
--- Why an act isn't accepted. The numbers are those of the refusals, and of all that hold the first is told.
+-- Why an act isn't accepted. The numbers are those of the refusals, and of all that hold the first
+-- is told.
 use Rattle.std.specs.Prelude.{ℕ, ℤ, pos, Bool, true, false, not, ◌&&◌, List, [], ◌∷◌, length, nat_le, int_lt, int_le, if◌then◌else◌, Option, Some, None, is_some, is_none, option_map}
 use Rattle.std.specs.List.{list_any}
 use Rattle.std.specs.Option.{option_and_then, option_or}
@@ -41,7 +42,8 @@ day_unset entries = refused_if (is_none (newest_day entries)) DayUnset
 
 -- 7: the new day is before the newest
 abbrev pub day_back : List Entry → ℤ → Option Refusal
-day_back entries day = option_and_then (λ last. refused_if (int_lt day last) (DayBack last)) (newest_day entries)
+day_back entries day =
+    option_and_then (λ last. refused_if (int_lt day last) (DayBack last)) (newest_day entries)
 
 -- 8: the name is a product
 abbrev pub product_known : List Entry → Name → Option Refusal
@@ -100,7 +102,11 @@ lane_idle entries lane = refused_if (is_none (lane_batch entries lane)) LaneIdle
 -- 19: there is no tare for the batch's product at the newest day
 abbrev pub no_tare : List Entry → Name → Option Refusal
 no_tare entries batch =
-    option_and_then (λ product. option_and_then (λ day. refused_if (is_none (tare_of_product entries product day)) (NoTare product)) (newest_day entries)) (product_of entries batch)
+    option_and_then
+    (λ product. option_and_then
+    (λ day. refused_if (is_none (tare_of_product entries product day)) (NoTare product))
+    (newest_day entries))
+    (product_of entries batch)
 
 -- 20: the gross isn't 0 to 30 kg
 abbrev pub gross_range : ℤ → Option Refusal
@@ -121,13 +127,22 @@ tare_range tare = refused_if (not (is_within (pos 0) MAX_TARE tare)) TareRange
 -- the refusals that an act may meet, in the order of their numbers
 abbrev pub refusals_of : List Entry → Act → List (Option Refusal)
 refusals_of entries (NewDay day) = day_back entries day ∷ day_range day ∷ []
-refusals_of entries (PutProduct name nominal) = day_unset entries ∷ product_known entries name ∷ name_shape name ∷ nominal_range nominal ∷ []
-refusals_of entries (PutTare product day tare) = day_unset entries ∷ product_unknown entries product ∷ day_range day ∷ tare_range tare ∷ []
-refusals_of entries (OpenBatch batch product) = day_unset entries ∷ product_unknown entries product ∷ name_shape batch ∷ batch_known entries batch ∷ []
+refusals_of entries (PutProduct name nominal) =
+    day_unset entries ∷ product_known entries name ∷ name_shape name ∷ nominal_range nominal ∷ []
+refusals_of entries (PutTare product day tare) =
+    day_unset entries ∷ product_unknown entries product ∷ day_range day ∷ tare_range tare ∷ []
+refusals_of entries (OpenBatch batch product) =
+    day_unset entries ∷ product_unknown entries product ∷ name_shape batch
+    ∷ batch_known entries batch ∷ []
 refusals_of entries (StartLane lane batch) =
-    day_unset entries ∷ batch_unknown entries batch ∷ batch_state (Running ∷ []) entries batch ∷ lane_number lane ∷ lane_busy entries lane ∷ no_tare entries batch ∷ []
-refusals_of entries (Weigh lane gross prior) = day_unset entries ∷ lane_number lane ∷ lane_idle entries lane ∷ gross_range gross ∷ prior_wrong entries lane prior ∷ []
-refusals_of entries (StopLane lane prior) = day_unset entries ∷ lane_number lane ∷ lane_idle entries lane ∷ prior_wrong entries lane prior ∷ []
+    day_unset entries ∷ batch_unknown entries batch ∷ batch_state (Running ∷ []) entries batch
+    ∷ lane_number lane ∷ lane_busy entries lane ∷ no_tare entries batch ∷ []
+refusals_of entries (Weigh lane gross prior) =
+    day_unset entries ∷ lane_number lane ∷ lane_idle entries lane ∷ gross_range gross
+    ∷ prior_wrong entries lane prior ∷ []
+refusals_of entries (StopLane lane prior) =
+    day_unset entries ∷ lane_number lane ∷ lane_idle entries lane
+    ∷ prior_wrong entries lane prior ∷ []
 
 -- the refusal that the rules give, however many rows the list may have
 abbrev pub refusal_by_rule : List Entry → Act → Option Refusal

@@ -15,9 +15,11 @@ use Rattle.book_words.specs.Piles.{population_of, count_below, is_held}
 abbrev pub with_act : List Entry → Act → List Entry
 with_act entries act = entries ++ record { by = 0; desk = 0; request = 0; act = act; signal = None } ∷ []
 
--- the population of a batch at an act: the piles are those that the act leaves, over the readings before it
+-- the population of a batch at an act: the piles are those that the act leaves, over the readings
+-- before it
 abbrev pub population_at : List Entry → Act → Name → List Reading
-population_at entries act batch = population_of batch (readings_among (length entries) (with_act entries act))
+population_at entries act batch =
+    population_of batch (readings_among (length entries) (with_act entries act))
 
 -- the signal of a gross in a batch: by its net, and by the population at the act
 abbrev pub judged_signal : List Entry → Act → ℤ → Name → Signal
@@ -27,7 +29,9 @@ judged_signal entries act gross batch =
     signal_of (net_of_gross entries (Some batch) (newest_day entries) gross) limits
     (is_held entries batch some) (length some) (count_below entries limits.t1 some)
 
--- the signal that is recorded with an act: a weighing gets one in the batch of its lane, any other act has none
+-- the signal that is recorded with an act: a weighing gets one in the batch of its lane, any other
+-- act has none
 abbrev pub recorded_signal : List Entry → Act → Option Signal
-recorded_signal entries (Weigh lane gross prior) = option_map (judged_signal entries (Weigh lane gross prior) gross) (last_batch entries lane)
+recorded_signal entries (Weigh lane gross prior) =
+    option_map (judged_signal entries (Weigh lane gross prior) gross) (last_batch entries lane)
 recorded_signal entries _ = None

@@ -16,14 +16,15 @@ use Rattle.book_words.specs.Balance.{IsBalanced, EachMoves}
 abbrev pub has_tare_and_nominal : List Entry → Reading → Bool
 has_tare_and_nominal entries reading =
     is_some (tare_of_reading entries reading.batch reading.day)
-    && is_some (option_and_then (λ batch. option_and_then (nominal_of entries) (product_of entries batch)) reading.batch)
+    && is_some (option_and_then
+    (λ batch. option_and_then (nominal_of entries) (product_of entries batch)) reading.batch)
 
 -- so has each reading of a list: no net and no class is told by a default
 abbrev pub TaresKnown : List Entry → Type 0
 TaresKnown entries = list_all (has_tare_and_nominal entries) (readings entries) ≡ true
 
--- sound rows: each is lawful behind those before it, the piles add up, each row moves the packs only
--- as it may, and each reading has a tare and a nominal quantity
+-- sound rows: each is lawful behind those before it, the piles add up, each row moves the packs
+-- only as it may, and each reading has a tare and a nominal quantity
 pub record IsSound (rows : List Entry) : Type 0 where
   pub legal : IsLegal rows
   pub balanced : IsBalanced rows

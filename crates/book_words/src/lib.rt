@@ -1,4 +1,5 @@
-//! The words of the batch book: its acts and answers as data, and what each of them means over the list of accepted commands. Masses are whole milligrams, days are counted from 1970-01-01.
+//! The words of the batch book: its acts and answers as data, and what each of them means over the
+//! list of accepted commands. Masses are whole milligrams, days are counted from 1970-01-01.
 #![tactic(auto)]
 
 mod name;

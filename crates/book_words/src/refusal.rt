@@ -20,7 +20,8 @@ pub enum Refusal {
     ProductKnown,
     /// There is no product of that name.
     ProductUnknown,
-    /// The new name isn't 1 to 32 letters, digits, `-`, `_` or `.` of ASCII, the first a letter or digit.
+    /// The new name isn't 1 to 32 letters, digits, `-`, `_` or `.` of ASCII, the first a letter or
+    /// digit.
     NameShape,
     /// The nominal quantity isn't 5 g to 10 kg.
     NominalRange,
@@ -42,8 +43,8 @@ pub enum Refusal {
     NoTare { product: Name },
     /// The gross isn't 0 to 30 kg.
     GrossRange,
-    /// Where `wanted`, the lane has an unsettled reading and the act doesn't say what the gate did; else the act
-    /// says it and there is none.
+    /// Where `wanted`, the lane has an unsettled reading and the act doesn't say what the gate did;
+    /// else the act says it and there is none.
     PriorWrong { wanted: bool },
     /// The tare isn't 0 to 5 kg.
     TareRange,

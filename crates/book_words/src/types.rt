@@ -31,8 +31,9 @@ pub enum Act {
     NewDay { day: i32 },
     /// There is a product of this nominal quantity.
     PutProduct { name: Name, nominal: i64 },
-    /// From this day on, until the next day for which there is a tare, the empty package of the product weighs so
-    /// much. The nets of readings of these days that were weighed before change too.
+    /// From this day on, until the next day for which there is a tare, the empty package of the
+    /// product weighs so much. The nets of readings of these days that were weighed before change
+    /// too.
     PutTare { product: Name, day: i32, tare: i64 },
     /// A batch of a product begins.
     OpenBatch { batch: Name, product: Name },
@@ -94,8 +95,8 @@ pub struct Reading {
     pub next_prior: Option<Prior>,
 }
 
-/// The balance of the whole hall: the rows of its list, its readings and the four piles, and how many batches are in
-/// each state.
+/// The balance of the whole hall: the rows of its list, its readings and the four piles, and how
+/// many batches are in each state.
 #[derive(Clone, Copy, Debug, PartialEq, Eq)]
 pub struct SummaryView {
     pub rows: u32,

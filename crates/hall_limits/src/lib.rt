@@ -1,4 +1,5 @@
-//! The limits of the hall, each named once. Masses are whole milligrams, days are counted from 1970-01-01.
+//! The limits of the hall, each named once. Masses are whole milligrams, days are counted from
+//! 1970-01-01.
 #![tactic(auto)]
 
 /// The least nominal quantity in mg: the profile of Annex I begins at 5 g.
@@ -7,11 +8,12 @@ pub const MIN_NOMINAL: i64 = 5_000;
 /// The greatest nominal quantity in mg: Annex I ends at 10 kg.
 pub const MAX_NOMINAL: i64 = 10_000_000;
 
-/// The greatest gross of a pack in mg: three times the greatest nominal quantity, so that no pack that a lane can carry
-/// is refused.
+/// The greatest gross of a pack in mg: three times the greatest nominal quantity, so that no pack
+/// that a lane can carry is refused.
 pub const MAX_GROSS: i64 = 30_000_000;
 
-/// The greatest tare, and the greatest mass of an empty pack, in mg: half of the greatest nominal quantity.
+/// The greatest tare, and the greatest mass of an empty pack, in mg: half of the greatest nominal
+/// quantity.
 pub const MAX_TARE: i64 = 5_000_000;
 
 /// The last day that can be printed in ten bytes: 9999-12-31. The first is day 0, 1970-01-01.
@@ -20,7 +22,8 @@ pub const MAX_DAY: i32 = 2_932_896;
 /// The most rows that a book may have: 96 MB of journal.
 pub const MAX_ROWS: u32 = 1_000_000;
 
-/// The most packs that the population of a batch may have: this project's own limit, on every batch.
+/// The most packs that the population of a batch may have: this project's own limit, on every
+/// batch.
 pub const MAX_POPULATION: u32 = 10_000;
 
 /// The greatest number of a lane; the least is 1.

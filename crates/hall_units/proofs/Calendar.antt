@@ -1,4 +1,4 @@
-use Rattle.std.proofs.Common.{◌≡◌, ℕ, zero, suc, ◌+◌, ◌<◌, ◌≤◌, nat_lt, ℤ, pos, negsuc, neg_ℤ, ◌+ℤ◌, ◌≤ℤ◌, ◌<ℤ◌, refl, sym, ap, ◌∙◌, arith, rules, inl, inr, length, unsigned_abs}
+use Rattle.std.proofs.Common.{unsigned_abs, ◌≡◌, ℕ, zero, suc, ◌+◌, ◌<◌, ◌≤◌, nat_lt, ℤ, pos, negsuc, neg_ℤ, ◌+ℤ◌, ◌≤ℤ◌, ◌<ℤ◌, refl, sym, ap, ◌∙◌, arith, rules, inl, inr, length, unsigned_abs}
 use Rattle.std.specs.Int.{IsInRange}
 use Rattle.std.proofs.lemmas.Bool.{cases_Bool, cases_lt, ltb-true, ltb-false}
 use Rattle.jiff_core.specs.Calendar.{days_in_month, days_from_civil, day_count}
@@ -8,6 +8,7 @@ use Rattle.jiff_core.proofs.SignedLemmas.{signed_arith}
 use Rattle.jiff_core.proofs.CalendarLemmas.{days_in_month_bounds, days_from_civil-day_count, day_count-epoch, day_count-later_year, day_count-last_of_year, day_count-day_of_year}
 use Rattle.jiff_core.proofs.DateLemmas.{days_from_civil-day, days_from_civil-next_month, days_from_civil-next_year, days_from_civil-max, epoch_day_range, epoch_day_injective}
 use Rattle.jiff.specs.Words.{date_text as jiff_text}
+use Rattle.hall_limits.specs.declared.TheConstants.{MAX_DAY}
 use Rattle.hall_units.specs.Days.{YearMonthDay, next_date, date_after, day_text, IsDay}
 
 -- the calendar has the date, and it isn't before 1970
@@ -58,7 +59,7 @@ after_number zero = omega (arith, signed_arith, days_from_civil-day_count (pos 1
 after_number (suc days) = next_number (date_after days) (after_real days) ∙ omega (arith, signed_arith, after_number days)
 
 -- no date up to the last day has a year above 9999
-year_within : (date : YearMonthDay) (days : ℕ) → IsReal date → number date ≡ pos days → days ≤ 2_932_896 → date.year ≤ 9999
+year_within : (date : YearMonthDay) (days : ℕ) → IsReal date → number date ≡ pos days → days ≤ unsigned_abs MAX_DAY → date.year ≤ 9999
 year_within date days real is few = elim (cases_lt 9999 date.year) [
   | inl late ↦
       let above : pos 9999 <ℤ pos date.year = omega (arith, signed_arith) in
@@ -94,7 +95,7 @@ pub date-after : (date : Date) (days : ℕ) → epoch_day date ≡ pos days →
 unfolding as_date
 date-after date days is =
     let range = epoch_day_range date in
-    let few : days ≤ 2_932_896 = omega (arith, signed_arith) in
+    let few : days ≤ unsigned_abs MAX_DAY = omega (arith, signed_arith) in
     let early : (date_after days).year ≤ 9999 = year_within (date_after days) days (after_real days) (after_number days) few in
     epoch_day_injective date (as_date (date_after days) (after_real days) early) (is ∙ sym (after_number days))
 
@@ -116,8 +117,9 @@ pub date_after-number : (date : YearMonthDay) (days : ℕ) → IsReal date → d
 unfolding as_date
 date_after-number date days real early is = date-after (as_date date real early) days is
 
--- within the days of the calendar, the date that is counted on to is real, with a year of four digits
-pub date_after-real : (days : ℕ) → days ≤ 2_932_896 → IsReal (date_after days) × ((date_after days).year ≤ 9999) × (number (date_after days) ≡ pos days)
+-- within the days of the calendar, the date that is counted on to is real, with a year of four
+-- digits
+pub date_after-real : (days : ℕ) → days ≤ unsigned_abs MAX_DAY → IsReal (date_after days) × ((date_after days).year ≤ 9999) × (number (date_after days) ≡ pos days)
 date_after-real days few = (after_real days, year_within (date_after days) days (after_real days) (after_number days) few, after_number days)
 
 -- no real date lies before 1970-01-01

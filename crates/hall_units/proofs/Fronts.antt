@@ -252,7 +252,8 @@ spelled_to_dotted text some few behind dot =
       longest = more_than (λ k. ¬ BeginsGrams (take k text)) text (n + suc i) (dotted_refused text dot);
     }
 
--- where a point stands behind 1 to 8 digits, they, it and up to 3 digits are the longest front that begins a spelling
+-- where a point stands behind 1 to 8 digits, they, it and up to 3 digits are the longest front that
+-- begins a spelling
 pub spelled_to_places : (text : List ℕ) (whole places : ℕ) → whole ≡ prefix_len is_ascii_digit text → 0 < whole → whole ≤ 8 → whole < length text → get_or text whole 0 ≡ 46 →
     places ≡ prefix_len is_ascii_digit (drop (whole + 1) text) → IsSpelledTo text (whole + 1 + min places 3)
 spelled_to_places text whole places count some few behind dot rest =

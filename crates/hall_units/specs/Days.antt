@@ -1,4 +1,5 @@
 use Rattle.std.specs.Prelude.{◌≡◌, ℕ, zero, suc, ◌+◌, ◌/◌, ◌%◌, ◌==◌, ◌&&◌, nat_lt, nat_le, Bool, ℤ, pos, ◌≤ℤ◌, unsigned_abs, List, [], ◌∷◌, ◌++◌, length, slice_index, slice_range, Option, Some, None, if◌then◌else◌}
+use Rattle.hall_limits.specs.declared.TheConstants.{MAX_DAY}
 use Rattle.hall_units.specs.Number.{bounded_number}
 use Rattle.jiff_core.specs.Calendar.{days_in_month, days_from_civil}
 use Rattle.jiff_core.specs.Date.{epoch_day}
@@ -27,7 +28,7 @@ day_of text =
 
 -- the days of which texts are read and printed, from 1970-01-01 to 9999-12-31
 abbrev pub IsDay : ℤ → Type 0
-IsDay day = (pos 0 ≤ℤ day) × (day ≤ℤ pos 2_932_896)
+IsDay day = (pos 0 ≤ℤ day) × (day ≤ℤ MAX_DAY)
 
 -- a year, a month and a day of the month
 pub record YearMonthDay : Type 0 where
@@ -35,7 +36,8 @@ pub record YearMonthDay : Type 0 where
   pub month : ℕ
   pub day : ℕ
 
--- the next date: the next day of the month, else the first of the next month, else the first of January
+-- the next date: the next day of the month, else the first of the next month, else the first of
+-- January
 abbrev pub next_date : YearMonthDay → YearMonthDay
 next_date date =
     if nat_lt date.day (days_in_month (pos date.year) date.month) then record date { day = date.day + 1 }

@@ -27,11 +27,13 @@ abbrev pub mass_of : Option ℕ → Option ℕ → Option ℤ
 mass_of (Some grams) (Some places) = Some (pos (1000 * grams + places))
 mass_of _ _ = None
 
--- the mass in milligrams that a text of grams spells: 1 to 8 digits, then nothing or a point and 1 to 3 digits; none for any other text
+-- the mass in milligrams that a text of grams spells: 1 to 8 digits, then nothing or a point and 1
+-- to 3 digits; none for any other text
 unfoldable pub milligrams_of : List ℕ → Option ℤ
 milligrams_of text = mass_of (numeral_of 8 (leading_digits text)) (places_of (behind_digits text))
 
--- the masses that can be read, in milligrams: from 0 to the greatest that 8 digits and 3 places reach
+-- the masses that can be read, in milligrams: from 0 to the greatest that 8 digits and 3 places
+-- reach
 abbrev pub IsReadMass : ℤ → Type 0
 IsReadMass mg = (pos 0 ≤ℤ mg) × (mg <ℤ pos 100_000_000_000)
 
@@ -54,6 +56,7 @@ sign_text (negsuc n) = 45 ∷ []
 abbrev pub three_digits : ℕ → List ℕ
 three_digits n = (48 + n / 100) ∷ (48 + n / 10 % 10) ∷ (48 + n % 10) ∷ []
 
--- how a mass in milligrams is printed: a minus sign where it is negative, the whole grams, a point and three digits
+-- how a mass in milligrams is printed: a minus sign where it is negative, the whole grams, a point
+-- and three digits
 unfoldable pub gram_text : ℤ → List ℕ
 gram_text mg = sign_text mg ++ decimal (unsigned_abs mg / 1000) ++ 46 ∷ three_digits (unsigned_abs mg % 1000)

@@ -19,8 +19,8 @@ const FIRST_YEAR: u64 = 1_970;
 /// The length of the text of a day.
 pub const MAX_DAY_TEXT: usize = 10;
 
-/// Reads a day: exactly ten bytes `YYYY-MM-DD` that name a date of the calendar from 1970-01-01 on. Answers the
-/// days since 1970-01-01. It takes no memory.
+/// Reads a day: exactly ten bytes `YYYY-MM-DD` that name a date of the calendar from 1970-01-01 on.
+/// Answers the days since 1970-01-01. It takes no memory.
 pub fn read_day(text: &[u8]) -> Result<i32, DayText>
     ensures value { result_ok result ≡ day_of text.now }
     ensures range { IfOk result IsDay }

@@ -11,8 +11,8 @@ pub const MAX_DECIMAL: usize = 40;
 /// No decimal text of a number of 32 bits has more bytes.
 pub const MAX_COUNT: usize = 10;
 
-/// Appends the decimal digits of a number. With room for `MAX_DECIMAL` bytes it takes no memory; a refusal leaves
-/// the bytes as they were.
+/// Appends the decimal digits of a number. With room for `MAX_DECIMAL` bytes it takes no memory; a
+/// refusal leaves the bytes as they were.
 pub fn push_decimal(to: &mut Vec<u8>, number: u128) -> Result<(), NoMemory>
     ensures { Prints to.old to.new result (decimal number) MAX_DECIMAL }
 {
@@ -21,8 +21,8 @@ pub fn push_decimal(to: &mut Vec<u8>, number: u128) -> Result<(), NoMemory>
     Ok(())
 }
 
-/// Appends the decimal digits of a count. With room for `MAX_COUNT` bytes it takes no memory; a refusal leaves the
-/// bytes as they were.
+/// Appends the decimal digits of a count. With room for `MAX_COUNT` bytes it takes no memory; a
+/// refusal leaves the bytes as they were.
 pub fn push_count(to: &mut Vec<u8>, count: u32) -> Result<(), NoMemory>
     ensures { Prints to.old to.new result (decimal count) MAX_COUNT }
 {

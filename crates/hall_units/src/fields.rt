@@ -47,7 +47,8 @@ pub fn put_u32(bytes: &mut [u8], place: usize, value: u32)
     bytes[place..place + 4].copy_from_slice(&value.to_le_bytes());
 }
 
-/// Writes a number into the eight bytes from `place` on, its little end first. The other bytes stay.
+/// Writes a number into the eight bytes from `place` on, its little end first. The other bytes
+/// stay.
 pub fn put_u64(bytes: &mut [u8], place: usize, value: u64)
     requires { place + 8 ≤ length bytes.old }
     ensures { bytes.new ≡ take place bytes.old ++ to_le_bytes w64 value ++ drop (place + 8) bytes.old }

@@ -25,9 +25,11 @@ const MAX_PLACES: u64 = 999;
 /// No text of grams is longer.
 pub const MAX_GRAM_TEXT: usize = MAX_DECIMAL + 5;
 
-/// Reads a mass in grams: 1 to 8 digits, then nothing or a point and 1 to 3 digits. Answers it in milligrams.
+/// Reads a mass in grams: 1 to 8 digits, then nothing or a point and 1 to 3 digits. Answers it in
+/// milligrams.
 ///
-/// A text that isn't so spelled is refused, with the length of its longest front that begins some spelling.
+/// A text that isn't so spelled is refused, with the length of its longest front that begins some
+/// spelling.
 pub fn read_grams(text: &[u8]) -> Result<i64, GramText>
     ensures value { result_ok result ≡ milligrams_of text.now }
     ensures range { IfOk result IsReadMass }
@@ -89,7 +91,8 @@ fn read_places(behind: &[u8]) -> Option<u64>
     })
 }
 
-// The length of the longest front that begins some spelling, of a text that begins with so many digits.
+// The length of the longest front that begins some spelling, of a text that begins with so many
+// digits.
 fn spelled_length(text: &[u8], whole: usize) -> usize
     requires { whole ≡ prefix_len is_ascii_digit text.now }
     ensures { IsSpelledTo text.now result }
@@ -101,7 +104,8 @@ fn spelled_length(text: &[u8], whole: usize) -> usize
     whole + 1 + places.min(GRAM_PLACES)
 }
 
-/// Appends a mass as grams: a minus sign where it is negative, the whole grams, a point and three digits.
+/// Appends a mass as grams: a minus sign where it is negative, the whole grams, a point and three
+/// digits.
 ///
 /// With room for `MAX_GRAM_TEXT` bytes it takes no memory. A refusal changes nothing.
 #[tactic(auto, unfolding(crate::specs::Grams::gram_text))]

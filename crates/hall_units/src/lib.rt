@@ -7,8 +7,6 @@ mod fields;
 mod grams;
 mod number;
 mod push;
-#[cfg(test)]
-mod tests;
 mod types;
 
 pub use days::{MAX_DAY_TEXT, print_day, read_day};

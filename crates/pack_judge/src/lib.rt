@@ -1,4 +1,5 @@
-//! What a pack is by the limits of its nominal quantity, and the pass or reject signal that it gets. All masses are whole milligrams.
+//! What a pack is by the limits of its nominal quantity, and the pass or reject signal that it
+//! gets. All masses are whole milligrams.
 #![tactic(auto)]
 
 mod judge;

@@ -18,7 +18,8 @@ pub enum Cause {
     Full,
     /// The pack itself is inadequate.
     Inadequate,
-    /// The pack is non-standard, and the non-standard packs of the population are more than one in forty.
+    /// The pack is non-standard, and the non-standard packs of the population are more than one in
+    /// forty.
     Allowance,
 }
 

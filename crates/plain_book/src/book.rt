@@ -1,4 +1,5 @@
-//! A second and plainer reading of the rules: a book that keeps a list, and walks it for every answer.
+//! A second and plainer reading of the rules: a book that keeps a list, and walks it for every
+//! answer.
 
 use crate::entries::{Accepted, is_unsettled, pack_at};
 use crate::rules::refuse;

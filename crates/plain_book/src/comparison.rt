@@ -92,7 +92,8 @@ fn agree_on_lanes(book: &Book, plain: &PlainBook) -> bool {
     true
 }
 
-// The first of some drawn acts that the books answer differently, or behind which they differ on the lanes.
+// The first of some drawn acts that the books answer differently, or behind which they differ on
+// the lanes.
 fn first_difference(
     book: &mut Book,
     plain: &mut PlainBook,

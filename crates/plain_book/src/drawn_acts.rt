@@ -1,4 +1,5 @@
-//! Acts drawn by numbers, in and out of the ranges of the rules, and around the limits of the packs.
+//! Acts drawn by numbers, in and out of the ranges of the rules, and around the limits of the
+//! packs.
 
 ghost use Rattle.std.specs.Prelude.{◌<◌};
 
@@ -70,15 +71,16 @@ const TARES: [i64; 10] = [
     10_000, 10_000, 10_000, 10_000, 10_000, 9_000, 11_000, 0, -1, 5_000_001,
 ];
 
-// In mg. With a tare of 9 g, 10 g or 11 g each of the first nine pairs stands on both sides of a limit of 250 g, 50 g or
-// 10 kg.
+// In mg. With a tare of 9 g, 10 g or 11 g each of the first nine pairs stands on both sides of a
+// limit of 250 g, 50 g or 10 kg.
 const GROSSES: [i64; 24] = [
     250_000, 249_999, 252_000, 251_999, 251_000, 250_999, 242_000, 241_999, 243_000, 242_999,
     55_500, 55_499, 51_000, 50_999, 9_860_000, 9_859_999, 9_710_000, 9_709_999, 260_000, 62_000, 0,
     30_000_000, 30_000_001, -1,
 ];
 
-/// What is drawn from next: a word of the generator of Knuth's MMIX, and a day round which days are drawn.
+/// What is drawn from next: a word of the generator of Knuth's MMIX, and a day round which days are
+/// drawn.
 #[derive(Drop)]
 pub struct Draws {
     word: u64,

@@ -1,4 +1,5 @@
-//! A second and plainer reading of the rules: what a list of accepted acts says. Each question walks the list anew.
+//! A second and plainer reading of the rules: what a list of accepted acts says. Each question
+//! walks the list anew.
 
 use book_words::{Act, Name, Prior};
 use pack_judge::{Pile, Signal};

@@ -1,4 +1,6 @@
-//! A second and plainer reading of the rules of the batch book, which shares with it the types alone. The tests give the same drawn acts to both, and compare every answer. It is public, so that tests of later books can compare with it too.
+//! A second and plainer reading of the rules of the batch book, which shares with it the types
+//! alone. The tests give the same drawn acts to both, and compare every answer. It is public, so
+//! that tests of later books can compare with it too.
 #![tactic(auto)]
 
 mod book;

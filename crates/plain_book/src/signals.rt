@@ -6,8 +6,8 @@ use crate::entries::{
 use book_words::{Act, Name};
 use pack_judge::{Cause, Pile, Signal};
 
-// The first and the second limit in mg, worked out by hand for the quantities that are drawn: 50 g has a tolerable
-// negative error of 9 %, 250 g one of 9 g, 10 kg one of 1.5 %.
+// The first and the second limit in mg, worked out by hand for the quantities that are drawn: 50 g
+// has a tolerable negative error of 9 %, 250 g one of 9 g, 10 kg one of 1.5 %.
 fn limits_of(nominal: i64) -> (i64, i64) {
     match nominal {
         50_000 => (45_500, 41_000),
@@ -34,8 +34,8 @@ fn counts_below(entries: &[Accepted], pack: &Pack, batch: Name, limit: i64) -> b
         && net(entries, batch, pack.day, pack.gross) < limit
 }
 
-// How many of the packs before the last entry count for a batch with a net below a limit: the piles are those that all
-// entries show, the tares those that the entries before the last one have.
+// How many of the packs before the last entry count for a batch with a net below a limit: the piles
+// are those that all entries show, the tares those that the entries before the last one have.
 fn count_below(entries: &[Accepted], batch: Name, limit: i64) -> u32 {
     let many = entries.len().saturating_sub(1);
     let before = entries.get(..many).unwrap_or(entries);

@@ -1,4 +1,5 @@
--- Signed numbers as the code computes them: each result goes to bits and is read again, which changes nothing where it fits.
+-- Signed numbers as the code computes them: each result goes to bits and is read again, which
+-- changes nothing where it fits.
 use Rattle.std.proofs.Common.{◌≡◌, ℕ, ◌+◌, ◌*◌, ◌^◌, ◌≤◌, ◌<◌, ℤ, pos, ◌+ℤ◌, ◌-ℤ◌, ◌*ℤ◌, ap, sym, ◌∙◌, arith, unsigned_abs, FitsSigned, ◌≤ℤ◌, ◌↔◌, IsTrue, refl}
 use Rattle.std.proofs.lemmas.Int.{ints, to_z-of_z, unsigned_abs-mul, fits_signed_from_abs}
 use Rattle.std.proofs.Math.Nat.{mul-le-mul}

@@ -30,7 +30,8 @@ pub record AreBounded (number : ℕ) (values squares : ℤ) : Type 0 where
 abbrev pub shortfall : List ℤ → ℤ → ℤ
 shortfall values nominal = pos (length values) *ℤ nominal -ℤ total values
 
--- the squares of what n times each value differs from the sum, added up: n * n times the sum of the squared deviations
+-- the squares of what n times each value differs from the sum, added up: n * n times the sum of the
+-- squared deviations
 abbrev pub squared_deviations : List ℤ → ℤ
 squared_deviations values = total (map (λ x. square (pos (length values) *ℤ x -ℤ total values)) values)
 
@@ -38,7 +39,8 @@ squared_deviations values = total (map (λ x. square (pos (length values) *ℤ x
 abbrev pub ReachesNominal : List ℤ → ℤ → Type 0
 ReachesNominal values nominal = (pos (length values) *ℤ nominal) ≤ℤ total values
 
--- the mean falls short by no more than k standard deviations, with divisor n - 1, where k is in thousandths
+-- the mean falls short by no more than k standard deviations, with divisor n - 1, where k is in
+-- thousandths
 abbrev pub FallsShortWithin : List ℤ → ℤ → ℕ → Type 0
 FallsShortWithin values nominal k1000 =
     (pos 1000000 *ℤ (pos (length values) -ℤ pos 1) *ℤ square (shortfall values nominal)) ≤ℤ (square (pos k1000) *ℤ squared_deviations values)

@@ -1,4 +1,5 @@
-//! The two checks of the reference test of Directive 76/211/EEC, Annex II: the contents check and the mean check. All masses are whole milligrams.
+//! The two checks of the reference test of Directive 76/211/EEC, Annex II: the contents check and
+//! the mean check. All masses are whole milligrams.
 #![tactic(auto)]
 
 mod contents;

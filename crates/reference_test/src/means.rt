@@ -4,9 +4,10 @@ ghost use Rattle.reference_test.specs.Means.{sums_of, FallsShortWithin, MeanAcce
 
 use crate::types::Sums;
 
-/// The mean check of Annex II for a nominal quantity in mg, 5 000 to 10 000 000: the mean of the values is at least
-/// the nominal quantity, or falls short by no more than `k1000` thousandths of the standard deviation, with divisor
-/// one less than their number. `k1000` is at most 1 000. Only whole numbers are compared, so the answer is exact.
+/// The mean check of Annex II for a nominal quantity in mg, 5 000 to 10 000 000: the mean of the
+/// values is at least the nominal quantity, or falls short by no more than `k1000` thousandths of
+/// the standard deviation, with divisor one less than their number. `k1000` is at most 1 000. Only
+/// whole numbers are compared, so the answer is exact.
 pub fn mean_check(sums: &Sums, nominal: i64, k1000: u32) -> bool
     requires some { 0 < sums.now.number }
     requires in_range { IsNominal nominal }
@@ -22,8 +23,8 @@ pub fn mean_check(sums: &Sums, nominal: i64, k1000: u32) -> bool
     falls_short_within(sums, nominal, k1000)
 }
 
-/// Whether the values fall short by no more than `k1000` thousandths of the standard deviation: both sides squared
-/// and freed of their divisors.
+/// Whether the values fall short by no more than `k1000` thousandths of the standard deviation:
+/// both sides squared and freed of their divisors.
 fn falls_short_within(sums: &Sums, nominal: i64, k1000: u32) -> bool
     requires in_range { IsNominal nominal }
     requires part { k1000 ≤ 1000 }

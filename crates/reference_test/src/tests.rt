@@ -2,13 +2,15 @@ use super::*;
 use annex_tables::{Mode, Plan, plan};
 use std::test::Fail;
 
-/// Up to three values in mg and how often each was added; the nominal quantity; the thousandths; what is answered.
+/// Up to three values in mg and how often each was added; the nominal quantity; the thousandths;
+/// what is answered.
 type MeanRow = ([(i64, u32); 3], i64, u32, bool);
 
 const NONE: (i64, u32) = (0, 0);
 
-// The first two by hand: at 250 344 the sides are 3 270 553 600 000 000 and 3 276 800 000 000 000; at 250 343 the left
-// is 3 280 532 400 000 000. The others by a Python script over the list of values; in two pairs the sides are equal.
+// The first two by hand: at 250 344 the sides are 3 270 553 600 000 000 and 3 276 800 000 000 000;
+// at 250 343 the left is 3 280 532 400 000 000. The others by a Python script over the list of
+// values; in two pairs the sides are equal.
 const MEANS: [MeanRow; 16] = [
     ([(250_344, 10), (248_344, 10), NONE], 250_000, 640, true),
     ([(250_343, 10), (248_343, 10), NONE], 250_000, 640, false),
@@ -89,7 +91,8 @@ fn means_of_the_table(rt: HostRuntime) {
     }
 }
 
-// Each number of defective packs at its edges, by the plans of 100 and of 99 packs kept and of 100 destroyed.
+// Each number of defective packs at its edges, by the plans of 100 and of 99 packs kept and of 100
+// destroyed.
 const CONTENTS: [(u32, Mode, u32, Option<u32>, Contents); 15] = [
     (100, Mode::Keep, 1, None, Contents::Accept),
     (100, Mode::Keep, 1, Some(30), Contents::Accept),

@@ -1,4 +1,5 @@
-ghost use Rattle.std.specs.Prelude.{◌≡◌, ◌+◌, ◌<◌, ◌≤◌, ◌≤ℤ◌, ◌-ℤ◌, ◌*ℤ◌, [], ◌∷◌, ◌++◌, List, ℤ, pos, negsuc, unsigned_abs};
+ghost use Rattle.std.specs.Prelude.{◌≡◌, ◌+◌, ◌<◌, ◌≤◌, ◌≤ℤ◌, ◌-ℤ◌, ◌*ℤ◌, [], ◌∷◌, ◌++◌, List, ℤ, pos, neg_ℤ, unsigned_abs};
+ghost use Rattle.hall_limits.specs.declared.TheConstants.{MAX_GROSS, MAX_TARE};
 ghost use Rattle.annex_tables.specs.Errors.{IsNominal};
 ghost use Rattle.reference_test.specs.Means.{square, sums_of};
 
@@ -59,8 +60,8 @@ impl Sums {
     /// Adds one more value in mg, -5 000 000 to 30 000 000: actual contents, a gross less a tare.
     pub fn add(&mut self, x: i64)
         requires room { self.old.number < 100 }
-        requires least { negsuc 4999999 ≤ℤ x }
-        requires greatest { x ≤ℤ pos 30000000 }
+        requires least { neg_ℤ MAX_TARE ≤ℤ x }
+        requires greatest { x ≤ℤ MAX_GROSS }
         ensures added { (values : List ℤ) → self.old ≡ sums_of values → self.new ≡ sums_of (values ++ x ∷ []) }
         ensures counted { self.new.number ≡ self.old.number + 1 }
     {
@@ -69,7 +70,8 @@ impl Sums {
         self.squares += x * x;
     }
 
-    /// How far the values fall short of as many times the nominal quantity, in mg; negative where they don't.
+    /// How far the values fall short of as many times the nominal quantity, in mg; negative where
+    /// they don't.
     pub(crate) fn shortfall(&self, nominal: i64) -> i128
         requires { IsNominal nominal }
         ensures value { result ≡ pos self.now.number *ℤ nominal -ℤ self.now.sum_of_values }

@@ -16,7 +16,8 @@ use Rattle.sample_draw.specs.Draws.{next_word, place_of, drawn, packs_left}
 abbrev AllApart : List ℕ → Type 0
 AllApart xs = AllPairs (λ a b. a ≢ b) xs
 
--- in the middle of a draw: these packs were drawn, and so many are still to be drawn of those that are left
+-- in the middle of a draw: these packs were drawn, and so many are still to be drawn of those that
+-- are left
 pub record StandsAt (whole picks : List ℕ) (word : ℕ) (left : List ℕ) (more : ℕ) : Type 0 where
   pub total : whole ≡ picks ++ drawn word left more
   pub enough : more ≤ length left

@@ -6,11 +6,13 @@ use Rattle.std.specs.List.{list_any}
 abbrev pub next_word : ℕ → ℕ
 next_word word = (word * 6364136223846793005 + 1442695040888963407) % 2 ^ 64
 
--- The place, from 0, that a word points to among so many packs: the word without its low 33 bits, modulo their number.
+-- The place, from 0, that a word points to among so many packs: the word without its low 33 bits,
+-- modulo their number.
 abbrev pub place_of : ℕ → ℕ → ℕ
 place_of word remaining = word / 2 ^ 33 % remaining
 
--- The packs drawn one after another: each time the next word points to a pack, and the list closes up without it.
+-- The packs drawn one after another: each time the next word points to a pack, and the list closes
+-- up without it.
 unfoldable pub drawn : ℕ → List ℕ → ℕ → List ℕ
 drawn word packs zero = []
 drawn word packs (suc more) =

@@ -8,8 +8,9 @@ use std::alloc::Global;
 
 /// Draws `k` packs of the ascending list `packs` by `word`.
 ///
-/// The word is stepped once for each pack. The new word points to a pack of those that remain, which is taken, and
-/// the list closes up. The same word, list and number always draw the same packs.
+/// The word is stepped once for each pack. The new word points to a pack of those that remain,
+/// which is taken, and the list closes up. The same word, list and number always draw the same
+/// packs.
 pub fn draw(alloc: Global, word: u64, packs: &[u64], k: u32) -> Result<Picks, NoMemory>
     requires ascending { IsStrictlyIncreasing packs.now }
     requires enough { k ≤ length packs.now }
@@ -25,8 +26,8 @@ pub fn draw(alloc: Global, word: u64, packs: &[u64], k: u32) -> Result<Picks, No
     Ok(picks)
 }
 
-/// Draws `k` packs by `word` of those packs of the ascending list `packs` that aren't among `taken`, in the way of
-/// [`draw`].
+/// Draws `k` packs by `word` of those packs of the ascending list `packs` that aren't among
+/// `taken`, in the way of [`draw`].
 pub fn draw_more(
     alloc: Global,
     word: u64,

@@ -7,8 +7,8 @@ use std::test::Fail;
 
 const TEN: [u64; 10] = [1, 2, 3, 4, 5, 6, 7, 8, 9, 10];
 
-// For each word, four of the packs 1 to 10, and then by the same word the six that are left. Worked out by a Python
-// script over lists, which takes the pack by `list.pop`.
+// For each word, four of the packs 1 to 10, and then by the same word the six that are left. Worked
+// out by a Python script over lists, which takes the pack by `list.pop`.
 const FOUR_OF_TEN: [(u64, [u64; 4], [u64; 6]); 5] = [
     (0, [8, 4, 2, 5], [10, 9, 3, 6, 7, 1]),
     (1, [5, 4, 7, 3], [6, 9, 1, 2, 8, 10]),
@@ -19,8 +19,8 @@ const FOUR_OF_TEN: [(u64, [u64; 4], [u64; 6]); 5] = [
 
 #[test]
 fn first_and_second_draw_of_a_short_list(rt: HostRuntime) -> Result<(), Fail> {
-    // Two words by hand: 1 442 695 040 888 963 407 gives 167 951 807, which is 2 modulo 5 and 3 modulo 4;
-    // 1 876 011 003 808 476 466 gives 218 396 424, which is 0 modulo 4.
+    // Two words by hand: 1 442 695 040 888 963 407 gives 167 951 807, which is 2 modulo 5 and 3
+    // modulo 4; 1 876 011 003 808 476 466 gives 218 396 424, which is 0 modulo 4.
     let packs = [11, 12, 13, 14, 15];
     let first = draw(rt.alloc(), 0, &packs, 2)?;
     assert_eq!(rt; first.as_slice(), [13, 11].as_slice());
@@ -29,6 +29,8 @@ fn first_and_second_draw_of_a_short_list(rt: HostRuntime) -> Result<(), Fail> {
     let taken = draw(rt.alloc(), 0, &packs, 1)?;
     let second = draw_more(rt.alloc(), 0, &packs, &taken, 1)?;
     assert_eq!(rt; second.as_slice(), [15].as_slice());
+    assert!(rt; draw(rt.alloc(), 0, &packs, 0)?.is_empty());
+    assert!(rt; draw_more(rt.alloc(), 0, &packs, &taken, 0)?.is_empty());
     Ok(())
 }
 

@@ -6,7 +6,8 @@ use std::marker::Model;
 /// Memory that was wanted could not be had.
 pub type NoMemory = AllocError;
 
-/// The packs that were drawn, in drawing order. It is made from a `Vec` and gives it back without taking memory.
+/// The packs that were drawn, in drawing order. It is made from a `Vec` and gives it back without
+/// taking memory.
 #[derive(Debug, Drop)]
 pub struct Picks {
     packs: Vec<u64>,

@@ -33,7 +33,8 @@ none_greater-append (e ∷ es) dated x =
     ap (λ b. int_le e.day x.day && b) (none_greater-append es dated x)
     ∙ elim (int_le e.day x.day) as (λ b. (b && (none_greater es x && int_le dated.day x.day)) ≡ ((b && none_greater es x) && int_le dated.day x.day)) [ true ↦ refl | false ↦ refl ]
 
--- where some dated has a greater day than one, and none a greater day than another, the other's day is no less
+-- where some dated has a greater day than one, and none a greater day than another, the other's day
+-- is no less
 pub not_less : (tares : List DatedTare) (dated x : DatedTare) → none_greater tares dated ≡ false → none_greater tares x ≡ true → int_le dated.day x.day ≡ true
 not_less [] dated x h k = cc
 not_less (e ∷ es) dated x h k =

@@ -8,8 +8,8 @@ use std::marker::Model;
 
 /// The tares of all products, in the order in which they were put.
 ///
-/// A contract sees the list of entries, and beside it the number of places that are reserved for more.
-/// A look-up goes through all entries: a product has few tares.
+/// A contract sees the list of entries, and beside it the number of places that are reserved for
+/// more. A look-up goes through all entries: a product has few tares.
 #[derive(Drop)]
 pub struct Tares {
     entries: Vec<ProductTare>,
@@ -34,7 +34,8 @@ impl Tares {
         }
     }
 
-    /// Puts a tare behind the others: `tare` milligrams for `product` from `day` on, a day since 1970-01-01.
+    /// Puts a tare behind the others: `tare` milligrams for `product` from `day` on, a day since
+    /// 1970-01-01.
     ///
     /// It is refused only for want of memory, and never while a place is reserved.
     pub fn put(&mut self, product: u32, day: i32, tare: i64) -> Result<(), NoMemory>
@@ -60,16 +61,17 @@ impl Tares {
         Ok(())
     }
 
-    /// The tare of `product` on `day` in milligrams: of its entries dated on that day or before it those with
-    /// the greatest day, and of these the one put last. `None` exactly where there is none.
+    /// The tare of `product` on `day` in milligrams: of its entries dated on that day or before it
+    /// those with the greatest day, and of these the one put last. `None` exactly where there is
+    /// none.
     pub fn at(&self, product: u32, day: i32) -> Option<i64>
         ensures { result ≡ tare_of self.now.entries product day }
     {
         Some(find_deciding(&self.entries, product, day)?.tare)
     }
 
-    /// The days whose tare an entry of `product` put now for `day` decides: from that day to the day before the
-    /// next one for which the product has an entry.
+    /// The days whose tare an entry of `product` put now for `day` decides: from that day to the
+    /// day before the next one for which the product has an entry.
     pub fn span(&self, product: u32, day: i32) -> Span
         ensures value { result ≡ span_of self.now.entries product day }
         ensures decided { DecidesWithin result self.now.entries product day }

@@ -3,8 +3,8 @@ use std::alloc::AllocError;
 /// Memory was refused.
 pub type NoMemory = AllocError;
 
-/// A tare of one product: from its day on, until the next day for which there is one, the empty package weighs this
-/// much.
+/// A tare of one product: from its day on, until the next day for which there is one, the empty
+/// package weighs this much.
 #[derive(Clone, Copy, Debug, PartialEq, Eq)]
 pub struct DatedTare {
     /// The first day for which the tare is meant, in days since 1970-01-01.
@@ -17,8 +17,8 @@ impl DatedTare {
     ghost use Rattle.std.specs.Prelude.{◌≡◌};
     ghost use Rattle.tare_register.specs.Tares.{decides};
 
-    /// Whether this tare, put behind others, decides on a day: it is dated by that day, and `known`, the one that
-    /// decided so far, has no greater day.
+    /// Whether this tare, put behind others, decides on a day: it is dated by that day, and
+    /// `known`, the one that decided so far, has no greater day.
     pub fn decides(&self, day: i32, known: Option<DatedTare>) -> bool
         ensures { result ≡ decides self.now day known }
     {

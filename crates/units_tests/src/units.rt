@@ -1,4 +1,4 @@
-use crate::{
+use hall_units::{
     DayText, GramText, get_u16, get_u32, get_u64, print_day, print_grams, push_decimal, put_u16,
     put_u32, put_u64, read_bounded, read_day, read_grams, read_number,
 };
