@@ -4,7 +4,7 @@ ghost use Rattle.annex_tables.specs.Errors.{IsNominal, thousandths_of, error_of,
 use crate::types::{Limits, NominalRange};
 use hall_limits::{MAX_NOMINAL, MIN_NOMINAL};
 
-/// So many thousandths of a quantity in mg, rounded up to the next 100 mg.
+// So many thousandths of a quantity in mg, rounded up to the next 100 mg.
 fn thousandths(part: u64, quantity: u64) -> u64
     requires small { part ≤ 90 }
     requires in_range { quantity ≤ unsigned_abs MAX_NOMINAL }
@@ -29,7 +29,7 @@ fn error_in_row(quantity: u64) -> u64
     }
 }
 
-/// The limits of a nominal quantity in mg that the tables know.
+// The limits of a nominal quantity in mg that the tables know.
 fn limits_in_row(quantity: u64) -> Limits
     requires least { unsigned_abs MIN_NOMINAL ≤ quantity }
     requires greatest { quantity ≤ unsigned_abs MAX_NOMINAL }
@@ -43,7 +43,7 @@ fn limits_in_row(quantity: u64) -> Limits
     }
 }
 
-/// The nominal quantity, where the tables know it.
+// The nominal quantity, where the tables know it.
 fn known(nominal: i64) -> Result<u64, NominalRange>
     ensures value { IfOk result (λ quantity. nominal ≡ pos quantity) }
     ensures least { IfOk result (λ quantity. unsigned_abs MIN_NOMINAL ≤ quantity) }

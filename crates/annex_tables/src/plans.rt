@@ -3,7 +3,7 @@ ghost use Rattle.annex_tables.specs.Plans.{plan_of, plan_of_all};
 
 use crate::types::{Mode, Plan, PlanRefusal};
 
-/// 100 to 500 packs, not destroyed.
+// 100 to 500 packs, not destroyed.
 const TO_500: Plan = Plan {
     first: 30,
     c1: 1,
@@ -15,7 +15,7 @@ const TO_500: Plan = Plan {
     k1000: 503,
 };
 
-/// 501 to 3 200 packs, not destroyed.
+// 501 to 3 200 packs, not destroyed.
 const TO_3_200: Plan = Plan {
     first: 50,
     c1: 2,
@@ -27,7 +27,7 @@ const TO_3_200: Plan = Plan {
     k1000: 379,
 };
 
-/// More than 3 200 packs, not destroyed.
+// More than 3 200 packs, not destroyed.
 const ABOVE_3_200: Plan = Plan {
     first: 80,
     c1: 3,
@@ -39,7 +39,7 @@ const ABOVE_3_200: Plan = Plan {
     k1000: 379,
 };
 
-/// 100 packs or more, destroyed.
+// 100 packs or more, destroyed.
 const DESTRUCTION: Plan = Plan {
     first: 20,
     c1: 1,
@@ -51,7 +51,7 @@ const DESTRUCTION: Plan = Plan {
     k1000: 640,
 };
 
-/// All of `n` packs are measured.
+// All of `n` packs are measured.
 fn all_measured(n: u32) -> Plan
     requires { n ≤ 99 }
     ensures { result ≡ plan_of_all n }

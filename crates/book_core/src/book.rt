@@ -40,7 +40,7 @@ impl Model for Book {
 }
 
 impl Book {
-    /// A book without entries that may have `limit` rows, 1 to 1 000 000. It takes no memory.
+    /// A book without entries that may have `limit` rows, 1 to 1 000 000.
     pub fn new(alloc: Global, limit: u32) -> Book
         requires least { 1 ≤ limit }
         requires most { limit ≤ MAX_ROWS }
@@ -136,7 +136,7 @@ impl Book {
         }
     }
 
-    /// Answers a question over the list as it stands. It takes no memory.
+    /// Answers a question over the list as it stands.
     pub fn look(&self, question: &Question) -> Result<Answered, BookError>
         ensures answer { result ≡ handed_on (answer self.now.limit self.now.entries (asked_question question.now)) }
         ensures legal { IsLegal self.now.entries }

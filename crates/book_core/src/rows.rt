@@ -19,14 +19,14 @@ impl Model for Rows {
 impl Rows {
     ghost use Rattle.std.specs.Prelude.{◌≡◌};
 
-    /// The list of these entries. It takes no memory.
+    /// The list of these entries.
     pub fn new(rows: Vec<Entry>) -> Rows
         ensures { result ≡ rows.items }
     {
         Rows { rows }
     }
 
-    /// The entries. It takes no memory.
+    /// The entries.
     pub fn into_vec(self) -> Vec<Entry>
         ensures { result.items ≡ self }
     {

@@ -17,7 +17,7 @@ use book_walks::population::{population, tare_of_reading};
 use book_words::{Act, Entry, Name};
 use pack_judge::{Signal, signal};
 
-/// The limits of a quantity of nothing.
+// The limits of a quantity of nothing.
 const NO_LIMITS: Limits = Limits {
     t1: 0,
     t2: 0,

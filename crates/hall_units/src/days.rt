@@ -13,7 +13,7 @@ use jiff::civil::Date;
 use jiff::fmt::temporal::DateTimePrinter;
 use jiff_core::civil::Date as PlainDate;
 
-/// Days are counted from the beginning of this year, and none before it is read.
+// Days are counted from the beginning of this year, and none before it is read.
 const FIRST_YEAR: u64 = 1_970;
 
 /// The length of the text of a day.

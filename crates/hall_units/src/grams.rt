@@ -10,16 +10,16 @@ use crate::number::read_bounded;
 use crate::push::{make_room, push_bytes};
 use crate::types::{GramText, NoMemory};
 
-/// The greatest number of digits before the point that is read.
+// The greatest number of digits before the point that is read.
 const GRAM_DIGITS: usize = 8;
 
-/// The greatest number of digits behind the point: a milligram is the least mass.
+// The greatest number of digits behind the point: a milligram is the least mass.
 const GRAM_PLACES: usize = 3;
 
-/// The number of whole grams that 8 digits reach.
+// The number of whole grams that 8 digits reach.
 const MAX_WHOLE_GRAMS: u64 = 99_999_999;
 
-/// The number of milligrams that 3 places reach.
+// The number of milligrams that 3 places reach.
 const MAX_PLACES: u64 = 999;
 
 /// No text of grams is longer.

@@ -4,7 +4,7 @@ ghost use Rattle.std.specs.Char.{is_ascii_digit};
 ghost use Rattle.std.specs.Str.Parse.{AllDigits, digits_value};
 ghost use Rattle.hall_units.specs.Number.{is_numeral, bounded_number};
 
-/// The greatest number of digits of a number: those of the greatest `u64`.
+// The greatest number of digits of a number: those of the greatest `u64`.
 const NUMBER_DIGITS: usize = 20;
 
 /// The greatest number of digits that is read: their value fits 128 bits.

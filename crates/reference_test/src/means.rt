@@ -23,8 +23,8 @@ pub fn mean_check(sums: &Sums, nominal: i64, k1000: u32) -> bool
     falls_short_within(sums, nominal, k1000)
 }
 
-/// Whether the values fall short by no more than `k1000` thousandths of the standard deviation:
-/// both sides squared and freed of their divisors.
+// Whether the values fall short by no more than `k1000` thousandths of the standard deviation:
+// both sides squared and freed of their divisors.
 fn falls_short_within(sums: &Sums, nominal: i64, k1000: u32) -> bool
     requires in_range { IsNominal nominal }
     requires part { k1000 ≤ 1000 }

@@ -2,8 +2,8 @@ use super::*;
 use annex_tables::{Mode, Plan, plan};
 use std::test::Fail;
 
-/// Up to three values in mg and how often each was added; the nominal quantity; the thousandths;
-/// what is answered.
+// Up to three values in mg and how often each was added; the nominal quantity; the thousandths;
+// what is answered.
 type MeanRow = ([(i64, u32); 3], i64, u32, bool);
 
 const NONE: (i64, u32) = (0, 0);

@@ -50,7 +50,7 @@ pub fn draw_more(
     Ok(picks)
 }
 
-/// The packs of `packs` that aren't among `taken`, in their order.
+// The packs of `packs` that aren't among `taken`, in their order.
 fn left_of(alloc: Global, packs: &[u64], taken: &[u64]) -> Result<Vec<u64>, NoMemory>
     ensures { IfOk result (λ left. left.items ≡ packs_left packs.now taken.now) }
 {
@@ -61,7 +61,7 @@ fn left_of(alloc: Global, packs: &[u64], taken: &[u64]) -> Result<Vec<u64>, NoMe
         .collect(alloc)
 }
 
-/// Takes `k` packs out of `remaining`, in drawing order.
+// Takes `k` packs out of `remaining`, in drawing order.
 fn take_packs(
     alloc: Global,
     mut word: u64,

@@ -47,7 +47,7 @@ fn words_of_the_table(rt: HostRuntime) -> Result<(), Fail> {
     Ok(())
 }
 
-/// The numbers from 1 to `count`.
+// The numbers from 1 to `count`.
 fn numbers(alloc: Global, count: u64) -> Result<Vec<u64>, NoMemory>
     ensures rising { IfOk result (λ numbers. IsStrictlyIncreasing numbers.items) }
     ensures count { IfOk result (λ numbers. length numbers.items ≡ count) }

@@ -1,11 +1,11 @@
 ghost use Rattle.std.specs.Prelude.{◌≡◌, ◌<◌};
 ghost use Rattle.sample_draw.specs.Draws.{next_word, place_of};
 
-/// The factor of the generator, that of Knuth's MMIX.
+// The factor of the generator, that of Knuth's MMIX.
 const MULTIPLIER: u64 = 6_364_136_223_846_793_005;
-/// What the generator adds, that of Knuth's MMIX.
+// What the generator adds, that of Knuth's MMIX.
 const INCREMENT: u64 = 1_442_695_040_888_963_407;
-/// The low bits of a word, which repeat too soon to choose by.
+// The low bits of a word, which repeat too soon to choose by.
 const LOW_BITS: u32 = 33;
 
 /// The word that follows.

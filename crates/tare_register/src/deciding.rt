@@ -5,7 +5,7 @@ ghost use Rattle.tare_register.specs.Tares.{decides, deciding_tare, next_day, ta
 
 use crate::types::{DatedTare, ProductTare};
 
-// The tare that decides on a day for the product.
+/// The tare that decides on a day for the product.
 pub fn find_deciding(entries: &[ProductTare], product: u32, day: i32) -> Option<DatedTare>
     ensures { result ≡ deciding_tare (tares_of entries.now product) day }
 {
@@ -25,7 +25,7 @@ fn is_deciding(entry: &ProductTare, product: u32, day: i32, known: Option<DatedT
     entry.product == product && entry.dated.decides(day, known)
 }
 
-// The first day after that day for which the product has an entry.
+/// The first day after that day for which the product has an entry.
 pub fn find_next_day(entries: &[ProductTare], product: u32, day: i32) -> Option<i32>
     ensures { result ≡ next_day (tares_of entries.now product) day }
 {
