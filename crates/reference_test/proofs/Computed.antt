@@ -52,6 +52,13 @@ fits-product w {a'} {a} {b'} {b} {m} {n} fits x y =
     let abs = unsigned_abs-mul a b in
     rw same (fits_signed_from_abs w (a *ℤ b) (omega arith))
 
+-- a difference fits
+pub fits-difference : (w : Width) {a' a b' b : ℤ} {m n : ℕ} → m + n < 2 ^ hbits w → Computes a' a m → Computes b' b n → FitsSigned w (a' -ℤ b')
+fits-difference w {a'} {a} {b'} {b} {m} {n} fits x y =
+    let same : a' -ℤ b' ≡ a -ℤ b = ap (λ t. t -ℤ b') x.same ∙ ap (λ t. a -ℤ t) y.same in
+    let near : unsigned_abs (a -ℤ b) ≤ m + n = omega (arith, ints, x.near, y.near) in
+    rw same (fits_signed_from_abs w (a -ℤ b) (omega (arith, near, fits)))
+
 -- a number that stands in the code
 pub computes_literal : (n : ℕ) → Computes (pos n) (pos n) n
 computes_literal n = record { same = refl; near = omega (arith, ints) }

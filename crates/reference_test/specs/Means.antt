@@ -49,3 +49,24 @@ FallsShortWithin values nominal k1000 =
 abbrev pub MeanAccepts : List ℤ → ℤ → ℕ → Type 0
 MeanAccepts values nominal k1000 =
     ReachesNominal values nominal ⊎ ((2 ≤ length values) × (0 < k1000) × FallsShortWithin values nominal k1000)
+
+-- ---- goods by volume: values are in mg, the nominal quantity is in microlitres, and a density is
+-- in mg a litre, so a million times a mass is compared with a density times a volume
+
+-- a million times how far n values fall short of the nominal quantity at a density, in all
+abbrev pub volume_shortfall : List ℤ → ℤ → ℕ → ℤ
+volume_shortfall values nominal density =
+    pos (length values) *ℤ pos density *ℤ nominal -ℤ pos 1000000 *ℤ total values
+
+-- the mean falls short by no more than k standard deviations, with divisor n - 1, where k is in
+-- thousandths
+abbrev pub VolumeFallsShort : List ℤ → ℤ → ℕ → ℕ → Type 0
+VolumeFallsShort values nominal density k1000 =
+    ((pos (length values) -ℤ pos 1) *ℤ square (volume_shortfall values nominal density))
+    ≤ℤ (pos 1000000 *ℤ square (pos k1000) *ℤ squared_deviations values)
+
+-- the mean is accepted where it reaches the nominal quantity, or falls short by little enough
+abbrev pub VolumeMeanAccepts : List ℤ → ℤ → ℕ → ℕ → Type 0
+VolumeMeanAccepts values nominal density k1000 =
+    (volume_shortfall values nominal density ≤ℤ pos 0)
+    ⊎ ((2 ≤ length values) × (0 < k1000) × VolumeFallsShort values nominal density k1000)

@@ -91,6 +91,74 @@ fn means_of_the_table(rt: HostRuntime) {
     }
 }
 
+// Two values in mg and how often each was added; the nominal quantity in microlitres; the density
+// in mg a litre; the thousandths; what is answered. By a Python script over the list of values;
+// the last six are at their edges.
+const VOLUMES: [([(i64, u32); 2], i64, u32, u32, bool); 10] = [
+    ([(1_040_000, 20), NONE], 1_000_000, 1_040_000, 640, true),
+    ([(1_039_999, 20), NONE], 1_000_000, 1_040_000, 640, false),
+    (
+        [(250_344, 10), (248_344, 10)],
+        250_000,
+        1_000_000,
+        640,
+        true,
+    ),
+    (
+        [(250_343, 10), (248_343, 10)],
+        250_000,
+        1_000_000,
+        640,
+        false,
+    ),
+    (
+        [(1_040_844, 10), (1_038_844, 10)],
+        1_000_000,
+        1_040_500,
+        640,
+        true,
+    ),
+    (
+        [(1_040_843, 10), (1_038_843, 10)],
+        1_000_000,
+        1_040_500,
+        640,
+        false,
+    ),
+    ([(2_500, 2), NONE], 5_000, 500_000, 0, true),
+    ([(2_499, 2), NONE], 5_000, 500_000, 1_000, false),
+    (
+        [(19_999_999, 1), (20_000_001, 1)],
+        10_000_000,
+        2_000_000,
+        0,
+        true,
+    ),
+    ([(19_999_999, 2), NONE], 10_000_000, 2_000_000, 1_000, false),
+];
+
+#[test]
+fn means_of_goods_by_volume(rt: HostRuntime) {
+    for (values, nominal, density, k1000, wanted) in VOLUMES {
+        let mut sums = Sums::new();
+        for (value, times) in values {
+            assert!(rt; value >= -5_000_000 && value <= 30_000_000);
+            for _ in 0..times {
+                assert!(rt; sums.number() < 100);
+                sums.add(value);
+            }
+        }
+        assert!(rt; sums.number() > 0);
+        assert!(rt; nominal >= 5_000 && nominal <= 10_000_000 && k1000 <= 1_000);
+        assert!(rt; density >= 500_000 && density <= 2_000_000);
+        assert_eq!(rt;
+            mean_check_at(&sums, nominal, density, k1000),
+            wanted,
+            "at {nominal}, {density} and {k1000}"
+        );
+    }
+}
+
 // Each number of defective packs at its edges, by the plans of 100 and of 99 packs kept and of 100
 // destroyed.
 const CONTENTS: [(u32, Mode, u32, Option<u32>, Contents); 15] = [

@@ -1,5 +1,5 @@
 ghost use Rattle.std.specs.Prelude.{◌≡◌, ◌+◌, ◌<◌, ◌≤◌, ◌≤ℤ◌, ◌-ℤ◌, ◌*ℤ◌, [], ◌∷◌, ◌++◌, List, ℤ, pos, neg_ℤ, unsigned_abs};
-ghost use Rattle.hall_limits.specs.declared.TheConstants.{MAX_GROSS, MAX_TARE};
+ghost use Rattle.hall_limits.specs.declared.TheConstants.{MAX_DENSITY, MAX_GROSS, MAX_TARE};
 ghost use Rattle.annex_tables.specs.Errors.{IsNominal};
 ghost use Rattle.reference_test.specs.Means.{square, sums_of};
 
@@ -78,6 +78,20 @@ impl Sums {
         ensures bounded { unsigned_abs result ≤ 4000000000 }
     {
         i128::from(self.number) * i128::from(nominal) - i128::from(self.values)
+    }
+
+    /// A million times how far the values in mg fall short of as many times the nominal quantity in
+    /// microlitres at a density in mg a litre; negative where they don't.
+    pub(crate) fn volume_shortfall(&self, nominal: i64, density: u32) -> i128
+        requires in_range { IsNominal nominal }
+        requires greatest { density ≤ MAX_DENSITY }
+        ensures value { result
+            ≡ pos self.now.number *ℤ pos density *ℤ nominal
+            -ℤ pos 1000000 *ℤ self.now.sum_of_values }
+        ensures bounded { unsigned_abs result ≤ 5000000000000000 }
+    {
+        i128::from(self.number) * i128::from(density) * i128::from(nominal)
+            - 1_000_000 * i128::from(self.values)
     }
 
     /// The squares of how far n times each of the n values is from the sum of the values, added up.
