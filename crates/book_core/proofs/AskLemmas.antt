@@ -15,7 +15,7 @@ use Rattle.book_core.specs.declared.types.Step.TheVariants.{New, Known}
 use Rattle.book_core.specs.declared.types.BookError.{BookError}
 use Rattle.book_core.specs.declared.types.BookError.TheVariants as error
 use Rattle.book_core.specs.View.{ReadyEntry}
-use Rattle.book_core.specs.Steps.{asked_act, ready_for, step_by, GivesUnlessNoMemory, handed_on, GivesAnswer, list_behind}
+use Rattle.book_core.specs.Steps.{asked_act, ready_for, step_unless, GivesUnlessNoMemory, handed_on, GivesAnswer, list_behind}
 
 abbrev step_error : BookError → Result Step BookError
 step_error e = Err e
@@ -24,7 +24,7 @@ error_injective : (a b : BookError) → step_error a ≡ step_error b → a ≡ 
 error_injective a b h = cc
 
 error_by : (entries : List Entry) (act : Act) (ready : ReadyEntry) (entry : Entry) (o : Option Refusal) (e : BookError)
-    → GivesUnlessNoMemory (Err e) (step_by entries ready o) → GivesAnswer (Err e) (act_answer entries act o) (entry_unless o entry)
+    → GivesUnlessNoMemory (Err e) (step_unless entries ready o) → GivesAnswer (Err e) (act_answer entries act o) (entry_unless o entry)
 error_by entries act ready entry None error.NoMemory h = refl
 error_by entries act ready entry None (error.Refused refused) h = absurd (cc)
 error_by entries act ready entry (Some refusal) error.NoMemory h = absurd (cc)
@@ -32,16 +32,16 @@ error_by entries act ready entry (Some refusal) (error.Refused refused) h = ap (
 
 -- an act that isn't ready is refused, or there is no memory for its entry
 pub error_answer : (limit by : ℕ) (entries : List Entry) (ask : Ask) (act : Act) (step : Result Step BookError) (e : BookError) → ask.want ≡ want.Act act → step ≡ Err e
-    → GivesUnlessNoMemory step (step_by entries (ready_for entries by (asked_act ask.desk ask.request act) act) (refusal_of limit entries act))
+    → GivesUnlessNoMemory step (step_unless entries (ready_for entries by (asked_act ask.desk ask.request act) act) (refusal_of limit entries act))
     → GivesAnswer (Err e) (answer limit entries ask) (added limit entries by ask)
 error_answer limit by entries ask act step e wants is exact =
     let ready = ready_for entries by (asked_act ask.desk ask.request act) act in
-    let given = subst (λ (s : Result Step BookError). GivesUnlessNoMemory s (step_by entries ready (refusal_of limit entries act))) is exact in
+    let given = subst (λ (s : Result Step BookError). GivesUnlessNoMemory s (step_unless entries ready (refusal_of limit entries act))) is exact in
     subst (λ (w : Want). GivesAnswer (Err e) (want_answer limit entries w) (want_added limit entries by ask w)) (sym wants)
     (error_by entries act ready (entry_for entries by ask act) (refusal_of limit entries act) e given)
 
 error_list_by : (entries : List Entry) (ready : ReadyEntry) (entry : Entry) (o : Option Refusal) (e : BookError)
-    → GivesUnlessNoMemory (Err e) (step_by entries ready o) → entries ≡ list_behind (Err e) entries (entry_unless o entry)
+    → GivesUnlessNoMemory (Err e) (step_unless entries ready o) → entries ≡ list_behind (Err e) entries (entry_unless o entry)
 error_list_by entries ready entry None error.NoMemory h = refl
 error_list_by entries ready entry None (error.Refused refused) h = absurd (cc)
 error_list_by entries ready entry (Some refusal) error.NoMemory h = absurd (cc)
@@ -49,11 +49,11 @@ error_list_by entries ready entry (Some refusal) (error.Refused refused) h = sym
 
 -- so the list stays as it is
 pub error_list : (limit by : ℕ) (entries : List Entry) (ask : Ask) (act : Act) (step : Result Step BookError) (e : BookError) → ask.want ≡ want.Act act → step ≡ Err e
-    → GivesUnlessNoMemory step (step_by entries (ready_for entries by (asked_act ask.desk ask.request act) act) (refusal_of limit entries act))
+    → GivesUnlessNoMemory step (step_unless entries (ready_for entries by (asked_act ask.desk ask.request act) act) (refusal_of limit entries act))
     → entries ≡ list_behind (Err e) entries (added limit entries by ask)
 error_list limit by entries ask act step e wants is exact =
     let ready = ready_for entries by (asked_act ask.desk ask.request act) act in
-    let given = subst (λ (s : Result Step BookError). GivesUnlessNoMemory s (step_by entries ready (refusal_of limit entries act))) is exact in
+    let given = subst (λ (s : Result Step BookError). GivesUnlessNoMemory s (step_unless entries ready (refusal_of limit entries act))) is exact in
     subst (λ (w : Want). entries ≡ list_behind (Err e) entries (want_added limit entries by ask w)) (sym wants)
     (error_list_by entries ready (entry_for entries by ask act) (refusal_of limit entries act) e given)
 
@@ -63,19 +63,19 @@ new_step r = Ok (New r)
 new_injective : (a b : ReadyEntry) → new_step a ≡ new_step b → a ≡ b
 new_injective a b h = cc
 
-new_by : (entries : List Entry) (ready given : ReadyEntry) (o : Option Refusal) → GivesUnlessNoMemory (Ok (New given)) (step_by entries ready o) → (o ≡ None) × (given ≡ ready)
+new_by : (entries : List Entry) (ready given : ReadyEntry) (o : Option Refusal) → GivesUnlessNoMemory (Ok (New given)) (step_unless entries ready o) → (o ≡ None) × (given ≡ ready)
 new_by entries ready given None h = (refl, new_injective given ready h)
 new_by entries ready given (Some refusal) h = absurd (cc)
 
 -- what is ready is the entry of the act, which no rule refuses
 pub ready_is : (limit by : ℕ) (entries : List Entry) (ask : Ask) (act : Act) (step : Result Step BookError) (new : Step) (given : ReadyEntry) → step ≡ Ok new → new ≡ New given
-    → GivesUnlessNoMemory step (step_by entries (ready_for entries by (asked_act ask.desk ask.request act) act) (refusal_of limit entries act))
+    → GivesUnlessNoMemory step (step_unless entries (ready_for entries by (asked_act ask.desk ask.request act) act) (refusal_of limit entries act))
     → (refusal_of limit entries act ≡ None) × (given ≡ ready_for entries by ask act)
 ready_is limit by entries ask act step new given is is_new exact =
     let ready = ready_for entries by (asked_act ask.desk ask.request act) act in
     let whole : step ≡ Ok (New given) = is ∙ ap (λ (s : Step). Ok s) is_new in
     new_by entries ready given (refusal_of limit entries act)
-    (subst (λ (s : Result Step BookError). GivesUnlessNoMemory s (step_by entries ready (refusal_of limit entries act))) whole exact)
+    (subst (λ (s : Result Step BookError). GivesUnlessNoMemory s (step_unless entries ready (refusal_of limit entries act))) whole exact)
 
 -- what was entered is answered as the ask
 pub new_answer : (limit by : ℕ) (entries : List Entry) (ask : Ask) (act : Act) (given : ReadyEntry) (answered : Answered) → ask.want ≡ want.Act act
@@ -97,12 +97,12 @@ new_list limit by entries list ask act given wants is entered =
 
 -- no step is known yet
 pub never_known : (limit by : ℕ) (entries : List Entry) (ask : Ask) (act : Act) (step : Result Step BookError) (known : Step) (answered : Answered) → step ≡ Ok known → known ≡ Known answered
-    → GivesUnlessNoMemory step (step_by entries (ready_for entries by (asked_act ask.desk ask.request act) act) (refusal_of limit entries act)) → ⊥
+    → GivesUnlessNoMemory step (step_unless entries (ready_for entries by (asked_act ask.desk ask.request act) act) (refusal_of limit entries act)) → ⊥
 never_known limit by entries ask act step known answered is is_known exact =
     let ready = ready_for entries by (asked_act ask.desk ask.request act) act in
     let whole : step ≡ Ok (Known answered) = is ∙ ap (λ (s : Step). Ok s) is_known in
-    none (refusal_of limit entries act) (subst (λ (s : Result Step BookError). GivesUnlessNoMemory s (step_by entries ready (refusal_of limit entries act))) whole exact)
+    none (refusal_of limit entries act) (subst (λ (s : Result Step BookError). GivesUnlessNoMemory s (step_unless entries ready (refusal_of limit entries act))) whole exact)
   where
-    none : (o : Option Refusal) → GivesUnlessNoMemory (Ok (Known answered)) (step_by entries (ready_for entries by (asked_act ask.desk ask.request act) act) o) → ⊥
+    none : (o : Option Refusal) → GivesUnlessNoMemory (Ok (Known answered)) (step_unless entries (ready_for entries by (asked_act ask.desk ask.request act) act) o) → ⊥
     none None h = cc
     none (Some refusal) h = cc

@@ -16,13 +16,13 @@ use Rattle.book_words.specs.Piles.{population_of, count_below}
 use Rattle.book_words.specs.Signals.{with_act, recorded_signal}
 use Rattle.book_walks.specs.declared.counters.Population.{Population}
 use Rattle.book_walks.specs.Counting.{CountsOf}
-use Rattle.book_core.specs.Judging.{signal_by}
+use Rattle.book_core.specs.Judging.{signal_among}
 
 -- the signal by the counters is that by the population that they stand for
 pub judged : (entries : List Entry) (batch : Name) (gross : ℤ) (some : List Reading) (limits : Limits) (population : Population) (net : ℤ) (signal : Signal)
     → limits ≡ limits_of_batch entries batch → CountsOf entries limits some population → net ≡ net_of_gross entries (Some batch) (newest_day entries) gross
     → signal ≡ signal_of net limits (nat_lt 0 population.inadequate) population.n population.nonstandard
-    → signal ≡ signal_by entries batch gross some
+    → signal ≡ signal_among entries batch gross some
 judged entries batch gross some limits population net signal limits_is counts net_is is =
     is ∙ ap (λ (n : ℕ). signal_of net limits (nat_lt 0 population.inadequate) n population.nonstandard) counts.n
     ∙ ap (λ (n : ℕ). signal_of net limits (nat_lt 0 population.inadequate) (length some) n) counts.nonstandard
@@ -33,10 +33,10 @@ judged entries batch gross some limits population net signal limits_is counts ne
 -- what is recorded with a weighing, by the entries before it
 abbrev recorded_by : ℕ → ℤ → List Entry → ℕ → List Entry → Option Signal
 recorded_by lane gross entries many whole =
-    option_map (λ batch. signal_by entries batch gross (population_of batch (readings_among many whole))) (last_batch entries lane)
+    option_map (λ batch. signal_among entries batch gross (population_of batch (readings_among many whole))) (last_batch entries lane)
 
 pub recorded : (entries whole : List Entry) (many lane : ℕ) (gross : ℤ) (prior : Prior) (act : Act) (signal : Option Signal) → whole ≡ with_act entries act → many ≡ length entries → act ≡ Weigh lane gross prior
-    → signal ≡ option_map (λ batch. signal_by (take many whole) batch gross (population_of batch (readings_among many whole))) (last_batch (take many whole) lane)
+    → signal ≡ option_map (λ batch. signal_among (take many whole) batch gross (population_of batch (readings_among many whole))) (last_batch (take many whole) lane)
     → signal ≡ recorded_signal entries act
 recorded entries whole many lane gross prior act signal whole_is many_is act_is is =
     let weighing = Weigh lane gross prior in

@@ -13,8 +13,8 @@ use Rattle.book_words.specs.Readings.{readings_among, net_of_gross, limits_of_ba
 use Rattle.book_words.specs.Piles.{population_of, count_below, is_held}
 
 -- the signal of a gross in a batch, by some population
-abbrev pub signal_by : List Entry → Name → ℤ → List Reading → Signal
-signal_by entries batch gross some =
+abbrev pub signal_among : List Entry → Name → ℤ → List Reading → Signal
+signal_among entries batch gross some =
     signal_of (net_of_gross entries (Some batch) (newest_day entries) gross) (limits_of_batch entries batch)
     (is_held entries batch some) (length some) (count_below entries (limits_of_batch entries batch).t1 some)
 

@@ -1,15 +1,17 @@
 -- What the calls of a book answer.
-use Rattle.std.specs.Prelude.{◌≡◌, ℕ, ◌+◌, List, [], ◌++◌, length, Option, Some, None, Result, Ok, Err, IsOk, IsSome}
+use Rattle.std.specs.Prelude.{◌≡◌, ℕ, ◌+◌, List, [], ◌∷◌, ◌++◌, length, Option, Some, None, Result, Ok, Err, IsSome}
 use Rattle.std.specs.List.{cons_option}
 use Rattle.book_words.specs.declared.types.Act.{Act}
 use Rattle.book_words.specs.declared.types.Question.{Question}
+use Rattle.book_words.specs.declared.types.Want.{Want}
 use Rattle.book_words.specs.declared.types.Want.TheVariants as want
 use Rattle.book_words.specs.declared.types.Ask.{Ask}
 use Rattle.book_words.specs.declared.types.Answered.{Answered}
 use Rattle.book_words.specs.declared.types.Refused.{Refused}
 use Rattle.book_words.specs.declared.types.Entry.{Entry}
 use Rattle.book_words.specs.declared.refusal.Refusal.{Refusal}
-use Rattle.book_words.specs.Refusals.{refusal_of}
+use Rattle.book_words.specs.Refusals.{book_full, refusals_of, refusal_of}
+use Rattle.book_words.specs.Numbers.{refusal_number, EachFrom}
 use Rattle.book_words.specs.Answers.{entry_for}
 use Rattle.book_core.specs.declared.types.Step.{Step}
 use Rattle.book_core.specs.declared.types.Step.TheVariants.{New}
@@ -31,26 +33,37 @@ ready_for entries by ask act =
     record { number = length entries + 1; entry = entry_for entries by ask act }
 
 -- a refused act is answered its refusal, with the length of the list; any other act is ready
-abbrev pub step_by : List Entry → ReadyEntry → Option Refusal → Result Step BookError
-step_by entries ready (Some refusal) =
+abbrev pub step_unless : List Entry → ReadyEntry → Option Refusal → Result Step BookError
+step_unless entries ready (Some refusal) =
     Err (error.Refused (record { at = length entries; refusal = refusal }))
-step_by entries ready None = Ok (New ready)
+step_unless entries ready None = Ok (New ready)
 
 -- what making an act ready gives
 abbrev pub step_for : BookView → ℕ → ℕ → ℕ → Act → Result Step BookError
 step_for book by desk request act =
-    step_by book.entries (ready_for book.entries by (asked_act desk request act) act)
+    step_unless book.entries (ready_for book.entries by (asked_act desk request act) act)
     (refusal_of book.limit book.entries act)
-
--- a call gives what is wanted; only in place of an Ok may it answer that there is no memory
-abbrev pub GivesUnlessNoMemory : Result Step BookError → Result Step BookError → Type 0
-GivesUnlessNoMemory (Err error.NoMemory) wanted = IsOk wanted
-GivesUnlessNoMemory given wanted = given ≡ wanted
 
 -- what a step has made ready
 abbrev pub made_ready : Result Step BookError → Option ReadyEntry
 made_ready (Ok (New ready)) = Some ready
 made_ready _ = None
+
+-- a call gives what is wanted; only in place of a new step may it answer that there is no memory
+abbrev pub GivesUnlessNoMemory : Result Step BookError → Result Step BookError → Type 0
+GivesUnlessNoMemory (Err error.NoMemory) wanted = IsSome (made_ready wanted)
+GivesUnlessNoMemory given wanted = given ≡ wanted
+
+-- a refusal that is answered has the least number of all that hold
+abbrev pub TellsLeast : ℕ → List Entry → Act → Result Step BookError → Type 0
+TellsLeast limit entries act (Err (error.Refused refused)) =
+    EachFrom (refusal_number refused.refusal) (book_full limit entries ∷ refusals_of entries act)
+TellsLeast limit entries act _ = Unit {0}
+
+-- what is ready to be entered behind an ask: an act leaves nothing ready, a question what there was
+abbrev pub pending_after : Option ReadyEntry → Want → Option ReadyEntry
+pending_after pending (want.Act act) = None
+pending_after pending (want.Question question) = pending
 
 -- an answer, or the refusal as the book hands it on
 abbrev pub handed_on : Result Answered Refused → Result Answered BookError

@@ -3,9 +3,10 @@ ghost use Rattle.std.specs.Option.{option_map};
 ghost use Rattle.hall_limits.specs.declared.TheConstants.{MAX_ROWS};
 ghost use Rattle.book_words.specs.Piles.{unsettled_reading};
 ghost use Rattle.book_words.specs.Answers.{answer, added, IsLegal};
+ghost use Rattle.book_words.specs.Balance.{MovesOnly};
 ghost use Rattle.book_words.specs.Soundness.{IsSound};
 ghost use Rattle.book_core.specs.Judging.{HasItsSignal};
-ghost use Rattle.book_core.specs.Steps.{asked_act, asked_question, step_for, GivesUnlessNoMemory, made_ready, handed_on, GivesAnswer, list_behind};
+ghost use Rattle.book_core.specs.Steps.{asked_act, asked_question, step_for, GivesUnlessNoMemory, made_ready, TellsLeast, pending_after, handed_on, GivesAnswer, list_behind};
 
 use crate::ready::Ready;
 use crate::rows::Rows;
@@ -67,7 +68,9 @@ impl Book {
         ensures entries { self.new.entries
             ≡ list_behind result self.old.entries (added self.old.limit self.old.entries by ask.now) }
         ensures limit { self.new.limit ≡ self.old.limit }
-        ensures legal { IsLegal self.old.entries }
+        ensures pending { self.new.pending ≡ pending_after self.old.pending ask.now.want }
+        ensures legal_before { IsLegal self.old.entries }
+        ensures legal { IsLegal self.new.entries }
     {
         match &ask.want {
             Want::Act(act) => match self.ready(by, ask.desk, ask.request, act)? {
@@ -88,6 +91,7 @@ impl Book {
         requires desk { desk ≡ 0 }
         requires request { request ≡ 0 }
         ensures exact { GivesUnlessNoMemory result (step_for self.old by desk request act.now) }
+        ensures least { TellsLeast self.old.limit self.old.entries act.now result }
         ensures pending { self.new.pending ≡ made_ready result }
         ensures entries { self.new.entries ≡ self.old.entries }
         ensures limit { self.new.limit ≡ self.old.limit }
@@ -121,6 +125,7 @@ impl Book {
         ensures answer { Ok result ≡ answer self.old.limit self.old.entries
             (asked_act ready.entry.desk ready.entry.request ready.entry.act) }
         ensures judged { HasItsSignal ready.entry }
+        ensures moves { MovesOnly self.old.entries ready.entry }
         ensures legal { IsLegal self.new.entries }
     {
         let row = ready.number();

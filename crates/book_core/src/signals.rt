@@ -9,7 +9,7 @@ ghost use Rattle.book_words.specs.Readings.{limits_of_batch, net_of_gross, readi
 ghost use Rattle.book_words.specs.Piles.{population_of, count_below};
 ghost use Rattle.book_words.specs.Signals.{with_act, recorded_signal, judged_signal};
 ghost use Rattle.book_words.specs.Ranges.{AllInRange, is_act_in_range};
-ghost use Rattle.book_core.specs.Judging.{signal_by, IsLimitedIn};
+ghost use Rattle.book_core.specs.Judging.{signal_among, IsLimitedIn};
 
 use annex_tables::Limits;
 use book_walks::acts;
@@ -25,7 +25,7 @@ const NO_LIMITS: Limits = Limits {
 };
 
 // The nominal quantity of a batch's product, in mg.
-fn nominal_put(entries: &[Entry], batch: &Name) -> Option<i64>
+fn nominal_of_batch(entries: &[Entry], batch: &Name) -> Option<i64>
     ensures value { result ≡ option_and_then (nominal_of entries.now) (product_of entries.now batch.now) }
     ensures in_range { AllInRange entries.now → IfSome result (λ nominal. (MIN_NOMINAL ≤ℤ nominal) × (nominal ≤ℤ MAX_NOMINAL)) }
 {
@@ -38,7 +38,7 @@ pub fn limits(entries: &[Entry], batch: &Name) -> Limits
     requires { AllInRange entries.now }
     ensures { result ≡ limits_of_batch entries.now batch.now }
 {
-    match nominal_put(entries, batch) {
+    match nominal_of_batch(entries, batch) {
         Some(nominal) => annex_tables::limits(nominal).unwrap(),
         None => NO_LIMITS,
     }
@@ -64,7 +64,7 @@ fn judge(whole: &[Entry], many: usize, batch: &Name, gross: i64) -> Signal
     requires low { pos 0 ≤ℤ gross }
     requires high { gross ≤ℤ MAX_GROSS }
     requires limited { IsLimitedIn many whole.now }
-    ensures { result ≡ signal_by (take many whole.now) batch.now gross (population_of batch.now (readings_among many whole.now)) }
+    ensures { result ≡ signal_among (take many whole.now) batch.now gross (population_of batch.now (readings_among many whole.now)) }
 {
     let (entries, _) = whole.split_at(many);
     let limits = limits(entries, batch);
@@ -86,7 +86,7 @@ fn weigh(whole: &[Entry], many: usize, lane: u8, gross: i64) -> Option<Signal>
     requires low { pos 0 ≤ℤ gross }
     requires high { gross ≤ℤ MAX_GROSS }
     requires limited { IsLimitedIn many whole.now }
-    ensures { result ≡ option_map (λ batch. signal_by (take many whole.now) batch gross (population_of batch (readings_among many whole.now)))
+    ensures { result ≡ option_map (λ batch. signal_among (take many whole.now) batch gross (population_of batch (readings_among many whole.now)))
         (last_batch (take many whole.now) lane) }
 {
     let (entries, _) = whole.split_at(many);

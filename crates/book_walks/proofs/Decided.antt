@@ -4,7 +4,7 @@ use Rattle.std.proofs.lemmas.Bool.{and_parts}
 use Rattle.std.proofs.lemmas.Int.{ints}
 use Rattle.std.proofs.lemmas.List.{append-nil, take_more, take_all}
 use Rattle.std.specs.List.{cons_option}
-use Rattle.hall_limits.specs.declared.TheConstants.{MAX_TARE, MIN_NOMINAL, MAX_NOMINAL}
+use Rattle.hall_limits.specs.declared.TheConstants.{MAX_DAY, MAX_TARE, MIN_NOMINAL, MAX_NOMINAL}
 use Rattle.book_words.specs.declared.name.Name.{Name}
 use Rattle.book_words.specs.declared.types.Act.{Act}
 use Rattle.book_words.specs.declared.types.Act.TheVariants.{NewDay, PutProduct, PutTare, OpenBatch, StartLane, Weigh, StopLane}
@@ -54,7 +54,7 @@ pub put_in_range : (product : Name) (act : Act) → is_act_in_range act ≡ true
 put_in_range product (PutTare name day tare) h = either (same_name name product)
   where
     either : (b : Bool) → IfSome (cond b (Some (record { day = day; tare = tare })) None) TareInRange
-    either true = within_range tare h
+    either true = within_range tare (and_parts (is_within (pos 0) MAX_DAY day) (is_within (pos 0) MAX_TARE tare) h).1
     either false = tt
 put_in_range product (NewDay day) h = tt
 put_in_range product (PutProduct name nominal) h = tt

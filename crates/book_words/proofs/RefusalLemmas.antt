@@ -1,6 +1,6 @@
 -- What follows where no rule refuses an act, and which refusal is told.
 use Rattle.std.proofs.Common.{◌≡◌, ℕ, ℤ, ◌+◌, ◌≤◌, Bool, true, false, not, List, [], ◌∷◌, Option, Some, None, IfSome, is_none, option_map, int_lt, nat_le, refl, sym, ◌∙◌, ap, arith}
-use Rattle.std.proofs.lemmas.Bool.{and_parts}
+use Rattle.std.proofs.lemmas.Bool.{and_parts, and_from}
 use Rattle.std.proofs.lemmas.Bool.Decides.{nat_tests}
 use Rattle.std.specs.List.{list_any}
 use Rattle.std.specs.Option.{option_or, option_and_then}
@@ -12,12 +12,12 @@ use Rattle.book_words.specs.declared.types.Act.{Act}
 use Rattle.book_words.specs.declared.types.Act.TheVariants.{NewDay, PutProduct, PutTare, OpenBatch, StartLane, Weigh, StopLane}
 use Rattle.book_words.specs.declared.types.Entry.{Entry}
 use Rattle.book_words.specs.declared.refusal.Refusal.{Refusal}
-use Rattle.book_words.specs.declared.refusal.Refusal.TheVariants.{DayBack, BatchState, LaneBusy, NoTare, PriorWrong}
+use Rattle.book_words.specs.declared.refusal.Refusal.TheVariants.{BookFull, DayBack, BatchState, LaneBusy, NoTare, PriorWrong}
 use Rattle.book_words.specs.Acts.{newest_day, product_of, state_of, lane_batch}
 use Rattle.book_words.specs.Tares.{tare_of_product}
-use Rattle.book_words.specs.Numbers.{refusal_number, refusal_numbers, HaveNumbers, ascend_from}
+use Rattle.book_words.specs.Numbers.{refusal_number, refusal_numbers, HaveNumbers, EachFrom, ascend_from}
 use Rattle.book_words.specs.Ranges.{is_act_in_range}
-use Rattle.book_words.specs.Refusals.{refused_if, first_refusal, refusals_of, refusal_by_rule, same_state, day_unset, day_back, product_known, product_unknown, name_shape, day_range, batch_state, lane_number, lane_idle, no_tare, prior_wrong}
+use Rattle.book_words.specs.Refusals.{refused_if, first_refusal, refusals_of, refusal_by_rule, refusal_of, book_full, same_state, day_unset, day_back, product_known, product_unknown, name_shape, day_range, batch_state, lane_number, lane_idle, no_tare, prior_wrong}
 
 -- of several refusals none holds
 pub none_of_two : (a b : Option Refusal) → option_or a b ≡ None → (a ≡ None) × (b ≡ None)
@@ -41,7 +41,7 @@ rules_in_range entries (PutTare product day tare) h =
     let b = none_of_two (product_unknown entries product) _ a.1 in
     let c = none_of_two (day_range day) _ b.1 in
     let d = none_of_two _ None c.1 in
-    not_refused _ _ d.0
+    and_from _ _ (not_refused _ _ c.0) (not_refused _ _ d.0)
 rules_in_range entries (Weigh lane gross prior) h =
     let a = none_of_two (day_unset entries) _ h in
     let b = none_of_two (lane_number lane) _ a.1 in
@@ -112,11 +112,6 @@ numbers_ascend (StartLane lane batch) = refl
 numbers_ascend (Weigh lane gross prior) = refl
 numbers_ascend (StopLane lane prior) = refl
 
--- each of some refusals that is there has at least this number
-abbrev pub EachFrom : ℕ → List (Option Refusal) → Type 0
-EachFrom least [] = Unit {0}
-EachFrom least (o ∷ os) = IfSome o (λ refusal. least ≤ refusal_number refusal) × EachFrom least os
-
 each_from : (least from : ℕ) (os : List (Option Refusal)) (numbers : List ℕ) → least ≤ from → HaveNumbers os numbers → ascend_from from numbers ≡ true → EachFrom least os
 each_from least from [] numbers less have ascend = tt
 each_from least from (o ∷ os) [] less have ascend = absurd have
@@ -145,7 +140,8 @@ least_is_told from (Some told ∷ os) (number ∷ numbers) refusal have ascend f
     some_injective : {a b : Refusal} → Some a ≡ Some b → a ≡ b
     some_injective h = cc
 
--- so the rules tell, of the refusals of an act that hold, the one with the least number
-pub least_refusal : (entries : List Entry) (act : Act) (refusal : Refusal) → refusal_by_rule entries act ≡ Some refusal → EachFrom (refusal_number refusal) (refusals_of entries act)
-least_refusal entries act refusal told =
-    least_is_told 6 (refusals_of entries act) (refusal_numbers act) refusal (have_numbers entries act) (numbers_ascend act) told
+-- so of the refusals of an act that hold, the one with the least number is told
+pub least_refusal : (limit : ℕ) (entries : List Entry) (act : Act) (refusal : Refusal) → refusal_of limit entries act ≡ Some refusal
+    → EachFrom (refusal_number refusal) (book_full limit entries ∷ refusals_of entries act)
+least_refusal limit entries act refusal told =
+    least_is_told 5 (book_full limit entries ∷ refusals_of entries act) (5 ∷ refusal_numbers act) refusal (where_refused _ (BookFull limit), have_numbers entries act) (numbers_ascend act) told

@@ -1,5 +1,5 @@
 -- The numbers and the names of the refusals.
-use Rattle.std.specs.Prelude.{◌≡◌, ℕ, ◌+◌, Bool, true, ◌&&◌, nat_le, List, [], ◌∷◌, codes, Option, IfSome}
+use Rattle.std.specs.Prelude.{◌≡◌, ℕ, ◌+◌, ◌≤◌, Bool, true, ◌&&◌, nat_le, List, [], ◌∷◌, codes, Option, IfSome}
 use Rattle.book_words.specs.declared.types.Act.{Act}
 use Rattle.book_words.specs.declared.types.Act.TheVariants.{NewDay, PutProduct, PutTare, OpenBatch, StartLane, Weigh, StopLane}
 use Rattle.book_words.specs.declared.refusal.Refusal.{Refusal}
@@ -64,6 +64,12 @@ HaveNumbers [] [] = Unit {0}
 HaveNumbers (refusal ∷ refusals) (number ∷ numbers) =
     IfSome refusal (λ there. refusal_number there ≡ number) × HaveNumbers refusals numbers
 HaveNumbers _ _ = ⊥
+
+-- each of some refusals that is there has at least this number
+abbrev pub EachFrom : ℕ → List (Option Refusal) → Type 0
+EachFrom least [] = Unit {0}
+EachFrom least (refusal ∷ refusals) =
+    IfSome refusal (λ there. least ≤ refusal_number there) × EachFrom least refusals
 
 -- some numbers ascend from one on
 abbrev pub ascend_from : ℕ → List ℕ → Bool

@@ -1,5 +1,5 @@
 -- The ranges of masses and days that the book tells, in which they can be printed.
-use Rattle.std.specs.Prelude.{pos, ◌*ℤ◌, ◌≤ℤ◌, Bool, true, List}
+use Rattle.std.specs.Prelude.{pos, ◌*ℤ◌, ◌≤ℤ◌, Bool, true, ◌&&◌, List}
 use Rattle.std.specs.List.{AllPass}
 use Rattle.hall_limits.specs.declared.TheConstants.{MIN_NOMINAL, MAX_NOMINAL, MAX_GROSS, MAX_TARE, MAX_DAY, MAX_ROWS}
 use Rattle.pack_judge.specs.declared.types.Tally.{Tally}
@@ -35,11 +35,12 @@ abbrev pub IsRefusalInRange : Refusal → Type 0
 IsRefusalInRange (DayBack last) = (pos 0 ≤ℤ last) × (last ≤ℤ MAX_DAY)
 IsRefusalInRange _ = Unit {0}
 
--- the mass of an act, or the day that it sets, is within its limits
+-- the masses and the day of an act are within their limits
 abbrev pub is_act_in_range : Act → Bool
 is_act_in_range (NewDay day) = is_within (pos 0) MAX_DAY day
 is_act_in_range (PutProduct name nominal) = is_within MIN_NOMINAL MAX_NOMINAL nominal
-is_act_in_range (PutTare product day tare) = is_within (pos 0) MAX_TARE tare
+is_act_in_range (PutTare product day tare) =
+    is_within (pos 0) MAX_DAY day && is_within (pos 0) MAX_TARE tare
 is_act_in_range (Weigh lane gross prior) = is_within (pos 0) MAX_GROSS gross
 is_act_in_range _ = true
 

@@ -7,7 +7,7 @@ mod refusal;
 mod types;
 
 pub use name::Name;
-pub use refusal::Refusal;
+pub use refusal::{MAX_REFUSAL_NAME, Refusal};
 pub use types::{
     Act, Answered, Ask, BatchState, Entry, Prior, Question, Reading, Refused, Reply, SummaryView,
     Want,

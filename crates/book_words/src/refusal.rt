@@ -5,7 +5,7 @@ use crate::name::Name;
 use crate::types::BatchState;
 
 /// The most bytes of the name of a refusal.
-pub const MAX_NAME: usize = 14;
+pub const MAX_REFUSAL_NAME: usize = 14;
 
 /// Why an act isn't accepted. Of all that hold, the one with the least number is told.
 #[derive(Clone, Copy, Debug, PartialEq, Eq)]
@@ -80,7 +80,7 @@ impl Refusal {
     /// The name of the refusal, as it is printed.
     pub fn name(&self) -> &'static str
         ensures text { result.now ≡ refusal_name self.now }
-        ensures short { length result.now ≤ MAX_NAME }
+        ensures short { length result.now ≤ MAX_REFUSAL_NAME }
     {
         match self {
             Refusal::BookFull { .. } => "BookFull",

@@ -18,9 +18,13 @@ pub enum Prior {
 /// What has become of a batch since it was opened.
 #[derive(Clone, Copy, Debug, PartialEq, Eq)]
 pub enum BatchState {
+    /// Lanes may weigh packs of it.
     Running,
+    /// No more packs of it are weighed.
     Ended,
+    /// A sample of it was drawn.
     Drawn,
+    /// It has its verdict.
     Closed,
 }
 
@@ -55,25 +59,35 @@ pub enum Question {
 /// What is asked: an act or a question.
 #[derive(Clone, Copy, Debug, PartialEq, Eq)]
 pub enum Want {
+    /// Something to take down.
     Act(Act),
+    /// Something to tell.
     Question(Question),
 }
 
 /// Something that a desk asks, with the number of its request.
 #[derive(Clone, Copy, Debug, PartialEq, Eq)]
 pub struct Ask {
+    /// The desk, 101 to 164; 0 for the hall's own commands.
     pub desk: u16,
+    /// The number of the desk's request, from 1; 0 for the hall's own commands.
     pub request: u32,
+    /// What is asked.
     pub want: Want,
 }
 
 /// An accepted command: who brought it, and the signal where it is a weighing.
 #[derive(Clone, Copy, Debug, PartialEq, Eq)]
 pub struct Entry {
+    /// The caller that brought it: 0 for a script, else the number of a lane or a door.
     pub by: u16,
+    /// The desk that asked for it, or 0.
     pub desk: u16,
+    /// The number of that desk's request, or 0.
     pub request: u32,
+    /// What was taken down.
     pub act: Act,
+    /// The signal of a weighing; none for any other act.
     pub signal: Option<Signal>,
 }
 
@@ -111,7 +125,7 @@ pub struct SummaryView {
     pub closed: u32,
 }
 
-/// What is told where nothing stands against it.
+/// The answer to an ask that isn't refused.
 #[derive(Debug, PartialEq, Eq, Drop)]
 pub enum Reply {
     /// The act is taken down in this row.

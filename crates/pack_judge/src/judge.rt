@@ -20,11 +20,11 @@ pub fn class(net: i64, limits: &Limits) -> Class
 }
 
 /// The signal of a new net in mg, in a batch with `n` packs in its population (at most
-/// `MAX_POPULATION`),
-/// `nonstandard` of them (at most `n`) with a net below `t1`, inadequate ones among them; `held`
-/// says that some are inadequate. The first cause that holds is given. That non-standard packs are
-/// let through while they are at most one in forty is this project's own rule for packers; the two
-/// limits are those of Annex I.
+/// `MAX_POPULATION`), `nonstandard` of them (at most `n`) with a net below `t1`, inadequate ones
+/// among them; `held` says that some are inadequate. The first cause that holds is given.
+///
+/// The two limits are those of Annex I. That non-standard packs are let through while they are at
+/// most one in forty is this project's own rule for packers.
 pub fn signal(net: i64, limits: &Limits, held: bool, n: u32, nonstandard: u32) -> Signal
     requires counted { nonstandard ≤ n }
     requires limited { n ≤ MAX_POPULATION }

@@ -60,8 +60,8 @@ volume_shortfall values nominal density =
 
 -- the mean falls short by no more than k standard deviations, with divisor n - 1, where k is in
 -- thousandths
-abbrev pub VolumeFallsShort : List ℤ → ℤ → ℕ → ℕ → Type 0
-VolumeFallsShort values nominal density k1000 =
+abbrev pub VolumeFallsShortWithin : List ℤ → ℤ → ℕ → ℕ → Type 0
+VolumeFallsShortWithin values nominal density k1000 =
     ((pos (length values) -ℤ pos 1) *ℤ square (volume_shortfall values nominal density))
     ≤ℤ (pos 1000000 *ℤ square (pos k1000) *ℤ squared_deviations values)
 
@@ -69,4 +69,4 @@ VolumeFallsShort values nominal density k1000 =
 abbrev pub VolumeMeanAccepts : List ℤ → ℤ → ℕ → ℕ → Type 0
 VolumeMeanAccepts values nominal density k1000 =
     (volume_shortfall values nominal density ≤ℤ pos 0)
-    ⊎ ((2 ≤ length values) × (0 < k1000) × VolumeFallsShort values nominal density k1000)
+    ⊎ ((2 ≤ length values) × (0 < k1000) × VolumeFallsShortWithin values nominal density k1000)

@@ -1,5 +1,5 @@
 //! The two checks of the reference test of Directive 76/211/EEC, Annex II: the contents check and
-//! the mean check. All masses are whole milligrams.
+//! the mean check. Masses are whole milligrams, volumes microlitres, densities mg a litre.
 #![tactic(auto)]
 
 mod contents;

@@ -1,6 +1,6 @@
 ghost use Rattle.std.specs.Prelude.{◌≡◌, ◌<◌, ◌≤◌, ◌↔◌, List, ℤ, IsTrue};
 ghost use Rattle.annex_tables.specs.Errors.{IsNominal};
-ghost use Rattle.reference_test.specs.Means.{sums_of, FallsShortWithin, MeanAccepts, VolumeFallsShort, VolumeMeanAccepts};
+ghost use Rattle.reference_test.specs.Means.{sums_of, FallsShortWithin, MeanAccepts, VolumeFallsShortWithin, VolumeMeanAccepts};
 ghost use Rattle.hall_limits.specs.declared.TheConstants.{MIN_DENSITY, MAX_DENSITY};
 
 use crate::types::Sums;
@@ -56,17 +56,17 @@ pub fn mean_check_at(sums: &Sums, nominal: i64, density: u32, k1000: u32) -> boo
     if sums.number() < 2 || k1000 == 0 {
         return false;
     }
-    volume_falls_short(sums, nominal, density, k1000)
+    volume_falls_short_within(sums, nominal, density, k1000)
 }
 
 // Whether the values fall short at a density by no more than `k1000` thousandths of the standard
 // deviation: both sides squared and freed of their divisors.
-fn volume_falls_short(sums: &Sums, nominal: i64, density: u32, k1000: u32) -> bool
+fn volume_falls_short_within(sums: &Sums, nominal: i64, density: u32, k1000: u32) -> bool
     requires in_range { IsNominal nominal }
     requires greatest { density ≤ MAX_DENSITY }
     requires part { k1000 ≤ 1000 }
     ensures { (values : List ℤ) → sums.now ≡ sums_of values
-        → IsTrue result ↔ VolumeFallsShort values nominal density k1000 }
+        → IsTrue result ↔ VolumeFallsShortWithin values nominal density k1000 }
 {
     let shortfall = sums.volume_shortfall(nominal, density);
     let part = i128::from(k1000);

@@ -3,6 +3,7 @@ use Rattle.std.specs.Vec.{vec_capacity}
 use Rattle.book_words.specs.declared.types.Entry.{Entry}
 use Rattle.book_core.specs.View.{BookView}
 use Rattle.book_core.specs.Keeping.{IsKept}
+use Rattle.book_words.proofs.MoveLaws.{moves_only}
 use Rattle.book_core.proofs.InvariantLemmas.{kept-push}
 use Rattle.book_core.proofs.SignalLemmas.{has_its_signal}
 use Rattle.book_core.proofs.book.Book.enter.Goals as goal
@@ -29,3 +30,6 @@ pub returns-clause-judged : goal.returns-clause-judged
 returns-clause-judged c =
     let room = c.self.invariant.1 c.args.ready (ap (λ (v : BookView). v.pending) c.self.view_is ∙ c.requires) in
     has_its_signal c.self.inside.entries.items c.args.ready.entry room.lawful
+
+pub returns-clause-moves : goal.returns-clause-moves
+returns-clause-moves c = moves_only c.args.self.now.entries c.args.ready.entry

@@ -3,7 +3,7 @@ use Rattle.std.proofs.lemmas.Int.{to_z-of_z}
 use Rattle.reference_test.specs.Means.{square, PowerSums}
 use Rattle.reference_test.proofs.Computed.{at_most-iff}
 use Rattle.reference_test.proofs.Sides.{volume_left, volume_left-fits, volume_right, volume_right-fits, volume_shortfall_is, squared_deviations_are}
-use Rattle.reference_test.proofs.means.volume_falls_short.Goals as goal
+use Rattle.reference_test.proofs.means.volume_falls_short_within.Goals as goal
 
 pub overflow_mul-short-2 : goal.overflow_mul-short-2
 overflow_mul-short-2 c = volume_left-fits _ _ c.volume_shortfall-shortfall.result c.from.ensures c.number.ensures.few c.volume_shortfall-shortfall.ensures.bounded
