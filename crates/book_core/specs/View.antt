@@ -7,8 +7,10 @@ pub record ReadyEntry : Type 0 where
   pub number : ℕ
   pub entry : Entry
 
--- the accepted commands, the most rows that the book may have, and what is ready to be entered
+-- the accepted commands, the most rows that the book may have, what is ready to be entered, and for
+-- how many more rows there is room
 pub record BookView : Type 0 where
   pub entries : List Entry
   pub limit : ℕ
   pub pending : Option ReadyEntry
+  pub spare : ℕ

@@ -29,13 +29,13 @@ pub struct Book {
 }
 
 impl Model for Book {
-    ghost use Rattle.std.specs.Prelude.{vec_capacity};
+    ghost use Rattle.std.specs.Prelude.{vec_capacity, vec_len, ◌-◌};
     ghost use Rattle.book_core.specs.View.{BookView};
     ghost use Rattle.book_core.specs.Keeping.{IsKept, IsPendingKept};
 
     ghost Value = { BookView };
 
-    ghost view = { λ b. record { entries = b.entries.items; limit = b.limit; pending = b.pending } };
+    ghost view = { λ b. record { entries = b.entries.items; limit = b.limit; pending = b.pending; spare = vec_capacity b.entries - vec_len b.entries } };
 
     ghost invariant = { λ b. IsKept b.entries.items b.limit × IsPendingKept b.entries.items b.limit (vec_capacity b.entries) b.pending };
 }
@@ -45,7 +45,7 @@ impl Book {
     pub fn new(alloc: Global, limit: u32) -> Book
         requires least { 1 ≤ limit }
         requires most { limit ≤ MAX_ROWS }
-        ensures { result ≡ record { entries = []; limit = limit; pending = None } }
+        ensures { result ≡ record { entries = []; limit = limit; pending = None; spare = 0 } }
     {
         Book {
             entries: Vec::new(alloc),
@@ -124,6 +124,7 @@ impl Book {
         ensures pending { self.new.pending ≡ None }
         ensures answer { Ok result ≡ answer self.old.limit self.old.entries
             (asked_act ready.entry.desk ready.entry.request ready.entry.act) }
+        ensures spare { self.new.spare + 1 ≡ self.old.spare }
         ensures judged { HasItsSignal ready.entry }
         ensures moves { MovesOnly self.old.entries ready.entry }
         ensures legal { IsLegal self.new.entries }

@@ -35,7 +35,8 @@ pub fn reserve_and_judge(entries: &mut Vec<Entry>, act: &Act) -> Result<Option<S
 /// Enters an entry that there is room for.
 pub fn enter(entries: &mut Vec<Entry>, entry: Entry)
     requires { length entries.old.items < vec_capacity entries.old }
-    ensures { entries.new.items ≡ entries.old.items ++ entry ∷ [] }
+    ensures items { entries.new.items ≡ entries.old.items ++ entry ∷ [] }
+    ensures capacity { vec_capacity entries.new ≡ vec_capacity entries.old }
 {
-    let _ = entries.push(entry);
+    entries.push_reserved(entry);
 }

@@ -43,11 +43,17 @@ impl Tares {
         ensures err { OnErr result (self.new.entries ≡ self.old.entries) }
         ensures room { 0 < self.old.spare → IsOk result }
         ensures spare { self.old.spare ≤ self.new.spare + 1 }
+        ensures kept { 0 < self.old.spare → self.new.spare + 1 ≡ self.old.spare }
     {
-        self.entries.push(ProductTare {
+        let entry = ProductTare {
             product,
             dated: DatedTare { day, tare },
-        })?;
+        };
+        if self.entries.len() < self.entries.capacity() {
+            self.entries.push_reserved(entry);
+        } else {
+            self.entries.push(entry)?;
+        }
         Ok(())
     }
 

@@ -16,13 +16,13 @@ enter-requires c =
 pub invariant_of-self : goal.invariant_of-self
 invariant_of-self c =
     let room = c.self.invariant.1 c.args.ready (ap (λ (v : BookView). v.pending) c.self.view_is ∙ c.requires) in
-    let items = c.enter.ensures ∙ ap (λ (e : Entry). c.self.inside.entries.items ++ e ∷ []) c.entry-entry.ensures in
+    let items = c.enter.ensures.items ∙ ap (λ (e : Entry). c.self.inside.entries.items ++ e ∷ []) c.entry-entry.ensures in
     (subst (λ (es : List Entry). IsKept es c.self.inside.limit) (sym items) (kept-push c.self.inside.entries.items c.self.inside.limit (vec_capacity c.self.inside.entries) c.args.ready c.self.invariant.0 room), λ ready h. absurd (cc))
 
 pub returns-clause-legal : goal.returns-clause-legal
 returns-clause-legal c =
     let room = c.self.invariant.1 c.args.ready (ap (λ (v : BookView). v.pending) c.self.view_is ∙ c.requires) in
-    let items = c.enter.ensures ∙ ap (λ (e : Entry). c.self.inside.entries.items ++ e ∷ []) c.entry-entry.ensures in
+    let items = c.enter.ensures.items ∙ ap (λ (e : Entry). c.self.inside.entries.items ++ e ∷ []) c.entry-entry.ensures in
     let kept = subst (λ (es : List Entry). IsKept es c.self.inside.limit) (sym items) (kept-push c.self.inside.entries.items c.self.inside.limit (vec_capacity c.self.inside.entries) c.args.ready c.self.invariant.0 room) in
     kept.legal
 
