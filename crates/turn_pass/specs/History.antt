@@ -3,10 +3,14 @@
 use Rattle.std.specs.Prelude.{◌≡◌, ◌≢◌, ℕ, ◌+◌, ◌-◌, ◌<◌, List, [], ◌∷◌, ◌++◌, length, map, nat_le, if◌then◌else◌, Some, slice_get, All, AllPairs, Contains}
 use Rattle.std.specs.List.{sum_by}
 use mathlib.Core.List.{IsPrefix}
-use Rattle.atomic_table.specs.Seated.{TableId}
+pub use Rattle.atomic_table.specs.Seated.{TableId}
 use Rattle.turn_pass.specs.declared.entries.Appended.{Appended}
 use Rattle.turn_pass.specs.declared.entries.Own.{Own}
 use Rattle.turn_pass.specs.declared.entries.Known.{Known}
+
+-- the name of no table: what a session's name stands for where no call picks one
+abbrev pub no_table : TableId
+no_table = record { words = 0; slots = 0; views_name = 0; atom = 0; block = 0; offset = 0; slot_names = [] }
 
 -- which Turn it is, and how many rows stood before the session
 pub record TurnState : Type 0 where

@@ -4,6 +4,7 @@ ghost use Rattle.std.specs.List.{sum_by};
 ghost use Rattle.turn_pass.specs.Whole.{MakeAll};
 ghost use Rattle.turn_pass.specs.History.{appended, newcomer, with_pass, note_of, known_of, HasNoRow, IsPartOf};
 ghost use Rattle.turn_pass.specs.Rule.{first_view};
+ghost use Rattle.turn_pass.specs.Seats.{book_state};
 
 use crate::closing::{Closing, last_count};
 use crate::pass::{Note, PassSeat};
@@ -31,9 +32,9 @@ impl<E, L: Ledger, M: Ledger> Model for BookSeat<E, L, M> {
 
     ghost Value = { BookState E };
 
-    ghost use Rattle.turn_pass.specs.Seats.{IsBookSeat, IsOwnShare};
+    ghost use Rattle.turn_pass.specs.Seats.{IsBookSeat, IsOwnShare, book_state};
 
-    ghost view = { λ b. record { table = b.place.table_id; history = b.place.me.0.history; list = b.place.me.0.known.seen; bys = b.place.me.0.bys; row_parts = b.row_share.parts; fault_parts = b.fault_share.parts; faults = b.faults.total } };
+    ghost view = { λ b. book_state b.place.table_id b.place.me.0 b.row_share.parts b.fault_share.parts b.faults.total };
 
     ghost invariant = { λ b. IsBookSeat b.place.me.0 b.rows.total b.faults.total b.booked × (b.place.me.1 ≡ []) × IsOwnShare b.row_share.parts b.row_share.amount × IsOwnShare b.fault_share.parts b.fault_share.amount };
 }
@@ -43,7 +44,7 @@ impl<E: Copy, L: Ledger, M: Ledger> BookSeat<E, L, M> {
         requires place { (history : ℕ) × (history < 2 ^ 32) × (place.me ≡ (first_view history, [])) }
         requires rows { (rows.name ≡ L.name) × (rows.parts ≡ L.parts) × (0 < rows.parts) }
         requires faults { (faults.name ≡ M.name) × (faults.parts ≡ M.parts) × (0 < faults.parts) }
-        ensures { result ≡ record { table = place.table_id; history = place.me.0.history; list = []; bys = []; row_parts = rows.parts; fault_parts = faults.parts; faults = 0 } }
+        ensures { result ≡ book_state place.table_id place.me.0 rows.parts faults.parts 0 }
     {
         let (rows, row_share) = rows.open::<L>();
         let (faults, fault_share) = faults.open::<M>();

@@ -4,7 +4,7 @@ ghost use Rattle.std.specs.List.{sum_by};
 ghost use Rattle.turn_pass.specs.declared.rule.Role.TheVariants.{Book};
 ghost use Rattle.turn_pass.specs.History.{known_of, IsPartOf};
 ghost use Rattle.turn_pass.specs.Rule.{with_ended};
-ghost use Rattle.turn_pass.specs.Seats.{IsOf};
+ghost use Rattle.turn_pass.specs.Seats.{IsOf, Knows};
 
 use crate::pass::PassSeat;
 use crate::rule::{Board, Place};
@@ -20,9 +20,9 @@ pub(crate) struct Closing<E, L: Ledger, M: Ledger> {
 
 impl<E: Copy, L: Ledger, M: Ledger> Closing<E, L, M> {
     pub(crate) fn gather(&mut self, board: &Board<E>, mut passes: Vec<PassSeat<E, L, M>>)
-        requires of { IsOf board.now.shared.table_id self.old.place.table_id self.old.place.me.1 × All (λ p. p.table ≡ board.now.shared.table_id) passes.items }
+        requires of { IsOf board.now.shared.table_id self.old.place × All (λ p. p.table ≡ board.now.shared.table_id) passes.items }
         requires book { self.old.place.me.0.role ≡ Book }
-        ensures place { (self.new.place.table_id ≡ self.old.place.table_id) × (self.new.place.me ≡ (with_ended (map known_of passes.items) self.old.place.me.0, [])) }
+        ensures place { Knows self.old.place.table_id (with_ended (map known_of passes.items) self.old.place.me.0) self.new.place }
         ensures rows { (self.new.rows.parts ≡ length passes.items + self.old.rows.parts) × (self.new.rows.amount ≡ sum_by (λ p. p.rows) passes.items + self.old.rows.amount) }
         ensures faults { (self.new.faults.parts ≡ length passes.items + self.old.faults.parts) × (self.new.faults.amount ≡ sum_by (λ p. p.faults) passes.items + self.old.faults.amount) }
     {
@@ -34,7 +34,7 @@ impl<E: Copy, L: Ledger, M: Ledger> Closing<E, L, M> {
 
 // What the word has at last, and what the rule says of the book seat's view then.
 pub(crate) fn last_count<E>(board: Board<E>, place: Place<E>) -> u32
-    requires of { IsOf board.shared.table_id place.table_id place.me.1 }
+    requires of { IsOf board.shared.table_id place }
     requires book { place.me.0.role ≡ Book }
     requires room { place.me.0.history + length place.me.0.known.seen < 2 ^ 32 }
     ensures count { result ≡ place.me.0.history + length place.me.0.known.seen }

@@ -1,6 +1,6 @@
 //! What a caller holds: its pass, and the notes that it meets.
 ghost use Rattle.std.specs.Prelude.{◌≡◌, ◌≢◌, ◌+◌, ◌++◌, ◌∷◌, [], All};
-ghost use Rattle.turn_pass.specs.Seats.{IsOf};
+ghost use Rattle.turn_pass.specs.Seats.{IsOf, Knows, pass_state};
 ghost use Rattle.turn_pass.specs.Rule.{with_ended};
 ghost use mathlib.Core.List.{IsPrefix};
 ghost use Rattle.turn_pass.specs.declared.rule.Role.TheVariants.{Book, Pass};
@@ -29,8 +29,9 @@ impl<E, L: Ledger, M: Ledger> Model for PassSeat<E, L, M> {
     ghost Value = { PassState E };
 
     ghost use Rattle.turn_pass.specs.declared.rule.Role.TheVariants.{Pass};
+    ghost use Rattle.turn_pass.specs.Seats.{pass_state};
 
-    ghost view = { λ p. record { table = p.place.table_id; history = p.place.me.0.history; by = p.place.me.0.known.by; seen = p.place.me.0.known.seen; mine = p.place.me.0.known.mine; rows = p.rows.amount; faults = p.faults.amount } };
+    ghost view = { λ p. pass_state p.place.table_id p.place.me.0 p.rows.amount p.faults.amount };
 
     ghost invariant = { λ p. (p.place.me.0.role ≡ Pass) × (p.place.me.1 ≡ []) × (p.by ≡ p.place.me.0.known.by) × (p.rows.parts ≡ 1) × (p.faults.parts ≡ 1) };
 }
@@ -63,7 +64,7 @@ impl<E: Copy, L: Ledger, M: Ledger> PassSeat<E, L, M> {
     ) -> PassSeat<E, L, M>
         requires place { (place.me.0.role ≡ Pass) × (place.me.1 ≡ []) × (place.me.0.known.by ≡ by) }
         requires parts { (rows.parts ≡ 1) × (faults.parts ≡ 1) }
-        ensures { result ≡ record { table = place.table_id; history = place.me.0.history; by = by; seen = place.me.0.known.seen; mine = place.me.0.known.mine; rows = rows.amount; faults = faults.amount } }
+        ensures { result ≡ pass_state place.table_id place.me.0 rows.amount faults.amount }
     {
         PassSeat {
             place,
@@ -75,9 +76,9 @@ impl<E: Copy, L: Ledger, M: Ledger> PassSeat<E, L, M> {
 
     // The pass is joined to the book seat, and its parts to the seat's own.
     pub(crate) fn end(self, board: &Board<E>, closing: &mut Closing<E, L, M>)
-        requires of { IsOf board.now.shared.table_id closing.old.place.table_id closing.old.place.me.1 × (self.table ≡ board.now.shared.table_id) }
+        requires of { IsOf board.now.shared.table_id closing.old.place × (self.table ≡ board.now.shared.table_id) }
         requires book { closing.old.place.me.0.role ≡ Book }
-        ensures place { (closing.new.place.table_id ≡ closing.old.place.table_id) × (closing.new.place.me ≡ (with_ended (known_of self ∷ []) closing.old.place.me.0, [])) }
+        ensures place { Knows closing.old.place.table_id (with_ended (known_of self ∷ []) closing.old.place.me.0) closing.new.place }
         ensures rows { (closing.new.rows.parts ≡ closing.old.rows.parts + 1) × (closing.new.rows.amount ≡ closing.old.rows.amount + self.rows) }
         ensures faults { (closing.new.faults.parts ≡ closing.old.faults.parts + 1) × (closing.new.faults.amount ≡ closing.old.faults.amount + self.faults) }
     {

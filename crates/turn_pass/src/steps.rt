@@ -2,7 +2,7 @@
 ghost use Rattle.std.specs.Prelude.{◌≡◌, ◌≢◌, ◌+◌, ◌<◌, ◌^◌, ◌∷◌, [], All, length, IfOk};
 ghost use Rattle.turn_pass.specs.declared.rule.Role.TheVariants.{Book, Pass, Note, Spent};
 ghost use Rattle.turn_pass.specs.History.{appended, own, StandsAt, HasNoRow};
-ghost use Rattle.turn_pass.specs.Seats.{IsOf};
+ghost use Rattle.turn_pass.specs.Seats.{IsOf, Knows};
 ghost use Rattle.turn_pass.specs.Rule.{Learns, first_view, with_by, pass_view, note_view, hearing, meeting, ending, with_lines, with_mine};
 
 use crate::rule::{
@@ -13,59 +13,59 @@ use atomic_table::Table;
 use std::alloc::{AllocError, Global};
 
 pub(crate) fn open<E>(alloc: Global, history: u32) -> Result<(Board<E>, Place<E>), AllocError>
-    ensures { IfOk result (λ r. IsOf r.0.shared.table_id r.1.table_id r.1.me.1 × (r.1.me.0 ≡ first_view history) × (r.0.shared.key ≡ history)) }
+    ensures { IfOk result (λ r. IsOf r.0.shared.table_id r.1 × (r.1.me.0 ≡ first_view history) × (r.0.shared.key ≡ history)) }
 {
     Ok(Table::of_words(alloc, &[u64::from(history)], &history)?)
 }
 
 pub(crate) fn deal<E, N: About<E>>(board: &Board<E>, place: &mut Place<E>, by: u16) -> Place<E>
-    requires of { IsOf board.now.shared.table_id place.old.table_id place.old.me.1 }
+    requires of { IsOf board.now.shared.table_id place.old }
     requires book { place.old.me.0.role ≡ Book }
     requires new { All (λ b. b ≢ by) place.old.me.0.bys }
     requires by { N.by ≡ by }
-    ensures place { (place.new.table_id ≡ place.old.table_id) × (place.new.me ≡ (with_by place.old.me.0 by, [])) }
-    ensures pass { (result.table_id ≡ place.old.table_id) × (result.me ≡ (pass_view place.old.me.0 by, [])) }
+    ensures place { Knows place.old.table_id (with_by place.old.me.0 by) place.new }
+    ensures pass { Knows place.old.table_id (pass_view place.old.me.0 by) result }
 {
     board.shared.split_seat::<MakePass<N>>(place)
 }
 
 pub(crate) fn copy<E>(board: &Board<E>, place: &mut Place<E>) -> Place<E>
-    requires of { IsOf board.now.shared.table_id place.old.table_id place.old.me.1 }
+    requires of { IsOf board.now.shared.table_id place.old }
     requires role { place.old.me.0.role ≢ Spent }
-    ensures place { (place.new.table_id ≡ place.old.table_id) × (place.new.me ≡ place.old.me) }
-    ensures note { (result.table_id ≡ place.old.table_id) × (result.me ≡ (note_view place.old.me.0, [])) }
+    ensures place { Knows place.old.table_id place.old.me.0 place.new }
+    ensures note { Knows place.old.table_id (note_view place.old.me.0) result }
 {
     board.shared.split_seat::<MakeNote>(place)
 }
 
 pub(crate) fn hear<E>(board: &Board<E>, place: &mut Place<E>, note: Place<E>)
-    requires of { IsOf board.now.shared.table_id place.old.table_id place.old.me.1 × IsOf board.now.shared.table_id note.table_id note.me.1 }
+    requires of { IsOf board.now.shared.table_id place.old × IsOf board.now.shared.table_id note }
     requires roles { (place.old.me.0.role ≡ Book) × (note.me.0.role ≡ Note) }
-    ensures place { (place.new.table_id ≡ place.old.table_id) × (place.new.me ≡ (hearing place.old.me.0 note.me.0, [])) }
+    ensures place { Knows place.old.table_id (hearing place.old.me.0 note.me.0) place.new }
 {
     board.shared.join_seat::<HearPass>(place, note)
 }
 
 pub(crate) fn meet<E>(board: &Board<E>, place: &mut Place<E>, note: Place<E>)
-    requires of { IsOf board.now.shared.table_id place.old.table_id place.old.me.1 × IsOf board.now.shared.table_id note.table_id note.me.1 }
+    requires of { IsOf board.now.shared.table_id place.old × IsOf board.now.shared.table_id note }
     requires roles { (place.old.me.0.role ≡ Pass) × (note.me.0.role ≡ Note) }
-    ensures place { (place.new.table_id ≡ place.old.table_id) × (place.new.me ≡ (meeting place.old.me.0 note.me.0, [])) }
+    ensures place { Knows place.old.table_id (meeting place.old.me.0 note.me.0) place.new }
 {
     board.shared.join_seat::<MeetNote>(place, note)
 }
 
 pub(crate) fn end<E>(board: &Board<E>, place: &mut Place<E>, pass: Place<E>)
-    requires of { IsOf board.now.shared.table_id place.old.table_id place.old.me.1 × IsOf board.now.shared.table_id pass.table_id pass.me.1 }
+    requires of { IsOf board.now.shared.table_id place.old × IsOf board.now.shared.table_id pass }
     requires roles { (place.old.me.0.role ≡ Book) × (pass.me.0.role ≡ Pass) }
-    ensures place { (place.new.table_id ≡ place.old.table_id) × (place.new.me ≡ (ending place.old.me.0 pass.me.0, [])) }
+    ensures place { Knows place.old.table_id (ending place.old.me.0 pass.me.0) place.new }
 {
     board.shared.join_seat::<EndPass>(place, pass)
 }
 
 pub(crate) fn look<E>(board: &Board<E>, place: &mut Place<E>)
-    requires of { IsOf board.now.shared.table_id place.old.table_id place.old.me.1 }
+    requires of { IsOf board.now.shared.table_id place.old }
     requires role { place.old.me.0.role ≢ Spent }
-    ensures place { (place.new.table_id ≡ place.old.table_id) × (place.new.me ≡ place.old.me) }
+    ensures place { Knows place.old.table_id place.old.me.0 place.new }
     ensures learnt { Learns place.old.me.0 }
 {
     board.shared.load::<LookAgain>(place, 0);
@@ -78,11 +78,11 @@ pub(crate) fn append<E: Copy, N: About<E>>(
     by: u16,
     entry: E,
 ) -> u64
-    requires of { IsOf board.now.shared.table_id place.old.table_id place.old.me.1 }
+    requires of { IsOf board.now.shared.table_id place.old }
     requires book { place.old.me.0.role ≡ Book }
     requires room { place.old.me.0.history + length place.old.me.0.known.seen + 1 < 2 ^ 64 }
     requires line { N.lines ≡ appended by entry ∷ [] }
-    ensures place { (place.new.table_id ≡ place.old.table_id) × (place.new.me ≡ (with_lines place.old.me.0 (appended by entry ∷ []), [])) }
+    ensures place { Knows place.old.table_id (with_lines place.old.me.0 (appended by entry ∷ [])) place.new }
     ensures found { result ≡ place.old.me.0.history + length place.old.me.0.known.seen }
     ensures learnt { Learns place.old.me.0 }
 {
@@ -90,12 +90,12 @@ pub(crate) fn append<E: Copy, N: About<E>>(
 }
 
 pub(crate) fn see<E: Copy, N: About<E>>(board: &Board<E>, place: &mut Place<E>, row: u32, entry: E)
-    requires of { IsOf board.now.shared.table_id place.old.table_id place.old.me.1 }
+    requires of { IsOf board.now.shared.table_id place.old }
     requires pass { place.old.me.0.role ≡ Pass }
     requires stands { StandsAt place.old.me.0.history place.old.me.0.known.seen row (appended place.old.me.0.known.by entry) }
     requires new { HasNoRow place.old.me.0.known.mine row }
     requires own { N.mine ≡ own row entry ∷ [] }
-    ensures place { (place.new.table_id ≡ place.old.table_id) × (place.new.me ≡ (with_mine place.old.me.0 (own row entry ∷ []), [])) }
+    ensures place { Knows place.old.table_id (with_mine place.old.me.0 (own row entry ∷ [])) place.new }
     ensures learnt { Learns place.new.me.0 }
 {
     board.shared.load::<SeeEntry<N>>(place, 0);
