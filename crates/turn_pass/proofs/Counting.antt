@@ -9,9 +9,9 @@ use native.Mathlib.Decide.{ℕ_discrete}
 use Rattle.turn_pass.specs.declared.entries.Appended.{Appended}
 use Rattle.turn_pass.specs.declared.entries.Own.{Own}
 use Rattle.turn_pass.specs.declared.entries.Known.{Known}
-use Rattle.turn_pass.specs.History.{PassState, IsPartOf, StandsAt, Stand, EachOnce, HasNoRow, appended, own, known_of}
+use Rattle.turn_pass.specs.History.{PassState, Agrees, StandsAt, Stand, EachOnce, HasNoRow, appended, own, known_of}
 use Rattle.turn_pass.specs.Whole.{HasAllOfIts, MakeAll}
-use Rattle.turn_pass.proofs.Parts.{pairs_cons}
+use Rattle.turn_pass.proofs.Agreeing.{pairs_cons}
 
 module _ {A : Type 0} where
   pub pairs_head : (R : A → A → Type 0) (x : A) (xs : List A) → AllPairs R (x ∷ xs) → All (R x) xs
@@ -135,7 +135,7 @@ module _ {E : Type 0} where
       get_or-map (λ (l : Appended E). l.by == by) list k line false lt ∙ (ap (λ (l : Appended E). l.by == by) (get_or_from_slice_get list k line line at.1) ∙ eq-eqb by by refl)
 
   -- a pass has at most as many own entries as the list has rows of its number
-  pub own_at_most : (h : ℕ) (list : List (Appended E)) (k : Known E) → IsPartOf h list k → length k.mine ≤ rows_of k.by list
+  pub own_at_most : (h : ℕ) (list : List (Appended E)) (k : Known E) → Agrees h list k → length k.mine ≤ rows_of k.by list
   own_at_most h list k is =
       let each = All-weaker (λ (o : Own E). StandsAt h list o.row (appended k.by o.entry)) (λ (o : Own E). (h < o.row) × (get_or (map (λ (l : Appended E). l.by == k.by) list) (o.row - h - 1) false ≡ true))
       (λ o at. (at.0, marked h k.by list o.row o.entry at)) k.mine is.stand in
@@ -151,7 +151,7 @@ module _ {E : Type 0} where
     look (no other) (inr none) = inr (All-cons (λ (p : Own E). p.row ≢ row) o mine other none)
 
   -- where a pass has as many own entries, it has all of its number
-  pub own_all : (h : ℕ) (list : List (Appended E)) (pass : PassState E) → IsPartOf h list (known_of pass) → length pass.mine ≡ rows_of pass.by list → HasAllOfIts h list pass
+  pub own_all : (h : ℕ) (list : List (Appended E)) (pass : PassState E) → Agrees h list (known_of pass) → length pass.mine ≡ rows_of pass.by list → HasAllOfIts h list pass
   own_all h list pass is same row entry at = look (find_row pass.mine row) where
     look : ((o : Own E) × Contains pass.mine o × (o.row ≡ row)) ⊎ HasNoRow pass.mine row → Contains pass.mine (own row entry)
     look (inl found) =
@@ -162,7 +162,7 @@ module _ {E : Type 0} where
         let entries : o.entry ≡ entry = ap (λ (l : Appended E). l.entry) line in
         subst (Contains pass.mine) (λ i. record { row = found.2 i; entry = entries i }) found.1
     look (inr none) =
-        let more : IsPartOf h list record { by = pass.by; seen = pass.seen; mine = own row entry ∷ pass.mine } = record {
+        let more : Agrees h list record { by = pass.by; seen = pass.seen; mine = own row entry ∷ pass.mine } = record {
           prefix = is.prefix;
           stand = All-cons (λ (o : Own E). StandsAt h list o.row (appended pass.by o.entry)) (own row entry) pass.mine at is.stand;
           once = pairs_cons (λ (o p : Own E). o.row ≢ p.row) (own row entry) pass.mine (All-weaker (λ (o : Own E). o.row ≢ row) (λ (o : Own E). row ≢ o.row) (λ o ne e. ne (sym e)) pass.mine none) is.once;
@@ -188,14 +188,14 @@ module _ {E : Type 0} where
       All-cons (λ (l : Appended E). Contains bys l.by) l ls (times_there l.by bys (omega arith)) (rows_all ls bys apart (omega arith))
 
   -- where the passes have together as many own entries as the list has rows, they make the list
-  pub make_all : (h : ℕ) (list : List (Appended E)) (passes : List (PassState E)) → All (λ (p : PassState E). IsPartOf h list (known_of p)) passes → AllPairs (λ (p q : PassState E). p.by ≢ q.by) passes
+  pub make_all : (h : ℕ) (list : List (Appended E)) (passes : List (PassState E)) → All (λ (p : PassState E). Agrees h list (known_of p)) passes → AllPairs (λ (p q : PassState E). p.by ≢ q.by) passes
       → length list ≡ sum_by (λ (p : PassState E). length p.mine) passes → MakeAll h list passes
   make_all h list passes parts apart total =
       let mine : PassState E → ℕ = λ p. length p.mine in
       let rows : PassState E → ℕ = λ p. rows_of p.by list in
       let number : PassState E → ℕ = λ p. p.by in
       let bys : List ℕ = map number passes in
-      let few : All (λ p. mine p ≤ rows p) passes = All-weaker (λ (p : PassState E). IsPartOf h list (known_of p)) (λ p. mine p ≤ rows p) (λ p is. own_at_most h list (known_of p) is) passes parts in
+      let few : All (λ p. mine p ≤ rows p) passes = All-weaker (λ (p : PassState E). Agrees h list (known_of p)) (λ p. mine p ≤ rows p) (λ p is. own_at_most h list (known_of p) is) passes parts in
       let apart' : AllPairs (λ a b. a ≢ b) bys = pairs_map (λ a b. a ≢ b) number passes apart in
       let most = rows_at_most list bys apart' in
       let more = sum_at_most mine rows passes few in

@@ -9,7 +9,7 @@ use Rattle.atomic_table.specs.Table.{Me}
 use Rattle.turn_pass.specs.declared.entries.Known.{Known}
 use Rattle.turn_pass.specs.declared.rule.View.{View}
 use Rattle.turn_pass.specs.declared.entries.Appended.{Appended}
-use Rattle.turn_pass.specs.History.{PassState, IsPartOf, known_of}
+use Rattle.turn_pass.specs.History.{PassState, Agrees, known_of}
 use Rattle.turn_pass.specs.Rule.{with_ended}
 use Rattle.turn_pass.proofs.Counting.{All-unmap, pairs_unmap}
 
@@ -39,13 +39,13 @@ module _ {E : Type 0} where
   }
 
   -- what the book seat knows of those that came back is known of each pass
-  pub all_parts : (v w : View E) (h : ℕ) (list : List (Appended E)) (passes : List (PassState E)) → w ≡ with_ended (map known_of passes) v → v.ended ≡ [] → v.history ≡ h → v.known.seen ≡ list
-      → All (IsPartOf w.history w.known.seen) w.ended → All (λ (p : PassState E). IsPartOf h list (known_of p)) passes
-  all_parts v w h list passes is none began seen parts =
+  pub all_agree : (v w : View E) (h : ℕ) (list : List (Appended E)) (passes : List (PassState E)) → w ≡ with_ended (map known_of passes) v → v.ended ≡ [] → v.history ≡ h → v.known.seen ≡ list
+      → All (Agrees w.history w.known.seen) w.ended → All (λ (p : PassState E). Agrees h list (known_of p)) passes
+  all_agree v w h list passes is none began seen parts =
       let ended : w.ended ≡ map known_of passes = ap (λ u. u.ended) is ∙ (ap (λ ks. map known_of passes ++ ks) none ∙ append-nil (map known_of passes)) in
       let began' : w.history ≡ h = ap (λ u. u.history) is ∙ began in
       let seen' : w.known.seen ≡ list = ap (λ u. u.known.seen) is ∙ seen in
-      All-unmap (IsPartOf h list) known_of passes (subst (λ (x : (ℕ × List (Appended E)) × List (Known E)). All (IsPartOf x.0.0 x.0.1) x.1) (λ i. ((began' i, seen' i), ended i)) parts)
+      All-unmap (Agrees h list) known_of passes (subst (λ (x : (ℕ × List (Appended E)) × List (Known E)). All (Agrees x.0.0 x.0.1) x.1) (λ i. ((began' i, seen' i), ended i)) parts)
 
   pub all_apart : (v w : View E) (passes : List (PassState E)) → w ≡ with_ended (map known_of passes) v → v.ended ≡ [] → AllPairs (λ (j k : Known E). j.by ≢ k.by) w.ended → AllPairs (λ (p q : PassState E). p.by ≢ q.by) passes
   all_apart v w passes is none apart =

@@ -13,10 +13,10 @@ use Rattle.turn_pass.specs.declared.entries.Known.{Known}
 use Rattle.turn_pass.specs.declared.rule.View.{View}
 use Rattle.turn_pass.specs.declared.rule.Role.{Role}
 use Rattle.turn_pass.specs.declared.rule.Role.TheVariants.{Book, Pass, Note, Spent}
-use Rattle.turn_pass.specs.History.{IsPartOf, StandsAt, HasNoRow, Stand, EachOnce, appended, own, longer}
+use Rattle.turn_pass.specs.History.{Agrees, StandsAt, HasNoRow, Stand, EachOnce, appended, own, longer}
 use Rattle.turn_pass.specs.Rule.{Truth, IsLive, IsBook, IsPass, IsNote, IsRole, IsKept, Learns, Looks, Appends, Sees, first_view, with_by, pass_view, note_view, spent_view, hearing, meeting, ending, with_lines, with_mine}
 use Rattle.turn_pass.proofs.Prefixes.{prefix_self, prefix_trans}
-use Rattle.turn_pass.proofs.Parts.{part_later, parts_later, stand_later, once_more, pairs_cons, longer_first, longer_second, longer_begins}
+use Rattle.turn_pass.proofs.Agreeing.{agrees_later, all_agree_later, stand_later, once_more, pairs_cons, longer_first, longer_second, longer_begins}
 
 module _ {A : Type 0} where
   -- what holds of the element that is set, and of each other one, holds of each
@@ -74,8 +74,8 @@ module _ {E : Type 0} (h : ℕ) where
 
   learns : (t : Truth E) (v : View E) → IsLive h t v → Learns v
   learns t v live = record {
-    known = subst (λ (n : ℕ). IsPartOf n v.known.seen v.known) (sym live.began) live.known;
-    heard = subst (λ (n : ℕ). All (IsPartOf n v.known.seen) v.heard) (sym live.began) live.heard;
+    known = subst (λ (n : ℕ). Agrees n v.known.seen v.known) (sym live.began) live.known;
+    heard = subst (λ (n : ℕ). All (Agrees n v.known.seen) v.heard) (sym live.began) live.heard;
   }
 
   -- a load changes no word
@@ -106,8 +106,8 @@ module _ {E : Type 0} (h : ℕ) where
   the_note s r id v at note = subst (λ (role : Role). IsRole role h r.truth id v) note (r.each id v at)
 
   -- a pass sees an entry of its own
-  seen_own : (v : View E) (row : ℕ) (entry : E) → IsPartOf h v.known.seen v.known → StandsAt h v.known.seen row (appended v.known.by entry) → HasNoRow v.known.mine row
-      → IsPartOf h v.known.seen (with_mine v (own row entry ∷ [])).known
+  seen_own : (v : View E) (row : ℕ) (entry : E) → Agrees h v.known.seen v.known → StandsAt h v.known.seen row (appended v.known.by entry) → HasNoRow v.known.mine row
+      → Agrees h v.known.seen (with_mine v (own row entry ∷ [])).known
   seen_own v row entry is at new = record {
     prefix = is.prefix;
     stand = All-push (λ (o : Own E). StandsAt h v.known.seen o.row (appended v.known.by o.entry)) v.known.mine (own row entry) is.stand at;
@@ -163,13 +163,13 @@ module _ {E : Type 0} (h : ℕ) where
           began = is.live.began;
           seen = prefix_self ys;
           known = record { prefix = prefix_self ys; stand = stand_later h v.known.by xs ys v.known.mine more is.live.known.stand; once = is.live.known.once };
-          heard = parts_later h xs ys v.heard more is.live.heard;
+          heard = all_agree_later h xs ys v.heard more is.live.heard;
         };
         first = is.first;
         list = refl;
         bys = is.bys;
-        ended = All-weaker (λ (k : Known E). IsPartOf h xs k × Contains v.bys k.by × (t.seat_of k.by ≡ 0)) (λ (k : Known E). IsPartOf h ys k × Contains v.bys k.by × (t.seat_of k.by ≡ 0))
-            (λ k e. (part_later h xs ys k more e.0, e.1, e.2)) v.ended is.ended;
+        ended = All-weaker (λ (k : Known E). Agrees h xs k × Contains v.bys k.by × (t.seat_of k.by ≡ 0)) (λ (k : Known E). Agrees h ys k × Contains v.bys k.by × (t.seat_of k.by ≡ 0))
+            (λ k e. (agrees_later h xs ys k more e.0, e.1, e.2)) v.ended is.ended;
         apart = is.apart;
       }
 
@@ -196,10 +196,10 @@ module _ {E : Type 0} (h : ℕ) where
 
   -- a note is made
   note_live : (t : Truth E) (v : View E) → IsLive h t v → IsLive h t (note_view v)
-  note_live t v is = record { began = is.began; seen = is.seen; known = is.known; heard = All-nil (IsPartOf h v.known.seen) }
+  note_live t v is = record { began = is.began; seen = is.seen; known = is.known; heard = All-nil (Agrees h v.known.seen) }
 
-  pub notes : (id : ℕ) (v : View E) → v.role ≢ Spent → Splits (IsKept h) id v v (note_view v)
-  notes id v ne s r at =
+  pub makes_note : (id : ℕ) (v : View E) → v.role ≢ Spent → Splits (IsKept h) id v v (note_view v)
+  makes_note id v ne s r at =
       let live : IsLive h r.truth v = live_of v.role r.truth id v ne (r.each id v at) in record {
         truth = r.truth;
         word = r.word;
@@ -231,8 +231,8 @@ module _ {E : Type 0} (h : ℕ) where
     first = is.first;
     list = is.list;
     bys = ap (λ (bs : List ℕ). bs ++ by ∷ []) is.bys;
-    ended = All-weaker (λ (k : Known E). IsPartOf h v.known.seen k × Contains v.bys k.by × (t.seat_of k.by ≡ 0))
-        (λ (k : Known E). IsPartOf h v.known.seen k × Contains (v.bys ++ by ∷ []) k.by × (cond (k.by == by) seat (t.seat_of k.by) ≡ 0))
+    ended = All-weaker (λ (k : Known E). Agrees h v.known.seen k × Contains v.bys k.by × (t.seat_of k.by ≡ 0))
+        (λ (k : Known E). Agrees h v.known.seen k × Contains (v.bys ++ by ∷ []) k.by × (cond (k.by == by) seat (t.seat_of k.by) ≡ 0))
         (λ k e. (e.0, Contains-append_left v.bys (by ∷ []) k.by e.1, other_seat t by seat k.by (other_number v.bys by k.by new e.1) ∙ e.2)) v.ended is.ended;
     apart = is.apart;
   }
@@ -249,15 +249,15 @@ module _ {E : Type 0} (h : ℕ) where
       began = is.live.began;
       seen = is.live.seen;
       known = record { prefix = prefix_self v.known.seen; stand = All-nil (λ (o : Own E). StandsAt h v.known.seen o.row (appended by o.entry)); once = none_apart };
-      heard = All-nil (IsPartOf h v.known.seen);
+      heard = All-nil (Agrees h v.known.seen);
     };
     later = ne;
     recorded = Contains-push t.bys by;
     only = own_seat t by seat;
   }
 
-  pub deals : (id : ℕ) (v : View E) (by : ℕ) → v.role ≡ Book → All (λ b. b ≢ by) v.bys → Splits (IsKept h) id v (with_by v by) (pass_view v by)
-  deals id v by book new s r at =
+  pub makes_pass : (id : ℕ) (v : View E) (by : ℕ) → v.role ≡ Book → All (λ b. b ≢ by) v.bys → Splits (IsKept h) id v (with_by v by) (pass_view v by)
+  makes_pass id v by book new s r at =
       let is = the_book s r id v at book in
       let seat : ℕ = length (set s.views id (with_by v by)) in
       let t' : Truth E = recorded_truth r.truth by seat in
@@ -282,16 +282,16 @@ module _ {E : Type 0} (h : ℕ) where
   there s id other w both apart at = sym (set_else s.views id other both apart) ∙ at
 
   -- what a seat knows is part of the list
-  part_of_list : (t : Truth E) (w : View E) → IsLive h t w → IsPartOf h t.list w.known
-  part_of_list t w is = part_later h w.known.seen t.list w.known is.seen is.known
+  agrees_with_list : (t : Truth E) (w : View E) → IsLive h t w → Agrees h t.list w.known
+  agrees_with_list t w is = agrees_later h w.known.seen t.list w.known is.seen is.known
 
   pub hears : (id : ℕ) (v : View E) (other : ℕ) (w : View E) → v.role ≡ Book → w.role ≡ Note → Joins (IsKept h) id v other w (hearing v w) spent_view
   hears id v other w book note s r at apart near =
       let is = the_book s r id v at book in
       let has = the_note s r other w (there s id other w (hearing v w) apart near) note in
-      let part : IsPartOf h v.known.seen w.known = subst (λ (l : List (Appended E)). IsPartOf h l w.known) (sym is.list) (part_of_list r.truth w has.live) in
+      let part : Agrees h v.known.seen w.known = subst (λ (l : List (Appended E)). Agrees h l w.known) (sym is.list) (agrees_with_list r.truth w has.live) in
       let is' : IsBook h r.truth id (hearing v w) = record {
-        live = record { began = is.live.began; seen = is.live.seen; known = is.live.known; heard = All-cons (IsPartOf h v.known.seen) w.known [] part (All-nil (IsPartOf h v.known.seen)) };
+        live = record { began = is.live.began; seen = is.live.seen; known = is.live.known; heard = All-cons (Agrees h v.known.seen) w.known [] part (All-nil (Agrees h v.known.seen)) };
         first = is.first;
         list = is.list;
         bys = is.bys;
@@ -307,13 +307,13 @@ module _ {E : Type 0} (h : ℕ) where
       let zs : List (Appended E) = longer xs ys in
       let first : IsPrefix xs zs = longer_first xs ys t.list is.live.seen has.seen in
       let second : IsPrefix ys zs = longer_second xs ys t.list is.live.seen has.seen in
-      let mine : IsPartOf h zs v.known = part_later h xs zs v.known first is.live.known in
-      let theirs : IsPartOf h zs w.known = part_later h ys zs w.known second has.known in record {
+      let mine : Agrees h zs v.known = agrees_later h xs zs v.known first is.live.known in
+      let theirs : Agrees h zs w.known = agrees_later h ys zs w.known second has.known in record {
         live = record {
           began = is.live.began;
           seen = longer_begins xs ys t.list is.live.seen has.seen;
           known = record { prefix = prefix_self zs; stand = mine.stand; once = mine.once };
-          heard = All-cons (IsPartOf h zs) v.known (w.known ∷ []) mine (All-cons (IsPartOf h zs) w.known [] theirs (All-nil (IsPartOf h zs)));
+          heard = All-cons (Agrees h zs) v.known (w.known ∷ []) mine (All-cons (Agrees h zs) w.known [] theirs (All-nil (Agrees h zs)));
         };
         later = is.later;
         recorded = is.recorded;
@@ -346,16 +346,16 @@ module _ {E : Type 0} (h : ℕ) where
 
   book_ended : (t : Truth E) (id other : ℕ) (v w : View E) → IsBook h t id v → IsPass h t other w → IsBook h (ended_truth t w.known.by) id (ending v w)
   book_ended t id other v w is has =
-      let P : Known E → Type 0 = λ k. IsPartOf h v.known.seen k × Contains v.bys k.by × (cond (k.by == w.known.by) 0 (t.seat_of k.by) ≡ 0) in record {
+      let P : Known E → Type 0 = λ k. Agrees h v.known.seen k × Contains v.bys k.by × (cond (k.by == w.known.by) 0 (t.seat_of k.by) ≡ 0) in record {
         live = record { began = is.live.began; seen = is.live.seen; known = is.live.known; heard = is.live.heard };
         first = is.first;
         list = is.list;
         bys = is.bys;
         ended = All-cons P w.known v.ended
-            (subst (λ (l : List (Appended E)). IsPartOf h l w.known) (sym is.list) (part_of_list t w has.live), subst (λ (bs : List ℕ). Contains bs w.known.by) (sym is.bys) has.recorded, own_seat t w.known.by 0)
-            (All-weaker (λ (k : Known E). IsPartOf h v.known.seen k × Contains v.bys k.by × (t.seat_of k.by ≡ 0)) P (λ k e. (e.0, e.1, still_first t w.known.by k.by e.2)) v.ended is.ended);
+            (subst (λ (l : List (Appended E)). Agrees h l w.known) (sym is.list) (agrees_with_list t w has.live), subst (λ (bs : List ℕ). Contains bs w.known.by) (sym is.bys) has.recorded, own_seat t w.known.by 0)
+            (All-weaker (λ (k : Known E). Agrees h v.known.seen k × Contains v.bys k.by × (t.seat_of k.by ≡ 0)) P (λ k e. (e.0, e.1, still_first t w.known.by k.by e.2)) v.ended is.ended);
         apart = pairs_cons (λ (j k : Known E). j.by ≢ k.by) w.known v.ended
-            (All-weaker (λ (k : Known E). IsPartOf h v.known.seen k × Contains v.bys k.by × (t.seat_of k.by ≡ 0)) (λ (k : Known E). w.known.by ≢ k.by)
+            (All-weaker (λ (k : Known E). Agrees h v.known.seen k × Contains v.bys k.by × (t.seat_of k.by ≡ 0)) (λ (k : Known E). w.known.by ≢ k.by)
             (λ k e same. has.later (sym has.only ∙ (ap t.seat_of same ∙ e.2))) v.ended is.ended) is.apart;
       }
 
@@ -378,12 +378,12 @@ module _ {E : Type 0} (h : ℕ) where
       began = refl;
       seen = (t.list, refl);
       known = record { prefix = prefix_self []; stand = All-nil (λ (o : Own E). StandsAt h [] o.row (appended 0 o.entry)); once = none_apart };
-      heard = All-nil (IsPartOf h []);
+      heard = All-nil (Agrees h []);
     };
     first = refl;
     list = sym no_list;
     bys = sym no_bys;
-    ended = All-nil (λ (k : Known E). IsPartOf h [] k × Contains [] k.by × (t.seat_of k.by ≡ 0));
+    ended = All-nil (λ (k : Known E). Agrees h [] k × Contains [] k.by × (t.seat_of k.by ≡ 0));
     apart = λ i j d lt in'. absurd (omega arith);
   }
 
@@ -403,15 +403,15 @@ module _ {E : Type 0} (h : ℕ) where
   -- what is known once the table is closed
   pub record Closes (v : View E) (words : List ℕ) : Type 0 where
     pub word : words ≡ (v.history + length v.known.seen) ∷ []
-    pub ended : All (IsPartOf v.history v.known.seen) v.ended
+    pub ended : All (Agrees v.history v.known.seen) v.ended
     pub apart : AllPairs (λ (j k : Known E). j.by ≢ k.by) v.ended
 
   pub closes : (s : St E) (id : ℕ) (v : View E) → IsKept h s → get_elem? s.views id ≡ some v → v.role ≡ Book → Closes v s.words
   closes s id v r at book =
       let is = the_book s r id v at book in record {
         word = r.word ∙ ap (λ (n : ℕ). n ∷ []) (rw (is.live.began, is.list) refl);
-        ended = subst (λ (n : ℕ). All (IsPartOf n v.known.seen) v.ended) (sym is.live.began)
-            (All-weaker (λ (k : Known E). IsPartOf h v.known.seen k × Contains v.bys k.by × (r.truth.seat_of k.by ≡ 0)) (IsPartOf h v.known.seen) (λ k e. e.0) v.ended is.ended);
+        ended = subst (λ (n : ℕ). All (Agrees n v.known.seen) v.ended) (sym is.live.began)
+            (All-weaker (λ (k : Known E). Agrees h v.known.seen k × Contains v.bys k.by × (r.truth.seat_of k.by ≡ 0)) (Agrees h v.known.seen) (λ k e. e.0) v.ended is.ended);
         apart = is.apart;
       }
 

@@ -86,7 +86,7 @@ module _ {E : Type 0} where
   HasNoRow mine row = All (λ (o : Own E). o.row ≢ row) mine
 
   -- what the pass saw begins the list, and its own entries stand there, each once
-  pub record IsPartOf (history : ℕ) (list : List (Appended E)) (pass : Known E) : Type 0 where
+  pub record Agrees (history : ℕ) (list : List (Appended E)) (pass : Known E) : Type 0 where
     pub prefix : IsPrefix pass.seen list
     pub stand : Stand history pass.by list pass.mine
     pub once : EachOnce pass.mine

@@ -10,7 +10,7 @@ use Rattle.turn_pass.specs.declared.entries.Known.{Known}
 use Rattle.turn_pass.specs.declared.rule.View.{View}
 use Rattle.turn_pass.specs.declared.rule.Role.{Role}
 use Rattle.turn_pass.specs.declared.rule.Role.TheVariants.{Book, Pass, Note, Spent}
-use Rattle.turn_pass.specs.History.{Stand, EachOnce, HasNoRow, IsPartOf, StandsAt, appended, longer}
+use Rattle.turn_pass.specs.History.{Stand, EachOnce, HasNoRow, Agrees, StandsAt, appended, longer}
 
 -- what there is: the list, the numbers of the passes that were made, and which seat each pass has, 0 once it has ended
 pub record Truth (E : Type 0) : Type 0 where
@@ -23,8 +23,8 @@ module _ {E : Type 0} where
   pub record IsLive (history : ℕ) (truth : Truth E) (v : View E) : Type 0 where
     pub began : v.history ≡ history
     pub seen : IsPrefix v.known.seen truth.list
-    pub known : IsPartOf history v.known.seen v.known
-    pub heard : All (IsPartOf history v.known.seen) v.heard
+    pub known : Agrees history v.known.seen v.known
+    pub heard : All (Agrees history v.known.seen) v.heard
 
   -- there is one book seat, which has the whole list and has recorded each pass
   pub record IsBook (history : ℕ) (truth : Truth E) (seat : ℕ) (v : View E) : Type 0 where
@@ -32,7 +32,7 @@ module _ {E : Type 0} where
     pub first : seat ≡ 0
     pub list : v.known.seen ≡ truth.list
     pub bys : v.bys ≡ truth.bys
-    pub ended : All (λ (k : Known E). IsPartOf history v.known.seen k × Contains v.bys k.by × (truth.seat_of k.by ≡ 0)) v.ended
+    pub ended : All (λ (k : Known E). Agrees history v.known.seen k × Contains v.bys k.by × (truth.seat_of k.by ≡ 0)) v.ended
     pub apart : AllPairs (λ (j k : Known E). j.by ≢ k.by) v.ended
 
   -- a pass was recorded, and no other seat has its number
@@ -88,8 +88,8 @@ module _ {E : Type 0} where
 
   -- what a seat learns of its own view
   pub record Learns (v : View E) : Type 0 where
-    pub known : IsPartOf v.history v.known.seen v.known
-    pub heard : All (IsPartOf v.history v.known.seen) v.heard
+    pub known : Agrees v.history v.known.seen v.known
+    pub heard : All (Agrees v.history v.known.seen) v.heard
 
   abbrev pub Looks : Step (Unit {0}) → Me (Unit {0}) (View E) → ℕ → Me (Unit {0}) (View E) → Type 0
   Looks s me found after = (after ≡ me) × Learns me.0

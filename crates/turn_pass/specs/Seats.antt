@@ -20,8 +20,8 @@ module _ {E : Type 0} where
     pub no_slot : seat.me.1 ≡ []
 
   -- the seat is of this table, and knows this
-  abbrev pub Knows : TableId → View E → Seat (Unit {0}) (View E) → Type 0
-  Knows table view seat = (seat.table_id ≡ table) × (seat.me ≡ (view, []))
+  abbrev pub SitsAt : TableId → View E → Seat (Unit {0}) (View E) → Type 0
+  SitsAt table view seat = (seat.table_id ≡ table) × (seat.me ≡ (view, []))
 
   -- the accepted rows that are booked are the rows of the list. The counter of faults stays at its type's end
   pub record IsBookSeat (v : View E) (rows faults booked : ℕ) : Type 0 where

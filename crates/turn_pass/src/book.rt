@@ -1,8 +1,7 @@
 //! The one seat that appends. It lies under the lock of the book.
-ghost use Rattle.std.specs.Prelude.{◌≡◌, ◌≢◌, ℕ, ◌+◌, ◌-◌, ◌<◌, ◌^◌, ◌++◌, ◌∷◌, [], All, AllPairs, length, min};
-ghost use Rattle.std.specs.List.{sum_by};
-ghost use Rattle.turn_pass.specs.Whole.{MakeAll};
-ghost use Rattle.turn_pass.specs.History.{appended, newcomer, with_pass, note_of, known_of, HasNoRow, IsPartOf};
+ghost use Rattle.std.specs.Prelude.{◌≡◌, ◌≢◌, ℕ, ◌+◌, ◌<◌, ◌^◌, ◌++◌, ◌∷◌, [], All, length};
+ghost use Rattle.turn_pass.specs.Whole.{IsClosed};
+ghost use Rattle.turn_pass.specs.History.{appended, newcomer, with_pass, note_of, known_of, HasNoRow, Agrees};
 ghost use Rattle.turn_pass.specs.Rule.{first_view};
 ghost use Rattle.turn_pass.specs.Seats.{book_state};
 
@@ -15,7 +14,7 @@ use hall_limits::MAX_ROWS;
 use std::marker::{Brand, Model};
 use std::sync::ledger::{Blank, Book, Ledger, Share};
 
-/// The one seat that appends. It has the whole list.
+/// The one seat that appends. It has the whole list of the session, and books accepted rows and answered faults.
 #[derive(Drop)]
 pub struct BookSeat<E, L: Ledger, M: Ledger> {
     pub(crate) place: Place<E>,
@@ -34,9 +33,14 @@ impl<E, L: Ledger, M: Ledger> Model for BookSeat<E, L, M> {
 
     ghost use Rattle.turn_pass.specs.Seats.{IsBookSeat, IsOwnShare, book_state};
 
-    ghost view = { λ b. book_state b.place.table_id b.place.me.0 b.row_share.parts b.fault_share.parts b.faults.total };
+    ghost view = { λ b.
+        book_state b.place.table_id b.place.me.0 b.row_share.parts b.fault_share.parts b.faults.total };
 
-    ghost invariant = { λ b. IsBookSeat b.place.me.0 b.rows.total b.faults.total b.booked × (b.place.me.1 ≡ []) × IsOwnShare b.row_share.parts b.row_share.amount × IsOwnShare b.fault_share.parts b.fault_share.amount };
+    ghost invariant = { λ b.
+        IsBookSeat b.place.me.0 b.rows.total b.faults.total b.booked
+        × (b.place.me.1 ≡ [])
+        × IsOwnShare b.row_share.parts b.row_share.amount
+        × IsOwnShare b.fault_share.parts b.fault_share.amount };
 }
 
 impl<E: Copy, L: Ledger, M: Ledger> BookSeat<E, L, M> {
@@ -58,17 +62,15 @@ impl<E: Copy, L: Ledger, M: Ledger> BookSeat<E, L, M> {
         }
     }
 
-    // Takes in each pass and closes the table.
+    // Takes in each pass and closes the table, as `Turn::close` says.
     pub(crate) fn end(self, board: Board<E>, passes: Vec<PassSeat<E, L, M>>) -> (u32, u64)
-        requires board { (board.shared.table_id.words ≡ 1) × (board.shared.table_id.slots ≡ 0) }
-        requires turn { (self.table ≡ board.shared.table_id) × All (λ p. p.table ≡ board.shared.table_id) passes.items }
-        requires every { (length passes.items + self.row_parts ≡ L.parts) × (length passes.items + self.fault_parts ≡ M.parts) }
-        ensures count { result.0 ≡ self.history + length self.list }
-        ensures faults { result.1 ≡ min self.faults (2 ^ 64 - 1) }
-        ensures booked { (sum_by (λ p. p.rows) passes.items ≡ length self.list) × (sum_by (λ p. p.faults) passes.items ≡ self.faults) }
-        ensures parts { All (λ p. IsPartOf self.history self.list (known_of p)) passes.items }
-        ensures apart { AllPairs (λ p q. p.by ≢ q.by) passes.items }
-        ensures whole { All (λ p. p.rows ≡ length p.mine) passes.items → MakeAll self.history self.list passes.items }
+        requires words { board.shared.table_id.words ≡ 1 }
+        requires slots { board.shared.table_id.slots ≡ 0 }
+        requires book { self.table ≡ board.shared.table_id }
+        requires passes { All (λ p. p.table ≡ board.shared.table_id) passes.items }
+        requires all_rows { length passes.items + self.row_parts ≡ L.parts }
+        requires all_faults { length passes.items + self.fault_parts ≡ M.parts }
+        ensures { IsClosed self passes.items result.0 result.1 }
     {
         let BookSeat {
             place,
@@ -90,7 +92,8 @@ impl<E: Copy, L: Ledger, M: Ledger> BookSeat<E, L, M> {
         (last_count(board, place), booked)
     }
 
-    /// Makes the pass of the caller with this number.
+    /// Makes the pass of the caller with the number `by`: it has seen the whole list, and has nothing of its own yet. It
+    /// takes one part of each ledger, and one is left to this seat. No two passes of a Turn have one number.
     pub fn pass(&mut self, turn: &Turn<E, L, M>, by: u16) -> PassSeat<E, L, M>
         requires turn { self.old.table ≡ turn.now.table }
         requires new { All (λ b. b ≢ by) self.old.bys }
@@ -98,20 +101,22 @@ impl<E: Copy, L: Ledger, M: Ledger> BookSeat<E, L, M> {
         ensures pass { result ≡ newcomer self.old by }
         ensures book { self.new ≡ with_pass self.old by }
     {
-        let place = steps::deal::<E, Brand>(&turn.board, &mut self.place, by);
+        let place = steps::pass::<E, Brand>(&turn.board, &mut self.place, by);
         let rows = self.row_share.split_off(1, 0);
         let faults = self.fault_share.split_off(1, 0);
         PassSeat::of(place, rows, faults, by)
     }
 
-    /// Appends an entry for the caller of this pass, books it as an accepted row of the pass, and answers its number.
+    /// Appends an entry for the caller of this pass, by the one `fetch_add` on the word, and books it as an accepted row of
+    /// the pass. It answers the entry's number, from 1: how many rows there are with it. It shows, as `hear` does, that
+    /// what the pass had seen begins the list.
     pub fn append(&mut self, turn: &Turn<E, L, M>, pass: &mut PassSeat<E, L, M>, entry: E) -> u32
         requires turn { (self.old.table ≡ turn.now.table) × (pass.old.table ≡ turn.now.table) }
         requires room { self.old.history + length self.old.list < MAX_ROWS }
         ensures number { result ≡ self.old.history + length self.old.list + 1 }
         ensures book { self.new ≡ record self.old { list = self.old.list ++ appended pass.old.by entry ∷ [] } }
         ensures pass { pass.new ≡ record pass.old { rows = pass.old.rows + 1 } }
-        ensures part { IsPartOf self.old.history self.old.list (known_of pass.old) }
+        ensures agrees { Agrees self.old.history self.old.list (known_of pass.old) }
         ensures new { HasNoRow pass.old.mine result }
     {
         self.hear(turn, pass);
@@ -120,7 +125,7 @@ impl<E: Copy, L: Ledger, M: Ledger> BookSeat<E, L, M> {
         number as u32 + 1
     }
 
-    /// Books a fault that is answered to the caller of this pass. It is no step on the word.
+    /// Books a fault that is answered to the caller of this pass. It is no step on the word, and appends nothing.
     pub fn fault(&mut self, pass: &mut PassSeat<E, L, M>)
         ensures book { self.new ≡ record self.old { faults = self.old.faults + 1 } }
         ensures pass { pass.new ≡ record pass.old { faults = pass.old.faults + 1 } }
@@ -129,26 +134,27 @@ impl<E: Copy, L: Ledger, M: Ledger> BookSeat<E, L, M> {
         self.booked = self.booked.saturating_add(1);
     }
 
-    /// A note of the whole list.
+    /// A note of the whole list, for a pass to meet.
     pub fn note(&mut self, turn: &Turn<E, L, M>) -> Note<E>
         requires turn { self.old.table ≡ turn.now.table }
         ensures note { result ≡ note_of self.old }
         ensures book { self.new ≡ self.old }
     {
         Note {
-            place: steps::copy(&turn.board, &mut self.place),
+            place: steps::note(&turn.board, &mut self.place),
         }
     }
 
-    /// Hears what a pass has seen. It comes before the note of an answer that appends nothing, and shows that the pass has
-    /// seen no more than the note will say.
+    /// Hears what a pass knows, and changes nothing. It shows that what the pass has seen begins the list and that its own
+    /// entries stand there. An answer that appends nothing begins with it: the pass then meets a note of the whole list, and
+    /// so what it had seen begins what it sees.
     pub fn hear(&mut self, turn: &Turn<E, L, M>, pass: &mut PassSeat<E, L, M>)
         requires turn { (self.old.table ≡ turn.now.table) × (pass.old.table ≡ turn.now.table) }
-        ensures part { IsPartOf self.old.history self.old.list (known_of pass.old) }
+        ensures agrees { Agrees self.old.history self.old.list (known_of pass.old) }
         ensures book { self.new ≡ self.old }
         ensures pass { pass.new ≡ pass.old }
     {
-        let note = steps::copy(&turn.board, &mut pass.place);
+        let note = steps::note(&turn.board, &mut pass.place);
         steps::hear(&turn.board, &mut self.place, note);
         steps::look(&turn.board, &mut self.place);
     }

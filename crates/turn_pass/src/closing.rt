@@ -2,9 +2,9 @@
 ghost use Rattle.std.specs.Prelude.{◌≡◌, ◌≢◌, ◌+◌, ◌<◌, ◌^◌, ◌∷◌, [], All, AllPairs, length, map};
 ghost use Rattle.std.specs.List.{sum_by};
 ghost use Rattle.turn_pass.specs.declared.rule.Role.TheVariants.{Book};
-ghost use Rattle.turn_pass.specs.History.{known_of, IsPartOf};
+ghost use Rattle.turn_pass.specs.History.{known_of, Agrees};
 ghost use Rattle.turn_pass.specs.Rule.{with_ended};
-ghost use Rattle.turn_pass.specs.Seats.{IsOf, Knows};
+ghost use Rattle.turn_pass.specs.Seats.{IsOf, SitsAt};
 
 use crate::pass::PassSeat;
 use crate::rule::{Board, Place};
@@ -20,11 +20,16 @@ pub(crate) struct Closing<E, L: Ledger, M: Ledger> {
 
 impl<E: Copy, L: Ledger, M: Ledger> Closing<E, L, M> {
     pub(crate) fn gather(&mut self, board: &Board<E>, mut passes: Vec<PassSeat<E, L, M>>)
-        requires of { IsOf board.now.shared.table_id self.old.place × All (λ p. p.table ≡ board.now.shared.table_id) passes.items }
-        requires book { self.old.place.me.0.role ≡ Book }
-        ensures place { Knows self.old.place.table_id (with_ended (map known_of passes.items) self.old.place.me.0) self.new.place }
-        ensures rows { (self.new.rows.parts ≡ length passes.items + self.old.rows.parts) × (self.new.rows.amount ≡ sum_by (λ p. p.rows) passes.items + self.old.rows.amount) }
-        ensures faults { (self.new.faults.parts ≡ length passes.items + self.old.faults.parts) × (self.new.faults.amount ≡ sum_by (λ p. p.faults) passes.items + self.old.faults.amount) }
+        requires book { IsOf board.now.shared.table_id self.old.place }
+        requires role { self.old.place.me.0.role ≡ Book }
+        requires passes { All (λ p. p.table ≡ board.now.shared.table_id) passes.items }
+        ensures place { SitsAt self.old.place.table_id
+            (with_ended (map known_of passes.items) self.old.place.me.0) self.new.place }
+        ensures row_parts { self.new.rows.parts ≡ length passes.items + self.old.rows.parts }
+        ensures rows { self.new.rows.amount ≡ sum_by (λ p. p.rows) passes.items + self.old.rows.amount }
+        ensures fault_parts { self.new.faults.parts ≡ length passes.items + self.old.faults.parts }
+        ensures faults { self.new.faults.amount
+            ≡ sum_by (λ p. p.faults) passes.items + self.old.faults.amount }
     {
         while let Some(pass) = passes.pop() {
             pass.end(board, self);
@@ -38,7 +43,7 @@ pub(crate) fn last_count<E>(board: Board<E>, place: Place<E>) -> u32
     requires book { place.me.0.role ≡ Book }
     requires room { place.me.0.history + length place.me.0.known.seen < 2 ^ 32 }
     ensures count { result ≡ place.me.0.history + length place.me.0.known.seen }
-    ensures ended { All (IsPartOf place.me.0.history place.me.0.known.seen) place.me.0.ended }
+    ensures ended { All (Agrees place.me.0.history place.me.0.known.seen) place.me.0.ended }
     ensures apart { AllPairs (λ j k. j.by ≢ k.by) place.me.0.ended }
 {
     let closed = board.close_with(place);

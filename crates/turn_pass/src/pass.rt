@@ -1,10 +1,10 @@
 //! What a caller holds: its pass, and the notes that it meets.
 ghost use Rattle.std.specs.Prelude.{◌≡◌, ◌≢◌, ◌+◌, ◌++◌, ◌∷◌, [], All};
-ghost use Rattle.turn_pass.specs.Seats.{IsOf, Knows, pass_state};
+ghost use Rattle.turn_pass.specs.Seats.{IsOf, SitsAt, pass_state};
 ghost use Rattle.turn_pass.specs.Rule.{with_ended};
 ghost use mathlib.Core.List.{IsPrefix};
 ghost use Rattle.turn_pass.specs.declared.rule.Role.TheVariants.{Book, Pass};
-ghost use Rattle.turn_pass.specs.History.{appended, own, longer, known_of, StandsAt, HasNoRow, IsPartOf};
+ghost use Rattle.turn_pass.specs.History.{appended, own, longer, known_of, StandsAt, HasNoRow, Agrees};
 
 use crate::closing::Closing;
 use crate::rule::{Board, Place};
@@ -13,7 +13,7 @@ use crate::turn::Turn;
 use std::marker::{Brand, Model};
 use std::sync::ledger::{Ledger, Share};
 
-/// One caller's pass: what it has seen of the list, and its own entries in it.
+/// One caller's pass: what it has seen of the list, its own entries in it, and what was booked for it.
 #[derive(Drop)]
 pub struct PassSeat<E, L: Ledger, M: Ledger> {
     pub(crate) place: Place<E>,
@@ -33,7 +33,12 @@ impl<E, L: Ledger, M: Ledger> Model for PassSeat<E, L, M> {
 
     ghost view = { λ p. pass_state p.place.table_id p.place.me.0 p.rows.amount p.faults.amount };
 
-    ghost invariant = { λ p. (p.place.me.0.role ≡ Pass) × (p.place.me.1 ≡ []) × (p.by ≡ p.place.me.0.known.by) × (p.rows.parts ≡ 1) × (p.faults.parts ≡ 1) };
+    ghost invariant = { λ p.
+        (p.place.me.0.role ≡ Pass)
+        × (p.place.me.1 ≡ [])
+        × (p.by ≡ p.place.me.0.known.by)
+        × (p.rows.parts ≡ 1)
+        × (p.faults.parts ≡ 1) };
 }
 
 /// The list as it was at one moment, on its way from the book seat to a pass.
@@ -76,11 +81,15 @@ impl<E: Copy, L: Ledger, M: Ledger> PassSeat<E, L, M> {
 
     // The pass is joined to the book seat, and its parts to the seat's own.
     pub(crate) fn end(self, board: &Board<E>, closing: &mut Closing<E, L, M>)
-        requires of { IsOf board.now.shared.table_id closing.old.place × (self.table ≡ board.now.shared.table_id) }
-        requires book { closing.old.place.me.0.role ≡ Book }
-        ensures place { Knows closing.old.place.table_id (with_ended (known_of self ∷ []) closing.old.place.me.0) closing.new.place }
-        ensures rows { (closing.new.rows.parts ≡ closing.old.rows.parts + 1) × (closing.new.rows.amount ≡ closing.old.rows.amount + self.rows) }
-        ensures faults { (closing.new.faults.parts ≡ closing.old.faults.parts + 1) × (closing.new.faults.amount ≡ closing.old.faults.amount + self.faults) }
+        requires book { IsOf board.now.shared.table_id closing.old.place }
+        requires role { closing.old.place.me.0.role ≡ Book }
+        requires pass { self.table ≡ board.now.shared.table_id }
+        ensures place { SitsAt closing.old.place.table_id
+            (with_ended (known_of self ∷ []) closing.old.place.me.0) closing.new.place }
+        ensures row_parts { closing.new.rows.parts ≡ closing.old.rows.parts + 1 }
+        ensures rows { closing.new.rows.amount ≡ closing.old.rows.amount + self.rows }
+        ensures fault_parts { closing.new.faults.parts ≡ closing.old.faults.parts + 1 }
+        ensures faults { closing.new.faults.amount ≡ closing.old.faults.amount + self.faults }
     {
         let PassSeat {
             place,
@@ -100,7 +109,8 @@ impl<E: Copy, L: Ledger, M: Ledger> PassSeat<E, L, M> {
         self.by
     }
 
-    /// Takes in a note. What the pass has seen grows to the note's list, or stays where that is shorter.
+    /// Takes in a note. What the pass has seen becomes the note's list, or stays as it is where that is shorter. Of the two
+    /// the longer begins with the shorter.
     pub fn meet(&mut self, turn: &Turn<E, L, M>, note: Note<E>)
         requires turn { (self.old.table ≡ turn.now.table) × (note.table ≡ turn.now.table) }
         ensures pass { self.new ≡ record self.old { seen = longer self.old.seen note.seen } }
@@ -112,13 +122,14 @@ impl<E: Copy, L: Ledger, M: Ledger> PassSeat<E, L, M> {
         steps::look(&turn.board, &mut self.place);
     }
 
-    /// Makes an appended entry one of the pass's own: one load of the word.
+    /// Makes the entry at this number one of the pass's own, by one load of the word. It was appended for this pass, and the
+    /// pass has seen it.
     pub fn see(&mut self, turn: &Turn<E, L, M>, row: u32, entry: E)
         requires turn { self.old.table ≡ turn.now.table }
         requires stands { StandsAt self.old.history self.old.seen row (appended self.old.by entry) }
         requires new { HasNoRow self.old.mine row }
         ensures pass { self.new ≡ record self.old { mine = self.old.mine ++ own row entry ∷ [] } }
-        ensures part { IsPartOf self.new.history self.new.seen (known_of self.new) }
+        ensures agrees { Agrees self.new.history self.new.seen (known_of self.new) }
     {
         steps::see::<E, Brand>(&turn.board, &mut self.place, row, entry);
     }

@@ -1,7 +1,7 @@
 //! The session's word, from its first row to its close.
 ghost use Rattle.std.specs.Prelude.{◌≡◌, ◌≢◌, ◌+◌, ◌-◌, ◌^◌, ◌<◌, min, length, All, AllPairs, IfOk};
 ghost use Rattle.std.specs.List.{sum_by};
-ghost use Rattle.turn_pass.specs.History.{opening, known_of, IsPartOf};
+ghost use Rattle.turn_pass.specs.History.{opening, known_of, Agrees};
 ghost use Rattle.turn_pass.specs.Whole.{MakeAll};
 
 use crate::book::BookSeat;
@@ -15,7 +15,8 @@ use std::sync::ledger::{Blank, Ledger};
 /// The answer for want of memory.
 pub type NoMemory = AllocError;
 
-/// The word that all seats of a session share. `L` counts accepted rows, `M` answered faults.
+/// The one word that all seats of a session share: how many rows there are. `L` is the ledger of accepted rows, `M` that of
+/// answered faults.
 #[derive(Drop)]
 pub struct Turn<E, L: Ledger, M: Ledger> {
     pub(crate) board: Board<E>,
@@ -30,11 +31,14 @@ impl<E, L: Ledger, M: Ledger> Model for Turn<E, L, M> {
 
     ghost view = { λ t. record { table = t.board.shared.table_id; history = t.board.shared.key } };
 
-    ghost invariant = { λ t. (t.board.shared.table_id.words ≡ 1) × (t.board.shared.table_id.slots ≡ 0) };
+    ghost invariant = { λ t.
+        (t.board.shared.table_id.words ≡ 1) × (t.board.shared.table_id.slots ≡ 0) };
 }
 
 impl<E: Copy, L: Ledger, M: Ledger> Turn<E, L, M> {
-    /// Begins a session over a list of `history` rows. The book seat keeps one part of each ledger, and each pass takes one.
+    /// Begins a session behind `history` rows. Each blank opens one of the two ledgers: `rows` counts accepted rows, `faults`
+    /// answered faults. A blank has one part for the book seat and one for each pass that will be made. This is the only
+    /// call that takes memory.
     pub fn begin(
         alloc: Global,
         history: u32,
@@ -54,17 +58,23 @@ impl<E: Copy, L: Ledger, M: Ledger> Turn<E, L, M> {
         Ok((turn, BookSeat::of(place, rows, faults)))
     }
 
-    /// Ends the session once all its passes have come back. It answers the final number of rows, as the word has it, and how
-    /// many faults were booked, at most 2^64 - 1.
+    /// Ends the session once every pass that was made has come back, which the parts of the ledgers show. It answers the
+    /// final number of rows, as the word has it, and how many faults were booked; that count stays at 2^64 - 1 once it is
+    /// there. What each pass has seen begins the final list, and where each has as many entries of its own as were booked
+    /// for it, the passes make the list together: nothing was lost, and there is no entry of anyone else.
     pub fn close(self, book: BookSeat<E, L, M>, passes: Vec<PassSeat<E, L, M>>) -> (u32, u64)
-        requires turn { (book.table ≡ self.table) × All (λ p. p.table ≡ self.table) passes.items }
-        requires every { (length passes.items + book.row_parts ≡ L.parts) × (length passes.items + book.fault_parts ≡ M.parts) }
+        requires book { book.table ≡ self.table }
+        requires passes { All (λ p. p.table ≡ self.table) passes.items }
+        requires all_rows { length passes.items + book.row_parts ≡ L.parts }
+        requires all_faults { length passes.items + book.fault_parts ≡ M.parts }
         ensures count { result.0 ≡ book.history + length book.list }
         ensures faults { result.1 ≡ min book.faults (2 ^ 64 - 1) }
-        ensures booked { (sum_by (λ p. p.rows) passes.items ≡ length book.list) × (sum_by (λ p. p.faults) passes.items ≡ book.faults) }
-        ensures parts { All (λ p. IsPartOf book.history book.list (known_of p)) passes.items }
+        ensures rows_booked { sum_by (λ p. p.rows) passes.items ≡ length book.list }
+        ensures faults_booked { sum_by (λ p. p.faults) passes.items ≡ book.faults }
+        ensures agree { All (λ p. Agrees book.history book.list (known_of p)) passes.items }
         ensures apart { AllPairs (λ p q. p.by ≢ q.by) passes.items }
-        ensures whole { All (λ p. p.rows ≡ length p.mine) passes.items → MakeAll book.history book.list passes.items }
+        ensures whole { All (λ p. p.rows ≡ length p.mine) passes.items
+            → MakeAll book.history book.list passes.items }
     {
         let Turn { board, of: _ } = self;
         book.end(board, passes)

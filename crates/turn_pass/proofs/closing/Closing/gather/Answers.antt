@@ -18,8 +18,8 @@ loop-pass-preserved g c =
     let faults = ap (λ ps. sum_by (λ (p : P). p.faults) ps) items in (
       one_back table c.args.passes.items left p c.args.self.now.place.me c.loop-pass.self.place.me c.end.new.closing.place.me before c.end.ensures.place.1,
       c.end.ensures.place.0 ∙ is.1,
-      omega (arith, is.2, c.end.ensures.rows.0, len, length-append left (p ∷ [])),
-      omega (arith, is.3, c.end.ensures.rows.1, rows, sum_by_push (λ (p : P). p.rows) left p),
-      omega (arith, is.4, c.end.ensures.faults.0, len, length-append left (p ∷ [])),
-      omega (arith, is.5, c.end.ensures.faults.1, faults, sum_by_push (λ (p : P). p.faults) left p),
+      omega (arith, is.2, c.end.ensures.row_parts, len, length-append left (p ∷ [])),
+      omega (arith, is.3, c.end.ensures.rows, rows, sum_by_push (λ (p : P). p.rows) left p),
+      omega (arith, is.4, c.end.ensures.fault_parts, len, length-append left (p ∷ [])),
+      omega (arith, is.5, c.end.ensures.faults, faults, sum_by_push (λ (p : P). p.faults) left p),
     )

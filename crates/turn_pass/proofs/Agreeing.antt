@@ -8,7 +8,7 @@ use mathlib.Core.List.{IsPrefix}
 use Rattle.turn_pass.specs.declared.entries.Appended.{Appended}
 use Rattle.turn_pass.specs.declared.entries.Own.{Own}
 use Rattle.turn_pass.specs.declared.entries.Known.{Known}
-use Rattle.turn_pass.specs.History.{IsPartOf, StandsAt, Stand, EachOnce, HasNoRow, appended, own, longer}
+use Rattle.turn_pass.specs.History.{Agrees, StandsAt, Stand, EachOnce, HasNoRow, appended, own, longer}
 use Rattle.turn_pass.proofs.Prefixes.{prefix_self, prefix_trans, prefix_shorter, prefix_get}
 
 -- a relation that holds of x and each later one, and of each two later ones
@@ -24,15 +24,15 @@ module _ {E : Type 0} where
       All-weaker (λ (o : Own E). StandsAt h xs o.row (appended by o.entry)) (λ (o : Own E). StandsAt h ys o.row (appended by o.entry))
       (λ o at. (at.0, prefix_get xs ys (o.row - h - 1) (appended by o.entry) p at.1)) mine st
 
-  pub part_later : (h : ℕ) (xs ys : List (Appended E)) (k : Known E) → IsPrefix xs ys → IsPartOf h xs k → IsPartOf h ys k
-  part_later h xs ys k p is = record {
+  pub agrees_later : (h : ℕ) (xs ys : List (Appended E)) (k : Known E) → IsPrefix xs ys → Agrees h xs k → Agrees h ys k
+  agrees_later h xs ys k p is = record {
     prefix = prefix_trans k.seen xs ys is.prefix p;
     stand = stand_later h k.by xs ys k.mine p is.stand;
     once = is.once;
   }
 
-  pub parts_later : (h : ℕ) (xs ys : List (Appended E)) (ks : List (Known E)) → IsPrefix xs ys → All (IsPartOf h xs) ks → All (IsPartOf h ys) ks
-  parts_later h xs ys ks p = All-weaker (IsPartOf h xs) (IsPartOf h ys) (λ k. part_later h xs ys k p) ks
+  pub all_agree_later : (h : ℕ) (xs ys : List (Appended E)) (ks : List (Known E)) → IsPrefix xs ys → All (Agrees h xs) ks → All (Agrees h ys) ks
+  all_agree_later h xs ys ks p = All-weaker (Agrees h xs) (Agrees h ys) (λ k. agrees_later h xs ys k p) ks
 
   pub once_more : (mine : List (Own E)) (row : ℕ) (entry : E) → EachOnce mine → HasNoRow mine row → EachOnce (mine ++ own row entry ∷ [])
   once_more mine row entry once new = all_pairs_push (λ (o p : Own E). o.row ≢ p.row) mine (own row entry) once new
@@ -55,7 +55,7 @@ module _ {E : Type 0} where
   pub stands_before : (h : ℕ) (list : List (Appended E)) (row : ℕ) (line : Appended E) → StandsAt h list row line → row < h + length list + 1
   stands_before h list row line at = let lt = slice_get_within list (row - h - 1) line at.1 in let h' = at.0 in omega arith
 
-  pub no_later : (h : ℕ) (list : List (Appended E)) (k : Known E) (row : ℕ) → IsPartOf h list k → row ≡ h + length list + 1 → HasNoRow k.mine row
+  pub no_later : (h : ℕ) (list : List (Appended E)) (k : Known E) (row : ℕ) → Agrees h list k → row ≡ h + length list + 1 → HasNoRow k.mine row
   no_later h list k row is at =
       All-weaker (λ (o : Own E). StandsAt h list o.row (appended k.by o.entry)) (λ (o : Own E). o.row ≢ row)
       (λ o st same. let lt = stands_before h list o.row (appended k.by o.entry) st in absurd (omega arith)) k.mine is.stand
