@@ -1,7 +1,8 @@
 //! The one seat that appends. It lies under the lock of the book.
 ghost use Rattle.std.specs.Prelude.{◌≡◌, ◌≢◌, ℕ, ◌+◌, ◌<◌, ◌^◌, ◌++◌, ◌∷◌, [], All, length};
 ghost use Rattle.turn_pass.specs.Whole.{IsClosed};
-ghost use Rattle.turn_pass.specs.History.{appended, newcomer, with_pass, note_of, known_of, HasNoRow, Agrees};
+ghost use Rattle.turn_pass.specs.History.{appended, newcomer, with_pass, note_of, known_of, StandsAt, HasNoRow, Agrees};
+ghost use mathlib.Core.List.{IsPrefix};
 ghost use Rattle.turn_pass.specs.Rule.{first_view};
 ghost use Rattle.turn_pass.specs.Seats.{book_state};
 
@@ -116,7 +117,9 @@ impl<E: Copy, L: Ledger, M: Ledger> BookSeat<E, L, M> {
         ensures number { result ≡ self.old.history + length self.old.list + 1 }
         ensures book { self.new ≡ record self.old { list = self.old.list ++ appended pass.old.by entry ∷ [] } }
         ensures pass { pass.new ≡ record pass.old { rows = pass.old.rows + 1 } }
+        ensures stands { StandsAt self.new.history self.new.list result (appended pass.old.by entry) }
         ensures agrees { Agrees self.old.history self.old.list (known_of pass.old) }
+        ensures behind { IsPrefix pass.old.seen self.new.list }
         ensures new { HasNoRow pass.old.mine result }
     {
         self.hear(turn, pass);

@@ -107,7 +107,7 @@ impl<L: Ledger, M: Ledger, N: Session> Desk<L, M, N> {
         answer
     }
 
-    // The pass sees the whole list.
+    // The answer appends nothing: the pass sees the whole list.
     fn show(&mut self, turn: &Turn<u32, L, M>, pass: &mut PassSeat<u32, L, M>)
         requires turn { (turn.now.table ≡ N.table) × (pass.old.table ≡ N.table) }
         ensures pass { pass.new ≡ record pass.old { seen = self.old.list } }
@@ -115,6 +115,16 @@ impl<L: Ledger, M: Ledger, N: Session> Desk<L, M, N> {
         ensures desk { self.new ≡ self.old }
     {
         self.seat.hear(turn, pass);
+        self.tell(turn, pass);
+    }
+
+    // The pass meets a note of the whole list, which begins with what the pass has seen.
+    fn tell(&mut self, turn: &Turn<u32, L, M>, pass: &mut PassSeat<u32, L, M>)
+        requires turn { (turn.now.table ≡ N.table) × (pass.old.table ≡ N.table) }
+        requires behind { IsPrefix pass.old.seen self.old.list }
+        ensures pass { pass.new ≡ record pass.old { seen = self.old.list } }
+        ensures desk { self.new ≡ self.old }
+    {
         let note = self.seat.note(turn);
         pass.meet(turn, note);
     }
@@ -140,8 +150,7 @@ impl<L: Ledger, M: Ledger, N: Session> Desk<L, M, N> {
             by: pass.by(),
             value,
         });
-        let note = self.seat.note(turn);
-        pass.meet(turn, note);
+        self.tell(turn, pass);
         pass.see(turn, row, value);
         Answer::Accepted(row)
     }

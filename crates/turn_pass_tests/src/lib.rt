@@ -2,10 +2,12 @@
 #![tactic(auto)]
 
 mod desk;
+mod gate;
 mod session;
 mod worker;
 
 pub use desk::{Answer, Desk, Row, Session};
+pub use gate::Gate;
 pub use session::{Report, hold};
 pub use worker::{Answers, Kept, Worker};
 

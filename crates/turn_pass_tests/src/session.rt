@@ -4,6 +4,7 @@ ghost use Rattle.std.specs.Prelude.{◌≡◌, ◌+◌, ◌-◌, ◌^◌, ◌<�
 ghost use Rattle.turn_pass_tests.specs.Desks.{IsNew, IsSpent};
 
 use crate::desk::{Desk, Row, Session};
+use crate::gate::Gate;
 use crate::worker::{Answers, Kept, Worker};
 use std::alloc::Global;
 use std::marker::Brand;
@@ -23,6 +24,8 @@ pub struct Report {
     pub accepted: u64,
     pub refused: u64,
     pub failed: u64,
+    /// How many callers didn't find the others there before they asked.
+    pub alone: u64,
     /// How many accepted rows didn't stand in the book at their number, or stood there for another caller already.
     pub misplaced: u64,
     /// How many rows of the book no caller was answered.
@@ -41,6 +44,7 @@ pub fn hold<L: Ledger + Send + Sync, M: Ledger + Send + Sync, R: Threads + Wait 
 ) -> Result<Report, NoMemory>
     requires rows { (rows.name ≡ L.name) × (rows.parts ≡ L.parts) × (rows.parts ≡ callers + 1) }
     requires faults { (faults.name ≡ M.name) × (faults.parts ≡ M.parts) × (faults.parts ≡ callers + 1) }
+    ensures total { IfOk result (λ report. report.count ≡ history + report.accepted) }
 {
     let (turn, mut seat) = Turn::<u32, L, M>::begin(alloc, history, rows, faults)?;
     let mut passes = Vec::with_capacity(alloc, usize::from(callers))?;
@@ -70,16 +74,18 @@ fn serve<
     requires book { (seat.list ≡ []) × (seat.row_parts ≡ 1) × (seat.fault_parts ≡ 1) }
     requires passes { All (IsNew N.table N.history) passes.items }
     requires every { (vec_len passes + 1 ≡ L.parts) × (vec_len passes + 1 ≡ M.parts) }
+    ensures total { IfOk result (λ report. report.count ≡ history + report.accepted) }
 {
     let ends = Vec::with_capacity(alloc, passes.len())?;
     let mut workers = employ::<L, M, N>(alloc, passes)?;
     let desk = Mutex::new(Desk::<L, M, N>::new(alloc, history, seat));
+    let gate = Gate::new(workers.len() as u64);
     let threads = workers.len().max(1);
     thread::for_each_mut(
         rt,
         workers.as_mut_slice(),
         threads,
-        &|_, worker| worker.ask_all(rt, &turn, &desk, asks),
+        &|_, worker| worker.ask_all(rt, &turn, &desk, &gate, asks),
     );
     settle(alloc, turn, history, desk.into_inner(), workers, ends)
 }
@@ -136,11 +142,13 @@ fn settle<L: Ledger, M: Ledger, N: Session>(
 impl Report {
     // Adds what a caller was answered.
     fn add(&mut self, answers: &Answers)
-        ensures accepted { self.new.accepted ≡ min (self.old.accepted + length answers.now.accepted.items) (2 ^ 64 - 1) }
+        ensures accepted { self.new.accepted
+            ≡ min (self.old.accepted + length answers.now.accepted.items) (2 ^ 64 - 1) }
     {
         self.accepted = self.accepted.saturating_add(answers.accepted.len() as u64);
         self.refused = self.refused.saturating_add(answers.refused);
         self.failed = self.failed.saturating_add(answers.failed);
+        self.alone = self.alone.saturating_add(u64::from(!answers.met));
     }
 }
 

@@ -111,7 +111,7 @@ fn callers_on_all_processors(rt: HostRuntime) -> Result<(), Fail> {
     assert_eq!(rt; report.refused, 4_000 * each);
     assert_eq!(rt; u64::from(report.count), 7 + 5_000 * each);
     assert_eq!(rt; report.booked, 1_000 * each);
-    assert_eq!(rt; (report.misplaced, report.unknown), (0, 0));
+    assert_eq!(rt; (report.misplaced, report.unknown, report.alone), (0, 0, 0));
     Ok(())
 }
 
@@ -121,7 +121,7 @@ fn callers_at_the_limit(rt: HostRuntime) -> Result<(), Fail> {
     let report = session(&rt, rt.alloc(), MAX_ROWS - 10, 3, 100)?;
     assert_eq!(rt; (report.count, report.accepted), (MAX_ROWS, 10));
     assert_eq!(rt; (report.failed, report.booked, report.refused), (30, 30, 260));
-    assert_eq!(rt; (report.misplaced, report.unknown), (0, 0));
+    assert_eq!(rt; (report.misplaced, report.unknown, report.alone), (0, 0, 0));
     Ok(())
 }
 

@@ -5,6 +5,7 @@ ghost use Rattle.turn_pass.specs.History.{own};
 ghost use Rattle.turn_pass_tests.specs.Desks.{own_of};
 
 use crate::desk::{Answer, Desk, Session};
+use crate::gate::Gate;
 use std::alloc::Global;
 use std::marker::{Model, PhantomData};
 use std::sync::ledger::Ledger;
@@ -24,6 +25,8 @@ pub struct Answers {
     pub accepted: Vec<Kept>,
     pub refused: u64,
     pub failed: u64,
+    /// Whether all callers were there at once before it asked.
+    pub met: bool,
 }
 
 /// A caller: its pass, and what it was answered.
@@ -59,6 +62,7 @@ impl<L: Ledger, M: Ledger, N: Session> Worker<L, M, N> {
                 accepted: Vec::new(alloc),
                 refused: 0,
                 failed: 0,
+                met: false,
             },
             of: PhantomData,
         }
@@ -79,17 +83,19 @@ impl<L: Ledger, M: Ledger, N: Session> Worker<L, M, N> {
         (pass, answers)
     }
 
-    /// Asks for so many values, one after the other, each under the lock.
+    /// Meets the other callers, and asks for so many values, one after the other, each under the lock.
     pub fn ask_all<R: Wait>(
         &mut self,
         rt: &R,
         turn: &Turn<u32, L, M>,
         desk: &Mutex<Desk<L, M, N>>,
+        gate: &Gate,
         asks: u32,
     )
         requires turn { turn.now.table ≡ N.table }
         ensures by { self.new.by ≡ self.old.by }
     {
+        self.answers.met = gate.meet();
         for value in 0..asks {
             self.ask(rt, turn, desk, value);
         }
