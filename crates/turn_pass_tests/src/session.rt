@@ -90,7 +90,7 @@ fn serve<
     settle(alloc, turn, history, desk.into_inner(), workers, ends)
 }
 
-// A worker for each pass.
+// One worker for each pass.
 fn employ<L: Ledger, M: Ledger, N: Session>(
     alloc: Global,
     mut passes: Vec<PassSeat<u32, L, M>>,
