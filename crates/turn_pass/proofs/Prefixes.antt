@@ -1,5 +1,6 @@
 -- Beginnings of one list.
-use Rattle.std.proofs.Common.{◌≡◌, ℕ, zero, suc, ◌≤◌, List, [], ◌∷◌, ◌++◌, length, Some, slice_get, refl, ap, sym, ◌∙◌, arith, append_assoc, length-append}
+use Rattle.std.proofs.Common.{◌≡◌, ℕ, zero, suc, ◌≤◌, List, [], ◌∷◌, ◌++◌, length, Some, slice_get}
+use Rattle.std.proofs.Common.{refl, ap, sym, ◌∙◌, arith, append_assoc, length-append}
 use mathlib.Core.List.{IsPrefix}
 
 module _ {A : Type 0} where
@@ -12,7 +13,8 @@ module _ {A : Type 0} where
   prefix_trans xs ys zs p q = (p.0 ++ q.0, sym (append_assoc xs p.0 q.0) ∙ (ap (λ w. w ++ q.0) p.1 ∙ q.1))
 
   -- of two beginnings of one list the shorter begins the longer
-  pub prefix_shorter : (xs ys zs : List A) → IsPrefix xs zs → IsPrefix ys zs → length xs ≤ length ys → IsPrefix xs ys
+  pub prefix_shorter : (xs ys zs : List A) → IsPrefix xs zs → IsPrefix ys zs → length xs ≤ length ys
+      → IsPrefix xs ys
   prefix_shorter [] ys zs p q le = (ys, refl)
   prefix_shorter (x ∷ xs) [] zs p q le = absurd (omega arith)
   prefix_shorter (x ∷ xs) (y ∷ ys) [] p q le = absurd (cc (p.1))
@@ -33,7 +35,8 @@ module _ {A : Type 0} where
   prefix_length xs ys p = omega (arith, sym (ap length p.1) ∙ length-append xs p.0)
 
   -- what stands in a beginning stands in the whole, at the same place
-  pub prefix_get : (xs ys : List A) (k : ℕ) (x : A) → IsPrefix xs ys → slice_get xs k ≡ Some x → slice_get ys k ≡ Some x
+  pub prefix_get : (xs ys : List A) (k : ℕ) (x : A) → IsPrefix xs ys → slice_get xs k ≡ Some x
+      → slice_get ys k ≡ Some x
   prefix_get [] ys k x p h = absurd cc
   prefix_get (y ∷ xs) [] k x p h = absurd (cc (p.1))
   prefix_get (y ∷ xs) (z ∷ ys) zero x p h = cc (p.1, h)

@@ -1,7 +1,8 @@
--- What a Turn, the book seat, a pass and a note show to contracts.
--- A row's number is its place in the whole list, from 1: the rows before the session come first, then the list that the session appends.
-use Rattle.std.specs.Prelude.{◌≡◌, ◌≢◌, ℕ, ◌+◌, ◌-◌, ◌<◌, List, [], ◌∷◌, ◌++◌, length, map, nat_le, if◌then◌else◌, Some, slice_get, All, AllPairs, Contains}
-use Rattle.std.specs.List.{sum_by}
+-- What a Turn, the book seat, a pass and a note show to contracts. A row's number is its place in
+-- the whole list, from 1: the rows before the session come first, then the list that the session
+-- appends.
+use Rattle.std.specs.Prelude.{◌≡◌, ◌≢◌, ℕ, ◌-◌, ◌<◌, List, [], ◌∷◌, ◌++◌, length, nat_le}
+use Rattle.std.specs.Prelude.{if◌then◌else◌, Some, slice_get, All, AllPairs}
 use mathlib.Core.List.{IsPrefix}
 pub use Rattle.atomic_table.specs.Seated.{TableId}
 use Rattle.turn_pass.specs.declared.entries.Appended.{Appended}
@@ -10,15 +11,23 @@ use Rattle.turn_pass.specs.declared.entries.Known.{Known}
 
 -- the name of no table: what a session's name stands for where no call picks one
 abbrev pub no_table : TableId
-no_table = record { words = 0; slots = 0; views_name = 0; atom = 0; block = 0; offset = 0; slot_names = [] }
+no_table = record {
+  words = 0;
+  slots = 0;
+  views_name = 0;
+  atom = 0;
+  block = 0;
+  offset = 0;
+  slot_names = [];
+}
 
 -- which Turn it is, and how many rows stood before the session
 pub record TurnState : Type 0 where
   pub table : TableId
   pub history : ℕ
 
--- the list that the session appended, the numbers of all passes that were made, the parts of the two ledgers that the seat still has,
--- and how many faults were booked
+-- the list that the session appended, the numbers of all passes that were made, the parts of the
+-- two ledgers that the seat still has, and how many faults were booked
 pub record BookState (E : Type 0) : Type 0 where
   pub table : TableId
   pub history : ℕ
@@ -28,7 +37,8 @@ pub record BookState (E : Type 0) : Type 0 where
   pub fault_parts : ℕ
   pub faults : ℕ
 
--- what the pass has seen of the list, its own entries, and how many rows and faults were booked for it
+-- what the pass has seen of the list, its own entries, and how many rows and faults were booked for
+-- it
 pub record PassState (E : Type 0) : Type 0 where
   pub table : TableId
   pub history : ℕ
@@ -52,15 +62,35 @@ module _ {E : Type 0} where
 
   -- the book seat of a new session
   abbrev pub opening : TurnState → ℕ → ℕ → BookState E
-  opening turn row_parts fault_parts = record { table = turn.table; history = turn.history; list = []; bys = []; row_parts = row_parts; fault_parts = fault_parts; faults = 0 }
+  opening turn row_parts fault_parts = record {
+    table = turn.table;
+    history = turn.history;
+    list = [];
+    bys = [];
+    row_parts = row_parts;
+    fault_parts = fault_parts;
+    faults = 0;
+  }
 
   -- a new pass has seen the whole list, and has nothing of its own
   abbrev pub newcomer : BookState E → ℕ → PassState E
-  newcomer book by = record { table = book.table; history = book.history; by = by; seen = book.list; mine = []; rows = 0; faults = 0 }
+  newcomer book by = record {
+    table = book.table;
+    history = book.history;
+    by = by;
+    seen = book.list;
+    mine = [];
+    rows = 0;
+    faults = 0;
+  }
 
   -- the pass is recorded, and takes one part of each ledger
   abbrev pub with_pass : BookState E → ℕ → BookState E
-  with_pass book by = record book { bys = book.bys ++ by ∷ []; row_parts = book.row_parts - 1; fault_parts = book.fault_parts - 1 }
+  with_pass book by = record book {
+    bys = book.bys ++ by ∷ [];
+    row_parts = book.row_parts - 1;
+    fault_parts = book.fault_parts - 1;
+  }
 
   -- the note of the whole list
   abbrev pub note_of : BookState E → NoteState E
@@ -71,11 +101,13 @@ module _ {E : Type 0} where
 
   -- this line has this number
   abbrev pub StandsAt : ℕ → List (Appended E) → ℕ → Appended E → Type 0
-  StandsAt history list row line = (history < row) × (slice_get list (row - history - 1) ≡ Some line)
+  StandsAt history list row line =
+      (history < row) × (slice_get list (row - history - 1) ≡ Some line)
 
   -- these entries stand in the list at their numbers with this `by`
   abbrev pub Stand : ℕ → ℕ → List (Appended E) → List (Own E) → Type 0
-  Stand history by list mine = All (λ (o : Own E). StandsAt history list o.row (appended by o.entry)) mine
+  Stand history by list mine =
+      All (λ (o : Own E). StandsAt history list o.row (appended by o.entry)) mine
 
   -- each entry once: no two have one number
   abbrev pub EachOnce : List (Own E) → Type 0

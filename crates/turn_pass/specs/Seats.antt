@@ -1,5 +1,5 @@
 -- What lies inside the seats.
-use Rattle.std.specs.Prelude.{◌≡◌, ℕ, ◌+◌, ◌<◌, ◌^◌, ◌-◌, List, [], length, min}
+use Rattle.std.specs.Prelude.{◌≡◌, ℕ, ◌+◌, ◌<◌, ◌^◌, ◌-◌, [], length, min}
 use Rattle.atomic_table.specs.Seated.{TableId}
 use Rattle.atomic_table.specs.declared.shared.Seat.{Seat}
 use Rattle.turn_pass.specs.declared.rule.View.{View}
@@ -23,7 +23,8 @@ module _ {E : Type 0} where
   abbrev pub SitsAt : TableId → View E → Seat (Unit {0}) (View E) → Type 0
   SitsAt table view seat = (seat.table_id ≡ table) × (seat.me ≡ (view, []))
 
-  -- the accepted rows that are booked are the rows of the list. The counter of faults stays at its type's end
+  -- the accepted rows that are booked are the rows of the list. The counter of faults stays at its
+  -- type's end
   pub record IsBookSeat (v : View E) (rows faults booked : ℕ) : Type 0 where
     pub role : v.role ≡ Book
     pub ended : v.ended ≡ []

@@ -26,7 +26,8 @@ impl<E: Copy, L: Ledger, M: Ledger> Closing<E, L, M> {
         ensures place { SitsAt self.old.place.table_id
             (with_ended (map known_of passes.items) self.old.place.me.0) self.new.place }
         ensures row_parts { self.new.rows.parts ≡ length passes.items + self.old.rows.parts }
-        ensures rows { self.new.rows.amount ≡ sum_by (λ p. p.rows) passes.items + self.old.rows.amount }
+        ensures rows { self.new.rows.amount
+            ≡ sum_by (λ p. p.rows) passes.items + self.old.rows.amount }
         ensures fault_parts { self.new.faults.parts ≡ length passes.items + self.old.faults.parts }
         ensures faults { self.new.faults.amount
             ≡ sum_by (λ p. p.faults) passes.items + self.old.faults.amount }

@@ -1,5 +1,6 @@
-//! One history that many callers add to. The list of accepted entries exists in the proofs alone: what threads share is one
-//! word, its length. The book seat appends, and each caller's pass has seen a beginning of the list.
+//! One history that many callers add to. The list of accepted entries exists in the proofs alone:
+//! what threads share is one word, its length. The book seat appends, and each caller's pass has
+//! seen a beginning of the list.
 #![tactic(auto)]
 
 mod book;

@@ -4,7 +4,8 @@ ghost use Rattle.turn_pass.specs.Seats.{IsOf, SitsAt, pass_state};
 ghost use Rattle.turn_pass.specs.Rule.{with_ended};
 ghost use mathlib.Core.List.{IsPrefix};
 ghost use Rattle.turn_pass.specs.declared.rule.Role.TheVariants.{Book, Pass};
-ghost use Rattle.turn_pass.specs.History.{appended, own, longer, known_of, StandsAt, HasNoRow, Agrees};
+ghost use Rattle.turn_pass.specs.History.{appended, own, longer, known_of};
+ghost use Rattle.turn_pass.specs.History.{StandsAt, HasNoRow, Agrees};
 
 use crate::closing::Closing;
 use crate::rule::{Board, Place};
@@ -13,7 +14,8 @@ use crate::turn::Turn;
 use std::marker::{Brand, Model};
 use std::sync::ledger::{Ledger, Share};
 
-/// One caller's pass: what it has seen of the list, its own entries in it, and what was booked for it.
+/// One caller's pass: what it has seen of the list, its own entries in it, and what was booked for
+/// it.
 #[derive(Drop)]
 pub struct PassSeat<E, L: Ledger, M: Ledger> {
     pub(crate) place: Place<E>,
@@ -109,8 +111,8 @@ impl<E: Copy, L: Ledger, M: Ledger> PassSeat<E, L, M> {
         self.by
     }
 
-    /// Takes in a note. What the pass has seen becomes the note's list, or stays as it is where that is shorter. Of the two
-    /// the longer begins with the shorter.
+    /// Takes in a note. What the pass has seen becomes the note's list, or stays as it is where
+    /// that is shorter. Of the two the longer begins with the shorter.
     pub fn meet(&mut self, turn: &Turn<E, L, M>, note: Note<E>)
         requires turn { (self.old.table ≡ turn.now.table) × (note.table ≡ turn.now.table) }
         ensures pass { self.new ≡ record self.old { seen = longer self.old.seen note.seen } }
@@ -122,8 +124,8 @@ impl<E: Copy, L: Ledger, M: Ledger> PassSeat<E, L, M> {
         steps::look(&turn.board, &mut self.place);
     }
 
-    /// Makes the entry at this number one of the pass's own, by one load of the word. It was appended for this pass, and the
-    /// pass has seen it.
+    /// Makes the entry at this number one of the pass's own, by one load of the word. It was
+    /// appended for this pass, and the pass has seen it.
     pub fn see(&mut self, turn: &Turn<E, L, M>, row: u32, entry: E)
         requires turn { self.old.table ≡ turn.now.table }
         requires stands { StandsAt self.old.history self.old.seen row (appended self.old.by entry) }

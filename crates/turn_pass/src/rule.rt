@@ -20,7 +20,8 @@ pub struct View<E> {
     pub known: Known<E>,
     /// The numbers of all passes: the book seat's alone.
     pub bys: LinkedList<u16>,
-    /// What was joined last. The next load or append tells that it is part of what the seat has seen.
+    /// What was joined last. The next load or append tells that it is part of what the seat has
+    /// seen.
     pub heard: LinkedList<Known<E>>,
     /// What each pass knew that has ended: the book seat's alone.
     pub ended: LinkedList<Known<E>>,

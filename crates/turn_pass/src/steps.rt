@@ -103,7 +103,8 @@ pub(crate) fn see<E: Copy, N: About<E>>(board: &Board<E>, place: &mut Place<E>, 
         (appended place.old.me.0.known.by entry) }
     requires new { HasNoRow place.old.me.0.known.mine row }
     requires own { N.mine ≡ own row entry ∷ [] }
-    ensures place { SitsAt place.old.table_id (with_mine place.old.me.0 (own row entry ∷ [])) place.new }
+    ensures place { SitsAt place.old.table_id
+        (with_mine place.old.me.0 (own row entry ∷ [])) place.new }
     ensures learnt { Learns place.new.me.0 }
 {
     board.shared.load::<SeeEntry<N>>(place, 0);

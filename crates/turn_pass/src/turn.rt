@@ -15,8 +15,8 @@ use std::sync::ledger::{Blank, Ledger};
 /// The answer for want of memory.
 pub type NoMemory = AllocError;
 
-/// The one word that all seats of a session share: how many rows there are. `L` is the ledger of accepted rows, `M` that of
-/// answered faults.
+/// The one word that all seats of a session share: how many rows there are. `L` is the ledger of
+/// accepted rows, `M` that of answered faults.
 #[derive(Drop)]
 pub struct Turn<E, L: Ledger, M: Ledger> {
     pub(crate) board: Board<E>,
@@ -36,9 +36,9 @@ impl<E, L: Ledger, M: Ledger> Model for Turn<E, L, M> {
 }
 
 impl<E: Copy, L: Ledger, M: Ledger> Turn<E, L, M> {
-    /// Begins a session behind `history` rows. Each blank opens one of the two ledgers: `rows` counts accepted rows, `faults`
-    /// answered faults. A blank has one part for the book seat and one for each pass that will be made. This is the only
-    /// call that takes memory.
+    /// Begins a session behind `history` rows. Each blank opens one of the two ledgers: `rows`
+    /// counts accepted rows, `faults` answered faults. A blank has one part for the book seat and
+    /// one for each pass that will be made. This is the only call that takes memory.
     pub fn begin(
         alloc: Global,
         history: u32,
@@ -58,10 +58,11 @@ impl<E: Copy, L: Ledger, M: Ledger> Turn<E, L, M> {
         Ok((turn, BookSeat::of(place, rows, faults)))
     }
 
-    /// Ends the session once every pass that was made has come back, which the parts of the ledgers show. It answers the
-    /// final number of rows, as the word has it, and how many faults were booked; that count stays at 2^64 - 1 once it is
-    /// there. What each pass has seen begins the final list, and where each has as many entries of its own as were booked
-    /// for it, the passes make the list together: nothing was lost, and there is no entry of anyone else.
+    /// Ends the session once every pass that was made has come back, which the parts of the ledgers
+    /// show. It answers the final number of rows, as the word has it, and how many faults were
+    /// booked; that count stays at 2^64 - 1 once it is there. What each pass has seen begins the
+    /// final list, and where each has as many entries of its own as were booked for it, the passes
+    /// make the list together: nothing was lost, and there is no entry of anyone else.
     pub fn close(self, book: BookSeat<E, L, M>, passes: Vec<PassSeat<E, L, M>>) -> (u32, u64)
         requires book { book.table ≡ self.table }
         requires passes { All (λ p. p.table ≡ self.table) passes.items }

@@ -14,7 +14,8 @@ lines_of rows = map (λ r. appended r.by r.value) rows
 
 -- the pass has seen the whole list, and has what it was answered
 abbrev pub answered : Answer → ℕ → List (Appended ℕ) → PassState ℕ → PassState ℕ
-answered (Accepted row) value list pass = record pass { seen = list; mine = pass.mine ++ own row value ∷ []; rows = pass.rows + 1 }
+answered (Accepted row) value list pass =
+    record pass { seen = list; mine = pass.mine ++ own row value ∷ []; rows = pass.rows + 1 }
 answered Refused value list pass = record pass { seen = list }
 answered Failed value list pass = record pass { seen = list; faults = pass.faults + 1 }
 

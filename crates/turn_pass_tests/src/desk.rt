@@ -63,13 +63,20 @@ impl<L: Ledger, M: Ledger, N: Session> Model for Desk<L, M, N> {
 
     ghost view = { λ d. d.seat };
 
-    ghost invariant = { λ d. (d.seat.table ≡ N.table) × (d.seat.history ≡ N.history) × (d.history ≡ N.history) × (d.seat.row_parts ≡ 1) × (d.seat.fault_parts ≡ 1) × (d.seat.list ≡ lines_of d.rows.items) };
+    ghost invariant = { λ d.
+        (d.seat.table ≡ N.table)
+        × (d.seat.history ≡ N.history)
+        × (d.history ≡ N.history)
+        × (d.seat.row_parts ≡ 1)
+        × (d.seat.fault_parts ≡ 1)
+        × (d.seat.list ≡ lines_of d.rows.items) };
 }
 
 impl<L: Ledger, M: Ledger, N: Session> Desk<L, M, N> {
     /// The desk of a new session, all of whose passes were made.
     pub fn new(alloc: Global, history: u32, seat: BookSeat<u32, L, M>) -> Desk<L, M, N>
-        requires session { (seat.table ≡ N.table) × (seat.history ≡ N.history) × (history ≡ N.history) }
+        requires table { seat.table ≡ N.table }
+        requires history { (seat.history ≡ N.history) × (history ≡ N.history) }
         requires parts { (seat.row_parts ≡ 1) × (seat.fault_parts ≡ 1) }
         requires empty { seat.list ≡ [] }
         ensures { result ≡ seat }
@@ -82,7 +89,8 @@ impl<L: Ledger, M: Ledger, N: Session> Desk<L, M, N> {
         }
     }
 
-    /// Accepts an even value, fails at one that ends in 7, and refuses the others, and each where there is no room.
+    /// Accepts an even value, fails at one that ends in 7, and refuses the others, and each where
+    /// there is no room.
     pub fn ask(
         &mut self,
         turn: &Turn<u32, L, M>,

@@ -20,7 +20,8 @@ impl Gate {
         }
     }
 
-    /// Waits for the others, and says whether all came. One that is called after another has ended looks in vain.
+    /// Waits for the others, and says whether all came. One that is called after another has ended
+    /// looks in vain.
     pub fn meet(&self) -> bool {
         self.arrived.fetch_add(1, Ordering::SeqCst);
         for _ in 0..LOOKS {

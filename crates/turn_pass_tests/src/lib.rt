@@ -1,4 +1,5 @@
-//! A stand-in for the book under one lock, with callers on threads: each condition of the pass is one that these can know.
+//! A stand-in for the book under one lock, with callers on threads: each condition of the pass is
+//! one that these can know.
 #![tactic(auto)]
 
 mod desk;

@@ -1,7 +1,8 @@
-//! A whole session, from its Turn to its close, as a program holds it: the ledgers are picked where the Turn is made, and the
-//! session where the lock is.
-ghost use Rattle.std.specs.Prelude.{◌≡◌, ◌+◌, ◌-◌, ◌^◌, ◌<◌, ◌≤◌, [], min, All, length, vec_len, vec_capacity, IfOk};
-ghost use Rattle.turn_pass_tests.specs.Desks.{IsNew, IsSpent};
+//! A whole session, from its Turn to its close, as a program holds it: the ledgers are picked where
+//! the Turn is made, and the session where the lock is.
+ghost use Rattle.std.specs.Prelude.{◌≡◌, ◌+◌, ◌-◌, ◌^◌, ◌≤◌, [], min, All, length, IfOk};
+ghost use Rattle.std.specs.Prelude.{vec_len, vec_capacity};
+ghost use Rattle.turn_pass_tests.specs.Desks.{IsNew};
 
 use crate::desk::{Desk, Row, Session};
 use crate::gate::Gate;
@@ -26,7 +27,8 @@ pub struct Report {
     pub failed: u64,
     /// How many callers didn't find the others there before they asked.
     pub alone: u64,
-    /// How many accepted rows didn't stand in the book at their number, or stood there for another caller already.
+    /// How many accepted rows didn't stand in the book at their number, or stood there for another
+    /// caller already.
     pub misplaced: u64,
     /// How many rows of the book no caller was answered.
     pub unknown: u64,
@@ -43,7 +45,8 @@ pub fn hold<L: Ledger + Send + Sync, M: Ledger + Send + Sync, R: Threads + Wait 
     asks: u32,
 ) -> Result<Report, NoMemory>
     requires rows { (rows.name ≡ L.name) × (rows.parts ≡ L.parts) × (rows.parts ≡ callers + 1) }
-    requires faults { (faults.name ≡ M.name) × (faults.parts ≡ M.parts) × (faults.parts ≡ callers + 1) }
+    requires faults { (faults.name ≡ M.name)
+        × (faults.parts ≡ M.parts) × (faults.parts ≡ callers + 1) }
     ensures total { IfOk result (λ report. report.count ≡ history + report.accepted) }
 {
     let (turn, mut seat) = Turn::<u32, L, M>::begin(alloc, history, rows, faults)?;
@@ -128,7 +131,13 @@ fn settle<L: Ledger, M: Ledger, N: Session>(
         let (pass, answers) = worker.into_parts();
         report.add(&answers);
         let accepted = answers.accepted.as_slice();
-        let wrong = misplaced(history, rows.as_slice(), pass.by(), accepted, known.as_mut_slice());
+        let wrong = misplaced(
+            history,
+            rows.as_slice(),
+            pass.by(),
+            accepted,
+            known.as_mut_slice(),
+        );
         report.misplaced = report.misplaced.saturating_add(wrong);
         ends.push_reserved(pass);
     }
@@ -152,7 +161,8 @@ impl Report {
     }
 }
 
-// How many of a caller's accepted rows don't stand in the book at their numbers, or stand there for another answer already.
+// How many of a caller's accepted rows don't stand in the book at their numbers, or stand there for
+// another answer already.
 fn misplaced(history: u32, rows: &[Row], by: u16, accepted: &[Kept], known: &mut [bool]) -> u64 {
     let mut count: u64 = 0;
     for kept in accepted {

@@ -33,9 +33,14 @@ fn two_appends<L: Ledger, M: Ledger>(
     requires rows { (rows.name ≡ L.name) × (rows.parts ≡ L.parts) × (rows.parts ≡ 3) }
     requires faults { (faults.name ≡ M.name) × (faults.parts ≡ M.parts) × (faults.parts ≡ 3) }
     ensures numbers { IfOk result (λ made. (made.first ≡ 4) × (made.second ≡ 5)) }
-    ensures one { IfOk result (λ made. (made.one.seen ≡ appended 1 71 ∷ []) × (made.one.mine ≡ own 4 71 ∷ [])) }
-    ensures two { IfOk result (λ made. (made.two.seen ≡ appended 1 71 ∷ appended 2 72 ∷ []) × (made.two.mine ≡ own 5 72 ∷ [])) }
-    ensures turn { IfOk result (λ made. (made.book.table ≡ made.turn.table) × (made.one.table ≡ made.turn.table) × (made.two.table ≡ made.turn.table)) }
+    ensures one { IfOk result (λ made.
+        (made.one.seen ≡ appended 1 71 ∷ []) × (made.one.mine ≡ own 4 71 ∷ [])) }
+    ensures two { IfOk result (λ made.
+        (made.two.seen ≡ appended 1 71 ∷ appended 2 72 ∷ []) × (made.two.mine ≡ own 5 72 ∷ [])) }
+    ensures turn { IfOk result (λ made.
+        (made.book.table ≡ made.turn.table)
+        × (made.one.table ≡ made.turn.table)
+        × (made.two.table ≡ made.turn.table)) }
     ensures parts { IfOk result (λ made. (made.book.row_parts ≡ 1) × (made.book.fault_parts ≡ 1)) }
 {
     let (turn, mut book) = Turn::begin(alloc, 3, rows, faults)?;
@@ -100,7 +105,8 @@ fn session<R: Threads + Wait + Sync>(
     hold::<Brand, Brand, R>(rt, alloc, history, rows, faults, callers, asks)
 }
 
-// As many callers as processors, who ask 10 000 times each: of ten values in turn five are accepted and one fails.
+// As many callers as processors, who ask 10 000 times each: of ten values in turn five are accepted
+// and one fails.
 #[test]
 fn callers_on_all_processors(rt: HostRuntime) -> Result<(), Fail> {
     let callers = thread::available_parallelism(&rt)?.get().min(16) as u16;
@@ -120,7 +126,10 @@ fn callers_on_all_processors(rt: HostRuntime) -> Result<(), Fail> {
 fn callers_at_the_limit(rt: HostRuntime) -> Result<(), Fail> {
     let report = session(&rt, rt.alloc(), MAX_ROWS - 10, 3, 100)?;
     assert_eq!(rt; (report.count, report.accepted), (MAX_ROWS, 10));
-    assert_eq!(rt; (report.failed, report.booked, report.refused), (30, 30, 260));
+    assert_eq!(rt;
+        (report.failed, report.booked, report.refused),
+        (30, 30, 260)
+    );
     assert_eq!(rt; (report.misplaced, report.unknown, report.alone), (0, 0, 0));
     Ok(())
 }

@@ -47,7 +47,11 @@ impl<L: Ledger, M: Ledger, N: Session> Model for Worker<L, M, N> {
 
     ghost view = { λ w. w.pass };
 
-    ghost invariant = { λ w. (w.pass.table ≡ N.table) × (w.pass.history ≡ N.history) × (w.pass.mine ≡ own_of w.answers.accepted.items) × (w.pass.rows ≡ length w.pass.mine) };
+    ghost invariant = { λ w.
+        (w.pass.table ≡ N.table)
+        × (w.pass.history ≡ N.history)
+        × (w.pass.mine ≡ own_of w.answers.accepted.items)
+        × (w.pass.rows ≡ length w.pass.mine) };
 }
 
 impl<L: Ledger, M: Ledger, N: Session> Worker<L, M, N> {
@@ -83,7 +87,8 @@ impl<L: Ledger, M: Ledger, N: Session> Worker<L, M, N> {
         (pass, answers)
     }
 
-    /// Meets the other callers, and asks for so many values, one after the other, each under the lock.
+    /// Meets the other callers, and asks for so many values, one after the other, each under the
+    /// lock.
     pub fn ask_all<R: Wait>(
         &mut self,
         rt: &R,

@@ -1,4 +1,5 @@
-use Rattle.std.proofs.Common.{◌≡◌, ◌+◌, ◌-◌, ◌^◌, ◌≤◌, ℕ, All, length, min, sum_by, vec_len, vec_capacity}
+use Rattle.std.proofs.Common.{◌≡◌, ◌+◌, ◌-◌, ◌^◌, ◌≤◌, ℕ, All, length, min, sum_by, vec_len}
+use Rattle.std.proofs.Common.{vec_capacity}
 use Rattle.turn_pass.specs.History.{PassState}
 use Rattle.turn_pass_tests.specs.Desks.{IsSpent}
 use Rattle.turn_pass_tests.proofs.session.settle.Given as goal

@@ -1,4 +1,5 @@
-use Rattle.std.proofs.Common.{◌≡◌, ◌∷◌, ◌++◌, [], List, subst, ap, ◌∙◌, length, length-append, arith, sum_by}
+use Rattle.std.proofs.Common.{◌≡◌, ◌∷◌, ◌++◌, [], List, subst, ap, ◌∙◌, length, length-append}
+use Rattle.std.proofs.Common.{arith, sum_by}
 use Rattle.std.proofs.lemmas.List.Sums.{sum_by_push}
 use Rattle.turn_pass.specs.History.{PassState}
 use Rattle.turn_pass.proofs.Gathered.{IsGathered, one_back}

@@ -1,7 +1,5 @@
-use Rattle.std.proofs.Common.{◌≡◌, ◌+◌, ◌++◌, [], All, length, map, List, sum_by}
-use Rattle.turn_pass.specs.declared.entries.Known.{Known}
-use Rattle.turn_pass.specs.History.{known_of, PassState}
-use Rattle.turn_pass.specs.Rule.{with_ended}
+use Rattle.std.proofs.Common.{◌≡◌, ◌+◌, length, sum_by}
+use Rattle.turn_pass.specs.History.{PassState}
 use Rattle.turn_pass.proofs.Gathered.{IsGathered}
 use Rattle.turn_pass.proofs.closing.Closing.gather.Given as goal
 
