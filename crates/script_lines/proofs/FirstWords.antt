@@ -11,16 +11,16 @@ abbrev words_by : (ℕ → Bool) → List ℕ → List (List ℕ)
 words_by blank line = filter (λ word. nat_lt 0 (length word)) (slice_split blank line)
 
 -- the blanks before the first word change no word
-behind_blanks : (blank : ℕ → Bool) (line : List ℕ) → words_by blank (drop (prefix_len blank line) line) ≡ words_by blank line
-behind_blanks blank [] = refl
-behind_blanks blank (byte ∷ line) = elim (cases_Bool (blank byte)) [
+after_blanks : (blank : ℕ → Bool) (line : List ℕ) → words_by blank (drop (prefix_len blank line) line) ≡ words_by blank line
+after_blanks blank [] = refl
+after_blanks blank (byte ∷ line) = elim (cases_Bool (blank byte)) [
   | inl h ↦
       let one : 1 + prefix_len blank line ≡ suc (prefix_len blank line) = omega arith in
-      rw (h, one) (behind_blanks blank line)
+      rw (h, one) (after_blanks blank line)
   | inr h ↦ rw h (rw h refl)
 ]
 
--- behind the blanks a word begins
+-- after the blanks a word begins
 begins : (blank : ℕ → Bool) (line : List ℕ) → 0 < length (drop (prefix_len blank line) line) → 0 < position_or_len blank (drop (prefix_len blank line) line)
 begins blank [] some = absurd (omega (arith, some))
 begins blank (byte ∷ line) some = elim (cases_Bool (blank byte)) [
@@ -41,26 +41,26 @@ parts_of blank [] = record { others = []; split = refl; words = refl }
 parts_of blank (byte ∷ line) = elim (cases_Bool (blank byte)) [
   | inl h ↦ record { others = slice_split blank line; split = rw h refl; words = rw h (rw h refl) }
   | inr h ↦
-      let behind = parts_of blank line in
+      let rest = parts_of blank line in
       let one : 1 + position_or_len blank line ≡ suc (position_or_len blank line) = omega arith in
-      record { others = behind.others; split = rw (h, one, behind.split) refl; words = rw (h, one) behind.words }
+      record { others = rest.others; split = rw (h, one, rest.split) refl; words = rw (h, one) rest.words }
 ]
 
 -- the words of a line that begins with a word
-front_word : (blank : ℕ → Bool) (line : List ℕ) → 0 < position_or_len blank line → words_by blank line ≡ take (position_or_len blank line) line ∷ words_by blank (drop (position_or_len blank line) line)
-front_word blank line some =
+first_of : (blank : ℕ → Bool) (line : List ℕ) → 0 < position_or_len blank line → words_by blank line ≡ take (position_or_len blank line) line ∷ words_by blank (drop (position_or_len blank line) line)
+first_of blank line some =
     let parts = parts_of blank line in
     let within : position_or_len blank line ≤ length line = prefix_len-le-length (λ byte. not (blank byte)) line in
     let long : 0 < length (take (position_or_len blank line) line) = omega (arith, some, length-take-le (position_or_len blank line) line within) in
     rw (parts.split, lt-ltb 0 (length (take (position_or_len blank line) line)) long, parts.words) refl
 
--- where nothing stands behind the blanks, there is no word
+-- where nothing stands after the blanks, there is no word
 pub words_of-wordless : (line text : List ℕ) → text ≡ drop (prefix_len is_blank line) line → length text ≡ 0 → words_of line ≡ []
-words_of-wordless line [] is none = sym (behind_blanks is_blank line) ∙ ap words_of (sym is)
+words_of-wordless line [] is none = sym (after_blanks is_blank line) ∙ ap words_of (sym is)
 words_of-wordless line (byte ∷ text) is none = absurd (omega (arith, none))
 
--- behind the blanks stands the first word, and behind it the others
+-- after the blanks stands the first word, and after it the others
 pub words_of-first : (line text : List ℕ) → text ≡ drop (prefix_len is_blank line) line → 0 < length text → words_of line ≡ take (position_or_len is_blank text) text ∷ words_of (drop (position_or_len is_blank text) text)
 words_of-first line text is some =
     let long : 0 < length (drop (prefix_len is_blank line) line) = rw is at some in
-    rw is (sym (behind_blanks is_blank line) ∙ front_word is_blank (drop (prefix_len is_blank line) line) (begins is_blank line long))
+    rw is (sym (after_blanks is_blank line) ∙ first_of is_blank (drop (prefix_len is_blank line) line) (begins is_blank line long))

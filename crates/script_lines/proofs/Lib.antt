@@ -1,2 +1,3 @@
-pub mod FrontWords
+pub mod FirstEnds
+pub mod FirstWords
 pub mod LineLists

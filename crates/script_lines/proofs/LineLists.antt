@@ -1,7 +1,11 @@
 -- Lemmas on the lines of a text that goes on.
-use Rattle.std.proofs.Common.{◌≡◌, ℕ, ◌<◌, Bool, true, false, ◌||◌, ◌==◌, if◌then◌else◌, List, [], ◌∷◌, ◌++◌, length, cond, eqb, refl, sym, ap, ◌∙◌, arith, append_assoc, append-nil}
-use Rattle.std.specs.List.{list_any}
-use Rattle.script_lines.specs.Lines.{onto_ended, ended_lines, rest_of, last_line}
+use Rattle.std.proofs.Common.{inl, inr, ◌≤◌, arith, ◌≡◌, ℕ, ◌<◌, Bool, true, false, ◌||◌, ◌==◌, if◌then◌else◌, List, [], ◌∷◌, ◌++◌, length, cond, eqb, refl, sym, ap, ◌∙◌, arith, append_assoc, append-nil}
+use Rattle.std.proofs.lemmas.Bool.{cases_Bool}
+use Rattle.script_lines.specs.Lines.{has_end, onto_ended, ended_lines, rest_of, last_line}
+
+onto_ended-length : (byte : ℕ) (lines : List (List ℕ)) → length (onto_ended byte lines) ≡ length lines
+onto_ended-length byte [] = refl
+onto_ended-length byte (line ∷ lines) = refl
 
 -- the lines that end in LF, where the first has begun so
 abbrev pub ended_after : List ℕ → List ℕ → List (List ℕ)
@@ -9,7 +13,7 @@ ended_after begun [] = []
 ended_after begun (byte ∷ bytes) =
     if byte == 10 then begun ∷ ended_after [] bytes else ended_after (begun ++ byte ∷ []) bytes
 
--- what stands behind the last LF, where the first line has begun so
+-- what stands after the last LF, where the first line has begun so
 abbrev pub rest_after : List ℕ → List ℕ → List ℕ
 rest_after begun [] = begun
 rest_after begun (byte ∷ bytes) = if byte == 10 then rest_after [] bytes else rest_after (begun ++ byte ∷ []) bytes
@@ -35,13 +39,9 @@ ended_after-put begun (x ∷ bytes) =
       | false ↦ ended_after-put (begun ++ x ∷ []) bytes ∙ put_before-onto begun x (ended_lines bytes)
     ]
 
--- the lines are those behind no beginning
+-- the lines are those after no beginning
 ended_after-nothing : (bytes : List ℕ) → ended_after [] bytes ≡ ended_lines bytes
 ended_after-nothing bytes = ended_after-put [] bytes ∙ put_before-nothing (ended_lines bytes)
-
--- there is an LF
-abbrev has_end : List ℕ → Bool
-has_end bytes = list_any (λ b. b == 10) bytes
 
 rest_of-no_end : (bytes : List ℕ) → cond (has_end bytes) (rest_of bytes) bytes ≡ rest_of bytes
 rest_of-no_end [] = refl
@@ -58,7 +58,7 @@ rest_after-begun begun (x ∷ bytes) =
       | false ↦ longer ∙ same (has_end bytes)
     ]
 
--- the rest is that behind no beginning
+-- the rest is that after no beginning
 rest_after-nothing : (bytes : List ℕ) → rest_after [] bytes ≡ rest_of bytes
 rest_after-nothing bytes = rest_after-begun [] bytes ∙ rest_of-no_end bytes
 
@@ -80,7 +80,7 @@ pub last_line_is : (line : List ℕ) → 0 < length line → last_line line ≡ 
 last_line_is [] h = absurd (omega arith)
 last_line_is (x ∷ line) h = refl
 
--- the lines that have ended, and what stands behind them, when the text goes on
+-- the lines that have ended, and what follows them, when the text goes on
 pub ended_lines-append : (taken rest : List ℕ) → ended_lines (taken ++ rest) ≡ ended_lines taken ++ ended_after (rest_of taken) rest
 ended_lines-append taken rest =
     sym (ended_after-nothing (taken ++ rest)) ∙ ended_after-append [] taken rest
@@ -91,15 +91,45 @@ pub rest_of-append : (taken rest : List ℕ) → rest_of (taken ++ rest) ≡ res
 rest_of-append taken rest =
     sym (rest_after-nothing (taken ++ rest)) ∙ rest_after-append [] taken rest ∙ ap (λ begun. rest_after begun rest) (rest_after-nothing taken)
 
-pub ended_with_end : (taken : List ℕ) → ended_lines (taken ++ 10 ∷ []) ≡ ended_lines taken ++ rest_of taken ∷ []
-ended_with_end taken = ended_lines-append taken (10 ∷ [])
+-- bytes without an LF end no line
+ended_after-part : (begun part : List ℕ) → has_end part ≡ false → ended_after begun part ≡ []
+ended_after-part begun [] none = refl
+ended_after-part begun (x ∷ part) none = elim (cases_Bool (eqb x 10)) [
+  | inl is ↦ let never = rw is at none in absurd (cc)
+  | inr other ↦ rw other (ended_after-part (begun ++ x ∷ []) part (rw other at none))
+]
 
-pub rest_with_end : (taken : List ℕ) → rest_of (taken ++ 10 ∷ []) ≡ []
-rest_with_end taken = rest_of-append taken (10 ∷ [])
+rest_after-part : (begun part : List ℕ) → has_end part ≡ false → rest_after begun part ≡ begun ++ part
+rest_after-part begun [] none = sym (append-nil begun)
+rest_after-part begun (x ∷ part) none = elim (cases_Bool (eqb x 10)) [
+  | inl is ↦ let never = rw is at none in absurd (cc)
+  | inr other ↦ rw other (rest_after-part (begun ++ x ∷ []) part (rw other at none) ∙ append_assoc begun (x ∷ []) part)
+]
 
-pub ended_with_other : (taken : List ℕ) (byte : ℕ) → eqb byte 10 ≡ false → ended_lines (taken ++ byte ∷ []) ≡ ended_lines taken
-ended_with_other taken byte e =
-    ended_lines-append taken (byte ∷ []) ∙ ap (λ b. ended_lines taken ++ cond b (rest_of taken ∷ []) []) e ∙ append-nil (ended_lines taken)
+-- the text goes on with bytes without an LF
+pub ended_with_part : (taken part : List ℕ) → has_end part ≡ false → ended_lines (taken ++ part) ≡ ended_lines taken
+ended_with_part taken part none =
+    ended_lines-append taken part ∙ ap (λ ls. ended_lines taken ++ ls) (ended_after-part (rest_of taken) part none) ∙ append-nil (ended_lines taken)
 
-pub rest_with_other : (taken : List ℕ) (byte : ℕ) → eqb byte 10 ≡ false → rest_of (taken ++ byte ∷ []) ≡ rest_of taken ++ byte ∷ []
-rest_with_other taken byte e = rest_of-append taken (byte ∷ []) ∙ ap (λ b. cond b [] (rest_of taken ++ byte ∷ [])) e
+pub rest_with_part : (taken part : List ℕ) → has_end part ≡ false → rest_of (taken ++ part) ≡ rest_of taken ++ part
+rest_with_part taken part none = rest_of-append taken part ∙ rest_after-part (rest_of taken) part none
+
+-- and then an LF ends a line
+pub ended_with_line : (taken part : List ℕ) → has_end part ≡ false
+    → ended_lines (taken ++ (part ++ 10 ∷ [])) ≡ ended_lines taken ++ (rest_of taken ++ part) ∷ []
+ended_with_line taken part none =
+    ap ended_lines (sym (append_assoc taken part (10 ∷ []))) ∙ ended_lines-append (taken ++ part) (10 ∷ [])
+    ∙ ap (λ ls. ls ++ rest_of (taken ++ part) ∷ []) (ended_with_part taken part none)
+    ∙ ap (λ line. ended_lines taken ++ line ∷ []) (rest_with_part taken part none)
+
+pub rest_with_line : (taken part : List ℕ) → rest_of (taken ++ (part ++ 10 ∷ [])) ≡ []
+rest_with_line taken part =
+    ap rest_of (sym (append_assoc taken part (10 ∷ []))) ∙ rest_of-append (taken ++ part) (10 ∷ [])
+
+-- there are no more lines than bytes
+pub ended_lines-few : (bytes : List ℕ) → length (ended_lines bytes) ≤ length bytes
+ended_lines-few [] = omega arith
+ended_lines-few (x ∷ bytes) = elim (cases_Bool (eqb x 10)) [
+  | inl is ↦ rw is (omega (arith, ended_lines-few bytes))
+  | inr other ↦ rw other (omega (arith, ended_lines-few bytes, onto_ended-length x (ended_lines bytes)))
+]

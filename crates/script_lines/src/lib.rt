@@ -1,12 +1,12 @@
-//! The lines of a script: bytes of a line in, a command out. It takes no memory.
+//! The lines of a script: the bytes of a line in, a command out. It takes no memory.
 #![tactic(auto)]
 
 mod command;
-mod line_words;
-mod script;
+mod feed;
+mod lines;
+mod verbs;
+mod words;
 
-pub use command::{Command, Line};
-pub use script::{LONGEST_LINE, read_ended_line, read_last_line};
-
-#[cfg(test)]
-mod script_tests;
+pub use command::{Allowed, Command, Line, Verb};
+pub use feed::{Feed, TooLong, split_line};
+pub use lines::{MAX_LINE, read_ended_line, read_last_line};

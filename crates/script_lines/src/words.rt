@@ -2,9 +2,10 @@ ghost use Rattle.std.specs.Prelude.{◌≡◌, ◌≤◌, ◌∷◌, [], false, 
 ghost use Rattle.std.specs.List.{prefix_len, position_or_len};
 ghost use Rattle.script_lines.specs.Script.{is_blank, words_of, is_one_word};
 
-/// The first word of a line and what stands behind it, where there is a word.
+/// The first word of a line and what follows it, where there is a word.
 pub fn first_word(line: &[u8]) -> Option<(&[u8], &[u8])>
-    ensures { MatchOption result (words_of line.now ≡ []) (λ pair. words_of line.now ≡ pair.0.now ∷ words_of pair.1.now) }
+    ensures { MatchOption result (words_of line.now ≡ [])
+        (λ pair. words_of line.now ≡ pair.0.now ∷ words_of pair.1.now) }
 {
     let text = line.split_at(count_blanks(line)).1;
     if text.is_empty() {
@@ -14,11 +15,12 @@ pub fn first_word(line: &[u8]) -> Option<(&[u8], &[u8])>
 }
 
 /// The word of a line that has just one.
-pub fn last_word(line: &[u8]) -> Option<&[u8]>
-    ensures { MatchOption result (is_one_word (words_of line.now) ≡ false) (λ word. words_of line.now ≡ word.now ∷ []) }
+pub fn only_word(line: &[u8]) -> Option<&[u8]>
+    ensures { MatchOption result (is_one_word (words_of line.now) ≡ false)
+        (λ word. words_of line.now ≡ word.now ∷ []) }
 {
-    let (word, behind) = first_word(line)?;
-    if first_word(behind).is_some() {
+    let (word, rest) = first_word(line)?;
+    if first_word(rest).is_some() {
         return None;
     }
     Some(word)
