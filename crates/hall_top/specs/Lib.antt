@@ -1,5 +1,6 @@
 pub mod Texts
 pub mod Transcript
+pub mod Books
 pub mod Streams
 pub mod Run
 pub mod Reached

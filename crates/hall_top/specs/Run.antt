@@ -1,144 +1,220 @@
--- How a run ends, what has then gone out, and which rows it leaves.
-use Rattle.std.specs.Prelude.{◌≡◌, ℕ, ◌+◌, ◌<◌, ◌≤◌, ◌⊎◌, Bool, true, List, [], ◌∷◌, ◌++◌, length, ◌==◌, ◌||◌, IsSome, IfSome}
+-- How a run of a script ends: what has then gone out, which rows it leaves, and why.
+use Rattle.std.specs.Prelude.{◌≡◌, ℕ, ◌+◌, ◌*◌, ◌<◌, ◌≤◌, ◌⊎◌, Bool, true, false, List, [], ◌∷◌, ◌++◌, length, ◌==◌, ◌||◌, IsSome, IfSome}
 use Rattle.std.specs.Io.KnownBytes.{Consumes, IsAtEnd}
-use Rattle.device_facts.specs.Count.{Counted}
+use Rattle.device_facts.specs.Count.{Calm}
+use Rattle.disk_core.specs.declared.source.Source as source
+use Rattle.disk_core.specs.declared.sink.Sink as sink
 use Rattle.book_words.specs.declared.types.Entry.{Entry}
 use Rattle.book_words.specs.Answers.{summary}
+use Rattle.script_lines.specs.declared.lines.TheConstants.{MAX_LINE}
 use Rattle.script_lines.specs.declared.command.Command.{Command}
 use Rattle.script_lines.specs.declared.command.Line.{Line}
 use Rattle.script_lines.specs.declared.command.Line.TheVariants.{Asks, Bad}
+use Rattle.script_lines.specs.Lines.{rest_of}
+use Rattle.script_lines.specs.Script.{all_good, commands_of}
+use Rattle.batch_reports.specs.Texts.{outcome_text, summary_text}
+use Rattle.hall_top.specs.declared.reads.TheConstants.{MAX_READS, PIECE}
 use Rattle.hall_top.specs.declared.stop.Stop.{Stop}
 use Rattle.hall_top.specs.declared.stop.Stop.TheVariants.{Finished, BadLine, ReadFault, WriteFault, NoMemory, Spent}
-use Rattle.script_lines.specs.Lines.{rest_of}
-use Rattle.script_lines.specs.Script.{ended_in, lines_in, all_good, commands_of}
-use Rattle.hall_top.specs.Texts.{answer_text, summary_text, bad_line, read_fault, no_memory}
-use Rattle.hall_top.specs.Transcript.{BookState, answer_to, after_commands, row_told, answers, transcript, StandOnce}
-use Rattle.hall_top.specs.Streams.{Stream, Streams, WroteAll, IsCutIn, Wrote}
+use Rattle.hall_top.specs.Texts.{usage, bad_line, read_fault, no_memory}
+use Rattle.hall_top.specs.Transcript.{BookState, Exchange, exchange_at, after_commands, answers, transcript, StandOnce, ended_lines_of, lines_of}
+use Rattle.hall_top.specs.Streams.{Stream, Devices, devices, input_of, output_of, IsCalm, HasFailed, WroteAll, IsCutIn, Wrote}
 
--- these are the rows that commands leave, and what the commands were told stands among them once
+-- these are the rows that commands leave, and what was acknowledged stands among them once
 pub record AreLeft (book : BookState) (commands : List Command) (rows : List Entry) : Type 0 where
   pub left : rows ≡ (after_commands book commands).entries
   pub once : StandOnce book commands rows
 
 -- commands were answered and nothing else went out, and these rows are left
-pub record IsAnswered (book : BookState) (before now : Stream) (rows : List Entry) (commands : List Command) : Type 0 where
+pub record IsAnswered (book : BookState) (before now : Stream) (rows : List Entry)
+    (commands : List Command) : Type 0 where
   pub wrote : WroteAll before now (answers book commands)
   pub rows_left : AreLeft book commands rows
 
 -- commands were answered, and then comes one more text, which may be cut; these rows are left
-pub record IsAnsweredThen (book : BookState) (before now : Stream) (rows : List Entry) (commands : List Command) (text : List ℕ) : Type 0 where
+pub record IsAnsweredThen (book : BookState) (before now : Stream) (rows : List Entry)
+    (commands : List Command) (text : List ℕ) : Type 0 where
   pub wrote : Wrote before now (answers book commands) text
   pub rows_left : AreLeft book commands rows
 
--- the answer to a command behind others was cut; the rows are those that it leaves too
-pub record IsAnswerCut (book : BookState) (before now : Stream) (rows : List Entry) (commands : List Command) (command : Command) : Type 0 where
-  pub cut : IsCutIn before now (answers book commands) (answer_text (answer_to (after_commands book commands) command))
+-- the exchange of a command after others
+abbrev pub exchange_after : BookState → List Command → Command → Exchange
+exchange_after book commands command = exchange_at (after_commands book commands) command
+
+-- the answer to a command after others was cut; the rows are those that it leaves too
+pub record IsAnswerCut (book : BookState) (before now : Stream) (rows : List Entry)
+    (commands : List Command) (command : Command) : Type 0 where
+  pub cut : IsCutIn before now (answers book commands)
+      (outcome_text (exchange_after book commands command).answer)
   pub rows_left : AreLeft book (commands ++ command ∷ []) rows
 
--- a command behind others would have been a new row, but there was no memory for it
-pub record FoundNoMemory (book : BookState) (rows : List Entry) (commands : List Command) (command : Command) : Type 0 where
-  pub lawful : IsSome (row_told (answer_to (after_commands book commands) command))
+-- a command after others would have added a row, but there was no memory for it
+pub record FindsNoMemory (book : BookState) (rows : List Entry) (commands : List Command)
+    (command : Command) : Type 0 where
+  pub would_add : IsSome (exchange_after book commands command).added
   pub rows_left : AreLeft book commands rows
 
--- how a run stops at the line of a number, behind these commands: at a bad line, in a failed write, or where there is no memory for a command; no other line stops it, and none in another way
-abbrev pub StopsAt : BookState → Stream → Stream → List Entry → List Command → ℕ → Line → Stop → Type 0
-StopsAt book before now rows commands number Bad BadLine = IsAnsweredThen book before now rows commands (bad_line number)
-StopsAt book before now rows commands number (Asks command) WriteFault =
-    IsAnswerCut book before now rows commands command ⊎ (IsCutIn before now (answers book commands) no_memory × FoundNoMemory book rows commands command)
-StopsAt book before now rows commands number (Asks command) NoMemory =
-    WroteAll before now (answers book commands ++ no_memory) × FoundNoMemory book rows commands command
-StopsAt book before now rows commands number _ _ = ⊥
+-- how a run stops at the line of a number, after these commands: at a bad line, in a failed write, or
+-- where there is no memory for a command; no other line stops it, and none in another way
+abbrev pub StopsAtLine : BookState → Stream → Stream → List Entry → List Command → ℕ → Line → Stop → Type 0
+StopsAtLine book before now rows commands number Bad BadLine =
+    IsAnsweredThen book before now rows commands (bad_line number)
+StopsAtLine book before now rows commands number (Asks command) WriteFault =
+    IsAnswerCut book before now rows commands command
+    ⊎ (IsCutIn before now (answers book commands) no_memory × FindsNoMemory book rows commands command)
+StopsAtLine book before now rows commands number (Asks command) NoMemory =
+    WroteAll before now (answers book commands ++ no_memory) × FindsNoMemory book rows commands command
+StopsAtLine book before now rows commands number _ _ = ⊥
 
--- a run stops at the last line of what it judged: the lines before it are good, and their commands answered
-pub record StopsIn (book : BookState) (before now : Stream) (rows : List Entry) (stop : Stop) (judged : List ℕ) : Type 0 where
+-- a run stops at the last line of what it judged: the lines before it are good and answered
+pub record StopsInScript (book : BookState) (before now : Stream) (rows : List Entry) (stop : Stop)
+    (judged : List ℕ) : Type 0 where
   pub lines : List Line
   pub line : Line
-  pub last : lines_in judged ≡ lines ++ line ∷ []
+  pub last : lines_of judged ≡ lines ++ line ∷ []
   pub good : all_good lines ≡ true
-  pub stops : StopsAt book before now rows (commands_of lines) (length lines + 1) line stop
+  pub stops : StopsAtLine book before now rows (commands_of lines) (length lines + 1) line stop
 
 -- a script has these lines, then this one, and perhaps more
 pub record HasLine (lines : List Line) (line : Line) (script : List ℕ) : Type 0 where
   pub more : List Line
-  pub parts : lines_in script ≡ lines ++ line ∷ more
+  pub parts : lines_of script ≡ lines ++ line ∷ more
 
--- so a run stops within its input: of the bytes that it took it judged all but less than a piece of 65 536, and the line at which it stopped is that of the whole script
-pub record StopsWithin (book : BookState) (before now : Streams) (rows : List Entry) (stop : Stop) : Type 0 where
+-- a call of the program: its devices before it and after it, and the rows that it leaves
+pub record Call (S K : Type 0) : Type 0 where
+  pub before : Devices S K
+  pub now : Devices S K
+  pub rows : List Entry
+
+-- a call by its devices
+abbrev pub call : {S K : Type 0} → source.Ghosts S → sink.Ghosts K → S → K → S → K → List Entry → Call S K
+call source sink input output input_now output_now rows =
+    record {
+      before = devices source sink input output;
+      now = devices source sink input_now output_now;
+      rows = rows;
+    }
+
+-- a run stops in its input: of the bytes that it took it judged all but less than a piece, and the line
+-- at which it stopped is that of the whole script
+pub record StopsInInput {S K : Type 0} (book : BookState) (call : Call S K) (stop : Stop) : Type 0 where
   pub judged : List ℕ
   pub rest : List ℕ
-  pub read : Consumes before.input.bytes now.input.bytes (judged ++ rest)
-  pub near : length rest < 65536
-  pub stops : StopsIn book before.output now.output rows stop judged
-  pub whole : IfSome before.input.bytes (HasLine stops.lines stops.line)
+  pub read : Consumes (input_of call.before).bytes (input_of call.now).bytes (judged ++ rest)
+  pub near : length rest < PIECE
+  pub stops : StopsInScript book (output_of call.before) (output_of call.now) call.rows stop judged
+  pub whole : IfSome (input_of call.before).bytes (HasLine stops.lines stops.line)
 
--- a whole script is good: its transcript went out, and these rows are left
-pub record IsDone (book : BookState) (before now : Stream) (rows : List Entry) (script : List ℕ) : Type 0 where
-  pub good : all_good (lines_in script) ≡ true
-  pub wrote : WroteAll before now (transcript book (commands_of (lines_in script)))
-  pub rows_left : AreLeft book (commands_of (lines_in script)) rows
-
--- a whole script is good and answered, and the summary was cut
-pub record IsDoneButCut (book : BookState) (before now : Stream) (rows : List Entry) (script : List ℕ) : Type 0 where
-  pub good : all_good (lines_in script) ≡ true
-  pub cut : IsCutIn before now (answers book (commands_of (lines_in script))) (summary_text (summary rows))
-  pub rows_left : AreLeft book (commands_of (lines_in script)) rows
-
--- the whole input was read
-pub record ReadAll (before now : Stream) (P : List ℕ → Type 0) : Type 0 where
-  pub taken : List ℕ
-  pub read : Consumes before.bytes now.bytes taken
+-- the input was read to its end, and gave this script
+pub record ReadsWhole (before now : Stream) (script : List ℕ) : Type 0 where
+  pub read : Consumes before.bytes now.bytes script
   pub at_end : IsAtEnd now.bytes
-  pub holds : P taken
+  pub all : IfSome before.bytes (λ left. left ≡ script)
+  pub calm : IsCalm before now
+
+-- all lines of a script are good, its transcript went out, and these rows are left
+pub record HasTranscript (book : BookState) (before now : Stream) (rows : List Entry)
+    (script : List ℕ) : Type 0 where
+  pub good : all_good (lines_of script) ≡ true
+  pub wrote : WroteAll before now (transcript book (commands_of (lines_of script)))
+  pub rows_left : AreLeft book (commands_of (lines_of script)) rows
+
+-- all lines of a script are good and answered, the summary was cut, and these rows are left
+pub record LacksSummary (book : BookState) (before now : Stream) (rows : List Entry)
+    (script : List ℕ) : Type 0 where
+  pub good : all_good (lines_of script) ≡ true
+  pub cut : IsCutIn before now (answers book (commands_of (lines_of script)))
+      (summary_text (summary rows))
+  pub rows_left : AreLeft book (commands_of (lines_of script)) rows
+
+-- status 0: the whole script is good, its transcript went out, and nothing failed
+pub record IsDone {S K : Type 0} (book : BookState) (call : Call S K) : Type 0 where
+  pub script : List ℕ
+  pub read : ReadsWhole (input_of call.before) (input_of call.now) script
+  pub done : HasTranscript book (output_of call.before) (output_of call.now) call.rows script
+
+-- the whole script is good and answered, and its summary was cut
+pub record IsSummaryCut {S K : Type 0} (book : BookState) (call : Call S K) : Type 0 where
+  pub script : List ℕ
+  pub read : ReadsWhole (input_of call.before) (input_of call.now) script
+  pub done : LacksSummary book (output_of call.before) (output_of call.now) call.rows script
+
+-- status 2: nothing was read, the line on the usage went out or was cut, and there are no rows
+pub record IsUsage {S K : Type 0} (call : Call S K) : Type 0 where
+  pub unread : call.now.input ≡ call.before.input
+  pub wrote : Wrote (output_of call.before) (output_of call.now) [] usage
+  pub none : call.rows ≡ []
+
+-- status 3: a line is bad; the commands before it are answered, and then comes its number
+pub record IsBadLine {S K : Type 0} (book : BookState) (call : Call S K) : Type 0 where
+  pub stops : StopsInInput book call BadLine
+  pub cause : IfSome (input_of call.before).bytes (λ script. all_good (lines_of script) ≡ false)
+  pub calm : IsCalm (input_of call.before) (input_of call.now)
 
 -- each line whose end was read is good, and the one that has begun isn't longer than a line may be
 pub record IsGoodSoFar (taken : List ℕ) : Type 0 where
-  pub ended : all_good (ended_in taken) ≡ true
-  pub begun : length (rest_of taken) ≤ 200
+  pub ended : all_good (ended_lines_of taken) ≡ true
+  pub begun : length (rest_of taken) ≤ MAX_LINE
 
--- the input failed: what it gave is good so far and answered, and then comes the line that says so
-pub record ReadsFail (book : BookState) (before now : Streams) (rows : List Entry) : Type 0 where
+-- status 4: the input failed; what it gave is good so far and answered, and then comes one line
+pub record IsReadFault {S K : Type 0} (book : BookState) (call : Call S K) : Type 0 where
   pub taken : List ℕ
-  pub read : Consumes before.input.bytes now.input.bytes taken
+  pub read : Consumes (input_of call.before).bytes (input_of call.now).bytes taken
   pub good : IsGoodSoFar taken
-  pub answered : IsAnsweredThen book before.output now.output rows (commands_of (ended_in taken)) read_fault
+  pub answered : IsAnsweredThen book (output_of call.before) (output_of call.now) call.rows
+      (commands_of (ended_lines_of taken)) read_fault
+  pub cause : HasFailed (input_of call.before) (input_of call.now)
 
--- the reads were spent: each of the 100 000 000 gave a byte, and what they gave is good so far and answered
-pub record ReadsAreSpent (book : BookState) (before now : Streams) (rows : List Entry) : Type 0 where
-  pub taken : List ℕ
-  pub read : Consumes before.input.bytes now.input.bytes taken
-  pub many : 100000000 ≤ length taken
-  pub good : IsGoodSoFar taken
-  pub answered : IsAnswered book before.output now.output rows (commands_of (ended_in taken))
-
--- there was no memory to begin with: nothing was read
-pub record NotBegun (book : BookState) (before now : Streams) (rows : List Entry) : Type 0 where
-  pub unread : now.input.bytes ≡ before.input.bytes
-  pub rows_left : AreLeft book [] rows
+-- there was no memory to begin with: nothing was read, and the book's rows are left
+pub record NotBegun {S K : Type 0} (book : BookState) (call : Call S K) : Type 0 where
+  pub unread : call.now.input ≡ call.before.input
+  pub rows_left : AreLeft book [] call.rows
 
 -- what a failed write stopped: an answer, the summary, or the line that says that there is no memory
-abbrev pub IsCutShort : BookState → Streams → Streams → List Entry → Type 0
-IsCutShort book before now rows =
-    StopsWithin book before now rows WriteFault
-    ⊎ (ReadAll before.input now.input (IsDoneButCut book before.output now.output rows)
-    ⊎ (NotBegun book before now rows × IsCutIn before.output now.output [] no_memory))
+abbrev pub IsCutShort : {S K : Type 0} → BookState → Call S K → Type 0
+IsCutShort book call =
+    StopsInInput book call WriteFault
+    ⊎ (IsSummaryCut book call
+    ⊎ (NotBegun book call × IsCutIn (output_of call.before) (output_of call.now) [] no_memory))
+
+-- status 5: the output failed, in one of these places; the input didn't
+pub record IsWriteFault {S K : Type 0} (book : BookState) (call : Call S K) : Type 0 where
+  pub stops : IsCutShort book call
+  pub cause : HasFailed (output_of call.before) (output_of call.now)
+  pub calm : IsCalm (input_of call.before) (input_of call.now)
 
 -- how a run is stopped for want of memory: at a command, or before it began
-abbrev pub IsOutOfMemory : BookState → Streams → Streams → List Entry → Type 0
-IsOutOfMemory book before now rows =
-    StopsWithin book before now rows NoMemory ⊎ (NotBegun book before now rows × WroteAll before.output now.output no_memory)
+abbrev pub RunsOut : {S K : Type 0} → BookState → Call S K → Type 0
+RunsOut book call =
+    StopsInInput book call NoMemory
+    ⊎ (NotBegun book call × WroteAll (output_of call.before) (output_of call.now) no_memory)
 
--- what each way to stop says of the streams and of the rows
-abbrev pub Explains : BookState → Streams → Streams → List Entry → Stop → Type 0
-Explains book before now rows Finished =
-    ReadAll before.input now.input (IsDone book before.output now.output rows) × (now.output.faults ≡ before.output.faults) × (now.input.faults ≡ before.input.faults)
-Explains book before now rows BadLine = StopsWithin book before now rows BadLine × (now.input.faults ≡ before.input.faults)
-Explains book before now rows WriteFault =
-    IsCutShort book before now rows × Counted before.output.faults now.output.faults 1 × (now.input.faults ≡ before.input.faults)
-Explains book before now rows ReadFault = ReadsFail book before now rows × Counted before.input.faults now.input.faults 1
-Explains book before now rows NoMemory =
-    IsOutOfMemory book before now rows × (now.output.faults ≡ before.output.faults) × (now.input.faults ≡ before.input.faults)
-Explains book before now rows Spent =
-    ReadsAreSpent book before now rows × (now.output.faults ≡ before.output.faults) × (now.input.faults ≡ before.input.faults)
+-- status 7: there was no memory; the commands before are answered, then comes one line, and nothing failed
+pub record IsOutOfMemory {S K : Type 0} (book : BookState) (call : Call S K) : Type 0 where
+  pub stops : RunsOut book call
+  pub calm : IsCalm (input_of call.before) (input_of call.now)
+  pub output_calm : IsCalm (output_of call.before) (output_of call.now)
+
+-- status 12: the reads were spent; each gave a byte, at most a piece, and what they gave is good so far
+-- and answered; nothing failed
+pub record IsSpent {S K : Type 0} (book : BookState) (call : Call S K) : Type 0 where
+  pub taken : List ℕ
+  pub read : Consumes (input_of call.before).bytes (input_of call.now).bytes taken
+  pub least : MAX_READS ≤ length taken
+  pub most : length taken ≤ MAX_READS * PIECE
+  pub good : IsGoodSoFar taken
+  pub answered : IsAnswered book (output_of call.before) (output_of call.now) call.rows
+      (commands_of (ended_lines_of taken))
+  pub calm : IsCalm (input_of call.before) (input_of call.now)
+
+-- what each way to stop says of a call
+abbrev pub Explains : {S K : Type 0} → BookState → Call S K → Stop → Type 0
+Explains book call Finished = IsDone book call
+Explains book call BadLine = IsBadLine book call
+Explains book call ReadFault = IsReadFault book call
+Explains book call WriteFault = IsWriteFault book call
+Explains book call NoMemory = IsOutOfMemory book call
+Explains book call Spent = IsSpent book call
 
 -- the status of each way to stop
 abbrev pub status_of : Stop → ℕ
@@ -151,4 +227,14 @@ status_of Spent = 12
 
 -- the statuses that the program may end with
 abbrev pub is_status : ℕ → Bool
-is_status status = status == 0 || status == 2 || status == 3 || status == 4 || status == 5 || status == 7 || status == 12
+is_status status =
+    status == 0 || status == 2 || status == 3 || status == 4 || status == 5 || status == 7
+    || status == 12
+
+-- a good script of fewer bytes than the reads, with no fault, is done, or there is no memory for it
+abbrev pub IsComplete : {S K : Type 0} → Call S K → ℕ → Type 0
+IsComplete call status = IfSome (input_of call.before).bytes (λ script.
+    all_good (lines_of script) ≡ true → length script < MAX_READS
+    → Calm (input_of call.before).faults (input_of call.now).faults
+    → Calm (output_of call.before).faults (output_of call.now).faults
+    → (status ≡ 0) ⊎ (status ≡ 7))

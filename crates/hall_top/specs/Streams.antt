@@ -1,39 +1,63 @@
--- What went out of a run, and what its streams tell.
+-- What went out of a run, and what its devices tell.
 use Rattle.std.specs.Prelude.{◌≡◌, ℕ, ◌<◌, ◌⊎◌, List, ◌++◌, length, take, Option}
 use Rattle.std.specs.Io.KnownBytes.{Appends}
 use Rattle.device_facts.specs.Count.{Counted}
+use Rattle.disk_core.specs.declared.source.Source as source
+use Rattle.disk_core.specs.declared.sink.Sink as sink
 
 -- a stream at one moment: its bytes, where it tells them, and how often it failed
 pub record Stream : Type 0 where
   pub bytes : Option (List ℕ)
   pub faults : ℕ
 
--- a stream at one moment
-abbrev pub stream : Option (List ℕ) → ℕ → Stream
-stream bytes faults = record { bytes = bytes; faults = faults }
+-- an input at one moment, with what it has left
+abbrev pub input_at : {S : Type 0} → source.Ghosts S → S → Stream
+input_at source input = record { bytes = source.left input; faults = source.faults input }
 
--- the input of a run with what it has left, and its output with what it holds, at one moment
-pub record Streams : Type 0 where
-  pub input : Stream
-  pub output : Stream
+-- an output at one moment, with what it holds
+abbrev pub output_at : {K : Type 0} → sink.Ghosts K → K → Stream
+output_at sink output = record { bytes = sink.held output; faults = sink.faults output }
 
--- the streams at one moment
-abbrev pub streams : Option (List ℕ) → ℕ → Option (List ℕ) → ℕ → Streams
-streams left read_faults held write_faults =
-    record { input = stream left read_faults; output = stream held write_faults }
+-- the devices of a run at one moment, and how to read what they tell
+pub record Devices (S K : Type 0) : Type 0 where
+  pub source : source.Ghosts S
+  pub sink : sink.Ghosts K
+  pub input : S
+  pub output : K
+
+-- the devices of a run at one moment
+abbrev pub devices : {S K : Type 0} → source.Ghosts S → sink.Ghosts K → S → K → Devices S K
+devices source sink input output =
+    record { source = source; sink = sink; input = input; output = output }
+
+-- the input of some devices
+abbrev pub input_of : {S K : Type 0} → Devices S K → Stream
+input_of devices = input_at devices.source devices.input
+
+-- the output of some devices
+abbrev pub output_of : {S K : Type 0} → Devices S K → Stream
+output_of devices = output_at devices.sink devices.output
+
+-- a stream didn't fail
+abbrev pub IsCalm : Stream → Stream → Type 0
+IsCalm before now = now.faults ≡ before.faults
+
+-- a stream failed once
+abbrev pub HasFailed : Stream → Stream → Type 0
+HasFailed before now = Counted before.faults now.faults 1
 
 -- a text went out, and nothing failed
 pub record WroteAll (before now : Stream) (text : List ℕ) : Type 0 where
   pub out : Appends before.bytes now.bytes text
-  pub calm : now.faults ≡ before.faults
+  pub calm : IsCalm before now
 
--- a text was to go out behind another: a part of it did, less than all, and then the output failed
+-- a text was to go out after another: a part of it did, less than all, and then the output failed
 pub record IsCutIn (before now : Stream) (done last : List ℕ) : Type 0 where
   pub part : ℕ
   pub less : part < length last
   pub out : Appends before.bytes now.bytes (done ++ take part last)
-  pub failed : Counted before.faults now.faults 1
+  pub failed : HasFailed before now
 
--- a text went out behind another, or was cut
+-- a text went out after another, or was cut
 abbrev pub Wrote : Stream → Stream → List ℕ → List ℕ → Type 0
 Wrote before now done last = WroteAll before now (done ++ last) ⊎ IsCutIn before now done last

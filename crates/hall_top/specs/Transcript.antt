@@ -1,23 +1,26 @@
--- What the commands of a script are answered, one behind the other.
-use Rattle.std.specs.Prelude.{◌≡◌, ⊤, ℕ, ◌+◌, ◌-◌, List, [], ◌∷◌, ◌++◌, length, flat_map, filter_map, if◌then◌else◌, Option, Some, None, Result, Ok, Err, slice_get}
+-- What the commands of a script are answered, one after another.
+use Rattle.std.specs.Prelude.{◌≡◌, ⊤, ℕ, ◌+◌, ◌-◌, List, [], ◌∷◌, ◌++◌, length, flat_map, filter_map, is_some, if◌then◌else◌, Option, Some, None, option_map, Result, Ok, Err, slice_get}
 use Rattle.std.specs.List.{range_with_len, AllByRecursion}
-use Rattle.pack_judge.specs.declared.types.Signal.{Signal}
+use Rattle.hall_limits.specs.declared.TheConstants.{MAX_ROWS}
 use Rattle.book_words.specs.declared.types.Prior.{Prior}
-use Rattle.book_words.specs.declared.types.Prior.TheVariants as prior
-use Rattle.book_words.specs.declared.types.Act.{Act}
+use Rattle.book_words.specs.declared.types.Prior.TheVariants.{Nothing, Opened}
 use Rattle.book_words.specs.declared.types.Act.TheVariants as act
+use Rattle.book_words.specs.declared.types.Question.TheVariants as question
 use Rattle.book_words.specs.declared.types.Want.{Want}
 use Rattle.book_words.specs.declared.types.Want.TheVariants as want
+use Rattle.book_words.specs.declared.types.Ask.{Ask}
 use Rattle.book_words.specs.declared.types.Entry.{Entry}
-use Rattle.book_words.specs.declared.types.Reply.{Reply}
-use Rattle.book_words.specs.declared.types.Reply.TheVariants.{Done, Judged, SummaryIs}
 use Rattle.book_words.specs.declared.types.Answered.{Answered}
 use Rattle.book_words.specs.declared.types.Refused.{Refused}
-use Rattle.book_words.specs.Refusals.{has_unsettled}
-use Rattle.book_words.specs.Answers.{answer, entry_for, summary, most_rows}
+use Rattle.book_words.specs.Piles.{unsettled_reading}
+use Rattle.book_words.specs.Answers.{answer, added, entries_after, reply_to, summary}
+use Rattle.script_lines.specs.declared.command.Allowed.{Allowed}
 use Rattle.script_lines.specs.declared.command.Command.{Command}
-use Rattle.script_lines.specs.declared.command.Command.TheVariants as command
-use Rattle.hall_top.specs.Texts.{answer_text, summary_text}
+use Rattle.script_lines.specs.declared.command.Verb.{Verb}
+use Rattle.script_lines.specs.declared.command.Verb.TheVariants.{Day, Product, Tare, Open, Start, Weigh, Stop, Summary}
+use Rattle.script_lines.specs.declared.command.Line.{Line}
+use Rattle.script_lines.specs.Script.{ended_in, lines_in}
+use Rattle.batch_reports.specs.Texts.{outcome_text, summary_text}
 
 -- a book at one moment: the most rows that it may have, and its entries
 pub record BookState : Type 0 where
@@ -26,81 +29,112 @@ pub record BookState : Type 0 where
 
 -- a new book
 abbrev pub new_book : BookState
-new_book = record { limit = most_rows; entries = [] }
+new_book = record { limit = MAX_ROWS; entries = [] }
 
--- what the gate did, where a script doesn't say: it opened where the lane has an unsettled reading
-abbrev pub prior_at : List Entry → ℕ → Prior
-prior_at entries lane = if has_unsettled entries lane then prior.Opened else prior.Nothing
+-- the number that the entries of a script bear
+abbrev pub script_caller : ℕ
+script_caller = 0
+
+-- a script may have every command
+abbrev pub every_command : Allowed
+every_command = record { questions = true }
+
+-- what the lines of a script say that have ended, and what all its lines say
+abbrev pub ended_lines_of : List ℕ → List Line
+ended_lines_of bytes = ended_in every_command bytes
+
+abbrev pub lines_of : List ℕ → List Line
+lines_of bytes = lines_in every_command bytes
+
+-- what the gate did: as it is said, and else it opened where the lane has an unsettled reading
+abbrev pub prior_at : List Entry → ℕ → Option Prior → Prior
+prior_at entries lane (Some prior) = prior
+prior_at entries lane None =
+    if is_some (unsettled_reading entries lane) then Opened else Nothing
+
+-- what a verb wants of the book
+abbrev pub want_at : List Entry → Verb → Want
+want_at entries (Day day) = want.Act (act.NewDay day)
+want_at entries (Product name nominal) = want.Act (act.PutProduct name nominal)
+want_at entries (Tare product day tare) = want.Act (act.PutTare product day tare)
+want_at entries (Open batch product) = want.Act (act.OpenBatch batch product)
+want_at entries (Start lane batch) = want.Act (act.StartLane lane batch)
+want_at entries (Weigh lane gross prior) =
+    want.Act (act.Weigh lane gross (prior_at entries lane prior))
+want_at entries (Stop lane prior) = want.Act (act.StopLane lane (prior_at entries lane prior))
+want_at entries Summary = want.Question question.Summary
 
 -- what a command asks the book
-abbrev pub want_at : List Entry → Command → Want
-want_at entries (command.Ask want) = want
-want_at entries (command.Weigh lane gross) = want.Act (act.Weigh lane gross (prior_at entries lane))
-want_at entries (command.Stop lane) = want.Act (act.StopLane lane (prior_at entries lane))
+abbrev pub ask_at : List Entry → Command → Ask
+ask_at entries command =
+    record { desk = command.desk; request = command.request; want = want_at entries command.verb }
 
--- the book's answer to a command
-abbrev pub answer_to : BookState → Command → Result Answered Refused
-answer_to book command = answer book.limit book.entries (want_at book.entries command)
+-- what was asked, what was answered, and the entry that was added, if any
+pub record Exchange : Type 0 where
+  pub ask : Ask
+  pub answer : Result Answered Refused
+  pub added : Option Entry
 
--- the entry of an act that a script asks
-abbrev pub entry_of : Act → Option Signal → Entry
-entry_of act signal = record { by = 0; desk = 0; request = 0; act = act; signal = signal }
+-- what a book is asked by a command, answers and adds
+abbrev pub exchange_at : BookState → Command → Exchange
+exchange_at book command =
+    record {
+      ask = ask_at book.entries command;
+      answer = answer book.limit book.entries (ask_at book.entries command);
+      added = added book.limit book.entries script_caller (ask_at book.entries command);
+    }
 
--- the entries behind an answer: an accepted act is one more
-abbrev pub left_by : List Entry → Want → Result Answered Refused → List Entry
-left_by entries (want.Act act) (Ok answered) = entries ++ entry_for entries 0 0 0 act ∷ []
-left_by entries _ _ = entries
-
--- the book behind a command
+-- the book after a command
 abbrev pub after_command : BookState → Command → BookState
-after_command book command = record { limit = book.limit; entries = left_by book.entries (want_at book.entries command) (answer_to book command) }
+after_command book command =
+    record {
+      limit = book.limit;
+      entries =
+          entries_after book.limit book.entries script_caller (ask_at book.entries command);
+    }
 
 -- the book that commands leave
 abbrev pub after_commands : BookState → List Command → BookState
 after_commands book [] = book
 after_commands book (command ∷ commands) = after_commands (after_command book command) commands
 
--- what was asked, and what was answered
-pub record Exchange : Type 0 where
-  pub want : Want
-  pub answer : Result Answered Refused
-
--- what each of some commands asks and is answered, by the book that the commands before it leave
+-- the exchange of each of some commands, at the book that the commands before it leave
 abbrev pub exchanges : BookState → List Command → List Exchange
 exchanges book [] = []
-exchanges book (command ∷ commands) = record { want = want_at book.entries command; answer = answer_to book command } ∷ exchanges (after_command book command) commands
+exchanges book (command ∷ commands) =
+    exchange_at book command ∷ exchanges (after_command book command) commands
 
 -- the texts of the answers to commands
 abbrev pub answers : BookState → List Command → List ℕ
-answers book commands = flat_map (λ exchange. answer_text exchange.answer) (exchanges book commands)
+answers book commands =
+    flat_map (λ exchange. outcome_text exchange.answer) (exchanges book commands)
 
--- the transcript of a script's commands: the answer to each, and then the summary of the list that is left
+-- the transcript of commands: the answer to each, and then the summary of the list that is left
 abbrev pub transcript : BookState → List Command → List ℕ
-transcript book commands = answers book commands ++ summary_text (summary (after_commands book commands).entries)
+transcript book commands =
+    answers book commands ++ summary_text (summary (after_commands book commands).entries)
 
--- the row that a reply acknowledges
-abbrev pub row_in : Reply → Option ℕ
-row_in (Done row) = Some row
-row_in (Judged row signal) = Some row
-row_in (SummaryIs view) = None
+-- the row that an answer speaks of
+abbrev pub row_of : Result Answered Refused → ℕ
+row_of (Ok answered) = answered.at
+row_of (Err refused) = refused.at
 
--- the row that an answer acknowledges
-abbrev pub row_told : Result Answered Refused → Option ℕ
-row_told (Ok answered) = row_in answered.reply
-row_told (Err refused) = None
+-- the row that an exchange acknowledges, where it added an entry
+abbrev pub acknowledged_row : Exchange → Option ℕ
+acknowledged_row exchange = option_map (λ entry. row_of exchange.answer) exchange.added
 
--- an act stands among the rows at the number that it was told, with the signal that it was told
-abbrev pub StandsAsTold : List Entry → Act → Reply → Type 0
-StandsAsTold rows act (Done row) = slice_get rows (row - 1) ≡ Some (entry_of act None)
-StandsAsTold rows act (Judged row signal) = slice_get rows (row - 1) ≡ Some (entry_of act (Some signal))
-StandsAsTold rows act (SummaryIs view) = ⊥
+-- an added entry stands among the rows at the number that its answer tells, with the signal that it tells
+abbrev pub StandsAmong : List Entry → Option Entry → Result Answered Refused → Type 0
+StandsAmong rows None answer = ⊤
+StandsAmong rows (Some entry) (Ok answered) =
+    (slice_get rows (answered.at - 1) ≡ Some entry)
+    × (answered.reply ≡ reply_to answered.at entry.signal)
+StandsAmong rows (Some entry) (Err refused) = ⊥
 
--- an act that was accepted stands among the rows
-abbrev pub StandsIn : List Entry → Want → Result Answered Refused → Type 0
-StandsIn rows (want.Act act) (Ok answered) = StandsAsTold rows act answered.reply
-StandsIn rows _ _ = ⊤
-
--- each accepted act stands among the rows, and the rows that were told are those behind the first ones of the book, each once and in order
+-- each acknowledged entry stands among the rows, and the acknowledged rows are those after the first
+-- ones of the book, each once and in order
 pub record StandOnce (book : BookState) (commands : List Command) (rows : List Entry) : Type 0 where
-  pub each : AllByRecursion (λ exchange. StandsIn rows exchange.want exchange.answer) (exchanges book commands)
-  pub once : filter_map (λ exchange. row_told exchange.answer) (exchanges book commands) ≡ range_with_len (length book.entries + 1) (length rows - length book.entries)
+  pub each : AllByRecursion (λ exchange. StandsAmong rows exchange.added exchange.answer)
+      (exchanges book commands)
+  pub once : filter_map (λ exchange. acknowledged_row exchange) (exchanges book commands)
+      ≡ range_with_len (length book.entries + 1) (length rows - length book.entries)

@@ -1,71 +1,51 @@
-ghost use Rattle.std.specs.Prelude.{◌≡◌, MatchResult};
-ghost use Rattle.book_words.specs.declared.types.Want.TheVariants as want;
-ghost use Rattle.book_words.specs.Answers.{answer};
-ghost use Rattle.book_words.specs.Told.{IsReplyInRange};
-ghost use Rattle.book_core.specs.Steps.{IsErrorInRange};
-ghost use Rattle.hall_top.specs.Transcript.{prior_at, want_at, left_by, answer_to, after_command};
-ghost use Rattle.hall_top.specs.Reached.{book_state, GivesAnswer, Becomes};
+ghost use Rattle.std.specs.Prelude.{◌≡◌};
+ghost use Rattle.hall_top.specs.Transcript.{prior_at, want_at, ask_at};
 
-use book_core::{Book, BookError, Step};
-use book_words::{Act, Answered, Prior, Want};
-use script_lines::Command;
+use book_core::Book;
+use book_words::{Act, Ask, Prior, Question, Want};
+use script_lines::{Command, Verb};
 
-/// The number that the entries of a script bear.
-const SCRIPT: u16 = 0;
-
-// What the gate did, where a script doesn't say it.
-fn gate_before(book: &Book, lane: u8) -> Prior
-    ensures { result ≡ prior_at book.now.entries lane }
+// What the gate did: as the command says it, and else as it follows from the book.
+fn prior_at(book: &Book, lane: u8, prior: Option<Prior>) -> Prior
+    ensures { result ≡ prior_at book.now.entries lane prior }
 {
-    if book.has_unsettled(lane) {
-        Prior::Opened
-    } else {
-        Prior::Nothing
+    match prior {
+        Some(prior) => prior,
+        None if book.unsettled(lane).is_some() => Prior::Opened,
+        None => Prior::Nothing,
     }
 }
 
-// What a command asks.
-fn want_of(book: &Book, command: &Command) -> Want
-    ensures { result ≡ want_at book.now.entries command.now }
+// What a verb wants of the book.
+fn want_at(book: &Book, verb: Verb) -> Want
+    ensures { result ≡ want_at book.now.entries verb }
 {
-    match command {
-        Command::Ask(want) => *want,
-        Command::Weigh { lane, gross } => Want::Act(Act::Weigh {
-            lane: *lane,
-            gross: *gross,
-            prior: gate_before(book, *lane),
+    match verb {
+        Verb::Day { day } => Want::Act(Act::NewDay { day }),
+        Verb::Product { name, nominal } => Want::Act(Act::PutProduct { name, nominal }),
+        Verb::Tare { product, day, tare } => Want::Act(Act::PutTare { product, day, tare }),
+        Verb::Open { batch, product } => Want::Act(Act::OpenBatch { batch, product }),
+        Verb::Start { lane, batch } => Want::Act(Act::StartLane { lane, batch }),
+        Verb::Weigh { lane, gross, prior } => Want::Act(Act::Weigh {
+            lane,
+            gross,
+            prior: prior_at(book, lane, prior),
         }),
-        Command::Stop { lane } => Want::Act(Act::StopLane {
-            lane: *lane,
-            prior: gate_before(book, *lane),
+        Verb::Stop { lane, prior } => Want::Act(Act::StopLane {
+            lane,
+            prior: prior_at(book, lane, prior),
         }),
+        Verb::Summary => Want::Question(Question::Summary),
     }
 }
 
-// Enters an act, where no refusal holds.
-fn take(book: &mut Book, act: &Act) -> Result<Answered, BookError>
-    ensures answer { GivesAnswer result (answer book.old.limit book.old.entries (want.Act act.now)) }
-    ensures becomes { Becomes result (book_state book.old) (record {
-      limit = book.old.limit;
-      entries = left_by book.old.entries (want.Act act.now) (answer book.old.limit book.old.entries (want.Act act.now));
-    }) (book_state book.new) }
-    ensures in_range { MatchResult result (λ answered. IsReplyInRange answered.reply) IsErrorInRange }
+/// What a command asks the book as it stands.
+pub fn ask_at(book: &Book, command: &Command) -> Ask
+    ensures { result ≡ ask_at book.now.entries command.now }
 {
-    match book.ready(SCRIPT, 0, 0, act) {
-        Ok(Step::New(ready)) => Ok(book.enter(ready)),
-        Ok(Step::Known(answered)) => Ok(answered),
-        Err(error) => Err(error),
-    }
-}
-
-/// Asks the book what a command asks. Without memory nothing is entered.
-pub fn ask(book: &mut Book, command: &Command) -> Result<Answered, BookError>
-    ensures answer { GivesAnswer result (answer_to (book_state book.old) command.now) }
-    ensures becomes { Becomes result (book_state book.old) (after_command (book_state book.old) command.now) (book_state book.new) }
-    ensures in_range { MatchResult result (λ answered. IsReplyInRange answered.reply) IsErrorInRange }
-{
-    match want_of(book, command) {
-        Want::Act(act) => take(book, &act),
-        Want::Question(question) => book.look(&question),
+    Ask {
+        desk: command.desk,
+        request: command.request,
+        want: want_at(book, command.verb),
     }
 }

@@ -14,5 +14,5 @@ pub use decimal::{MAX_COUNT, MAX_DECIMAL, push_count, push_decimal};
 pub use fields::{get_u16, get_u32, get_u64, put_u16, put_u32, put_u64};
 pub use grams::{MAX_GRAM_TEXT, print_grams, read_grams};
 pub use number::{MAX_DIGITS, read_bounded, read_number};
-pub use push::push_bytes;
+pub use push::{make_room, push_bytes};
 pub use types::{DayText, GramText, NoMemory};

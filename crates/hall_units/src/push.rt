@@ -27,7 +27,7 @@ fn push_reserved(to: &mut Vec<u8>, bytes: &[u8])
 }
 
 /// Takes room for so many more bytes, where it isn't there yet. The bytes stay.
-pub(crate) fn make_room(to: &mut Vec<u8>, count: usize) -> Result<(), NoMemory>
+pub fn make_room(to: &mut Vec<u8>, count: usize) -> Result<(), NoMemory>
     ensures items { to.new.items ≡ to.old.items }
     ensures room { OnOk result (vec_len to.new + count ≤ vec_capacity to.new) }
     ensures enough { vec_len to.old + count ≤ vec_capacity to.old → IsOk result }

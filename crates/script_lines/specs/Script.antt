@@ -1,5 +1,5 @@
 -- What the lines of a script say.
-use Rattle.std.specs.Prelude.{ℕ, Bool, true, false, ◌||◌, List, [], ◌∷◌, ◌++◌, length, map, filter, ◌==◌, nat_lt, nat_le, if◌then◌else◌, Option, Some, None, option_map, codes, filter_map}
+use Rattle.std.specs.Prelude.{◌≡◌, ℕ, Bool, true, false, ◌||◌, List, [], ◌∷◌, ◌++◌, length, map, filter, ◌==◌, nat_lt, nat_le, if◌then◌else◌, Option, Some, None, option_map, codes, filter_map}
 use Rattle.std.specs.List.{slice_split, list_all}
 use Rattle.std.specs.Option.{option_and_then}
 use Rattle.std.specs.Str.{bytes_eq}
@@ -7,7 +7,6 @@ use Rattle.std.specs.Str.Lines.{strip_carriage_return}
 use Rattle.hall_units.specs.Number.{bounded_number}
 use Rattle.hall_units.specs.Grams.{milligrams_of}
 use Rattle.hall_units.specs.Days.{day_of}
-use Rattle.book_words.specs.declared.name.Name.{Name}
 use Rattle.book_words.specs.Names.{name_of}
 use Rattle.script_lines.specs.declared.lines.TheConstants.{MAX_LINE}
 use Rattle.script_lines.specs.declared.command.Allowed.{Allowed}
@@ -31,10 +30,6 @@ abbrev pub is_one_word : List (List ℕ) → Bool
 is_one_word (word ∷ []) = true
 is_one_word _ = false
 
--- a word of at most 16 bytes as a name
-abbrev pub name_in : List ℕ → Option Name
-name_in word = if nat_le (length word) 16 then Some (name_of word) else None
-
 -- the number of a lane in a word: 1 to 20 digits, and no more than a byte holds
 abbrev pub lane_in : List ℕ → Option ℕ
 lane_in word = bounded_number 20 255 word
@@ -56,26 +51,26 @@ day_line _ = None
 -- `product NAME GRAMS`
 abbrev pub product_line : List (List ℕ) → Option Verb
 product_line (name ∷ grams ∷ []) =
-    from_both (λ product nominal. Product product nominal) (name_in name) (milligrams_of grams)
+    from_both (λ product nominal. Product product nominal) (name_of name) (milligrams_of grams)
 product_line _ = None
 
 -- `tare NAME DATE GRAMS`
 abbrev pub tare_line : List (List ℕ) → Option Verb
 tare_line (name ∷ date ∷ grams ∷ []) =
     from_three (λ product day tare. Tare product day tare)
-    (name_in name) (day_of date) (milligrams_of grams)
+    (name_of name) (day_of date) (milligrams_of grams)
 tare_line _ = None
 
 -- `open BATCH NAME`
 abbrev pub open_line : List (List ℕ) → Option Verb
 open_line (batch ∷ name ∷ []) =
-    from_both (λ opened product. Open opened product) (name_in batch) (name_in name)
+    from_both (λ opened product. Open opened product) (name_of batch) (name_of name)
 open_line _ = None
 
 -- `start LANE BATCH`
 abbrev pub start_line : List (List ℕ) → Option Verb
 start_line (number ∷ batch ∷ []) =
-    from_both (λ lane started. Start lane started) (lane_in number) (name_in batch)
+    from_both (λ lane started. Start lane started) (lane_in number) (name_of batch)
 start_line _ = None
 
 -- `weigh LANE GRAMS`
@@ -143,6 +138,11 @@ ended_says allowed line = line_says allowed line (strip_carriage_return line)
 -- what a last line without its LF says: a CR is a byte like another there
 abbrev pub last_says : Allowed → List ℕ → Line
 last_says allowed line = line_says allowed line line
+
+-- a line names no desk: none does yet
+abbrev pub HasNoDesk : Line → Type 0
+HasNoDesk (Asks command) = (command.desk ≡ 0) × (command.request ≡ 0)
+HasNoDesk _ = Unit {0}
 
 -- what the lines that have ended say
 abbrev pub ended_in : Allowed → List ℕ → List Line

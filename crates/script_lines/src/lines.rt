@@ -1,5 +1,5 @@
 ghost use Rattle.std.specs.Prelude.{◌≡◌, ◌≤◌, length};
-ghost use Rattle.script_lines.specs.Script.{ended_says, last_says, words_say, words_of, is_comment};
+ghost use Rattle.script_lines.specs.Script.{HasNoDesk, ended_says, last_says, words_say, words_of, is_comment};
 
 use crate::command::{Allowed, Command, Line};
 use crate::verbs::read_verb;
@@ -11,7 +11,8 @@ pub const MAX_LINE: usize = 200;
 /// What a line says whose LF was read; the line comes without it.
 pub fn read_ended_line(allowed: Allowed, line: &[u8]) -> Line
     requires { length line.now ≤ MAX_LINE }
-    ensures { result ≡ ended_says allowed line.now }
+    ensures says { result ≡ ended_says allowed line.now }
+    ensures no_desk { HasNoDesk result }
 {
     let text = match line.split_last() {
         Some((b'\r', text)) => text,
@@ -23,14 +24,16 @@ pub fn read_ended_line(allowed: Allowed, line: &[u8]) -> Line
 /// What a last line says that lacks its LF. An empty one says nothing.
 pub fn read_last_line(allowed: Allowed, line: &[u8]) -> Line
     requires { length line.now ≤ MAX_LINE }
-    ensures { result ≡ last_says allowed line.now }
+    ensures says { result ≡ last_says allowed line.now }
+    ensures no_desk { HasNoDesk result }
 {
     read_words(allowed, line)
 }
 
 // What the words of a text say.
 fn read_words(allowed: Allowed, text: &[u8]) -> Line
-    ensures { result ≡ words_say allowed (words_of text.now) }
+    ensures says { result ≡ words_say allowed (words_of text.now) }
+    ensures no_desk { HasNoDesk result }
 {
     let Some((word, rest)) = first_word(text) else {
         return Line::Nothing;

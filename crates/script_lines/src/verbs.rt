@@ -1,5 +1,5 @@
 ghost use Rattle.std.specs.Prelude.{◌≡◌};
-ghost use Rattle.script_lines.specs.Script.{words_of, name_in, lane_in, verb_by, question_by};
+ghost use Rattle.script_lines.specs.Script.{words_of, lane_in, verb_by, question_by};
 ghost use Rattle.script_lines.specs.Script.{day_line, product_line, tare_line, open_line};
 ghost use Rattle.script_lines.specs.Script.{start_line, weigh_line, stop_line, summary_line};
 
@@ -62,7 +62,7 @@ fn product(rest: &[u8]) -> Option<Verb>
 {
     let (name, rest) = first_word(rest)?;
     let grams = only_word(rest)?;
-    let name = read_name(name)?;
+    let name = Name::new(name)?;
     let nominal = read_grams(grams).ok()?;
     Some(Verb::Product { name, nominal })
 }
@@ -74,7 +74,7 @@ fn tare(rest: &[u8]) -> Option<Verb>
     let (name, rest) = first_word(rest)?;
     let (date, rest) = first_word(rest)?;
     let grams = only_word(rest)?;
-    let product = read_name(name)?;
+    let product = Name::new(name)?;
     let day = read_day(date).ok()?;
     let tare = read_grams(grams).ok()?;
     Some(Verb::Tare { product, day, tare })
@@ -86,8 +86,8 @@ fn open_batch(rest: &[u8]) -> Option<Verb>
 {
     let (batch, rest) = first_word(rest)?;
     let name = only_word(rest)?;
-    let batch = read_name(batch)?;
-    let product = read_name(name)?;
+    let batch = Name::new(batch)?;
+    let product = Name::new(name)?;
     Some(Verb::Open { batch, product })
 }
 
@@ -98,7 +98,7 @@ fn start_lane(rest: &[u8]) -> Option<Verb>
     let (number, rest) = first_word(rest)?;
     let batch = only_word(rest)?;
     let lane = read_lane(number)?;
-    let batch = read_name(batch)?;
+    let batch = Name::new(batch)?;
     Some(Verb::Start { lane, batch })
 }
 
@@ -134,13 +134,6 @@ fn summary(rest: &[u8]) -> Option<Verb>
         return None;
     }
     Some(Verb::Summary)
-}
-
-// A word as a name.
-fn read_name(word: &[u8]) -> Option<Name>
-    ensures { result ≡ name_in word.now }
-{
-    Name::new(word)
 }
 
 // A word as the number of a lane.

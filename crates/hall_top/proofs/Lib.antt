@@ -1,8 +1,0 @@
-pub mod ScriptLines
-pub mod BookAnswers
-pub mod Acknowledged
-pub mod Answering
-pub mod Stepping
-pub mod Finishing
-pub mod Printed
-pub mod Explaining
