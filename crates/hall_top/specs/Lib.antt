@@ -4,4 +4,5 @@ pub mod Books
 pub mod Streams
 pub mod Run
 pub mod Reached
+pub mod Runs
 pub mod Words

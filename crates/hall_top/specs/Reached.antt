@@ -12,7 +12,7 @@ use Rattle.hall_top.specs.declared.stop.Stop.{Stop}
 use Rattle.hall_top.specs.declared.stop.Stop.TheVariants.{Finished, BadLine, WriteFault, NoMemory}
 use Rattle.hall_top.specs.Texts.{no_memory}
 use Rattle.hall_top.specs.Transcript.{BookState, after_commands, answers, ended_lines_of, lines_of}
-use Rattle.hall_top.specs.Streams.{Stream, Devices, input_of, output_of, IsCalm, WroteAll, IsCutIn}
+use Rattle.hall_top.specs.Streams.{Stream, Devices, IsCalm, WroteAll, IsCutIn}
 use Rattle.hall_top.specs.Run.{StopsInScript, HasLine, HasTranscript, LacksSummary}
 
 -- a run at one moment: its book, how many lines have ended, and the line that has begun
@@ -82,14 +82,14 @@ EndsScript book before now rows script NoMemory = StopsInScript book before now 
 EndsScript book before now rows script _ = ⊥
 
 -- a run that began with these devices took these bytes of its input
-pub record StandsAfter {S K : Type 0} (book : BookState) (before now : Devices S K) (taken : List ℕ)
+pub record StandsAfter {S : Type 0} (book : BookState) (before now : Devices S) (taken : List ℕ)
     (run : RunState) : Type 0 where
-  pub read : Consumes (input_of before).bytes (input_of now).bytes taken
-  pub calm : IsCalm (input_of before) (input_of now)
-  pub reached : Reached book (output_of before) (output_of now) taken run
+  pub read : Consumes before.input.bytes now.input.bytes taken
+  pub calm : IsCalm before.input now.input
+  pub reached : Reached book before.output now.output taken run
 
 -- it took more bytes, at most a piece
-pub record WentOn {S K : Type 0} (book : BookState) (before now : Devices S K) (taken : List ℕ)
+pub record WentOn {S : Type 0} (book : BookState) (before now : Devices S) (taken : List ℕ)
     (run : RunState) : Type 0 where
   pub more : List ℕ
   pub some : 0 < length more
@@ -97,7 +97,7 @@ pub record WentOn {S K : Type 0} (book : BookState) (before now : Devices S K) (
   pub stands : StandsAfter book before now (taken ++ more) run
 
 -- it took bytes in so many reads, each at least one and at most a piece
-pub record HasTaken {S K : Type 0} (book : BookState) (before now : Devices S K) (reads : ℕ)
+pub record HasTaken {S : Type 0} (book : BookState) (before now : Devices S) (reads : ℕ)
     (run : RunState) : Type 0 where
   pub taken : List ℕ
   pub least : reads ≤ length taken

@@ -18,7 +18,7 @@ use Rattle.hall_top.specs.declared.stop.Stop.{Stop}
 use Rattle.hall_top.specs.declared.stop.Stop.TheVariants.{Finished, BadLine, ReadFault, WriteFault, NoMemory, Spent}
 use Rattle.hall_top.specs.Texts.{usage, bad_line, read_fault, no_memory}
 use Rattle.hall_top.specs.Transcript.{BookState, Exchange, exchange_at, after_commands, answers, transcript, StandOnce, ended_lines_of, lines_of}
-use Rattle.hall_top.specs.Streams.{Stream, Devices, devices, input_of, output_of, IsCalm, HasFailed, WroteAll, IsCutIn, Wrote}
+use Rattle.hall_top.specs.Streams.{Stream, Devices, devices, IsCalm, HasFailed, WroteAll, IsCutIn, Wrote}
 
 -- these are the rows that commands leave, and what was acknowledged stands among them once
 pub record AreLeft (book : BookState) (commands : List Command) (rows : List Entry) : Type 0 where
@@ -81,29 +81,30 @@ pub record HasLine (lines : List Line) (line : Line) (script : List ℕ) : Type 
   pub parts : lines_of script ≡ lines ++ line ∷ more
 
 -- a call of the program: its devices before it and after it, and the rows that it leaves
-pub record Call (S K : Type 0) : Type 0 where
-  pub before : Devices S K
-  pub now : Devices S K
+pub record Call (S : Type 0) : Type 0 where
+  pub before : Devices S
+  pub now : Devices S
   pub rows : List Entry
 
 -- a call by its devices
-abbrev pub call : {S K : Type 0} → source.Ghosts S → sink.Ghosts K → S → K → S → K → List Entry → Call S K
-call source sink input output input_now output_now rows =
+abbrev pub call : {S K : Type 0} → source.Ghosts S → sink.Ghosts K → S → K → S → K
+    → List Entry → Call S
+call reads writes input output input_now output_now rows =
     record {
-      before = devices source sink input output;
-      now = devices source sink input_now output_now;
+      before = devices reads writes input output;
+      now = devices reads writes input_now output_now;
       rows = rows;
     }
 
 -- a run stops in its input: of the bytes that it took it judged all but less than a piece, and the line
 -- at which it stopped is that of the whole script
-pub record StopsInInput {S K : Type 0} (book : BookState) (call : Call S K) (stop : Stop) : Type 0 where
+pub record StopsInInput {S : Type 0} (book : BookState) (call : Call S) (stop : Stop) : Type 0 where
   pub judged : List ℕ
   pub rest : List ℕ
-  pub read : Consumes (input_of call.before).bytes (input_of call.now).bytes (judged ++ rest)
+  pub read : Consumes call.before.input.bytes call.now.input.bytes (judged ++ rest)
   pub near : length rest < PIECE
-  pub stops : StopsInScript book (output_of call.before) (output_of call.now) call.rows stop judged
-  pub whole : IfSome (input_of call.before).bytes (HasLine stops.lines stops.line)
+  pub stops : StopsInScript book call.before.output call.now.output call.rows stop judged
+  pub whole : IfSome call.before.input.bytes (HasLine stops.lines stops.line)
 
 -- the input was read to its end, and gave this script
 pub record ReadsWhole (before now : Stream) (script : List ℕ) : Type 0 where
@@ -128,28 +129,28 @@ pub record LacksSummary (book : BookState) (before now : Stream) (rows : List En
   pub rows_left : AreLeft book (commands_of (lines_of script)) rows
 
 -- status 0: the whole script is good, its transcript went out, and nothing failed
-pub record IsDone {S K : Type 0} (book : BookState) (call : Call S K) : Type 0 where
+pub record IsDone {S : Type 0} (book : BookState) (call : Call S) : Type 0 where
   pub script : List ℕ
-  pub read : ReadsWhole (input_of call.before) (input_of call.now) script
-  pub done : HasTranscript book (output_of call.before) (output_of call.now) call.rows script
+  pub read : ReadsWhole call.before.input call.now.input script
+  pub done : HasTranscript book call.before.output call.now.output call.rows script
 
 -- the whole script is good and answered, and its summary was cut
-pub record IsSummaryCut {S K : Type 0} (book : BookState) (call : Call S K) : Type 0 where
+pub record IsSummaryCut {S : Type 0} (book : BookState) (call : Call S) : Type 0 where
   pub script : List ℕ
-  pub read : ReadsWhole (input_of call.before) (input_of call.now) script
-  pub done : LacksSummary book (output_of call.before) (output_of call.now) call.rows script
+  pub read : ReadsWhole call.before.input call.now.input script
+  pub done : LacksSummary book call.before.output call.now.output call.rows script
 
 -- status 2: nothing was read, the line on the usage went out or was cut, and there are no rows
-pub record IsUsage {S K : Type 0} (call : Call S K) : Type 0 where
-  pub unread : call.now.input ≡ call.before.input
-  pub wrote : Wrote (output_of call.before) (output_of call.now) [] usage
+pub record IsUsage {S : Type 0} (call : Call S) : Type 0 where
+  pub unread : call.now.source ≡ call.before.source
+  pub wrote : Wrote call.before.output call.now.output [] usage
   pub none : call.rows ≡ []
 
 -- status 3: a line is bad; the commands before it are answered, and then comes its number
-pub record IsBadLine {S K : Type 0} (book : BookState) (call : Call S K) : Type 0 where
+pub record IsBadLine {S : Type 0} (book : BookState) (call : Call S) : Type 0 where
   pub stops : StopsInInput book call BadLine
-  pub cause : IfSome (input_of call.before).bytes (λ script. all_good (lines_of script) ≡ false)
-  pub calm : IsCalm (input_of call.before) (input_of call.now)
+  pub cause : IfSome call.before.input.bytes (λ script. all_good (lines_of script) ≡ false)
+  pub calm : IsCalm call.before.input call.now.input
 
 -- each line whose end was read is good, and the one that has begun isn't longer than a line may be
 pub record IsGoodSoFar (taken : List ℕ) : Type 0 where
@@ -157,58 +158,58 @@ pub record IsGoodSoFar (taken : List ℕ) : Type 0 where
   pub begun : length (rest_of taken) ≤ MAX_LINE
 
 -- status 4: the input failed; what it gave is good so far and answered, and then comes one line
-pub record IsReadFault {S K : Type 0} (book : BookState) (call : Call S K) : Type 0 where
+pub record IsReadFault {S : Type 0} (book : BookState) (call : Call S) : Type 0 where
   pub taken : List ℕ
-  pub read : Consumes (input_of call.before).bytes (input_of call.now).bytes taken
+  pub read : Consumes call.before.input.bytes call.now.input.bytes taken
   pub good : IsGoodSoFar taken
-  pub answered : IsAnsweredThen book (output_of call.before) (output_of call.now) call.rows
+  pub answered : IsAnsweredThen book call.before.output call.now.output call.rows
       (commands_of (ended_lines_of taken)) read_fault
-  pub cause : HasFailed (input_of call.before) (input_of call.now)
+  pub cause : HasFailed call.before.input call.now.input
 
 -- there was no memory to begin with: nothing was read, and the book's rows are left
-pub record NotBegun {S K : Type 0} (book : BookState) (call : Call S K) : Type 0 where
-  pub unread : call.now.input ≡ call.before.input
+pub record NotBegun {S : Type 0} (book : BookState) (call : Call S) : Type 0 where
+  pub unread : call.now.source ≡ call.before.source
   pub rows_left : AreLeft book [] call.rows
 
 -- what a failed write stopped: an answer, the summary, or the line that says that there is no memory
-abbrev pub IsCutShort : {S K : Type 0} → BookState → Call S K → Type 0
+abbrev pub IsCutShort : {S : Type 0} → BookState → Call S → Type 0
 IsCutShort book call =
     StopsInInput book call WriteFault
     ⊎ (IsSummaryCut book call
-    ⊎ (NotBegun book call × IsCutIn (output_of call.before) (output_of call.now) [] no_memory))
+    ⊎ (NotBegun book call × IsCutIn call.before.output call.now.output [] no_memory))
 
 -- status 5: the output failed, in one of these places; the input didn't
-pub record IsWriteFault {S K : Type 0} (book : BookState) (call : Call S K) : Type 0 where
+pub record IsWriteFault {S : Type 0} (book : BookState) (call : Call S) : Type 0 where
   pub stops : IsCutShort book call
-  pub cause : HasFailed (output_of call.before) (output_of call.now)
-  pub calm : IsCalm (input_of call.before) (input_of call.now)
+  pub cause : HasFailed call.before.output call.now.output
+  pub calm : IsCalm call.before.input call.now.input
 
 -- how a run is stopped for want of memory: at a command, or before it began
-abbrev pub RunsOut : {S K : Type 0} → BookState → Call S K → Type 0
+abbrev pub RunsOut : {S : Type 0} → BookState → Call S → Type 0
 RunsOut book call =
     StopsInInput book call NoMemory
-    ⊎ (NotBegun book call × WroteAll (output_of call.before) (output_of call.now) no_memory)
+    ⊎ (NotBegun book call × WroteAll call.before.output call.now.output no_memory)
 
 -- status 7: there was no memory; the commands before are answered, then comes one line, and nothing failed
-pub record IsOutOfMemory {S K : Type 0} (book : BookState) (call : Call S K) : Type 0 where
+pub record IsOutOfMemory {S : Type 0} (book : BookState) (call : Call S) : Type 0 where
   pub stops : RunsOut book call
-  pub calm : IsCalm (input_of call.before) (input_of call.now)
-  pub output_calm : IsCalm (output_of call.before) (output_of call.now)
+  pub calm : IsCalm call.before.input call.now.input
+  pub output_calm : IsCalm call.before.output call.now.output
 
 -- status 12: the reads were spent; each gave a byte, at most a piece, and what they gave is good so far
 -- and answered; nothing failed
-pub record IsSpent {S K : Type 0} (book : BookState) (call : Call S K) : Type 0 where
+pub record IsSpent {S : Type 0} (book : BookState) (call : Call S) : Type 0 where
   pub taken : List ℕ
-  pub read : Consumes (input_of call.before).bytes (input_of call.now).bytes taken
+  pub read : Consumes call.before.input.bytes call.now.input.bytes taken
   pub least : MAX_READS ≤ length taken
   pub most : length taken ≤ MAX_READS * PIECE
   pub good : IsGoodSoFar taken
-  pub answered : IsAnswered book (output_of call.before) (output_of call.now) call.rows
+  pub answered : IsAnswered book call.before.output call.now.output call.rows
       (commands_of (ended_lines_of taken))
-  pub calm : IsCalm (input_of call.before) (input_of call.now)
+  pub calm : IsCalm call.before.input call.now.input
 
 -- what each way to stop says of a call
-abbrev pub Explains : {S K : Type 0} → BookState → Call S K → Stop → Type 0
+abbrev pub Explains : {S : Type 0} → BookState → Call S → Stop → Type 0
 Explains book call Finished = IsDone book call
 Explains book call BadLine = IsBadLine book call
 Explains book call ReadFault = IsReadFault book call
@@ -232,9 +233,9 @@ is_status status =
     || status == 12
 
 -- a good script of fewer bytes than the reads, with no fault, is done, or there is no memory for it
-abbrev pub IsComplete : {S K : Type 0} → Call S K → ℕ → Type 0
-IsComplete call status = IfSome (input_of call.before).bytes (λ script.
+abbrev pub IsComplete : {S : Type 0} → Call S → ℕ → Type 0
+IsComplete call status = IfSome call.before.input.bytes (λ script.
     all_good (lines_of script) ≡ true → length script < MAX_READS
-    → Calm (input_of call.before).faults (input_of call.now).faults
-    → Calm (output_of call.before).faults (output_of call.now).faults
+    → Calm call.before.input.faults call.now.input.faults
+    → Calm call.before.output.faults call.now.output.faults
     → (status ≡ 0) ⊎ (status ≡ 7))

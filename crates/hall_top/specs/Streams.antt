@@ -18,25 +18,16 @@ input_at source input = record { bytes = source.left input; faults = source.faul
 abbrev pub output_at : {K : Type 0} → sink.Ghosts K → K → Stream
 output_at sink output = record { bytes = sink.held output; faults = sink.faults output }
 
--- the devices of a run at one moment, and how to read what they tell
-pub record Devices (S K : Type 0) : Type 0 where
-  pub source : source.Ghosts S
-  pub sink : sink.Ghosts K
-  pub input : S
-  pub output : K
+-- the devices of a run at one moment: the input itself, and what both tell
+pub record Devices (S : Type 0) : Type 0 where
+  pub source : S
+  pub input : Stream
+  pub output : Stream
 
 -- the devices of a run at one moment
-abbrev pub devices : {S K : Type 0} → source.Ghosts S → sink.Ghosts K → S → K → Devices S K
-devices source sink input output =
-    record { source = source; sink = sink; input = input; output = output }
-
--- the input of some devices
-abbrev pub input_of : {S K : Type 0} → Devices S K → Stream
-input_of devices = input_at devices.source devices.input
-
--- the output of some devices
-abbrev pub output_of : {S K : Type 0} → Devices S K → Stream
-output_of devices = output_at devices.sink devices.output
+abbrev pub devices : {S K : Type 0} → source.Ghosts S → sink.Ghosts K → S → K → Devices S
+devices reads writes input output =
+    record { source = input; input = input_at reads input; output = output_at writes output }
 
 -- a stream didn't fail
 abbrev pub IsCalm : Stream → Stream → Type 0

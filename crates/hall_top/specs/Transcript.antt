@@ -1,5 +1,5 @@
 -- What the commands of a script are answered, one after another.
-use Rattle.std.specs.Prelude.{◌≡◌, ⊤, ℕ, ◌+◌, ◌-◌, List, [], ◌∷◌, ◌++◌, length, flat_map, filter_map, is_some, if◌then◌else◌, Option, Some, None, option_map, Result, Ok, Err, slice_get}
+use Rattle.std.specs.Prelude.{◌≡◌, ⊤, true, ℕ, ◌+◌, ◌-◌, List, [], ◌∷◌, ◌++◌, length, flat_map, filter_map, is_some, if◌then◌else◌, Option, Some, None, option_map, Result, Ok, Err, slice_get}
 use Rattle.std.specs.List.{range_with_len, AllByRecursion}
 use Rattle.hall_limits.specs.declared.TheConstants.{MAX_ROWS}
 use Rattle.book_words.specs.declared.types.Prior.{Prior}

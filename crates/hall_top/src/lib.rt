@@ -10,6 +10,7 @@ mod stop;
 mod told;
 mod top;
 mod words;
+mod writing;
 
 pub use told::Told;
 pub use top::hall;

@@ -5,7 +5,6 @@ use disk_core::{NoMemory, Sink};
 use hall_limits::MAX_ROWS;
 use script_lines::{Allowed, Feed, TooLong, split_line};
 use std::alloc::Global;
-use std::marker::Model;
 
 /// A script may have every command.
 const EVERY_COMMAND: Allowed = Allowed { questions: true };
@@ -13,16 +12,8 @@ const EVERY_COMMAND: Allowed = Allowed { questions: true };
 /// A run of a script: its book, and the lines that it was given.
 #[derive(Drop)]
 pub struct Run {
-    session: Session,
-    feed: Feed,
-}
-
-impl Model for Run {
-    ghost use Rattle.hall_top.specs.Reached.{RunState};
-
-    ghost Value = { RunState };
-
-    ghost view = { λ r. record { book = r.session; feed = r.feed } };
+    pub session: Session,
+    pub feed: Feed,
 }
 
 impl Run {
@@ -33,11 +24,12 @@ impl Run {
     ghost use Rattle.hall_top.specs.Transcript.{BookState, new_book};
     ghost use Rattle.hall_top.specs.Streams.{Stream, output_at};
     ghost use Rattle.hall_top.specs.Run.{StopsInScript};
+    ghost use Rattle.hall_top.specs.Runs.{run_state};
     ghost use Rattle.hall_top.specs.Reached.{Reached, Steps, IsWholeSoFar, EndsScript};
 
     /// A run that was given nothing, with room for all that it keeps but the entries of its book.
     pub fn new(alloc: Global) -> Result<Run, NoMemory>
-        ensures { IfOk result (λ run. run ≡ record { book = new_book; feed = feed_after [] }) }
+        ensures { IfOk result (λ run. run_state run ≡ record { book = new_book; feed = feed_after [] }) }
     {
         let session = Session::new(alloc, MAX_ROWS)?;
         let feed = Feed::new(alloc)?;
@@ -46,7 +38,7 @@ impl Run {
 
     /// The rows of its book.
     pub fn into_rows(self) -> Rows
-        ensures rows { result ≡ self.book.entries }
+        ensures rows { result ≡ self.session.entries }
         ensures sound { IsSound result }
     {
         self.session.into_rows()
@@ -56,7 +48,7 @@ impl Run {
     pub fn take_piece<K: Sink>(&mut self, piece: &[u8], output: &mut K) -> Result<(), Stop>
         requires { self.old.feed.ended + length piece.now < u64.MAX }
         ensures { Steps (output_at K.Sink output.old) (output_at K.Sink output.new)
-            self.old self.new piece.now result }
+            (run_state self.old) (run_state self.new) piece.now result }
     {
         let mut rest = piece;
         while let Some((part, after)) = split_line(rest) {
@@ -71,7 +63,7 @@ impl Run {
         requires room { self.old.feed.ended < u64.MAX }
         requires no_end { has_end part.now ≡ false }
         ensures steps { Steps (output_at K.Sink output.old) (output_at K.Sink output.new)
-            self.old self.new (part.now ++ 10 ∷ []) result }
+            (run_state self.old) (run_state self.new) (part.now ++ 10 ∷ []) result }
         ensures one { self.new.feed.ended ≡ self.old.feed.ended + 1 }
     {
         let number = self.feed.line_number();
@@ -85,7 +77,7 @@ impl Run {
         requires room { self.old.feed.ended < u64.MAX }
         requires no_end { has_end part.now ≡ false }
         ensures { Steps (output_at K.Sink output.old) (output_at K.Sink output.new)
-            self.old self.new part.now result }
+            (run_state self.old) (run_state self.new) part.now result }
     {
         match self.feed.begin_line(part) {
             Ok(()) => Ok(()),
@@ -100,8 +92,8 @@ impl Run {
     pub fn finish<K: Sink>(&mut self, output: &mut K) -> Stop
         requires { self.old.feed.ended < u64.MAX }
         ensures { (book : BookState) (before : Stream) (taken : List ℕ)
-            → Reached book before (output_at K.Sink output.old) taken self.old
-            → EndsScript book before (output_at K.Sink output.new) self.new.book.entries taken result }
+            → Reached book before (output_at K.Sink output.old) taken (run_state self.old)
+            → EndsScript book before (output_at K.Sink output.new) self.new.session.entries taken result }
     {
         match self.finish_line(output) {
             Ok(()) => self.finish_summary(output),
@@ -113,13 +105,13 @@ impl Run {
     fn finish_line<K: Sink>(&mut self, output: &mut K) -> Result<(), Stop>
         requires { self.old.feed.ended < u64.MAX }
         ensures whole { (book : BookState) (before : Stream) (taken : List ℕ)
-            → Reached book before (output_at K.Sink output.old) taken self.old
+            → Reached book before (output_at K.Sink output.old) taken (run_state self.old)
             → OnOk result
-                (IsWholeSoFar book before (output_at K.Sink output.new) taken self.new.book) }
+                (IsWholeSoFar book before (output_at K.Sink output.new) taken self.new.session) }
         ensures stops { (book : BookState) (before : Stream) (taken : List ℕ)
-            → Reached book before (output_at K.Sink output.old) taken self.old
+            → Reached book before (output_at K.Sink output.old) taken (run_state self.old)
             → IfErr result (λ stop. StopsInScript book before (output_at K.Sink output.new)
-                self.new.book.entries stop taken) }
+                self.new.session.entries stop taken) }
     {
         let line = self.feed.read_last(EVERY_COMMAND);
         let number = self.feed.line_number();
@@ -130,8 +122,8 @@ impl Run {
     // Writes the summary.
     fn finish_summary<K: Sink>(&mut self, output: &mut K) -> Stop
         ensures { (book : BookState) (before : Stream) (taken : List ℕ)
-            → IsWholeSoFar book before (output_at K.Sink output.old) taken self.old.book
-            → EndsScript book before (output_at K.Sink output.new) self.new.book.entries taken result }
+            → IsWholeSoFar book before (output_at K.Sink output.old) taken self.old.session
+            → EndsScript book before (output_at K.Sink output.new) self.new.session.entries taken result }
     {
         match self.session.write_summary(output) {
             Ok(()) => Stop::Finished,

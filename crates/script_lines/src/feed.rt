@@ -57,7 +57,9 @@ impl Feed {
     /// Takes more bytes of the line that has begun, with no LF among them.
     pub fn begin_line(&mut self, part: &[u8]) -> Result<(), TooLong>
         ensures taken { OnOk result (self.new ≡ record self.old { begun = self.old.begun ++ part.now }) }
+        ensures fits { OnOk result (length self.new.begun ≤ MAX_LINE) }
         ensures too_long { OnErr result (MAX_LINE < length (self.old.begun ++ part.now)) }
+        ensures some { OnErr result (0 < length part.now) }
         ensures kept { OnErr result (self.new ≡ self.old) }
     {
         if part.len() > MAX_LINE - self.begun.len() {

@@ -1,0 +1,8 @@
+pub mod ScriptLines
+pub mod Acknowledged
+pub mod Answering
+pub mod Asked
+pub mod Stepping
+pub mod Finishing
+pub mod Printed
+pub mod Explaining

@@ -1,0 +1,30 @@
+use Rattle.std.proofs.Common.{◌≡◌, ◌<◌, ℕ, ◌+◌, ◌++◌, [], List, length, refl, sym, ap, ◌∙◌, append-nil, subst}
+use Rattle.script_lines.specs.declared.lines.TheConstants.{MAX_LINE}
+use Rattle.script_lines.specs.declared.command.Line.TheVariants.{Bad}
+use Rattle.script_lines.specs.Lines.{rest_of}
+use Rattle.script_lines.specs.Feed.{FeedView}
+use Rattle.hall_top.specs.Streams.{output_at}
+use Rattle.hall_top.specs.Run.{StopsAtLine}
+use Rattle.hall_top.proofs.ScriptLines.{line_too_long, line_too_long_last}
+use Rattle.hall_top.proofs.Stepping.{reached_part, stops_anyway}
+use Rattle.hall_top.specs.Runs.{run_state}
+use Rattle.hall_top.proofs.run.Run.begin_line.Goals as goal
+
+pub returns-in-Ok : goal.returns-in-Ok
+returns-in-Ok g c = λ book before taken stands.
+    reached_part book before _ taken c.args.part.now (run_state c.args.self.now) _ stands c.requires.no_end c.in-Ok.ensures.fits c.in-Ok.ensures.taken refl
+
+pub returns-in-Err : goal.returns-in-Err
+returns-in-Err g c =
+    let part = c.args.part.now in
+    record {
+      judged = part;
+      rest = [];
+      parts = sym (append-nil part);
+      some = c.in-Err.ensures.some;
+      stops = λ book before taken stands.
+          let long : MAX_LINE < length (rest_of taken ++ part) = subst (λ (f : FeedView). MAX_LINE < length (f.begun ++ part)) stands.fed c.in-Err.ensures.too_long in
+          let number = c.line_number-number.ensures ∙ ap (λ (f : FeedView). f.ended + 1) c.in-Err.ensures.kept in
+          stops_anyway book before _ _ taken (run_state c.args.self.now) _ Bad Bad _ (taken ++ part) stands (line_too_long_last taken part c.requires.no_end long) (λ more. line_too_long taken part more c.requires.no_end long) refl
+          (subst (λ (n : ℕ). StopsAtLine c.args.self.now.session (output_at g.K.Sink c.args.output.now) (output_at g.K.Sink c.report_bad_line.new.output) c.report_bad_line.new.self.entries [] n Bad c.report_bad_line.result) number c.report_bad_line.ensures);
+    }

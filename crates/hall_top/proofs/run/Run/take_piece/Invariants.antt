@@ -1,0 +1,15 @@
+use Rattle.std.proofs.Common.{◌+◌, ◌≤◌, length}
+use Rattle.hall_top.specs.Streams.{output_at}
+use Rattle.hall_top.proofs.Stepping.{GoneOver}
+use Rattle.hall_top.specs.Runs.{run_state}
+use Rattle.hall_top.proofs.run.Run.take_piece.Given as goal
+
+-- all but the rest of the piece was taken, and no more lines have ended than it has bytes
+abbrev pub invariant-loop-part : goal.invariant-loop-part
+invariant-loop-part g l = record {
+  over : GoneOver (output_at g.K.Sink l.fn.output) (output_at g.K.Sink l.output) (run_state l.fn.self) (run_state l.self) l.piece l.rest;
+  few : l.self.feed.ended + length l.rest ≤ l.fn.self.feed.ended + length l.piece;
+}
+
+abbrev pub decreases-loop-part : goal.decreases-loop-part
+decreases-loop-part g l = length l.rest
