@@ -48,7 +48,8 @@ tally_line label tally =
 abbrev pub batches_line : SummaryView → List ℕ
 batches_line view =
     codes "batches running " ++ decimal view.running ++ codes " ended " ++ decimal view.ended
-    ++ codes " drawn " ++ decimal view.drawn ++ codes " closed " ++ decimal view.closed ++ codes "\n"
+    ++ codes " drawn " ++ decimal view.drawn ++ codes " closed " ++ decimal view.closed
+    ++ codes "\n"
 
 -- the balance of the whole hall, in seven lines
 unfoldable pub summary_text : SummaryView → List ℕ

@@ -17,8 +17,8 @@ pub const TEXT_ROOM: usize = 4_096;
 /// The most bytes of the words for a signal.
 const MAX_SIGNAL: usize = 17;
 
-/// Appends the text of an answer. With room for `TEXT_ROOM` bytes it takes no memory; where memory is refused nothing
-/// is appended.
+/// Appends the text of an answer. With room for `TEXT_ROOM` bytes it takes no memory; where memory
+/// is refused nothing is appended.
 pub fn answer_text(answered: &Answered, to: &mut Vec<u8>) -> Result<(), NoMemory>
     requires { IsAnswer answered.now }
     ensures { Prints to.old to.new result (answer_text answered.now) TEXT_ROOM }

@@ -1,4 +1,5 @@
-//! The texts of what the book answers. Each line ends in LF, masses are printed in grams and days as dates.
+//! The texts of what the book answers. Each line ends in LF, masses are printed in grams and days
+//! as dates.
 #![tactic(auto)]
 
 mod answers;

@@ -16,8 +16,9 @@ use hall_units::{NoMemory, make_room};
 /// The most bytes of what a refusal keeps: a blank and a name.
 const MAX_KEPT: usize = 1 + NAME_BYTES;
 
-/// Appends the text of a refusal: its number, its name and what it keeps, and the length of the list. With room for
-/// `TEXT_ROOM` bytes it takes no memory; where memory is refused nothing is appended.
+/// Appends the text of a refusal: its number, its name and what it keeps, and the length of the
+/// list. With room for `TEXT_ROOM` bytes it takes no memory; where memory is refused nothing is
+/// appended.
 #[tactic(auto, using(book_words::proofs::RangeLemmas::refusal_told_in_range))]
 pub fn refusal_text(refused: &Refused, to: &mut Vec<u8>) -> Result<(), NoMemory>
     requires { IsRefusal refused.now }

@@ -32,7 +32,8 @@ lines_of-append taken more =
     ∙ ap (λ (ls : List Line). ls ++ map last_line_of (last_line (rest_after (rest_of taken) more))) (map-append ended_line (ended_lines taken) (ended_after (rest_of taken) more))
     ∙ append_assoc (ended_lines_of taken) (map ended_line (ended_after (rest_of taken) more)) _
 
--- what the ended lines say when the text goes on with bytes without an LF, and when an LF ends one more
+-- what the ended lines say when the text goes on with bytes without an LF, and when an LF ends one
+-- more
 pub ended_of_part : (taken part : List ℕ) → has_end part ≡ false → ended_lines_of (taken ++ part) ≡ ended_lines_of taken
 ended_of_part taken part none = ap (map ended_line) (ended_with_part taken part none)
 
@@ -110,7 +111,8 @@ all_good-push [] line good is = ap (λ (b : Bool). b && true) is
 all_good-push (Bad ∷ lines) line good is = absurd cc
 all_good-push (x ∷ lines) line good is = grind (arith, all_good-push lines line)
 
--- what holds of the lines that have ended and of the last line holds of all lines, also where none has begun
+-- what holds of the lines that have ended and of the last line holds of all lines, also where none
+-- has begun
 pub record LastLine (taken : List ℕ) : Type 0 where
   pub commands : commands_of (lines_of taken) ≡ commands_of (ended_lines_of taken) ++ commands_of (last_line_of (rest_of taken) ∷ [])
   pub good : all_good (ended_lines_of taken) ≡ true → is_good (last_line_of (rest_of taken)) ≡ true → all_good (lines_of taken) ≡ true

@@ -32,8 +32,10 @@ pub record HasAnswered (book : BookState) (before now : Stream) (after : BookSta
   pub wrote : WroteAll before now (answers book commands)
   pub left : after ≡ after_commands book commands
 
--- after these bytes the lines that ended are good, counted and answered, and the one that has begun is kept
-pub record Reached (book : BookState) (before now : Stream) (taken : List ℕ) (run : RunState) : Type 0 where
+-- after these bytes the lines that ended are good, counted and answered, and the one that has begun
+-- is kept
+pub record Reached (book : BookState) (before now : Stream) (taken : List ℕ)
+    (run : RunState) : Type 0 where
   pub good : all_good (ended_lines_of taken) ≡ true
   pub fed : run.feed ≡ feed_after taken
   pub short : length (rest_of taken) ≤ MAX_LINE
@@ -52,23 +54,26 @@ pub record StopsAnyway (book : BookState) (before now : Stream) (rows : List Ent
   pub whole : (more : List ℕ) → HasLine here.lines here.line (judged ++ more)
 
 -- wherever a run stood, of these bytes it judged some, and stops at the last line of those
-pub record StopsAfter (old now : Stream) (run_before : RunState) (rows : List Entry) (bytes : List ℕ)
-    (stop : Stop) : Type 0 where
+pub record StopsAfter (old now : Stream) (run_before : RunState) (rows : List Entry)
+    (bytes : List ℕ) (stop : Stop) : Type 0 where
   pub judged : List ℕ
   pub rest : List ℕ
   pub parts : bytes ≡ judged ++ rest
   pub some : 0 < length judged
-  pub stops : (book : BookState) (before : Stream) (taken : List ℕ) → Reached book before old taken run_before
+  pub stops : (book : BookState) (before : Stream) (taken : List ℕ)
+      → Reached book before old taken run_before
       → StopsAnyway book before now rows stop (taken ++ judged)
 
 -- a step over these bytes goes on, or ends the run
-abbrev pub Steps : Stream → Stream → RunState → RunState → List ℕ → {T : Type 0} → Result T Stop → Type 0
+abbrev pub Steps : Stream → Stream → RunState → RunState → List ℕ
+    → {T : Type 0} → Result T Stop → Type 0
 Steps old now run_before run bytes result =
     MatchResult result (λ _. GoesOn old now run_before run bytes)
     (λ stop. StopsAfter old now run_before run.book.entries bytes stop)
 
 -- all lines of a script are good and answered, and these rows are left
-pub record IsWholeSoFar (book : BookState) (before now : Stream) (script : List ℕ) (left : BookState) : Type 0 where
+pub record IsWholeSoFar (book : BookState) (before now : Stream) (script : List ℕ)
+    (left : BookState) : Type 0 where
   pub good : all_good (lines_of script) ≡ true
   pub answered : HasAnswered book before now left (commands_of (lines_of script))
 

@@ -54,16 +54,19 @@ pub record FindsNoMemory (book : BookState) (rows : List Entry) (commands : List
   pub would_add : IsSome (exchange_after book commands command).added
   pub rows_left : AreLeft book commands rows
 
--- how a run stops at the line of a number, after these commands: at a bad line, in a failed write, or
--- where there is no memory for a command; no other line stops it, and none in another way
-abbrev pub StopsAtLine : BookState → Stream → Stream → List Entry → List Command → ℕ → Line → Stop → Type 0
+-- how a run stops at the line of a number, after these commands: at a bad line, in a failed write,
+-- or where there is no memory for a command; no other line stops it, and none in another way
+abbrev pub StopsAtLine : BookState → Stream → Stream → List Entry → List Command → ℕ → Line
+    → Stop → Type 0
 StopsAtLine book before now rows commands number Bad BadLine =
     IsAnsweredThen book before now rows commands (bad_line number)
 StopsAtLine book before now rows commands number (Asks command) WriteFault =
     IsAnswerCut book before now rows commands command
-    ⊎ (IsCutIn before now (answers book commands) no_memory × FindsNoMemory book rows commands command)
+    ⊎ (IsCutIn before now (answers book commands) no_memory
+    × FindsNoMemory book rows commands command)
 StopsAtLine book before now rows commands number (Asks command) NoMemory =
-    WroteAll before now (answers book commands ++ no_memory) × FindsNoMemory book rows commands command
+    WroteAll before now (answers book commands ++ no_memory)
+    × FindsNoMemory book rows commands command
 StopsAtLine book before now rows commands number _ _ = ⊥
 
 -- a run stops at the last line of what it judged: the lines before it are good and answered
@@ -96,8 +99,8 @@ call reads writes input output input_now output_now rows =
       rows = rows;
     }
 
--- a run stops in its input: of the bytes that it took it judged all but less than a piece, and the line
--- at which it stopped is that of the whole script
+-- a run stops in its input: of the bytes that it took it judged all but less than a piece, and the
+-- line at which it stopped is that of the whole script
 pub record StopsInInput {S : Type 0} (book : BookState) (call : Call S) (stop : Stop) : Type 0 where
   pub judged : List ℕ
   pub rest : List ℕ
@@ -171,7 +174,8 @@ pub record NotBegun {S : Type 0} (book : BookState) (call : Call S) : Type 0 whe
   pub unread : call.now.source ≡ call.before.source
   pub rows_left : AreLeft book [] call.rows
 
--- what a failed write stopped: an answer, the summary, or the line that says that there is no memory
+-- what a failed write stopped: an answer, the summary, or the line that says that there is no
+-- memory
 abbrev pub IsCutShort : {S : Type 0} → BookState → Call S → Type 0
 IsCutShort book call =
     StopsInInput book call WriteFault
@@ -190,14 +194,15 @@ RunsOut book call =
     StopsInInput book call NoMemory
     ⊎ (NotBegun book call × WroteAll call.before.output call.now.output no_memory)
 
--- status 7: there was no memory; the commands before are answered, then comes one line, and nothing failed
+-- status 7: there was no memory; the commands before are answered, then comes one line, and nothing
+-- failed
 pub record IsOutOfMemory {S : Type 0} (book : BookState) (call : Call S) : Type 0 where
   pub stops : RunsOut book call
   pub calm : IsCalm call.before.input call.now.input
   pub output_calm : IsCalm call.before.output call.now.output
 
--- status 12: the reads were spent; each gave a byte, at most a piece, and what they gave is good so far
--- and answered; nothing failed
+-- status 12: the reads were spent; each gave a byte, at most a piece, and what they gave is good so
+-- far and answered; nothing failed
 pub record IsSpent {S : Type 0} (book : BookState) (call : Call S) : Type 0 where
   pub taken : List ℕ
   pub read : Consumes call.before.input.bytes call.now.input.bytes taken

@@ -123,7 +123,8 @@ row_of (Err refused) = refused.at
 abbrev pub acknowledged_row : Exchange → Option ℕ
 acknowledged_row exchange = option_map (λ entry. row_of exchange.answer) exchange.added
 
--- an added entry stands among the rows at the number that its answer tells, with the signal that it tells
+-- an added entry stands among the rows at the number that its answer tells, with the signal that it
+-- tells
 abbrev pub StandsAmong : List Entry → Option Entry → Result Answered Refused → Type 0
 StandsAmong rows None answer = ⊤
 StandsAmong rows (Some entry) (Ok answered) =
@@ -131,8 +132,8 @@ StandsAmong rows (Some entry) (Ok answered) =
     × (answered.reply ≡ reply_to answered.at entry.signal)
 StandsAmong rows (Some entry) (Err refused) = ⊥
 
--- each acknowledged entry stands among the rows, and the acknowledged rows are those after the first
--- ones of the book, each once and in order
+-- each acknowledged entry stands among the rows, and the acknowledged rows are those after the
+-- first ones of the book, each once and in order
 pub record StandOnce (book : BookState) (commands : List Command) (rows : List Entry) : Type 0 where
   pub each : AllByRecursion (λ exchange. StandsAmong rows exchange.added exchange.answer)
       (exchanges book commands)

@@ -1,4 +1,4 @@
-ghost use Rattle.std.specs.Prelude.{◌≡◌, ◌+◌, ◌<◌, ◌≤◌, List, ℕ, [], length, MatchResult};
+ghost use Rattle.std.specs.Prelude.{◌≡◌, ◌+◌, ◌<◌, ◌≤◌, List, ℕ, [], length, false, OnOk, MatchResult};
 ghost use Rattle.book_words.specs.Soundness.{IsSound};
 ghost use Rattle.script_lines.specs.Feed.{feed_after};
 ghost use Rattle.hall_top.specs.Texts.{read_fault};
@@ -45,18 +45,22 @@ fn take_read<S: Source, K: Sink>(
     input: &mut S,
     output: &mut K,
 ) -> Result<(), Stop>
+    requires unended { S.ended input.old ≡ false }
     requires some { 0 < length buffer.old }
     requires small { length buffer.old ≤ PIECE }
     requires room { run.old.feed.ended + length buffer.old < u64.MAX }
-    ensures { (book : BookState) (before : Devices S) (taken : List ℕ)
-        → StandsAfter book before (devices S.Source K.Sink input.old output.old) taken (run_state run.old)
+    ensures unended { OnOk result (S.ended input.new ≡ false) }
+    ensures explained { (book : BookState) (before : Devices S) (taken : List ℕ)
+        → StandsAfter book before (devices S.Source K.Sink input.old output.old) taken
+        (run_state run.old)
         → MatchResult result
-            (λ _. WentOn book before (devices S.Source K.Sink input.new output.new) taken (run_state run.new))
-            (Explains book (record {
-              before = before;
-              now = devices S.Source K.Sink input.new output.new;
-              rows = run.new.session.entries;
-            })) }
+        (λ _. WentOn book before (devices S.Source K.Sink input.new output.new) taken
+        (run_state run.new))
+        (Explains book (record {
+          before = before;
+          now = devices S.Source K.Sink input.new output.new;
+          rows = run.new.session.entries;
+        })) }
 {
     match input.read(buffer) {
         Ok(0) => Err(run.finish(output)),
@@ -75,6 +79,7 @@ fn read_all<S: Source, K: Sink>(
     input: &mut S,
     output: &mut K,
 ) -> Stop
+    requires unended { S.ended input.old ≡ false }
     requires some { 0 < length buffer.old }
     requires small { length buffer.old ≤ PIECE }
     requires begun { run.old.feed ≡ feed_after [] }
@@ -111,8 +116,10 @@ fn end_unbegun<K: Sink>(alloc: Global, output: &mut K) -> RunEnd
     }
 }
 
-/// Runs a script over a new book. All memory but that of the book's entries is taken before the first read.
+/// Runs a script over a new book. All memory but that of the book's entries is taken before the
+/// first read.
 pub fn run_script<S: Source, K: Sink>(alloc: Global, input: &mut S, output: &mut K) -> RunEnd
+    requires { S.ended input.old ≡ false }
     ensures explained { Explains new_book
         (call S.Source K.Sink input.old output.old input.new output.new result.rows) result.stop }
     ensures sound { IsSound result.rows }

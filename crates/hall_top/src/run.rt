@@ -29,7 +29,8 @@ impl Run {
 
     /// A run that was given nothing, with room for all that it keeps but the entries of its book.
     pub fn new(alloc: Global) -> Result<Run, NoMemory>
-        ensures { IfOk result (λ run. run_state run ≡ record { book = new_book; feed = feed_after [] }) }
+        ensures { IfOk result
+            (λ run. run_state run ≡ record { book = new_book; feed = feed_after [] }) }
     {
         let session = Session::new(alloc, MAX_ROWS)?;
         let feed = Feed::new(alloc)?;
@@ -72,7 +73,8 @@ impl Run {
         Ok(())
     }
 
-    // Takes more bytes of the line that has begun: one that is longer than any may be is bad at once.
+    // Takes more bytes of the line that has begun: one that is longer than any may be is bad at
+    // once.
     fn begin_line<K: Sink>(&mut self, part: &[u8], output: &mut K) -> Result<(), Stop>
         requires room { self.old.feed.ended < u64.MAX }
         requires no_end { has_end part.now ≡ false }
@@ -88,12 +90,14 @@ impl Run {
         }
     }
 
-    /// Ends the run of a script that was read to its end: a last line may lack its LF, and then comes the summary.
+    /// Ends the run of a script that was read to its end: a last line may lack its LF, and then
+    /// comes the summary.
     pub fn finish<K: Sink>(&mut self, output: &mut K) -> Stop
         requires { self.old.feed.ended < u64.MAX }
         ensures { (book : BookState) (before : Stream) (taken : List ℕ)
             → Reached book before (output_at K.Sink output.old) taken (run_state self.old)
-            → EndsScript book before (output_at K.Sink output.new) self.new.session.entries taken result }
+            → EndsScript book before (output_at K.Sink output.new) self.new.session.entries taken
+            result }
     {
         match self.finish_line(output) {
             Ok(()) => self.finish_summary(output),
@@ -107,11 +111,11 @@ impl Run {
         ensures whole { (book : BookState) (before : Stream) (taken : List ℕ)
             → Reached book before (output_at K.Sink output.old) taken (run_state self.old)
             → OnOk result
-                (IsWholeSoFar book before (output_at K.Sink output.new) taken self.new.session) }
+            (IsWholeSoFar book before (output_at K.Sink output.new) taken self.new.session) }
         ensures stops { (book : BookState) (before : Stream) (taken : List ℕ)
             → Reached book before (output_at K.Sink output.old) taken (run_state self.old)
             → IfErr result (λ stop. StopsInScript book before (output_at K.Sink output.new)
-                self.new.session.entries stop taken) }
+            self.new.session.entries stop taken) }
     {
         let line = self.feed.read_last(EVERY_COMMAND);
         let number = self.feed.line_number();
@@ -123,7 +127,8 @@ impl Run {
     fn finish_summary<K: Sink>(&mut self, output: &mut K) -> Stop
         ensures { (book : BookState) (before : Stream) (taken : List ℕ)
             → IsWholeSoFar book before (output_at K.Sink output.old) taken self.old.session
-            → EndsScript book before (output_at K.Sink output.new) self.new.session.entries taken result }
+            → EndsScript book before (output_at K.Sink output.new) self.new.session.entries taken
+            result }
     {
         match self.session.write_summary(output) {
             Ok(()) => Stop::Finished,

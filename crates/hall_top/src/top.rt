@@ -11,9 +11,10 @@ use crate::words::asks_to_run;
 use disk_core::{Sink, Source, write_all};
 use std::alloc::Global;
 
-/// Does what the words say; the program's own name isn't among them. `run`, without further words, reads a script over
-/// a new book of at most 1 000 000 rows. Each command is answered by its number in the book or by a named refusal, and
-/// its answer goes out before the next command is asked. At the end of the script comes the summary.
+/// Does what the words say; the program's own name isn't among them. `run`, without further words,
+/// reads a script over a new book of at most 1 000 000 rows. Each command is answered by its number
+/// in the book or by a named refusal, and its answer goes out before the next command is asked. At
+/// the end of the script comes the summary.
 ///
 /// | status | comes | last line |
 /// |---|---|---|
@@ -25,13 +26,15 @@ use std::alloc::Global;
 /// | 7 | where there is no memory | `no memory` |
 /// | 12 | where 100 000 000 reads each gave a byte, and no end was seen | |
 ///
-/// Where several hold it is the smallest, but 7 comes last. What was accepted stands in the rows at every status.
+/// Where several hold it is the smallest, but 7 comes last. What was accepted stands in the rows at
+/// every status. The end of the input wasn't given before, and nothing is read after it.
 pub fn hall<S: Source, K: Sink>(
     alloc: Global,
     words: &[String],
     input: &mut S,
     output: &mut K,
 ) -> Told
+    requires { S.ended input.old ≡ false }
     ensures status { IsTrue (is_status result.status) }
     ensures words { (result.status ≡ 2) ↔ (asks_to_run words.now ≡ false) }
 

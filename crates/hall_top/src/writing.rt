@@ -58,11 +58,7 @@ pub fn write_bad_line<K: Sink>(number: u64, text: &mut Vec<u8>, output: &mut K) 
 }
 
 /// Writes the summary of a book.
-pub fn write_summary<K: Sink>(
-    book: &Book,
-    text: &mut Vec<u8>,
-    output: &mut K,
-) -> Result<(), Partly>
+pub fn write_summary<K: Sink>(book: &Book, text: &mut Vec<u8>, output: &mut K) -> Result<(), Partly>
     requires { TEXT_ROOM ≤ vec_capacity text.old }
     ensures wrote { OnOk result (WroteAll (output_at K.Sink output.old)
         (output_at K.Sink output.new) (summary_text (summary book.now.entries))) }

@@ -30,7 +30,8 @@ begins blank (byte ∷ line) some = elim (cases_Bool (blank byte)) [
   | inr h ↦ rw h (rw h (omega arith))
 ]
 
--- the parts between blanks: the bytes before the first blank, and then parts whose words are those of what is left
+-- the parts between blanks: the bytes before the first blank, and then parts whose words are those
+-- of what is left
 record Parts (blank : ℕ → Bool) (line : List ℕ) : Type 0 where
   others : List (List ℕ)
   split : slice_split blank line ≡ take (position_or_len blank line) line ∷ others

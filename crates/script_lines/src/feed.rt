@@ -12,8 +12,8 @@ use std::marker::Model;
 #[derive(Clone, Copy, Debug, PartialEq, Eq)]
 pub struct TooLong;
 
-/// The lines of an input that comes piece by piece: how many have ended, and the bytes of the line that has begun, of
-/// which there are at most `MAX_LINE`. After it is made it takes no memory.
+/// The lines of an input that comes piece by piece: how many have ended, and the bytes of the line
+/// that has begun, of which there are at most `MAX_LINE`. After it is made it takes no memory.
 #[derive(Drop)]
 pub struct Feed {
     ended: u64,
@@ -56,7 +56,8 @@ impl Feed {
 
     /// Takes more bytes of the line that has begun, with no LF among them.
     pub fn begin_line(&mut self, part: &[u8]) -> Result<(), TooLong>
-        ensures taken { OnOk result (self.new ≡ record self.old { begun = self.old.begun ++ part.now }) }
+        ensures taken { OnOk result
+            (self.new ≡ record self.old { begun = self.old.begun ++ part.now }) }
         ensures fits { OnOk result (length self.new.begun ≤ MAX_LINE) }
         ensures too_long { OnErr result (MAX_LINE < length (self.old.begun ++ part.now)) }
         ensures some { OnErr result (0 < length part.now) }
@@ -69,8 +70,8 @@ impl Feed {
         Ok(())
     }
 
-    /// Takes the bytes up to an LF, which ends the line that has begun, and says what that line says. A line that lies
-    /// whole in these bytes is read where it lies.
+    /// Takes the bytes up to an LF, which ends the line that has begun, and says what that line
+    /// says. A line that lies whole in these bytes is read where it lies.
     pub fn end_line(&mut self, allowed: Allowed, part: &[u8]) -> Line
         requires { self.old.ended < u64.MAX }
         ensures says { result ≡ ended_says allowed (self.old.begun ++ part.now) }

@@ -1,4 +1,4 @@
-use Rattle.std.proofs.Common.{◌≡◌, length}
+use Rattle.std.proofs.Common.{◌≡◌, false, length}
 use Rattle.hall_top.specs.Streams.{devices}
 use Rattle.hall_top.specs.Reached.{HasTaken}
 use Rattle.hall_top.specs.Runs.{run_state}
@@ -8,5 +8,6 @@ use Rattle.hall_top.proofs.reads.read_all.Given as goal
 abbrev pub invariant-loop-turn : goal.invariant-loop-turn
 invariant-loop-turn g l = record {
   taken : HasTaken l.fn.run.session (devices g.S.Source g.K.Sink l.fn.input l.fn.output) (devices g.S.Source g.K.Sink l.input l.output) l._turn (run_state l.run);
+  unended : g.S.Source.ended l.input ≡ false;
   room : length l.buffer ≡ length l.fn.buffer;
 }

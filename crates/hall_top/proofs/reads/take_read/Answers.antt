@@ -7,8 +7,8 @@ use Rattle.hall_top.specs.Runs.{run_state}
 use Rattle.hall_top.proofs.Explaining.{call_from, explained_at_end, explained_after, explained_fault}
 use Rattle.hall_top.proofs.reads.take_read.Goals as goal
 
-pub returns-in-Ok-eq0 : goal.returns-in-Ok-eq0
-returns-in-Ok-eq0 g c = λ book before taken stands.
+pub returns-in-Ok-eq0-clause-explained : goal.returns-in-Ok-eq0-clause-explained
+returns-in-Ok-eq0-clause-explained g c = λ book before taken stands.
     let left = g.S.Source.left c.read.new.self in
     let none : taken ++ take c.in-Ok-eq0.field-0 c.read.new.into ≡ taken = ap (λ n. taken ++ take n c.read.new.into) c.in-Ok-eq0.field-0-test ∙ append-nil taken in
     let all = subst (Consumes before.input.bytes left) none (Consumes-trans _ _ _ taken _ stands.read c.in-Ok-eq0.ensures.bytes.0) in
@@ -22,15 +22,15 @@ some_taken xs n within more = omega (arith, length-take n xs, more)
 small_piece : (xs : List ℕ) (n : ℕ) → length xs ≤ PIECE → length (take n xs) ≤ PIECE
 small_piece xs n small = omega (arith, length-take n xs)
 
-pub returns-in-Ok : goal.returns-in-Ok
-returns-in-Ok g c = λ book before taken stands.
+pub returns-in-Ok-clause-explained : goal.returns-in-Ok-clause-explained
+returns-in-Ok-clause-explained g c = λ book before taken stands.
     let piece = take c.in-Ok.count c.read.new.into in
     explained_after book before (devices g.S.Source g.K.Sink c.args.input.now c.args.output.now) (devices g.S.Source g.K.Sink c.read.new.self c.take_piece.new.output) taken piece
     (run_state c.args.run.now) (run_state c.take_piece.new.self) c.take_piece.result stands c.take_piece.ensures
     (some_taken c.read.new.into c.in-Ok.count c.in-Ok.ensures.bound c.in-Ok.count-test.1) (small_piece c.read.new.into c.in-Ok.count (omega arith))
     c.in-Ok.ensures.bytes.0 c.in-Ok.ensures.cause
 
-pub returns-in-Err : goal.returns-in-Err
-returns-in-Err g c = λ book before taken stands.
+pub returns-in-Err-clause-explained : goal.returns-in-Err-clause-explained
+returns-in-Err-clause-explained g c = λ book before taken stands.
     explained_fault book before (devices g.S.Source g.K.Sink c.args.input.now c.args.output.now) (devices g.S.Source g.K.Sink c.read.new.self c.say_read_fault.new.output) taken (run_state c.args.run.now) stands
     c.say_read_fault.ensures c.in-Err.ensures.bytes c.in-Err.ensures.cause

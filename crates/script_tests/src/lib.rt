@@ -1,0 +1,7 @@
+//! Tests of the lines of scripts, by their public calls alone.
+#![tactic(auto)]
+
+#[cfg(test)]
+mod feeds;
+#[cfg(test)]
+mod lines;
