@@ -3,3 +3,4 @@ pub mod PopulationLemmas
 pub mod InvariantLemmas
 pub mod SignalLemmas
 pub mod AskLemmas
+pub mod HandedOn

@@ -1,7 +1,6 @@
 pub mod ScriptLines
 pub mod Acknowledged
 pub mod Answering
-pub mod Asked
 pub mod Stepping
 pub mod Finishing
 pub mod Printed

@@ -237,6 +237,17 @@ is_status status =
     status == 0 || status == 2 || status == 3 || status == 4 || status == 5 || status == 7
     || status == 12
 
+-- what a status says of a call
+pub record IsExplained {S : Type 0} (book : BookState) (call : Call S) (status : ℕ) : Type 0 where
+  pub allowed : is_status status ≡ true
+  pub done : status ≡ 0 → IsDone book call
+  pub usage : status ≡ 2 → IsUsage call
+  pub bad_line : status ≡ 3 → IsBadLine book call
+  pub read_fault : status ≡ 4 → IsReadFault book call
+  pub write_fault : status ≡ 5 → IsWriteFault book call
+  pub no_memory : status ≡ 7 → IsOutOfMemory book call
+  pub spent : status ≡ 12 → IsSpent book call
+
 -- a good script of fewer bytes than the reads, with no fault, is done, or there is no memory for it
 abbrev pub IsComplete : {S : Type 0} → Call S → ℕ → Type 0
 IsComplete call status = IfSome call.before.input.bytes (λ script.

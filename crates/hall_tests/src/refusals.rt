@@ -1,0 +1,69 @@
+use crate::days::{Day, check_day};
+use std::test::Fail;
+
+// Each refusal that a script can meet, and which is told where several hold. A book of a million
+// rows, refusal 5, is left out. No line spells a day that refusal 12 is for, and no batch ends yet,
+// as refusal 15 wants. Refusal 21 can't be met, since the program itself says what the gate did
+// (lanes.rt).
+const REFUSALS: Day = Day {
+    exchanges: &[
+        ("product rice250 250", "refused 6 DayUnset at 0"),
+        ("tare rice250 2025-03-03 10", "refused 6 DayUnset at 0"),
+        ("open A rice250", "refused 6 DayUnset at 0"),
+        ("start 17 A", "refused 6 DayUnset at 0"),
+        ("weigh 1 251.000", "refused 6 DayUnset at 0"),
+        ("stop 1", "refused 6 DayUnset at 0"),
+        ("day 2025-03-03", "1 ok"),
+        ("day 2025-03-02", "refused 7 DayBack 2025-03-03 at 1"),
+        ("day 2025-03-03", "2 ok"),
+        (
+            "tare rice250 2025-03-03 10",
+            "refused 9 ProductUnknown at 2",
+        ),
+        ("open A rice250", "refused 9 ProductUnknown at 2"),
+        ("product -rice 250", "refused 10 NameShape at 2"),
+        ("product rice,250 4.999", "refused 10 NameShape at 2"),
+        ("product rice250 4.999", "refused 11 NominalRange at 2"),
+        ("product rice250 10000.001", "refused 11 NominalRange at 2"),
+        ("product rice250 250", "3 ok"),
+        ("product rice250 4.999", "refused 8 ProductKnown at 3"),
+        (
+            "tare rice250 2025-03-03 5000.001",
+            "refused 23 TareRange at 3",
+        ),
+        ("open .A rice250", "refused 10 NameShape at 3"),
+        ("start 17 A", "refused 14 BatchUnknown at 3"),
+        ("open A rice250", "4 ok"),
+        ("open A rice250", "refused 13 BatchKnown at 4"),
+        ("start 17 A", "refused 16 LaneNumber at 4"),
+        ("start 1 A", "refused 19 NoTare rice250 at 4"),
+        ("tare rice250 2025-03-04 10", "5 ok"),
+        ("start 1 A", "refused 19 NoTare rice250 at 5"),
+        ("tare rice250 2025-03-03 5000", "6 ok"),
+        ("start 1 A", "7 ok"),
+        ("start 1 A", "refused 17 LaneBusy A at 7"),
+        ("weigh 17 30000.001", "refused 16 LaneNumber at 7"),
+        ("weigh 2 30000.001", "refused 18 LaneIdle at 7"),
+        ("weigh 1 30000.001", "refused 20 GrossRange at 7"),
+        ("stop 17", "refused 16 LaneNumber at 7"),
+        ("stop 2", "refused 18 LaneIdle at 7"),
+        ("weigh 1 30000", "8 pass"),
+        ("stop 1", "9 ok"),
+        ("product least 5", "10 ok"),
+        ("product greatest 10000", "11 ok"),
+        ("tare least 1970-01-01 0", "12 ok"),
+        ("tare least 9999-12-31 0", "13 ok"),
+        ("day 9999-12-31", "14 ok"),
+        ("day 2025-03-03", "refused 7 DayBack 9999-12-31 at 14"),
+    ],
+    passed: (1, 30_000_000),
+    rejected: (0, 0),
+    running: 1,
+    rows: 14,
+};
+
+#[test]
+fn refusals(rt: HostRuntime) -> Result<(), Fail> {
+    check_day(&rt, rt.alloc(), &[], &REFUSALS)?;
+    Ok(())
+}

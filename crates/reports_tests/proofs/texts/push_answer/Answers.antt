@@ -1,0 +1,16 @@
+use Rattle.book_words.specs.declared.types.Ask.{Ask}
+use Rattle.book_words.specs.declared.types.Want.{Want}
+use Rattle.book_core.proofs.HandedOn.{is_answer, is_refusal, refused_on}
+use Rattle.reports_tests.proofs.texts.push_answer.Goals as goal
+
+-- what the hall itself asks
+abbrev own_ask : Want → Ask
+own_ask want = record { desk = 0; request = 0; want = want }
+
+pub answer_text-requires : goal.answer_text-requires
+answer_text-requires c = is_answer c.args.book.now.limit c.args.book.now.entries (own_ask c.args.want) c.in-Ok.answered c.ask.ensures.legal c.in-Ok.ensures.answer
+
+pub refusal_text-requires : goal.refusal_text-requires
+refusal_text-requires c =
+    is_refusal c.args.book.now.limit c.args.book.now.entries (own_ask c.args.want) c.in-Err-Refused.refused c.ask.ensures.legal
+    (refused_on c.in-Err-Refused.refused _ c.in-Err-Refused.field-0 _ c.in-Err-Refused.field-0-is c.in-Err-Refused.ensures.answer)
