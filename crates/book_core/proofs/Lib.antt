@@ -3,4 +3,3 @@ pub mod PopulationLemmas
 pub mod InvariantLemmas
 pub mod SignalLemmas
 pub mod AskLemmas
-pub mod HandedOn

@@ -17,6 +17,8 @@ mod refusals;
 #[cfg(test)]
 mod tares;
 #[cfg(test)]
+mod texts;
+#[cfg(test)]
 mod words;
 #[cfg(test)]
 mod worked;

@@ -8,12 +8,12 @@ use memchr::memchr;
 use std::alloc::{AllocError, Global};
 use std::marker::Model;
 
-/// Takes no line any further: it would have more bytes than a line may have.
+/// The line that has begun would have more bytes than a line may have.
 #[derive(Clone, Copy, Debug, PartialEq, Eq)]
 pub struct TooLong;
 
 /// The lines of an input that comes piece by piece: how many have ended, and the bytes of the line
-/// that has begun, of which there are at most `MAX_LINE`. After it is made it takes no memory.
+/// that has begun. There are at most `MAX_LINE` of these, and their room is taken at the start.
 #[derive(Drop)]
 pub struct Feed {
     ended: u64,

@@ -1,7 +1,7 @@
 use Rattle.std.proofs.Common.{sym, ◌∙◌}
 use Rattle.book_words.specs.declared.types.Question.TheVariants.{Summary}
 use Rattle.book_core.specs.Steps.{asked_question}
-use Rattle.book_core.proofs.HandedOn.{is_answer}
+use Rattle.hall_top.proofs.HandedOn.{is_answer}
 use Rattle.hall_top.proofs.composing.compose_summary.Goals as goal
 
 pub answer_text-requires : goal.answer_text-requires

@@ -1,7 +1,7 @@
 use Rattle.book_words.specs.declared.types.Ask.{Ask}
 use Rattle.book_words.specs.declared.types.Want.{Want}
-use Rattle.book_core.proofs.HandedOn.{is_answer, is_refusal, refused_on}
-use Rattle.reports_tests.proofs.texts.push_answer.Goals as goal
+use Rattle.hall_top.proofs.HandedOn.{is_answer, is_refusal, refused_on}
+use Rattle.hall_tests.proofs.texts.push_answer.Goals as goal
 
 -- what the hall itself asks
 abbrev own_ask : Want → Ask

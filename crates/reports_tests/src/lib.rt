@@ -1,5 +1,0 @@
-//! Tests of the texts of answers and refusals, by public calls alone.
-#![tactic(auto)]
-
-#[cfg(test)]
-mod texts;
