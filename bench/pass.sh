@@ -10,7 +10,7 @@ trap 'rm -rf "$work"' EXIT
 
 mkdir "$work/crates"
 cp "$here/../HANDLES" "$work/HANDLES"
-for name in counts_and_texts hall_limits turn_pass; do
+for name in hall_limits turn_pass; do
     cp -r "$here/../crates/$name" "$work/crates/$name"
     grep "^$name:" "$here/../crates.txt" >>"$work/crates.txt"
 done
@@ -23,7 +23,6 @@ cat >"$bench/src/main.rt" <<'RATTLE'
 ghost use Rattle.pass_bench.specs.Sessions.{IsOf};
 ghost use Rattle.std.specs.Prelude.{◌≡◌, ◌≢◌, ◌+◌, ◌<◌, ◌∷◌, [], All, length, vec_len, IfOk};
 
-use counts_and_texts::read_number_within;
 use hall_limits::MAX_ROWS;
 use std::alloc::Global;
 use std::marker::{Brand, Model, PhantomData};
@@ -273,7 +272,7 @@ fn main(rt: HostRuntime) -> ExitCode {
     let Some(work) = args.next().and_then(|word| work_of(word.as_bytes())) else {
         return ExitCode::from(2);
     };
-    let mut numbers = args.filter_map(|word| read_number_within(7, 1_000_000, word.as_bytes()));
+    let mut numbers = args.filter_map(|word| word.parse::<u32>().ok());
     let (Some(threads), Some(times), Some(sessions)) = (
         numbers.next(),
         numbers.next(),
@@ -282,7 +281,7 @@ fn main(rt: HostRuntime) -> ExitCode {
         return ExitCode::from(2);
     };
     for _ in 0..sessions {
-        if !begin_one(&rt, rt.alloc(), work, threads.min(64) as u16, times as u32) {
+        if !begin_one(&rt, rt.alloc(), work, threads.min(64) as u16, times) {
             return ExitCode::from(1);
         }
     }
@@ -379,7 +378,7 @@ loop-by-preserved g c =
       room = grind (arith, is.room, c.push_reserved.ensures.capacity);
     }
 ANTT
-echo 'pass_bench: turn_pass hall_limits counts_and_texts' >>"$work/crates.txt"
+echo 'pass_bench: turn_pass hall_limits' >>"$work/crates.txt"
 (cd "$bench" && rt run </dev/null) >"$work/log" 2>&1 || true
 program=$bench/out/pass_bench
 [ -x "$program" ] || { cat "$work/log" >&2; exit 70; }

@@ -26,7 +26,8 @@ module _ {E : Type 0} where
   pub stand_later : (h by : ℕ) (xs ys : List (Appended E)) (mine : List (Own E)) → IsPrefix xs ys
       → Stand h by xs mine → Stand h by ys mine
   stand_later h by xs ys mine p st =
-      All-weaker (λ (o : Own E). StandsAt h xs o.row (appended by o.entry)) (λ (o : Own E). StandsAt h ys o.row (appended by o.entry))
+      All-weaker (λ (o : Own E). StandsAt h xs o.row (appended by o.entry))
+      (λ (o : Own E). StandsAt h ys o.row (appended by o.entry))
       (λ o at. (at.0, prefix_get xs ys (o.row - h - 1) (appended by o.entry) p at.1)) mine st
 
   pub agrees_later : (h : ℕ) (xs ys : List (Appended E)) (k : Known E) → IsPrefix xs ys
@@ -39,11 +40,13 @@ module _ {E : Type 0} where
 
   pub all_agree_later : (h : ℕ) (xs ys : List (Appended E)) (ks : List (Known E)) → IsPrefix xs ys
       → All (Agrees h xs) ks → All (Agrees h ys) ks
-  all_agree_later h xs ys ks p = All-weaker (Agrees h xs) (Agrees h ys) (λ k. agrees_later h xs ys k p) ks
+  all_agree_later h xs ys ks p =
+      All-weaker (Agrees h xs) (Agrees h ys) (λ k. agrees_later h xs ys k p) ks
 
   pub once_more : (mine : List (Own E)) (row : ℕ) (entry : E) → EachOnce mine → HasNoRow mine row
       → EachOnce (mine ++ own row entry ∷ [])
-  once_more mine row entry once new = all_pairs_push (λ (o p : Own E). o.row ≢ p.row) mine (own row entry) once new
+  once_more mine row entry once new = all_pairs_push (λ (o p : Own E). o.row ≢ p.row) mine
+      (own row entry) once new
 
   longer_is : (xs ys : List (Appended E)) (b : Bool) → nat_le (length xs) (length ys) ≡ b
       → (P : List (Appended E) → Type 0) → (length xs ≤ length ys → P ys)
@@ -54,11 +57,13 @@ module _ {E : Type 0} where
   -- of two beginnings of one list the longer one begins with both, and begins the list
   pub longer_first : (xs ys zs : List (Appended E)) → IsPrefix xs zs → IsPrefix ys zs
       → IsPrefix xs (longer xs ys)
-  longer_first xs ys zs p q = longer_is xs ys _ refl (IsPrefix xs) (prefix_shorter xs ys zs p q) (λ _. prefix_self xs)
+  longer_first xs ys zs p q = longer_is xs ys _ refl (IsPrefix xs) (prefix_shorter xs ys zs p q)
+      (λ _. prefix_self xs)
 
   pub longer_second : (xs ys zs : List (Appended E)) → IsPrefix xs zs → IsPrefix ys zs
       → IsPrefix ys (longer xs ys)
-  longer_second xs ys zs p q = longer_is xs ys _ refl (IsPrefix ys) (λ _. prefix_self ys) (prefix_shorter ys xs zs q p)
+  longer_second xs ys zs p q = longer_is xs ys _ refl (IsPrefix ys) (λ _. prefix_self ys)
+      (prefix_shorter ys xs zs q p)
 
   pub longer_begins : (xs ys zs : List (Appended E)) → IsPrefix xs zs → IsPrefix ys zs
       → IsPrefix (longer xs ys) zs
@@ -67,10 +72,13 @@ module _ {E : Type 0} where
   -- an entry that stands has no later number
   pub stands_before : (h : ℕ) (list : List (Appended E)) (row : ℕ) (line : Appended E)
       → StandsAt h list row line → row < h + length list + 1
-  stands_before h list row line at = let lt = slice_get_within list (row - h - 1) line at.1 in let h' = at.0 in omega arith
+  stands_before h list row line at = let lt = slice_get_within list (row - h - 1) line at.1 in
+      let h' = at.0 in omega arith
 
   pub no_later : (h : ℕ) (list : List (Appended E)) (k : Known E) (row : ℕ) → Agrees h list k
       → row ≡ h + length list + 1 → HasNoRow k.mine row
   no_later h list k row is at =
-      All-weaker (λ (o : Own E). StandsAt h list o.row (appended k.by o.entry)) (λ (o : Own E). o.row ≢ row)
-      (λ o st same. let lt = stands_before h list o.row (appended k.by o.entry) st in absurd (omega arith)) k.mine is.stand
+      All-weaker (λ (o : Own E). StandsAt h list o.row (appended k.by o.entry))
+      (λ (o : Own E). o.row ≢ row)
+      (λ o st same. let lt = stands_before h list o.row (appended k.by o.entry) st in
+      absurd (omega arith)) k.mine is.stand

@@ -33,29 +33,39 @@ module _ {A : Type 0} where
   pub All-unmap : {B : Type 0} (P : B → Type 0) (f : A → B) (xs : List A) → All P (map f xs)
       → All (λ x. P (f x)) xs
   All-unmap P f [] each = All-nil (λ x. P (f x))
-  All-unmap P f (x ∷ xs) each = All-cons (λ x. P (f x)) x xs (All-head P (f x) (map f xs) each) (All-unmap P f xs (All-tail P (f x) (map f xs) each))
+  All-unmap P f (x ∷ xs) each = All-cons (λ x. P (f x)) x xs (All-head P (f x) (map f xs) each)
+      (All-unmap P f xs (All-tail P (f x) (map f xs) each))
 
   pub pairs_unmap : {B : Type 0} (R : B → B → Type 0) (f : A → B) (xs : List A)
       → AllPairs R (map f xs) → AllPairs (λ x y. R (f x) (f y)) xs
   pairs_unmap R f [] pairs = pairs_none (λ x y. R (f x) (f y))
-  pairs_unmap R f (x ∷ xs) pairs = pairs_cons (λ x y. R (f x) (f y)) x xs (All-unmap (R (f x)) f xs (pairs_head R (f x) (map f xs) pairs)) (pairs_unmap R f xs (pairs_tail R (f x) (map f xs) pairs))
+  pairs_unmap R f (x ∷ xs) pairs =
+      pairs_cons (λ x y. R (f x) (f y)) x xs
+      (All-unmap (R (f x)) f xs (pairs_head R (f x) (map f xs) pairs))
+      (pairs_unmap R f xs (pairs_tail R (f x) (map f xs) pairs))
 
   pub pairs_map : {B : Type 0} (R : B → B → Type 0) (f : A → B) (xs : List A)
       → AllPairs (λ x y. R (f x) (f y)) xs → AllPairs R (map f xs)
   pairs_map R f [] pairs = pairs_none R
-  pairs_map R f (x ∷ xs) pairs = pairs_cons R (f x) (map f xs) (All-map (R (f x)) f xs (pairs_head (λ x y. R (f x) (f y)) x xs pairs)) (pairs_map R f xs (pairs_tail (λ x y. R (f x) (f y)) x xs pairs))
+  pairs_map R f (x ∷ xs) pairs =
+      pairs_cons R (f x) (map f xs)
+      (All-map (R (f x)) f xs (pairs_head (λ x y. R (f x) (f y)) x xs pairs))
+      (pairs_map R f xs (pairs_tail (λ x y. R (f x) (f y)) x xs pairs))
 
   sum-map : {B : Type 0} (g : B → ℕ) (f : A → B) (xs : List A)
       → sum_by g (map f xs) ≡ sum_by (λ x. g (f x)) xs
   sum-map g f [] = refl
-  sum-map g f (x ∷ xs) = let rest = sum-map g f xs in omega (arith, sum_by-cons g (f x) (map f xs), sum_by-cons (λ x. g (f x)) x xs)
+  sum-map g f (x ∷ xs) = let rest = sum-map g f xs in
+      omega (arith, sum_by-cons g (f x) (map f xs), sum_by-cons (λ x. g (f x)) x xs)
 
   -- sums of smaller terms are no greater, and where they aren't smaller, no term is
   pub sum_at_most : (f g : A → ℕ) (xs : List A) → All (λ x. f x ≤ g x) xs
       → sum_by f xs ≤ sum_by g xs
   sum_at_most f g [] each = omega arith
   sum_at_most f g (x ∷ xs) each =
-      let here = All-head (λ x. f x ≤ g x) x xs each in let rest = sum_at_most f g xs (All-tail (λ x. f x ≤ g x) x xs each) in omega (arith, sum_by-cons f x xs, sum_by-cons g x xs)
+      let here = All-head (λ x. f x ≤ g x) x xs each in let rest =
+      sum_at_most f g xs (All-tail (λ x. f x ≤ g x) x xs each) in
+      omega (arith, sum_by-cons f x xs, sum_by-cons g x xs)
 
   pub sum_same : (f g : A → ℕ) (xs : List A) → All (λ x. f x ≤ g x) xs → sum_by g xs ≤ sum_by f xs
       → All (λ x. f x ≡ g x) xs
@@ -64,7 +74,8 @@ module _ {A : Type 0} where
       let here = All-head (λ x. f x ≤ g x) x xs each in
       let after = All-tail (λ x. f x ≤ g x) x xs each in
       let rest = sum_at_most f g xs after in
-      All-cons (λ x. f x ≡ g x) x xs (omega (arith, sum_by-cons f x xs, sum_by-cons g x xs)) (sum_same f g xs after (omega (arith, sum_by-cons f x xs, sum_by-cons g x xs)))
+      All-cons (λ x. f x ≡ g x) x xs (omega (arith, sum_by-cons f x xs, sum_by-cons g x xs))
+      (sum_same f g xs after (omega (arith, sum_by-cons f x xs, sum_by-cons g x xs)))
 
 -- how many are true, and how many numbers are x
 abbrev trues : List Bool → ℕ
@@ -91,15 +102,18 @@ still_true (b ∷ bs) (suc k) (suc j) ne at = still_true bs k j (λ e. ne (ap su
 
 times_absent : (x : ℕ) (bs : List ℕ) → All (λ b. x ≢ b) bs → times x bs ≡ 0
 times_absent x [] each = refl
-times_absent x (b ∷ bs) each = let here = All-head (λ b. x ≢ b) b bs each in let rest = times_absent x bs (All-tail (λ b. x ≢ b) b bs each) in grind (arith, nat_tests)
+times_absent x (b ∷ bs) each = let here = All-head (λ b. x ≢ b) b bs each in let rest =
+    times_absent x bs (All-tail (λ b. x ≢ b) b bs each) in grind (arith, nat_tests)
 
 times_once : (x : ℕ) (bs : List ℕ) → AllPairs (λ a b. a ≢ b) bs → times x bs ≤ 1
 times_once x [] pairs = omega arith
-times_once x (b ∷ bs) pairs = one_more x b bs (ℕ_discrete x b) (times_absent b bs (pairs_head (λ a b. a ≢ b) b bs pairs)) (times_once x bs (pairs_tail (λ a b. a ≢ b) b bs pairs)) where
-  one_more : (x b : ℕ) (bs : List ℕ) → Dec (x ≡ b) → times b bs ≡ 0 → times x bs ≤ 1
-      → times x (b ∷ bs) ≤ 1
-  one_more x b bs (yes same) none rest = rw same (grind (arith, nat_tests))
-  one_more x b bs (no other) none rest = grind (arith, nat_tests)
+times_once x (b ∷ bs) pairs =
+    one_more x b bs (ℕ_discrete x b) (times_absent b bs (pairs_head (λ a b. a ≢ b) b bs pairs))
+    (times_once x bs (pairs_tail (λ a b. a ≢ b) b bs pairs)) where
+      one_more : (x b : ℕ) (bs : List ℕ) → Dec (x ≡ b) → times b bs ≡ 0 → times x bs ≤ 1
+          → times x (b ∷ bs) ≤ 1
+      one_more x b bs (yes same) none rest = rw same (grind (arith, nat_tests))
+      one_more x b bs (no other) none rest = grind (arith, nat_tests)
 
 fewer : (x b : ℕ) (bs : List ℕ) → x ≢ b → 0 < times x (b ∷ bs) → 0 < times x bs
 fewer x b bs other some = grind (arith, nat_tests)
@@ -110,7 +124,8 @@ times_there x (b ∷ bs) some = there x b bs (ℕ_discrete x b) some (times_ther
   there : (x b : ℕ) (bs : List ℕ) → Dec (x ≡ b) → 0 < times x (b ∷ bs)
       → (0 < times x bs → Contains bs x) → Contains (b ∷ bs) x
   there x b bs (yes same) some rest = (0, omega arith, sym same)
-  there x b bs (no other) some rest = let more = rest (fewer x b bs other some) in (suc more.0, let lt = more.1 in omega arith, more.2)
+  there x b bs (no other) some rest = let more = rest (fewer x b bs other some) in
+      (suc more.0, let lt = more.1 in omega arith, more.2)
 
 rows_none : (bys : List ℕ) → sum_by (λ _. 0) bys ≡ 0
 rows_none [] = refl
@@ -139,8 +154,13 @@ module _ {E : Type 0} where
       let apart = pairs_head (λ (o p : Own E). o.row ≢ p.row) o mine once in
       let after = All-tail P o mine each in
       let fewer = trues_cleared bs k here.1 in
-      let still : All (λ (p : Own E). (h < p.row) × (get_or (set bs k false) (p.row - h - 1) false ≡ true)) mine =
-      λ j d lt. let p = get_or mine j d in let at = after j d lt in let ne = apart j d lt in (at.0, still_true bs k (p.row - h - 1) (λ e. ne (let a = here.0 in let b = at.0 in omega arith)) at.1) in
+      let still : All (λ (p : Own E). (h < p.row) ×
+      (get_or (set bs k false) (p.row - h - 1) false ≡ true)) mine =
+      λ j d lt. let p = get_or mine j d in let at = after j d lt in let ne = apart j d lt in (
+        at.0,
+        still_true bs k (p.row - h - 1)
+            (λ e. ne (let a = here.0 in let b = at.0 in omega arith)) at.1,
+      ) in
       let rest = owned h mine (set bs k false) (pairs_tail (λ (o p : Own E). o.row ≢ p.row) o mine once) still in
       omega arith
 
@@ -152,13 +172,17 @@ module _ {E : Type 0} where
       let k : ℕ = row - h - 1 in
       let line : Appended E = appended by entry in
       let lt = slice_get_within list k line at.1 in
-      get_or-map (λ (l : Appended E). l.by == by) list k line false lt ∙ (ap (λ (l : Appended E). l.by == by) (get_or_from_slice_get list k line line at.1) ∙ eq-eqb by by refl)
+      get_or-map (λ (l : Appended E). l.by == by) list k line false lt ∙
+      (ap (λ (l : Appended E). l.by == by) (get_or_from_slice_get list k line line at.1) ∙
+      eq-eqb by by refl)
 
   -- a pass has at most as many own entries as the list has rows of its number
   pub own_at_most : (h : ℕ) (list : List (Appended E)) (k : Known E) → Agrees h list k
       → length k.mine ≤ rows_of k.by list
   own_at_most h list k is =
-      let each = All-weaker (λ (o : Own E). StandsAt h list o.row (appended k.by o.entry)) (λ (o : Own E). (h < o.row) × (get_or (map (λ (l : Appended E). l.by == k.by) list) (o.row - h - 1) false ≡ true))
+      let each = All-weaker (λ (o : Own E). StandsAt h list o.row (appended k.by o.entry))
+      (λ (o : Own E). (h < o.row) ×
+      (get_or (map (λ (l : Appended E). l.by == k.by) list) (o.row - h - 1) false ≡ true))
       (λ o at. (at.0, marked h k.by list o.row o.entry at)) k.mine is.stand in
       let most = owned h k.mine (map (λ (l : Appended E). l.by == k.by) list) is.once each in
       omega (arith, trues_marks k.by list)
@@ -170,7 +194,8 @@ module _ {E : Type 0} where
     look : Dec (o.row ≡ row) → ((p : Own E) × Contains mine p × (p.row ≡ row)) ⊎ HasNoRow mine row
         → ((p : Own E) × Contains (o ∷ mine) p × (p.row ≡ row)) ⊎ HasNoRow (o ∷ mine) row
     look (yes same) rest = inl (o, (0, omega arith, refl), same)
-    look (no other) (inl found) = inl (found.0, (suc found.1.0, let lt = found.1.1 in omega arith, found.1.2), found.2)
+    look (no other) (inl found) =
+        inl (found.0, (suc found.1.0, let lt = found.1.1 in omega arith, found.1.2), found.2)
     look (no other) (inr none) = inr (All-cons (λ (p : Own E). p.row ≢ row) o mine other none)
 
   -- where a pass has as many own entries, it has all of its number
@@ -182,31 +207,53 @@ module _ {E : Type 0} where
         → Contains pass.mine (own row entry)
     look (inl found) =
         let o = found.0 in
-        let stands : StandsAt h list o.row (appended pass.by o.entry) = All-contains (λ (o : Own E). StandsAt h list o.row (appended pass.by o.entry)) pass.mine o is.stand found.1 in
-        let there : slice_get list (row - h - 1) ≡ Some (appended pass.by o.entry) = ap (λ (r : ℕ). slice_get list (r - h - 1)) (sym found.2) ∙ stands.1 in
+        let stands : StandsAt h list o.row (appended pass.by o.entry) =
+        All-contains (λ (o : Own E). StandsAt h list o.row (appended pass.by o.entry)) pass.mine
+        o is.stand found.1 in
+        let there : slice_get list (row - h - 1) ≡ Some (appended pass.by o.entry) =
+        ap (λ (r : ℕ). slice_get list (r - h - 1)) (sym found.2) ∙ stands.1 in
         let line : appended pass.by o.entry ≡ appended pass.by entry = cc (there, at.1) in
         let entries : o.entry ≡ entry = ap (λ (l : Appended E). l.entry) line in
         subst (Contains pass.mine) (λ i. record { row = found.2 i; entry = entries i }) found.1
     look (inr none) =
-        let more : Agrees h list record { by = pass.by; seen = pass.seen; mine = own row entry ∷ pass.mine } = record {
+        let more : Agrees h list record {
+          by = pass.by;
+          seen = pass.seen;
+          mine =
+              own row entry ∷ pass.mine;
+        } = record {
           prefix = is.prefix;
-          stand = All-cons (λ (o : Own E). StandsAt h list o.row (appended pass.by o.entry)) (own row entry) pass.mine at is.stand;
-          once = pairs_cons (λ (o p : Own E). o.row ≢ p.row) (own row entry) pass.mine (All-weaker (λ (o : Own E). o.row ≢ row) (λ (o : Own E). row ≢ o.row) (λ o ne e. ne (sym e)) pass.mine none) is.once;
+          stand = All-cons (λ (o : Own E). StandsAt h list o.row (appended pass.by o.entry))
+              (own row entry) pass.mine at is.stand;
+          once = pairs_cons (λ (o p : Own E). o.row ≢ p.row) (own row entry) pass.mine
+              (All-weaker (λ (o : Own E). o.row ≢ row) (λ (o : Own E). row ≢ o.row)
+              (λ o ne e. ne (sym e)) pass.mine none) is.once;
         } in
-        let most = own_at_most h list record { by = pass.by; seen = pass.seen; mine = own row entry ∷ pass.mine } more in
+        let most = own_at_most h list record {
+          by = pass.by;
+          seen = pass.seen;
+          mine =
+              own row entry ∷ pass.mine;
+        } more in
         absurd (omega arith)
 
   rows_cons : (l : Appended E) (ls : List (Appended E)) (bys : List ℕ)
       → sum_by (λ b. rows_of b (l ∷ ls)) bys ≡ times l.by bys + sum_by (λ b. rows_of b ls) bys
   rows_cons l ls [] = refl
-  rows_cons l ls (b ∷ bys) = let rest = rows_cons l ls bys in omega (arith, sum_by-cons (λ b. rows_of b (l ∷ ls)) b bys, sum_by-cons (λ b. rows_of b ls) b bys)
+  rows_cons l ls (b ∷ bys) = let rest = rows_cons l ls bys in
+      omega (
+        arith,
+        sum_by-cons (λ b. rows_of b (l ∷ ls)) b bys,
+        sum_by-cons (λ b. rows_of b ls) b bys,
+      )
 
   -- the rows of several numbers are at most the list, and where they are all of it each row has one
   -- of the numbers
   pub rows_at_most : (list : List (Appended E)) (bys : List ℕ) → AllPairs (λ a b. a ≢ b) bys
       → sum_by (λ b. rows_of b list) bys ≤ length list
   rows_at_most [] bys apart = omega (arith, rows_none bys)
-  rows_at_most (l ∷ ls) bys apart = let rest = rows_at_most ls bys apart in omega (arith, rows_cons l ls bys, times_once l.by bys apart)
+  rows_at_most (l ∷ ls) bys apart = let rest = rows_at_most ls bys apart in
+      omega (arith, rows_cons l ls bys, times_once l.by bys apart)
 
   pub rows_all : (list : List (Appended E)) (bys : List ℕ) → AllPairs (λ a b. a ≢ b) bys
       → length list ≤ sum_by (λ b. rows_of b list) bys
@@ -216,7 +263,8 @@ module _ {E : Type 0} where
       let one = times_once l.by bys apart in
       let rest = rows_at_most ls bys apart in
       let split = rows_cons l ls bys in
-      All-cons (λ (l : Appended E). Contains bys l.by) l ls (times_there l.by bys (omega arith)) (rows_all ls bys apart (omega arith))
+      All-cons (λ (l : Appended E). Contains bys l.by) l ls (times_there l.by bys (omega arith))
+      (rows_all ls bys apart (omega arith))
 
   -- where the passes have together as many own entries as the list has rows, they make the list
   pub make_all : (h : ℕ) (list : List (Appended E)) (passes : List (PassState E))
@@ -228,12 +276,15 @@ module _ {E : Type 0} where
       let rows : PassState E → ℕ = λ p. rows_of p.by list in
       let number : PassState E → ℕ = λ p. p.by in
       let bys : List ℕ = map number passes in
-      let few : All (λ p. mine p ≤ rows p) passes = All-weaker (λ (p : PassState E). Agrees h list (known_of p)) (λ p. mine p ≤ rows p) (λ p is. own_at_most h list (known_of p) is) passes parts in
+      let few : All (λ p. mine p ≤ rows p) passes =
+      All-weaker (λ (p : PassState E). Agrees h list (known_of p)) (λ p. mine p ≤ rows p)
+      (λ p is. own_at_most h list (known_of p) is) passes parts in
       let apart' : AllPairs (λ a b. a ≢ b) bys = pairs_map (λ a b. a ≢ b) number passes apart in
       let most = rows_at_most list bys apart' in
       let more = sum_at_most mine rows passes few in
       let by_bys = sum-map (λ b. rows_of b list) number passes in
-      let same : All (λ p. mine p ≡ rows p) passes = sum_same mine rows passes few (omega arith) in record {
+      let same : All (λ p. mine p ≡ rows p) passes = sum_same mine rows passes few (omega arith) in
+      record {
         total = total;
         each = λ k d lt. own_all h list (get_or passes k d) (parts k d lt) (same k d lt);
         others = rows_all list bys apart' (omega arith);

@@ -3,4 +3,10 @@ use Rattle.turn_pass.proofs.Moves.{looks}
 use Rattle.turn_pass.proofs.steps.look.Goals as goal
 
 pub load-requires : goal.load-requires
-load-requires g c = (c.requires.of.same, omega arith, looks c.args.board.now.shared.key c.args.board.now.shared.table_id.slots c.args.place.now.id c.args.place.now.me c.requires.role)
+load-requires g c =
+    let table = c.args.board.now.shared.table_id in
+    let place = c.args.place.now in (
+      c.requires.of.same,
+      omega arith,
+      looks c.args.board.now.shared.key table.slots place.id place.me c.requires.role,
+    )

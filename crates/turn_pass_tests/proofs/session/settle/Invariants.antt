@@ -9,7 +9,8 @@ invariant-loop-worker g l = record {
   back : All (IsSpent g.N.Session.table) l.ends.items;
   count : vec_len l.ends + vec_len l.workers ≡ vec_len l.fn.workers;
   room : vec_len l.fn.workers ≤ vec_capacity l.ends;
-  accepted : l.report.accepted ≡ min (sum_by (λ (p : PassState ℕ). length p.mine) l.ends.items) (2 ^ 64 - 1);
+  accepted : l.report.accepted ≡ min (sum_by (λ (p : PassState ℕ). length p.mine) l.ends.items)
+      (2 ^ 64 - 1);
 }
 
 abbrev pub decreases-loop-worker : goal.decreases-loop-worker

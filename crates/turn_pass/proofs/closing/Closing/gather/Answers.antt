@@ -12,12 +12,16 @@ loop-pass-preserved g c =
     let p : P = c.in-Some.pass in
     let items : c.loop-pass.passes.items ≡ left ++ p ∷ [] = c.in-Some.ensures.items in
     let table = c.args.board.now.shared.table_id in
-    let before = subst (λ (ps : List P). IsGathered table c.args.passes.items ps c.args.self.now.place.me c.loop-pass.self.place.me) items c.loop-pass.invariant.0 in
+    let entry = c.args.self.now.place.me in
+    let before = subst (λ (ps : List P).
+    IsGathered table c.args.passes.items ps entry c.loop-pass.self.place.me)
+    items c.loop-pass.invariant.0 in
     let is = c.loop-pass.invariant in
     let len = ap length items in
     let rows = ap (λ ps. sum_by (λ (p : P). p.rows) ps) items in
     let faults = ap (λ ps. sum_by (λ (p : P). p.faults) ps) items in (
-      one_back table c.args.passes.items left p c.args.self.now.place.me c.loop-pass.self.place.me c.end.new.closing.place.me before c.end.ensures.place.1,
+      one_back table c.args.passes.items left p c.args.self.now.place.me c.loop-pass.self.place.me
+          c.end.new.closing.place.me before c.end.ensures.place.1,
       c.end.ensures.place.0 ∙ is.1,
       omega (arith, is.2, c.end.ensures.row_parts, len, length-append left (p ∷ [])),
       omega (arith, is.3, c.end.ensures.rows, rows, sum_by_push (λ (p : P). p.rows) left p),
