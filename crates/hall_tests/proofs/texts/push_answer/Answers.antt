@@ -8,7 +8,7 @@ abbrev own_ask : Want → Ask
 own_ask want = record { desk = 0; request = 0; want = want }
 
 pub answer_text-requires : goal.answer_text-requires
-answer_text-requires c = is_answer c.args.book.now.limit c.args.book.now.entries (own_ask c.args.want) c.in-Ok.answered c.ask.ensures.legal c.in-Ok.ensures.answer
+answer_text-requires c = is_answer c.args.book.now.limit c.args.book.now.entries (own_ask c.args.want) c.in-Ok.answered c.ask.ensures.legal_before c.in-Ok.ensures.answer
 
 pub refusal_text-requires : goal.refusal_text-requires
 refusal_text-requires c =
