@@ -12,5 +12,5 @@ answer_text-requires c = is_answer c.args.book.now.limit c.args.book.now.entries
 
 pub refusal_text-requires : goal.refusal_text-requires
 refusal_text-requires c =
-    is_refusal c.args.book.now.limit c.args.book.now.entries (own_ask c.args.want) c.in-Err-Refused.refused c.ask.ensures.legal
+    is_refusal c.args.book.now.limit c.args.book.now.entries (own_ask c.args.want) c.in-Err-Refused.refused c.ask.ensures.legal_before
     (refused_on c.in-Err-Refused.refused _ c.in-Err-Refused.field-0 _ c.in-Err-Refused.field-0-is c.in-Err-Refused.ensures.answer)
