@@ -9,7 +9,7 @@ trap 'rm -rf "$work"' EXIT
 
 mkdir "$work/crates"
 cp "$here/../HANDLES" "$work/HANDLES"
-for name in counts_and_texts disk_core book_journal; do
+for name in hall_limits device_facts hall_units disk_core book_journal; do
     cp -r "$here/../crates/$name" "$work/crates/$name"
     grep "^$name:" "$here/../crates.txt" >>"$work/crates.txt"
 done
@@ -22,8 +22,8 @@ cat >"$bench/src/main.rt" <<'RATTLE'
 ghost use Rattle.book_journal.specs.Journal.{IsSound};
 
 use book_journal::{Journal, MOST_ROWS};
-use counts_and_texts::read_number_within;
 use disk_core::{Disk, QuietDisk};
+use hall_units::read_bounded;
 use std::env;
 use std::process::ExitCode;
 
@@ -65,7 +65,7 @@ fn run(rt: &HostRuntime, rows: u64, mounts: u64) -> Option<u32> {
 }
 
 fn number(text: &str) -> Option<u64> {
-    read_number_within(7, 1_000_000, text.as_bytes())
+    read_bounded(7, 1_000_000, text.as_bytes())
 }
 
 fn main(rt: HostRuntime) -> ExitCode {
@@ -89,7 +89,7 @@ use Rattle.journal_bench.proofs.append_all.Given as goal
 abbrev pub invariant-loop : goal.invariant-loop
 invariant-loop g l = IsSound g.D.Disk.reads g.D.Disk.image l.journal
 ANTT
-echo 'journal_bench: book_journal counts_and_texts disk_core' >>"$work/crates.txt"
+echo 'journal_bench: book_journal disk_core hall_units' >>"$work/crates.txt"
 (cd "$bench" && rt run </dev/null) >"$work/log" 2>&1 || true
 program=$bench/out/journal_bench
 [ -x "$program" ] || { cat "$work/log" >&2; exit 70; }
