@@ -1,5 +1,5 @@
-ghost use Rattle.std.specs.Prelude.{◌≡◌, slice_get};
-ghost use Rattle.balanced_tree.specs.Trees.{items, height_of, count_of, IsBalanced};
+ghost use Rattle.std.specs.Prelude.{◌≡◌, [], IfSome, IfNone, slice_get};
+ghost use Rattle.balanced_tree.specs.Trees.{items, height_of, count_of, IsBalanced, IsRootBetween};
 
 /// A list of items in order, as a tree of nodes. With each node stand its height and the number of its items.
 #[cycle(tree)]
@@ -44,6 +44,18 @@ impl<T> Node<T> {
 }
 
 impl<T> Tree<T> {
+    /// The topmost node, unless there is no item.
+    pub fn root(&self) -> Option<&Node<T>>
+        requires balanced { IsBalanced self.now }
+        ensures some { IfSome result (λ root. IsRootBetween root.now.left root.now.item root.now.right self.now) }
+        ensures empty { IfNone result (items self.now ≡ []) }
+    {
+        match self {
+            Tree::Leaf => None,
+            Tree::Fork { root, .. } => Some(&**root),
+        }
+    }
+
     /// How many nodes stand on the longest way down.
     pub fn height(&self) -> u8
         ensures { result ≡ height_of self.now }
@@ -72,9 +84,7 @@ impl<T: Copy> Tree<T> {
         requires balanced { IsBalanced self.now }
         ensures { result ≡ slice_get (items self.now) place }
     {
-        let Tree::Fork { root, .. } = self else {
-            return None;
-        };
+        let root = self.root()?;
         let before = root.left.count();
         if place < before {
             root.left.get(place)
