@@ -1,3 +1,4 @@
 pub mod Rising
 pub mod Descents
 pub mod Ordered
+pub mod Faces

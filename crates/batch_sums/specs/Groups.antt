@@ -1,5 +1,5 @@
 -- Groups of packs: one for each batch and day.
-use Rattle.std.specs.Prelude.{◌≡◌, ℕ, ℤ, pos, negsuc, ◌+◌, ◌*◌, ◌+ℤ◌, Bool, List, count_by, nat_lt, int_lt, if◌then◌else◌}
+use Rattle.std.specs.Prelude.{◌≡◌, ℕ, ℤ, pos, negsuc, ◌+◌, ◌*◌, ◌+ℤ◌, Bool, List, count_by, nat_lt, int_lt, if◌then◌else◌, map, slice_index_or}
 use Rattle.annex_tables.specs.declared.types.Limits.{Limits}
 use Rattle.hall_limits.specs.declared.TheConstants.{MAX_GROSS}
 use Rattle.batch_sums.specs.Rising.{mass_of}
@@ -23,3 +23,26 @@ threshold limit tare = if int_lt MAX_GROSS limit then at_least_0 MAX_GROSS + 1 e
 pub record IsJudged (limits : Limits) (group : Group) : Type 0 where
   pub nonstandard : group.nonstandard ≡ count_by (λ gross. nat_lt (mass_of gross) (threshold limits.t1 group.tare)) group.grosses
   pub inadequate : group.inadequate ≡ count_by (λ gross. nat_lt (mass_of gross) (threshold limits.t2 group.tare)) group.grosses
+
+-- what all packs of a group share: its key and its tare
+pub record Face : Type 0 where
+  pub key : Key
+  pub tare : ℕ
+
+abbrev pub face_of : Group → Face
+face_of group = record { key = group.key; tare = group.tare }
+
+abbrev pub faces : List Group → List Face
+faces groups = map face_of groups
+
+-- the face of a group that isn't there
+abbrev pub no_face : Face
+no_face = record { key = record { product = 0; day = 0; batch = 0 }; tare = 0 }
+
+-- the face of the group at a place
+abbrev pub face_at : List Face → ℕ → Face
+face_at some group = slice_index_or some group no_face
+
+-- where the group at a place stands in the order of keys
+abbrev pub rank_at : List Face → ℕ → ℕ
+rank_at some group = rank_of (face_at some group).key

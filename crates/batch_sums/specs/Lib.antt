@@ -1,2 +1,4 @@
 pub mod Rising
 pub mod Groups
+pub mod Totals
+pub mod Running

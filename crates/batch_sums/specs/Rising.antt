@@ -1,5 +1,5 @@
 -- Lists in order: no item has a lower rank than one before it.
-use Rattle.std.specs.Prelude.{◌≡◌, ℕ, Bool, ◌+◌, ◌≤◌, List, [], ◌∷◌, count_by, if◌then◌else◌}
+use Rattle.std.specs.Prelude.{◌≡◌, ℕ, Bool, ◌+◌, ◌≤◌, ◌&&◌, List, [], ◌∷◌, count_by, if◌then◌else◌}
 use Rattle.batch_sums.specs.declared.grosses.Gross.{Gross}
 
 -- each item has at least a rank
@@ -19,3 +19,8 @@ mass_of gross = gross.mass
 abbrev pub HasOneMore : ℕ → List Gross → List Gross → Type 0
 HasOneMore mass less more =
     (test : ℕ → Bool) → count_by (λ gross. test (mass_of gross)) more ≡ count_by (λ gross. test (mass_of gross)) less + (if test mass then 1 else 0)
+
+-- the grosses `more` are those of `less`, and one besides where it counts
+abbrev pub HasMoreIf : Bool → ℕ → List Gross → List Gross → Type 0
+HasMoreIf counts mass less more =
+    (test : ℕ → Bool) → count_by (λ gross. test (mass_of gross)) more ≡ count_by (λ gross. test (mass_of gross)) less + (if counts && test mass then 1 else 0)

@@ -1,12 +1,15 @@
-ghost use Rattle.std.specs.Prelude.{◌≡◌, ℕ, pos, ◌+◌, ◌^◌, ◌<◌, ◌≤◌, ◌≤ℤ◌, ◌==◌, int_lt, nat_lt, count_by, length, [], if◌then◌else◌};
-ghost use Rattle.batch_sums.specs.Rising.{mass_of, HasOneMore};
-ghost use Rattle.batch_sums.specs.Groups.{rank_of, threshold, IsJudged};
+ghost use Rattle.std.specs.Prelude.{◌≡◌, ℕ, pos, ◌+◌, ◌^◌, ◌<◌, ◌≤◌, ◌≤ℤ◌, ◌==◌, int_lt, nat_lt, count_by, length, vec_len, vec_capacity, true, [], if◌then◌else◌};
+ghost use Rattle.batch_sums.specs.Rising.{mass_of, HasOneMore, HasMoreIf};
+ghost use Rattle.batch_sums.specs.Groups.{rank_of, threshold, IsJudged, face_of};
+ghost use Rattle.batch_sums.specs.Totals.{is_counted};
 
+use crate::batch::counts_for_population;
 use crate::grosses::{Gross, Grosses};
 use crate::steps::Steps;
 use annex_tables::Limits;
 use balanced_tree::Node;
 use hall_limits::{MAX_GROSS, MAX_POPULATION, MAX_TARE};
+use pack_judge::Pile;
 use std::sync::ledger::Ledger;
 
 /// What a group is found by. The groups of a product stand together, those of a day within it, and in these the batches.
@@ -81,7 +84,7 @@ pub fn least_grosses(limits: &Limits, tare: u32) -> LeastGrosses
 }
 
 // 1 for a gross that is below a limit, both in mg, and else 0.
-fn count_one(gross: u32, limit: u32) -> u32
+pub fn count_one(gross: u32, limit: u32) -> u32
     ensures { result ≡ (if nat_lt gross limit then 1 else 0) }
 {
     if gross < limit { 1 } else { 0 }
@@ -105,8 +108,8 @@ impl Group {
         }
     }
 
-    /// A pack of this gross in mg counts for the population from now on.
-    pub fn enter(&mut self, limits: &Limits, gross: u32, node: Box<Node<Gross>>)
+    // A gross in mg joins those of the population.
+    fn take_in(&mut self, limits: &Limits, gross: u32, node: Box<Node<Gross>>)
         requires tare { pos self.old.tare ≤ℤ MAX_TARE }
         requires few { length self.old.grosses + 1 < 2 ^ 32 }
         requires judged { IsJudged limits.now self.old }
@@ -121,8 +124,8 @@ impl Group {
         self.inadequate += count_one(gross, least.adequate);
     }
 
-    /// A pack of this gross in mg doesn't count for the population any more.
-    pub fn leave(&mut self, limits: &Limits, gross: u32) -> Box<Node<Gross>>
+    // A gross in mg leaves those of the population.
+    fn give_up(&mut self, limits: &Limits, gross: u32) -> Box<Node<Gross>>
         requires tare { pos self.old.tare ≤ℤ MAX_TARE }
         requires contained { 0 < count_by (λ other. mass_of other == gross) self.old.grosses }
         requires judged { IsJudged limits.now self.old }
@@ -138,12 +141,52 @@ impl Group {
         node
     }
 
+    /// A pack of this pile and gross in mg comes into the group. It takes a spare node where it counts for the population.
+    pub fn enter(&mut self, limits: &Limits, pile: Pile, gross: u32, nodes: &mut Vec<Box<Node<Gross>>>)
+        requires tare { pos self.old.tare ≤ℤ MAX_TARE }
+        requires few { length self.old.grosses + 1 < 2 ^ 32 }
+        requires judged { IsJudged limits.now self.old }
+        requires spare { 0 < vec_len nodes.old }
+        ensures judged { IsJudged limits.now self.new }
+        ensures face { face_of self.new ≡ face_of self.old }
+        ensures grosses { HasMoreIf (is_counted pile) gross self.old.grosses self.new.grosses }
+        ensures nodes { vec_len nodes.new + (if is_counted pile then 1 else 0) ≡ vec_len nodes.old }
+        ensures capacity { vec_capacity nodes.new ≡ vec_capacity nodes.old }
+    {
+        if counts_for_population(pile) {
+            let Some(node) = nodes.pop() else {
+                unreachable!()
+            };
+            self.take_in(limits, gross, node);
+        }
+    }
+
+    /// A pack of this pile and gross in mg goes out of the group. Its node becomes a spare one where it counted for the
+    /// population.
+    pub fn leave(&mut self, limits: &Limits, pile: Pile, gross: u32, nodes: &mut Vec<Box<Node<Gross>>>)
+        requires tare { pos self.old.tare ≤ℤ MAX_TARE }
+        requires contained { is_counted pile ≡ true → 0 < count_by (λ other. mass_of other == gross) self.old.grosses }
+        requires judged { IsJudged limits.now self.old }
+        requires room { is_counted pile ≡ true → vec_len nodes.old < vec_capacity nodes.old }
+        ensures judged { IsJudged limits.now self.new }
+        ensures face { face_of self.new ≡ face_of self.old }
+        ensures grosses { HasMoreIf (is_counted pile) gross self.new.grosses self.old.grosses }
+        ensures nodes { vec_len nodes.new ≡ vec_len nodes.old + (if is_counted pile then 1 else 0) }
+        ensures capacity { vec_capacity nodes.old ≤ vec_capacity nodes.new }
+    {
+        if counts_for_population(pile) {
+            let node = self.give_up(limits, gross);
+            let Ok(()) = nodes.push(node) else {
+                unreachable!()
+            };
+        }
+    }
+
     /// The packs have this tare in mg from now on.
     pub fn correct<L: Ledger>(&mut self, limits: &Limits, tare: u32, steps: &mut Steps<L>)
         requires tare { pos tare ≤ℤ MAX_TARE }
         ensures judged { IsJudged limits.now self.new }
-        ensures key { self.new.key ≡ self.old.key }
-        ensures tare { self.new.tare ≡ tare }
+        ensures face { face_of self.new ≡ record { key = self.old.key; tare = tare } }
         ensures grosses { self.new.grosses ≡ self.old.grosses }
         ensures cost { length self.old.grosses ≤ MAX_POPULATION → steps.new ≤ steps.old + 36 }
     {

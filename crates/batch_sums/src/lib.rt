@@ -2,14 +2,12 @@
 //! worked in by the limits of each group of packs, without a walk over the packs. All masses are whole milligrams.
 #![tactic(auto)]
 
-
+mod batch;
 mod grosses;
 mod group;
-
+mod order;
 mod steps;
-
-
+mod types;
 
 pub use steps::Steps;
-
-
+pub use types::{NoMemory, Totals};

@@ -1,5 +1,5 @@
 use Rattle.std.proofs.Common.{ltb, arith}
-use Rattle.batch_sums.proofs.group.Group.enter.Goals as goal
+use Rattle.batch_sums.proofs.group.Group.take_in.Goals as goal
 
 pub returns-clause-judged : goal.returns-clause-judged
 returns-clause-judged c =

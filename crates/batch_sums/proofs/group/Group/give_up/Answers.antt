@@ -1,5 +1,5 @@
 use Rattle.std.proofs.Common.{ltb, arith}
-use Rattle.batch_sums.proofs.group.Group.leave.Goals as goal
+use Rattle.batch_sums.proofs.group.Group.give_up.Goals as goal
 
 pub overflow_sub-self : goal.overflow_sub-self
 overflow_sub-self c =
