@@ -2,3 +2,5 @@ pub mod Rising
 pub mod Groups
 pub mod Totals
 pub mod Running
+pub mod Kept
+pub mod Invariant

@@ -1,11 +1,14 @@
 -- The running totals of a batch, and what a pack that comes in or goes out does to them.
-use Rattle.std.specs.Prelude.{◌≡◌, ℕ, ◌+◌, ◌<◌, ◌≤◌, Bool, ◌&&◌, ◌==◌, List, count_by, nat_lt, if◌then◌else◌}
+use Rattle.std.specs.Prelude.{◌≡◌, ℕ, pos, ◌-ℤ◌, ◌+◌, ◌-◌, ◌*◌, length, ◌<◌, ◌≤◌, Bool, ◌&&◌, ◌==◌, List, count_by, nat_lt, if◌then◌else◌}
 use Rattle.std.specs.List.{sum_by, slice_index_or}
 use Rattle.pack_judge.specs.declared.types.Pile.{Pile}
 use Rattle.pack_judge.specs.declared.types.Pile.TheVariants.{Passed, Rejected, Sampled, Voided}
+use Rattle.pack_judge.specs.declared.types.Tally.{Tally}
+use Rattle.batch_sums.specs.declared.types.Totals.{Totals}
 use Rattle.batch_sums.specs.declared.batch.Batch.{Batch}
 use Rattle.batch_sums.specs.declared.batch.PileSum.{PileSum}
 use Rattle.batch_sums.specs.declared.types.Held.{Held}
+use Rattle.batch_sums.specs.declared.group.Group.{Group}
 use Rattle.batch_sums.specs.Groups.{Face, threshold}
 use Rattle.batch_sums.specs.Totals.{same_pile, is_counted}
 
@@ -45,3 +48,48 @@ pub record Covers (batch : Batch) (pile : Pile) (mass tare : ℕ) : Type 0 where
   pub tares : (if is_counted pile then tare else 0) ≤ batch.tares
   pub nonstandard : count_at pile mass (threshold batch.limits.t1 tare) ≤ batch.nonstandard
   pub inadequate : count_at pile mass (threshold batch.limits.t2 tare) ≤ batch.inadequate
+
+-- a group's packs are among those that the sums are of, and there is room for any other share of theirs
+pub record HasShare (batch : Batch) (group : Group) : Type 0 where
+  pub tares : length group.grosses * group.tare ≤ batch.tares
+  pub nonstandard : group.nonstandard ≤ batch.nonstandard
+  pub inadequate : group.inadequate ≤ batch.inadequate
+  pub few : length group.grosses < 4294967296
+  pub rest : (batch.nonstandard - group.nonstandard) + length group.grosses < 4294967296
+  pub other : (batch.inadequate - group.inadequate) + length group.grosses < 4294967296
+  pub light : batch.tares < 9223372036854775808
+
+-- the sums of a batch after one of its groups was judged anew
+pub record IsCorrected (before after : Batch) (old new : Group) : Type 0 where
+  pub piles : (pile : Pile) → pile_sum after pile ≡ pile_sum before pile
+  pub tares : after.tares + length old.grosses * old.tare ≡ before.tares + length new.grosses * new.tare
+  pub nonstandard : after.nonstandard + old.nonstandard ≡ before.nonstandard + new.nonstandard
+  pub inadequate : after.inadequate + old.inadequate ≡ before.inadequate + new.inadequate
+  pub product : after.product ≡ before.product
+  pub limits : after.limits ≡ before.limits
+
+-- the sums of a batch are so small that they can be told
+pub record IsBounded (batch : Batch) : Type 0 where
+  pub passed : batch.passed.gross < 2305843009213693952
+  pub rejected : batch.rejected.gross < 2305843009213693952
+  pub sampled : batch.sampled.gross < 2305843009213693952
+  pub voided : batch.voided.gross < 2305843009213693952
+  pub tares : batch.tares < 2305843009213693952
+  pub count : batch.passed.count + batch.sampled.count < 4294967296
+
+abbrev pub tally_of : PileSum → Tally
+tally_of sum = record { count = sum.count; gross = pos sum.gross }
+
+-- the sums of a batch as totals
+abbrev pub shown : Batch → Totals
+shown batch =
+    record {
+      passed = tally_of batch.passed;
+      rejected = tally_of batch.rejected;
+      sampled = tally_of batch.sampled;
+      voided = tally_of batch.voided;
+      population = batch.passed.count + batch.sampled.count;
+      net = pos (batch.passed.gross + batch.sampled.gross) -ℤ pos batch.tares;
+      nonstandard = batch.nonstandard;
+      inadequate = batch.inadequate;
+    }

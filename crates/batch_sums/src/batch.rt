@@ -1,11 +1,16 @@
-ghost use Rattle.std.specs.Prelude.{◌≡◌, pos, ◌+◌, ◌<◌, ◌≤◌, ◌≤ℤ◌};
+ghost use Rattle.std.specs.Prelude.{◌≡◌, pos, length, ◌+◌, ◌<◌, ◌≤◌, ◌≤ℤ◌};
 ghost use Rattle.batch_sums.specs.Totals.{is_counted};
-ghost use Rattle.batch_sums.specs.Running.{IsEntered, HasRoom, Covers};
+ghost use Rattle.batch_sums.specs.Running.{pile_sum, IsEntered, HasRoom, Covers, HasShare, IsCorrected, IsBounded, shown};
+ghost use Rattle.batch_sums.specs.Groups.{IsJudged, face_of};
+ghost use Rattle.pack_judge.specs.declared.types.Pile.{Pile};
 
-use crate::group::{count_one, least_grosses};
+use crate::group::{Group, count_one, least_grosses};
 use annex_tables::Limits;
-use hall_limits::MAX_TARE;
-use pack_judge::Pile;
+use hall_limits::{MAX_POPULATION, MAX_TARE};
+use pack_judge::{Pile, Tally};
+use crate::steps::Steps;
+use crate::types::Totals;
+use std::sync::ledger::Ledger;
 
 /// How many packs a pile has, and the sum of their grosses in mg.
 #[derive(Clone, Copy)]
@@ -41,6 +46,17 @@ pub fn counts_for_population(pile: Pile) -> bool
 }
 
 impl PileSum {
+    /// The number of packs and the sum of their grosses in mg.
+    pub fn tally(&self) -> Tally
+        requires { self.now.gross < 9223372036854775808 }
+        ensures { result ≡ record { count = self.now.count; gross = pos self.now.gross } }
+    {
+        Tally {
+            count: self.count,
+            gross: self.gross as i64,
+        }
+    }
+
     fn enter(&mut self, gross: u32)
         requires count { self.old.count < 4294967295 }
         requires gross { self.old.gross < 9223372036854775808 }
@@ -63,6 +79,46 @@ impl PileSum {
 }
 
 impl Batch {
+    /// A batch without packs.
+    pub fn new(product: u32, limits: &Limits) -> Batch
+        ensures product { result.product ≡ product }
+        ensures limits { result.limits ≡ limits.now }
+        ensures piles { (pile : Pile) → pile_sum result pile ≡ record { count = 0; gross = 0 } }
+        ensures tares { result.tares ≡ 0 }
+        ensures nonstandard { result.nonstandard ≡ 0 }
+        ensures inadequate { result.inadequate ≡ 0 }
+    {
+        let none = PileSum { count: 0, gross: 0 };
+        Batch {
+            product,
+            limits: *limits,
+            passed: none,
+            rejected: none,
+            sampled: none,
+            voided: none,
+            tares: 0,
+            nonstandard: 0,
+            inadequate: 0,
+        }
+    }
+
+    /// The totals of the batch.
+    pub fn totals(&self) -> Totals
+        requires { IsBounded self.now }
+        ensures { result ≡ shown self.now }
+    {
+        Totals {
+            passed: self.passed.tally(),
+            rejected: self.rejected.tally(),
+            sampled: self.sampled.tally(),
+            voided: self.voided.tally(),
+            population: self.passed.count + self.sampled.count,
+            net: (self.passed.gross + self.sampled.gross) as i64 - self.tares as i64,
+            nonstandard: self.nonstandard,
+            inadequate: self.inadequate,
+        }
+    }
+
     /// A pack of this pile, gross and tare comes into the batch.
     pub fn enter(&mut self, pile: Pile, gross: u32, tare: u32)
         requires tare { pos tare ≤ℤ MAX_TARE }
@@ -101,5 +157,25 @@ impl Batch {
             Pile::Sampled => self.sampled.leave(gross),
             Pile::Voided => self.voided.leave(gross),
         }
+    }
+
+    /// The packs of one of the batch's groups have this tare in mg from now on.
+    pub fn correct<L: Ledger>(&mut self, group: &mut Group, tare: u32, steps: &mut Steps<L>)
+        requires tare { pos tare ≤ℤ MAX_TARE }
+        requires share { HasShare self.old group.old }
+        ensures judged { IsJudged self.old.limits group.new }
+        ensures face { face_of group.new ≡ record { key = group.old.key; tare = tare } }
+        ensures grosses { group.new.grosses ≡ group.old.grosses }
+        ensures corrected { IsCorrected self.old self.new group.old group.new }
+        ensures cost { length group.old.grosses ≤ MAX_POPULATION → steps.new ≤ steps.old + 36 }
+    {
+        let count = group.grosses.count() as u64;
+        self.tares -= count * group.tare as u64;
+        self.nonstandard -= group.nonstandard;
+        self.inadequate -= group.inadequate;
+        group.correct(&self.limits, tare, steps);
+        self.tares += count * group.tare as u64;
+        self.nonstandard += group.nonstandard;
+        self.inadequate += group.inadequate;
     }
 }

@@ -10,7 +10,7 @@ use std::mem;
 use std::sync::ledger::{Blank, Ledger};
 
 /// The gross of a pack in mg. Only `Grosses::less` looks at it.
-#[derive(Clone, Copy)]
+#[derive(Clone, Copy, Default)]
 pub struct Gross {
     mass: u32,
 }
@@ -34,11 +34,6 @@ impl Model for Grosses {
     ghost view = { λ g. items g.tree };
 
     ghost invariant = { λ g. IsBalanced g.tree × IsRising mass_of (items g.tree) × (length (items g.tree) < 2 ^ 32) };
-}
-
-/// A node for one gross, whichever it will be.
-pub fn spare_node() -> Node<Gross> {
-    Node::new(Gross { mass: 0 })
 }
 
 impl Grosses {

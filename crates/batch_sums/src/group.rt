@@ -35,6 +35,14 @@ impl Key {
         }
         mine.batch < its.batch
     }
+
+    /// Whether this key is the same as another.
+    pub fn is_same(&self, other: &Key) -> bool
+        ensures { result ≡ (rank_of self.now == rank_of other.now) }
+    {
+        let (mine, its) = (*self, *other);
+        mine.product == its.product && mine.day == its.day && mine.batch == its.batch
+    }
 }
 
 /// The packs of one batch on one day, which share their tare.

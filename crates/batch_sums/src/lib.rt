@@ -7,7 +7,9 @@ mod grosses;
 mod group;
 mod order;
 mod steps;
+mod sums;
 mod types;
 
 pub use steps::Steps;
+pub use sums::BatchSums;
 pub use types::{NoMemory, Totals};

@@ -5,7 +5,8 @@ ghost use Rattle.batch_sums.specs.Rising.{IsRising};
 ghost use Rattle.batch_sums.specs.Groups.{rank_of, rank_at, faces};
 
 use crate::group::{Group, Key};
-use balanced_tree::Tree;
+use balanced_tree::{Node, Tree, insert};
+use std::mem;
 
 /// How many groups stand before a key, in the order of keys: where the group of that key stands, or would stand.
 pub fn place_of(order: &Tree<u32>, groups: &[Group], key: &Key) -> u32
@@ -23,4 +24,25 @@ pub fn place_of(order: &Tree<u32>, groups: &[Group], key: &Key) -> u32
     } else {
         place_of(&root.left, groups, key)
     }
+}
+
+/// The place of the group of a key; where there is none it is opened, with a tare in mg.
+pub fn find_or_open(
+    groups: &mut Vec<Group>,
+    order: &mut Tree<u32>,
+    spare: &mut Vec<Box<Node<u32>>>,
+    key: Key,
+    tare: u32,
+) -> u32 {
+    let place = place_of(order, groups, &key);
+    if let Some(group) = order.get(place) && groups[group as usize].key.is_same(&key) {
+        return group;
+    }
+    let group = groups.len() as u32;
+    let (Some(mut node), Ok(())) = (spare.pop(), groups.push(Group::new(key, tare))) else {
+        unreachable!()
+    };
+    node.item = group;
+    *order = insert(mem::replace(order, Tree::Leaf), place, node);
+    group
 }

@@ -1,0 +1,265 @@
+ghost use Rattle.std.specs.Prelude.{◌≡◌, ℕ, pos, Some, nat_le, nat_lt, ◌&&◌, ◌≤ℤ◌, ◌+◌, ◌<◌, ◌≤◌, vec_len, vec_capacity, [], ◌∷◌, ◌++◌, length, IsOk, IfOk, OnOk, OnErr};
+ghost use Rattle.std.specs.Int.Signed.{le_z, lt_z};
+ghost use Rattle.tare_register.specs.Tares.{covers};
+ghost use Rattle.indexmap.specs.IndexSet.{spare};
+ghost use Rattle.batch_sums.specs.Kept.{totals_in};
+ghost use Rattle.batch_sums.specs.Invariant.{HasGrown};
+
+use crate::batch::Batch;
+use crate::grosses::Gross;
+use crate::group::{Group, Key};
+use crate::order::{find_or_open, place_of};
+use crate::steps::Steps;
+use crate::types::{Held, NoMemory, Totals};
+use annex_tables::Limits;
+use balanced_tree::{Node, Tree};
+use hall_limits::MAX_DAY;
+use indexmap::IndexSet;
+use pack_judge::Pile;
+use std::alloc::{AllocError, Global};
+use std::marker::Model;
+use std::sync::ledger::Ledger;
+use tare_register::Span;
+
+/// The totals of each batch over the packs that were added.
+#[derive(Drop)]
+pub struct BatchSums {
+    batches: Vec<Batch>,
+    groups: Vec<Group>,
+    // The places of the groups in the order of their keys.
+    order: Tree<u32>,
+    // The packs in the order in which they were added, and their numbers in the same order.
+    packs: Vec<Held>,
+    numbers: IndexSet<u32>,
+    // Spare nodes: one for each pack that doesn't count for a population, and for each place that is reserved.
+    gross_nodes: Vec<Box<Node<Gross>>>,
+    order_nodes: Vec<Box<Node<u32>>>,
+    // How many packs and batches more are sure to find room.
+    spare: u32,
+}
+
+impl Model for BatchSums {
+    ghost use Rattle.std.specs.Prelude.{map};
+    ghost use Rattle.batch_sums.specs.Kept.{Sums};
+
+    ghost Value = { Sums };
+
+    ghost use Rattle.batch_sums.specs.Groups.{faces};
+    ghost use Rattle.batch_sums.specs.Kept.{seen, terms_of};
+    ghost use Rattle.batch_sums.specs.Invariant.{IsKept};
+
+    ghost view = { λ s. record { batches = map terms_of s.batches.items; packs = map (seen (faces s.groups.items)) s.packs.items; spare = s.spare } };
+
+    ghost invariant = { IsKept };
+}
+
+impl BatchSums {
+    /// Sums without batches. It takes no memory.
+    pub fn new(alloc: Global) -> BatchSums
+        ensures batches { result.batches ≡ [] }
+        ensures packs { result.packs ≡ [] }
+    {
+        BatchSums {
+            batches: Vec::new(alloc),
+            groups: Vec::new(alloc),
+            order: Tree::Leaf,
+            packs: Vec::new(alloc),
+            numbers: IndexSet::new(alloc),
+            gross_nodes: Vec::new(alloc),
+            order_nodes: Vec::new(alloc),
+            spare: 0,
+        }
+    }
+
+    /// Adds a batch of a product. The limits are in mg: a net below `t1` is non-standard, one below `t2` inadequate;
+    /// equality with a limit is not below it. For goods by volume the caller hands in limits in mg that are rounded up
+    /// for their density. The result is the number of the batch: the first is 0.
+    ///
+    /// It is refused only for want of memory, and never while a place is reserved.
+    pub fn add_batch(&mut self, product: u32, limits: Limits) -> Result<u32, NoMemory>
+        ensures ok { IfOk result (λ batch. (batch ≡ length self.old.batches) × (self.new.batches ≡ self.old.batches ++ record { product = product; limits = limits } ∷ [])) }
+        ensures err { OnErr result (self.new.batches ≡ self.old.batches) }
+        ensures packs { self.new.packs ≡ self.old.packs }
+        ensures room { 0 < self.old.spare → IsOk result }
+        ensures spare { self.old.spare ≤ self.new.spare + 1 }
+    {
+        self.reserve(1)?;
+        let batch = self.batches.len() as u32;
+        let Ok(()) = self.batches.push(Batch::new(product, &limits)) else {
+            unreachable!()
+        };
+        self.spare -= 1;
+        Ok(batch)
+    }
+
+    /// Reserves places for `more` further packs and batches.
+    pub fn reserve(&mut self, more: u32) -> Result<(), NoMemory>
+        ensures ok { OnOk result (more ≤ self.new.spare) }
+        ensures spare { self.old.spare ≤ self.new.spare }
+        ensures room { more ≤ self.old.spare → IsOk result }
+        ensures batches { self.new.batches ≡ self.old.batches }
+        ensures packs { self.new.packs ≡ self.old.packs }
+    {
+        if more <= self.spare {
+            return Ok(());
+        }
+        let most = u32::MAX - more;
+        if self.batches.len() > most as usize || self.packs.len() > most as usize {
+            return Err(AllocError);
+        }
+        reserve_places(&mut self.batches, &mut self.groups, &mut self.packs, &mut self.numbers, more)?;
+        reserve_nodes(&mut self.gross_nodes, &mut self.order_nodes, self.packs.len(), more - self.spare)?;
+        self.spare = more;
+        Ok(())
+    }
+
+    pub fn add(&mut self, batch: u32, pack: u32, day: i32, gross: i64, tare: i64, pile: Pile) -> Result<(), NoMemory> {
+        self.reserve(1)?;
+        let key = Key {
+            product: self.batches[batch as usize].product,
+            day: day as u32,
+            batch,
+        };
+        let group = find_or_open(&mut self.groups, &mut self.order, &mut self.order_nodes, key, tare as u32);
+        let held = Held {
+            number: pack,
+            group,
+            gross: gross as u32,
+            pile,
+        };
+        let (Ok(_), Ok(())) = (self.numbers.insert(pack), self.packs.push(held)) else {
+            unreachable!()
+        };
+        let batch = &mut self.batches[batch as usize];
+        let group = &mut self.groups[group as usize];
+        batch.enter(pile, held.gross, group.tare);
+        group.enter(&batch.limits, pile, held.gross, &mut self.gross_nodes);
+        self.spare -= 1;
+        Ok(())
+    }
+
+    pub fn shift(&mut self, pack: u32, to: Pile) {
+        let Some(place) = self.numbers.get_index_of(&pack) else {
+            unreachable!()
+        };
+        let held = self.packs[place];
+        let group = &mut self.groups[held.group as usize];
+        let batch = &mut self.batches[group.key.batch as usize];
+        batch.leave(held.pile, held.gross, group.tare);
+        group.leave(&batch.limits, held.pile, held.gross, &mut self.gross_nodes);
+        batch.enter(to, held.gross, group.tare);
+        group.enter(&batch.limits, to, held.gross, &mut self.gross_nodes);
+        self.packs[place] = Held { pile: to, ..held };
+    }
+
+    pub fn rejudge<L: Ledger>(&mut self, product: u32, span: Span, tare: i64, steps: &mut Steps<L>) {
+        let days = days_of(&span);
+        let first = place_of(&self.order, &self.groups, &Key { product, day: days.from, batch: 0 });
+        let end = place_of(&self.order, &self.groups, &Key { product, day: days.until, batch: 0 });
+        for place in first..end {
+            let Some(group) = self.order.get(place) else {
+                unreachable!()
+            };
+            let group = &mut self.groups[group as usize];
+            let batch = &mut self.batches[group.key.batch as usize];
+            batch.correct(group, tare as u32, steps);
+        }
+    }
+
+    /// The totals of a batch over the packs that were added. It takes no memory and no walk.
+    pub fn totals(&self, batch: u32) -> Totals
+        requires { batch < length self.now.batches }
+        ensures { totals_in self.now batch ≡ Some result }
+    {
+        let batch = &self.batches[batch as usize];
+        batch.totals()
+    }
+}
+
+// Makes room for so many batches, groups and packs more.
+fn reserve_places(
+    batches: &mut Vec<Batch>,
+    groups: &mut Vec<Group>,
+    packs: &mut Vec<Held>,
+    numbers: &mut IndexSet<u32>,
+    more: u32,
+) -> Result<(), NoMemory>
+    ensures batches { HasGrown batches.old batches.new }
+    ensures groups { HasGrown groups.old groups.new }
+    ensures packs { HasGrown packs.old packs.new }
+    ensures keys { numbers.new.keys ≡ numbers.old.keys }
+    ensures numbers { spare numbers.old ≤ spare numbers.new }
+    ensures ok_batches { OnOk result (vec_len batches.new + more ≤ vec_capacity batches.new) }
+    ensures ok_groups { OnOk result (vec_len groups.new + more ≤ vec_capacity groups.new) }
+    ensures ok_packs { OnOk result (vec_len packs.new + more ≤ vec_capacity packs.new) }
+    ensures ok_numbers { OnOk result (more ≤ spare numbers.new) }
+{
+    let more = more as usize;
+    batches.reserve(more)?;
+    groups.reserve(more)?;
+    packs.reserve(more)?;
+    numbers.reserve(more)?;
+    Ok(())
+}
+
+// Adds so many nodes of both kinds to the spare ones, with places for those of so many packs to come back to.
+fn reserve_nodes(
+    gross_nodes: &mut Vec<Box<Node<Gross>>>,
+    order_nodes: &mut Vec<Box<Node<u32>>>,
+    packs: usize,
+    more: u32,
+) -> Result<(), NoMemory>
+    requires few { packs < 4294967296 }
+    ensures ok_gross { OnOk result (vec_len gross_nodes.new ≡ vec_len gross_nodes.old + more) }
+    ensures ok_order { OnOk result (vec_len order_nodes.new ≡ vec_len order_nodes.old + more) }
+    ensures gross { vec_len gross_nodes.old ≤ vec_len gross_nodes.new }
+    ensures order { vec_len order_nodes.old ≤ vec_len order_nodes.new }
+    ensures back { (used : ℕ) → used ≤ packs → vec_len gross_nodes.old + used ≤ vec_capacity gross_nodes.old → vec_len gross_nodes.new + used ≤ vec_capacity gross_nodes.new }
+{
+    let alloc = *gross_nodes.allocator();
+    gross_nodes.reserve(packs + more as usize)?;
+    add_nodes(alloc, gross_nodes, Gross::default(), more)?;
+    add_nodes(alloc, order_nodes, 0, more)?;
+    Ok(())
+}
+
+// Adds so many nodes to the spare ones. Where memory is refused some may have been added.
+fn add_nodes<T: Copy>(alloc: Global, nodes: &mut Vec<Box<Node<T>>>, item: T, more: u32) -> Result<(), NoMemory>
+    ensures ok { OnOk result (vec_len nodes.new ≡ vec_len nodes.old + more) }
+    ensures more { vec_len nodes.old ≤ vec_len nodes.new }
+    ensures most { vec_len nodes.new ≤ vec_len nodes.old + more }
+    ensures capacity { vec_capacity nodes.old ≤ vec_capacity nodes.new }
+{
+    for _turn in 0..more {
+        nodes.push(Box::new(alloc, Node::new(item))?)?;
+    }
+    Ok(())
+}
+
+// The days of a span that packs may have: from the first on, before the last.
+#[derive(Clone, Copy)]
+struct Days {
+    from: u32,
+    until: u32,
+}
+
+fn days_of(span: &Span) -> Days
+    ensures { (day : ℕ) → pos day ≤ℤ MAX_DAY → covers span.now (pos day) ≡ (nat_le result.from day && nat_lt day result.until) }
+{
+    let until = match span.until {
+        None => MAX_DAY as u32 + 1,
+        Some(day) => within_days(day),
+    };
+    Days { from: within_days(span.from), until }
+}
+
+// A day as one that packs may have, or the one behind them all.
+fn within_days(day: i32) -> u32
+    ensures from { (other : ℕ) → pos other ≤ℤ MAX_DAY → nat_le result other ≡ le_z day (pos other) }
+    ensures until { (other : ℕ) → pos other ≤ℤ MAX_DAY → nat_lt other result ≡ lt_z (pos other) day }
+{
+    if day < 0 {
+        return 0;
+    }
+    if day > MAX_DAY { MAX_DAY as u32 + 1 } else { day as u32 }
+}
