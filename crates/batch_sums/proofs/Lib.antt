@@ -5,3 +5,8 @@ pub mod Faces
 pub mod Room
 pub mod Adding
 pub mod Telling
+pub mod Joining
+pub mod Sounding
+pub mod Entering
+pub mod Moving
+pub mod Numbers

@@ -39,6 +39,7 @@ pub record IsSettled (batches : List Batch) (groups : List Group) (order : Tree 
   pub index : IsIndex (faces groups) (items order)
   pub used : (place : ℕ) → place < length groups → 0 < count_by (λ pack. pack.group == place) held
   pub small : length groups ≤ length held
+  pub apart : (number : ℕ) → count_by (λ pack. pack.number == number) held ≤ 1
   pub numbered : numbers ≡ map (λ pack. pack.number) held
 
 pub record IsKept (sums : Inside) : Type 0 where

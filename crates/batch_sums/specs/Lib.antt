@@ -4,3 +4,4 @@ pub mod Totals
 pub mod Running
 pub mod Kept
 pub mod Invariant
+pub mod Changes

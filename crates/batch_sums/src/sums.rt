@@ -1,8 +1,9 @@
-ghost use Rattle.std.specs.Prelude.{◌≡◌, ℕ, pos, Some, nat_le, nat_lt, ◌&&◌, ◌≤ℤ◌, ◌+◌, ◌<◌, ◌≤◌, vec_len, vec_capacity, [], ◌∷◌, ◌++◌, length, IsOk, IfOk, OnOk, OnErr};
+ghost use Rattle.std.specs.Prelude.{◌≡◌, ℕ, pos, Some, IsTrue, nat_le, nat_lt, ◌&&◌, ◌≤ℤ◌, ◌+◌, ◌<◌, ◌≤◌, vec_len, vec_capacity, [], ◌∷◌, ◌++◌, length, IsOk, IfOk, OnOk, OnErr};
 ghost use Rattle.std.specs.Int.Signed.{le_z, lt_z};
 ghost use Rattle.tare_register.specs.Tares.{covers};
 ghost use Rattle.indexmap.specs.IndexSet.{spare};
 ghost use Rattle.batch_sums.specs.Kept.{totals_in};
+ghost use Rattle.batch_sums.specs.Changes.{is_added, moved};
 ghost use Rattle.batch_sums.specs.Invariant.{HasGrown};
 
 use crate::batch::Batch;
@@ -46,7 +47,8 @@ impl Model for BatchSums {
 
     ghost use Rattle.batch_sums.specs.Groups.{faces};
     ghost use Rattle.batch_sums.specs.Kept.{seen, terms_of};
-    ghost use Rattle.batch_sums.specs.Invariant.{IsKept};
+    ghost use Rattle.batch_sums.specs.Changes.{is_added, moved};
+ghost use Rattle.batch_sums.specs.Invariant.{IsKept};
 
     ghost view = { λ s. record { batches = map terms_of s.batches.items; packs = map (seen (faces s.groups.items)) s.packs.items; spare = s.spare } };
 
@@ -138,7 +140,13 @@ impl BatchSums {
         Ok(())
     }
 
-    pub fn shift(&mut self, pack: u32, to: Pile) {
+    /// Moves a pack to a pile; it may move between any two. It takes no memory.
+    pub fn shift(&mut self, pack: u32, to: Pile)
+        requires { IsTrue (is_added self.old.packs pack) }
+        ensures packs { self.new.packs ≡ moved pack to self.old.packs }
+        ensures batches { self.new.batches ≡ self.old.batches }
+        ensures spare { self.new.spare ≡ self.old.spare }
+    {
         let Some(place) = self.numbers.get_index_of(&pack) else {
             unreachable!()
         };
