@@ -10,3 +10,6 @@ pub mod Sounding
 pub mod Entering
 pub mod Moving
 pub mod Numbers
+pub mod Opening
+pub mod Putting
+pub mod Readying

@@ -29,7 +29,7 @@ use Rattle.batch_sums.proofs.Telling.{tared, bounded}
 abbrev pub in_pile : Held → Pile → Held
 in_pile h pile = record { number = h.number; group = h.group; gross = h.gross; pile = pile }
 
-gross_at : (batch : Batch) (pile : Pile) → IsBounded batch → (pile_sum batch pile).gross < 2305843009213693952
+pub gross_at : (batch : Batch) (pile : Pile) → IsBounded batch → (pile_sum batch pile).gross < 2305843009213693952
 gross_at batch pile small = by pile
   where
     by : (pile : Pile) → (pile_sum batch pile).gross < 2305843009213693952

@@ -31,6 +31,10 @@ number_at numbers held place number h numbered found read =
     let same : number ≡ get_or numbers place 0 = eqb-true number (get_or numbers place 0) at.1 in
     (within, ap (λ (p : Held). p.number) read ∙ sym (get_or-map (λ (p : Held). p.number) held place h 0 within) ∙ ap (λ ns. get_or ns place 0) (sym numbered) ∙ sym same)
 
+pub not_counts : (b : Bool) → cond (not b) 1 0 + cond b 1 0 ≡ 1
+not_counts true = omega arith
+not_counts false = omega arith
+
 module _ (held : List Held) (place : ℕ) (h : Held) (to : Pile) (read : h ≡ get_or held place h) (within : place < length held) where
   -- a sum that doesn't look at the pile stays
   same_sum : (f : Held → ℕ) → f (in_pile h to) ≡ f h → sum_by f (set held place (in_pile h to)) ≡ sum_by f held
@@ -38,10 +42,6 @@ module _ (held : List Held) (place : ℕ) (h : Held) (to : Pile) (read : h ≡ g
 
   pub inside_moved : inside (set held place (in_pile h to)) + cond (is_counted h.pile) 1 0 ≡ inside held + cond (is_counted to) 1 0
   inside_moved = omega (arith, sum_by-set (λ p. cond (is_counted p.pile) 1 0) held place (in_pile h to) h within, ap (λ (p : Held). cond (is_counted p.pile) (suc zero) zero) read)
-
-  not_counts : (b : Bool) → cond (not b) 1 0 + cond b 1 0 ≡ 1
-  not_counts true = omega arith
-  not_counts false = omega arith
 
   pub outside_moved : outside (set held place (in_pile h to)) + cond (is_counted to) 1 0 ≡ outside held + cond (is_counted h.pile) 1 0
   outside_moved = omega (arith, sum_by-set (λ p. cond (not (is_counted p.pile)) 1 0) held place (in_pile h to) h within, ap (λ (p : Held). cond (not (is_counted p.pile)) (suc zero) zero) read, not_counts (is_counted h.pile), not_counts (is_counted to))

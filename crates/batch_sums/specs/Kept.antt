@@ -1,16 +1,17 @@
 -- What is kept of the packs, and what always holds of it.
-use Rattle.std.specs.Prelude.{◌≡◌, ℕ, ℤ, pos, ◌+◌, ◌<◌, ◌≤◌, ◌≤ℤ◌, Bool, not, ◌&&◌, ◌==◌, nat_le, List, length, map, count_by, Option, Some, option_map, if◌then◌else◌}
+use Rattle.std.specs.Prelude.{◌≡◌, ℕ, ℤ, pos, ◌+◌, ◌<◌, ◌≤◌, ◌≤ℤ◌, Bool, not, ◌&&◌, ◌==◌, nat_le, List, [], ◌∷◌, ◌++◌, length, map, count_by, Option, Some, option_map, if◌then◌else◌}
 use Rattle.std.specs.List.{All, sum_by, slice_get}
 use Rattle.annex_tables.specs.declared.types.Limits.{Limits}
 use Rattle.hall_limits.specs.declared.TheConstants.{MAX_GROSS, MAX_TARE, MAX_DAY}
 use Rattle.pack_judge.specs.declared.types.Pile.{Pile}
 use Rattle.batch_sums.specs.declared.batch.Batch.{Batch}
 use Rattle.batch_sums.specs.declared.group.Group.{Group}
+use Rattle.batch_sums.specs.declared.group.Key.{Key}
 use Rattle.batch_sums.specs.declared.types.Held.{Held}
 use Rattle.batch_sums.specs.Rising.{IsRising, mass_of}
 use Rattle.batch_sums.specs.Totals.{Pack, Terms, same_pile, is_counted, totals_of}
 use Rattle.batch_sums.specs.declared.types.Totals.{Totals}
-use Rattle.batch_sums.specs.Groups.{Face, face_at, faces, rank_at, threshold, IsJudged}
+use Rattle.batch_sums.specs.Groups.{Face, face_of, face_at, faces, rank_at, threshold, IsJudged}
 use Rattle.batch_sums.specs.Running.{pile_sum, count_at}
 
 -- what contracts see: the batches and the packs in the order in which they were added, and how many more are sure to find room
@@ -78,7 +79,6 @@ pub record IsGroup (batches : List Batch) (held : List Held) (place : ℕ) (grou
 
 -- a key's numbers are within their ranges
 pub record IsKey (face : Face) : Type 0 where
-  pub product : face.key.product < 4294967296
   pub day : pos face.key.day ≤ℤ MAX_DAY
   pub batch : face.key.batch < 4294967296
 
@@ -98,3 +98,17 @@ pub record IsIndex (some : List Face) (order : List ℕ) : Type 0 where
   pub distinct : (rank : ℕ) → count_by (λ place. rank_at some place == rank) order ≤ 1
   pub keys : (place : ℕ) → place < length some → IsKey (face_at some place)
   pub long : length order ≡ length some
+
+-- the group at a place has a key
+abbrev pub HasKey : List Group → ℕ → Key → Type 0
+HasKey groups place key = (group : Group) × (slice_get groups place ≡ Some group) × (group.key ≡ key)
+
+-- a group without packs was put behind the others
+pub record IsOpened (old new : List Group) (place : ℕ) (key : Key) (tare : ℕ) : Type 0 where
+  pub group : Group
+  pub place_is : place ≡ length old
+  pub is : new ≡ old ++ group ∷ []
+  pub face : face_of group ≡ record { key = key; tare = tare }
+  pub grosses : group.grosses ≡ []
+  pub nonstandard : group.nonstandard ≡ 0
+  pub inadequate : group.inadequate ≡ 0

@@ -38,7 +38,8 @@ impl Key {
 
     /// Whether this key is the same as another.
     pub fn is_same(&self, other: &Key) -> bool
-        ensures { result ≡ (rank_of self.now == rank_of other.now) }
+        ensures rank { result ≡ (rank_of self.now == rank_of other.now) }
+        ensures same { result ≡ true → self.now ≡ other.now }
     {
         let (mine, its) = (*self, *other);
         mine.product == its.product && mine.day == its.day && mine.batch == its.batch

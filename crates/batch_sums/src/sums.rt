@@ -1,4 +1,5 @@
-ghost use Rattle.std.specs.Prelude.{◌≡◌, ℕ, pos, Some, IsTrue, nat_le, nat_lt, ◌&&◌, ◌≤ℤ◌, ◌+◌, ◌<◌, ◌≤◌, vec_len, vec_capacity, [], ◌∷◌, ◌++◌, length, IsOk, IfOk, OnOk, OnErr};
+ghost use Rattle.std.specs.Prelude.{◌≡◌, ℕ, pos, Some, IsTrue, false, nat_le, nat_lt, ◌&&◌, ◌≤ℤ◌, ◌+◌, ◌<◌, ◌≤◌, vec_len, vec_capacity, [], ◌∷◌, ◌++◌, length, IsOk, IfOk, OnOk, OnErr};
+ghost use Rattle.std.specs.List.{All};
 ghost use Rattle.std.specs.Int.Signed.{le_z, lt_z};
 ghost use Rattle.tare_register.specs.Tares.{covers};
 ghost use Rattle.indexmap.specs.IndexSet.{spare};
@@ -14,7 +15,7 @@ use crate::steps::Steps;
 use crate::types::{Held, NoMemory, Totals};
 use annex_tables::Limits;
 use balanced_tree::{Node, Tree};
-use hall_limits::MAX_DAY;
+use hall_limits::{MAX_DAY, MAX_GROSS, MAX_TARE};
 use indexmap::IndexSet;
 use pack_judge::Pile;
 use std::alloc::{AllocError, Global};
@@ -115,29 +116,56 @@ impl BatchSums {
         Ok(())
     }
 
-    pub fn add(&mut self, batch: u32, pack: u32, day: i32, gross: i64, tare: i64, pile: Pile) -> Result<(), NoMemory> {
+    /// Adds a pack of a batch, with its number, its day since 1970-01-01, its gross and the tare of its batch and day in mg,
+    /// and the pile that it lies in.
+    ///
+    /// It is refused only for want of memory, and never while a place is reserved.
+    pub fn add(&mut self, batch: u32, pack: u32, day: i32, gross: i64, tare: i64, pile: Pile) -> Result<(), NoMemory>
+        requires batch { batch < length self.old.batches }
+        requires new { is_added self.old.packs pack ≡ false }
+        requires day { (pos 0 ≤ℤ day) × (day ≤ℤ MAX_DAY) }
+        requires gross { (pos 0 ≤ℤ gross) × (gross ≤ℤ MAX_GROSS) }
+        requires tare { (pos 0 ≤ℤ tare) × (tare ≤ℤ MAX_TARE) }
+        requires same_tare { All (λ other. other.batch ≡ batch → other.day ≡ day → other.tare ≡ tare) self.old.packs }
+        ensures ok { OnOk result (self.new.packs ≡ self.old.packs ++ record { number = pack; batch = batch; day = day; gross = gross; tare = tare; pile = pile } ∷ []) }
+        ensures err { OnErr result (self.new.packs ≡ self.old.packs) }
+        ensures batches { self.new.batches ≡ self.old.batches }
+        ensures room { 0 < self.old.spare → IsOk result }
+        ensures spare { self.old.spare ≤ self.new.spare + 1 }
+    {
         self.reserve(1)?;
-        let key = Key {
-            product: self.batches[batch as usize].product,
-            day: day as u32,
-            batch,
+        self.put(batch, pack, day as u32, gross as u32, tare as u32, pile);
+        Ok(())
+    }
+
+    // Adds a pack for which a place is reserved.
+    fn put(&mut self, batch: u32, pack: u32, day: u32, gross: u32, tare: u32, pile: Pile)
+        requires room { 0 < self.old.spare }
+        requires batch { batch < length self.old.batches }
+        requires new { is_added self.old.packs pack ≡ false }
+        requires day { pos day ≤ℤ MAX_DAY }
+        requires gross { pos gross ≤ℤ MAX_GROSS }
+        requires tare { pos tare ≤ℤ MAX_TARE }
+        requires same_tare { All (λ other. other.batch ≡ batch → other.day ≡ pos day → other.tare ≡ pos tare) self.old.packs }
+        ensures packs { self.new.packs ≡ self.old.packs ++ record { number = pack; batch = batch; day = pos day; gross = pos gross; tare = pos tare; pile = pile } ∷ [] }
+        ensures batches { self.new.batches ≡ self.old.batches }
+        ensures spare { self.new.spare + 1 ≡ self.old.spare }
+    {
+        let product = self.batches[batch as usize].product;
+        let key = Key { product, day, batch };
+        let group = find_or_open(&mut self.groups, &mut self.order, &mut self.order_nodes, key, tare);
+        let held = Held { number: pack, group, gross, pile };
+        let Ok(_) = self.numbers.insert(pack) else {
+            unreachable!()
         };
-        let group = find_or_open(&mut self.groups, &mut self.order, &mut self.order_nodes, key, tare as u32);
-        let held = Held {
-            number: pack,
-            group,
-            gross: gross as u32,
-            pile,
-        };
-        let (Ok(_), Ok(())) = (self.numbers.insert(pack), self.packs.push(held)) else {
+        let Ok(()) = self.packs.push(held) else {
             unreachable!()
         };
         let batch = &mut self.batches[batch as usize];
         let group = &mut self.groups[group as usize];
-        batch.enter(pile, held.gross, group.tare);
-        group.enter(&batch.limits, pile, held.gross, &mut self.gross_nodes);
+        batch.enter(pile, gross, tare);
+        group.enter(&batch.limits, pile, gross, &mut self.gross_nodes);
         self.spare -= 1;
-        Ok(())
     }
 
     /// Moves a pack to a pile; it may move between any two. It takes no memory.
