@@ -13,3 +13,4 @@ pub mod Numbers
 pub mod Opening
 pub mod Putting
 pub mod Readying
+pub mod Correcting

@@ -2,7 +2,7 @@
 use Rattle.std.proofs.Common.{◌≡◌, ℕ, zero, suc, ◌+◌, ◌*◌, ◌<◌, ◌≤◌, Bool, true, false, cond, ◌&&◌, eqb, ◌⊎◌, inl, inr, List, [], ◌∷◌, ◌++◌, length, map, get_or, set, Option, None, Some, refl, ap, sym, subst, ◌∙◌, arith, length-set, length-append}
 use Rattle.std.specs.Prelude.{ℤ, pos, ◌≤ℤ◌}
 use Rattle.std.specs.List.{sum_by, count_by, All, slice_get, remove}
-use Rattle.std.proofs.lemmas.Bool.{eq-eqb, ne_eqb}
+use Rattle.std.proofs.lemmas.Bool.{cases_eq, eq-eqb, ne_eqb}
 use Rattle.std.proofs.lemmas.List.{map-set, length-map}
 use Rattle.std.proofs.lemmas.List.Elements.{All-set, All-take, All-drop, All-append}
 use Rattle.std.proofs.lemmas.List.Sums.{sum_by-le, count_by-le-length}
@@ -39,9 +39,6 @@ set_same [] i x is = refl
 set_same (y ∷ xs) zero x is = ap (λ z. z ∷ xs) (sym (same_Some y x is))
 set_same (y ∷ xs) (suc i) x is = ap (λ zs. y ∷ zs) (set_same xs i x is)
 
-cases_same : (i j : ℕ) → (i ≡ j) ⊎ (i ≡ j → ⊥)
-cases_same i j = Rattle.std.proofs.lemmas.Bool.cases_eq i j
-
 pub face-found : (groups : List Group) (place : ℕ) (group : Group) → slice_get groups place ≡ Some group → face_at (faces groups) place ≡ face_of group
 face-found groups place group is =
     face-at groups place group (slice_get_within groups place group is) ∙ ap face_of (Rattle.std.proofs.lemmas.Option.get_or_from_slice_get groups place group group is)
@@ -73,24 +70,21 @@ module _ (batches : List Batch) (groups : List Group) (held : List Held) (sound 
   -- one batch, one group and the packs change
   module _ (place : ℕ) (group after : Group) (batch new : Batch) (packs : List Held)
       (at_group : slice_get groups place ≡ Some group) (at_batch : slice_get batches group.key.batch ≡ Some batch)
-      (face : face_of after ≡ face_of group) (product : new.product ≡ batch.product) (limits : new.limits ≡ batch.limits) (judged : IsJudged new.limits after)
+      (key : after.key ≡ group.key) (tare : pos after.tare ≤ℤ MAX_TARE) (product : new.product ≡ batch.product) (limits : new.limits ≡ batch.limits) (judged : IsJudged new.limits after)
       (grouped : All (λ h. h.group < length groups) packs) (light : All (λ h. pos h.gross ≤ℤ MAX_GROSS) packs) (few : length packs < 4294967296)
-      (own : AddsUp (faces groups) packs group.key.batch new)
-      (others : (number : ℕ) (other : Batch) → (number ≡ group.key.batch → ⊥) → AddsUp (faces groups) held number other → AddsUp (faces groups) packs number other)
+      (own : AddsUp (faces (set groups place after)) packs group.key.batch new)
+      (others : (number : ℕ) (other : Batch) → (number ≡ group.key.batch → ⊥) → AddsUp (faces groups) held number other → AddsUp (faces (set groups place after)) packs number other)
       (grosses : HasGrosses place packs after.grosses)
       (rest : (other : ℕ) (some : List Gross) → (other ≡ place → ⊥) → HasGrosses other held some → HasGrosses other packs some) where
-    same_faces : faces (set groups place after) ≡ faces groups
-    same_faces = faces-set groups place group after at_group face
-
     there : group.key.batch < length batches
     there = slice_get_within batches group.key.batch batch at_batch
 
-    sums_after : (number : ℕ) (other : Batch) → slice_get (set batches group.key.batch new) number ≡ Some other → AddsUp (faces groups) packs number other
+    sums_after : (number : ℕ) (other : Batch) → slice_get (set batches group.key.batch new) number ≡ Some other → AddsUp (faces (set groups place after)) packs number other
     sums_after number other is =
-        elim (cases_same number group.key.batch) [
+        elim (cases_eq number group.key.batch) [
           | inl same ↦
             let e : new ≡ other = same_Some new other (sym (get-set_same batches group.key.batch new there) ∙ ap (λ n. slice_get (set batches group.key.batch new) n) (sym same) ∙ is) in
-            subst (λ n. AddsUp (faces groups) packs n other) (sym same) (subst (λ b. AddsUp (faces groups) packs group.key.batch b) e own)
+            subst (λ n. AddsUp (faces (set groups place after)) packs n other) (sym same) (subst (λ b. AddsUp (faces (set groups place after)) packs group.key.batch b) e own)
           | inr differs ↦
             let before = sym (get-set_other batches group.key.batch number new differs) ∙ is in
             others number other differs (sound.batch number other before)
@@ -99,7 +93,7 @@ module _ (batches : List Batch) (groups : List Group) (held : List Held) (sound 
     -- the batch of a group that was judged by a batch before
     batch_after : (number : ℕ) (old : Batch) → slice_get batches number ≡ Some old → (b : Batch) × (slice_get (set batches group.key.batch new) number ≡ Some b) × (b.product ≡ old.product) × (b.limits ≡ old.limits)
     batch_after number old is =
-        elim (cases_same number group.key.batch) [
+        elim (cases_eq number group.key.batch) [
           | inl same ↦
             let e : batch ≡ old = same_Some batch old (sym at_batch ∙ ap (λ n. slice_get batches n) (sym same) ∙ is) in
             (new, ap (λ n. slice_get (set batches group.key.batch new) n) same ∙ get-set_same batches group.key.batch new there, product ∙ ap (λ (b : Batch). b.product) e, limits ∙ ap (λ (b : Batch). b.limits) e)
@@ -108,19 +102,18 @@ module _ (batches : List Batch) (groups : List Group) (held : List Held) (sound 
 
     group_after : (other : ℕ) (some : Group) → slice_get (set groups place after) other ≡ Some some → IsGroup (set batches group.key.batch new) packs other some
     group_after other some is =
-        elim (cases_same other place) [
+        elim (cases_eq other place) [
           | inl same ↦
             let old = sound.group place group at_group in
             let within = slice_get_within groups place group at_group in
             let e : after ≡ some = same_Some after some (sym (get-set_same groups place after within) ∙ ap (λ n. slice_get (set groups place after) n) (sym same) ∙ is) in
-            let key : after.key ≡ group.key = ap (λ (f : Face). f.key) face in
             let own_after : IsGroup (set batches group.key.batch new) packs place after =
               record {
                 batch = new;
                 is = ap (λ n. slice_get (set batches group.key.batch new) n) (ap (λ k. k.batch) key) ∙ get-set_same batches group.key.batch new there;
                 product = product ∙ ap (λ (b : Batch). b.product) (same_Some batch old.batch (sym at_batch ∙ old.is)) ∙ old.product ∙ sym (ap (λ k. k.product) key);
                 judged = judged;
-                tare = subst (λ t. pos t ≤ℤ MAX_TARE) (sym (ap (λ (f : Face). f.tare) face)) old.tare;
+                tare = tare;
                 grosses = grosses;
               } in
             subst (λ n. IsGroup (set batches group.key.batch new) packs n some) (sym same) (subst (λ g. IsGroup (set batches group.key.batch new) packs place g) e own_after)
@@ -138,12 +131,29 @@ module _ (batches : List Batch) (groups : List Group) (held : List Held) (sound 
             }
         ]
 
-    pub sound_after : Sound (set batches group.key.batch new) (set groups place after) packs
-    sound_after =
+    pub sound_changed : Sound (set batches group.key.batch new) (set groups place after) packs
+    sound_changed =
         record {
           group = group_after;
-          batch = λ number other is. subst (λ fs. AddsUp fs packs number other) (sym same_faces) (sums_after number other is);
+          batch = sums_after;
           grouped = subst (λ n. All (λ h. h.group < n) packs) (sym (length-set groups place after)) grouped;
           light = light;
           few = few;
         }
+
+  -- the same where the group keeps its face
+  module _ (place : ℕ) (group after : Group) (batch new : Batch) (packs : List Held)
+      (at_group : slice_get groups place ≡ Some group) (at_batch : slice_get batches group.key.batch ≡ Some batch)
+      (face : face_of after ≡ face_of group) (product : new.product ≡ batch.product) (limits : new.limits ≡ batch.limits) (judged : IsJudged new.limits after)
+      (grouped : All (λ h. h.group < length groups) packs) (light : All (λ h. pos h.gross ≤ℤ MAX_GROSS) packs) (few : length packs < 4294967296)
+      (own : AddsUp (faces groups) packs group.key.batch new)
+      (others : (number : ℕ) (other : Batch) → (number ≡ group.key.batch → ⊥) → AddsUp (faces groups) held number other → AddsUp (faces groups) packs number other)
+      (grosses : HasGrosses place packs after.grosses)
+      (rest : (other : ℕ) (some : List Gross) → (other ≡ place → ⊥) → HasGrosses other held some → HasGrosses other packs some) where
+    pub sound_after : Sound (set batches group.key.batch new) (set groups place after) packs
+    sound_after =
+        let same = sym (faces-set groups place group after at_group face) in
+        sound_changed place group after batch new packs at_group at_batch (ap (λ (f : Face). f.key) face)
+          (subst (λ t. pos t ≤ℤ MAX_TARE) (sym (ap (λ (f : Face). f.tare) face)) (sound.group place group at_group).tare) product limits judged grouped light few
+          (subst (λ fs. AddsUp fs packs group.key.batch new) same own)
+          (λ number other differs sums. subst (λ fs. AddsUp fs packs number other) same (others number other differs sums)) grosses rest
