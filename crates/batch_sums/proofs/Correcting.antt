@@ -165,7 +165,7 @@ module _ (batches : List Batch) (groups : List Group) (held : List Held) (sound 
   pub judged_group : IsJudged batch.limits group
   judged_group = subst (λ (b : Batch). IsJudged b.limits group) (same_Some kept.batch batch (sym kept.is ∙ home)) kept.judged
 
-  members : length group.grosses ≡ count_by (is_member place (λ mass. true)) held
+  pub members : length group.grosses ≡ count_by (is_member place (λ mass. true)) held
   members = sym (count_by-all group.grosses) ∙ kept.grosses (λ mass. true)
 
   face_is : (h : Held) → h.group ≡ place → face_at (faces groups) h.group ≡ face_of group

@@ -14,3 +14,8 @@ pub mod Opening
 pub mod Putting
 pub mod Readying
 pub mod Correcting
+pub mod Ranging
+pub mod Grouping
+pub mod Underway
+pub mod Finishing
+pub mod Keeping

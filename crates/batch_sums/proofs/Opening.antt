@@ -16,12 +16,12 @@ use Rattle.batch_sums.proofs.Rising.{below, below-le-length, IsRising-insert, fo
 use Rattle.batch_sums.proofs.Adding.{sum_by-agree}
 
 -- ranks that agree on all items
-AtLeast-agree : {T : Type 0} (r s : T → ℕ) (low : ℕ) (xs : List T) → All (λ x. r x ≡ s x) xs → AtLeast r low xs → AtLeast s low xs
+pub AtLeast-agree : {T : Type 0} (r s : T → ℕ) (low : ℕ) (xs : List T) → All (λ x. r x ≡ s x) xs → AtLeast r low xs → AtLeast s low xs
 AtLeast-agree r s low [] same all = tt
 AtLeast-agree r s low (x ∷ xs) same all =
     (omega (arith, all.0, All-head (λ y. r y ≡ s y) x xs same), AtLeast-agree r s low xs (All-tail (λ y. r y ≡ s y) x xs same) all.1)
 
-IsRising-agree : {T : Type 0} (r s : T → ℕ) (xs : List T) → All (λ x. r x ≡ s x) xs → IsRising r xs → IsRising s xs
+pub IsRising-agree : {T : Type 0} (r s : T → ℕ) (xs : List T) → All (λ x. r x ≡ s x) xs → IsRising r xs → IsRising s xs
 IsRising-agree r s [] same up = tt
 IsRising-agree r s (x ∷ xs) same up =
     let rest = All-tail (λ y. r y ≡ s y) x xs same in

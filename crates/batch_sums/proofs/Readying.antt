@@ -38,7 +38,7 @@ pub record IsReady (batches : List Batch) (groups : List Group) (held : List Hel
   pub long : length after ≤ length groups + 1
 
 -- one of those that are counted
-exists_by : (group : ℕ) (held : List Held) → 0 < count_by (λ pack. eqb pack.group group) held → (k : ℕ) × (k < length held) × ((d : Held) → (get_or held k d).group ≡ group)
+pub exists_by : (group : ℕ) (held : List Held) → 0 < count_by (λ pack. eqb pack.group group) held → (k : ℕ) × (k < length held) × ((d : Held) → (get_or held k d).group ≡ group)
 exists_by group [] some = absurd (omega arith)
 exists_by group (h ∷ held) some =
     elim (cases_eq h.group group) [

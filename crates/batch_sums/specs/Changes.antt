@@ -1,8 +1,9 @@
 -- What the three changing calls make of the list of packs.
-use Rattle.std.specs.Prelude.{◌≡◌, ℕ, ℤ, ◌+◌, Bool, true, false, ◌&&◌, ◌==◌, List, [], ◌∷◌, length, map, filter, count_by, if◌then◌else◌}
+use Rattle.std.specs.Prelude.{◌≡◌, ℕ, ℤ, ◌+◌, ◌≤◌, Bool, true, false, ◌&&◌, ◌==◌, List, [], ◌∷◌, length, map, filter, count_by, if◌then◌else◌}
 use Rattle.std.specs.Ordering.{int_eq}
 use Rattle.std.specs.List.{list_any, slice_get}
 use Rattle.std.specs.Option.{option_map_or}
+use Rattle.hall_limits.specs.declared.TheConstants.{MAX_POPULATION}
 use Rattle.pack_judge.specs.declared.types.Pile.{Pile}
 use Rattle.tare_register.specs.declared.types.Span.{Span}
 use Rattle.tare_register.specs.Tares.{covers}
@@ -38,3 +39,11 @@ group_count (pack ∷ packs) = if list_any (same_group pack) packs then group_co
 -- how many packs of the population lie in the group of a batch and day
 abbrev pub group_population : ℕ → ℤ → List Pack → ℕ
 group_population batch day packs = count_by (λ pack. ((pack.batch == batch) && int_eq pack.day day) && is_counted pack.pile) packs
+
+-- those of some packs that belong to a product, on the days of a span
+abbrev pub concerned : List Terms → ℕ → Span → List Pack → List Pack
+concerned batches product span packs = filter (is_concerned batches product span) packs
+
+-- no group has more packs in its population than a batch may have
+abbrev pub HasFewPerGroup : List Pack → Type 0
+HasFewPerGroup packs = (batch : ℕ) (day : ℤ) → group_population batch day packs ≤ MAX_POPULATION

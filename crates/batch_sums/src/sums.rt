@@ -1,10 +1,10 @@
-ghost use Rattle.std.specs.Prelude.{◌≡◌, ℕ, pos, Some, IsTrue, false, nat_le, nat_lt, ◌&&◌, ◌≤ℤ◌, ◌+◌, ◌<◌, ◌≤◌, vec_len, vec_capacity, [], ◌∷◌, ◌++◌, length, IsOk, IfOk, OnOk, OnErr};
+ghost use Rattle.std.specs.Prelude.{◌≡◌, ℕ, pos, ◌*◌, Some, IsTrue, false, nat_le, nat_lt, ◌&&◌, ◌≤ℤ◌, ◌+◌, ◌^◌, ◌<◌, ◌≤◌, vec_len, vec_capacity, [], ◌∷◌, ◌++◌, length, IsOk, IfOk, OnOk, OnErr};
 ghost use Rattle.std.specs.List.{All};
 ghost use Rattle.std.specs.Int.Signed.{le_z, lt_z};
 ghost use Rattle.tare_register.specs.Tares.{covers};
 ghost use Rattle.indexmap.specs.IndexSet.{spare};
 ghost use Rattle.batch_sums.specs.Kept.{totals_in};
-ghost use Rattle.batch_sums.specs.Changes.{is_added, moved};
+ghost use Rattle.batch_sums.specs.Changes.{is_added, moved, corrected, concerned, group_count, HasFewPerGroup};
 ghost use Rattle.batch_sums.specs.Invariant.{HasGrown};
 
 use crate::batch::Batch;
@@ -48,7 +48,7 @@ impl Model for BatchSums {
 
     ghost use Rattle.batch_sums.specs.Groups.{faces};
     ghost use Rattle.batch_sums.specs.Kept.{seen, terms_of};
-    ghost use Rattle.batch_sums.specs.Changes.{is_added, moved};
+    ghost use Rattle.batch_sums.specs.Changes.{is_added, moved, corrected, concerned, group_count, HasFewPerGroup};
 ghost use Rattle.batch_sums.specs.Invariant.{IsKept};
 
     ghost view = { λ s. record { batches = map terms_of s.batches.items; packs = map (seen (faces s.groups.items)) s.packs.items; spare = s.spare } };
@@ -188,17 +188,27 @@ impl BatchSums {
         self.packs[place] = Held { pile: to, ..held };
     }
 
-    pub fn rejudge<L: Ledger>(&mut self, product: u32, span: Span, tare: i64, steps: &mut Steps<L>) {
+    /// The packs of a product on the days of a span have this tare in mg from now on. It takes no memory, and for each
+    /// group of these packs, those of one batch and day, at most 40 steps where no group has more than 10 000 packs in its
+    /// population.
+    pub fn rejudge<L: Ledger>(&mut self, product: u32, span: Span, tare: i64, steps: &mut Steps<L>)
+        requires tare { (pos 0 ≤ℤ tare) × (tare ≤ℤ MAX_TARE) }
+        ensures packs { self.new.packs ≡ corrected self.old.batches product span tare self.old.packs }
+        ensures batches { self.new.batches ≡ self.old.batches }
+        ensures spare { self.new.spare ≡ self.old.spare }
+        ensures cost { HasFewPerGroup self.old.packs → steps.new ≤ steps.old + 40 * group_count (concerned self.old.batches product span self.old.packs) }
+    {
         let days = days_of(&span);
         let first = place_of(&self.order, &self.groups, &Key { product, day: days.from, batch: 0 });
-        let end = place_of(&self.order, &self.groups, &Key { product, day: days.until, batch: 0 });
+        let end = place_of(&self.order, &self.groups, &Key { product, day: days.until, batch: 0 }).max(first);
+        let tare = tare as u32;
         for place in first..end {
             let Some(group) = self.order.get(place) else {
                 unreachable!()
             };
             let group = &mut self.groups[group as usize];
             let batch = &mut self.batches[group.key.batch as usize];
-            batch.correct(group, tare as u32, steps);
+            batch.correct(group, tare, steps);
         }
     }
 
@@ -280,7 +290,8 @@ struct Days {
 }
 
 fn days_of(span: &Span) -> Days
-    ensures { (day : ℕ) → pos day ≤ℤ MAX_DAY → covers span.now (pos day) ≡ (nat_le result.from day && nat_lt day result.until) }
+    ensures small { (result.from < 2 ^ 32) × (result.until < 2 ^ 32) }
+    ensures covers { (day : ℕ) → pos day ≤ℤ MAX_DAY → covers span.now (pos day) ≡ (nat_le result.from day && nat_lt day result.until) }
 {
     let until = match span.until {
         None => MAX_DAY as u32 + 1,
