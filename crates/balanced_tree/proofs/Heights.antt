@@ -1,7 +1,7 @@
 -- How high a balanced tree of so many items is at most.
-use Rattle.std.proofs.Common.{◌≡◌, ℕ, zero, suc, ◌+◌, ◌-◌, ◌<◌, ◌≤◌, ◌^◌, max, ◌⊎◌, inl, inr, List, ◌∷◌, ◌++◌, length, refl, arith, length-append, lit<, lit≤}
+use Rattle.std.proofs.Common.{◌≡◌, ℕ, zero, suc, ◌+◌, ◌<◌, ◌≤◌, ◌^◌, inl, inr, ◌∷◌, length, refl, arith, length-append, lit<, lit≤}
 use Rattle.std.proofs.lemmas.Bool.{cases_lt}
-use Rattle.balanced_tree.specs.Trees.{items, height_of, count_of, IsBalanced, DifferByAtMost, next_fewest, fewest_from, fewest_items}
+use Rattle.balanced_tree.specs.Trees.{items, height_of, count_of, IsBalanced, fewest_items}
 use Rattle.balanced_tree.specs.declared.tree.Tree.{Tree}
 use Rattle.balanced_tree.specs.declared.tree.Tree.TheVariants.{Leaf, Fork'}
 

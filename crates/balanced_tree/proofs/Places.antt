@@ -1,8 +1,7 @@
 -- An edit of a list that is a left side, an item and a right side.
-use Rattle.std.proofs.Common.{◌≡◌, ℕ, zero, suc, ◌+◌, ◌-◌, ◌<◌, ◌≤◌, List, [], ◌∷◌, ◌++◌, length, Option, Some, refl, ap, sym, ◌∙◌, arith, length-append, length-take, length-drop}
+use Rattle.std.proofs.Common.{◌≡◌, ℕ, zero, suc, ◌+◌, ◌-◌, ◌<◌, ◌≤◌, List, [], ◌∷◌, ◌++◌, length, Some, refl, ap, sym, ◌∙◌, arith, length-append, length-take, length-drop}
 use Rattle.std.specs.List.{insert, remove, slice_get}
 use Rattle.std.proofs.lemmas.List.Edits.{insert-append_left, insert-append_right, remove-append_left, remove-append_right}
-use Rattle.balanced_tree.specs.Trees.{items, IsBalanced}
 use Rattle.balanced_tree.proofs.Heights.{count_is}
 
 pub insert_left : {T : Type 0} (l : List T) (x : T) (r : List T) (place : ℕ) (y : T) → place ≤ length l → insert (l ++ x ∷ r) place y ≡ insert l place y ++ x ∷ r

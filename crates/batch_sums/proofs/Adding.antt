@@ -1,6 +1,6 @@
 -- Sums over packs: of lists that agree, of a list that is mapped, and of the packs of a batch.
-use Rattle.std.proofs.Common.{◌≡◌, ℕ, ◌+◌, ◌<◌, ◌≤◌, Bool, true, false, cond, ◌&&◌, eqb, ltb, List, [], ◌∷◌, ◌++◌, length, map, filter, get_or, refl, ap, sym, ◌∙◌, arith}
-use Rattle.std.specs.Prelude.{ℤ, pos, negsuc, ◌+ℤ◌, ◌-ℤ◌, ◌≤ℤ◌, int_lt}
+use Rattle.std.proofs.Common.{◌≡◌, ℕ, ◌+◌, ◌≤◌, Bool, true, false, cond, ◌&&◌, ltb, List, [], ◌∷◌, length, map, filter, refl, ap, sym, ◌∙◌, arith}
+use Rattle.std.specs.Prelude.{ℤ, pos, negsuc, ◌-ℤ◌, ◌≤ℤ◌, int_lt}
 use Rattle.hall_limits.specs.declared.TheConstants.{MAX_GROSS, MAX_TARE}
 use Rattle.std.specs.List.{sum_by, count_by, All}
 use Rattle.std.proofs.lemmas.List.Sums.{sum_by-cons}
@@ -133,6 +133,7 @@ module _ (some : List Face) (number : ℕ) where
       let one = counted_is h in
       let most : counted_in h ≤ 1 = counted_le h in
       omega (arith, counted_sum held, one, most, sum_by-cons (count_in some number Passed) h held, sum_by-cons (count_in some number Sampled) h held)
+
   net_members : (held : List Held) → net_sum (members held) ≡ pos (sum_by weighed_in held) -ℤ pos (sum_by (tare_in some number) held)
   net_members [] = omega (arith, ints)
   net_members (h ∷ held) =
@@ -143,7 +144,7 @@ module _ (some : List Face) (number : ℕ) where
   net_population held =
       net_members held
       ∙ ap (λ n. pos n -ℤ pos (sum_by (tare_in some number) held))
-          (sum_by-same weighed_in (λ h. gross_in some number Passed h + gross_in some number Sampled h) held weighed_is ∙ sum_by-plus (gross_in some number Passed) (gross_in some number Sampled) held)
+      (sum_by-same weighed_in (λ h. gross_in some number Passed h + gross_in some number Sampled h) held weighed_is ∙ sum_by-plus (gross_in some number Passed) (gross_in some number Sampled) held)
 
   -- a limit as a test of grosses: how many of the population have a net below it
   pub below_population : (limit : ℤ) (held : List Held) → All (λ h. pos h.gross ≤ℤ MAX_GROSS) held → All (λ h. pos (face_at some h.group).tare ≤ℤ MAX_TARE) held
@@ -151,6 +152,6 @@ module _ (some : List Face) (number : ℕ) where
   below_population limit [] light tared = refl
   below_population limit (h ∷ held) light tared =
       count_more (λ pack. is_counted pack.pile) (λ pack. int_lt (net_of pack) limit) (seen some h) (of_batch number (map (seen some) held)) (belongs some number h) (ltb h.gross (threshold limit (face_at some h.group).tare)) _
-        (sym (at_threshold limit h.gross (face_at some h.group).tare (All-head (λ g. pos g.gross ≤ℤ MAX_GROSS) h held light) (All-head (λ g. pos (face_at some g.group).tare ≤ℤ MAX_TARE) h held tared)))
-        (below_population limit held (All-tail (λ g. pos g.gross ≤ℤ MAX_GROSS) h held light) (All-tail (λ g. pos (face_at some g.group).tare ≤ℤ MAX_TARE) h held tared))
+      (sym (at_threshold limit h.gross (face_at some h.group).tare (All-head (λ g. pos g.gross ≤ℤ MAX_GROSS) h held light) (All-head (λ g. pos (face_at some g.group).tare ≤ℤ MAX_TARE) h held tared)))
+      (below_population limit held (All-tail (λ g. pos g.gross ≤ℤ MAX_GROSS) h held light) (All-tail (λ g. pos (face_at some g.group).tare ≤ℤ MAX_TARE) h held tared))
       ∙ sym (sum_by-cons (below_in some number limit) h held)

@@ -1,20 +1,19 @@
 -- A group gets another tare: what that does to the sums of its batch.
-use Rattle.std.proofs.Common.{◌≡◌, ℕ, zero, suc, ◌+◌, ◌*◌, ◌<◌, ◌≤◌, Bool, true, false, cond, ◌&&◌, eqb, ltb, inl, inr, List, [], ◌∷◌, length, map, get_or, set, Option, Some, refl, ap, sym, subst, ◌∙◌, arith, length-set}
+use Rattle.std.proofs.Common.{◌≡◌, ℕ, zero, suc, ◌+◌, ◌*◌, ◌<◌, ◌≤◌, Bool, true, false, cond, ◌&&◌, eqb, ltb, inl, inr, List, [], ◌∷◌, length, set, Some, refl, ap, sym, subst, ◌∙◌, arith}
 use Rattle.std.specs.Prelude.{ℤ, pos, ◌≤ℤ◌}
-use Rattle.std.specs.List.{sum_by, count_by, All, slice_get}
+use Rattle.std.specs.List.{sum_by, count_by, slice_get}
 use Rattle.std.proofs.lemmas.Bool.{cases_eq, eq-eqb, ne_eqb}
 use Rattle.std.proofs.lemmas.List.{map-set, get_or-set_same, get_or-set_other, length-map}
 use Rattle.std.proofs.lemmas.List.Sums.{sum_by-cons, sum_by-le-sum_by, count_by-le-length}
 use Rattle.std.proofs.lemmas.Option.{slice_get_within, same_Some}
-use Rattle.hall_limits.specs.declared.TheConstants.{MAX_GROSS, MAX_TARE}
+use Rattle.hall_limits.specs.declared.TheConstants.{MAX_TARE}
 use Rattle.batch_sums.specs.declared.batch.Batch.{Batch}
-use Rattle.batch_sums.specs.declared.grosses.Gross.{Gross}
 use Rattle.batch_sums.specs.declared.group.Group.{Group}
 use Rattle.batch_sums.specs.declared.types.Held.{Held}
 use Rattle.batch_sums.specs.Totals.{is_counted, same_pile}
 use Rattle.batch_sums.specs.Rising.{mass_of}
 use Rattle.batch_sums.specs.Groups.{Face, face_of, faces, face_at, no_face, threshold, IsJudged}
-use Rattle.batch_sums.specs.Running.{pile_sum, count_at, HasShare, IsCorrected}
+use Rattle.batch_sums.specs.Running.{count_at, HasShare, IsCorrected}
 use Rattle.batch_sums.specs.Kept.{AddsUp, Sound, IsGroup, belongs, is_member, count_in, gross_in, tare_in, below_in}
 use Rattle.batch_sums.proofs.Adding.{sum_by-same, sum_by-plus}
 use Rattle.batch_sums.proofs.Entering.{count_by-all}
@@ -89,17 +88,17 @@ module _ (groups : List Group) (place : ℕ) (group after : Group) (at : slice_g
     tare_moves h =
         elim (cases_eq h.group place) [
           | inl same ↦
-            let mine : belongs (faces groups) group.key.batch h ≡ true = eq-eqb _ _ (ap (λ (f : Face). f.key.batch) (ap (face_at (faces groups)) same ∙ face-found groups place group at)) in
-            let before : tare_in (faces groups) group.key.batch h ≡ cond (is_counted h.pile) group.tare 0 =
+              let mine : belongs (faces groups) group.key.batch h ≡ true = eq-eqb _ _ (ap (λ (f : Face). f.key.batch) (ap (face_at (faces groups)) same ∙ face-found groups place group at)) in
+              let before : tare_in (faces groups) group.key.batch h ≡ cond (is_counted h.pile) group.tare 0 =
               ap (λ b. cond (b && is_counted h.pile) (face_at (faces groups) h.group).tare 0) mine ∙ ap (λ (f : Face). cond (is_counted h.pile) f.tare 0) (ap (face_at (faces groups)) same ∙ face-found groups place group at) in
-            let later : tare_in (faces (set groups place after)) group.key.batch h ≡ cond (is_counted h.pile) after.tare 0 =
+              let later : tare_in (faces (set groups place after)) group.key.batch h ≡ cond (is_counted h.pile) after.tare 0 =
               ap (λ b. cond (b && is_counted h.pile) (face_at (faces (set groups place after)) h.group).tare 0) (belongs-same group.key.batch h ∙ mine) ∙ ap (λ (f : Face). cond (is_counted h.pile) f.tare 0) (ap (face_at (faces (set groups place after))) same ∙ face-same) in
-            let counted : cond ((eqb h.group place && is_counted h.pile) && true) (suc zero) zero ≡ cond (is_counted h.pile) (suc zero) zero = ap (λ b. cond ((b && is_counted h.pile) && true) (suc zero) zero) (eq-eqb h.group place same) ∙ by (is_counted h.pile) in
-            swap (is_counted h.pile) _ _ _ before later counted
+              let counted : cond ((eqb h.group place && is_counted h.pile) && true) (suc zero) zero ≡ cond (is_counted h.pile) (suc zero) zero = ap (λ b. cond ((b && is_counted h.pile) && true) (suc zero) zero) (eq-eqb h.group place same) ∙ by (is_counted h.pile) in
+              swap (is_counted h.pile) _ _ _ before later counted
           | inr differs ↦
-            let none : cond ((eqb h.group place && is_counted h.pile) && true) (suc zero) zero ≡ zero = ap (λ b. cond ((b && is_counted h.pile) && true) (suc zero) zero) (ne_eqb h.group place differs) in
-            let same : tare_in (faces (set groups place after)) group.key.batch h ≡ tare_in (faces groups) group.key.batch h = ap (λ (f : Face). cond (eqb f.key.batch group.key.batch && is_counted h.pile) f.tare 0) (face-other h.group differs) in
-            stay _ _ _ same none
+              let none : cond ((eqb h.group place && is_counted h.pile) && true) (suc zero) zero ≡ zero = ap (λ b. cond ((b && is_counted h.pile) && true) (suc zero) zero) (ne_eqb h.group place differs) in
+              let same : tare_in (faces (set groups place after)) group.key.batch h ≡ tare_in (faces groups) group.key.batch h = ap (λ (f : Face). cond (eqb f.key.batch group.key.batch && is_counted h.pile) f.tare 0) (face-other h.group differs) in
+              stay _ _ _ same none
         ]
       where
         by : (b : Bool) → cond (b && true) (suc zero) zero ≡ cond b (suc zero) zero
@@ -127,17 +126,17 @@ module _ (groups : List Group) (place : ℕ) (group after : Group) (at : slice_g
     low_moves limit h =
         elim (cases_eq h.group place) [
           | inl same ↦
-            let mine : belongs (faces groups) group.key.batch h ≡ true = eq-eqb _ _ (ap (λ (f : Face). f.key.batch) (ap (face_at (faces groups)) same ∙ face-found groups place group at)) in
-            let before : below_in (faces groups) group.key.batch limit h ≡ count_at h.pile h.gross (threshold limit group.tare) =
+              let mine : belongs (faces groups) group.key.batch h ≡ true = eq-eqb _ _ (ap (λ (f : Face). f.key.batch) (ap (face_at (faces groups)) same ∙ face-found groups place group at)) in
+              let before : below_in (faces groups) group.key.batch limit h ≡ count_at h.pile h.gross (threshold limit group.tare) =
               ap (λ b. cond b (count_at h.pile h.gross (threshold limit (face_at (faces groups) h.group).tare)) 0) mine ∙ ap (λ (f : Face). count_at h.pile h.gross (threshold limit f.tare)) (ap (face_at (faces groups)) same ∙ face-found groups place group at) in
-            let later : below_in (faces (set groups place after)) group.key.batch limit h ≡ count_at h.pile h.gross (threshold limit after.tare) =
+              let later : below_in (faces (set groups place after)) group.key.batch limit h ≡ count_at h.pile h.gross (threshold limit after.tare) =
               ap (λ b. cond b (count_at h.pile h.gross (threshold limit (face_at (faces (set groups place after)) h.group).tare)) 0) (belongs-same group.key.batch h ∙ mine) ∙ ap (λ (f : Face). count_at h.pile h.gross (threshold limit f.tare)) (ap (face_at (faces (set groups place after))) same ∙ face-same) in
-            let member : (least : ℕ) → cond (is_member place (λ mass. ltb mass least) h) (suc zero) zero ≡ count_at h.pile h.gross least = λ least. ap (λ b. cond ((b && is_counted h.pile) && ltb h.gross least) (suc zero) zero) (eq-eqb h.group place same) in
-            omega (arith, before, later, member (threshold limit group.tare), member (threshold limit after.tare))
+              let member : (least : ℕ) → cond (is_member place (λ mass. ltb mass least) h) (suc zero) zero ≡ count_at h.pile h.gross least = λ least. ap (λ b. cond ((b && is_counted h.pile) && ltb h.gross least) (suc zero) zero) (eq-eqb h.group place same) in
+              omega (arith, before, later, member (threshold limit group.tare), member (threshold limit after.tare))
           | inr differs ↦
-            let none : (least : ℕ) → cond (is_member place (λ mass. ltb mass least) h) (suc zero) zero ≡ zero = λ least. ap (λ b. cond ((b && is_counted h.pile) && ltb h.gross least) (suc zero) zero) (ne_eqb h.group place differs) in
-            let same : below_in (faces (set groups place after)) group.key.batch limit h ≡ below_in (faces groups) group.key.batch limit h = ap (λ (f : Face). cond (eqb f.key.batch group.key.batch) (count_at h.pile h.gross (threshold limit f.tare)) 0) (face-other h.group differs) in
-            omega (arith, same, none (threshold limit group.tare), none (threshold limit after.tare))
+              let none : (least : ℕ) → cond (is_member place (λ mass. ltb mass least) h) (suc zero) zero ≡ zero = λ least. ap (λ b. cond ((b && is_counted h.pile) && ltb h.gross least) (suc zero) zero) (ne_eqb h.group place differs) in
+              let same : below_in (faces (set groups place after)) group.key.batch limit h ≡ below_in (faces groups) group.key.batch limit h = ap (λ (f : Face). cond (eqb f.key.batch group.key.batch) (count_at h.pile h.gross (threshold limit f.tare)) 0) (face-other h.group differs) in
+              omega (arith, same, none (threshold limit group.tare), none (threshold limit after.tare))
         ]
 
     lows_move : (limit : ℤ) → sum_by (below_in (faces (set groups place after)) group.key.batch limit) held + count_by (is_member place (λ mass. ltb mass (threshold limit group.tare))) held ≡ sum_by (below_in (faces groups) group.key.batch limit) held + count_by (is_member place (λ mass. ltb mass (threshold limit after.tare))) held
@@ -178,13 +177,13 @@ module _ (batches : List Batch) (groups : List Group) (held : List Held) (sound 
   tare_share h =
       elim (cases_eq h.group place) [
         | inl same ↦
-          let is : tare_in (faces groups) group.key.batch h ≡ cond (is_counted h.pile) group.tare 0 =
+            let is : tare_in (faces groups) group.key.batch h ≡ cond (is_counted h.pile) group.tare 0 =
             ap (λ b. cond (b && is_counted h.pile) (face_at (faces groups) h.group).tare 0) (mine h same) ∙ ap (λ (f : Face). cond (is_counted h.pile) f.tare 0) (face_is h same) in
-          let counted : cond ((eqb h.group place && is_counted h.pile) && true) (suc zero) zero ≡ cond (is_counted h.pile) (suc zero) zero = ap (λ b. cond ((b && is_counted h.pile) && true) (suc zero) zero) (eq-eqb h.group place same) ∙ by (is_counted h.pile) in
-          part (is_counted h.pile) _ _ is counted
+            let counted : cond ((eqb h.group place && is_counted h.pile) && true) (suc zero) zero ≡ cond (is_counted h.pile) (suc zero) zero = ap (λ b. cond ((b && is_counted h.pile) && true) (suc zero) zero) (eq-eqb h.group place same) ∙ by (is_counted h.pile) in
+            part (is_counted h.pile) _ _ is counted
         | inr differs ↦
-          let none : cond ((eqb h.group place && is_counted h.pile) && true) (suc zero) zero ≡ zero = ap (λ b. cond ((b && is_counted h.pile) && true) (suc zero) zero) (ne_eqb h.group place differs) in
-          nothing _ _ none
+            let none : cond ((eqb h.group place && is_counted h.pile) && true) (suc zero) zero ≡ zero = ap (λ b. cond ((b && is_counted h.pile) && true) (suc zero) zero) (ne_eqb h.group place differs) in
+            nothing _ _ none
       ]
     where
       by : (b : Bool) → cond (b && true) (suc zero) zero ≡ cond b (suc zero) zero
@@ -203,13 +202,13 @@ module _ (batches : List Batch) (groups : List Group) (held : List Held) (sound 
   low_share limit h =
       elim (cases_eq h.group place) [
         | inl same ↦
-          let is : below_in (faces groups) group.key.batch limit h ≡ count_at h.pile h.gross (threshold limit group.tare) =
+            let is : below_in (faces groups) group.key.batch limit h ≡ count_at h.pile h.gross (threshold limit group.tare) =
             ap (λ b. cond b (count_at h.pile h.gross (threshold limit (face_at (faces groups) h.group).tare)) 0) (mine h same) ∙ ap (λ (f : Face). count_at h.pile h.gross (threshold limit f.tare)) (face_is h same) in
-          let member : cond (is_member place (λ mass. ltb mass (threshold limit group.tare)) h) (suc zero) zero ≡ count_at h.pile h.gross (threshold limit group.tare) = ap (λ b. cond ((b && is_counted h.pile) && ltb h.gross (threshold limit group.tare)) (suc zero) zero) (eq-eqb h.group place same) in
-          (omega (arith, is, member), omega (arith, is, member, le_one (is_member place (λ mass. true) h)))
+            let member : cond (is_member place (λ mass. ltb mass (threshold limit group.tare)) h) (suc zero) zero ≡ count_at h.pile h.gross (threshold limit group.tare) = ap (λ b. cond ((b && is_counted h.pile) && ltb h.gross (threshold limit group.tare)) (suc zero) zero) (eq-eqb h.group place same) in
+            (omega (arith, is, member), omega (arith, is, member, le_one (is_member place (λ mass. true) h)))
         | inr differs ↦
-          let none : (test : ℕ → Bool) → cond (is_member place test h) (suc zero) zero ≡ zero = λ test. ap (λ b. cond ((b && is_counted h.pile) && test h.gross) (suc zero) zero) (ne_eqb h.group place differs) in
-          (omega (arith, none (λ mass. ltb mass (threshold limit group.tare))), omega (arith, none (λ mass. true), none (λ mass. ltb mass (threshold limit group.tare)), most (belongs (faces groups) group.key.batch h)))
+            let none : (test : ℕ → Bool) → cond (is_member place test h) (suc zero) zero ≡ zero = λ test. ap (λ b. cond ((b && is_counted h.pile) && test h.gross) (suc zero) zero) (ne_eqb h.group place differs) in
+            (omega (arith, none (λ mass. ltb mass (threshold limit group.tare))), omega (arith, none (λ mass. true), none (λ mass. ltb mass (threshold limit group.tare)), most (belongs (faces groups) group.key.batch h)))
       ]
     where
       most : (b : Bool) → cond b (count_at h.pile h.gross (threshold limit (face_at (faces groups) h.group).tare)) 0 ≤ 1
@@ -221,9 +220,13 @@ module _ (batches : List Batch) (groups : List Group) (held : List Held) (sound 
   low_rest limit =
       let f : Held → ℕ = λ h. below_in (faces groups) group.key.batch limit h + cond (is_member place (λ mass. true) h) 1 0 in
       let g : Held → ℕ = λ h. 1 + cond (is_member place (λ mass. ltb mass (threshold limit group.tare)) h) 1 0 in
-      omega (arith, sum_by-le-sum_by f g held (λ h. (low_share limit h).1),
+      omega (
+        arith,
+        sum_by-le-sum_by f g held (λ h. (low_share limit h).1),
         sum_by-plus (below_in (faces groups) group.key.batch limit) (λ h. cond (is_member place (λ mass. true) h) 1 0) held,
-        sum_by-plus (λ h. 1) (λ h. cond (is_member place (λ mass. ltb mass (threshold limit group.tare)) h) 1 0) held, length_by held)
+        sum_by-plus (λ h. 1) (λ h. cond (is_member place (λ mass. ltb mass (threshold limit group.tare)) h) 1 0) held,
+        length_by held,
+      )
 
   low_part : (limit : ℤ) → count_by (is_member place (λ mass. ltb mass (threshold limit group.tare))) held ≤ sum_by (below_in (faces groups) group.key.batch limit) held
   low_part limit = sum_by-le-sum_by (λ h. cond (is_member place (λ mass. ltb mass (threshold limit group.tare)) h) 1 0) (below_in (faces groups) group.key.batch limit) held (λ h. (low_share limit h).0)
@@ -232,7 +235,7 @@ module _ (batches : List Batch) (groups : List Group) (held : List Held) (sound 
   share =
       let m : Held → ℕ = λ h. cond ((eqb h.group place && is_counted h.pile) && true) 1 0 in
       let tares : count_by (is_member place (λ mass. true)) held * group.tare ≤ sum_by (tare_in (faces groups) group.key.batch) held =
-        subst (λ n. n ≤ sum_by (tare_in (faces groups) group.key.batch) held) (sum_by-times m group.tare held) (sum_by-le-sum_by (λ h. m h * group.tare) (tare_in (faces groups) group.key.batch) held tare_share) in
+      subst (λ n. n ≤ sum_by (tare_in (faces groups) group.key.batch) held) (sum_by-times m group.tare held) (sum_by-le-sum_by (λ h. m h * group.tare) (tare_in (faces groups) group.key.batch) held tare_share) in
       let first = kept.grosses (λ mass. ltb mass (threshold batch.limits.t1 group.tare)) in
       let second = kept.grosses (λ mass. ltb mass (threshold batch.limits.t2 group.tare)) in
       let small = bounded (faces groups) group.key.batch batch held sums sound.light (tared batches groups held sound) sound.few in
@@ -282,6 +285,6 @@ module _ (batches : List Batch) (groups : List Group) (held : List Held) (sound 
     pub sound_corrected : Sound (set batches group.key.batch new) (set groups place after) held
     sound_corrected =
         sound_changed batches groups held sound place group after batch new held at home key (subst (λ t. pos t ≤ℤ MAX_TARE) (sym (ap (λ (f : Face). f.tare) face)) light) changes.product changes.limits
-          (subst (λ l. IsJudged l after) (sym changes.limits) judged) sound.grouped sound.light sound.few own
-          (λ number other differs some. adds_up_apart groups place group after at key held number other differs some)
-          has (λ other some differs all. all)
+        (subst (λ l. IsJudged l after) (sym changes.limits) judged) sound.grouped sound.light sound.few own
+        (λ number other differs some. adds_up_apart groups place group after at key held number other differs some)
+        has (λ other some differs all. all)

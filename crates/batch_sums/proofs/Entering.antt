@@ -1,10 +1,10 @@
 -- A pack comes into its group and its batch, or goes out of them.
-use Rattle.std.proofs.Common.{◌≡◌, ℕ, zero, suc, ◌+◌, ◌*◌, ◌<◌, ◌≤◌, Bool, true, false, cond, ◌&&◌, eqb, List, [], ◌∷◌, ◌++◌, length, map, get_or, set, Option, Some, refl, ap, sym, subst, ◌∙◌, arith, length-set}
+use Rattle.std.proofs.Common.{◌≡◌, ℕ, zero, suc, ◌<◌, ◌≤◌, Bool, true, false, cond, ◌&&◌, eqb, List, [], ◌∷◌, length, set, Some, refl, ap, sym, subst, ◌∙◌, arith}
 use Rattle.std.specs.Prelude.{ℤ, pos, ◌≤ℤ◌}
-use Rattle.std.specs.List.{sum_by, count_by, All, slice_get, remove}
+use Rattle.std.specs.List.{sum_by, count_by, All, slice_get}
 use Rattle.std.proofs.lemmas.Bool.{eq-eqb, ne_eqb}
-use Rattle.std.proofs.lemmas.List.Sums.{sum_by-cons, sum_by-le, count_by-le-length}
-use Rattle.hall_limits.specs.declared.TheConstants.{MAX_GROSS, MAX_TARE}
+use Rattle.std.proofs.lemmas.List.Sums.{sum_by-cons, count_by-le-length}
+use Rattle.hall_limits.specs.declared.TheConstants.{MAX_GROSS}
 use Rattle.pack_judge.specs.declared.types.Pile.{Pile}
 use Rattle.pack_judge.specs.declared.types.Pile.TheVariants.{Passed, Rejected, Sampled, Voided}
 use Rattle.batch_sums.specs.declared.batch.Batch.{Batch}
@@ -15,7 +15,7 @@ use Rattle.batch_sums.specs.Totals.{is_counted, same_pile}
 use Rattle.batch_sums.specs.Rising.{mass_of, HasMoreIf}
 use Rattle.batch_sums.specs.Groups.{Face, face_of, faces, face_at, threshold, IsJudged}
 use Rattle.batch_sums.specs.Running.{IsEntered, HasRoom, Covers, pile_sum, count_at}
-use Rattle.batch_sums.specs.Kept.{AddsUp, Sound, IsGroup, belongs, is_member, count_in, gross_in, tare_in, below_in}
+use Rattle.batch_sums.specs.Kept.{AddsUp, Sound, belongs, is_member, count_in, gross_in, tare_in, below_in}
 use Rattle.batch_sums.proofs.Joining.{Joins, HasGrosses, adds_up_in, adds_up_out, adds_up_in_other, adds_up_out_other, has_grosses_in, has_grosses_out, has_grosses_in_other, has_grosses_out_other}
 use Rattle.batch_sums.proofs.Sounding.{sound_after, face-found}
 
@@ -103,10 +103,10 @@ module _ (batches : List Batch) (groups : List Group) (less more : List Held) (p
   sound_in entered grosses grouped light few sound =
       let there = subst (λ t. IsEntered batch new pack.pile pack.gross t) (sym (ap (λ (f : Face). f.tare) home)) entered in
       sound_after batches groups less sound pack.group group after batch new more at_group at_batch face entered.product entered.limits judged grouped light few
-        (adds_up_in (faces groups) group.key.batch less more pack joins own batch new there (sound.batch group.key.batch batch at_batch))
-        (λ number some differs. adds_up_in_other (faces groups) number less more pack joins (other number differs) some)
-        (has_grosses_in pack.group less more pack joins (eq-eqb pack.group pack.group refl) group.grosses after.grosses grosses (sound.group pack.group group at_group).grosses)
-        (λ place some differs. has_grosses_in_other place less more pack joins (ne_eqb pack.group place (λ same. differs (sym same))) some)
+      (adds_up_in (faces groups) group.key.batch less more pack joins own batch new there (sound.batch group.key.batch batch at_batch))
+      (λ number some differs. adds_up_in_other (faces groups) number less more pack joins (other number differs) some)
+      (has_grosses_in pack.group less more pack joins (eq-eqb pack.group pack.group refl) group.grosses after.grosses grosses (sound.group pack.group group at_group).grosses)
+      (λ place some differs. has_grosses_in_other place less more pack joins (ne_eqb pack.group place (λ same. differs (sym same))) some)
 
   pub sound_out : IsEntered new batch pack.pile pack.gross group.tare → HasMoreIf (is_counted pack.pile) pack.gross after.grosses group.grosses
       → All (λ h. h.group < length groups) less → All (λ h. pos h.gross ≤ℤ MAX_GROSS) less → length less < 4294967296
@@ -114,7 +114,7 @@ module _ (batches : List Batch) (groups : List Group) (less more : List Held) (p
   sound_out entered grosses grouped light few sound =
       let there = subst (λ t. IsEntered new batch pack.pile pack.gross t) (sym (ap (λ (f : Face). f.tare) home)) entered in
       sound_after batches groups more sound pack.group group after batch new less at_group at_batch face (sym entered.product) (sym entered.limits) judged grouped light few
-        (adds_up_out (faces groups) group.key.batch less more pack joins own new batch there (sound.batch group.key.batch batch at_batch))
-        (λ number some differs. adds_up_out_other (faces groups) number less more pack joins (other number differs) some)
-        (has_grosses_out pack.group less more pack joins (eq-eqb pack.group pack.group refl) after.grosses group.grosses grosses (sound.group pack.group group at_group).grosses)
-        (λ place some differs. has_grosses_out_other place less more pack joins (ne_eqb pack.group place (λ same. differs (sym same))) some)
+      (adds_up_out (faces groups) group.key.batch less more pack joins own new batch there (sound.batch group.key.batch batch at_batch))
+      (λ number some differs. adds_up_out_other (faces groups) number less more pack joins (other number differs) some)
+      (has_grosses_out pack.group less more pack joins (eq-eqb pack.group pack.group refl) after.grosses group.grosses grosses (sound.group pack.group group at_group).grosses)
+      (λ place some differs. has_grosses_out_other place less more pack joins (ne_eqb pack.group place (λ same. differs (sym same))) some)

@@ -1,11 +1,11 @@
 -- The faces of groups, by their places.
-use Rattle.std.proofs.Common.{◌≡◌, ℕ, suc, ◌+◌, ◌<◌, ◌≤◌, List, [], ◌∷◌, ◌++◌, length, get_or, set, map, refl, ap, sym, subst, ◌∙◌, arith, length-append}
+use Rattle.std.proofs.Common.{◌≡◌, ℕ, suc, ◌+◌, ◌<◌, List, ◌∷◌, ◌++◌, length, get_or, refl, ap, sym, subst, ◌∙◌, arith, length-append}
 use Rattle.std.specs.List.{All}
-use Rattle.std.proofs.lemmas.List.{get_or_append_left, get_or_at, get_or-append-add, get_or-map, get_or_default}
+use Rattle.std.proofs.lemmas.List.{get_or_append_left, get_or_at, get_or-append-add, get_or-map}
 use Rattle.balanced_tree.specs.Trees.{items, IsRootBetween}
 use Rattle.balanced_tree.specs.declared.tree.Tree.{Tree}
 use Rattle.batch_sums.specs.declared.group.Group.{Group}
-use Rattle.batch_sums.specs.Groups.{Face, face_of, faces, face_at, no_face, rank_of, rank_at}
+use Rattle.batch_sums.specs.Groups.{face_of, faces, face_at, no_face}
 
 module _ {T : Type 0} (P : T → Type 0) {left right tree : Tree T} {item : T} (root : IsRootBetween left item right tree) (all : All P (items tree)) where
   whole : All P (items left ++ item ∷ items right)

@@ -1,10 +1,10 @@
 -- All groups of a product within some days have the corrected tare: what the list of packs is then, and in how many steps.
 use Rattle.std.proofs.Common.{◌≡◌, ℕ, zero, suc, ◌+◌, ◌*◌, ◌-◌, ◌<◌, ◌≤◌, Bool, true, false, cond, ◌&&◌, ◌||◌, eqb, ltb, leb, max, inl, inr, List, [], ◌∷◌, ◌++◌, length, map, filter, get_or, take, drop, Option, Some, refl, ap, sym, subst, ◌∙◌, arith, true≢false}
-use Rattle.std.specs.Prelude.{ℤ, pos, negsuc, ◌≤ℤ◌}
+use Rattle.std.specs.Prelude.{ℤ, pos, ◌≤ℤ◌}
 use Rattle.std.specs.Ordering.{int_eq}
 use Rattle.std.specs.Option.{option_map_or}
 use Rattle.std.specs.List.{sum_by, count_by, list_any, slice_get, between, All}
-use Rattle.std.proofs.lemmas.Bool.{cases_lt, cases_eq, cases_Bool, eq-eqb, ne_eqb, eqb-true, and_parts, and_from, or_cases, or_right, le-leb, lt-ltb, leb-true, ltb-true}
+use Rattle.std.proofs.lemmas.Bool.{cases_Bool, eq-eqb, eqb-true, and_parts, and_from, or_cases, or_right, le-leb, lt-ltb, leb-true, ltb-true}
 use Rattle.std.proofs.lemmas.Bool.Decides.{Decides-int_eq}
 use Rattle.std.proofs.lemmas.Cmp.{int_eq_equiv}
 use Rattle.std.proofs.lemmas.List.{length-map, get_or-map}
@@ -19,8 +19,8 @@ use Rattle.batch_sums.specs.declared.batch.Batch.{Batch}
 use Rattle.batch_sums.specs.declared.group.Group.{Group}
 use Rattle.batch_sums.specs.declared.types.Held.{Held}
 use Rattle.batch_sums.specs.Totals.{Pack, Terms}
-use Rattle.batch_sums.specs.Groups.{Face, face_of, faces, face_at, rank_of, rank_at, at_least_0}
-use Rattle.batch_sums.specs.Kept.{Sound, IsGroup, IsIndex, IsKey, seen, terms_of}
+use Rattle.batch_sums.specs.Groups.{Face, face_of, faces, face_at, rank_at, at_least_0}
+use Rattle.batch_sums.specs.Kept.{Sound, IsIndex, seen, terms_of}
 use Rattle.batch_sums.specs.Changes.{is_concerned, concerned, corrected, same_group, group_count}
 use Rattle.batch_sums.proofs.Rising.{below}
 use Rattle.batch_sums.proofs.Sounding.{face-found}
@@ -45,8 +45,8 @@ any_filter p q [] there = there
 any_filter p q (x ∷ xs) there =
     elim (or_cases (q x && p x) (list_any (λ y. q y && p y) xs) there) [
       | inl here ↦
-        let both = and_parts (q x) (p x) here in
-        subst (λ b. list_any p (cond b (x ∷ filter q xs) (filter q xs)) ≡ true) (sym both.0) (ap (λ b. b || list_any p (filter q xs)) both.1)
+          let both = and_parts (q x) (p x) here in
+          subst (λ b. list_any p (cond b (x ∷ filter q xs) (filter q xs)) ≡ true) (sym both.0) (ap (λ b. b || list_any p (filter q xs)) both.1)
       | inr later ↦ by (q x) (any_filter p q xs later)
     ]
   where
@@ -73,26 +73,26 @@ module _ (batches : List Batch) (groups : List Group) (held : List Held) (sound 
   pub visited_is : (place : ℕ) → place < length groups → list_any (λ other. eqb other place) (between first end order) ≡ (eqb (face_at (faces groups) place).key.product product && (leb from (face_at (faces groups) place).key.day && ltb (face_at (faces groups) place).key.day until))
   visited_is place within =
       bool_same _ _
-        (λ any. let o = own place (counted_any place (between first end order) any) within in
-          and_from _ _ (eq-eqb _ _ o.0) (and_from _ _ (le-leb _ _ o.1) (lt-ltb _ _ o.2)))
-        (λ all. let parts = and_parts _ _ all in let rest = and_parts _ _ parts.1 in
-          let ranks = of_days product from until (face_at (faces groups) place) (index.keys place (omega (arith, within, long))) (eqb-true _ _ parts.0) (leb-true _ _ rest.0) (ltb-true _ _ rest.1) in
-          any_counted place (between first end order) (ranks_between (faces groups) order index _ _ first end first_is end_is place (omega (arith, within, long)) ranks.0 ranks.1))
+      (λ any. let o = own place (counted_any place (between first end order) any) within in
+      and_from _ _ (eq-eqb _ _ o.0) (and_from _ _ (le-leb _ _ o.1) (lt-ltb _ _ o.2)))
+      (λ all. let parts = and_parts _ _ all in let rest = and_parts _ _ parts.1 in
+      let ranks = of_days product from until (face_at (faces groups) place) (index.keys place (omega (arith, within, long))) (eqb-true _ _ parts.0) (leb-true _ _ rest.0) (ltb-true _ _ rest.1) in
+      any_counted place (between first end order) (ranks_between (faces groups) order index _ _ first end first_is end_is place (omega (arith, within, long)) ranks.0 ranks.1))
 
   -- a pack is concerned where its group was visited
   pub concerned_is : (h : Held) → h.group < length groups → is_concerned (map terms_of batches) product span (seen (faces groups) h) ≡ list_any (λ other. eqb other h.group) (between first end order)
   concerned_is h within =
       elim (slice_get_cases groups h.group).1 [
         | inl found ↦
-          let kept = sound.group h.group found.0 found.2 in
-          let face = face-found groups h.group found.0 found.2 in
-          let key = index.keys h.group (omega (arith, within, long)) in
-          let terms : slice_get (map terms_of batches) (face_at (faces groups) h.group).key.batch ≡ Some (terms_of kept.batch) =
+            let kept = sound.group h.group found.0 found.2 in
+            let face = face-found groups h.group found.0 found.2 in
+            let key = index.keys h.group (omega (arith, within, long)) in
+            let terms : slice_get (map terms_of batches) (face_at (faces groups) h.group).key.batch ≡ Some (terms_of kept.batch) =
             ap (λ (f : Face). slice_get (map terms_of batches) f.key.batch) face ∙ slice_get-map terms_of batches found.0.key.batch ∙ ap (Rattle.std.proofs.Common.option_map terms_of) kept.is in
-          let mine : kept.batch.product ≡ (face_at (faces groups) h.group).key.product = kept.product ∙ sym (ap (λ (f : Face). f.key.product) face) in
-          (λ i. option_map_or (λ (t : Terms). eqb t.product product) (terms i) false && days (face_at (faces groups) h.group).key.day key.day i)
-          ∙ ap (λ n. eqb n product && (leb from (face_at (faces groups) h.group).key.day && ltb (face_at (faces groups) h.group).key.day until)) mine
-          ∙ sym (visited_is h.group within)
+            let mine : kept.batch.product ≡ (face_at (faces groups) h.group).key.product = kept.product ∙ sym (ap (λ (f : Face). f.key.product) face) in
+            (λ i. option_map_or (λ (t : Terms). eqb t.product product) (terms i) false && days (face_at (faces groups) h.group).key.day key.day i)
+            ∙ ap (λ n. eqb n product && (leb from (face_at (faces groups) h.group).key.day && ltb (face_at (faces groups) h.group).key.day until)) mine
+            ∙ sym (visited_is h.group within)
         | inr past ↦ absurd (omega (arith, within, past.0))
       ]
 
@@ -103,7 +103,7 @@ module _ (batches : List Batch) (groups : List Group) (held : List Held) (sound 
     where
       one : (b c : Bool) (h : Held) (f : Face) → c ≡ b → f ≡ cond b (record { key = (face_at (faces groups) h.group).key; tare = tare }) (face_at (faces groups) h.group)
           → ◌≡◌ {A = Pack} (record { number = h.number; batch = f.key.batch; day = pos f.key.day; gross = pos h.gross; tare = pos f.tare; pile = h.pile })
-              (cond c (record { number = h.number; batch = (face_at (faces groups) h.group).key.batch; day = pos (face_at (faces groups) h.group).key.day; gross = pos h.gross; tare = mass; pile = h.pile }) (seen (faces groups) h))
+          (cond c (record { number = h.number; batch = (face_at (faces groups) h.group).key.batch; day = pos (face_at (faces groups) h.group).key.day; gross = pos h.gross; tare = mass; pile = h.pile }) (seen (faces groups) h))
       one true c h f is at =
           (λ i. record { number = h.number; batch = (at i).key.batch; day = pos (at i).key.day; gross = pos h.gross; tare = pos (at i).tare; pile = h.pile })
           ∙ (λ i. record { number = h.number; batch = (face_at (faces groups) h.group).key.batch; day = pos (face_at (faces groups) h.group).key.day; gross = pos h.gross; tare = same i; pile = h.pile })
@@ -133,16 +133,16 @@ module _ (batches : List Batch) (groups : List Group) (held : List Held) (sound 
   ranked pack k d within =
       elim (cases_Bool (of_group (get_or (between first end order) k d) pack)) [
         | inl mine ↦
-          let parts = and_parts _ _ mine in
-          let day = ap at_least_0 ((Decides-int_eq (pos (face_at (faces groups) (get_or (between first end order) k d)).key.day) pack.day).0 parts.1) in
-          let batch = eqb-true _ _ parts.0 in
-          let o = own (get_or (between first end order) k d) (counted_itself (between first end order) k d within) (omega (arith, placed_in k d within, long)) in
-          let same : rank_at (faces groups) (get_or (between first end order) k d) ≡ (product * 4294967296 + at_least_0 pack.day) * 4294967296 + pack.batch = omega (arith, day, batch, o.0) in
-          let one : cond (eqb (rank_at (faces groups) (get_or (between first end order) k d)) ((product * 4294967296 + at_least_0 pack.day) * 4294967296 + pack.batch)) (suc zero) zero ≡ suc zero = ap (λ b. cond b (suc zero) zero) (eq-eqb _ _ same) in
-          omega (arith, one, one_le (of_group (get_or (between first end order) k d) pack))
+            let parts = and_parts _ _ mine in
+            let day = ap at_least_0 ((Decides-int_eq (pos (face_at (faces groups) (get_or (between first end order) k d)).key.day) pack.day).0 parts.1) in
+            let batch = eqb-true _ _ parts.0 in
+            let o = own (get_or (between first end order) k d) (counted_itself (between first end order) k d within) (omega (arith, placed_in k d within, long)) in
+            let same : rank_at (faces groups) (get_or (between first end order) k d) ≡ (product * 4294967296 + at_least_0 pack.day) * 4294967296 + pack.batch = omega (arith, day, batch, o.0) in
+            let one : cond (eqb (rank_at (faces groups) (get_or (between first end order) k d)) ((product * 4294967296 + at_least_0 pack.day) * 4294967296 + pack.batch)) (suc zero) zero ≡ suc zero = ap (λ b. cond b (suc zero) zero) (eq-eqb _ _ same) in
+            omega (arith, one, one_le (of_group (get_or (between first end order) k d) pack))
         | inr other ↦
-          let none : cond (of_group (get_or (between first end order) k d) pack) (suc zero) zero ≡ zero = ap (λ b. cond b (suc zero) zero) other in
-          omega (arith, none)
+            let none : cond (of_group (get_or (between first end order) k d) pack) (suc zero) zero ≡ zero = ap (λ b. cond b (suc zero) zero) other in
+            omega (arith, none)
       ]
     where
       one_le : (b : Bool) → cond b 1 0 ≤ 1
@@ -162,7 +162,7 @@ module _ (batches : List Batch) (groups : List Group) (held : List Held) (sound 
           let a = and_parts _ _ mine in
           let b = and_parts _ _ same in
           and_from _ _ (eq-eqb _ _ (eqb-true _ _ a.0 ∙ eqb-true _ _ b.0))
-            (sym (int_eq_equiv.congr one.day (pos (face_at (faces groups) x).key.day) other.day (int_eq_equiv.symm one.day (pos (face_at (faces groups) x).key.day) ∙ a.1)) ∙ b.1)
+          (sym (int_eq_equiv.congr one.day (pos (face_at (faces groups) x).key.day) other.day (int_eq_equiv.symm one.day (pos (face_at (faces groups) x).key.day) ∙ a.1)) ∙ b.1)
 
       among : All (λ x. list_any (of_group x) (concerned (map terms_of batches) product span (map (seen (faces groups)) held)) ≡ true) (between first end order)
       among k d within =
@@ -179,8 +179,8 @@ module _ (batches : List Batch) (groups : List Group) (held : List Held) (sound 
           let test : Pack → Bool = λ pack. is_concerned (map terms_of batches) product span pack && of_group x pack in
           let passes : test (seen (faces groups) h) ≡ true = and_from _ _ is (and_from _ _ batch day) in
           any_filter (of_group x) (is_concerned (map terms_of batches) product span) (map (seen (faces groups)) held)
-            (list_any_at test (map (seen (faces groups)) held) found.0 (seen (faces groups) no_pack) (omega (arith, found.1, length-map held (seen (faces groups))))
-              (ap test (get_or-map (seen (faces groups)) held found.0 no_pack (seen (faces groups) no_pack) found.1) ∙ passes))
+          (list_any_at test (map (seen (faces groups)) held) found.0 (seen (faces groups) no_pack) (omega (arith, found.1, length-map held (seen (faces groups))))
+          (ap test (get_or-map (seen (faces groups)) held found.0 no_pack (seen (faces groups) no_pack) found.1) ∙ passes))
 
       apart : (pack : Pack) → count_by (λ x. of_group x pack) (between first end order) ≤ 1
       apart pack =

@@ -1,5 +1,5 @@
 -- One pack more among the packs: what it does to the sums of batches and to the grosses of groups, in both directions.
-use Rattle.std.proofs.Common.{◌≡◌, ℕ, zero, suc, ◌+◌, ◌<◌, ◌≤◌, Bool, true, false, cond, ◌&&◌, eqb, ltb, List, [], ◌∷◌, ◌++◌, length, get_or, set, refl, ap, sym, ◌∙◌, arith}
+use Rattle.std.proofs.Common.{◌≡◌, ℕ, zero, suc, ◌+◌, ◌<◌, Bool, true, false, cond, ◌&&◌, eqb, List, [], ◌∷◌, ◌++◌, length, get_or, set, refl, ap, sym, ◌∙◌, arith}
 use Rattle.std.specs.List.{sum_by, count_by, remove}
 use Rattle.std.proofs.lemmas.List.Sums.{sum_by-set, sum_by-remove, sum_by_push}
 use Rattle.pack_judge.specs.declared.types.Pile.{Pile}
@@ -9,7 +9,7 @@ use Rattle.batch_sums.specs.declared.types.Held.{Held}
 use Rattle.batch_sums.specs.Totals.{same_pile, is_counted}
 use Rattle.batch_sums.specs.Rising.{mass_of, HasMoreIf}
 use Rattle.batch_sums.specs.Groups.{Face, face_at, threshold}
-use Rattle.batch_sums.specs.Running.{IsEntered, pile_sum, count_at}
+use Rattle.batch_sums.specs.Running.{IsEntered, count_at}
 use Rattle.batch_sums.specs.Kept.{AddsUp, belongs, count_in, gross_in, tare_in, below_in, is_member}
 
 -- the packs `more` are those of `less` and one besides: whatever is summed

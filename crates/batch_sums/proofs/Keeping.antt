@@ -1,21 +1,19 @@
 -- What always holds after a corrected tare was worked into some groups.
-use Rattle.std.proofs.Common.{◌≡◌, ℕ, ◌+◌, ◌<◌, ◌≤◌, Bool, cond, not, eqb, List, length, map, get_or, Vec, vec_len, vec_capacity, refl, ap, sym, subst, ◌∙◌, arith}
+use Rattle.std.proofs.Common.{◌≡◌, ℕ, ◌<◌, ◌≤◌, cond, eqb, List, length, map, get_or, Vec, vec_len, vec_capacity, ap, sym, subst, ◌∙◌, arith}
 use Rattle.std.specs.Prelude.{pos, ◌≤ℤ◌}
 use Rattle.hall_limits.specs.declared.TheConstants.{MAX_DAY}
 use Rattle.std.specs.declared.alloc.Global.{Global}
-use Rattle.std.specs.List.{sum_by, count_by, All}
+use Rattle.std.specs.List.{count_by}
 use Rattle.std.proofs.lemmas.List.{length-map}
 use Rattle.std.proofs.lemmas.List.Elements.{All-weaker}
 use Rattle.indexmap.specs.IndexSet.{spare}
 use Rattle.balanced_tree.specs.Trees.{items, IsBalanced}
 use Rattle.balanced_tree.specs.declared.tree.Tree.{Tree}
 use Rattle.batch_sums.specs.declared.sums.BatchSums.TheInside.{Inside}
-use Rattle.batch_sums.specs.declared.group.Group.{Group}
 use Rattle.batch_sums.specs.declared.types.Held.{Held}
-use Rattle.batch_sums.specs.Rising.{IsRising}
 use Rattle.batch_sums.specs.Groups.{Face, face_of, faces, face_at, rank_of, rank_at}
-use Rattle.batch_sums.specs.Kept.{IsIndex, IsKey}
-use Rattle.batch_sums.specs.Invariant.{IsKept, IsSettled, IsRoomy, inside, outside}
+use Rattle.batch_sums.specs.Kept.{IsIndex}
+use Rattle.batch_sums.specs.Invariant.{IsKept, inside, outside}
 use Rattle.batch_sums.proofs.Adding.{sum_by-same}
 use Rattle.batch_sums.proofs.Opening.{IsRising-agree}
 use Rattle.batch_sums.proofs.Underway.{IsUnderway, face_by-key}
@@ -46,7 +44,7 @@ kept_after before now visited tare start steps under kept =
     let groups : length now.groups.items ≡ length before.groups.items = omega (arith, under.groups_long, now.groups.ok.0, before.groups.ok.0) in
     let long : length (faces now.groups.items) ≡ length (faces before.groups.items) = omega (arith, groups, length-map now.groups.items face_of, length-map before.groups.items face_of) in
     let key : (place : ℕ) → (face_at (faces now.groups.items) place).key ≡ (face_at (faces before.groups.items) place).key =
-      λ place. ap (λ (f : Face). f.key) (under.face place) ∙ face_by-key visited tare place (face_at (faces before.groups.items) place) in
+    λ place. ap (λ (f : Face). f.key) (under.face place) ∙ face_by-key visited tare place (face_at (faces before.groups.items) place) in
     let keys : now.numbers.keys ≡ before.numbers.keys = ap (λ s. s.keys) under.numbers in
     let free : spare now.numbers ≡ spare before.numbers = ap spare under.numbers in
     let packs_long : vec_len now.packs ≡ vec_len before.packs = ap (λ (v : Vec Held Global). vec_len v) under.packs in

@@ -1,26 +1,25 @@
 -- A pack moves between two piles: it goes out of its group and batch, and comes in again.
 use Rattle.std.proofs.Common.{◌≡◌, ℕ, zero, suc, ◌+◌, ◌*◌, ◌<◌, ◌≤◌, Bool, true, false, cond, not, ◌&&◌, eqb, List, [], ◌∷◌, ◌++◌, length, map, get_or, set, Option, Some, refl, ap, sym, subst, ◌∙◌, arith, length-set}
-use Rattle.std.specs.Prelude.{ℤ, pos, ◌≤ℤ◌}
-use Rattle.std.specs.List.{sum_by, count_by, All, slice_get, remove}
+use Rattle.std.specs.Prelude.{pos, ◌≤ℤ◌}
+use Rattle.std.specs.List.{count_by, All, slice_get, remove}
 use Rattle.std.proofs.lemmas.Bool.{eq-eqb, ne_eqb, cases_eq}
 use Rattle.std.proofs.lemmas.List.{map-set, set-set, set-get_or, get_or-map}
 use Rattle.std.proofs.lemmas.List.Elements.{All-set}
 use Rattle.std.proofs.lemmas.List.Edits.{length-remove}
 use Rattle.std.proofs.lemmas.List.Sums.{sum_by-set, sum_by-cons}
 use Rattle.std.proofs.lemmas.Option.{slice_get_read, slice_get_within, same_Some}
-use Rattle.hall_limits.specs.declared.TheConstants.{MAX_GROSS, MAX_TARE}
+use Rattle.hall_limits.specs.declared.TheConstants.{MAX_GROSS}
 use Rattle.pack_judge.specs.declared.types.Pile.{Pile}
 use Rattle.batch_sums.specs.declared.batch.Batch.{Batch}
 use Rattle.batch_sums.specs.declared.group.Group.{Group}
 use Rattle.batch_sums.specs.declared.types.Held.{Held}
-use Rattle.batch_sums.specs.Totals.{Pack, is_counted, same_pile}
+use Rattle.batch_sums.specs.Totals.{is_counted}
 use Rattle.batch_sums.specs.Rising.{mass_of, HasMoreIf}
 use Rattle.batch_sums.specs.Groups.{Face, face_of, faces, face_at, IsJudged}
 use Rattle.batch_sums.specs.Running.{IsEntered, IsBounded, HasRoom, Covers, pile_sum}
 use Rattle.batch_sums.specs.Kept.{AddsUp, Sound, IsGroup, seen, belongs}
 use Rattle.batch_sums.specs.Changes.{moved}
-use Rattle.batch_sums.specs.Invariant.{IsSettled, inside, outside}
-use Rattle.batch_sums.proofs.Joining.{Joins, joins_remove, joins_set, has_grosses_out}
+use Rattle.batch_sums.proofs.Joining.{Joins, joins_remove, joins_set}
 use Rattle.batch_sums.proofs.Sounding.{All-remove, faces-set, get-set_same, face-found}
 use Rattle.batch_sums.proofs.Entering.{sound_in, sound_out, own, covered, room_for, contained, few_grosses}
 use Rattle.batch_sums.proofs.Telling.{tared, bounded}
@@ -107,7 +106,7 @@ module _ (batches : List Batch) (groups : List Group) (held : List Held) (sound 
         pub room_to : (to : Pile) → HasRoom left to
         room_to to =
             room_for (faces (set groups h.group less)) less.key.batch (remove held place) left (sound_less.batch less.key.batch left at_left) to (omega (arith, shorter, sound.few))
-              (omega (arith, leaves.gross to, gross_at batch to small)) (omega (arith, leaves.tares, small.tares))
+            (omega (arith, leaves.gross to, gross_at batch to small)) (omega (arith, leaves.tares, small.tares))
 
         pub few_less : length less.grosses + 1 < 4294967296
         few_less =
@@ -127,10 +126,10 @@ module _ (batches : List Batch) (groups : List Group) (held : List Held) (sound 
               let few : length (set held place (in_pile h to)) < 4294967296 = omega (arith, length-set held place (in_pile h to), sound.few) in
               let tare : group.tare ≡ less.tare = sym (ap (λ (f : Face). f.tare) face_less) in
               let whole = sound_in (set batches group.key.batch left) (set groups h.group less) (remove held place) (set held place (in_pile h to)) (in_pile h to) comes less after left new at_less at_left face_after judged_after
-                    (subst (λ t. IsEntered left new to h.gross t) tare enters) takes grouped_less light few sound_less in
+              (subst (λ t. IsEntered left new to h.gross t) tare enters) takes grouped_less light few sound_less in
               let one = subst (λ n. Sound (set (set batches group.key.batch left) n new) (set (set groups h.group less) h.group after) (set held place (in_pile h to))) (ap (λ k. k.batch) key_less) whole in
               subst (λ bs. Sound bs (set groups h.group after) (set held place (in_pile h to))) (set-set batches group.key.batch left new)
-                (subst (λ gs. Sound (set (set batches group.key.batch left) group.key.batch new) gs (set held place (in_pile h to))) (set-set groups h.group less after) one)
+              (subst (λ gs. Sound (set (set batches group.key.batch left) group.key.batch new) gs (set held place (in_pile h to))) (set-set groups h.group less after) one)
 
           pub faces_moved : faces (set groups h.group after) ≡ faces groups
           faces_moved = faces-set groups h.group group after at_group (face_after ∙ face_less)
@@ -141,13 +140,13 @@ moved_none some number pile [] none = refl
 moved_none some number pile (h ∷ held) none =
     elim (cases_eq h.number number) [
       | Rattle.std.proofs.Common.inl same ↦
-        absurd (let one : cond (eqb h.number number) (suc zero) zero ≡ suc zero = ap (λ b. cond b (suc zero) zero) (eq-eqb h.number number same) in
+          absurd (let one : cond (eqb h.number number) (suc zero) zero ≡ suc zero = ap (λ b. cond b (suc zero) zero) (eq-eqb h.number number same) in
           omega (arith, none, sum_by-cons (λ p. cond (eqb p.number number) 1 0) h held, one))
       | Rattle.std.proofs.Common.inr differs ↦
-        let no : eqb h.number number ≡ false = ne_eqb h.number number differs in
-        let nothing : cond (eqb h.number number) (suc zero) zero ≡ zero = ap (λ b. cond b (suc zero) zero) no in
-        let rest = moved_none some number pile held (omega (arith, none, sum_by-cons (λ p. cond (eqb p.number number) 1 0) h held, nothing)) in
-        rw no (ap (λ ps. seen some h ∷ ps) rest)
+          let no : eqb h.number number ≡ false = ne_eqb h.number number differs in
+          let nothing : cond (eqb h.number number) (suc zero) zero ≡ zero = ap (λ b. cond b (suc zero) zero) no in
+          let rest = moved_none some number pile held (omega (arith, none, sum_by-cons (λ p. cond (eqb p.number number) 1 0) h held, nothing)) in
+          rw no (ap (λ ps. seen some h ∷ ps) rest)
     ]
 
 -- a write of the one pack of a number is what moves it
@@ -162,8 +161,8 @@ moved_is some number pile (g ∷ held) zero h once within read is =
 moved_is some number pile (g ∷ held) (suc place) h once within read is =
     let there : 0 < count_by (λ p. eqb p.number number) held = counted held place h (omega arith) read is in
     let no : eqb g.number number ≡ false = ne_eqb g.number number (λ same.
-          let one : cond (eqb g.number number) (suc zero) zero ≡ suc zero = ap (λ b. cond b (suc zero) zero) (eq-eqb g.number number same) in
-          omega (arith, once, there, sum_by-cons (λ p. cond (eqb p.number number) 1 0) g held, one)) in
+    let one : cond (eqb g.number number) (suc zero) zero ≡ suc zero = ap (λ b. cond b (suc zero) zero) (eq-eqb g.number number same) in
+    omega (arith, once, there, sum_by-cons (λ p. cond (eqb p.number number) 1 0) g held, one)) in
     let nothing : cond (eqb g.number number) (suc zero) zero ≡ zero = ap (λ b. cond b (suc zero) zero) no in
     let fewer : count_by (λ p. eqb p.number number) held ≤ 1 = omega (arith, once, sum_by-cons (λ p. cond (eqb p.number number) 1 0) g held, nothing) in
     rw no (ap (λ ps. seen some g ∷ ps) (moved_is some number pile held place h fewer (omega arith) read is))

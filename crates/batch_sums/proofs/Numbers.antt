@@ -1,6 +1,6 @@
 -- The numbers of packs, and the lists behind a pack that moved.
-use Rattle.std.proofs.Common.{◌≡◌, ℕ, zero, suc, ◌+◌, ◌<◌, ◌≤◌, Bool, true, false, cond, not, ◌||◌, eqb, List, [], ◌∷◌, length, map, get_or, set, Option, Some, refl, ap, sym, subst, ◌∙◌, arith, length-set}
-use Rattle.std.specs.List.{sum_by, count_by, list_any, position}
+use Rattle.std.proofs.Common.{◌≡◌, ℕ, zero, suc, ◌+◌, ◌<◌, ◌≤◌, Bool, true, false, cond, not, ◌||◌, eqb, List, [], ◌∷◌, length, map, get_or, set, Some, refl, ap, sym, subst, ◌∙◌, arith, length-set}
+use Rattle.std.specs.List.{sum_by, list_any, position}
 use Rattle.std.proofs.lemmas.Bool.{eqb-true}
 use Rattle.std.proofs.lemmas.List.{length-map, map-set, set-get_or, get_or-map}
 use Rattle.std.proofs.lemmas.List.Sums.{sum_by-set}

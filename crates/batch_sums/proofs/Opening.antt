@@ -1,16 +1,14 @@
 -- A group is opened: the order of keys stays, with the new one in its place.
-use Rattle.std.proofs.Common.{◌≡◌, ℕ, zero, suc, ◌+◌, ◌<◌, ◌≤◌, Bool, true, false, cond, eqb, ltb, inl, inr, List, [], ◌∷◌, ◌++◌, length, map, get_or, take, drop, Option, None, Some, refl, ap, sym, subst, ◌∙◌, arith, length-append}
+use Rattle.std.proofs.Common.{◌≡◌, ℕ, zero, suc, ◌+◌, ◌<◌, ◌≤◌, Bool, true, false, cond, eqb, ltb, inl, inr, List, [], ◌∷◌, ◌++◌, length, get_or, take, drop, None, Some, refl, ap, sym, subst, ◌∙◌, arith, length-append}
 use Rattle.std.specs.List.{sum_by, count_by, All, insert, slice_get}
 use Rattle.std.proofs.lemmas.Option.{none-some, same_Some, slice_get_within, get_or_from_slice_get}
 use Rattle.std.proofs.lemmas.Bool.{cases_lt, cases_eq, eq-eqb, ne_eqb, eqb-false}
-use Rattle.std.proofs.lemmas.List.{length-map, map-append, get_or_append_left, get_or_at}
+use Rattle.std.proofs.lemmas.List.{get_or_append_left, get_or_at}
 use Rattle.std.proofs.lemmas.List.Elements.{All-append, All-take, All-drop, All-cons, All-weaker, All-head, All-tail}
 use Rattle.std.proofs.lemmas.List.Sums.{sum_by-insert, sum_by-cons}
 use Rattle.std.proofs.lemmas.List.Edits.{length-insert}
-use Rattle.batch_sums.specs.declared.group.Group.{Group}
-use Rattle.batch_sums.specs.declared.group.Key.{Key}
 use Rattle.batch_sums.specs.Rising.{AtLeast, IsRising}
-use Rattle.batch_sums.specs.Groups.{Face, face_of, faces, face_at, no_face, rank_of, rank_at}
+use Rattle.batch_sums.specs.Groups.{Face, face_at, no_face, rank_of, rank_at}
 use Rattle.batch_sums.specs.Kept.{IsIndex, IsKey}
 use Rattle.batch_sums.proofs.Rising.{below, below-le-length, IsRising-insert, found_at}
 use Rattle.batch_sums.proofs.Adding.{sum_by-agree}
@@ -73,32 +71,32 @@ module _ (some : List Face) (face : Face) where
               let wider = All-weaker (λ p. p < length some) (λ p. p < length (some ++ face ∷ [])) (λ p less. omega (arith, less, long)) order index.within in
               let before = below (rank_at some) (rank_of face.key) order in
               All-append (λ p. p < length (some ++ face ∷ [])) (take before order) (length some ∷ drop before order) (All-take (λ p. p < length (some ++ face ∷ [])) before order wider)
-                (All-cons (λ p. p < length (some ++ face ∷ [])) (length some) (drop before order) (omega (arith, long)) (All-drop (λ p. p < length (some ++ face ∷ [])) before order wider));
+              (All-cons (λ p. p < length (some ++ face ∷ [])) (length some) (drop before order) (omega (arith, long)) (All-drop (λ p. p < length (some ++ face ∷ [])) before order wider));
           once = λ p within.
               elim (cases_eq (length some) p) [
                 | inl same ↦
-                  let one : cond (eqb (length some) p) (suc zero) zero ≡ suc zero = ap (λ b. cond b (suc zero) zero) (eq-eqb (length some) p same) in
-                  omega (arith, counts (λ other. eqb other p), one, subst (λ n. count_by (λ other. eqb other n) order ≡ 0) same none)
+                    let one : cond (eqb (length some) p) (suc zero) zero ≡ suc zero = ap (λ b. cond b (suc zero) zero) (eq-eqb (length some) p same) in
+                    omega (arith, counts (λ other. eqb other p), one, subst (λ n. count_by (λ other. eqb other n) order ≡ 0) same none)
                 | inr differs ↦
-                  let no : cond (eqb (length some) p) (suc zero) zero ≡ zero = ap (λ b. cond b (suc zero) zero) (ne_eqb (length some) p differs) in
-                  omega (arith, counts (λ other. eqb other p), no, index.once p (omega (arith, within, long, differs)))
+                    let no : cond (eqb (length some) p) (suc zero) zero ≡ zero = ap (λ b. cond b (suc zero) zero) (ne_eqb (length some) p differs) in
+                    omega (arith, counts (λ other. eqb other p), no, index.once p (omega (arith, within, long, differs)))
               ];
           distinct = λ rank.
               elim (cases_eq (rank_of face.key) rank) [
                 | inl same ↦
-                  let nothing = subst (λ r. count_by (λ p. eqb (rank_at some p) r) order ≡ 0) same absent in
-                  let one : cond (eqb (rank_at (some ++ face ∷ []) (length some)) rank) (suc zero) zero ≤ 1 = one_le (eqb (rank_at (some ++ face ∷ []) (length some)) rank) in
-                  omega (arith, counts (λ p. eqb (rank_at (some ++ face ∷ []) p) rank), same_count (λ r. eqb r rank), nothing, one)
+                    let nothing = subst (λ r. count_by (λ p. eqb (rank_at some p) r) order ≡ 0) same absent in
+                    let one : cond (eqb (rank_at (some ++ face ∷ []) (length some)) rank) (suc zero) zero ≤ 1 = one_le (eqb (rank_at (some ++ face ∷ []) (length some)) rank) in
+                    omega (arith, counts (λ p. eqb (rank_at (some ++ face ∷ []) p) rank), same_count (λ r. eqb r rank), nothing, one)
                 | inr differs ↦
-                  let no : cond (eqb (rank_at (some ++ face ∷ []) (length some)) rank) (suc zero) zero ≡ zero = ap (λ b. cond b (suc zero) zero) (ne_eqb _ rank (λ same. differs (sym (ap (λ (f : Face). rank_of f.key) face-new) ∙ same))) in
-                  omega (arith, counts (λ p. eqb (rank_at (some ++ face ∷ []) p) rank), same_count (λ r. eqb r rank), index.distinct rank, no)
+                    let no : cond (eqb (rank_at (some ++ face ∷ []) (length some)) rank) (suc zero) zero ≡ zero = ap (λ b. cond b (suc zero) zero) (ne_eqb _ rank (λ same. differs (sym (ap (λ (f : Face). rank_of f.key) face-new) ∙ same))) in
+                    omega (arith, counts (λ p. eqb (rank_at (some ++ face ∷ []) p) rank), same_count (λ r. eqb r rank), index.distinct rank, no)
               ];
           keys = λ p within.
               elim (cases_lt p (length some)) [
                 | inl less ↦ subst IsKey (sym (face-old p less)) (index.keys p less)
                 | inr not_less ↦
-                  let same : length some ≡ p = omega (arith, within, long, not_less) in
-                  subst (λ n. IsKey (face_at (some ++ face ∷ []) n)) same (subst IsKey (sym face-new) key)
+                    let same : length some ≡ p = omega (arith, within, long, not_less) in
+                    subst (λ n. IsKey (face_at (some ++ face ∷ []) n)) same (subst IsKey (sym face-new) key)
               ];
           long = omega (arith, length-insert order (below (rank_at some) (rank_of face.key) order) (length some) few, index.long, long);
         }
@@ -125,9 +123,9 @@ module _ (some : List Face) (order : List ℕ) (index : IsIndex some order) (ran
   absent_other place is differs =
       elim (cases_lt 0 (count_by (λ other. eqb (rank_at some other) rank) order)) [
         | inl there ↦
-          let found = found_at (rank_at some) rank order index.rising there in
-          let same : found.0 ≡ place = same_Some found.0 place (sym found.1 ∙ is) in
-          absurd (eqb-false (rank_at some place) rank differs (ap (rank_at some) (sym same) ∙ found.2))
+            let found = found_at (rank_at some) rank order index.rising there in
+            let same : found.0 ≡ place = same_Some found.0 place (sym found.1 ∙ is) in
+            absurd (eqb-false (rank_at some place) rank differs (ap (rank_at some) (sym same) ∙ found.2))
         | inr not_there ↦ omega arith
       ]
 

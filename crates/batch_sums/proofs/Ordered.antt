@@ -1,12 +1,12 @@
 -- Grosses in order: what an insertion and a removal leave.
-use Rattle.std.proofs.Common.{◌≡◌, ℕ, suc, ◌+◌, ◌<◌, ◌≤◌, ◌^◌, Bool, true, false, cond, eqb, ltb, List, [], ◌∷◌, length, Option, Some, refl, ap, sym, ◌∙◌, arith, get_or, set}
-use Rattle.std.specs.List.{sum_by, count_by, insert, remove, slice_get}
+use Rattle.std.proofs.Common.{◌≡◌, ℕ, ◌+◌, ◌<◌, cond, eqb, List, length, refl, sym, ◌∙◌, arith}
+use Rattle.std.specs.List.{count_by, insert, remove}
 use Rattle.std.proofs.lemmas.List.Sums.{sum_by-remove}
-use Rattle.std.proofs.lemmas.List.Edits.{length-insert, length-remove}
+use Rattle.std.proofs.lemmas.List.Edits.{length-insert}
 use Rattle.std.proofs.lemmas.Option.{slice_get_within, get_or_from_slice_get}
 use Rattle.batch_sums.specs.declared.grosses.Gross.{Gross}
 use Rattle.batch_sums.specs.Rising.{IsRising, mass_of, HasOneMore}
-use Rattle.batch_sums.proofs.Rising.{below, below-le-length, IsRising-insert, IsRising-remove, found_at}
+use Rattle.batch_sums.proofs.Rising.{below, below-le-length, IsRising-insert, found_at}
 
 pub rising_put : (old new : List Gross) (place gross : ℕ) (item : Gross) → IsRising mass_of old → item.mass ≡ gross → place ≡ below mass_of gross old → new ≡ insert old place item → IsRising mass_of new
 rising_put old new place gross item up is at made = rw (made, at, sym is) (IsRising-insert mass_of old item up)

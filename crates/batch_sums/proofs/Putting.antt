@@ -1,27 +1,23 @@
 -- A pack is put into the group that was found or opened for it.
-use Rattle.std.proofs.Common.{◌≡◌, ℕ, zero, suc, ◌+◌, ◌<◌, ◌≤◌, Bool, true, false, cond, not, ◌&&◌, ◌||◌, eqb, ltb, ◌⊎◌, inl, inr, List, [], ◌∷◌, ◌++◌, length, map, get_or, set, Option, None, Some, refl, ap, sym, subst, ◌∙◌, arith, length-append, length-set}
-use Rattle.std.specs.Prelude.{ℤ, pos, ◌≤ℤ◌}
-use Rattle.std.specs.List.{sum_by, count_by, All, list_any, slice_get}
-use Rattle.std.proofs.lemmas.Bool.{cases_lt, cases_eq, eq-eqb, ne_eqb, eqb-true}
-use Rattle.std.proofs.lemmas.List.{length-map, map-append, get_or-map, get_or_append_left, get_or_at}
-use Rattle.std.proofs.lemmas.List.Elements.{All-head, All-tail, All-push, All-weaker}
-use Rattle.std.proofs.lemmas.List.Sums.{sum_by-cons, sum_by_push}
-use Rattle.std.proofs.lemmas.Option.{slice_get_cases, slice_get_within, same_Some, none-some, slice_get_past}
-use Rattle.hall_limits.specs.declared.TheConstants.{MAX_GROSS, MAX_TARE}
+use Rattle.std.proofs.Common.{◌≡◌, ℕ, zero, suc, ◌<◌, Bool, false, cond, ◌&&◌, eqb, ltb, ◌⊎◌, inl, inr, List, [], ◌∷◌, ◌++◌, length, map, get_or, Some, refl, ap, sym, subst, ◌∙◌, arith, length-append}
+use Rattle.std.specs.Prelude.{pos, ◌≤ℤ◌}
+use Rattle.std.specs.List.{sum_by, count_by, All, slice_get}
+use Rattle.std.proofs.lemmas.Bool.{ne_eqb}
+use Rattle.std.proofs.lemmas.List.{length-map, map-append}
+use Rattle.std.proofs.lemmas.List.Elements.{All-head, All-tail, All-weaker}
+use Rattle.std.proofs.lemmas.List.Sums.{sum_by-cons}
+use Rattle.std.proofs.lemmas.Option.{same_Some, none-some}
+use Rattle.hall_limits.specs.declared.TheConstants.{MAX_TARE}
 use Rattle.batch_sums.specs.declared.batch.Batch.{Batch}
-use Rattle.batch_sums.specs.declared.grosses.Gross.{Gross}
 use Rattle.batch_sums.specs.declared.group.Group.{Group}
-use Rattle.batch_sums.specs.declared.group.Key.{Key}
 use Rattle.batch_sums.specs.declared.types.Held.{Held}
-use Rattle.batch_sums.specs.Totals.{Pack, is_counted, same_pile}
+use Rattle.batch_sums.specs.Totals.{is_counted, same_pile}
 use Rattle.batch_sums.specs.Rising.{mass_of}
-use Rattle.batch_sums.specs.Groups.{Face, face_of, faces, face_at, no_face, threshold, IsJudged}
+use Rattle.batch_sums.specs.Groups.{Face, face_of, faces, face_at, threshold}
 use Rattle.batch_sums.specs.Running.{pile_sum, count_at}
-use Rattle.batch_sums.specs.Kept.{AddsUp, Sound, IsGroup, IsOpened, HasKey, seen, is_member, count_in, gross_in, tare_in, below_in}
-use Rattle.batch_sums.specs.Changes.{is_added}
+use Rattle.batch_sums.specs.Kept.{AddsUp, Sound, IsGroup, seen, is_member, count_in, gross_in, tare_in, below_in}
 use Rattle.batch_sums.proofs.Adding.{sum_by-agree}
-use Rattle.batch_sums.proofs.Joining.{HasGrosses}
-use Rattle.batch_sums.proofs.Opening.{face-old, face-new}
+use Rattle.batch_sums.proofs.Opening.{face-old}
 use Rattle.batch_sums.proofs.Sounding.{face-found}
 
 zeros : {X : Type 0} (xs : List X) → sum_by (λ x. 0) xs ≡ 0
@@ -89,7 +85,7 @@ module _ (batches : List Batch) (groups : List Group) (held : List Held) (sound 
   no_member : (test : ℕ → Bool) → count_by (is_member (length groups) test) held ≡ 0
   no_member test =
       sum_by-agree (λ h. cond (is_member (length groups) test h) 1 0) (λ h. 0) held
-        (λ k d within. ap (λ b. cond ((b && is_counted (get_or held k d).pile) && test (get_or held k d).gross) 1 0) (ne_eqb (get_or held k d).group (length groups) (λ same. omega (arith, sound.grouped k d within, same))))
+      (λ k d within. ap (λ b. cond ((b && is_counted (get_or held k d).pile) && test (get_or held k d).gross) 1 0) (ne_eqb (get_or held k d).group (length groups) (λ same. omega (arith, sound.grouped k d within, same))))
       ∙ zeros held
 
   -- a group without packs is opened
@@ -101,7 +97,7 @@ module _ (batches : List Batch) (groups : List Group) (held : List Held) (sound 
             elim (get-append_cases groups group other place at) [
               | inl before ↦ sound.group place other before
               | inr new ↦
-                let own : IsGroup batches held (length groups) group =
+                  let own : IsGroup batches held (length groups) group =
                   record {
                     batch = batch;
                     is = is;
@@ -113,7 +109,7 @@ module _ (batches : List Batch) (groups : List Group) (held : List Held) (sound 
                     tare = tare;
                     grosses = λ test. ap (λ xs. count_by (λ gross. test (mass_of gross)) xs) grosses ∙ sym (no_member test);
                   } in
-                subst (λ n. IsGroup batches held n other) (sym new.0) (subst (λ g. IsGroup batches held (length groups) g) (sym new.1) own)
+                  subst (λ n. IsGroup batches held n other) (sym new.0) (subst (λ g. IsGroup batches held (length groups) g) (sym new.1) own)
             ];
         batch = λ number other at. subst (λ fs. AddsUp fs held number other) (sym (faces-push groups group)) (adds_up_more (faces groups) (face_of group) held there number other (sound.batch number other at));
         grouped = All-weaker (λ h. h.group < length groups) (λ h. h.group < length (groups ++ group ∷ [])) (λ h less. omega (arith, less, length-append groups (group ∷ []))) held sound.grouped;
@@ -129,13 +125,13 @@ module _ (batches : List Batch) (groups : List Group) (held : List Held) (sound 
   sound_batch batch piles tares nonstandard inadequate =
       let apart : (h : Held) → (face_at (faces groups) h.group).key.batch < length batches → eqb (face_at (faces groups) h.group).key.batch (length batches) ≡ false = λ h less. ne_eqb _ _ (λ same. omega (arith, less, same)) in
       let own : AddsUp (faces groups) held (length batches) batch =
-        record {
-          count = λ pile. ap (λ s. s.count) (piles pile) ∙ sym (none_of (count_in (faces groups) (length batches) pile) (λ h less. ap (λ b. cond (b && same_pile h.pile pile) 1 0) (apart h less)));
-          gross = λ pile. ap (λ s. s.gross) (piles pile) ∙ sym (none_of (gross_in (faces groups) (length batches) pile) (λ h less. ap (λ b. cond (b && same_pile h.pile pile) h.gross 0) (apart h less)));
-          tares = tares ∙ sym (none_of (tare_in (faces groups) (length batches)) (λ h less. ap (λ b. cond (b && is_counted h.pile) (face_at (faces groups) h.group).tare 0) (apart h less)));
-          nonstandard = nonstandard ∙ sym (none_of (below_in (faces groups) (length batches) batch.limits.t1) (λ h less. ap (λ b. cond b (count_at h.pile h.gross (threshold batch.limits.t1 (face_at (faces groups) h.group).tare)) 0) (apart h less)));
-          inadequate = inadequate ∙ sym (none_of (below_in (faces groups) (length batches) batch.limits.t2) (λ h less. ap (λ b. cond b (count_at h.pile h.gross (threshold batch.limits.t2 (face_at (faces groups) h.group).tare)) 0) (apart h less)));
-        } in
+      record {
+        count = λ pile. ap (λ s. s.count) (piles pile) ∙ sym (none_of (count_in (faces groups) (length batches) pile) (λ h less. ap (λ b. cond (b && same_pile h.pile pile) 1 0) (apart h less)));
+        gross = λ pile. ap (λ s. s.gross) (piles pile) ∙ sym (none_of (gross_in (faces groups) (length batches) pile) (λ h less. ap (λ b. cond (b && same_pile h.pile pile) h.gross 0) (apart h less)));
+        tares = tares ∙ sym (none_of (tare_in (faces groups) (length batches)) (λ h less. ap (λ b. cond (b && is_counted h.pile) (face_at (faces groups) h.group).tare 0) (apart h less)));
+        nonstandard = nonstandard ∙ sym (none_of (below_in (faces groups) (length batches) batch.limits.t1) (λ h less. ap (λ b. cond b (count_at h.pile h.gross (threshold batch.limits.t1 (face_at (faces groups) h.group).tare)) 0) (apart h less)));
+        inadequate = inadequate ∙ sym (none_of (below_in (faces groups) (length batches) batch.limits.t2) (λ h less. ap (λ b. cond b (count_at h.pile h.gross (threshold batch.limits.t2 (face_at (faces groups) h.group).tare)) 0) (apart h less)));
+      } in
       record {
         group = λ place other at.
             let old = sound.group place other at in

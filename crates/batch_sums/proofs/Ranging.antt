@@ -1,16 +1,14 @@
 -- Which groups stand between two places of the order: those of a product whose day is one of some days.
-use Rattle.std.proofs.Common.{◌≡◌, ℕ, zero, suc, ◌+◌, ◌*◌, ◌-◌, ◌<◌, ◌≤◌, Bool, true, false, cond, ◌&&◌, ◌||◌, eqb, ltb, leb, max, ◌⊎◌, inl, inr, List, [], ◌∷◌, ◌++◌, length, map, get_or, take, drop, Option, Some, refl, ap, sym, subst, ◌∙◌, arith, true≢false}
-use Rattle.std.specs.Prelude.{ℤ, pos, ◌≤ℤ◌}
-use Rattle.std.specs.List.{sum_by, count_by, All, list_any, between}
-use Rattle.std.proofs.lemmas.Bool.{cases_lt, cases_eq, eq-eqb, ne_eqb, eqb-true, lt-ltb, le-ltb, ltb-true}
+use Rattle.std.proofs.Common.{◌≡◌, ℕ, zero, suc, ◌+◌, ◌*◌, ◌<◌, ◌≤◌, Bool, true, false, cond, ◌||◌, eqb, ltb, max, ◌⊎◌, inl, inr, List, [], ◌∷◌, ◌++◌, length, take, drop, refl, ap, sym, subst, ◌∙◌, arith, true≢false}
+use Rattle.std.specs.List.{sum_by, count_by, list_any, between}
+use Rattle.std.proofs.lemmas.Bool.{cases_lt, cases_eq, eq-eqb, ne_eqb, lt-ltb, ltb-true}
 use Rattle.std.proofs.lemmas.List.Sums.{sum_by-cons, sum_by-append, sum_by-take-drop}
 use Rattle.std.proofs.lemmas.List.Edits.{split_between}
 use Rattle.std.proofs.lemmas.Int.{ints}
-use Rattle.hall_limits.specs.declared.TheConstants.{MAX_DAY}
 use Rattle.batch_sums.specs.Rising.{AtLeast, IsRising}
-use Rattle.batch_sums.specs.Groups.{Face, face_at, rank_of, rank_at}
+use Rattle.batch_sums.specs.Groups.{Face, rank_of, rank_at}
 use Rattle.batch_sums.specs.Kept.{IsIndex, IsKey}
-use Rattle.batch_sums.proofs.Rising.{below, below-yes, below_none, below-le-length, AtLeast-lower}
+use Rattle.batch_sums.proofs.Rising.{below, below-yes, below_none, AtLeast-lower}
 
 -- each item has a lower rank
 abbrev pub Under : {T : Type 0} → (T → ℕ) → ℕ → List T → Type 0
@@ -70,8 +68,8 @@ any_counted place (x ∷ xs) some =
     elim (cases_eq x place) [
       | inl same ↦ ap (λ c. c || list_any (λ other. eqb other place) xs) (eq-eqb x place same)
       | inr differs ↦
-        let no : cond (eqb x place) (suc zero) zero ≡ zero = ap (λ c. cond c (suc zero) zero) (ne_eqb x place differs) in
-        ap (λ c. c || list_any (λ other. eqb other place) xs) (ne_eqb x place differs) ∙ any_counted place xs (omega (arith, some, sum_by-cons (λ other. cond (eqb other place) 1 0) x xs, no))
+          let no : cond (eqb x place) (suc zero) zero ≡ zero = ap (λ c. cond c (suc zero) zero) (ne_eqb x place differs) in
+          ap (λ c. c || list_any (λ other. eqb other place) xs) (ne_eqb x place differs) ∙ any_counted place xs (omega (arith, some, sum_by-cons (λ other. cond (eqb other place) 1 0) x xs, no))
     ]
 
 pub counted_any : (place : ℕ) (xs : List ℕ) → list_any (λ other. eqb other place) xs ≡ true → 0 < count_by (λ other. eqb other place) xs
@@ -79,11 +77,11 @@ counted_any place [] there = absurd (true≢false (sym there))
 counted_any place (x ∷ xs) there =
     elim (cases_eq x place) [
       | inl same ↦
-        let one : cond (eqb x place) (suc zero) zero ≡ suc zero = ap (λ c. cond c (suc zero) zero) (eq-eqb x place same) in
-        omega (arith, sum_by-cons (λ other. cond (eqb other place) 1 0) x xs, one)
+          let one : cond (eqb x place) (suc zero) zero ≡ suc zero = ap (λ c. cond c (suc zero) zero) (eq-eqb x place same) in
+          omega (arith, sum_by-cons (λ other. cond (eqb other place) 1 0) x xs, one)
       | inr differs ↦
-        let rest = counted_any place xs (sym (ap (λ c. c || list_any (λ other. eqb other place) xs) (ne_eqb x place differs)) ∙ there) in
-        omega (arith, sum_by-cons (λ other. cond (eqb other place) 1 0) x xs, rest)
+          let rest = counted_any place xs (sym (ap (λ c. c || list_any (λ other. eqb other place) xs) (ne_eqb x place differs)) ∙ there) in
+          omega (arith, sum_by-cons (λ other. cond (eqb other place) 1 0) x xs, rest)
     ]
 
 pub bool_same : (b c : Bool) → (b ≡ true → c ≡ true) → (c ≡ true → b ≡ true) → b ≡ c
@@ -111,28 +109,30 @@ module _ (some : List Face) (order : List ℕ) (index : IsIndex some order) (low
   between_ranks place there =
       elim (cases_lt (rank_at some place) low) [
         | inl less ↦
-          let none = least_none (rank_at some) low place (drop first order) from_first less in
-          let whole = sum_by-take-drop (λ other. cond (eqb other place) 1 0) order first in
-          absurd (omega (arith, there, parts place, none, whole))
-        | inr not_less ↦
-          (not_less, elim (cases_lt (rank_at some place) high) [
+            let none = least_none (rank_at some) low place (drop first order) from_first less in
+            let whole = sum_by-take-drop (λ other. cond (eqb other place) 1 0) order first in
+            absurd (omega (arith, there, parts place, none, whole))
+        | inr not_less ↦ (
+          not_less,
+          elim (cases_lt (rank_at some place) high) [
             | inl under ↦ under
             | inr not_under ↦
-              let bound : below (rank_at some) low order ≤ below (rank_at some) high order ⊎ (high < low) =
+                let bound : below (rank_at some) low order ≤ below (rank_at some) high order ⊎ (high < low) =
                 elim (cases_lt high low) [ inl h ↦ inr h | inr h ↦ inl (below-monotone (rank_at some) low high order h) ] in
-              elim bound [
-                | inl rises ↦
-                  let same : end ≡ below (rank_at some) high order = omega (arith, end_is, first_is, rises) in
-                  let none = subst (λ n. count_by (λ other. eqb other place) (take n order) ≡ 0) (sym same) (under_none (rank_at some) high place (take (below (rank_at some) high order) order) (under_take (rank_at some) high order index.rising) not_under) in
-                  let whole = sum_by-take-drop (λ other. cond (eqb other place) 1 0) order end in
-                  absurd (omega (arith, there, parts place, none, whole))
-                | inr falls ↦
-                  let fewer = below-monotone (rank_at some) high low order (omega (arith, falls)) in
-                  let same : end ≡ first = omega (arith, end_is, first_is, fewer) in
-                  let none : count_by (λ other. eqb other place) (between first end order) ≡ 0 = ap (λ n. count_by (λ other. eqb other place) (between first n order)) same ∙ ap (count_by (λ other. eqb other place)) (Rattle.std.proofs.lemmas.List.Edits.between_none order first) in
-                  absurd (omega (arith, there, none))
-              ]
-          ])
+                elim bound [
+                  | inl rises ↦
+                      let same : end ≡ below (rank_at some) high order = omega (arith, end_is, first_is, rises) in
+                      let none = subst (λ n. count_by (λ other. eqb other place) (take n order) ≡ 0) (sym same) (under_none (rank_at some) high place (take (below (rank_at some) high order) order) (under_take (rank_at some) high order index.rising) not_under) in
+                      let whole = sum_by-take-drop (λ other. cond (eqb other place) 1 0) order end in
+                      absurd (omega (arith, there, parts place, none, whole))
+                  | inr falls ↦
+                      let fewer = below-monotone (rank_at some) high low order (omega (arith, falls)) in
+                      let same : end ≡ first = omega (arith, end_is, first_is, fewer) in
+                      let none : count_by (λ other. eqb other place) (between first end order) ≡ 0 = ap (λ n. count_by (λ other. eqb other place) (between first n order)) same ∙ ap (count_by (λ other. eqb other place)) (Rattle.std.proofs.lemmas.List.Edits.between_none order first) in
+                      absurd (omega (arith, there, none))
+                ]
+          ],
+        )
       ]
 
   -- and each with such a rank stands there

@@ -1,8 +1,8 @@
 -- The group of a new pack is ready: it was there with this tare, or it was opened.
 use Rattle.std.proofs.Common.{◌≡◌, ℕ, zero, suc, ◌+◌, ◌<◌, ◌≤◌, Bool, true, false, cond, ◌||◌, eqb, ◌⊎◌, inl, inr, List, [], ◌∷◌, ◌++◌, length, map, get_or, set, Option, Some, refl, ap, sym, subst, ◌∙◌, arith, length-append, length-set}
-use Rattle.std.specs.Prelude.{ℤ, pos, ◌≤ℤ◌}
-use Rattle.std.specs.List.{sum_by, count_by, All, list_any, slice_get}
-use Rattle.std.proofs.lemmas.Bool.{cases_lt, cases_eq, eq-eqb, ne_eqb, eqb-true}
+use Rattle.std.specs.Prelude.{pos, ◌≤ℤ◌}
+use Rattle.std.specs.List.{count_by, All, list_any, slice_get}
+use Rattle.std.proofs.lemmas.Bool.{cases_lt, cases_eq, eq-eqb, ne_eqb}
 use Rattle.std.proofs.lemmas.List.{length-map, map-append, get_or-map}
 use Rattle.std.proofs.lemmas.List.Sums.{sum_by-cons, sum_by_push}
 use Rattle.std.proofs.lemmas.Option.{slice_get_within, slice_get_read, same_Some}
@@ -21,12 +21,10 @@ use Rattle.batch_sums.specs.Running.{IsEntered}
 use Rattle.batch_sums.specs.Invariant.{IsSettled}
 use Rattle.batch_sums.specs.Groups.{Face, face_of, faces, face_at, IsJudged}
 use Rattle.batch_sums.specs.Kept.{Sound, IsGroup, IsIndex, IsOpened, HasKey, seen}
-use Rattle.batch_sums.specs.Changes.{is_added}
 use Rattle.batch_sums.proofs.Sounding.{face-found, faces-set}
 use Rattle.batch_sums.proofs.Joining.{joins_push}
 use Rattle.batch_sums.proofs.Entering.{sound_in, few_grosses}
-use Rattle.batch_sums.proofs.Numbers.{added_is}
-use Rattle.batch_sums.proofs.Putting.{sound_opened, seen_more, faces-push, get-append_cases, get-append_new}
+use Rattle.batch_sums.proofs.Putting.{sound_opened, seen_more, faces-push, get-append_new}
 
 pub record IsReady (batches : List Batch) (groups : List Group) (held : List Held) (after : List Group) (place : ℕ) (key : Key) (tare : ℕ) : Type 0 where
   pub sound : Sound batches after held
@@ -44,9 +42,9 @@ exists_by group (h ∷ held) some =
     elim (cases_eq h.group group) [
       | inl same ↦ (0, omega arith, λ d. same)
       | inr differs ↦
-        let no : cond (eqb h.group group) (suc zero) zero ≡ zero = ap (λ b. cond b (suc zero) zero) (ne_eqb h.group group differs) in
-        let rest = exists_by group held (omega (arith, some, sum_by-cons (λ p. cond (eqb p.group group) 1 0) h held, no)) in
-        (suc rest.0, omega (arith, rest.1), λ d. rest.2 d)
+          let no : cond (eqb h.group group) (suc zero) zero ≡ zero = ap (λ b. cond b (suc zero) zero) (ne_eqb h.group group differs) in
+          let rest = exists_by group held (omega (arith, some, sum_by-cons (λ p. cond (eqb p.group group) 1 0) h held, no)) in
+          (suc rest.0, omega (arith, rest.1), λ d. rest.2 d)
     ]
 
 -- what holds of each pack that is seen
@@ -65,7 +63,7 @@ module _ (batches : List Batch) (groups : List Group) (held : List Held) (sound 
       let h : Held = get_or held found.0 (record { number = 0; group = 0; gross = 0; pile = Rattle.pack_judge.specs.declared.types.Pile.TheVariants.Passed }) in
       let face : face_at (faces groups) h.group ≡ face_of group = ap (face_at (faces groups)) (found.2 _) ∙ face-found groups place group at in
       let told = unmap (λ pack. pack.batch ≡ key.batch → pack.day ≡ pos key.day → pack.tare ≡ pos tare) (faces groups) held same_tare found.0 (record { number = 0; group = 0; gross = 0; pile = Rattle.pack_judge.specs.declared.types.Pile.TheVariants.Passed }) found.1
-            (ap (λ (f : Face). f.key.batch) face ∙ ap (λ k. k.batch) own) (ap (λ (f : Face). pos f.key.day) face ∙ ap (λ k. pos k.day) own) in
+      (ap (λ (f : Face). f.key.batch) face ∙ ap (λ k. k.batch) own) (ap (λ (f : Face). pos f.key.day) face ∙ ap (λ k. pos k.day) own) in
       let both : pos group.tare ≡ pos tare = sym (ap (λ (f : Face). pos f.tare) face) ∙ told in
       cc
 
@@ -111,9 +109,9 @@ none_numbered number (h ∷ held) none =
     elim (cases_eq number h.number) [
       | inl same ↦ absurd (Rattle.std.proofs.Common.true≢false (sym (ap (λ b. b || list_any (λ other. eqb number other) (map (λ p. p.number) held)) (eq-eqb number h.number same)) ∙ none))
       | inr differs ↦
-        let rest = sym (ap (λ b. b || list_any (λ other. eqb number other) (map (λ p. p.number) held)) (ne_eqb number h.number differs)) ∙ none in
-        let no : cond (eqb h.number number) (suc zero) zero ≡ zero = ap (λ b. cond b (suc zero) zero) (ne_eqb h.number number (λ same. differs (sym same))) in
-        omega (arith, sum_by-cons (λ p. cond (eqb p.number number) 1 0) h held, no, none_numbered number held rest)
+          let rest = sym (ap (λ b. b || list_any (λ other. eqb number other) (map (λ p. p.number) held)) (ne_eqb number h.number differs)) ∙ none in
+          let no : cond (eqb h.number number) (suc zero) zero ≡ zero = ap (λ b. cond b (suc zero) zero) (ne_eqb h.number number (λ same. differs (sym same))) in
+          omega (arith, sum_by-cons (λ p. cond (eqb p.number number) 1 0) h held, no, none_numbered number held rest)
     ]
 
 module _ (batches : List Batch) (groups : List Group) (held : List Held) (after : List Group) (place : ℕ) (key : Key) (tare : ℕ) (ready : IsReady batches groups held after place key tare)
@@ -148,7 +146,7 @@ module _ (batches : List Batch) (groups : List Group) (held : List Held) (after 
         let there = subst (λ t. IsEntered batch new h.pile h.gross t) (sym (ap (λ (f : Face). f.tare) face_here)) enters in
         let whole = sound_in batches after held (held ++ h ∷ []) h (joins_push held h) group next batch new at at_home face_next judged_next there takes grouped lighter longer ready.sound in
         subst (λ n. Sound (set batches n new) (set after place next) (held ++ h ∷ [])) (ap (λ (f : Face). f.key.batch) face_here)
-          (subst (λ n. Sound (set batches group.key.batch new) (set after n next) (held ++ h ∷ [])) own whole)
+        (subst (λ n. Sound (set batches group.key.batch new) (set after n next) (held ++ h ∷ [])) own whole)
 
     pub faces_put : faces (set after place next) ≡ faces after
     faces_put = faces-set after place group next at_here face_next
@@ -166,18 +164,18 @@ module _ (batches : List Batch) (groups : List Group) (held : List Held) (after 
               elim (ready.used other (omega (arith, within, length-set after place next))) [
                 | inl some ↦ omega (arith, some, counted (λ p. eqb p.group other))
                 | inr same ↦
-                  let one : cond (eqb h.group other) (suc zero) zero ≡ suc zero = ap (λ b. cond b (suc zero) zero) (eq-eqb h.group other (own ∙ same)) in
-                  omega (arith, one, counted (λ p. eqb p.group other))
+                    let one : cond (eqb h.group other) (suc zero) zero ≡ suc zero = ap (λ b. cond b (suc zero) zero) (eq-eqb h.group other (own ∙ same)) in
+                    omega (arith, one, counted (λ p. eqb p.group other))
               ];
           small = omega (arith, small, ready.long, length-set after place next, length-append held (h ∷ []));
           apart = λ number.
               elim (cases_eq h.number number) [
                 | inl same ↦
-                  let one : cond (eqb h.number number) (suc zero) zero ≡ suc zero = ap (λ b. cond b (suc zero) zero) (eq-eqb h.number number same) in
-                  omega (arith, one, counted (λ p. eqb p.number number), subst (λ n. count_by (λ p. eqb p.number n) held ≡ 0) same absent)
+                    let one : cond (eqb h.number number) (suc zero) zero ≡ suc zero = ap (λ b. cond b (suc zero) zero) (eq-eqb h.number number same) in
+                    omega (arith, one, counted (λ p. eqb p.number number), subst (λ n. count_by (λ p. eqb p.number n) held ≡ 0) same absent)
                 | inr differs ↦
-                  let no : cond (eqb h.number number) (suc zero) zero ≡ zero = ap (λ b. cond b (suc zero) zero) (ne_eqb h.number number differs) in
-                  omega (arith, no, counted (λ p. eqb p.number number), apart number)
+                    let no : cond (eqb h.number number) (suc zero) zero ≡ zero = ap (λ b. cond b (suc zero) zero) (ne_eqb h.number number differs) in
+                    omega (arith, no, counted (λ p. eqb p.number number), apart number)
               ];
           numbered = inserted ∙ ap (λ b. cond b old (old ++ h.number ∷ [])) none ∙ ap (λ ns. ns ++ h.number ∷ []) numbered ∙ sym (map-append (λ (p : Held). p.number) held (h ∷ []));
         }

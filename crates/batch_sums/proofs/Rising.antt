@@ -1,6 +1,6 @@
 -- Lists in order: what stands below a rank, and what an insertion or a removal leaves.
-use Rattle.std.proofs.Common.{◌≡◌, ℕ, zero, suc, ◌+◌, ◌<◌, ◌≤◌, Bool, true, false, cond, eqb, ltb, ◌⊎◌, inl, inr, List, [], ◌∷◌, ◌++◌, length, Option, Some, refl, ap, sym, ◌∙◌, arith}
-use Rattle.std.specs.List.{sum_by, count_by, insert, remove, slice_get}
+use Rattle.std.proofs.Common.{◌≡◌, ℕ, zero, suc, ◌+◌, ◌<◌, ◌≤◌, cond, eqb, ltb, inl, inr, List, [], ◌∷◌, ◌++◌, length, Some, refl, ap, sym, ◌∙◌, arith}
+use Rattle.std.specs.List.{count_by, insert, remove, slice_get}
 use Rattle.std.proofs.lemmas.Bool.{cases_lt, lt-ltb, le-ltb, eq-eqb, ne_eqb}
 use Rattle.std.proofs.lemmas.List.Sums.{sum_by-cons, count_by-le-length}
 use Rattle.batch_sums.specs.Rising.{AtLeast, IsRising}
@@ -108,12 +108,15 @@ module _ {T : Type 0} (rank : T → ℕ) where
   found_at value (x ∷ xs) up some =
       elim (cases_lt (rank x) value) [
         | inl less ↦
-          let there : 0 < count_by (λ y. eqb (rank y) value) xs = rw (same_rank-no value x xs (λ same. omega arith)) at some in
-          rw (below-yes value x xs less) (found_at value xs up.1 there)
+            let there : 0 < count_by (λ y. eqb (rank y) value) xs = rw (same_rank-no value x xs (λ same. omega arith)) at some in
+            rw (below-yes value x xs less) (found_at value xs up.1 there)
         | inr not_less ↦
-          rw (below_none value value (x ∷ xs) (omega arith) (not_less, AtLeast-lower value (rank x) xs not_less up.0))
-            (x, refl, elim (cases_lt value (rank x)) [
-              | inl higher ↦ absurd (omega (arith, some, none_higher (rank x) value (x ∷ xs) higher (omega arith, up.0)))
-              | inr not_higher ↦ omega arith
-            ])
+            rw (below_none value value (x ∷ xs) (omega arith) (not_less, AtLeast-lower value (rank x) xs not_less up.0)) (
+              x,
+              refl,
+              elim (cases_lt value (rank x)) [
+                | inl higher ↦ absurd (omega (arith, some, none_higher (rank x) value (x ∷ xs) higher (omega arith, up.0)))
+                | inr not_higher ↦ omega arith
+              ],
+            )
       ]

@@ -1,22 +1,18 @@
 -- A change of one batch, one group and the packs keeps them fitting together.
-use Rattle.std.proofs.Common.{◌≡◌, ℕ, zero, suc, ◌+◌, ◌*◌, ◌<◌, ◌≤◌, Bool, true, false, cond, ◌&&◌, eqb, ◌⊎◌, inl, inr, List, [], ◌∷◌, ◌++◌, length, map, get_or, set, Option, None, Some, refl, ap, sym, subst, ◌∙◌, arith, length-set, length-append}
-use Rattle.std.specs.Prelude.{ℤ, pos, ◌≤ℤ◌}
-use Rattle.std.specs.List.{sum_by, count_by, All, slice_get, remove}
-use Rattle.std.proofs.lemmas.Bool.{cases_eq, eq-eqb, ne_eqb}
-use Rattle.std.proofs.lemmas.List.{map-set, length-map}
-use Rattle.std.proofs.lemmas.List.Elements.{All-set, All-take, All-drop, All-append}
-use Rattle.std.proofs.lemmas.List.Sums.{sum_by-le, count_by-le-length}
+use Rattle.std.proofs.Common.{◌≡◌, ℕ, zero, suc, ◌<◌, inl, inr, List, [], ◌∷◌, length, get_or, set, Some, refl, ap, sym, subst, ◌∙◌, arith, length-set}
+use Rattle.std.specs.Prelude.{pos, ◌≤ℤ◌}
+use Rattle.std.specs.List.{All, slice_get, remove}
+use Rattle.std.proofs.lemmas.Bool.{cases_eq}
+use Rattle.std.proofs.lemmas.List.{map-set}
+use Rattle.std.proofs.lemmas.List.Elements.{All-take, All-drop, All-append}
 use Rattle.std.proofs.lemmas.Option.{slice_get_cases, slice_get_within, same_Some}
-use Rattle.std.proofs.lemmas.Int.{ints}
 use Rattle.hall_limits.specs.declared.TheConstants.{MAX_GROSS, MAX_TARE}
-use Rattle.pack_judge.specs.declared.types.Pile.{Pile}
 use Rattle.batch_sums.specs.declared.batch.Batch.{Batch}
 use Rattle.batch_sums.specs.declared.grosses.Gross.{Gross}
 use Rattle.batch_sums.specs.declared.group.Group.{Group}
 use Rattle.batch_sums.specs.declared.types.Held.{Held}
-use Rattle.batch_sums.specs.Totals.{is_counted, same_pile}
 use Rattle.batch_sums.specs.Groups.{Face, face_of, faces, face_at, IsJudged}
-use Rattle.batch_sums.specs.Kept.{AddsUp, Sound, IsGroup, belongs, is_member}
+use Rattle.batch_sums.specs.Kept.{AddsUp, Sound, IsGroup}
 use Rattle.batch_sums.proofs.Faces.{face-at}
 use Rattle.batch_sums.proofs.Joining.{HasGrosses}
 
@@ -62,8 +58,8 @@ module _ (batches : List Batch) (groups : List Group) (held : List Held) (sound 
       at place there =
           elim (slice_get_cases groups place).1 [
             | inl found ↦
-              let group = sound.group place found.0 found.2 in
-              subst (λ (face : Face). face.key.batch < length batches) (sym (face-found groups place found.0 found.2)) (slice_get_within batches found.0.key.batch group.batch group.is)
+                let group = sound.group place found.0 found.2 in
+                subst (λ (face : Face). face.key.batch < length batches) (sym (face-found groups place found.0 found.2)) (slice_get_within batches found.0.key.batch group.batch group.is)
             | inr past ↦ absurd (omega (arith, there, past.0))
           ]
 
@@ -83,11 +79,11 @@ module _ (batches : List Batch) (groups : List Group) (held : List Held) (sound 
     sums_after number other is =
         elim (cases_eq number group.key.batch) [
           | inl same ↦
-            let e : new ≡ other = same_Some new other (sym (get-set_same batches group.key.batch new there) ∙ ap (λ n. slice_get (set batches group.key.batch new) n) (sym same) ∙ is) in
-            subst (λ n. AddsUp (faces (set groups place after)) packs n other) (sym same) (subst (λ b. AddsUp (faces (set groups place after)) packs group.key.batch b) e own)
+              let e : new ≡ other = same_Some new other (sym (get-set_same batches group.key.batch new there) ∙ ap (λ n. slice_get (set batches group.key.batch new) n) (sym same) ∙ is) in
+              subst (λ n. AddsUp (faces (set groups place after)) packs n other) (sym same) (subst (λ b. AddsUp (faces (set groups place after)) packs group.key.batch b) e own)
           | inr differs ↦
-            let before = sym (get-set_other batches group.key.batch number new differs) ∙ is in
-            others number other differs (sound.batch number other before)
+              let before = sym (get-set_other batches group.key.batch number new differs) ∙ is in
+              others number other differs (sound.batch number other before)
         ]
 
     -- the batch of a group that was judged by a batch before
@@ -95,8 +91,8 @@ module _ (batches : List Batch) (groups : List Group) (held : List Held) (sound 
     batch_after number old is =
         elim (cases_eq number group.key.batch) [
           | inl same ↦
-            let e : batch ≡ old = same_Some batch old (sym at_batch ∙ ap (λ n. slice_get batches n) (sym same) ∙ is) in
-            (new, ap (λ n. slice_get (set batches group.key.batch new) n) same ∙ get-set_same batches group.key.batch new there, product ∙ ap (λ (b : Batch). b.product) e, limits ∙ ap (λ (b : Batch). b.limits) e)
+              let e : batch ≡ old = same_Some batch old (sym at_batch ∙ ap (λ n. slice_get batches n) (sym same) ∙ is) in
+              (new, ap (λ n. slice_get (set batches group.key.batch new) n) same ∙ get-set_same batches group.key.batch new there, product ∙ ap (λ (b : Batch). b.product) e, limits ∙ ap (λ (b : Batch). b.limits) e)
           | inr differs ↦ (old, get-set_other batches group.key.batch number new differs ∙ is, refl, refl)
         ]
 
@@ -104,10 +100,10 @@ module _ (batches : List Batch) (groups : List Group) (held : List Held) (sound 
     group_after other some is =
         elim (cases_eq other place) [
           | inl same ↦
-            let old = sound.group place group at_group in
-            let within = slice_get_within groups place group at_group in
-            let e : after ≡ some = same_Some after some (sym (get-set_same groups place after within) ∙ ap (λ n. slice_get (set groups place after) n) (sym same) ∙ is) in
-            let own_after : IsGroup (set batches group.key.batch new) packs place after =
+              let old = sound.group place group at_group in
+              let within = slice_get_within groups place group at_group in
+              let e : after ≡ some = same_Some after some (sym (get-set_same groups place after within) ∙ ap (λ n. slice_get (set groups place after) n) (sym same) ∙ is) in
+              let own_after : IsGroup (set batches group.key.batch new) packs place after =
               record {
                 batch = new;
                 is = ap (λ n. slice_get (set batches group.key.batch new) n) (ap (λ k. k.batch) key) ∙ get-set_same batches group.key.batch new there;
@@ -116,19 +112,19 @@ module _ (batches : List Batch) (groups : List Group) (held : List Held) (sound 
                 tare = tare;
                 grosses = grosses;
               } in
-            subst (λ n. IsGroup (set batches group.key.batch new) packs n some) (sym same) (subst (λ g. IsGroup (set batches group.key.batch new) packs place g) e own_after)
+              subst (λ n. IsGroup (set batches group.key.batch new) packs n some) (sym same) (subst (λ g. IsGroup (set batches group.key.batch new) packs place g) e own_after)
           | inr differs ↦
-            let before = sym (get-set_other groups place other after differs) ∙ is in
-            let old = sound.group other some before in
-            let home = batch_after some.key.batch old.batch old.is in
-            record {
-              batch = home.0;
-              is = home.1;
-              product = home.2 ∙ old.product;
-              judged = subst (λ l. IsJudged l some) (sym home.3) old.judged;
-              tare = old.tare;
-              grosses = rest other some.grosses differs old.grosses;
-            }
+              let before = sym (get-set_other groups place other after differs) ∙ is in
+              let old = sound.group other some before in
+              let home = batch_after some.key.batch old.batch old.is in
+              record {
+                batch = home.0;
+                is = home.1;
+                product = home.2 ∙ old.product;
+                judged = subst (λ l. IsJudged l some) (sym home.3) old.judged;
+                tare = old.tare;
+                grosses = rest other some.grosses differs old.grosses;
+              }
         ]
 
     pub sound_changed : Sound (set batches group.key.batch new) (set groups place after) packs
@@ -154,6 +150,6 @@ module _ (batches : List Batch) (groups : List Group) (held : List Held) (sound 
     sound_after =
         let same = sym (faces-set groups place group after at_group face) in
         sound_changed place group after batch new packs at_group at_batch (ap (λ (f : Face). f.key) face)
-          (subst (λ t. pos t ≤ℤ MAX_TARE) (sym (ap (λ (f : Face). f.tare) face)) (sound.group place group at_group).tare) product limits judged grouped light few
-          (subst (λ fs. AddsUp fs packs group.key.batch new) same own)
-          (λ number other differs sums. subst (λ fs. AddsUp fs packs number other) same (others number other differs sums)) grosses rest
+        (subst (λ t. pos t ≤ℤ MAX_TARE) (sym (ap (λ (f : Face). f.tare) face)) (sound.group place group at_group).tare) product limits judged grouped light few
+        (subst (λ fs. AddsUp fs packs group.key.batch new) same own)
+        (λ number other differs sums. subst (λ fs. AddsUp fs packs number other) same (others number other differs sums)) grosses rest

@@ -1,7 +1,7 @@
 -- The sums of a batch, as they are told.
-use Rattle.std.proofs.Common.{◌≡◌, ℕ, ◌+◌, ◌*◌, ◌<◌, ◌≤◌, Bool, true, false, cond, ◌&&◌, List, length, map, get_or, Option, Some, inl, inr, refl, ap, sym, subst, ◌∙◌, arith}
-use Rattle.std.specs.Prelude.{ℤ, pos, ◌≤ℤ◌}
-use Rattle.std.specs.List.{sum_by, All, slice_get}
+use Rattle.std.proofs.Common.{◌≡◌, ℕ, ◌*◌, ◌<◌, ◌≤◌, Bool, true, false, cond, ◌&&◌, List, length, map, get_or, inl, inr, ap, sym, subst, ◌∙◌, arith}
+use Rattle.std.specs.Prelude.{pos, ◌≤ℤ◌}
+use Rattle.std.specs.List.{sum_by, All}
 use Rattle.std.proofs.lemmas.List.Sums.{sum_by-le}
 use Rattle.std.proofs.lemmas.Option.{slice_get_cases}
 use Rattle.std.proofs.lemmas.Int.{ints}
@@ -14,9 +14,9 @@ use Rattle.batch_sums.specs.declared.types.Held.{Held}
 use Rattle.batch_sums.specs.Totals.{is_counted, same_pile, of_batch, totals_among}
 use Rattle.batch_sums.specs.Groups.{Face, face_of, faces, face_at}
 use Rattle.batch_sums.specs.Running.{IsBounded, shown}
-use Rattle.batch_sums.specs.Kept.{AddsUp, Sound, IsGroup, seen, belongs, count_in, gross_in, tare_in, below_in}
+use Rattle.batch_sums.specs.Kept.{AddsUp, Sound, seen, belongs, gross_in, tare_in}
 use Rattle.batch_sums.proofs.Faces.{face-at}
-use Rattle.batch_sums.proofs.Adding.{length_in_pile, gross_in_pile, length_population, net_population, below_population, members, counted_sum}
+use Rattle.batch_sums.proofs.Adding.{length_in_pile, gross_in_pile, length_population, net_population, below_population, counted_sum}
 
 -- the group of a pack is there, and it has the face that is seen
 module _ (batches : List Batch) (groups : List Group) (held : List Held) (sound : Sound batches groups held) where
@@ -59,10 +59,27 @@ module _ (some : List Face) (number : ℕ) (batch : Batch) (held : List Held) (s
   pub told : totals_among batch.limits (of_batch number (map (seen some) held)) ≡ shown batch
   told =
       cc (
-        length_in_pile some number Passed held, gross_in_pile some number Passed held, sums.count Passed, sums.gross Passed,
-        length_in_pile some number Rejected held, gross_in_pile some number Rejected held, sums.count Rejected, sums.gross Rejected,
-        length_in_pile some number Sampled held, gross_in_pile some number Sampled held, sums.count Sampled, sums.gross Sampled,
-        length_in_pile some number Voided held, gross_in_pile some number Voided held, sums.count Voided, sums.gross Voided,
-        length_population some number held, net_population some number held, sums.tares,
-        below_population some number batch.limits.t1 held light taxed, sums.nonstandard,
-        below_population some number batch.limits.t2 held light taxed, sums.inadequate)
+        length_in_pile some number Passed held,
+        gross_in_pile some number Passed held,
+        sums.count Passed,
+        sums.gross Passed,
+        length_in_pile some number Rejected held,
+        gross_in_pile some number Rejected held,
+        sums.count Rejected,
+        sums.gross Rejected,
+        length_in_pile some number Sampled held,
+        gross_in_pile some number Sampled held,
+        sums.count Sampled,
+        sums.gross Sampled,
+        length_in_pile some number Voided held,
+        gross_in_pile some number Voided held,
+        sums.count Voided,
+        sums.gross Voided,
+        length_population some number held,
+        net_population some number held,
+        sums.tares,
+        below_population some number batch.limits.t1 held light taxed,
+        sums.nonstandard,
+        below_population some number batch.limits.t2 held light taxed,
+        sums.inadequate,
+      )

@@ -1,5 +1,5 @@
 -- What holds while a corrected tare is worked into one group after another.
-use Rattle.std.proofs.Common.{◌≡◌, ℕ, zero, suc, ◌+◌, ◌*◌, ◌<◌, ◌≤◌, Bool, true, false, cond, ◌&&◌, ◌||◌, eqb, inl, inr, List, [], ◌∷◌, ◌++◌, length, map, get_or, set, Option, Some, option_map, Vec, vec_len, vec_capacity, refl, ap, sym, subst, ◌∙◌, arith, length-append}
+use Rattle.std.proofs.Common.{◌≡◌, ℕ, zero, suc, ◌+◌, ◌*◌, ◌<◌, ◌≤◌, Bool, true, false, cond, ◌&&◌, ◌||◌, eqb, inl, inr, List, [], ◌∷◌, ◌++◌, length, map, get_or, set, Some, option_map, Vec, vec_len, vec_capacity, refl, ap, sym, subst, ◌∙◌, arith, length-append}
 use Rattle.std.specs.Prelude.{ℤ, pos, ◌≤ℤ◌, ◌==◌}
 use Rattle.std.specs.Ordering.{int_eq}
 use Rattle.std.specs.declared.alloc.Global.{Global}
@@ -76,7 +76,7 @@ population_of : (some : List Face) (place : ℕ) (held : List Held) → count_by
 population_of some place held =
     let test : Pack → Bool = λ pack. ((pack.batch == (face_at some place).key.batch) && int_eq pack.day (pos (face_at some place).key.day)) && is_counted pack.pile in
     subst (λ n. count_by (is_member place (λ mass. true)) held ≤ n) (sym (sum_by-map (λ pack. cond (test pack) 1 0) (seen some) held))
-      (sum_by-le-sum_by (λ h. cond (is_member place (λ mass. true) h) 1 0) (λ h. cond (test (seen some h)) 1 0) held (λ h. by h))
+    (sum_by-le-sum_by (λ h. cond (is_member place (λ mass. true) h) 1 0) (λ h. cond (test (seen some h)) 1 0) held (λ h. by h))
   where
     le_any : (c : Bool) → cond ((true && c) && true) 1 0 ≤ cond c 1 0
     le_any true = omega arith
@@ -89,15 +89,15 @@ population_of some place held =
     by h =
         elim (cases_eq h.group place) [
           | inl same ↦
-            let mine : cond ((eqb h.group place && is_counted h.pile) && true) (suc zero) zero ≡ cond ((true && is_counted h.pile) && true) (suc zero) zero = ap (λ b. cond ((b && is_counted h.pile) && true) (suc zero) zero) (eq-eqb h.group place same) in
-            let batch : eqb (face_at some h.group).key.batch (face_at some place).key.batch ≡ true = eq-eqb _ _ (ap (λ n. (face_at some n).key.batch) same) in
-            let day : int_eq (pos (face_at some h.group).key.day) (pos (face_at some place).key.day) ≡ true = subst (λ n. int_eq (pos (face_at some h.group).key.day) (pos (face_at some n).key.day) ≡ true) same (int_same (pos (face_at some h.group).key.day)) in
-            let its : cond ((eqb (face_at some h.group).key.batch (face_at some place).key.batch && int_eq (pos (face_at some h.group).key.day) (pos (face_at some place).key.day)) && is_counted h.pile) (suc zero) zero ≡ cond (is_counted h.pile) (suc zero) zero =
+              let mine : cond ((eqb h.group place && is_counted h.pile) && true) (suc zero) zero ≡ cond ((true && is_counted h.pile) && true) (suc zero) zero = ap (λ b. cond ((b && is_counted h.pile) && true) (suc zero) zero) (eq-eqb h.group place same) in
+              let batch : eqb (face_at some h.group).key.batch (face_at some place).key.batch ≡ true = eq-eqb _ _ (ap (λ n. (face_at some n).key.batch) same) in
+              let day : int_eq (pos (face_at some h.group).key.day) (pos (face_at some place).key.day) ≡ true = subst (λ n. int_eq (pos (face_at some h.group).key.day) (pos (face_at some n).key.day) ≡ true) same (int_same (pos (face_at some h.group).key.day)) in
+              let its : cond ((eqb (face_at some h.group).key.batch (face_at some place).key.batch && int_eq (pos (face_at some h.group).key.day) (pos (face_at some place).key.day)) && is_counted h.pile) (suc zero) zero ≡ cond (is_counted h.pile) (suc zero) zero =
               λ i. cond ((batch i && day i) && is_counted h.pile) (suc zero) zero in
-            omega (arith, mine, its, le_any (is_counted h.pile))
+              omega (arith, mine, its, le_any (is_counted h.pile))
           | inr differs ↦
-            let none : cond ((eqb h.group place && is_counted h.pile) && true) (suc zero) zero ≡ zero = ap (λ b. cond ((b && is_counted h.pile) && true) (suc zero) zero) (ne_eqb h.group place differs) in
-            omega (arith, none)
+              let none : cond ((eqb h.group place && is_counted h.pile) && true) (suc zero) zero ≡ zero = ap (λ b. cond ((b && is_counted h.pile) && true) (suc zero) zero) (ne_eqb h.group place differs) in
+              omega (arith, none)
         ]
 
 module _ (before now : Inside) (visited : List ℕ) (tare start steps more : ℕ) (under : IsUnderway before now visited tare start steps)
@@ -133,13 +133,13 @@ module _ (before now : Inside) (visited : List ℕ) (tare start steps more : ℕ
       face_after other =
           elim (cases_eq other place) [
             | inl same ↦
-              subst (λ n. face_at (faces (set now.groups.items place after)) n ≡ face_by (visited ++ place ∷ []) tare n (face_at (faces before.groups.items) n)) (sym same)
+                subst (λ n. face_at (faces (set now.groups.items place after)) n ≡ face_by (visited ++ place ∷ []) tare n (face_at (faces before.groups.items) n)) (sym same)
                 (face-same now.groups.items place group after at_group key_after ∙ face
-                 ∙ (λ i. record { key = key_is i; tare = tare })
-                 ∙ sym (ap (λ b. cond b (record { key = (face_at (faces before.groups.items) place).key; tare = tare }) (face_at (faces before.groups.items) place)) (one_of place visited)))
+                ∙ (λ i. record { key = key_is i; tare = tare })
+                ∙ sym (ap (λ b. cond b (record { key = (face_at (faces before.groups.items) place).key; tare = tare }) (face_at (faces before.groups.items) place)) (one_of place visited)))
             | inr differs ↦
-              face-other now.groups.items place group after at_group key_after other differs ∙ under.face other
-              ∙ sym (ap (λ b. cond b (record { key = (face_at (faces before.groups.items) other).key; tare = tare }) (face_at (faces before.groups.items) other)) (none_more place other visited differs))
+                face-other now.groups.items place group after at_group key_after other differs ∙ under.face other
+                ∙ sym (ap (λ b. cond b (record { key = (face_at (faces before.groups.items) other).key; tare = tare }) (face_at (faces before.groups.items) other)) (none_more place other visited differs))
           ]
 
       pub underway_more : IsUnderway before (record now { batches = with_item now.batches group.key.batch new; groups = with_item now.groups place after }) (visited ++ place ∷ []) tare start more

@@ -1,13 +1,21 @@
 -- What the three changing calls make of the list of packs.
-use Rattle.std.specs.Prelude.{◌≡◌, ℕ, ℤ, ◌+◌, ◌≤◌, Bool, true, false, ◌&&◌, ◌==◌, List, [], ◌∷◌, length, map, filter, count_by, if◌then◌else◌}
+use Rattle.std.specs.Prelude.{◌≡◌, ℕ, ℤ, pos, ◌+◌, ◌≤◌, ◌≤ℤ◌, Bool, false, ◌&&◌, ◌==◌, List, [], ◌∷◌, map, filter, count_by, if◌then◌else◌}
 use Rattle.std.specs.Ordering.{int_eq}
-use Rattle.std.specs.List.{list_any, slice_get}
+use Rattle.std.specs.List.{list_any, slice_get, All}
 use Rattle.std.specs.Option.{option_map_or}
 use Rattle.hall_limits.specs.declared.TheConstants.{MAX_POPULATION}
 use Rattle.pack_judge.specs.declared.types.Pile.{Pile}
 use Rattle.tare_register.specs.declared.types.Span.{Span}
 use Rattle.tare_register.specs.Tares.{covers}
 use Rattle.batch_sums.specs.Totals.{Pack, Terms, is_counted}
+
+-- a number from 0 to a limit
+abbrev pub IsUpTo : ℤ → ℤ → Type 0
+IsUpTo limit number = (pos 0 ≤ℤ number) × (number ≤ℤ limit)
+
+-- the packs of a batch and day that were added have this tare
+abbrev pub IsTareOf : ℕ → ℤ → ℤ → List Pack → Type 0
+IsTareOf batch day tare packs = All (λ pack. pack.batch ≡ batch → pack.day ≡ day → pack.tare ≡ tare) packs
 
 -- whether a pack of this number was added
 abbrev pub is_added : List Pack → ℕ → Bool

@@ -1,5 +1,5 @@
 -- Groups of packs: one for each batch and day.
-use Rattle.std.specs.Prelude.{◌≡◌, ℕ, ℤ, pos, negsuc, ◌+◌, ◌*◌, ◌+ℤ◌, Bool, List, count_by, nat_lt, int_lt, if◌then◌else◌, map, slice_index_or}
+use Rattle.std.specs.Prelude.{◌^◌, ◌≡◌, ℕ, ℤ, pos, negsuc, ◌+◌, ◌*◌, ◌+ℤ◌, List, count_by, nat_lt, int_lt, if◌then◌else◌, map, slice_index_or}
 use Rattle.annex_tables.specs.declared.types.Limits.{Limits}
 use Rattle.hall_limits.specs.declared.TheConstants.{MAX_GROSS}
 use Rattle.batch_sums.specs.Rising.{mass_of}
@@ -8,7 +8,7 @@ use Rattle.batch_sums.specs.declared.group.Key.{Key}
 
 -- the place of a key in the order of all keys: by product, in it by day, in it by batch
 abbrev pub rank_of : Key → ℕ
-rank_of key = (key.product * 4294967296 + key.day) * 4294967296 + key.batch
+rank_of key = (key.product * 2 ^ 32 + key.day) * 2 ^ 32 + key.batch
 
 -- a mass that isn't negative, and 0 for one that is
 abbrev pub at_least_0 : ℤ → ℕ

@@ -1,5 +1,5 @@
 -- What holds of the fields of the sums.
-use Rattle.std.specs.Prelude.{◌≡◌, ℕ, ◌+◌, ◌<◌, ◌≤◌, Bool, not, ◌==◌, List, length, map, count_by, vec_len, vec_capacity}
+use Rattle.std.specs.Prelude.{◌^◌, ◌≡◌, ℕ, ◌+◌, ◌<◌, ◌≤◌, not, ◌==◌, List, length, map, count_by, vec_len, vec_capacity}
 use Rattle.std.specs.declared.vec.Vec.{Vec}
 use Rattle.std.specs.declared.alloc.Global.{Global}
 use Rattle.indexmap.specs.IndexSet.{spare}
@@ -29,8 +29,8 @@ pub record IsRoomy (held : List Held) (sums : Inside) : Type 0 where
   pub nodes : outside held + sums.spare ≤ vec_len sums.gross_nodes
   pub back : vec_len sums.gross_nodes + inside held ≤ vec_capacity sums.gross_nodes
   pub order_nodes : sums.spare ≤ vec_len sums.order_nodes
-  pub few_batches : vec_len sums.batches + sums.spare < 4294967296
-  pub few_packs : vec_len sums.packs + sums.spare < 4294967296
+  pub few_batches : vec_len sums.batches + sums.spare < 2 ^ 32
+  pub few_packs : vec_len sums.packs + sums.spare < 2 ^ 32
 
 -- the lists fit together
 pub record IsSettled (batches : List Batch) (groups : List Group) (order : Tree ℕ) (held : List Held) (numbers : List ℕ) : Type 0 where

@@ -1,7 +1,6 @@
 -- What is kept of the packs, and what always holds of it.
-use Rattle.std.specs.Prelude.{◌≡◌, ℕ, ℤ, pos, ◌+◌, ◌<◌, ◌≤◌, ◌≤ℤ◌, Bool, not, ◌&&◌, ◌==◌, nat_le, List, [], ◌∷◌, ◌++◌, length, map, count_by, Option, Some, option_map, if◌then◌else◌}
+use Rattle.std.specs.Prelude.{◌^◌, ◌≡◌, ℕ, ℤ, pos, ◌<◌, ◌≤◌, ◌≤ℤ◌, Bool, ◌&&◌, ◌==◌, List, [], ◌∷◌, ◌++◌, length, count_by, Option, Some, option_map, if◌then◌else◌}
 use Rattle.std.specs.List.{All, sum_by, slice_get}
-use Rattle.annex_tables.specs.declared.types.Limits.{Limits}
 use Rattle.hall_limits.specs.declared.TheConstants.{MAX_GROSS, MAX_TARE, MAX_DAY}
 use Rattle.pack_judge.specs.declared.types.Pile.{Pile}
 use Rattle.batch_sums.specs.declared.batch.Batch.{Batch}
@@ -80,7 +79,7 @@ pub record IsGroup (batches : List Batch) (held : List Held) (place : ℕ) (grou
 -- a key's numbers are within their ranges
 pub record IsKey (face : Face) : Type 0 where
   pub day : pos face.key.day ≤ℤ MAX_DAY
-  pub batch : face.key.batch < 4294967296
+  pub batch : face.key.batch < 2 ^ 32
 
 -- batches, groups and packs fit together
 pub record Sound (batches : List Batch) (groups : List Group) (held : List Held) : Type 0 where
@@ -88,7 +87,7 @@ pub record Sound (batches : List Batch) (groups : List Group) (held : List Held)
   pub batch : (number : ℕ) (batch : Batch) → slice_get batches number ≡ Some batch → AddsUp (faces groups) held number batch
   pub grouped : All (λ pack. pack.group < length groups) held
   pub light : All (λ pack. pos pack.gross ≤ℤ MAX_GROSS) held
-  pub few : length held < 4294967296
+  pub few : length held < 2 ^ 32
 
 -- the order has each group once, by rising keys that are all different
 pub record IsIndex (some : List Face) (order : List ℕ) : Type 0 where

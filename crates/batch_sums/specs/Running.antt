@@ -1,15 +1,13 @@
 -- The running totals of a batch, and what a pack that comes in or goes out does to them.
-use Rattle.std.specs.Prelude.{◌≡◌, ℕ, pos, ◌-ℤ◌, ◌+◌, ◌-◌, ◌*◌, length, ◌<◌, ◌≤◌, Bool, ◌&&◌, ◌==◌, List, count_by, nat_lt, if◌then◌else◌}
-use Rattle.std.specs.List.{sum_by, slice_index_or}
+use Rattle.std.specs.Prelude.{◌^◌, ◌≡◌, ℕ, pos, ◌-ℤ◌, ◌+◌, ◌-◌, ◌*◌, length, ◌<◌, ◌≤◌, ◌&&◌, nat_lt, if◌then◌else◌}
 use Rattle.pack_judge.specs.declared.types.Pile.{Pile}
 use Rattle.pack_judge.specs.declared.types.Pile.TheVariants.{Passed, Rejected, Sampled, Voided}
 use Rattle.pack_judge.specs.declared.types.Tally.{Tally}
 use Rattle.batch_sums.specs.declared.types.Totals.{Totals}
 use Rattle.batch_sums.specs.declared.batch.Batch.{Batch}
 use Rattle.batch_sums.specs.declared.batch.PileSum.{PileSum}
-use Rattle.batch_sums.specs.declared.types.Held.{Held}
 use Rattle.batch_sums.specs.declared.group.Group.{Group}
-use Rattle.batch_sums.specs.Groups.{Face, threshold}
+use Rattle.batch_sums.specs.Groups.{threshold}
 use Rattle.batch_sums.specs.Totals.{same_pile, is_counted}
 
 -- what a batch keeps of a pile
@@ -35,11 +33,11 @@ pub record IsEntered (before after : Batch) (pile : Pile) (mass tare : ℕ) : Ty
 
 -- there is room in the counts and sums for one pack more in a pile
 pub record HasRoom (batch : Batch) (pile : Pile) : Type 0 where
-  pub count : (pile_sum batch pile).count < 4294967295
-  pub gross : (pile_sum batch pile).gross < 9223372036854775808
-  pub tares : batch.tares < 9223372036854775808
-  pub nonstandard : batch.nonstandard < 4294967295
-  pub inadequate : batch.inadequate < 4294967295
+  pub count : (pile_sum batch pile).count < 2 ^ 32 - 1
+  pub gross : (pile_sum batch pile).gross < 2 ^ 63
+  pub tares : batch.tares < 2 ^ 63
+  pub nonstandard : batch.nonstandard < 2 ^ 32 - 1
+  pub inadequate : batch.inadequate < 2 ^ 32 - 1
 
 -- a pack is among those that the counts and sums are of
 pub record Covers (batch : Batch) (pile : Pile) (mass tare : ℕ) : Type 0 where
@@ -54,10 +52,10 @@ pub record HasShare (batch : Batch) (group : Group) : Type 0 where
   pub tares : length group.grosses * group.tare ≤ batch.tares
   pub nonstandard : group.nonstandard ≤ batch.nonstandard
   pub inadequate : group.inadequate ≤ batch.inadequate
-  pub few : length group.grosses < 4294967296
-  pub rest : (batch.nonstandard - group.nonstandard) + length group.grosses < 4294967296
-  pub other : (batch.inadequate - group.inadequate) + length group.grosses < 4294967296
-  pub light : batch.tares < 9223372036854775808
+  pub few : length group.grosses < 2 ^ 32
+  pub rest : (batch.nonstandard - group.nonstandard) + length group.grosses < 2 ^ 32
+  pub other : (batch.inadequate - group.inadequate) + length group.grosses < 2 ^ 32
+  pub light : batch.tares < 2 ^ 63
 
 -- the sums of a batch after one of its groups was judged anew
 pub record IsCorrected (before after : Batch) (old new : Group) : Type 0 where
@@ -70,12 +68,12 @@ pub record IsCorrected (before after : Batch) (old new : Group) : Type 0 where
 
 -- the sums of a batch are so small that they can be told
 pub record IsBounded (batch : Batch) : Type 0 where
-  pub passed : batch.passed.gross < 2305843009213693952
-  pub rejected : batch.rejected.gross < 2305843009213693952
-  pub sampled : batch.sampled.gross < 2305843009213693952
-  pub voided : batch.voided.gross < 2305843009213693952
-  pub tares : batch.tares < 2305843009213693952
-  pub count : batch.passed.count + batch.sampled.count < 4294967296
+  pub passed : batch.passed.gross < 2 ^ 61
+  pub rejected : batch.rejected.gross < 2 ^ 61
+  pub sampled : batch.sampled.gross < 2 ^ 61
+  pub voided : batch.voided.gross < 2 ^ 61
+  pub tares : batch.tares < 2 ^ 61
+  pub count : batch.passed.count + batch.sampled.count < 2 ^ 32
 
 abbrev pub tally_of : PileSum → Tally
 tally_of sum = record { count = sum.count; gross = pos sum.gross }

@@ -1,15 +1,15 @@
-ghost use Rattle.std.specs.Prelude.{◌≡◌, pos, length, ◌+◌, ◌<◌, ◌≤◌, ◌≤ℤ◌};
+ghost use Rattle.std.specs.Prelude.{◌-◌, ◌^◌, ◌≡◌, pos, length, ◌+◌, ◌<◌, ◌≤◌, ◌≤ℤ◌};
 ghost use Rattle.batch_sums.specs.Totals.{is_counted};
 ghost use Rattle.batch_sums.specs.Running.{pile_sum, IsEntered, HasRoom, Covers, HasShare, IsCorrected, IsBounded, shown};
 ghost use Rattle.batch_sums.specs.Groups.{IsJudged, face_of};
 ghost use Rattle.pack_judge.specs.declared.types.Pile.{Pile};
 
 use crate::group::{Group, count_one, least_grosses};
+use crate::steps::Steps;
+use crate::types::Totals;
 use annex_tables::Limits;
 use hall_limits::{MAX_POPULATION, MAX_TARE};
 use pack_judge::{Pile, Tally};
-use crate::steps::Steps;
-use crate::types::Totals;
 use std::sync::ledger::Ledger;
 
 /// How many packs a pile has, and the sum of their grosses in mg.
@@ -48,7 +48,7 @@ pub fn counts_for_population(pile: Pile) -> bool
 impl PileSum {
     /// The number of packs and the sum of their grosses in mg.
     pub fn tally(&self) -> Tally
-        requires { self.now.gross < 9223372036854775808 }
+        requires { self.now.gross < 2 ^ 63 }
         ensures { result ≡ record { count = self.now.count; gross = pos self.now.gross } }
     {
         Tally {
@@ -58,8 +58,8 @@ impl PileSum {
     }
 
     fn enter(&mut self, gross: u32)
-        requires count { self.old.count < 4294967295 }
-        requires gross { self.old.gross < 9223372036854775808 }
+        requires count { self.old.count < 2 ^ 32 - 1 }
+        requires gross { self.old.gross < 2 ^ 63 }
         ensures count { self.new.count ≡ self.old.count + 1 }
         ensures gross { self.new.gross ≡ self.old.gross + gross }
     {

@@ -23,7 +23,6 @@ pub struct Grosses {
 
 impl Model for Grosses {
     ghost use Rattle.std.specs.Prelude.{List, ◌<◌, ◌^◌, length};
-
     ghost use Rattle.batch_sums.specs.declared.grosses.Gross.{Gross};
 
     ghost Value = { List Gross };

@@ -151,7 +151,13 @@ impl Group {
     }
 
     /// A pack of this pile and gross in mg comes into the group. It takes a spare node where it counts for the population.
-    pub fn enter(&mut self, limits: &Limits, pile: Pile, gross: u32, nodes: &mut Vec<Box<Node<Gross>>>)
+    pub fn enter(
+        &mut self,
+        limits: &Limits,
+        pile: Pile,
+        gross: u32,
+        nodes: &mut Vec<Box<Node<Gross>>>,
+    )
         requires tare { pos self.old.tare ≤ℤ MAX_TARE }
         requires few { length self.old.grosses + 1 < 2 ^ 32 }
         requires judged { IsJudged limits.now self.old }
@@ -172,7 +178,13 @@ impl Group {
 
     /// A pack of this pile and gross in mg goes out of the group. Its node becomes a spare one where it counted for the
     /// population.
-    pub fn leave(&mut self, limits: &Limits, pile: Pile, gross: u32, nodes: &mut Vec<Box<Node<Gross>>>)
+    pub fn leave(
+        &mut self,
+        limits: &Limits,
+        pile: Pile,
+        gross: u32,
+        nodes: &mut Vec<Box<Node<Gross>>>,
+    )
         requires tare { pos self.old.tare ≤ℤ MAX_TARE }
         requires contained { is_counted pile ≡ true → 0 < count_by (λ other. mass_of other == gross) self.old.grosses }
         requires judged { IsJudged limits.now self.old }

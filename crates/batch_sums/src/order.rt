@@ -47,7 +47,13 @@ fn find(order: &Tree<u32>, groups: &[Group], key: &Key) -> Option<u32>
 }
 
 /// Opens the group of a key that has none, with a tare in mg.
-fn open_group(groups: &mut Vec<Group>, order: &mut Tree<u32>, spare: &mut Vec<Box<Node<u32>>>, key: Key, tare: u32) -> u32
+fn open_group(
+    groups: &mut Vec<Group>,
+    order: &mut Tree<u32>,
+    spare: &mut Vec<Box<Node<u32>>>,
+    key: Key,
+    tare: u32,
+) -> u32
     requires balanced { IsBalanced order.old }
     requires index { IsIndex (faces groups.old.items) (items order.old) }
     requires room { vec_len groups.old < vec_capacity groups.old }
@@ -75,7 +81,13 @@ fn open_group(groups: &mut Vec<Group>, order: &mut Tree<u32>, spare: &mut Vec<Bo
 }
 
 /// The place of the group of a key; where there is none it is opened, with a tare in mg.
-pub fn find_or_open(groups: &mut Vec<Group>, order: &mut Tree<u32>, spare: &mut Vec<Box<Node<u32>>>, key: Key, tare: u32) -> u32
+pub fn find_or_open(
+    groups: &mut Vec<Group>,
+    order: &mut Tree<u32>,
+    spare: &mut Vec<Box<Node<u32>>>,
+    key: Key,
+    tare: u32,
+) -> u32
     requires balanced { IsBalanced order.old }
     requires index { IsIndex (faces groups.old.items) (items order.old) }
     requires room { vec_len groups.old < vec_capacity groups.old }

@@ -1,17 +1,14 @@
-ghost use Rattle.std.specs.Prelude.{◌≡◌, ℕ, pos, ◌*◌, Some, IsTrue, false, nat_le, nat_lt, ◌&&◌, ◌≤ℤ◌, ◌+◌, ◌^◌, ◌<◌, ◌≤◌, vec_len, vec_capacity, [], ◌∷◌, ◌++◌, length, IsOk, IfOk, OnOk, OnErr};
-ghost use Rattle.std.specs.List.{All};
-ghost use Rattle.std.specs.Int.Signed.{le_z, lt_z};
-ghost use Rattle.tare_register.specs.Tares.{covers};
-ghost use Rattle.indexmap.specs.IndexSet.{spare};
+ghost use Rattle.std.specs.Prelude.{◌≡◌, pos, ◌*◌, Some, IsTrue, false, ◌≤ℤ◌, ◌+◌, ◌<◌, ◌≤◌, [], ◌∷◌, ◌++◌, length, IsOk, IfOk, OnOk, OnErr};
 ghost use Rattle.batch_sums.specs.Kept.{totals_in};
-ghost use Rattle.batch_sums.specs.Changes.{is_added, moved, corrected, concerned, group_count, HasFewPerGroup};
-ghost use Rattle.batch_sums.specs.Invariant.{HasGrown};
+ghost use Rattle.batch_sums.specs.Changes.{is_added, moved, corrected, concerned, group_count, IsUpTo, IsTareOf, HasFewPerGroup};
 
 use crate::batch::Batch;
+use crate::days::days_of;
 use crate::grosses::Gross;
 use crate::group::{Group, Key};
 use crate::order::{find_or_open, place_of};
-use crate::steps::Steps;
+use crate::pool::{reserve_nodes, reserve_places};
+use crate::steps::{STEPS_PER_GROUP, Steps};
 use crate::types::{Held, NoMemory, Totals};
 use annex_tables::Limits;
 use balanced_tree::{Node, Tree};
@@ -33,7 +30,7 @@ pub struct BatchSums {
     // The packs in the order in which they were added, and their numbers in the same order.
     packs: Vec<Held>,
     numbers: IndexSet<u32>,
-    // Spare nodes: one for each pack that doesn't count for a population, and for each place that is reserved.
+    // Spare nodes: one for each pack that doesn't count for a population, and for each reserved place.
     gross_nodes: Vec<Box<Node<Gross>>>,
     order_nodes: Vec<Box<Node<u32>>>,
     // How many packs and batches more are sure to find room.
@@ -48,8 +45,7 @@ impl Model for BatchSums {
 
     ghost use Rattle.batch_sums.specs.Groups.{faces};
     ghost use Rattle.batch_sums.specs.Kept.{seen, terms_of};
-    ghost use Rattle.batch_sums.specs.Changes.{is_added, moved, corrected, concerned, group_count, HasFewPerGroup};
-ghost use Rattle.batch_sums.specs.Invariant.{IsKept};
+    ghost use Rattle.batch_sums.specs.Invariant.{IsKept};
 
     ghost view = { λ s. record { batches = map terms_of s.batches.items; packs = map (seen (faces s.groups.items)) s.packs.items; spare = s.spare } };
 
@@ -110,8 +106,19 @@ impl BatchSums {
         if self.batches.len() > most as usize || self.packs.len() > most as usize {
             return Err(AllocError);
         }
-        reserve_places(&mut self.batches, &mut self.groups, &mut self.packs, &mut self.numbers, more)?;
-        reserve_nodes(&mut self.gross_nodes, &mut self.order_nodes, self.packs.len(), more - self.spare)?;
+        reserve_places(
+            &mut self.batches,
+            &mut self.groups,
+            &mut self.packs,
+            &mut self.numbers,
+            more,
+        )?;
+        reserve_nodes(
+            &mut self.gross_nodes,
+            &mut self.order_nodes,
+            self.packs.len(),
+            more - self.spare,
+        )?;
         self.spare = more;
         Ok(())
     }
@@ -120,13 +127,21 @@ impl BatchSums {
     /// and the pile that it lies in.
     ///
     /// It is refused only for want of memory, and never while a place is reserved.
-    pub fn add(&mut self, batch: u32, pack: u32, day: i32, gross: i64, tare: i64, pile: Pile) -> Result<(), NoMemory>
+    pub fn add(
+        &mut self,
+        batch: u32,
+        pack: u32,
+        day: i32,
+        gross: i64,
+        tare: i64,
+        pile: Pile,
+    ) -> Result<(), NoMemory>
         requires batch { batch < length self.old.batches }
         requires new { is_added self.old.packs pack ≡ false }
-        requires day { (pos 0 ≤ℤ day) × (day ≤ℤ MAX_DAY) }
-        requires gross { (pos 0 ≤ℤ gross) × (gross ≤ℤ MAX_GROSS) }
-        requires tare { (pos 0 ≤ℤ tare) × (tare ≤ℤ MAX_TARE) }
-        requires same_tare { All (λ other. other.batch ≡ batch → other.day ≡ day → other.tare ≡ tare) self.old.packs }
+        requires day { IsUpTo MAX_DAY day }
+        requires gross { IsUpTo MAX_GROSS gross }
+        requires tare { IsUpTo MAX_TARE tare }
+        requires same_tare { IsTareOf batch day tare self.old.packs }
         ensures ok { OnOk result (self.new.packs ≡ self.old.packs ++ record { number = pack; batch = batch; day = day; gross = gross; tare = tare; pile = pile } ∷ []) }
         ensures err { OnErr result (self.new.packs ≡ self.old.packs) }
         ensures batches { self.new.batches ≡ self.old.batches }
@@ -146,15 +161,30 @@ impl BatchSums {
         requires day { pos day ≤ℤ MAX_DAY }
         requires gross { pos gross ≤ℤ MAX_GROSS }
         requires tare { pos tare ≤ℤ MAX_TARE }
-        requires same_tare { All (λ other. other.batch ≡ batch → other.day ≡ pos day → other.tare ≡ pos tare) self.old.packs }
+        requires same_tare { IsTareOf batch (pos day) (pos tare) self.old.packs }
         ensures packs { self.new.packs ≡ self.old.packs ++ record { number = pack; batch = batch; day = pos day; gross = pos gross; tare = pos tare; pile = pile } ∷ [] }
         ensures batches { self.new.batches ≡ self.old.batches }
         ensures spare { self.new.spare + 1 ≡ self.old.spare }
     {
         let product = self.batches[batch as usize].product;
-        let key = Key { product, day, batch };
-        let group = find_or_open(&mut self.groups, &mut self.order, &mut self.order_nodes, key, tare);
-        let held = Held { number: pack, group, gross, pile };
+        let key = Key {
+            product,
+            day,
+            batch,
+        };
+        let group = find_or_open(
+            &mut self.groups,
+            &mut self.order,
+            &mut self.order_nodes,
+            key,
+            tare,
+        );
+        let held = Held {
+            number: pack,
+            group,
+            gross,
+            pile,
+        };
         let Ok(_) = self.numbers.insert(pack) else {
             unreachable!()
         };
@@ -192,15 +222,32 @@ impl BatchSums {
     /// group of these packs, those of one batch and day, at most 40 steps where no group has more than 10 000 packs in its
     /// population.
     pub fn rejudge<L: Ledger>(&mut self, product: u32, span: Span, tare: i64, steps: &mut Steps<L>)
-        requires tare { (pos 0 ≤ℤ tare) × (tare ≤ℤ MAX_TARE) }
+        requires tare { IsUpTo MAX_TARE tare }
         ensures packs { self.new.packs ≡ corrected self.old.batches product span tare self.old.packs }
         ensures batches { self.new.batches ≡ self.old.batches }
         ensures spare { self.new.spare ≡ self.old.spare }
-        ensures cost { HasFewPerGroup self.old.packs → steps.new ≤ steps.old + 40 * group_count (concerned self.old.batches product span self.old.packs) }
+        ensures cost { HasFewPerGroup self.old.packs → steps.new ≤ steps.old + STEPS_PER_GROUP * group_count (concerned self.old.batches product span self.old.packs) }
     {
         let days = days_of(&span);
-        let first = place_of(&self.order, &self.groups, &Key { product, day: days.from, batch: 0 });
-        let end = place_of(&self.order, &self.groups, &Key { product, day: days.until, batch: 0 }).max(first);
+        let first = place_of(
+            &self.order,
+            &self.groups,
+            &Key {
+                product,
+                day: days.from,
+                batch: 0,
+            },
+        );
+        let end = place_of(
+            &self.order,
+            &self.groups,
+            &Key {
+                product,
+                day: days.until,
+                batch: 0,
+            },
+        )
+        .max(first);
         let tare = tare as u32;
         for place in first..end {
             let Some(group) = self.order.get(place) else {
@@ -220,93 +267,4 @@ impl BatchSums {
         let batch = &self.batches[batch as usize];
         batch.totals()
     }
-}
-
-// Makes room for so many batches, groups and packs more.
-fn reserve_places(
-    batches: &mut Vec<Batch>,
-    groups: &mut Vec<Group>,
-    packs: &mut Vec<Held>,
-    numbers: &mut IndexSet<u32>,
-    more: u32,
-) -> Result<(), NoMemory>
-    ensures batches { HasGrown batches.old batches.new }
-    ensures groups { HasGrown groups.old groups.new }
-    ensures packs { HasGrown packs.old packs.new }
-    ensures keys { numbers.new.keys ≡ numbers.old.keys }
-    ensures numbers { spare numbers.old ≤ spare numbers.new }
-    ensures ok_batches { OnOk result (vec_len batches.new + more ≤ vec_capacity batches.new) }
-    ensures ok_groups { OnOk result (vec_len groups.new + more ≤ vec_capacity groups.new) }
-    ensures ok_packs { OnOk result (vec_len packs.new + more ≤ vec_capacity packs.new) }
-    ensures ok_numbers { OnOk result (more ≤ spare numbers.new) }
-{
-    let more = more as usize;
-    batches.reserve(more)?;
-    groups.reserve(more)?;
-    packs.reserve(more)?;
-    numbers.reserve(more)?;
-    Ok(())
-}
-
-// Adds so many nodes of both kinds to the spare ones, with places for those of so many packs to come back to.
-fn reserve_nodes(
-    gross_nodes: &mut Vec<Box<Node<Gross>>>,
-    order_nodes: &mut Vec<Box<Node<u32>>>,
-    packs: usize,
-    more: u32,
-) -> Result<(), NoMemory>
-    requires few { packs < 4294967296 }
-    ensures ok_gross { OnOk result (vec_len gross_nodes.new ≡ vec_len gross_nodes.old + more) }
-    ensures ok_order { OnOk result (vec_len order_nodes.new ≡ vec_len order_nodes.old + more) }
-    ensures gross { vec_len gross_nodes.old ≤ vec_len gross_nodes.new }
-    ensures order { vec_len order_nodes.old ≤ vec_len order_nodes.new }
-    ensures back { (used : ℕ) → used ≤ packs → vec_len gross_nodes.old + used ≤ vec_capacity gross_nodes.old → vec_len gross_nodes.new + used ≤ vec_capacity gross_nodes.new }
-{
-    let alloc = *gross_nodes.allocator();
-    gross_nodes.reserve(packs + more as usize)?;
-    add_nodes(alloc, gross_nodes, Gross::default(), more)?;
-    add_nodes(alloc, order_nodes, 0, more)?;
-    Ok(())
-}
-
-// Adds so many nodes to the spare ones. Where memory is refused some may have been added.
-fn add_nodes<T: Copy>(alloc: Global, nodes: &mut Vec<Box<Node<T>>>, item: T, more: u32) -> Result<(), NoMemory>
-    ensures ok { OnOk result (vec_len nodes.new ≡ vec_len nodes.old + more) }
-    ensures more { vec_len nodes.old ≤ vec_len nodes.new }
-    ensures most { vec_len nodes.new ≤ vec_len nodes.old + more }
-    ensures capacity { vec_capacity nodes.old ≤ vec_capacity nodes.new }
-{
-    for _turn in 0..more {
-        nodes.push(Box::new(alloc, Node::new(item))?)?;
-    }
-    Ok(())
-}
-
-// The days of a span that packs may have: from the first on, before the last.
-#[derive(Clone, Copy)]
-struct Days {
-    from: u32,
-    until: u32,
-}
-
-fn days_of(span: &Span) -> Days
-    ensures small { (result.from < 2 ^ 32) × (result.until < 2 ^ 32) }
-    ensures covers { (day : ℕ) → pos day ≤ℤ MAX_DAY → covers span.now (pos day) ≡ (nat_le result.from day && nat_lt day result.until) }
-{
-    let until = match span.until {
-        None => MAX_DAY as u32 + 1,
-        Some(day) => within_days(day),
-    };
-    Days { from: within_days(span.from), until }
-}
-
-// A day as one that packs may have, or the one behind them all.
-fn within_days(day: i32) -> u32
-    ensures from { (other : ℕ) → pos other ≤ℤ MAX_DAY → nat_le result other ≡ le_z day (pos other) }
-    ensures until { (other : ℕ) → pos other ≤ℤ MAX_DAY → nat_lt other result ≡ lt_z (pos other) day }
-{
-    if day < 0 {
-        return 0;
-    }
-    if day > MAX_DAY { MAX_DAY as u32 + 1 } else { day as u32 }
 }

@@ -1,5 +1,4 @@
-use Rattle.std.proofs.Common.{◌≡◌, ◌≤◌, length, ◌∙◌, arith}
-use Rattle.balanced_tree.specs.Trees.{items}
+use Rattle.std.proofs.Common.{◌∙◌, arith}
 use Rattle.balanced_tree.proofs.Heights.{count_is}
 use Rattle.balanced_tree.proofs.Places.{fewer_left, fewer_right, root_out}
 use Rattle.balanced_tree.proofs.edits.+remove.Goals as goal

@@ -1,4 +1,4 @@
-use Rattle.std.proofs.Common.{rules, arith, ◌∙◌, sym, ap}
+use Rattle.std.proofs.Common.{rules, arith, ◌∙◌, sym}
 use Rattle.batch_sums.specs.Rising.{mass_of}
 use Rattle.balanced_tree.proofs.Heights.{count_is}
 use Rattle.batch_sums.proofs.Descents.{rising_left, rising_right, few_on_sides, below_right, below_left}

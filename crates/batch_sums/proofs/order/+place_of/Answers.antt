@@ -1,4 +1,4 @@
-use Rattle.std.proofs.Common.{rules, arith, ◌∙◌, sym, subst, ltb, ◌<◌, ℕ, length, true, false, ◌≡◌}
+use Rattle.std.proofs.Common.{arith, ◌∙◌, sym, subst, ltb, ◌<◌, length, true, false, ◌≡◌}
 use Rattle.balanced_tree.proofs.Heights.{count_is}
 use Rattle.batch_sums.specs.Groups.{Face, faces, rank_at, rank_of}
 use Rattle.batch_sums.proofs.Descents.{rising_left, rising_right, few_on_sides, below_right, below_left}

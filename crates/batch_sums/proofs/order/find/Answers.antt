@@ -1,4 +1,4 @@
-use Rattle.std.proofs.Common.{◌≡◌, ◌<◌, ℕ, length, Some, refl, ap, sym, subst, ◌∙◌, eqb, false, arith}
+use Rattle.std.proofs.Common.{◌≡◌, ◌<◌, length, refl, ap, sym, subst, ◌∙◌, eqb, false, arith}
 use Rattle.std.specs.List.{slice_get}
 use Rattle.std.proofs.lemmas.List.{length-map}
 use Rattle.std.proofs.lemmas.Option.{slice_get_read}
@@ -11,7 +11,7 @@ use Rattle.batch_sums.proofs.order.find.Goals as goal
 pub returns-in_default-clause-none : goal.returns-in_default-clause-none
 returns-in_default-clause-none c =
     absent_behind (faces c.args.groups.now) (items c.args.order.now) c.requires.index (rank_of c.args.key.now)
-      (ap (slice_get (items c.args.order.now)) (sym c.place_of-place.ensures) ∙ sym c.get.ensures ∙ c.in_default.is)
+    (ap (slice_get (items c.args.order.now)) (sym c.place_of-place.ensures) ∙ sym c.get.ensures ∙ c.in_default.is)
 
 pub bounds-groups-group : goal.bounds-groups-group
 bounds-groups-group c =
@@ -30,5 +30,5 @@ returns-else-is_same-clause-none c =
     let within : c.in-Some.group < length c.args.groups.now = omega (arith, there, length-map c.args.groups.now face_of) in
     let face = face-at c.args.groups.now c.in-Some.group c.index-groups-group.result within in
     absent_other (faces c.args.groups.now) (items c.args.order.now) c.requires.index (rank_of c.args.key.now) c.in-Some.group
-      (ap (slice_get (items c.args.order.now)) (sym c.place_of-place.ensures) ∙ sym c.get.ensures ∙ c.in-Some.is)
-      (subst (λ (f : Face). eqb (rank_of f.key) (rank_of c.args.key.now) ≡ false) (sym face) (sym c.is_same.ensures.rank ∙ c.if-is_same.false))
+    (ap (slice_get (items c.args.order.now)) (sym c.place_of-place.ensures) ∙ sym c.get.ensures ∙ c.in-Some.is)
+    (subst (λ (f : Face). eqb (rank_of f.key) (rank_of c.args.key.now) ≡ false) (sym face) (sym c.is_same.ensures.rank ∙ c.if-is_same.false))

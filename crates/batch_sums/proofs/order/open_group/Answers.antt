@@ -1,10 +1,8 @@
-use Rattle.std.proofs.Common.{◌≡◌, ℕ, [], ◌∷◌, ◌++◌, length, refl, ap, sym, subst, ◌∙◌, arith, List}
-use Rattle.std.specs.List.{insert}
+use Rattle.std.proofs.Common.{◌≡◌, [], ◌∷◌, ◌++◌, length, ap, ◌∙◌, arith, List}
 use Rattle.std.proofs.lemmas.List.{length-map, map-append}
 use Rattle.balanced_tree.specs.Trees.{items}
 use Rattle.batch_sums.specs.declared.group.Group.{Group}
 use Rattle.batch_sums.specs.Groups.{Face, face_of, faces, rank_at, rank_of}
-use Rattle.batch_sums.specs.Kept.{IsIndex}
 use Rattle.batch_sums.proofs.Rising.{below}
 use Rattle.batch_sums.proofs.Opening.{index_made}
 use Rattle.batch_sums.proofs.order.open_group.Goals as goal

@@ -1,5 +1,4 @@
-use Rattle.std.proofs.Common.{◌≡◌, ◌<◌, ◌^◌, length, refl, ap, sym, ◌∙◌, arith}
-use Rattle.std.specs.List.{insert}
+use Rattle.std.proofs.Common.{length, refl, ap, sym, ◌∙◌, arith}
 use Rattle.balanced_tree.specs.Trees.{items}
 use Rattle.batch_sums.specs.Rising.{mass_of}
 use Rattle.batch_sums.proofs.Rising.{below}

@@ -1,8 +1,6 @@
-use Rattle.std.proofs.Common.{◌≡◌, ◌<◌, ◌^◌, length, refl, ap, sym, subst, ◌∙◌, arith, eqb, ℕ, List}
-use Rattle.std.specs.List.{remove, count_by}
+use Rattle.std.proofs.Common.{ap, sym, ◌∙◌, arith}
 use Rattle.std.proofs.lemmas.List.Edits.{length-remove}
 use Rattle.balanced_tree.specs.Trees.{items}
-use Rattle.batch_sums.specs.declared.grosses.Gross.{Gross}
 use Rattle.batch_sums.specs.Rising.{mass_of}
 use Rattle.batch_sums.proofs.Rising.{below, IsRising-remove}
 use Rattle.batch_sums.proofs.Ordered.{within_order, taken_out}

@@ -1,4 +1,4 @@
-use Rattle.std.proofs.Common.{◌≡◌, ◌++◌, ◌∷◌, [], length, sym, subst, ap, arith}
+use Rattle.std.proofs.Common.{◌≡◌, ◌++◌, ◌∷◌, [], sym, subst, ap, arith}
 use Rattle.batch_sums.specs.Kept.{Sums, Sound}
 use Rattle.batch_sums.proofs.Putting.{sound_batch}
 use Rattle.batch_sums.proofs.sums.BatchSums.add_batch.Goals as goal

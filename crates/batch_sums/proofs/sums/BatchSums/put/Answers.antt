@@ -1,15 +1,13 @@
-use Rattle.std.proofs.Common.{◌≡◌, ℕ, zero, suc, ◌+◌, ◌<◌, ◌≤◌, true, false, cond, not, eqb, [], ◌∷◌, ◌++◌, length, map, set, Some, refl, ap, sym, subst, ◌∙◌, arith, rules, length-set}
-use Rattle.std.specs.Prelude.{pos, ◌≤ℤ◌}
-use Rattle.std.specs.List.{All, slice_get, list_any, sum_by}
+use Rattle.std.proofs.Common.{◌≡◌, ◌+◌, ◌<◌, false, cond, not, eqb, [], ◌∷◌, ◌++◌, length, map, set, Some, refl, ap, sym, subst, ◌∙◌, arith}
+use Rattle.std.specs.Prelude.{pos}
+use Rattle.std.specs.List.{All, slice_get, list_any}
 use Rattle.std.proofs.lemmas.List.{length-map, map-set}
 use Rattle.std.proofs.lemmas.List.Sums.{sum_by_push}
 use Rattle.std.proofs.lemmas.Option.{slice_get_read, slice_get-map}
-use Rattle.hall_limits.specs.declared.TheConstants.{MAX_GROSS, MAX_TARE}
-use Rattle.batch_sums.specs.declared.group.Group.{Group}
 use Rattle.batch_sums.specs.declared.group.Key.{Key}
 use Rattle.batch_sums.specs.declared.types.Held.{Held}
-use Rattle.batch_sums.specs.Totals.{Pack, Terms, is_counted}
-use Rattle.batch_sums.specs.Groups.{Face, faces, IsJudged}
+use Rattle.batch_sums.specs.Totals.{Pack, is_counted}
+use Rattle.batch_sums.specs.Groups.{faces, IsJudged}
 use Rattle.batch_sums.specs.Kept.{Sums, terms_of, seen}
 use Rattle.batch_sums.specs.Changes.{is_added}
 use Rattle.batch_sums.specs.Invariant.{IsRoomy, inside, outside}
@@ -178,5 +176,4 @@ returns-clause-batches c =
     let done = ready bs gs held settled.sound settled.used key c.args.tare c.index.result.now first refl c.requires.tare taxed c.find_or_open-group.new.groups.items c.find_or_open-group.result c.find_or_open-group.ensures.group in
     let terms : terms_of c.enter.new.self ≡ terms_of c.index_mut-batch.result.now = λ i. record { product = c.enter.ensures.product i; limits = c.enter.ensures.limits i } in
     rw (← c.self.view_is) (map-set terms_of bs c.args.batch c.enter.new.self ∙ ap (λ t. set (map terms_of bs) c.args.batch t) terms
-      ∙ set_same (map terms_of bs) c.args.batch (terms_of c.index_mut-batch.result.now) (slice_get-map terms_of bs c.args.batch ∙ rw home refl))
-
+    ∙ set_same (map terms_of bs) c.args.batch (terms_of c.index_mut-batch.result.now) (slice_get-map terms_of bs c.args.batch ∙ rw home refl))

@@ -1,13 +1,11 @@
 use Rattle.std.proofs.Common.{◌≡◌, ℕ, ◌<◌, ◌≤◌, true, false, length, map, set, Some, refl, ap, sym, subst, ◌∙◌, arith, rules, true≢false, length-set}
 use Rattle.std.specs.Prelude.{pos, ◌≤ℤ◌}
-use Rattle.std.proofs.lemmas.List.{map-set, set-get_or, get_or-map}
+use Rattle.std.proofs.lemmas.List.{map-set}
 use Rattle.hall_limits.specs.declared.TheConstants.{MAX_TARE}
-use Rattle.batch_sums.specs.declared.batch.Batch.{Batch}
 use Rattle.batch_sums.specs.Groups.{Face, faces, IsJudged}
 use Rattle.batch_sums.specs.Running.{IsEntered}
 use Rattle.batch_sums.specs.Kept.{Sums, terms_of}
-use Rattle.batch_sums.specs.Totals.{Terms}
-use Rattle.batch_sums.specs.Changes.{is_added, moved}
+use Rattle.batch_sums.specs.Changes.{is_added}
 use Rattle.batch_sums.proofs.Moving.{in_group, kept_group, batch_there, has_gross, at_batch, judged_before, covers, room_to, few_less, sound_moved, faces_moved, moved_is}
 use Rattle.batch_sums.proofs.Numbers.{added_is, number_at, inside_moved, outside_moved, settled_moved}
 use Rattle.batch_sums.proofs.Sounding.{set_same}
@@ -160,20 +158,20 @@ invariant_of-self c =
     record {
       settled = settled_moved held c.in-Some.place h c.args.to c.index-held.ensures found.0 bs _ gs _ sums.order sums.numbers.keys settled sound face (length-set gs h.group c.enter-2.new.self);
       room =
-        let room = c.self.invariant.room in
-        let ins = inside_moved held c.in-Some.place h c.args.to c.index-held.ensures found.0 in
-        let outs = outside_moved held c.in-Some.place h c.args.to c.index-held.ensures found.0 in
-        record {
-          batches = room.batches;
-          groups = room.groups;
-          packs = room.packs;
-          numbers = room.numbers;
-          nodes = omega (arith, room.nodes, outs, c.leave-2.ensures.nodes, c.enter-2.ensures.nodes);
-          back = omega (arith, room.back, ins, c.leave-2.ensures.nodes, c.enter-2.ensures.nodes, c.leave-2.ensures.capacity, c.enter-2.ensures.capacity);
-          order_nodes = room.order_nodes;
-          few_batches = room.few_batches;
-          few_packs = room.few_packs;
-        };
+          let room = c.self.invariant.room in
+          let ins = inside_moved held c.in-Some.place h c.args.to c.index-held.ensures found.0 in
+          let outs = outside_moved held c.in-Some.place h c.args.to c.index-held.ensures found.0 in
+          record {
+            batches = room.batches;
+            groups = room.groups;
+            packs = room.packs;
+            numbers = room.numbers;
+            nodes = omega (arith, room.nodes, outs, c.leave-2.ensures.nodes, c.enter-2.ensures.nodes);
+            back = omega (arith, room.back, ins, c.leave-2.ensures.nodes, c.enter-2.ensures.nodes, c.leave-2.ensures.capacity, c.enter-2.ensures.capacity);
+            order_nodes = room.order_nodes;
+            few_batches = room.few_batches;
+            few_packs = room.few_packs;
+          };
     }
 
 pub returns-clause-packs : goal.returns-clause-packs
@@ -189,7 +187,7 @@ returns-clause-packs c =
     let enters = subst (λ t. IsEntered c.leave.new.self c.enter.new.self c.args.to h.gross t) tare c.enter.ensures in
     let face = faces_moved bs gs held settled.sound c.in-Some.place h c.index-held.ensures found.0 c.index_mut-group.result.now c.index_mut-group.ensures.value c.index_mut-batch.result.now c.index_mut-batch.ensures.value c.leave.new.self c.leave.ensures c.leave-2.new.self c.leave-2.ensures.grosses c.leave-2.ensures.face c.leave-2.ensures.judged c.args.to c.enter.new.self enters c.enter-2.new.self c.enter-2.ensures.grosses c.enter-2.ensures.face c.enter-2.ensures.judged in
     rw (← c.self.view_is) (ap (λ fs. map (Rattle.batch_sums.specs.Kept.seen fs) (set held c.in-Some.place (Rattle.batch_sums.proofs.Moving.in_pile h c.args.to))) face
-      ∙ moved_is (faces gs) c.args.pack c.args.to held c.in-Some.place h (settled.apart c.args.pack) found.0 c.index-held.ensures found.1)
+    ∙ moved_is (faces gs) c.args.pack c.args.to held c.in-Some.place h (settled.apart c.args.pack) found.0 c.index-held.ensures found.1)
 
 pub returns-clause-batches : goal.returns-clause-batches
 returns-clause-batches c =
@@ -203,5 +201,4 @@ returns-clause-batches c =
     let there = at_batch bs gs held settled.sound c.in-Some.place h c.index-held.ensures found.0 c.index_mut-group.result.now c.index_mut-group.ensures.value c.index_mut-batch.result.now c.index_mut-batch.ensures.value in
     let terms : terms_of c.enter.new.self ≡ terms_of c.index_mut-batch.result.now = λ i. record { product = (c.enter.ensures.product ∙ sym c.leave.ensures.product) i; limits = (c.enter.ensures.limits ∙ sym c.leave.ensures.limits) i } in
     rw (← c.self.view_is) (map-set terms_of bs c.index_mut-group.result.now.key.batch c.enter.new.self ∙ ap (λ t. set (map terms_of bs) c.index_mut-group.result.now.key.batch t) terms
-      ∙ set_same (map terms_of bs) c.index_mut-group.result.now.key.batch (terms_of c.index_mut-batch.result.now) (slice_get-map terms_of bs c.index_mut-group.result.now.key.batch ∙ rw there refl))
-
+    ∙ set_same (map terms_of bs) c.index_mut-group.result.now.key.batch (terms_of c.index_mut-batch.result.now) (slice_get-map terms_of bs c.index_mut-group.result.now.key.batch ∙ rw there refl))
