@@ -1,0 +1,46 @@
+use Rattle.std.proofs.Common.{◌≤◌, refl, arith}
+use Rattle.std.proofs.lemmas.List.Sums.{count_by-le-length}
+use Rattle.batch_sums.specs.Totals.{is_counted}
+use Rattle.batch_sums.specs.Invariant.{inside}
+use Rattle.batch_sums.proofs.Room.{kept_on}
+use Rattle.batch_sums.proofs.sums.BatchSums.reserve.Goals as goal
+
+pub invariant_of-self-in_err-reserve_nodes : goal.invariant_of-self-in_err-reserve_nodes
+invariant_of-self-in_err-reserve_nodes c =
+    let room = c.self.invariant.room in
+    let grown = c.reserve_places.ensures in
+    let nodes = c.reserve_nodes.ensures in
+    let held = c.self.inside.packs.items in
+    let within : inside held ≤ c.len-2.result = omega (arith, count_by-le-length (λ pack. is_counted pack.pile) held, c.self.inside.packs.ok.0, grown.packs.long, c.len-2.ensures) in
+    kept_on c.self.inside _ c.self.invariant grown.batches.same grown.groups.same refl grown.packs.same grown.keys
+    (record {
+      batches = omega (arith, room.batches, grown.batches.long, grown.batches.room);
+      groups = omega (arith, room.groups, grown.groups.long, grown.groups.room);
+      packs = omega (arith, room.packs, grown.packs.long, grown.packs.room);
+      numbers = omega (arith, room.numbers, grown.numbers);
+      nodes = omega (arith, room.nodes, nodes.gross);
+      back = nodes.back (inside held) within room.back;
+      order_nodes = omega (arith, room.order_nodes, nodes.order);
+      few_batches = omega (arith, room.few_batches, grown.batches.long);
+      few_packs = omega (arith, room.few_packs, grown.packs.long);
+    })
+
+pub invariant_of-self-2 : goal.invariant_of-self-2
+invariant_of-self-2 c =
+    let room = c.self.invariant.room in
+    let grown = c.in_ok-reserve_places.ensures in
+    let nodes = c.in_ok-reserve_nodes.ensures in
+    let held = c.self.inside.packs.items in
+    let within : inside held ≤ c.len-2.result = omega (arith, count_by-le-length (λ pack. is_counted pack.pile) held, c.self.inside.packs.ok.0, grown.packs.long, c.len-2.ensures) in
+    kept_on c.self.inside _ c.self.invariant grown.batches.same grown.groups.same refl grown.packs.same grown.keys
+    (record {
+      batches = omega (arith, grown.ok_batches);
+      groups = omega (arith, grown.ok_groups);
+      packs = omega (arith, grown.ok_packs);
+      numbers = omega (arith, grown.ok_numbers);
+      nodes = omega (arith, room.nodes, nodes.ok_gross, c.if-more-self.false);
+      back = nodes.back (inside held) within room.back;
+      order_nodes = omega (arith, room.order_nodes, nodes.ok_order, c.if-more-self.false);
+      few_batches = omega (arith, grown.batches.long, c.if-len-most.false, c.len.ensures);
+      few_packs = omega (arith, grown.packs.long, c.if-len-most-2.false, c.len-else-len-most.ensures);
+    })

@@ -1,0 +1,204 @@
+use Rattle.std.proofs.Common.{◌≡◌, ℕ, ◌<◌, ◌≤◌, true, false, length, map, set, Some, refl, ap, sym, subst, ◌∙◌, arith, rules, true≢false, length-set}
+use Rattle.std.specs.Prelude.{pos, ◌≤ℤ◌}
+use Rattle.std.proofs.lemmas.List.{map-set}
+use Rattle.hall_limits.specs.declared.TheConstants.{MAX_TARE}
+use Rattle.batch_sums.specs.Groups.{Face, faces, IsJudged}
+use Rattle.batch_sums.specs.Running.{IsEntered}
+use Rattle.batch_sums.specs.Kept.{Sums, terms_of}
+use Rattle.batch_sums.specs.Changes.{is_added}
+use Rattle.batch_sums.proofs.Moving.{in_group, kept_group, batch_there, has_gross, at_batch, judged_before, covers, room_to, few_less, sound_moved, faces_moved, moved_is}
+use Rattle.batch_sums.proofs.Numbers.{added_is, number_at, inside_moved, outside_moved, settled_moved}
+use Rattle.batch_sums.proofs.Sounding.{set_same}
+use Rattle.std.proofs.lemmas.Option.{slice_get-map}
+use Rattle.batch_sums.proofs.sums.BatchSums.shift.Goals as goal
+
+pub unreachable-requires : goal.unreachable-requires
+unreachable-requires c =
+    let sums = c.self.inside in
+    let there : is_added c.args.self.now.packs c.args.pack ≡ true = search rules in
+    let among = added_is (faces sums.groups.items) c.args.pack sums.packs.items in
+    true≢false (sym there ∙ ap (λ (s : Sums). is_added s.packs c.args.pack) (sym c.self.view_is) ∙ among ∙ ap (λ ns. Rattle.std.specs.List.list_any (λ other. Rattle.std.proofs.Common.eqb c.args.pack other) ns) (sym c.self.invariant.settled.numbered) ∙ sym c.in_default.ensures.found)
+
+pub index_mut-batch-requires : goal.index_mut-batch-requires
+index_mut-batch-requires c =
+    let sums = c.self.inside in
+    let settled = c.self.invariant.settled in
+    let bs = sums.batches.items in
+    let gs = sums.groups.items in
+    let held = sums.packs.items in
+    let h = c.index-held.result.now in
+    let found = number_at sums.numbers.keys held c.in-Some.place c.args.pack h settled.numbered c.in-Some.ensures.index c.index-held.ensures in
+    let there = batch_there bs gs held settled.sound c.in-Some.place h c.index-held.ensures found.0 c.index_mut-group.result.now c.index_mut-group.ensures.value in omega (arith, there, sums.batches.ok.0)
+
+pub leave-requires-clause-tare : goal.leave-requires-clause-tare
+leave-requires-clause-tare c =
+    let sums = c.self.inside in
+    let settled = c.self.invariant.settled in
+    let bs = sums.batches.items in
+    let gs = sums.groups.items in
+    let held = sums.packs.items in
+    let h = c.index-held.result.now in
+    let found = number_at sums.numbers.keys held c.in-Some.place c.args.pack h settled.numbered c.in-Some.ensures.index c.index-held.ensures in
+    (kept_group bs gs held settled.sound c.in-Some.place h c.index-held.ensures found.0 c.index_mut-group.result.now c.index_mut-group.ensures.value).tare
+
+pub leave-requires-clause-covered : goal.leave-requires-clause-covered
+leave-requires-clause-covered c =
+    let sums = c.self.inside in
+    let settled = c.self.invariant.settled in
+    let bs = sums.batches.items in
+    let gs = sums.groups.items in
+    let held = sums.packs.items in
+    let h = c.index-held.result.now in
+    let found = number_at sums.numbers.keys held c.in-Some.place c.args.pack h settled.numbered c.in-Some.ensures.index c.index-held.ensures in
+    covers bs gs held settled.sound c.in-Some.place h c.index-held.ensures found.0 c.index_mut-group.result.now c.index_mut-group.ensures.value c.index_mut-batch.result.now c.index_mut-batch.ensures.value
+
+pub leave-requires-2-clause-tare : goal.leave-requires-2-clause-tare
+leave-requires-2-clause-tare c =
+    let sums = c.self.inside in
+    let settled = c.self.invariant.settled in
+    let bs = sums.batches.items in
+    let gs = sums.groups.items in
+    let held = sums.packs.items in
+    let h = c.index-held.result.now in
+    let found = number_at sums.numbers.keys held c.in-Some.place c.args.pack h settled.numbered c.in-Some.ensures.index c.index-held.ensures in
+    (kept_group bs gs held settled.sound c.in-Some.place h c.index-held.ensures found.0 c.index_mut-group.result.now c.index_mut-group.ensures.value).tare
+
+pub leave-requires-2-clause-contained : goal.leave-requires-2-clause-contained
+leave-requires-2-clause-contained c =
+    let sums = c.self.inside in
+    let settled = c.self.invariant.settled in
+    let bs = sums.batches.items in
+    let gs = sums.groups.items in
+    let held = sums.packs.items in
+    let h = c.index-held.result.now in
+    let found = number_at sums.numbers.keys held c.in-Some.place c.args.pack h settled.numbered c.in-Some.ensures.index c.index-held.ensures in
+    has_gross bs gs held settled.sound c.in-Some.place h c.index-held.ensures found.0 c.index_mut-group.result.now c.index_mut-group.ensures.value
+
+pub leave-requires-2-clause-judged : goal.leave-requires-2-clause-judged
+leave-requires-2-clause-judged c =
+    let sums = c.self.inside in
+    let settled = c.self.invariant.settled in
+    let bs = sums.batches.items in
+    let gs = sums.groups.items in
+    let held = sums.packs.items in
+    let h = c.index-held.result.now in
+    let found = number_at sums.numbers.keys held c.in-Some.place c.args.pack h settled.numbered c.in-Some.ensures.index c.index-held.ensures in
+    subst (λ l. IsJudged l c.index_mut-group.result.now) c.leave.ensures.limits (judged_before bs gs held settled.sound c.in-Some.place h c.index-held.ensures found.0 c.index_mut-group.result.now c.index_mut-group.ensures.value c.index_mut-batch.result.now c.index_mut-batch.ensures.value)
+
+pub enter-requires-clause-tare : goal.enter-requires-clause-tare
+enter-requires-clause-tare c =
+    let sums = c.self.inside in
+    let settled = c.self.invariant.settled in
+    let bs = sums.batches.items in
+    let gs = sums.groups.items in
+    let held = sums.packs.items in
+    let h = c.index-held.result.now in
+    let found = number_at sums.numbers.keys held c.in-Some.place c.args.pack h settled.numbered c.in-Some.ensures.index c.index-held.ensures in
+    let tare : c.leave-2.new.self.tare ≡ c.index_mut-group.result.now.tare = ap (λ (f : Face). f.tare) c.leave-2.ensures.face in
+    subst (λ t. pos t ≤ℤ MAX_TARE) (sym tare) (kept_group bs gs held settled.sound c.in-Some.place h c.index-held.ensures found.0 c.index_mut-group.result.now c.index_mut-group.ensures.value).tare
+
+pub enter-requires-clause-room : goal.enter-requires-clause-room
+enter-requires-clause-room c =
+    let sums = c.self.inside in
+    let settled = c.self.invariant.settled in
+    let bs = sums.batches.items in
+    let gs = sums.groups.items in
+    let held = sums.packs.items in
+    let h = c.index-held.result.now in
+    let found = number_at sums.numbers.keys held c.in-Some.place c.args.pack h settled.numbered c.in-Some.ensures.index c.index-held.ensures in
+    room_to bs gs held settled.sound c.in-Some.place h c.index-held.ensures found.0 c.index_mut-group.result.now c.index_mut-group.ensures.value c.index_mut-batch.result.now c.index_mut-batch.ensures.value c.leave.new.self c.leave.ensures c.leave-2.new.self c.leave-2.ensures.grosses c.leave-2.ensures.face c.leave-2.ensures.judged c.args.to
+
+pub enter-requires-2-clause-tare : goal.enter-requires-2-clause-tare
+enter-requires-2-clause-tare c =
+    let sums = c.self.inside in
+    let settled = c.self.invariant.settled in
+    let bs = sums.batches.items in
+    let gs = sums.groups.items in
+    let held = sums.packs.items in
+    let h = c.index-held.result.now in
+    let found = number_at sums.numbers.keys held c.in-Some.place c.args.pack h settled.numbered c.in-Some.ensures.index c.index-held.ensures in
+    let tare : c.leave-2.new.self.tare ≡ c.index_mut-group.result.now.tare = ap (λ (f : Face). f.tare) c.leave-2.ensures.face in
+    subst (λ t. pos t ≤ℤ MAX_TARE) (sym tare) (kept_group bs gs held settled.sound c.in-Some.place h c.index-held.ensures found.0 c.index_mut-group.result.now c.index_mut-group.ensures.value).tare
+
+pub enter-requires-2-clause-few : goal.enter-requires-2-clause-few
+enter-requires-2-clause-few c =
+    let sums = c.self.inside in
+    let settled = c.self.invariant.settled in
+    let bs = sums.batches.items in
+    let gs = sums.groups.items in
+    let held = sums.packs.items in
+    let h = c.index-held.result.now in
+    let found = number_at sums.numbers.keys held c.in-Some.place c.args.pack h settled.numbered c.in-Some.ensures.index c.index-held.ensures in
+    few_less bs gs held settled.sound c.in-Some.place h c.index-held.ensures found.0 c.index_mut-group.result.now c.index_mut-group.ensures.value c.index_mut-batch.result.now c.index_mut-batch.ensures.value c.leave.new.self c.leave.ensures c.leave-2.new.self c.leave-2.ensures.grosses c.leave-2.ensures.face c.leave-2.ensures.judged
+
+pub enter-requires-2-clause-judged : goal.enter-requires-2-clause-judged
+enter-requires-2-clause-judged c =
+    let sums = c.self.inside in
+    let settled = c.self.invariant.settled in
+    let bs = sums.batches.items in
+    let gs = sums.groups.items in
+    let held = sums.packs.items in
+    let h = c.index-held.result.now in
+    let found = number_at sums.numbers.keys held c.in-Some.place c.args.pack h settled.numbered c.in-Some.ensures.index c.index-held.ensures in
+    subst (λ l. IsJudged l c.leave-2.new.self) (sym c.enter.ensures.limits) c.leave-2.ensures.judged
+
+pub invariant_of-self : goal.invariant_of-self
+invariant_of-self c =
+    let sums = c.self.inside in
+    let settled = c.self.invariant.settled in
+    let bs = sums.batches.items in
+    let gs = sums.groups.items in
+    let held = sums.packs.items in
+    let h = c.index-held.result.now in
+    let found = number_at sums.numbers.keys held c.in-Some.place c.args.pack h settled.numbered c.in-Some.ensures.index c.index-held.ensures in
+    let tare : c.leave-2.new.self.tare ≡ c.index_mut-group.result.now.tare = ap (λ (f : Face). f.tare) c.leave-2.ensures.face in
+    let enters = subst (λ t. IsEntered c.leave.new.self c.enter.new.self c.args.to h.gross t) tare c.enter.ensures in
+    let sound = sound_moved bs gs held settled.sound c.in-Some.place h c.index-held.ensures found.0 c.index_mut-group.result.now c.index_mut-group.ensures.value c.index_mut-batch.result.now c.index_mut-batch.ensures.value c.leave.new.self c.leave.ensures c.leave-2.new.self c.leave-2.ensures.grosses c.leave-2.ensures.face c.leave-2.ensures.judged c.args.to c.enter.new.self enters c.enter-2.new.self c.enter-2.ensures.grosses c.enter-2.ensures.face c.enter-2.ensures.judged in
+    let face = faces_moved bs gs held settled.sound c.in-Some.place h c.index-held.ensures found.0 c.index_mut-group.result.now c.index_mut-group.ensures.value c.index_mut-batch.result.now c.index_mut-batch.ensures.value c.leave.new.self c.leave.ensures c.leave-2.new.self c.leave-2.ensures.grosses c.leave-2.ensures.face c.leave-2.ensures.judged c.args.to c.enter.new.self enters c.enter-2.new.self c.enter-2.ensures.grosses c.enter-2.ensures.face c.enter-2.ensures.judged in
+    record {
+      settled = settled_moved held c.in-Some.place h c.args.to c.index-held.ensures found.0 bs _ gs _ sums.order sums.numbers.keys settled sound face (length-set gs h.group c.enter-2.new.self);
+      room =
+          let room = c.self.invariant.room in
+          let ins = inside_moved held c.in-Some.place h c.args.to c.index-held.ensures found.0 in
+          let outs = outside_moved held c.in-Some.place h c.args.to c.index-held.ensures found.0 in
+          record {
+            batches = room.batches;
+            groups = room.groups;
+            packs = room.packs;
+            numbers = room.numbers;
+            nodes = omega (arith, room.nodes, outs, c.leave-2.ensures.nodes, c.enter-2.ensures.nodes);
+            back = omega (arith, room.back, ins, c.leave-2.ensures.nodes, c.enter-2.ensures.nodes, c.leave-2.ensures.capacity, c.enter-2.ensures.capacity);
+            order_nodes = room.order_nodes;
+            few_batches = room.few_batches;
+            few_packs = room.few_packs;
+          };
+    }
+
+pub returns-clause-packs : goal.returns-clause-packs
+returns-clause-packs c =
+    let sums = c.self.inside in
+    let settled = c.self.invariant.settled in
+    let bs = sums.batches.items in
+    let gs = sums.groups.items in
+    let held = sums.packs.items in
+    let h = c.index-held.result.now in
+    let found = number_at sums.numbers.keys held c.in-Some.place c.args.pack h settled.numbered c.in-Some.ensures.index c.index-held.ensures in
+    let tare : c.leave-2.new.self.tare ≡ c.index_mut-group.result.now.tare = ap (λ (f : Face). f.tare) c.leave-2.ensures.face in
+    let enters = subst (λ t. IsEntered c.leave.new.self c.enter.new.self c.args.to h.gross t) tare c.enter.ensures in
+    let face = faces_moved bs gs held settled.sound c.in-Some.place h c.index-held.ensures found.0 c.index_mut-group.result.now c.index_mut-group.ensures.value c.index_mut-batch.result.now c.index_mut-batch.ensures.value c.leave.new.self c.leave.ensures c.leave-2.new.self c.leave-2.ensures.grosses c.leave-2.ensures.face c.leave-2.ensures.judged c.args.to c.enter.new.self enters c.enter-2.new.self c.enter-2.ensures.grosses c.enter-2.ensures.face c.enter-2.ensures.judged in
+    rw (← c.self.view_is) (ap (λ fs. map (Rattle.batch_sums.specs.Kept.seen fs) (set held c.in-Some.place (Rattle.batch_sums.proofs.Moving.in_pile h c.args.to))) face
+    ∙ moved_is (faces gs) c.args.pack c.args.to held c.in-Some.place h (settled.apart c.args.pack) found.0 c.index-held.ensures found.1)
+
+pub returns-clause-batches : goal.returns-clause-batches
+returns-clause-batches c =
+    let sums = c.self.inside in
+    let settled = c.self.invariant.settled in
+    let bs = sums.batches.items in
+    let gs = sums.groups.items in
+    let held = sums.packs.items in
+    let h = c.index-held.result.now in
+    let found = number_at sums.numbers.keys held c.in-Some.place c.args.pack h settled.numbered c.in-Some.ensures.index c.index-held.ensures in
+    let there = at_batch bs gs held settled.sound c.in-Some.place h c.index-held.ensures found.0 c.index_mut-group.result.now c.index_mut-group.ensures.value c.index_mut-batch.result.now c.index_mut-batch.ensures.value in
+    let terms : terms_of c.enter.new.self ≡ terms_of c.index_mut-batch.result.now = λ i. record { product = (c.enter.ensures.product ∙ sym c.leave.ensures.product) i; limits = (c.enter.ensures.limits ∙ sym c.leave.ensures.limits) i } in
+    rw (← c.self.view_is) (map-set terms_of bs c.index_mut-group.result.now.key.batch c.enter.new.self ∙ ap (λ t. set (map terms_of bs) c.index_mut-group.result.now.key.batch t) terms
+    ∙ set_same (map terms_of bs) c.index_mut-group.result.now.key.batch (terms_of c.index_mut-batch.result.now) (slice_get-map terms_of bs c.index_mut-group.result.now.key.batch ∙ rw there refl))

@@ -1,0 +1,113 @@
+-- What is kept of the packs, and what always holds of it.
+use Rattle.std.specs.Prelude.{◌^◌, ◌≡◌, ℕ, ℤ, pos, ◌<◌, ◌≤◌, ◌≤ℤ◌, Bool, ◌&&◌, ◌==◌, List, [], ◌∷◌, ◌++◌, length, count_by, Option, Some, option_map, if◌then◌else◌}
+use Rattle.std.specs.List.{All, sum_by, slice_get}
+use Rattle.hall_limits.specs.declared.TheConstants.{MAX_GROSS, MAX_TARE, MAX_DAY}
+use Rattle.pack_judge.specs.declared.types.Pile.{Pile}
+use Rattle.batch_sums.specs.declared.batch.Batch.{Batch}
+use Rattle.batch_sums.specs.declared.group.Group.{Group}
+use Rattle.batch_sums.specs.declared.group.Key.{Key}
+use Rattle.batch_sums.specs.declared.types.Held.{Held}
+use Rattle.batch_sums.specs.Rising.{IsRising, mass_of}
+use Rattle.batch_sums.specs.Totals.{Pack, Terms, same_pile, is_counted, totals_of}
+use Rattle.batch_sums.specs.declared.types.Totals.{Totals}
+use Rattle.batch_sums.specs.Groups.{Face, face_of, face_at, faces, rank_at, threshold, IsJudged}
+use Rattle.batch_sums.specs.Running.{pile_sum, count_at}
+
+-- what contracts see: the batches and the packs in the order in which they were added, and how many more are sure to find room
+pub record Sums : Type 0 where
+  pub batches : List Terms
+  pub packs : List Pack
+  pub spare : ℕ
+
+-- the totals of a batch that was added
+abbrev pub totals_in : Sums → ℕ → Option Totals
+totals_in sums batch = option_map (λ terms. totals_of terms.limits sums.packs batch) (slice_get sums.batches batch)
+
+abbrev pub terms_of : Batch → Terms
+terms_of batch = record { product = batch.product; limits = batch.limits }
+
+-- a pack as its group shows it
+abbrev pub seen : List Face → Held → Pack
+seen some held =
+    record {
+      number = held.number;
+      batch = (face_at some held.group).key.batch;
+      day = pos (face_at some held.group).key.day;
+      gross = pos held.gross;
+      tare = pos (face_at some held.group).tare;
+      pile = held.pile;
+    }
+
+abbrev pub belongs : List Face → ℕ → Held → Bool
+belongs some number held = (face_at some held.group).key.batch == number
+
+-- what one pack adds to the sums of a batch: to the count and the gross of a pile, to the tares of the population, and to those below a limit
+abbrev pub count_in : List Face → ℕ → Pile → Held → ℕ
+count_in some number pile held = if belongs some number held && same_pile held.pile pile then 1 else 0
+
+abbrev pub gross_in : List Face → ℕ → Pile → Held → ℕ
+gross_in some number pile held = if belongs some number held && same_pile held.pile pile then held.gross else 0
+
+abbrev pub tare_in : List Face → ℕ → Held → ℕ
+tare_in some number held = if belongs some number held && is_counted held.pile then (face_at some held.group).tare else 0
+
+abbrev pub below_in : List Face → ℕ → ℤ → Held → ℕ
+below_in some number limit held =
+    if belongs some number held then count_at held.pile held.gross (threshold limit (face_at some held.group).tare) else 0
+
+-- the sums of a batch are those of its packs
+pub record AddsUp (some : List Face) (held : List Held) (number : ℕ) (batch : Batch) : Type 0 where
+  pub count : (pile : Pile) → (pile_sum batch pile).count ≡ sum_by (count_in some number pile) held
+  pub gross : (pile : Pile) → (pile_sum batch pile).gross ≡ sum_by (gross_in some number pile) held
+  pub tares : batch.tares ≡ sum_by (tare_in some number) held
+  pub nonstandard : batch.nonstandard ≡ sum_by (below_in some number batch.limits.t1) held
+  pub inadequate : batch.inadequate ≡ sum_by (below_in some number batch.limits.t2) held
+
+-- whether a pack is one of a group's that counts for the population, and passes a test of its gross
+abbrev pub is_member : ℕ → (ℕ → Bool) → Held → Bool
+is_member place test held = ((held.group == place) && is_counted held.pile) && test held.gross
+
+-- a group is of a batch that is there, by whose limits its packs are judged, and has the grosses of its packs
+pub record IsGroup (batches : List Batch) (held : List Held) (place : ℕ) (group : Group) : Type 0 where
+  pub batch : Batch
+  pub is : slice_get batches group.key.batch ≡ Some batch
+  pub product : batch.product ≡ group.key.product
+  pub judged : IsJudged batch.limits group
+  pub tare : pos group.tare ≤ℤ MAX_TARE
+  pub grosses : (test : ℕ → Bool) → count_by (λ gross. test (mass_of gross)) group.grosses ≡ count_by (is_member place test) held
+
+-- a key's numbers are within their ranges
+pub record IsKey (face : Face) : Type 0 where
+  pub day : pos face.key.day ≤ℤ MAX_DAY
+  pub batch : face.key.batch < 2 ^ 32
+
+-- batches, groups and packs fit together
+pub record Sound (batches : List Batch) (groups : List Group) (held : List Held) : Type 0 where
+  pub group : (place : ℕ) (group : Group) → slice_get groups place ≡ Some group → IsGroup batches held place group
+  pub batch : (number : ℕ) (batch : Batch) → slice_get batches number ≡ Some batch → AddsUp (faces groups) held number batch
+  pub grouped : All (λ pack. pack.group < length groups) held
+  pub light : All (λ pack. pos pack.gross ≤ℤ MAX_GROSS) held
+  pub few : length held < 2 ^ 32
+
+-- the order has each group once, by rising keys that are all different
+pub record IsIndex (some : List Face) (order : List ℕ) : Type 0 where
+  pub rising : IsRising (rank_at some) order
+  pub within : All (λ place. place < length some) order
+  pub once : (place : ℕ) → place < length some → count_by (λ other. other == place) order ≡ 1
+  pub distinct : (rank : ℕ) → count_by (λ place. rank_at some place == rank) order ≤ 1
+  pub keys : (place : ℕ) → place < length some → IsKey (face_at some place)
+  pub long : length order ≡ length some
+
+-- the group at a place has a key
+abbrev pub HasKey : List Group → ℕ → Key → Type 0
+HasKey groups place key = (group : Group) × (slice_get groups place ≡ Some group) × (group.key ≡ key)
+
+-- a group without packs was put behind the others
+pub record IsOpened (old new : List Group) (place : ℕ) (key : Key) (tare : ℕ) : Type 0 where
+  pub group : Group
+  pub place_is : place ≡ length old
+  pub is : new ≡ old ++ group ∷ []
+  pub face : face_of group ≡ record { key = key; tare = tare }
+  pub grosses : group.grosses ≡ []
+  pub nonstandard : group.nonstandard ≡ 0
+  pub inadequate : group.inadequate ≡ 0

@@ -1,0 +1,18 @@
+//! The totals of each batch, kept running: packs are added and move between piles, and a corrected tare of a
+//! product is worked in by the limits of each group of packs, without a walk over the packs. All masses are
+//! whole milligrams.
+#![tactic(auto)]
+
+mod batch;
+mod days;
+mod grosses;
+mod group;
+mod order;
+mod pool;
+mod steps;
+mod sums;
+mod types;
+
+pub use steps::{STEPS_PER_GROUP, Steps};
+pub use sums::BatchSums;
+pub use types::{NoMemory, Totals};

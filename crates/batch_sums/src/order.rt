@@ -1,0 +1,107 @@
+ghost use Rattle.std.specs.Prelude.{◌≡◌, ◌<◌, ◌≤◌, ◌+◌, ◌^◌, ◌==◌, ◌⊎◌, length, vec_len, vec_capacity, nat_lt, count_by, IfSome, IfNone};
+ghost use Rattle.batch_sums.specs.Kept.{IsIndex, IsKey, HasKey, IsOpened};
+ghost use Rattle.std.specs.List.{All};
+ghost use Rattle.balanced_tree.specs.Trees.{items, height_of, IsBalanced};
+ghost use Rattle.batch_sums.specs.Rising.{IsRising};
+ghost use Rattle.batch_sums.specs.Groups.{rank_of, rank_at, faces};
+
+use crate::group::{Group, Key};
+use balanced_tree::{Node, Tree, insert};
+use std::mem;
+
+/// How many groups stand before a key, in the order of keys: where the group of that key stands, or would stand.
+pub fn place_of(order: &Tree<u32>, groups: &[Group], key: &Key) -> u32
+    requires balanced { IsBalanced order.now }
+    requires rising { IsRising (rank_at (faces groups.now)) (items order.now) }
+    requires within { All (λ group. group < length groups.now) (items order.now) }
+    requires few { length (items order.now) < 2 ^ 32 }
+    ensures { result ≡ count_by (λ group. nat_lt (rank_at (faces groups.now) group) (rank_of key.now)) (items order.now) }
+{
+    let Some(root) = order.root() else {
+        return 0;
+    };
+    if groups[root.item as usize].key.is_before(key) {
+        root.left.count() + 1 + place_of(&root.right, groups, key)
+    } else {
+        place_of(&root.left, groups, key)
+    }
+}
+
+/// The place of the group of a key, where there is one.
+fn find(order: &Tree<u32>, groups: &[Group], key: &Key) -> Option<u32>
+    requires balanced { IsBalanced order.now }
+    requires index { IsIndex (faces groups.now) (items order.now) }
+    requires few { length groups.now < 2 ^ 32 }
+    ensures some { IfSome result (λ group. HasKey groups.now group key.now) }
+    ensures none { IfNone result (count_by (λ group. rank_at (faces groups.now) group == rank_of key.now) (items order.now) ≡ 0) }
+{
+    let place = place_of(order, groups, key);
+    let Some(group) = order.get(place) else {
+        return None;
+    };
+    if groups[group as usize].key.is_same(key) {
+        Some(group)
+    } else {
+        None
+    }
+}
+
+/// Opens the group of a key that has none, with a tare in mg.
+fn open_group(
+    groups: &mut Vec<Group>,
+    order: &mut Tree<u32>,
+    spare: &mut Vec<Box<Node<u32>>>,
+    key: Key,
+    tare: u32,
+) -> u32
+    requires balanced { IsBalanced order.old }
+    requires index { IsIndex (faces groups.old.items) (items order.old) }
+    requires room { vec_len groups.old < vec_capacity groups.old }
+    requires few { vec_len groups.old + 1 < 2 ^ 32 }
+    requires spare { 0 < vec_len spare.old }
+    requires key { IsKey (record { key = key; tare = tare }) }
+    requires absent { count_by (λ group. rank_at (faces groups.old.items) group == rank_of key) (items order.old) ≡ 0 }
+    ensures balanced { IsBalanced order.new }
+    ensures index { IsIndex (faces groups.new.items) (items order.new) }
+    ensures opened { IsOpened groups.old.items groups.new.items result key tare }
+    ensures capacity { vec_capacity groups.old ≤ vec_capacity groups.new }
+    ensures nodes { vec_len spare.new + 1 ≡ vec_len spare.old }
+{
+    let place = place_of(order, groups, &key);
+    let group = groups.len() as u32;
+    let Some(mut node) = spare.pop() else {
+        unreachable!()
+    };
+    let Ok(()) = groups.push(Group::new(key, tare)) else {
+        unreachable!()
+    };
+    node.item = group;
+    *order = insert(mem::replace(order, Tree::Leaf), place, node);
+    group
+}
+
+/// The place of the group of a key; where there is none it is opened, with a tare in mg.
+pub fn find_or_open(
+    groups: &mut Vec<Group>,
+    order: &mut Tree<u32>,
+    spare: &mut Vec<Box<Node<u32>>>,
+    key: Key,
+    tare: u32,
+) -> u32
+    requires balanced { IsBalanced order.old }
+    requires index { IsIndex (faces groups.old.items) (items order.old) }
+    requires room { vec_len groups.old < vec_capacity groups.old }
+    requires few { vec_len groups.old + 1 < 2 ^ 32 }
+    requires spare { 0 < vec_len spare.old }
+    requires key { IsKey (record { key = key; tare = tare }) }
+    ensures balanced { IsBalanced order.new }
+    ensures index { IsIndex (faces groups.new.items) (items order.new) }
+    ensures group { ((groups.new.items ≡ groups.old.items) × HasKey groups.old.items result key) ⊎ IsOpened groups.old.items groups.new.items result key tare }
+    ensures capacity { vec_capacity groups.old ≤ vec_capacity groups.new }
+    ensures nodes { vec_len spare.old ≤ vec_len spare.new + 1 }
+{
+    match find(order, groups, &key) {
+        Some(group) => group,
+        None => open_group(groups, order, spare, key, tare),
+    }
+}

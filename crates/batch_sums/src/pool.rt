@@ -1,0 +1,76 @@
+ghost use Rattle.std.specs.Prelude.{◌≡◌, ℕ, ◌+◌, ◌^◌, ◌<◌, ◌≤◌, vec_len, vec_capacity, OnOk};
+ghost use Rattle.indexmap.specs.IndexSet.{spare};
+ghost use Rattle.batch_sums.specs.Invariant.{HasGrown};
+
+use crate::batch::Batch;
+use crate::grosses::Gross;
+use crate::group::Group;
+use crate::types::{Held, NoMemory};
+use balanced_tree::Node;
+use indexmap::IndexSet;
+use std::alloc::Global;
+
+/// Makes room for so many batches, groups and packs more.
+pub fn reserve_places(
+    batches: &mut Vec<Batch>,
+    groups: &mut Vec<Group>,
+    packs: &mut Vec<Held>,
+    numbers: &mut IndexSet<u32>,
+    more: u32,
+) -> Result<(), NoMemory>
+    ensures batches { HasGrown batches.old batches.new }
+    ensures groups { HasGrown groups.old groups.new }
+    ensures packs { HasGrown packs.old packs.new }
+    ensures keys { numbers.new.keys ≡ numbers.old.keys }
+    ensures numbers { spare numbers.old ≤ spare numbers.new }
+    ensures ok_batches { OnOk result (vec_len batches.new + more ≤ vec_capacity batches.new) }
+    ensures ok_groups { OnOk result (vec_len groups.new + more ≤ vec_capacity groups.new) }
+    ensures ok_packs { OnOk result (vec_len packs.new + more ≤ vec_capacity packs.new) }
+    ensures ok_numbers { OnOk result (more ≤ spare numbers.new) }
+{
+    let more = more as usize;
+    batches.reserve(more)?;
+    groups.reserve(more)?;
+    packs.reserve(more)?;
+    numbers.reserve(more)?;
+    Ok(())
+}
+
+/// Adds so many nodes of both kinds to the spare ones, with places for those of so many packs to come back to.
+pub fn reserve_nodes(
+    gross_nodes: &mut Vec<Box<Node<Gross>>>,
+    order_nodes: &mut Vec<Box<Node<u32>>>,
+    packs: usize,
+    more: u32,
+) -> Result<(), NoMemory>
+    requires few { packs < 2 ^ 32 }
+    ensures ok_gross { OnOk result (vec_len gross_nodes.new ≡ vec_len gross_nodes.old + more) }
+    ensures ok_order { OnOk result (vec_len order_nodes.new ≡ vec_len order_nodes.old + more) }
+    ensures gross { vec_len gross_nodes.old ≤ vec_len gross_nodes.new }
+    ensures order { vec_len order_nodes.old ≤ vec_len order_nodes.new }
+    ensures back { (used : ℕ) → used ≤ packs → vec_len gross_nodes.old + used ≤ vec_capacity gross_nodes.old → vec_len gross_nodes.new + used ≤ vec_capacity gross_nodes.new }
+{
+    let alloc = *gross_nodes.allocator();
+    gross_nodes.reserve(packs + more as usize)?;
+    add_nodes(alloc, gross_nodes, Gross::default(), more)?;
+    add_nodes(alloc, order_nodes, 0, more)?;
+    Ok(())
+}
+
+// Adds so many nodes to the spare ones. Where memory is refused some may have been added.
+fn add_nodes<T: Copy>(
+    alloc: Global,
+    nodes: &mut Vec<Box<Node<T>>>,
+    item: T,
+    more: u32,
+) -> Result<(), NoMemory>
+    ensures ok { OnOk result (vec_len nodes.new ≡ vec_len nodes.old + more) }
+    ensures more { vec_len nodes.old ≤ vec_len nodes.new }
+    ensures most { vec_len nodes.new ≤ vec_len nodes.old + more }
+    ensures capacity { vec_capacity nodes.old ≤ vec_capacity nodes.new }
+{
+    for _turn in 0..more {
+        nodes.push(Box::new(alloc, Node::new(item))?)?;
+    }
+    Ok(())
+}

@@ -1,0 +1,270 @@
+ghost use Rattle.std.specs.Prelude.{◌≡◌, pos, ◌*◌, Some, IsTrue, false, ◌≤ℤ◌, ◌+◌, ◌<◌, ◌≤◌, [], ◌∷◌, ◌++◌, length, IsOk, IfOk, OnOk, OnErr};
+ghost use Rattle.batch_sums.specs.Kept.{totals_in};
+ghost use Rattle.batch_sums.specs.Changes.{is_added, moved, corrected, concerned, group_count, IsUpTo, IsTareOf, HasFewPerGroup};
+
+use crate::batch::Batch;
+use crate::days::days_of;
+use crate::grosses::Gross;
+use crate::group::{Group, Key};
+use crate::order::{find_or_open, place_of};
+use crate::pool::{reserve_nodes, reserve_places};
+use crate::steps::{STEPS_PER_GROUP, Steps};
+use crate::types::{Held, NoMemory, Totals};
+use annex_tables::Limits;
+use balanced_tree::{Node, Tree};
+use hall_limits::{MAX_DAY, MAX_GROSS, MAX_TARE};
+use indexmap::IndexSet;
+use pack_judge::Pile;
+use std::alloc::{AllocError, Global};
+use std::marker::Model;
+use std::sync::ledger::Ledger;
+use tare_register::Span;
+
+/// The totals of each batch over the packs that were added.
+#[derive(Drop)]
+pub struct BatchSums {
+    batches: Vec<Batch>,
+    groups: Vec<Group>,
+    // The places of the groups in the order of their keys.
+    order: Tree<u32>,
+    // The packs in the order in which they were added, and their numbers in the same order.
+    packs: Vec<Held>,
+    numbers: IndexSet<u32>,
+    // Spare nodes: one for each pack that doesn't count for a population, and for each reserved place.
+    gross_nodes: Vec<Box<Node<Gross>>>,
+    order_nodes: Vec<Box<Node<u32>>>,
+    // How many packs and batches more are sure to find room.
+    spare: u32,
+}
+
+impl Model for BatchSums {
+    ghost use Rattle.std.specs.Prelude.{map};
+    ghost use Rattle.batch_sums.specs.Kept.{Sums};
+
+    ghost Value = { Sums };
+
+    ghost use Rattle.batch_sums.specs.Groups.{faces};
+    ghost use Rattle.batch_sums.specs.Kept.{seen, terms_of};
+    ghost use Rattle.batch_sums.specs.Invariant.{IsKept};
+
+    ghost view = { λ s. record { batches = map terms_of s.batches.items; packs = map (seen (faces s.groups.items)) s.packs.items; spare = s.spare } };
+
+    ghost invariant = { IsKept };
+}
+
+impl BatchSums {
+    /// Sums without batches. It takes no memory.
+    pub fn new(alloc: Global) -> BatchSums
+        ensures batches { result.batches ≡ [] }
+        ensures packs { result.packs ≡ [] }
+    {
+        BatchSums {
+            batches: Vec::new(alloc),
+            groups: Vec::new(alloc),
+            order: Tree::Leaf,
+            packs: Vec::new(alloc),
+            numbers: IndexSet::new(alloc),
+            gross_nodes: Vec::new(alloc),
+            order_nodes: Vec::new(alloc),
+            spare: 0,
+        }
+    }
+
+    /// Adds a batch of a product. The limits are in mg: a net below `t1` is non-standard, one below `t2` inadequate;
+    /// equality with a limit is not below it. For goods by volume the caller hands in limits in mg that are rounded up
+    /// for their density. The result is the number of the batch: the first is 0.
+    ///
+    /// It is refused only for want of memory, and never while a place is reserved.
+    pub fn add_batch(&mut self, product: u32, limits: Limits) -> Result<u32, NoMemory>
+        ensures ok { IfOk result (λ batch. (batch ≡ length self.old.batches) × (self.new.batches ≡ self.old.batches ++ record { product = product; limits = limits } ∷ [])) }
+        ensures err { OnErr result (self.new.batches ≡ self.old.batches) }
+        ensures packs { self.new.packs ≡ self.old.packs }
+        ensures room { 0 < self.old.spare → IsOk result }
+        ensures spare { self.old.spare ≤ self.new.spare + 1 }
+    {
+        self.reserve(1)?;
+        let batch = self.batches.len() as u32;
+        let Ok(()) = self.batches.push(Batch::new(product, &limits)) else {
+            unreachable!()
+        };
+        self.spare -= 1;
+        Ok(batch)
+    }
+
+    /// Reserves places for `more` further packs and batches.
+    pub fn reserve(&mut self, more: u32) -> Result<(), NoMemory>
+        ensures ok { OnOk result (more ≤ self.new.spare) }
+        ensures spare { self.old.spare ≤ self.new.spare }
+        ensures room { more ≤ self.old.spare → IsOk result }
+        ensures batches { self.new.batches ≡ self.old.batches }
+        ensures packs { self.new.packs ≡ self.old.packs }
+    {
+        if more <= self.spare {
+            return Ok(());
+        }
+        let most = u32::MAX - more;
+        if self.batches.len() > most as usize || self.packs.len() > most as usize {
+            return Err(AllocError);
+        }
+        reserve_places(
+            &mut self.batches,
+            &mut self.groups,
+            &mut self.packs,
+            &mut self.numbers,
+            more,
+        )?;
+        reserve_nodes(
+            &mut self.gross_nodes,
+            &mut self.order_nodes,
+            self.packs.len(),
+            more - self.spare,
+        )?;
+        self.spare = more;
+        Ok(())
+    }
+
+    /// Adds a pack of a batch, with its number, its day since 1970-01-01, its gross and the tare of its batch and day in mg,
+    /// and the pile that it lies in.
+    ///
+    /// It is refused only for want of memory, and never while a place is reserved.
+    pub fn add(
+        &mut self,
+        batch: u32,
+        pack: u32,
+        day: i32,
+        gross: i64,
+        tare: i64,
+        pile: Pile,
+    ) -> Result<(), NoMemory>
+        requires batch { batch < length self.old.batches }
+        requires new { is_added self.old.packs pack ≡ false }
+        requires day { IsUpTo MAX_DAY day }
+        requires gross { IsUpTo MAX_GROSS gross }
+        requires tare { IsUpTo MAX_TARE tare }
+        requires same_tare { IsTareOf batch day tare self.old.packs }
+        ensures ok { OnOk result (self.new.packs ≡ self.old.packs ++ record { number = pack; batch = batch; day = day; gross = gross; tare = tare; pile = pile } ∷ []) }
+        ensures err { OnErr result (self.new.packs ≡ self.old.packs) }
+        ensures batches { self.new.batches ≡ self.old.batches }
+        ensures room { 0 < self.old.spare → IsOk result }
+        ensures spare { self.old.spare ≤ self.new.spare + 1 }
+    {
+        self.reserve(1)?;
+        self.put(batch, pack, day as u32, gross as u32, tare as u32, pile);
+        Ok(())
+    }
+
+    // Adds a pack for which a place is reserved.
+    fn put(&mut self, batch: u32, pack: u32, day: u32, gross: u32, tare: u32, pile: Pile)
+        requires room { 0 < self.old.spare }
+        requires batch { batch < length self.old.batches }
+        requires new { is_added self.old.packs pack ≡ false }
+        requires day { pos day ≤ℤ MAX_DAY }
+        requires gross { pos gross ≤ℤ MAX_GROSS }
+        requires tare { pos tare ≤ℤ MAX_TARE }
+        requires same_tare { IsTareOf batch (pos day) (pos tare) self.old.packs }
+        ensures packs { self.new.packs ≡ self.old.packs ++ record { number = pack; batch = batch; day = pos day; gross = pos gross; tare = pos tare; pile = pile } ∷ [] }
+        ensures batches { self.new.batches ≡ self.old.batches }
+        ensures spare { self.new.spare + 1 ≡ self.old.spare }
+    {
+        let product = self.batches[batch as usize].product;
+        let key = Key {
+            product,
+            day,
+            batch,
+        };
+        let group = find_or_open(
+            &mut self.groups,
+            &mut self.order,
+            &mut self.order_nodes,
+            key,
+            tare,
+        );
+        let held = Held {
+            number: pack,
+            group,
+            gross,
+            pile,
+        };
+        let Ok(_) = self.numbers.insert(pack) else {
+            unreachable!()
+        };
+        let Ok(()) = self.packs.push(held) else {
+            unreachable!()
+        };
+        let batch = &mut self.batches[batch as usize];
+        let group = &mut self.groups[group as usize];
+        batch.enter(pile, gross, tare);
+        group.enter(&batch.limits, pile, gross, &mut self.gross_nodes);
+        self.spare -= 1;
+    }
+
+    /// Moves a pack to a pile; it may move between any two. It takes no memory.
+    pub fn shift(&mut self, pack: u32, to: Pile)
+        requires { IsTrue (is_added self.old.packs pack) }
+        ensures packs { self.new.packs ≡ moved pack to self.old.packs }
+        ensures batches { self.new.batches ≡ self.old.batches }
+        ensures spare { self.new.spare ≡ self.old.spare }
+    {
+        let Some(place) = self.numbers.get_index_of(&pack) else {
+            unreachable!()
+        };
+        let held = self.packs[place];
+        let group = &mut self.groups[held.group as usize];
+        let batch = &mut self.batches[group.key.batch as usize];
+        batch.leave(held.pile, held.gross, group.tare);
+        group.leave(&batch.limits, held.pile, held.gross, &mut self.gross_nodes);
+        batch.enter(to, held.gross, group.tare);
+        group.enter(&batch.limits, to, held.gross, &mut self.gross_nodes);
+        self.packs[place] = Held { pile: to, ..held };
+    }
+
+    /// The packs of a product on the days of a span have this tare in mg from now on. It takes no memory, and for each
+    /// group of these packs, those of one batch and day, at most 40 steps where no group has more than 10 000 packs in its
+    /// population.
+    pub fn rejudge<L: Ledger>(&mut self, product: u32, span: Span, tare: i64, steps: &mut Steps<L>)
+        requires tare { IsUpTo MAX_TARE tare }
+        ensures packs { self.new.packs ≡ corrected self.old.batches product span tare self.old.packs }
+        ensures batches { self.new.batches ≡ self.old.batches }
+        ensures spare { self.new.spare ≡ self.old.spare }
+        ensures cost { HasFewPerGroup self.old.packs → steps.new ≤ steps.old + STEPS_PER_GROUP * group_count (concerned self.old.batches product span self.old.packs) }
+    {
+        let days = days_of(&span);
+        let first = place_of(
+            &self.order,
+            &self.groups,
+            &Key {
+                product,
+                day: days.from,
+                batch: 0,
+            },
+        );
+        let end = place_of(
+            &self.order,
+            &self.groups,
+            &Key {
+                product,
+                day: days.until,
+                batch: 0,
+            },
+        )
+        .max(first);
+        let tare = tare as u32;
+        for place in first..end {
+            let Some(group) = self.order.get(place) else {
+                unreachable!()
+            };
+            let group = &mut self.groups[group as usize];
+            let batch = &mut self.batches[group.key.batch as usize];
+            batch.correct(group, tare, steps);
+        }
+    }
+
+    /// The totals of a batch over the packs that were added. It takes no memory and no walk.
+    pub fn totals(&self, batch: u32) -> Totals
+        requires { batch < length self.now.batches }
+        ensures { totals_in self.now batch ≡ Some result }
+    {
+        let batch = &self.batches[batch as usize];
+        batch.totals()
+    }
+}
