@@ -164,7 +164,7 @@ impl Book {
         ensures { result
             ≡ option_map (λ reading. reading.number) (unsettled_reading self.now.entries lane) }
     {
-        Some(unsettled::unsettled_reading(&self.entries, lane)?.number)
+        unsettled::unsettled_pack(&self.entries, lane)
     }
 
     /// The number of rows.

@@ -4,7 +4,7 @@ ghost use Rattle.std.specs.List.{list_all};
 ghost use Rattle.book_words.specs.Names.{bytes_of, is_name_byte, is_name_shape};
 ghost use Rattle.book_words.specs.Refusals.{refused_if, is_within, book_full, day_unset, day_back, product_known, product_unknown, name_shape, nominal_range, day_range, batch_known, batch_unknown, batch_state, lane_number, lane_busy, lane_idle, no_tare, gross_range, prior_wrong, tare_range};
 
-use book_walks::unsettled::unsettled_reading;
+use book_walks::unsettled::unsettled_pack;
 use book_walks::{acts, tares};
 use book_words::{BatchState, Entry, Name, Prior, Refusal};
 use hall_limits::{MAX_DAY, MAX_GROSS, MAX_LANE, MAX_NOMINAL, MAX_TARE, MIN_NOMINAL, NAME_BYTES};
@@ -184,7 +184,7 @@ pub fn prior_wrong(entries: &[Entry], lane: u8, prior: Prior) -> Option<Refusal>
     requires { length entries.now ≤ MAX_ROWS }
     ensures { result ≡ prior_wrong entries.now lane prior }
 {
-    let wanted = unsettled_reading(entries, lane).is_some();
+    let wanted = unsettled_pack(entries, lane).is_some();
     match prior {
         Prior::Nothing => refuse_if(wanted, Refusal::PriorWrong { wanted: true }),
         _ => refuse_if(!wanted, Refusal::PriorWrong { wanted: false }),

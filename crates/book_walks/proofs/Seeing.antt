@@ -1,5 +1,5 @@
 -- A walk that passes one more entry.
-use Rattle.std.proofs.Common.{◌≡◌, ℕ, ℤ, ◌+◌, ◌<◌, List, length, take, drop, get_or, Option, Some, None, refl, sym, ◌∙◌, ap}
+use Rattle.std.proofs.Common.{◌≡◌, ℕ, ℤ, ◌+◌, ◌<◌, ◌==◌, ◌&&◌, Bool, true, false, cond, is_none, option_map, List, length, take, drop, get_or, Option, Some, None, refl, sym, ◌∙◌, ap}
 use Rattle.std.proofs.lemmas.Option.{slice_get-get_or}
 use Rattle.std.specs.Option.{option_or, option_and_then}
 use Rattle.book_words.specs.declared.name.Name.{Name}
@@ -12,6 +12,9 @@ use Rattle.book_words.specs.Acts.{day_set, batch_started, newest_day, last_batch
 use Rattle.book_words.specs.Readings.{reading_from, reading_at}
 use Rattle.book_walks.specs.declared.sight.Sight.{Sight}
 use Rattle.book_walks.specs.Sight.{Sees}
+use Rattle.book_words.specs.declared.types.Reading.{Reading}
+use Rattle.book_words.specs.Piles.{is_pass}
+use Rattle.book_walks.specs.Picking.{picked, awaits}
 use Rattle.book_words.proofs.LastSaid.{last_said_more}
 
 -- one more entry is seen
@@ -52,3 +55,17 @@ no_reading_here entries place entry inside here other =
     none_from (place + 1) (take place entries) entry.act entry.signal (drop (place + 1) entries) other
     ∙ ap (λ (e : Entry). reading_from (place + 1) (take place entries) e.act e.signal (drop (place + 1) entries)) here
     ∙ ap (option_and_then (λ (e : Entry). reading_from (place + 1) (take place entries) e.act e.signal (drop (place + 1) entries))) (sym (slice_get-get_or entries place entry inside))
+
+-- the number of the reading at a place, where it is the unsettled one of a lane
+pub unsettled_here : (entries : List Entry) (place number lane : ℕ) (gross : ℤ) (prior : Prior) (entry : Entry) (open_gate : Bool) → place < length entries → entry ≡ get_or entries place entry
+    → entry.act ≡ Weigh number gross prior → open_gate ≡ (is_pass entry.signal && is_none (next_prior (drop (place + 1) entries) number))
+    → cond ((number == lane) && open_gate) (Some (place + 1)) None ≡ option_map (λ (reading : Reading). reading.number) (picked (awaits lane) (reading_at entries place))
+unsettled_here entries place number lane gross prior entry open_gate inside here act is =
+    let reading : Reading = record { number = place + 1; lane = number; gross = gross; signal = entry.signal; day = newest_day (take place entries); batch = last_batch (take place entries) number; next_prior = next_prior (drop (place + 1) entries) number } in
+    ap (λ b. cond ((number == lane) && b) (Some (place + 1)) None) is
+    ∙ either (awaits lane reading) reading
+    ∙ ap (λ (o : Option Reading). option_map (λ (r : Reading). r.number) (picked (awaits lane) o)) (reading_here entries place number gross prior entry _ _ _ inside here act refl refl refl)
+  where
+    either : (b : Bool) (reading : Reading) → cond b (Some reading.number) None ≡ option_map (λ (r : Reading). r.number) (cond b (Some reading) None)
+    either true reading = refl
+    either false reading = refl

@@ -1,49 +1,59 @@
-ghost use Rattle.std.specs.Prelude.{◌≡◌, ◌<◌, ◌≤◌, ◌&&◌, ◌==◌, length, take};
+ghost use Rattle.std.specs.Prelude.{◌≡◌, ◌<◌, ◌≤◌, ◌&&◌, Some, None, if◌then◌else◌, is_none, length};
+ghost use Rattle.std.specs.Option.{option_map};
 ghost use Rattle.hall_limits.specs.declared.TheConstants.{MAX_ROWS};
+ghost use Rattle.book_words.specs.Acts.{next_prior};
 ghost use Rattle.book_words.specs.Readings.{reading_at};
-ghost use Rattle.book_words.specs.Piles.{is_unsettled, unsettled_reading};
-ghost use Rattle.book_walks.specs.Sight.{Sees};
+ghost use Rattle.book_words.specs.Piles.{is_pass, unsettled_reading};
 ghost use Rattle.book_walks.specs.Picking.{picked, awaits};
 
-use crate::sight::Sight;
-use crate::walk;
-use book_words::{Entry, Reading};
+use crate::acts::next_prior;
+use book_words::{Act, Entry};
 use pack_judge::Signal;
 
-// Whether a reading is an unsettled one of a lane.
-fn awaits(reading: &Reading, lane: u8) -> bool
-    ensures { result ≡ awaits lane reading.now }
+// Whether a signal passed, and no weighing or stop of the lane among the entries after it says what
+// its gate did.
+fn is_open(signal: Option<Signal>, after: &[Entry], lane: u8) -> bool
+    ensures { result ≡ (is_pass signal && is_none (next_prior after.now lane)) }
 {
-    reading.lane == lane && (reading.signal == Some(Signal::Pass) && reading.next_prior.is_none())
+    signal == Some(Signal::Pass) && next_prior(after, lane).is_none()
 }
 
-// The reading at a place, where it is an unsettled one of a lane.
-fn unsettled_at(sight: &Sight, entries: &[Entry], place: usize, lane: u8) -> Option<Reading>
+// A number where two tests hold.
+fn number_if(first: bool, second: bool, number: u32) -> Option<u32>
+    ensures { result ≡ (if first && second then Some number else None) }
+{
+    if first && second { Some(number) } else { None }
+}
+
+// The number of the pack at a place, where it is the unsettled one of a lane.
+fn unsettled_at(entries: &[Entry], place: usize, lane: u8) -> Option<u32>
     requires inside { place < length entries.now }
     requires few { length entries.now ≤ MAX_ROWS }
-    requires seen { Sees (take place entries.now) sight.now }
-    ensures { result ≡ picked (awaits lane) (reading_at entries.now place) }
+    ensures { result
+        ≡ option_map (λ reading. reading.number)
+        (picked (awaits lane) (reading_at entries.now place)) }
 {
-    let reading = walk::reading(sight, entries, place)?;
-    if awaits(&reading, lane) {
-        Some(reading)
-    } else {
-        None
+    let (_, after) = entries.split_at(place + 1);
+    let entry = &entries[place];
+    match &entry.act {
+        Act::Weigh { lane: number, .. } => {
+            let open = is_open(entry.signal, after, *number);
+            number_if(*number == lane, open, place as u32 + 1)
+        }
+        _ => None,
     }
 }
 
-/// The unsettled reading of a lane: one that passed, and no weighing or stop of the lane came after
-/// it.
-pub fn unsettled_reading(entries: &[Entry], lane: u8) -> Option<Reading>
+/// The number of the unsettled pack of a lane: it passed, and no weighing or stop of the lane came
+/// after it.
+pub fn unsettled_pack(entries: &[Entry], lane: u8) -> Option<u32>
     requires { length entries.now ≤ MAX_ROWS }
-    ensures { result ≡ unsettled_reading entries.now lane }
+    ensures { result ≡ option_map (λ reading. reading.number) (unsettled_reading entries.now lane) }
 {
-    let mut sight = walk::begin();
     for place in 0..entries.len() {
-        if let Some(reading) = unsettled_at(&sight, entries, place, lane) {
-            return Some(reading);
+        if let Some(number) = unsettled_at(entries, place, lane) {
+            return Some(number);
         }
-        walk::pass(&mut sight, entries, place);
     }
     None
 }
