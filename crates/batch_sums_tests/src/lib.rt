@@ -3,9 +3,11 @@
 
 mod hall;
 mod plain;
+mod row;
 
 pub use hall::Hall;
 pub use plain::{PlainPack, plain_totals};
+pub use row::corrected_totals;
 
 #[cfg(test)]
 mod tests;

@@ -1,12 +1,15 @@
 //! Worked numbers, grosses in all orders, drawn calls, and places that were reserved.
 
 use crate::hall::Hall;
+use crate::row::corrected_totals;
 use annex_tables::Limits;
 use batch_sums::NoMemory;
 use hall_limits::{MAX_GROSS, MAX_TARE};
 use pack_judge::{Pile, Tally};
 use rand_core::utils::NextWord;
 use rand_pcg::Pcg32;
+use std::marker::Brand;
+use std::sync::ledger::Blank;
 use std::test::Fail;
 use tare_register::Span;
 
@@ -26,15 +29,7 @@ const PILES: [Pile; 4] = [Pile::Passed, Pile::Rejected, Pile::Sampled, Pile::Voi
 
 #[test]
 fn a_corrected_tare_reaches_10_000_packs(rt: HostRuntime) -> Result<(), Fail> {
-    let mut hall = Hall::new(rt.alloc(), 10_000);
-    let batch = hall.add_batch(7, LIMITS)?;
-    for _ in 0..10_000 {
-        hall.add(batch, 260_000, Pile::Passed)?;
-    }
-    let before = hall.totals(batch).expect(&rt, "the batch");
-    assert_eq!(rt; (before.net, before.nonstandard), (2_500_000_000, 0));
-    hall.correct(7, ALL_DAYS, 20_000);
-    let after = hall.totals(batch).expect(&rt, "the batch");
+    let after = corrected_totals::<Brand>(rt.alloc(), LIMITS, Blank::new(1))?;
     let passed = Tally {
         count: 10_000,
         gross: 2_600_000_000,
