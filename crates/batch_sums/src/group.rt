@@ -92,7 +92,7 @@ pub fn least_grosses(limits: &Limits, tare: u32) -> LeastGrosses
     }
 }
 
-// 1 for a gross that is below a limit, both in mg, and else 0.
+/// 1 for a gross that is below a limit, both in mg, and else 0.
 pub fn count_one(gross: u32, limit: u32) -> u32
     ensures { result ≡ (if nat_lt gross limit then 1 else 0) }
 {

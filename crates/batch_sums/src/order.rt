@@ -27,7 +27,7 @@ pub fn place_of(order: &Tree<u32>, groups: &[Group], key: &Key) -> u32
     }
 }
 
-/// The place of the group of a key, where there is one.
+// The place of the group of a key, where there is one.
 fn find(order: &Tree<u32>, groups: &[Group], key: &Key) -> Option<u32>
     requires balanced { IsBalanced order.now }
     requires index { IsIndex (faces groups.now) (items order.now) }
@@ -46,7 +46,7 @@ fn find(order: &Tree<u32>, groups: &[Group], key: &Key) -> Option<u32>
     }
 }
 
-/// Opens the group of a key that has none, with a tare in mg.
+// Opens the group of a key that has none, with a tare in mg.
 fn open_group(
     groups: &mut Vec<Group>,
     order: &mut Tree<u32>,

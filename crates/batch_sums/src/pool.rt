@@ -36,16 +36,18 @@ pub fn reserve_places(
     Ok(())
 }
 
-/// Adds so many nodes of both kinds to the spare ones, with places for those of so many packs to come back to.
+/// Adds so many nodes to the spare ones for grosses, with places for those of so many packs to come back to, and makes
+/// those for groups at least `spare`.
 pub fn reserve_nodes(
     gross_nodes: &mut Vec<Box<Node<Gross>>>,
     order_nodes: &mut Vec<Box<Node<u32>>>,
     packs: usize,
     more: u32,
+    spare: u32,
 ) -> Result<(), NoMemory>
     requires few { packs < 2 ^ 32 }
     ensures ok_gross { OnOk result (vec_len gross_nodes.new ≡ vec_len gross_nodes.old + more) }
-    ensures ok_order { OnOk result (vec_len order_nodes.new ≡ vec_len order_nodes.old + more) }
+    ensures ok_order { OnOk result (spare ≤ vec_len order_nodes.new) }
     ensures gross { vec_len gross_nodes.old ≤ vec_len gross_nodes.new }
     ensures order { vec_len order_nodes.old ≤ vec_len order_nodes.new }
     ensures back { (used : ℕ) → used ≤ packs → vec_len gross_nodes.old + used ≤ vec_capacity gross_nodes.old → vec_len gross_nodes.new + used ≤ vec_capacity gross_nodes.new }
@@ -53,7 +55,8 @@ pub fn reserve_nodes(
     let alloc = *gross_nodes.allocator();
     gross_nodes.reserve(packs + more as usize)?;
     add_nodes(alloc, gross_nodes, Gross::default(), more)?;
-    add_nodes(alloc, order_nodes, 0, more)?;
+    let lacking = (spare as usize).saturating_sub(order_nodes.len());
+    add_nodes(alloc, order_nodes, 0, lacking as u32)?;
     Ok(())
 }
 

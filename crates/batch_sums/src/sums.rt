@@ -30,7 +30,8 @@ pub struct BatchSums {
     // The packs in the order in which they were added, and their numbers in the same order.
     packs: Vec<Held>,
     numbers: IndexSet<u32>,
-    // Spare nodes: one for each pack that doesn't count for a population, and for each reserved place.
+    // Spare nodes: one for each pack that doesn't count for a population, and for each place that is reserved; and one for
+    // the group that each reserved place may open.
     gross_nodes: Vec<Box<Node<Gross>>>,
     order_nodes: Vec<Box<Node<u32>>>,
     // How many packs and batches more are sure to find room.
@@ -118,6 +119,7 @@ impl BatchSums {
             &mut self.order_nodes,
             self.packs.len(),
             more - self.spare,
+            more,
         )?;
         self.spare = more;
         Ok(())

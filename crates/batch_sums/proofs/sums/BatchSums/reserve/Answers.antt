@@ -40,7 +40,7 @@ invariant_of-self-2 c =
       numbers = omega (arith, grown.ok_numbers);
       nodes = omega (arith, room.nodes, nodes.ok_gross, c.if-more-self.false);
       back = nodes.back (inside held) within room.back;
-      order_nodes = omega (arith, room.order_nodes, nodes.ok_order, c.if-more-self.false);
+      order_nodes = nodes.ok_order;
       few_batches = omega (arith, grown.batches.long, c.if-len-most.false, c.len.ensures);
       few_packs = omega (arith, grown.packs.long, c.if-len-most-2.false, c.len-else-len-most.ensures);
     })
