@@ -1,4 +1,8 @@
+pub mod Alike
+pub mod Cutting
+pub mod Finding
 pub mod Latest
 pub mod Least
+pub mod Reading
 pub mod Steps
 pub mod Within

@@ -1,11 +1,12 @@
-use Rattle.std.proofs.Common.{◌≡◌, ℕ, ℤ, true, false, ◌==◌, cond, List, [], ◌∷◌, ◌++◌, Some, refl, arith, inl, inr}
+use Rattle.std.proofs.Common.{◌≡◌, ℕ, ℤ, true, false, ◌==◌, cond, List, [], ◌∷◌, ◌++◌, Some, refl, sym, ◌∙◌, ap, arith, inl, inr}
 use Rattle.std.proofs.lemmas.Int.{ints}
-use Rattle.std.proofs.lemmas.Bool.{cases_Bool, eqb-true}
+use Rattle.std.proofs.lemmas.Bool.{cases_Bool, eqb-true, and_parts}
 use Rattle.std.specs.List.{list_all}
+use Rattle.std.specs.Option.{option_map, option_map_or}
 use Rattle.std.specs.Prelude.{int_le, int_lt}
 use Rattle.tare_register.specs.declared.types.DatedTare.{DatedTare}
 use Rattle.tare_register.specs.declared.types.ProductTare.{ProductTare}
-use Rattle.tare_register.specs.Tares.{dated_by, days_after, next_day, covers, tare_by_rule, tares_of, entry_of, span_of, DecidesWithin}
+use Rattle.tare_register.specs.Tares.{dated_by, days_after, next_day, covers, latest, tare_by_rule, tares_of, entry_of, span_of, DecidesWithin, HasOneTareWithin}
 use Rattle.tare_register.proofs.Latest.{none_greater}
 use Rattle.tare_register.proofs.Steps.{deciding_tare-append, tares_of-append}
 use Rattle.tare_register.proofs.Least.{int_lt-least_day}
@@ -15,6 +16,9 @@ int_le_false x y h = grind (arith, ints)
 
 int_le_true : (x y : ℤ) → int_le x y ≡ true → int_lt y x ≡ false
 int_le_true x y h = grind (arith, ints)
+
+int_lt_true : (x y : ℤ) → int_lt x y ≡ true → int_le y x ≡ false
+int_lt_true x y h = grind (arith, ints)
 
 int_le_chain : (x y z : ℤ) → int_le x y ≡ true → int_le y z ≡ true → int_le x z ≡ true
 int_le_chain x y z h k = grind (arith, ints)
@@ -52,3 +56,23 @@ span_decides entries product day tare other_product other_day =
       | inl same ↦ rw (tares_of-append, same, ← eqb-true product other_product same) (tare_decides (tares_of entries product) entry.dated other_day)
       | inr other ↦ rw (tares_of-append, other) refl
     ]
+
+-- up to a day before the later ones, the same tares are dated
+dated_by_same : (tares : List DatedTare) (from later : ℤ) → int_le from later ≡ true →
+    list_all (λ day. int_lt later day) (days_after tares from) ≡ true → dated_by tares later ≡ dated_by tares from
+dated_by_same [] from later h all = refl
+dated_by_same (x ∷ xs) from later h all = elim (cases_Bool (int_le x.day from)) [
+  | inl old ↦
+      let rest = dated_by_same xs from later h (rw (int_le_true x.day from old) at all) in
+      rw (old, int_le_chain x.day from later old h) (ap (λ es. x ∷ es) rest)
+  | inr new ↦
+      let parts = and_parts (int_lt later x.day) (list_all (λ day. int_lt later day) (days_after xs from)) (rw (int_le_false x.day from new) at all) in
+      rw (new, int_lt_true later x.day parts.0) (dated_by_same xs from later h parts.1)
+]
+
+-- on each day of a span a product has the tare of its first
+pub span_constant : (entries : List ProductTare) (product : ℕ) (day : ℤ) → HasOneTareWithin (span_of entries product day) entries product
+span_constant entries product from day within =
+    let tares = tares_of entries product in
+    let parts = and_parts (int_le from day) (option_map_or (λ until. int_lt day until) (next_day tares from) true) within in
+    ap (λ es. option_map (λ (dated : DatedTare). dated.tare) (latest es)) (dated_by_same tares from day parts.0 (sym (int_lt-least_day day (days_after tares from)) ∙ parts.1))

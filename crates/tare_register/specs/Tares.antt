@@ -1,5 +1,5 @@
 -- The tares of the hall's products. All masses are milligrams, days are counted from 1970-01-01.
-use Rattle.std.specs.Prelude.{◌≡◌, ℕ, ℤ, Bool, true, ◌&&◌, ◌==◌, if◌then◌else◌, List, [], ◌∷◌, ◌++◌}
+use Rattle.std.specs.Prelude.{◌≡◌, ℕ, ℤ, Bool, true, IsTrue, ◌&&◌, ◌==◌, if◌then◌else◌, List, [], ◌∷◌, ◌++◌}
 use Rattle.std.specs.Prelude.{Option, Some, None, option_map, filter, map}
 use Rattle.std.specs.List.{last_or, list_all}
 use Rattle.std.specs.Option.{option_map_or}
@@ -85,3 +85,9 @@ DecidesWithin span entries product day =
     tare_of (entries ++ entry_of product day tare ∷ []) other_product other_day ≡
     (if (product == other_product) && covers span other_day
     then Some tare else tare_of entries other_product other_day)
+
+-- on each day of a span a product has the tare that it has on the first
+abbrev pub HasOneTareWithin : Span → List ProductTare → ℕ → Type 0
+HasOneTareWithin span entries product =
+    (day : ℤ) → IsTrue (covers span day) →
+    tare_of entries product day ≡ tare_of entries product span.from

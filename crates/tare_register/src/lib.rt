@@ -2,6 +2,7 @@
 #![tactic(auto)]
 
 mod deciding;
+mod order;
 mod tares;
 mod types;
 

@@ -43,3 +43,12 @@ pub struct Span {
     /// The day before which they end, or `None` where they have no end.
     pub until: Option<i32>,
 }
+
+/// A day of a product, for which an entry may be meant.
+#[derive(Clone, Copy, Debug, PartialEq, Eq)]
+pub struct ProductDay {
+    /// The number of the product.
+    pub product: u32,
+    /// The day since 1970-01-01.
+    pub day: i32,
+}

@@ -1,23 +1,21 @@
-use Rattle.std.proofs.Common.{rules, ◌<◌, length, get_or, take, pos, FitsSigned, w32, ◌∙◌}
+use Rattle.std.proofs.Common.{rules, ◌<◌, arith, length, FitsSigned, w32}
 use Rattle.std.proofs.lemmas.Int.{to_z-of_z}
-use Rattle.std.proofs.lemmas.List.{take_more}
 use Rattle.tare_register.specs.declared.types.ProductTare.{ProductTare}
-use Rattle.tare_register.proofs.Steps.{next_step}
+use Rattle.tare_register.proofs.Reading.{end_read, own_next, other_next, read_at, long}
 use Rattle.tare_register.proofs.deciding.find_next_day.Goals as goal
-use Rattle.tare_register.proofs.deciding.find_next_day.Goals.{then-comes_next, else-comes_next}
 
-pub loop-entry-preserved : goal.loop-entry-preserved
-loop-entry-preserved c =
-    let fits : FitsSigned w32 c.args.day = c.ranges.day in
-    let is = simp to_z-of_z at c.loop-entry.invariant in
-    let test = simp to_z-of_z at c.comes_next.ensures in
-    let nothing : ProductTare = record { product = 0; dated = record { day = pos 0; tare = pos 0 } } in
-    let entry : ProductTare = get_or c.args.entries.now c.loop-entry.entry-index nothing in
-    let within : c.loop-entry.entry-index < length c.args.entries.now = c.loop-entry-test.true in
-    let more = take_more c.args.entries.now c.loop-entry.entry-index nothing within in
-    let step = next_step (take c.loop-entry.entry-index c.args.entries.now) entry c.args.product c.args.day c.loop-entry.next is in
-    let known = rw (← test) at step in
-    simp (to_z-of_z, more) (elim c.if-comes_next.branch [
-      | then-comes_next w ↦ let entry_fits : FitsSigned w32 entry.dated.day = search rules in w.next-is ∙ simp to_z-of_z (rw w.if-comes_next.true at known)
-      | else-comes_next w ↦ w.next-is ∙ (rw w.if-comes_next.false at known)
-    ])
+pub returns-then-count-places : goal.returns-then-count-places
+returns-then-count-places c =
+    end_read c.args.entries.now c.args.places.now c.requires.index c.args.key.now c.count_up_to-count.result c.count_up_to-count.ensures c.if-count-places.true
+
+pub returns-then-first-key : goal.returns-then-first-key
+returns-then-first-key c =
+    let entry : ProductTare = read_at c.args.entries.now c.args.places.now c.count_up_to-count.result in
+    let fits : FitsSigned w32 entry.dated.day = search rules in
+    let within : c.count_up_to-count.result < length c.args.places.now = omega (arith, c.count_up_to-count.ensures.within, long c.args.entries.now c.args.places.now c.requires.index, c.if-count-places.false) in
+    simp to_z-of_z (own_next c.args.entries.now c.args.places.now c.requires.index c.args.key.now c.count_up_to-count.result c.count_up_to-count.ensures within c.if-first-key.true)
+
+pub returns-else-first-key : goal.returns-else-first-key
+returns-else-first-key c =
+    let within : c.count_up_to-count.result < length c.args.places.now = omega (arith, c.count_up_to-count.ensures.within, long c.args.entries.now c.args.places.now c.requires.index, c.if-count-places.false) in
+    other_next c.args.entries.now c.args.places.now c.requires.index c.args.key.now c.count_up_to-count.result c.count_up_to-count.ensures within c.if-first-key.false
