@@ -9,7 +9,8 @@ use Rattle.std.proofs.lemmas.Int.{ints}
 use Rattle.pack_judge.specs.declared.types.Pile.{Pile}
 use Rattle.pack_judge.specs.declared.types.Pile.TheVariants.{Passed, Rejected, Sampled, Voided}
 use Rattle.batch_sums.specs.declared.types.Held.{Held}
-use Rattle.batch_sums.specs.Totals.{Pack, same_pile, is_counted, net_of, of_batch, in_pile, population, gross_sum, net_sum}
+use Rattle.batch_sums.specs.Totals.{same_pile, is_counted, net_of, of_batch, in_pile, population, gross_sum, net_sum}
+use Rattle.batch_sums.specs.declared.types.Pack.{Pack}
 use Rattle.batch_sums.specs.Groups.{Face, face_at, threshold}
 use Rattle.batch_sums.specs.Kept.{seen, belongs, count_in, gross_in, tare_in, below_in}
 
@@ -35,12 +36,12 @@ sum_by-map f v (x ∷ xs) = sum_by-cons f (v x) (map v xs) ∙ omega (arith, sum
 
 module _ (test : Pack → Bool) (pack : Pack) (packs : List Pack) where
   -- one more pack that may pass two tests: in a length, in a sum of grosses, in a sum of nets, in a count
-  length_more : (b : Bool) (count : ℕ) → length (filter test packs) ≡ count → length (filter test (cond b (pack ∷ packs) packs)) ≡ cond (b && test pack) 1 0 + count
+  pub length_more : (b : Bool) (count : ℕ) → length (filter test packs) ≡ count → length (filter test (cond b (pack ∷ packs) packs)) ≡ cond (b && test pack) 1 0 + count
   length_more true count is =
       elim (test pack) as (λ c. length (cond c (pack ∷ filter test packs) (filter test packs)) ≡ cond c 1 0 + count) [ true ↦ omega arith | false ↦ omega arith ]
   length_more false count is = omega arith
 
-  gross_more : (b : Bool) (gross sum : ℕ) → pack.gross ≡ pos gross → gross_sum (filter test packs) ≡ pos sum → gross_sum (filter test (cond b (pack ∷ packs) packs)) ≡ pos (cond (b && test pack) gross 0 + sum)
+  pub gross_more : (b : Bool) (gross sum : ℕ) → pack.gross ≡ pos gross → gross_sum (filter test packs) ≡ pos sum → gross_sum (filter test (cond b (pack ∷ packs) packs)) ≡ pos (cond (b && test pack) gross 0 + sum)
   gross_more true gross sum own is =
       elim (test pack) as (λ c. gross_sum (cond c (pack ∷ filter test packs) (filter test packs)) ≡ pos (cond c gross 0 + sum)) [ true ↦ omega (arith, ints, own, is) | false ↦ omega (arith, ints, is) ]
   gross_more false gross sum own is = omega (arith, ints, is)

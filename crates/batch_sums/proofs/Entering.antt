@@ -19,7 +19,7 @@ use Rattle.batch_sums.specs.Kept.{AddsUp, Sound, belongs, is_member, count_in, g
 use Rattle.batch_sums.proofs.Joining.{Joins, HasGrosses, adds_up_in, adds_up_out, adds_up_in_other, adds_up_out_other, has_grosses_in, has_grosses_out, has_grosses_in_other, has_grosses_out_other}
 use Rattle.batch_sums.proofs.Sounding.{sound_after, face-found}
 
-same_self : (pile : Pile) → same_pile pile pile ≡ true
+pub same_self : (pile : Pile) → same_pile pile pile ≡ true
 same_self Passed = refl
 same_self Rejected = refl
 same_self Sampled = refl

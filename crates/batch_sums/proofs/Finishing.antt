@@ -18,7 +18,8 @@ use Rattle.tare_register.specs.Tares.{covers}
 use Rattle.batch_sums.specs.declared.batch.Batch.{Batch}
 use Rattle.batch_sums.specs.declared.group.Group.{Group}
 use Rattle.batch_sums.specs.declared.types.Held.{Held}
-use Rattle.batch_sums.specs.Totals.{Pack, Terms}
+use Rattle.batch_sums.specs.Totals.{Terms}
+use Rattle.batch_sums.specs.declared.types.Pack.{Pack}
 use Rattle.batch_sums.specs.Groups.{Face, face_of, faces, face_at, rank_at, at_least_0}
 use Rattle.batch_sums.specs.Kept.{Sound, IsIndex, seen, terms_of}
 use Rattle.batch_sums.specs.Changes.{is_concerned, concerned, corrected, same_group, group_count}
@@ -123,7 +124,7 @@ module _ (batches : List Batch) (groups : List Group) (held : List Held) (sound 
   of_group : ℕ → Pack → Bool
   of_group place pack = eqb (face_at (faces groups) place).key.batch pack.batch && int_eq (pos (face_at (faces groups) place).key.day) pack.day
 
-  placed_in : All (λ place. place < length (faces groups)) (between first end order)
+  pub placed_in : All (λ place. place < length (faces groups)) (between first end order)
   placed_in = All-take (λ place. place < length (faces groups)) (end - first) (drop first order) (All-drop (λ place. place < length (faces groups)) first order index.within)
 
   -- a group that was visited and has the batch and day of a pack has a rank that these decide
@@ -150,7 +151,7 @@ module _ (batches : List Batch) (groups : List Group) (held : List Held) (sound 
       one_le false = omega arith
 
   no_pack : Held
-  no_pack = record { number = 0; group = 0; gross = 0; pile = Rattle.pack_judge.specs.declared.types.Pile.TheVariants.Passed }
+  no_pack = record { number = 0; group = 0; before = 0; gross = 0; pile = Rattle.pack_judge.specs.declared.types.Pile.TheVariants.Passed }
 
   -- the groups between the two places are no more than those of the packs that are concerned
   pub visited_few : length (between first end order) ≤ group_count (concerned (map terms_of batches) product span (map (seen (faces groups)) held))

@@ -5,7 +5,7 @@ use Rattle.std.proofs.lemmas.Bool.{cases_Bool, or_cases, or_right, not-true}
 use Rattle.std.proofs.lemmas.List.Sums.{length-filter}
 use Rattle.std.proofs.lemmas.List.Filters.{length-filter_both, sum_by-filter_both}
 use Rattle.std.proofs.lemmas.List.Elements.{All-filter, filter_passes, All-weaker, All-head}
-use Rattle.batch_sums.specs.Totals.{Pack}
+use Rattle.batch_sums.specs.declared.types.Pack.{Pack}
 use Rattle.batch_sums.specs.Changes.{same_group, group_count}
 
 module _ (test : ℕ → Pack → Bool) (follows : (x : ℕ) (one other : Pack) → test x one ≡ true → same_group one other ≡ true → test x other ≡ true) where

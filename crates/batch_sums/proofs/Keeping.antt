@@ -12,9 +12,10 @@ use Rattle.balanced_tree.specs.declared.tree.Tree.{Tree}
 use Rattle.batch_sums.specs.declared.sums.BatchSums.TheInside.{Inside}
 use Rattle.batch_sums.specs.declared.types.Held.{Held}
 use Rattle.batch_sums.specs.Groups.{Face, face_of, faces, face_at, rank_of, rank_at}
-use Rattle.batch_sums.specs.Kept.{IsIndex}
-use Rattle.batch_sums.specs.Invariant.{IsKept, inside, outside}
+use Rattle.batch_sums.specs.Kept.{IsIndex, seen}
+use Rattle.batch_sums.specs.Invariant.{IsKept, inside, outside, homes_of, befores_of}
 use Rattle.batch_sums.proofs.Adding.{sum_by-same}
+use Rattle.batch_sums.proofs.Homes.{homes-keys, chained_as}
 use Rattle.batch_sums.proofs.Opening.{IsRising-agree}
 use Rattle.batch_sums.proofs.Underway.{IsUnderway, face_by-key}
 
@@ -63,7 +64,11 @@ kept_after before now visited tare start steps under kept =
         small = omega (arith, settled.small, groups, ap (λ (hs : List Held). length hs) packs);
         apart = λ number. subst (λ hs. count_by (λ pack. eqb pack.number number) hs ≤ 1) (sym packs) (settled.apart number);
         numbered = keys ∙ settled.numbered ∙ ap (λ hs. map (λ (p : Held). p.number) hs) (sym packs);
+        chained = chained_as _ _ _ _ _ _ under.reaches
+            (ap (λ hs. homes_of (map (seen (faces now.groups.items)) hs)) packs ∙ homes-keys (faces before.groups.items) (faces now.groups.items) key before.packs.items)
+            (ap befores_of packs) settled.chained;
       };
+      tallied = rw (under.piles, packs) kept.tallied;
       room = record {
         batches = omega (arith, room.batches, under.batches_long, under.batches_room, under.spare);
         groups = omega (arith, room.groups, under.groups_long, under.groups_room, under.spare);

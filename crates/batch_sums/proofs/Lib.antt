@@ -19,3 +19,9 @@ pub mod Grouping
 pub mod Underway
 pub mod Finishing
 pub mod Keeping
+pub mod Chaining
+pub mod Homes
+pub mod Tallying
+pub mod Finding
+pub mod Walking
+pub mod Concerning

@@ -26,7 +26,7 @@ use Rattle.batch_sums.proofs.Telling.{tared, bounded}
 
 -- the same pack in another pile
 abbrev pub in_pile : Held → Pile → Held
-in_pile h pile = record { number = h.number; group = h.group; gross = h.gross; pile = pile }
+in_pile h pile = record h { pile = pile }
 
 pub gross_at : (batch : Batch) (pile : Pile) → IsBounded batch → (pile_sum batch pile).gross < 2305843009213693952
 gross_at batch pile small = by pile
@@ -41,7 +41,7 @@ module _ (batches : List Batch) (groups : List Group) (held : List Held) (sound 
   pub in_group : h.group < length groups
   in_group = subst (λ (p : Held). p.group < length groups) (sym read) (sound.grouped place h within)
 
-  light_pack : pos h.gross ≤ℤ MAX_GROSS
+  pub light_pack : pos h.gross ≤ℤ MAX_GROSS
   light_pack = subst (λ (p : Held). pos p.gross ≤ℤ MAX_GROSS) (sym read) (sound.light place h within)
 
   pub joins : Joins (remove held place) h held

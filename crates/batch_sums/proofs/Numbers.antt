@@ -12,10 +12,11 @@ use Rattle.pack_judge.specs.declared.types.Pile.{Pile}
 use Rattle.balanced_tree.specs.declared.tree.Tree.{Tree}
 use Rattle.balanced_tree.specs.Trees.{items}
 use Rattle.batch_sums.specs.Totals.{is_counted}
-use Rattle.batch_sums.specs.Groups.{Face, faces}
+use Rattle.batch_sums.specs.Groups.{Face, faces, face_at}
 use Rattle.batch_sums.specs.Kept.{Sound, IsIndex, seen}
 use Rattle.batch_sums.specs.Changes.{is_added}
-use Rattle.batch_sums.specs.Invariant.{IsSettled, inside, outside}
+use Rattle.batch_sums.specs.Invariant.{IsSettled, inside, outside, reaches_of, homes_of}
+use Rattle.batch_sums.proofs.Homes.{homes-seen, map-set_unseen, chained_as}
 use Rattle.batch_sums.proofs.Moving.{in_pile}
 
 -- a number is looked for among the packs or among their numbers
@@ -46,9 +47,9 @@ module _ (held : List Held) (place : ℕ) (h : Held) (to : Pile) (read : h ≡ g
   pub outside_moved : outside (set held place (in_pile h to)) + cond (is_counted to) 1 0 ≡ outside held + cond (is_counted h.pile) 1 0
   outside_moved = omega (arith, sum_by-set (λ p. cond (not (is_counted p.pile)) 1 0) held place (in_pile h to) h within, ap (λ (p : Held). cond (not (is_counted p.pile)) (suc zero) zero) read, not_counts (is_counted h.pile), not_counts (is_counted to))
 
-  pub settled_moved : (batches new_batches : List Batch) (groups new_groups : List Group) (order : Tree ℕ) (numbers : List ℕ) → IsSettled batches groups order held numbers → Sound new_batches new_groups (set held place (in_pile h to)) → faces new_groups ≡ faces groups → length new_groups ≡ length groups
+  pub settled_moved : (batches new_batches : List Batch) (groups new_groups : List Group) (order : Tree ℕ) (numbers : List ℕ) → IsSettled batches groups order held numbers → reaches_of new_batches ≡ reaches_of batches → Sound new_batches new_groups (set held place (in_pile h to)) → faces new_groups ≡ faces groups → length new_groups ≡ length groups
       → IsSettled new_batches new_groups order (set held place (in_pile h to)) numbers
-  settled_moved batches new_batches groups new_groups order numbers settled sound face long =
+  settled_moved batches new_batches groups new_groups order numbers settled reaches sound face long =
       record {
         sound = sound;
         balanced = settled.balanced;
@@ -57,4 +58,11 @@ module _ (held : List Held) (place : ℕ) (h : Held) (to : Pile) (read : h ≡ g
         small = omega (arith, settled.small, long, length-set held place (in_pile h to));
         apart = λ number. subst (λ n. n ≤ 1) (sym (same_sum (λ p. cond (eqb p.number number) 1 0) refl)) (settled.apart number);
         numbered = settled.numbered ∙ sym (map-set (λ (p : Held). p.number) held place (in_pile h to) ∙ ap (λ n. set (map (λ (p : Held). p.number) held) place n) (ap (λ (p : Held). p.number) read ∙ sym (get_or-map (λ (p : Held). p.number) held place h h.number within)) ∙ set-get_or (map (λ (p : Held). p.number) held) place h.number);
+        chained = chained_as _ _ _ _ _ _ reaches
+            (ap (λ fs. homes_of (map (seen fs) (set held place (in_pile h to)))) face
+            ∙ homes-seen (faces groups) (set held place (in_pile h to))
+            ∙ map-set_unseen (λ p. (face_at (faces groups) p.group).key.batch) held place h (in_pile h to) read within refl
+            ∙ sym (homes-seen (faces groups) held))
+            (map-set_unseen (λ p. p.before) held place h (in_pile h to) read within refl)
+            settled.chained;
       }

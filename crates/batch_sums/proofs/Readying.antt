@@ -1,11 +1,11 @@
 -- The group of a new pack is ready: it was there with this tare, or it was opened.
-use Rattle.std.proofs.Common.{◌≡◌, ℕ, zero, suc, ◌+◌, ◌<◌, ◌≤◌, Bool, true, false, cond, ◌||◌, eqb, ◌⊎◌, inl, inr, List, [], ◌∷◌, ◌++◌, length, map, get_or, set, Option, Some, refl, ap, sym, subst, ◌∙◌, arith, length-append, length-set}
+use Rattle.std.proofs.Common.{◌≡◌, ℕ, zero, suc, ◌+◌, ◌<◌, ◌≤◌, Bool, true, false, cond, ◌||◌, eqb, ◌⊎◌, inl, inr, List, [], ◌∷◌, ◌++◌, length, map, get_or, set, Option, Some, option_map, refl, ap, sym, subst, ◌∙◌, arith, length-append, length-set}
 use Rattle.std.specs.Prelude.{pos, ◌≤ℤ◌}
 use Rattle.std.specs.List.{count_by, All, list_any, slice_get}
 use Rattle.std.proofs.lemmas.Bool.{cases_lt, cases_eq, eq-eqb, ne_eqb}
-use Rattle.std.proofs.lemmas.List.{length-map, map-append, get_or-map}
+use Rattle.std.proofs.lemmas.List.{length-map, map-append, map-set, get_or-map}
 use Rattle.std.proofs.lemmas.List.Sums.{sum_by-cons, sum_by_push}
-use Rattle.std.proofs.lemmas.Option.{slice_get_within, slice_get_read, same_Some}
+use Rattle.std.proofs.lemmas.Option.{slice_get_within, slice_get_read, slice_get-map, get_or_from_slice_get, same_Some}
 use Rattle.std.proofs.lemmas.List.Elements.{All-push}
 use Rattle.hall_limits.specs.declared.TheConstants.{MAX_GROSS, MAX_TARE}
 use Rattle.balanced_tree.specs.Trees.{items, IsBalanced}
@@ -15,12 +15,16 @@ use Rattle.batch_sums.specs.declared.batch.Batch.{Batch}
 use Rattle.batch_sums.specs.declared.group.Group.{Group}
 use Rattle.batch_sums.specs.declared.group.Key.{Key}
 use Rattle.batch_sums.specs.declared.types.Held.{Held}
-use Rattle.batch_sums.specs.Totals.{Pack, is_counted}
+use Rattle.batch_sums.specs.Totals.{is_counted}
+use Rattle.batch_sums.specs.declared.types.Pack.{Pack}
 use Rattle.batch_sums.specs.Rising.{HasMoreIf}
-use Rattle.batch_sums.specs.Running.{IsEntered}
-use Rattle.batch_sums.specs.Invariant.{IsSettled}
+use Rattle.batch_sums.specs.Running.{IsEntered, HasRoom}
+use Rattle.batch_sums.specs.Invariant.{IsSettled, reaches_of, homes_of, befores_of}
 use Rattle.batch_sums.specs.Groups.{Face, face_of, faces, face_at, IsJudged}
-use Rattle.batch_sums.specs.Kept.{Sound, IsGroup, IsIndex, IsOpened, HasKey, seen}
+use Rattle.batch_sums.specs.Kept.{Sound, IsGroup, IsIndex, IsOpened, HasKey, IsChained, seen}
+use Rattle.pack_judge.specs.declared.types.Pile.{Pile}
+use Rattle.batch_sums.proofs.Chaining.{chained_put}
+use Rattle.batch_sums.proofs.Homes.{chained_as}
 use Rattle.batch_sums.proofs.Sounding.{face-found, faces-set}
 use Rattle.batch_sums.proofs.Joining.{joins_push}
 use Rattle.batch_sums.proofs.Entering.{sound_in, few_grosses}
@@ -60,9 +64,9 @@ module _ (batches : List Batch) (groups : List Group) (held : List Held) (sound 
   tare_of : (place : ℕ) (group : Group) → slice_get groups place ≡ Some group → group.key ≡ key → group.tare ≡ tare
   tare_of place group at own =
       let found = exists_by place held (used place (slice_get_within groups place group at)) in
-      let h : Held = get_or held found.0 (record { number = 0; group = 0; gross = 0; pile = Rattle.pack_judge.specs.declared.types.Pile.TheVariants.Passed }) in
+      let h : Held = get_or held found.0 (record { number = 0; group = 0; before = 0; gross = 0; pile = Rattle.pack_judge.specs.declared.types.Pile.TheVariants.Passed }) in
       let face : face_at (faces groups) h.group ≡ face_of group = ap (face_at (faces groups)) (found.2 _) ∙ face-found groups place group at in
-      let told = unmap (λ pack. pack.batch ≡ key.batch → pack.day ≡ pos key.day → pack.tare ≡ pos tare) (faces groups) held same_tare found.0 (record { number = 0; group = 0; gross = 0; pile = Rattle.pack_judge.specs.declared.types.Pile.TheVariants.Passed }) found.1
+      let told = unmap (λ pack. pack.batch ≡ key.batch → pack.day ≡ pos key.day → pack.tare ≡ pos tare) (faces groups) held same_tare found.0 (record { number = 0; group = 0; before = 0; gross = 0; pile = Rattle.pack_judge.specs.declared.types.Pile.TheVariants.Passed }) found.1
       (ap (λ (f : Face). f.key.batch) face ∙ ap (λ k. k.batch) own) (ap (λ (f : Face). pos f.key.day) face ∙ ap (λ k. pos k.day) own) in
       let both : pos group.tare ≡ pos tare = sym (ap (λ (f : Face). pos f.tare) face) ∙ told in
       cc
@@ -152,8 +156,8 @@ module _ (batches : List Batch) (groups : List Group) (held : List Held) (after 
     faces_put = faces-set after place group next at_here face_next
 
     pub settled_put : (order : Tree ℕ) (numbers old : List ℕ) → IsBalanced order → IsIndex (faces after) (items order) → length groups ≤ length held → old ≡ map (λ p. p.number) held → ((number : ℕ) → count_by (λ p. eqb p.number number) held ≤ 1)
-        → list_any (λ other. eqb h.number other) old ≡ false → numbers ≡ insert_key eqb old h.number → IsSettled (set batches key.batch new) (set after place next) order (held ++ h ∷ []) numbers
-    settled_put order numbers old balanced index small numbered apart none inserted =
+        → list_any (λ other. eqb h.number other) old ≡ false → numbers ≡ insert_key eqb old h.number → IsChained (reaches_of (set batches key.batch new)) (homes_of (map (seen (faces (set after place next))) (held ++ h ∷ []))) (befores_of (held ++ h ∷ [])) → IsSettled (set batches key.batch new) (set after place next) order (held ++ h ∷ []) numbers
+    settled_put order numbers old balanced index small numbered apart none inserted chained =
         let absent = none_numbered h.number held (ap (λ ns. list_any (λ other. eqb h.number other) ns) (sym numbered) ∙ none) in
         let counted : (test : Held → Bool) → count_by test (held ++ h ∷ []) ≡ count_by test held + cond (test h) 1 0 = λ test. sum_by_push (λ p. cond (test p) 1 0) held h in
         record {
@@ -178,6 +182,7 @@ module _ (batches : List Batch) (groups : List Group) (held : List Held) (after 
                     omega (arith, no, counted (λ p. eqb p.number number), apart number)
               ];
           numbered = inserted ∙ ap (λ b. cond b old (old ++ h.number ∷ [])) none ∙ ap (λ ns. ns ++ h.number ∷ []) numbered ∙ sym (map-append (λ (p : Held). p.number) held (h ∷ []));
+          chained = chained;
         }
 
     pub packs_put : map (seen (faces (set after place next))) (held ++ h ∷ []) ≡ map (seen (faces groups)) held ++ record { number = h.number; batch = key.batch; day = pos key.day; gross = pos h.gross; tare = pos tare; pile = h.pile } ∷ []
@@ -185,3 +190,33 @@ module _ (batches : List Batch) (groups : List Group) (held : List Held) (after 
         let face : face_at (faces after) h.group ≡ record { key = key; tare = tare } = ap (face_at (faces after)) own ∙ face-found after place group at_here ∙ face_here in
         ap (λ fs. map (seen fs) (held ++ h ∷ [])) faces_put ∙ map-append (seen (faces after)) held (h ∷ [])
         ∙ (λ i. ready.same i ++ record { number = h.number; batch = (face i).key.batch; day = pos (face i).key.day; gross = pos h.gross; tare = pos (face i).tare; pile = h.pile } ∷ [])
+
+    pub chained_with : (read : Batch) → slice_get batches key.batch ≡ Some read → h.before ≡ read.reach → new.reach ≡ length held + 1 → IsChained (reaches_of batches) (homes_of (map (seen (faces groups)) held)) (befores_of held)
+        → IsChained (reaches_of (set batches key.batch new)) (homes_of (map (seen (faces (set after place next))) (held ++ h ∷ []))) (befores_of (held ++ h ∷ []))
+    chained_with read is before reach chained =
+        let packs = map (seen (faces groups)) held in
+        let there : key.batch < length (reaches_of batches) = omega (arith, slice_get_within batches key.batch read is, length-map batches (λ (b : Batch). b.reach)) in
+        let long : length (befores_of held) ≡ length (homes_of packs) = omega (arith, length-map held (λ (p : Held). p.before), length-map packs (λ (p : Pack). p.batch), length-map held (seen (faces groups))) in
+        let count : length (homes_of packs) + 1 ≡ new.reach = omega (arith, reach, length-map packs (λ (p : Pack). p.batch), length-map held (seen (faces groups))) in
+        let old : get_or (reaches_of batches) key.batch 0 ≡ h.before = get_or_from_slice_get (reaches_of batches) key.batch read.reach 0 (slice_get-map (λ (b : Batch). b.reach) batches key.batch ∙ ap (option_map (λ (b : Batch). b.reach)) is) ∙ sym before in
+        chained_as _ _ _ _ _ _ (map-set (λ (b : Batch). b.reach) batches key.batch new ∙ ap (λ n. set (reaches_of batches) key.batch n) (sym count))
+        (ap homes_of packs_put ∙ map-append (λ (p : Pack). p.batch) packs _)
+        (map-append (λ (p : Held). p.before) held (h ∷ []) ∙ ap (λ n. befores_of held ++ n ∷ []) (sym old))
+        (chained_put (reaches_of batches) (homes_of packs) (befores_of held) chained key.batch there long)
+
+-- a batch that a pack comes into, whatever it knew of how far its packs reach
+pub entered_from : (before : Batch) (reach : ℕ) (after : Batch) (pile : Pile) (mass tare : ℕ) → IsEntered (record before { reach = reach }) after pile mass tare → IsEntered before after pile mass tare
+entered_from before reach after pile mass tare entered =
+    record {
+      count = entered.count;
+      gross = entered.gross;
+      tares = entered.tares;
+      nonstandard = entered.nonstandard;
+      inadequate = entered.inadequate;
+      product = entered.product;
+      limits = entered.limits;
+    }
+
+pub room_from : (before : Batch) (reach : ℕ) (pile : Pile) → HasRoom before pile → HasRoom (record before { reach = reach }) pile
+room_from before reach pile room =
+    record { count = room.count; gross = room.gross; tares = room.tares; nonstandard = room.nonstandard; inadequate = room.inadequate }

@@ -17,11 +17,13 @@ use Rattle.batch_sums.specs.declared.sums.BatchSums.TheInside.{Inside}
 use Rattle.batch_sums.specs.declared.batch.Batch.{Batch}
 use Rattle.batch_sums.specs.declared.group.Group.{Group}
 use Rattle.batch_sums.specs.declared.types.Held.{Held}
-use Rattle.batch_sums.specs.Totals.{Pack, is_counted}
+use Rattle.batch_sums.specs.Totals.{is_counted}
+use Rattle.batch_sums.specs.declared.types.Pack.{Pack}
 use Rattle.batch_sums.specs.Groups.{Face, face_of, faces, face_at, IsJudged}
 use Rattle.batch_sums.specs.Running.{HasShare, IsCorrected}
 use Rattle.batch_sums.specs.Kept.{Sound, IsGroup, is_member, seen, terms_of}
 use Rattle.batch_sums.specs.Changes.{HasFewPerGroup, group_population}
+use Rattle.batch_sums.specs.Invariant.{reaches_of}
 use Rattle.batch_sums.proofs.Adding.{sum_by-map}
 use Rattle.batch_sums.proofs.Sounding.{face-found, set_same}
 use Rattle.batch_sums.proofs.Correcting.{share, members, sound_corrected, face-same, face-other}
@@ -44,6 +46,8 @@ pub record IsUnderway (before now : Inside) (visited : List ℕ) (tare start ste
   pub gross_nodes : now.gross_nodes ≡ before.gross_nodes
   pub order_nodes : now.order_nodes ≡ before.order_nodes
   pub spare : now.spare ≡ before.spare
+  pub piles : now.piles ≡ before.piles
+  pub reaches : reaches_of now.batches.items ≡ reaches_of before.batches.items
   pub terms : map terms_of now.batches.items ≡ map terms_of before.batches.items
   pub sound : Sound now.batches.items now.groups.items now.packs.items
   pub face : (place : ℕ) → face_at (faces now.groups.items) place ≡ face_by visited tare place (face_at (faces before.groups.items) place)
@@ -121,7 +125,7 @@ module _ (before now : Inside) (visited : List ℕ) (tare start steps more : ℕ
     pub has_share : HasShare batch group
     has_share = share now.batches.items now.groups.items now.packs.items under.sound place group at_group batch at_batch
 
-    module _ (after : Group) (new : Batch) (light : pos tare ≤ℤ MAX_TARE) (face : face_of after ≡ record { key = group.key; tare = tare }) (grosses : after.grosses ≡ group.grosses) (judged : IsJudged batch.limits after) (changes : IsCorrected batch new group after)
+    module _ (after : Group) (new : Batch) (light : pos tare ≤ℤ MAX_TARE) (face : face_of after ≡ record { key = group.key; tare = tare }) (grosses : after.grosses ≡ group.grosses) (judged : IsJudged batch.limits after) (changes : IsCorrected batch new group after) (reach : new.reach ≡ batch.reach)
         (cost : length group.grosses ≤ 10000 → more ≤ steps + 36) where
       key_after : after.key ≡ group.key
       key_after = ap (λ (f : Face). f.key) face
@@ -155,6 +159,9 @@ module _ (before now : Inside) (visited : List ℕ) (tare start steps more : ℕ
             gross_nodes = under.gross_nodes;
             order_nodes = under.order_nodes;
             spare = under.spare;
+            piles = under.piles;
+            reaches = map-set (λ b. b.reach) now.batches.items group.key.batch new ∙ ap (λ n. set (reaches_of now.batches.items) group.key.batch n) reach
+                ∙ set_same (reaches_of now.batches.items) group.key.batch batch.reach (slice_get-map (λ b. b.reach) now.batches.items group.key.batch ∙ ap (option_map (λ b. b.reach)) at_batch) ∙ under.reaches;
             terms = map-set terms_of now.batches.items group.key.batch new ∙ ap (λ t. set (map terms_of now.batches.items) group.key.batch t) terms_new
                 ∙ set_same (map terms_of now.batches.items) group.key.batch (terms_of batch) (slice_get-map terms_of now.batches.items group.key.batch ∙ ap (option_map terms_of) at_batch) ∙ under.terms;
             sound = sound_corrected now.batches.items now.groups.items now.packs.items under.sound place group at_group batch at_batch after new tare light face grosses judged changes;

@@ -7,7 +7,8 @@ use Rattle.hall_limits.specs.declared.TheConstants.{MAX_POPULATION}
 use Rattle.pack_judge.specs.declared.types.Pile.{Pile}
 use Rattle.tare_register.specs.declared.types.Span.{Span}
 use Rattle.tare_register.specs.Tares.{covers}
-use Rattle.batch_sums.specs.Totals.{Pack, Terms, is_counted}
+use Rattle.batch_sums.specs.Totals.{Terms, is_counted}
+use Rattle.batch_sums.specs.declared.types.Pack.{Pack}
 
 -- a number from 0 to a limit
 abbrev pub IsUpTo : ℤ → ℤ → Type 0

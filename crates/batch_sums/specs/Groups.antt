@@ -1,10 +1,12 @@
 -- Groups of packs: one for each batch and day.
-use Rattle.std.specs.Prelude.{◌^◌, ◌≡◌, ℕ, ℤ, pos, negsuc, ◌+◌, ◌*◌, ◌+ℤ◌, List, count_by, nat_lt, int_lt, if◌then◌else◌, map, slice_index_or}
+use Rattle.std.specs.Prelude.{◌^◌, ◌≡◌, ℕ, ℤ, pos, negsuc, ◌+◌, ◌*◌, ◌+ℤ◌, List, count_by, nat_lt, int_lt, max, if◌then◌else◌, map, slice_index_or}
 use Rattle.annex_tables.specs.declared.types.Limits.{Limits}
 use Rattle.hall_limits.specs.declared.TheConstants.{MAX_GROSS}
 use Rattle.batch_sums.specs.Rising.{mass_of}
 use Rattle.batch_sums.specs.declared.group.Group.{Group}
 use Rattle.batch_sums.specs.declared.group.Key.{Key}
+use Rattle.batch_sums.specs.declared.days.Days.{Days}
+use Rattle.batch_sums.specs.declared.order.Stretch.{Stretch}
 
 -- the place of a key in the order of all keys: by product, in it by day, in it by batch
 abbrev pub rank_of : Key → ℕ
@@ -46,3 +48,13 @@ face_at some group = slice_index_or some group no_face
 -- where the group at a place stands in the order of keys
 abbrev pub rank_at : List Face → ℕ → ℕ
 rank_at some group = rank_of (face_at some group).key
+
+-- how many groups of an order stand before those of a product on a day
+abbrev pub count_before : List Face → List ℕ → ℕ → ℕ → ℕ
+count_before some order product day =
+    count_by (λ group. nat_lt (rank_at some group) (rank_of (record { product = product; day = day; batch = 0 }))) order
+
+-- where in an order the groups of a product on some days stand
+pub record IsStretch (some : List Face) (order : List ℕ) (product : ℕ) (days : Days) (stretch : Stretch) : Type 0 where
+  pub first : stretch.first ≡ count_before some order product days.from
+  pub end : stretch.end ≡ max stretch.first (count_before some order product days.until)

@@ -9,9 +9,10 @@ use Rattle.balanced_tree.specs.declared.tree.Tree.{Tree}
 use Rattle.batch_sums.specs.declared.batch.Batch.{Batch}
 use Rattle.batch_sums.specs.declared.group.Group.{Group}
 use Rattle.batch_sums.specs.declared.types.Held.{Held}
+use Rattle.batch_sums.specs.declared.types.Pack.{Pack}
 use Rattle.batch_sums.specs.Groups.{faces}
 use Rattle.batch_sums.specs.Totals.{is_counted}
-use Rattle.batch_sums.specs.Kept.{Sound, IsIndex}
+use Rattle.batch_sums.specs.Kept.{Sound, IsIndex, IsChained, IsTallied, seen}
 
 -- how many packs count for a population, and how many don't
 abbrev pub inside : List Held → ℕ
@@ -19,6 +20,18 @@ inside held = count_by (λ pack. is_counted pack.pile) held
 
 abbrev pub outside : List Held → ℕ
 outside held = count_by (λ pack. not (is_counted pack.pile)) held
+
+-- how far the packs of each batch reach
+abbrev pub reaches_of : List Batch → List ℕ
+reaches_of batches = map (λ batch. batch.reach) batches
+
+-- the batch of each pack
+abbrev pub homes_of : List Pack → List ℕ
+homes_of packs = map (λ pack. pack.batch) packs
+
+-- how far the packs before each in its batch reached
+abbrev pub befores_of : List Held → List ℕ
+befores_of held = map (λ pack. pack.before) held
 
 -- there is room for as many packs and batches more as are spare; a pack outside a population keeps a node for it, and each node that is in use has a place to come back to
 pub record IsRoomy (held : List Held) (sums : Inside) : Type 0 where
@@ -41,10 +54,12 @@ pub record IsSettled (batches : List Batch) (groups : List Group) (order : Tree 
   pub small : length groups ≤ length held
   pub apart : (number : ℕ) → count_by (λ pack. pack.number == number) held ≤ 1
   pub numbered : numbers ≡ map (λ pack. pack.number) held
+  pub chained : IsChained (reaches_of batches) (homes_of (map (seen (faces groups)) held)) (befores_of held)
 
 pub record IsKept (sums : Inside) : Type 0 where
   pub settled : IsSettled sums.batches.items sums.groups.items sums.order sums.packs.items sums.numbers.keys
   pub room : IsRoomy sums.packs.items sums
+  pub tallied : IsTallied sums.piles sums.packs.items
 
 -- a vector that has the same items, and room for no fewer
 pub record HasGrown {T : Type 0} (old new : Vec T Global) : Type 0 where

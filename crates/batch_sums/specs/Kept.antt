@@ -1,17 +1,19 @@
 -- What is kept of the packs, and what always holds of it.
-use Rattle.std.specs.Prelude.{◌^◌, ◌≡◌, ℕ, ℤ, pos, ◌<◌, ◌≤◌, ◌≤ℤ◌, Bool, ◌&&◌, ◌==◌, List, [], ◌∷◌, ◌++◌, length, count_by, Option, Some, option_map, if◌then◌else◌}
+use Rattle.std.specs.Prelude.{◌^◌, ◌≡◌, ℕ, ℤ, pos, ◌+◌, ◌<◌, ◌≤◌, ◌≤ℤ◌, Bool, ◌&&◌, ◌==◌, List, [], ◌∷◌, ◌++◌, ◌||◌, length, take, nat_lt, slice_index, count_by, Option, Some, option_map, if◌then◌else◌}
 use Rattle.std.specs.List.{All, sum_by, slice_get}
 use Rattle.hall_limits.specs.declared.TheConstants.{MAX_GROSS, MAX_TARE, MAX_DAY}
 use Rattle.pack_judge.specs.declared.types.Pile.{Pile}
 use Rattle.batch_sums.specs.declared.batch.Batch.{Batch}
+use Rattle.batch_sums.specs.declared.batch.PileSums.{PileSums}
 use Rattle.batch_sums.specs.declared.group.Group.{Group}
 use Rattle.batch_sums.specs.declared.group.Key.{Key}
 use Rattle.batch_sums.specs.declared.types.Held.{Held}
 use Rattle.batch_sums.specs.Rising.{IsRising, mass_of}
-use Rattle.batch_sums.specs.Totals.{Pack, Terms, same_pile, is_counted, totals_of}
+use Rattle.batch_sums.specs.Totals.{Terms, same_pile, is_counted, totals_of}
+use Rattle.batch_sums.specs.declared.types.Pack.{Pack}
 use Rattle.batch_sums.specs.declared.types.Totals.{Totals}
 use Rattle.batch_sums.specs.Groups.{Face, face_of, face_at, faces, rank_at, threshold, IsJudged}
-use Rattle.batch_sums.specs.Running.{pile_sum, count_at}
+use Rattle.batch_sums.specs.Running.{sum_in, pile_sum, count_at}
 
 -- what contracts see: the batches and the packs in the order in which they were added, and how many more are sure to find room
 pub record Sums : Type 0 where
@@ -40,6 +42,10 @@ seen some held =
 
 abbrev pub belongs : List Face → ℕ → Held → Bool
 belongs some number held = (face_at some held.group).key.batch == number
+
+-- the number of a pack, where it counts for the population
+abbrev pub counted_number : Held → List ℕ
+counted_number pack = if is_counted pack.pile then pack.number ∷ [] else []
 
 -- what one pack adds to the sums of a batch: to the count and the gross of a pile, to the tares of the population, and to those below a limit
 abbrev pub count_in : List Face → ℕ → Pile → Held → ℕ
@@ -75,6 +81,23 @@ pub record IsGroup (batches : List Batch) (held : List Held) (place : ℕ) (grou
   pub judged : IsJudged batch.limits group
   pub tare : pos group.tare ≤ℤ MAX_TARE
   pub grosses : (test : ℕ → Bool) → count_by (λ gross. test (mass_of gross)) group.grosses ≡ count_by (is_member place test) held
+
+-- sums by pile are those of some packs
+pub record IsTallied (sums : PileSums) (held : List Held) : Type 0 where
+  pub count : (pile : Pile) → (sum_in sums pile).count ≡ count_by (λ pack. same_pile pack.pile pile) held
+  pub gross : (pile : Pile) → (sum_in sums pile).gross ≡ sum_by (λ pack. if same_pile pack.pile pile then pack.gross else 0) held
+
+-- how many of the batches that packs have there are up to the last that is this one; 0 where none is
+abbrev pub reach_of : ℕ → List ℕ → ℕ
+reach_of batch [] = 0
+reach_of batch (home ∷ homes) =
+    if home == batch || nat_lt 0 (reach_of batch homes) then reach_of batch homes + 1 else 0
+
+-- the packs of each batch are chained: the batch tells how far they reach, and each pack how far those before it did
+pub record IsChained (reaches homes befores : List ℕ) : Type 0 where
+  pub within : All (λ home. home < length reaches) homes
+  pub newest : (batch : ℕ) → batch < length reaches → slice_index reaches batch ≡ reach_of batch homes
+  pub before : (place : ℕ) → place < length homes → slice_index befores place ≡ reach_of (slice_index homes place) (take place homes)
 
 -- a key's numbers are within their ranges
 pub record IsKey (face : Face) : Type 0 where

@@ -5,3 +5,4 @@ pub mod Running
 pub mod Kept
 pub mod Invariant
 pub mod Changes
+pub mod Asked

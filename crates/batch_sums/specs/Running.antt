@@ -3,19 +3,35 @@ use Rattle.std.specs.Prelude.{◌^◌, ◌≡◌, ℕ, pos, ◌-ℤ◌, ◌+◌,
 use Rattle.pack_judge.specs.declared.types.Pile.{Pile}
 use Rattle.pack_judge.specs.declared.types.Pile.TheVariants.{Passed, Rejected, Sampled, Voided}
 use Rattle.pack_judge.specs.declared.types.Tally.{Tally}
+use Rattle.batch_sums.specs.declared.types.Piles.{Piles}
 use Rattle.batch_sums.specs.declared.types.Totals.{Totals}
 use Rattle.batch_sums.specs.declared.batch.Batch.{Batch}
 use Rattle.batch_sums.specs.declared.batch.PileSum.{PileSum}
+use Rattle.batch_sums.specs.declared.batch.PileSums.{PileSums}
 use Rattle.batch_sums.specs.declared.group.Group.{Group}
 use Rattle.batch_sums.specs.Groups.{threshold}
 use Rattle.batch_sums.specs.Totals.{same_pile, is_counted}
 
+-- the sums of a pile
+abbrev pub sum_in : PileSums → Pile → PileSum
+sum_in sums Passed = sums.passed
+sum_in sums Rejected = sums.rejected
+sum_in sums Sampled = sums.sampled
+sum_in sums Voided = sums.voided
+
 -- what a batch keeps of a pile
 abbrev pub pile_sum : Batch → Pile → PileSum
-pile_sum batch Passed = batch.passed
-pile_sum batch Rejected = batch.rejected
-pile_sum batch Sampled = batch.sampled
-pile_sum batch Voided = batch.voided
+pile_sum batch pile = sum_in batch.piles pile
+
+-- a pile counts one pack more, and no other does
+abbrev pub CountsOneMore : PileSums → PileSums → Pile → Type 0
+CountsOneMore before after pile =
+    (other : Pile) → (sum_in after other).count ≡ (sum_in before other).count + (if same_pile pile other then 1 else 0)
+
+-- the grosses of a pile are more by a mass, and those of no other
+abbrev pub WeighsMore : PileSums → PileSums → Pile → ℕ → Type 0
+WeighsMore before after pile mass =
+    (other : Pile) → (sum_in after other).gross ≡ (sum_in before other).gross + (if same_pile pile other then mass else 0)
 
 -- 1 for a pack that counts for the population and is below a least gross
 abbrev pub count_at : Pile → ℕ → ℕ → ℕ
@@ -68,26 +84,36 @@ pub record IsCorrected (before after : Batch) (old new : Group) : Type 0 where
 
 -- the sums of a batch are so small that they can be told
 pub record IsBounded (batch : Batch) : Type 0 where
-  pub passed : batch.passed.gross < 2 ^ 61
-  pub rejected : batch.rejected.gross < 2 ^ 61
-  pub sampled : batch.sampled.gross < 2 ^ 61
-  pub voided : batch.voided.gross < 2 ^ 61
+  pub passed : batch.piles.passed.gross < 2 ^ 61
+  pub rejected : batch.piles.rejected.gross < 2 ^ 61
+  pub sampled : batch.piles.sampled.gross < 2 ^ 61
+  pub voided : batch.piles.voided.gross < 2 ^ 61
   pub tares : batch.tares < 2 ^ 61
-  pub count : batch.passed.count + batch.sampled.count < 2 ^ 32
+  pub count : batch.piles.passed.count + batch.piles.sampled.count < 2 ^ 32
 
 abbrev pub tally_of : PileSum → Tally
 tally_of sum = record { count = sum.count; gross = pos sum.gross }
+
+-- the sums of each pile as tallies
+abbrev pub tallies_of : PileSums → Piles
+tallies_of sums =
+    record {
+      passed = tally_of sums.passed;
+      rejected = tally_of sums.rejected;
+      sampled = tally_of sums.sampled;
+      voided = tally_of sums.voided;
+    }
 
 -- the sums of a batch as totals
 abbrev pub shown : Batch → Totals
 shown batch =
     record {
-      passed = tally_of batch.passed;
-      rejected = tally_of batch.rejected;
-      sampled = tally_of batch.sampled;
-      voided = tally_of batch.voided;
-      population = batch.passed.count + batch.sampled.count;
-      net = pos (batch.passed.gross + batch.sampled.gross) -ℤ pos batch.tares;
+      passed = tally_of batch.piles.passed;
+      rejected = tally_of batch.piles.rejected;
+      sampled = tally_of batch.piles.sampled;
+      voided = tally_of batch.piles.voided;
+      population = batch.piles.passed.count + batch.piles.sampled.count;
+      net = pos (batch.piles.passed.gross + batch.piles.sampled.gross) -ℤ pos batch.tares;
       nonstandard = batch.nonstandard;
       inadequate = batch.inadequate;
     }

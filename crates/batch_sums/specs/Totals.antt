@@ -4,16 +4,8 @@ use Rattle.annex_tables.specs.declared.types.Limits.{Limits}
 use Rattle.pack_judge.specs.declared.types.Pile.{Pile}
 use Rattle.pack_judge.specs.declared.types.Pile.TheVariants.{Passed, Rejected, Sampled, Voided}
 use Rattle.pack_judge.specs.declared.types.Tally.{Tally}
+use Rattle.batch_sums.specs.declared.types.Pack.{Pack}
 use Rattle.batch_sums.specs.declared.types.Totals.{Totals}
-
--- a pack that was added, as it now is
-pub record Pack : Type 0 where
-  pub number : ℕ
-  pub batch : ℕ
-  pub day : ℤ
-  pub gross : ℤ
-  pub tare : ℤ
-  pub pile : Pile
 
 -- a batch that was added: whose product it is, and the limits that its nets are held against
 pub record Terms : Type 0 where

@@ -15,4 +15,4 @@ mod types;
 
 pub use steps::{STEPS_PER_GROUP, Steps};
 pub use sums::BatchSums;
-pub use types::{NoMemory, Totals};
+pub use types::{NoMemory, Pack, Piles, Totals};

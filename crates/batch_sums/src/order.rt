@@ -3,8 +3,9 @@ ghost use Rattle.batch_sums.specs.Kept.{IsIndex, IsKey, HasKey, IsOpened};
 ghost use Rattle.std.specs.List.{All};
 ghost use Rattle.balanced_tree.specs.Trees.{items, height_of, IsBalanced};
 ghost use Rattle.batch_sums.specs.Rising.{IsRising};
-ghost use Rattle.batch_sums.specs.Groups.{rank_of, rank_at, faces};
+ghost use Rattle.batch_sums.specs.Groups.{rank_of, rank_at, faces, IsStretch};
 
+use crate::days::Days;
 use crate::group::{Group, Key};
 use balanced_tree::{Node, Tree, insert};
 use std::mem;
@@ -24,6 +25,38 @@ pub fn place_of(order: &Tree<u32>, groups: &[Group], key: &Key) -> u32
         root.left.count() + 1 + place_of(&root.right, groups, key)
     } else {
         place_of(&root.left, groups, key)
+    }
+}
+
+/// The places of the order at which the groups of a product on some days stand: from the first on, before the end.
+#[derive(Clone, Copy)]
+pub struct Stretch {
+    pub first: u32,
+    pub end: u32,
+}
+
+/// Where the groups of a product on some days stand in the order of keys.
+pub fn stretch_of(order: &Tree<u32>, groups: &[Group], product: u32, days: Days) -> Stretch
+    requires balanced { IsBalanced order.now }
+    requires rising { IsRising (rank_at (faces groups.now)) (items order.now) }
+    requires within { All (λ group. group < length groups.now) (items order.now) }
+    requires few { length (items order.now) < 2 ^ 32 }
+    ensures { IsStretch (faces groups.now) (items order.now) product days result }
+{
+    let from = Key {
+        product,
+        day: days.from,
+        batch: 0,
+    };
+    let until = Key {
+        product,
+        day: days.until,
+        batch: 0,
+    };
+    let first = place_of(order, groups, &from);
+    Stretch {
+        first,
+        end: place_of(order, groups, &until).max(first),
     }
 }
 

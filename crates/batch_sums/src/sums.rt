@@ -1,15 +1,17 @@
-ghost use Rattle.std.specs.Prelude.{◌≡◌, pos, ◌*◌, Some, IsTrue, false, ◌≤ℤ◌, ◌+◌, ◌<◌, ◌≤◌, [], ◌∷◌, ◌++◌, length, IsOk, IfOk, OnOk, OnErr};
-ghost use Rattle.batch_sums.specs.Kept.{totals_in};
+ghost use Rattle.std.specs.Prelude.{◌≡◌, ℕ, List, pos, find, map, ◌==◌, ◌*◌, Some, IsTrue, true, false, ◌≤ℤ◌, ◌+◌, ◌<◌, ◌≤◌, [], ◌∷◌, ◌++◌, length, IsOk, IfOk, OnOk, OnErr, if◌then◌else◌};
+ghost use Rattle.batch_sums.specs.Kept.{totals_in, counted_number};
+ghost use Rattle.batch_sums.specs.Totals.{is_counted, population, of_batch};
+ghost use Rattle.batch_sums.specs.Asked.{numbers_of, piles_of, concerned_in, chosen_batches, IsLeast, IsLeastWith};
 ghost use Rattle.batch_sums.specs.Changes.{is_added, moved, corrected, concerned, group_count, IsUpTo, IsTareOf, HasFewPerGroup};
 
-use crate::batch::Batch;
+use crate::batch::{Batch, PileSums, counts_for_population};
 use crate::days::days_of;
 use crate::grosses::Gross;
 use crate::group::{Group, Key};
-use crate::order::{find_or_open, place_of};
+use crate::order::{Stretch, find_or_open, stretch_of};
 use crate::pool::{reserve_nodes, reserve_places};
 use crate::steps::{STEPS_PER_GROUP, Steps};
-use crate::types::{Held, NoMemory, Totals};
+use crate::types::{Held, NoMemory, Pack, Piles, Totals};
 use annex_tables::Limits;
 use balanced_tree::{Node, Tree};
 use hall_limits::{MAX_DAY, MAX_GROSS, MAX_TARE};
@@ -30,6 +32,8 @@ pub struct BatchSums {
     // The packs in the order in which they were added, and their numbers in the same order.
     packs: Vec<Held>,
     numbers: IndexSet<u32>,
+    // The sums of the packs of all batches.
+    piles: PileSums,
     // Spare nodes: one for each pack that doesn't count for a population, and for each place that is reserved; and one for
     // the group that each reserved place may open.
     gross_nodes: Vec<Box<Node<Gross>>>,
@@ -65,6 +69,7 @@ impl BatchSums {
             order: Tree::Leaf,
             packs: Vec::new(alloc),
             numbers: IndexSet::new(alloc),
+            piles: PileSums::new(),
             gross_nodes: Vec::new(alloc),
             order_nodes: Vec::new(alloc),
             spare: 0,
@@ -168,9 +173,9 @@ impl BatchSums {
         ensures batches { self.new.batches ≡ self.old.batches }
         ensures spare { self.new.spare + 1 ≡ self.old.spare }
     {
-        let product = self.batches[batch as usize].product;
+        let home = self.batches[batch as usize];
         let key = Key {
-            product,
+            product: home.product,
             day,
             batch,
         };
@@ -184,6 +189,7 @@ impl BatchSums {
         let held = Held {
             number: pack,
             group,
+            before: home.reach,
             gross,
             pile,
         };
@@ -195,8 +201,10 @@ impl BatchSums {
         };
         let batch = &mut self.batches[batch as usize];
         let group = &mut self.groups[group as usize];
+        batch.reach = self.packs.len() as u32;
         batch.enter(pile, gross, tare);
         group.enter(&batch.limits, pile, gross, &mut self.gross_nodes);
+        self.piles.enter(pile, gross);
         self.spare -= 1;
     }
 
@@ -217,6 +225,8 @@ impl BatchSums {
         group.leave(&batch.limits, held.pile, held.gross, &mut self.gross_nodes);
         batch.enter(to, held.gross, group.tare);
         group.enter(&batch.limits, to, held.gross, &mut self.gross_nodes);
+        self.piles.leave(held.pile, held.gross);
+        self.piles.enter(to, held.gross);
         self.packs[place] = Held { pile: to, ..held };
     }
 
@@ -230,26 +240,7 @@ impl BatchSums {
         ensures spare { self.new.spare ≡ self.old.spare }
         ensures cost { HasFewPerGroup self.old.packs → steps.new ≤ steps.old + STEPS_PER_GROUP * group_count (concerned self.old.batches product span self.old.packs) }
     {
-        let days = days_of(&span);
-        let first = place_of(
-            &self.order,
-            &self.groups,
-            &Key {
-                product,
-                day: days.from,
-                batch: 0,
-            },
-        );
-        let end = place_of(
-            &self.order,
-            &self.groups,
-            &Key {
-                product,
-                day: days.until,
-                batch: 0,
-            },
-        )
-        .max(first);
+        let Stretch { first, end } = stretch_of(&self.order, &self.groups, product, days_of(&span));
         let tare = tare as u32;
         for place in first..end {
             let Some(group) = self.order.get(place) else {
@@ -268,5 +259,90 @@ impl BatchSums {
     {
         let batch = &self.batches[batch as usize];
         batch.totals()
+    }
+
+    /// The pack that was added with this number, as it now is, and `None` where none was. It takes no memory and no walk.
+    pub fn pack(&self, number: u32) -> Option<Pack>
+        ensures { result ≡ find (λ pack. pack.number == number) self.now.packs }
+    {
+        let place = self.numbers.get_index_of(&number)?;
+        let held = self.packs[place];
+        let group = &self.groups[held.group as usize];
+        Some(Pack {
+            number,
+            batch: group.key.batch,
+            day: group.key.day as i32,
+            gross: held.gross as i64,
+            tare: group.tare as i64,
+            pile: held.pile,
+        })
+    }
+
+    /// The numbers of the packs of a batch that count for its population, in the order in which they were added. It takes
+    /// memory for the result alone, and walks over the packs of the batch alone.
+    pub fn population(&self, alloc: Global, batch: u32) -> Result<Vec<u64>, NoMemory>
+        requires { batch < length self.now.batches }
+        ensures { IfOk result (λ v. v.items ≡ numbers_of (population (of_batch batch self.now.packs))) }
+    {
+        let batch = &self.batches[batch as usize];
+        let mut numbers = Vec::with_capacity(alloc, batch.population() as usize)?;
+        let mut reach = batch.reach;
+        while reach > 0 {
+            let held = &self.packs[reach as usize - 1];
+            note(&mut numbers, held)?;
+            reach = held.before;
+        }
+        numbers.reverse();
+        Ok(numbers)
+    }
+
+    /// The least number of a batch of a product that is chosen and has a pack on a day of a span, whatever its pile, and
+    /// `None` where no batch is so; `chosen` has a flag for each batch. It takes no memory, and walks over the groups of
+    /// the product in the span, those of one batch and day.
+    pub fn first_concerned(&self, product: u32, span: &Span, chosen: &[bool]) -> Option<u32>
+        requires { length chosen.now ≡ length self.now.batches }
+        ensures { IsLeast (chosen_batches chosen.now (concerned_in self.now product span.now)) result }
+    {
+        let Stretch { first, end } = stretch_of(&self.order, &self.groups, product, days_of(span));
+        let mut least = None;
+        for position in first..end {
+            let Some(group) = self.order.get(position) else {
+                unreachable!()
+            };
+            let batch = self.groups[group as usize].key.batch;
+            least = lesser(least, batch, chosen[batch as usize]);
+        }
+        least
+    }
+
+    /// The tallies of the packs of all batches together, a pile each. It takes no memory and no walk.
+    pub fn piles(&self) -> Piles
+        ensures { result ≡ piles_of self.now.packs }
+    {
+        self.piles.tallies()
+    }
+}
+
+// Puts the number of a pack behind others where it counts for the population.
+fn note(numbers: &mut Vec<u64>, held: &Held) -> Result<(), NoMemory>
+    ensures { OnOk result (numbers.new.items ≡ numbers.old.items ++ counted_number held.now) }
+{
+    if counts_for_population(held.pile) {
+        numbers.push(held.number as u64)?;
+    }
+    Ok(())
+}
+
+// The lesser of the batch that is known and another, where that one is chosen.
+fn lesser(known: Option<u32>, batch: u32, chosen: bool) -> Option<u32>
+    ensures chosen { chosen ≡ true → IsLeastWith batch known result }
+    ensures others { chosen ≡ false → result ≡ known }
+{
+    if !chosen {
+        return known;
+    }
+    match known {
+        Some(least) if least <= batch => Some(least),
+        _ => Some(batch),
     }
 }

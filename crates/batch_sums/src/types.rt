@@ -25,6 +25,36 @@ pub struct Totals {
     pub inadequate: u32,
 }
 
+/// A pack that was added, as it now is. All masses are in mg.
+#[derive(Clone, Copy, Debug, PartialEq, Eq, Hash)]
+pub struct Pack {
+    /// The number that it was added with.
+    pub number: u32,
+    /// The number of its batch.
+    pub batch: u32,
+    /// Its day, in days since 1970-01-01.
+    pub day: i32,
+    /// Its gross, in mg.
+    pub gross: i64,
+    /// The tare of its batch and day, in mg.
+    pub tare: i64,
+    /// The pile that it lies in.
+    pub pile: Pile,
+}
+
+/// The tallies of the packs of all batches together, a pile each. All masses are in mg.
+#[derive(Clone, Copy, Debug, PartialEq, Eq, Hash)]
+pub struct Piles {
+    /// The packs that passed.
+    pub passed: Tally,
+    /// The packs that were rejected.
+    pub rejected: Tally,
+    /// The packs that were drawn for a reference test.
+    pub sampled: Tally,
+    /// The packs that were taken back.
+    pub voided: Tally,
+}
+
 // A pack as it is kept. What it shares with the other packs of its batch and day stands in its group.
 #[derive(Clone, Copy)]
 pub struct Held {
@@ -32,6 +62,8 @@ pub struct Held {
     pub number: u32,
     // The place of its group.
     pub group: u32,
+    // How many packs there were when the one before it in its batch had been added: 0 for the first.
+    pub before: u32,
     // In mg.
     pub gross: u32,
     pub pile: Pile,

@@ -8,7 +8,8 @@ use Rattle.std.proofs.lemmas.List.Elements.{All-head, All-tail, All-push, All-we
 use Rattle.hall_limits.specs.declared.TheConstants.{MAX_DAY, MAX_TARE}
 use Rattle.pack_judge.specs.declared.types.Pile.{Pile}
 use Rattle.tare_register.specs.declared.types.Span.{Span}
-use Rattle.batch_sums.specs.Totals.{Pack, Terms}
+use Rattle.batch_sums.specs.Totals.{Terms}
+use Rattle.batch_sums.specs.declared.types.Pack.{Pack}
 use Rattle.batch_sums.specs.Changes.{is_added, moved, is_concerned, corrected, IsUpTo}
 use Rattle.batch_sums_tests.specs.Halls.{Fits, IsKept}
 

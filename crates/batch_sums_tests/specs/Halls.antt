@@ -2,7 +2,7 @@
 use Rattle.std.specs.Prelude.{◌≡◌, ℕ, ℤ, ◌<◌, ◌≤ℤ◌, true, List}
 use Rattle.std.specs.List.{All}
 use Rattle.hall_limits.specs.declared.TheConstants.{MAX_TARE, MAX_DAY}
-use Rattle.batch_sums.specs.Totals.{Pack}
+use Rattle.batch_sums.specs.declared.types.Pack.{Pack}
 use Rattle.batch_sums.specs.Changes.{is_added, IsUpTo}
 
 -- a pack has a number below the next, and a day up to today; one of today has today's tare

@@ -5,7 +5,7 @@ ghost use Rattle.batch_sums.specs.Changes.{IsUpTo};
 
 use crate::plain::{PlainPack, plain_totals};
 use annex_tables::Limits;
-use batch_sums::{BatchSums, NoMemory, Steps, Totals};
+use batch_sums::{BatchSums, NoMemory, Pack, Piles, Steps, Totals};
 use hall_limits::{MAX_DAY, MAX_GROSS, MAX_TARE};
 use pack_judge::Pile;
 use std::alloc::Global;
@@ -140,6 +140,32 @@ impl Hall {
             return None;
         }
         Some(self.sums.totals(batch))
+    }
+
+    /// The pack of a number, if it is there.
+    pub fn pack(&self, number: u32) -> Option<Pack> {
+        self.sums.pack(number)
+    }
+
+    /// The numbers of the packs in the population of a batch, if it is there.
+    pub fn population(&self, alloc: Global, batch: u32) -> Result<Option<Vec<u64>>, NoMemory> {
+        if batch as usize >= self.batches.len() {
+            return Ok(None);
+        }
+        Ok(Some(self.sums.population(alloc, batch)?))
+    }
+
+    /// The first of the chosen batches that has a pack of a product in a span, if there is a flag for each batch.
+    pub fn first_concerned(&self, product: u32, span: &Span, chosen: &[bool]) -> Option<u32> {
+        if chosen.len() != self.batches.len() {
+            return None;
+        }
+        self.sums.first_concerned(product, span, chosen)
+    }
+
+    /// The tallies of all packs, a pile each.
+    pub fn piles(&self) -> Piles {
+        self.sums.piles()
     }
 
     /// Whether the totals of each batch are those of the plain list.

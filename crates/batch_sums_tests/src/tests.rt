@@ -3,11 +3,12 @@
 use crate::hall::Hall;
 use crate::row::corrected_totals;
 use annex_tables::Limits;
-use batch_sums::NoMemory;
+use batch_sums::{NoMemory, Pack};
 use hall_limits::{MAX_GROSS, MAX_TARE};
 use pack_judge::{Pile, Tally};
 use rand_core::utils::NextWord;
 use rand_pcg::Pcg32;
+use std::alloc::Global;
 use std::marker::Brand;
 use std::sync::ledger::Blank;
 use std::test::Fail;
@@ -68,6 +69,99 @@ fn a_net_equal_to_a_limit_is_not_below_it(rt: HostRuntime) -> Result<(), Fail> {
             (nonstandard, inadequate),
             "{gross} less {tare} by {t1} and {t2}"
         );
+    }
+    Ok(())
+}
+
+// Three batches of two products, and packs of two days. At the end of the first the tare of product 1 was corrected, and
+// that of product 2 was not; at the end three packs went to another pile.
+fn two_days(alloc: Global) -> Result<Hall, NoMemory> {
+    let mut hall = Hall::new(alloc, 10_000);
+    for product in [1, 2, 1] {
+        hall.add_batch(product, LIMITS)?;
+    }
+    hall.add(2, 260_000, Pile::Passed)?;
+    hall.add(0, 250_000, Pile::Rejected)?;
+    hall.add(2, 240_000, Pile::Sampled)?;
+    hall.add(1, 255_000, Pile::Voided)?;
+    hall.add(2, 251_000, Pile::Passed)?;
+    hall.correct(1, ALL_DAYS, 9_000);
+    hall.add(2, 245_000, Pile::Voided)?;
+    hall.shift(2, Pile::Voided);
+    hall.shift(3, Pile::Sampled);
+    hall.shift(5, Pile::Passed);
+    Ok(hall)
+}
+
+#[test]
+fn a_pack_is_told_as_it_now_is(rt: HostRuntime) -> Result<(), Fail> {
+    let hall = two_days(rt.alloc())?;
+    for (number, batch, day, gross, tare, pile) in [
+        (0, 2, 0, 260_000, 9_000, Pile::Passed),
+        (1, 0, 0, 250_000, 9_000, Pile::Rejected),
+        (2, 2, 0, 240_000, 9_000, Pile::Voided),
+        (3, 1, 0, 255_000, 10_000, Pile::Sampled),
+        (5, 2, 1, 245_000, 9_000, Pile::Passed),
+    ] {
+        let pack = Pack {
+            number,
+            batch,
+            day,
+            gross,
+            tare,
+            pile,
+        };
+        assert_eq!(rt; hall.pack(number), Some(pack));
+    }
+    assert!(rt; hall.pack(6).is_none());
+    Ok(())
+}
+
+#[test]
+fn a_population_is_told_in_the_order_of_its_packs(rt: HostRuntime) -> Result<(), Fail> {
+    let hall = two_days(rt.alloc())?;
+    let none: &[u64] = &[];
+    for (batch, numbers) in [(0, none), (1, &[3]), (2, &[0, 4, 5])] {
+        let told = hall.population(rt.alloc(), batch)?.expect(&rt, "the batch");
+        assert_eq!(rt; told.as_slice(), numbers, "batch {batch}");
+    }
+    Ok(())
+}
+
+#[test]
+fn the_first_chosen_batch_is_told_whatever_the_pile(rt: HostRuntime) -> Result<(), Fail> {
+    let hall = two_days(rt.alloc())?;
+    let all: &[bool] = &[true, true, true];
+    let later: &[bool] = &[false, true, true];
+    for (product, from, until, chosen, first) in [
+        (1, 0, None, all, Some(0)),
+        (1, 0, None, later, Some(2)),
+        (1, 0, None, &[false, true, false], None),
+        (1, 1, None, all, Some(2)),
+        (1, 2, None, all, None),
+        (1, 0, Some(0), all, None),
+        (1, -5, Some(1), all, Some(0)),
+        (2, 0, Some(1), all, Some(1)),
+        (3, 0, None, all, None),
+    ] {
+        let span = Span { from, until };
+        let told = hall.first_concerned(product, &span, chosen);
+        assert_eq!(rt; told, first, "product {product}, {span:?}, {chosen:?}");
+    }
+    Ok(())
+}
+
+#[test]
+fn the_piles_are_those_of_all_batches(rt: HostRuntime) -> Result<(), Fail> {
+    let hall = two_days(rt.alloc())?;
+    let piles = hall.piles();
+    for (tally, count, gross) in [
+        (piles.passed, 3, 756_000),
+        (piles.rejected, 1, 250_000),
+        (piles.sampled, 1, 255_000),
+        (piles.voided, 1, 240_000),
+    ] {
+        assert_eq!(rt; tally, Tally { count, gross });
     }
     Ok(())
 }

@@ -1,5 +1,10 @@
-use Rattle.std.proofs.Common.{◌≡◌, ◌++◌, ◌∷◌, [], sym, subst, ap, arith}
+use Rattle.std.proofs.Common.{◌≡◌, ◌++◌, ◌∷◌, [], sym, subst, ap, refl, ◌∙◌, arith}
 use Rattle.batch_sums.specs.Kept.{Sums, Sound}
+use Rattle.std.proofs.lemmas.List.{map-append}
+use Rattle.batch_sums.specs.declared.batch.Batch.{Batch}
+use Rattle.batch_sums.specs.Invariant.{reaches_of}
+use Rattle.batch_sums.proofs.Chaining.{chained_batch}
+use Rattle.batch_sums.proofs.Homes.{chained_as}
 use Rattle.batch_sums.proofs.Putting.{sound_batch}
 use Rattle.batch_sums.proofs.sums.BatchSums.add_batch.Goals as goal
 
@@ -20,7 +25,10 @@ invariant_of-self c =
         small = settled.small;
         apart = settled.apart;
         numbered = settled.numbered;
+        chained = chained_as _ _ _ _ _ _ (ap reaches_of pushed ∙ map-append (λ (b : Batch). b.reach) sums.batches.items (c.new.result ∷ []) ∙ ap (λ n. reaches_of sums.batches.items ++ n ∷ []) made.reach) refl refl
+            (chained_batch _ _ _ settled.chained);
       };
+      tallied = c.self.invariant.tallied;
       room = record {
         batches = omega (arith, room.batches, c.in-Ok.ensures.len, c.in-Ok.ensures.capacity, c.in_ok-reserve.ensures.ok, spare);
         groups = omega (arith, room.groups);

@@ -6,9 +6,16 @@ use Rattle.batch_sums.specs.Groups.{Face, faces, IsJudged}
 use Rattle.batch_sums.specs.Running.{IsEntered}
 use Rattle.batch_sums.specs.Kept.{Sums, terms_of}
 use Rattle.batch_sums.specs.Changes.{is_added}
-use Rattle.batch_sums.proofs.Moving.{in_group, kept_group, batch_there, has_gross, at_batch, judged_before, covers, room_to, few_less, sound_moved, faces_moved, moved_is}
+use Rattle.batch_sums.proofs.Moving.{joins, in_group, kept_group, batch_there, has_gross, at_batch, judged_before, covers, room_to, few_less, sound_moved, faces_moved, moved_is}
 use Rattle.batch_sums.proofs.Numbers.{added_is, number_at, inside_moved, outside_moved, settled_moved}
-use Rattle.batch_sums.proofs.Sounding.{set_same}
+use Rattle.batch_sums.specs.declared.batch.Batch.{Batch}
+use Rattle.batch_sums.specs.Invariant.{reaches_of}
+use Rattle.batch_sums.proofs.Joining.{joins_set}
+use Rattle.batch_sums.proofs.Tallying.{tallied_in, tallied_out, some_lying, heavy_lying, few_lying, light_lying}
+use Rattle.std.specs.List.{remove}
+use Rattle.std.proofs.lemmas.List.Edits.{length-remove}
+use Rattle.hall_limits.specs.declared.TheConstants.{MAX_GROSS}
+use Rattle.batch_sums.proofs.Sounding.{set_same, All-remove}
 use Rattle.std.proofs.lemmas.Option.{slice_get-map}
 use Rattle.batch_sums.proofs.sums.BatchSums.shift.Goals as goal
 
@@ -83,7 +90,7 @@ leave-requires-2-clause-judged c =
     let held = sums.packs.items in
     let h = c.index-held.result.now in
     let found = number_at sums.numbers.keys held c.in-Some.place c.args.pack h settled.numbered c.in-Some.ensures.index c.index-held.ensures in
-    subst (λ l. IsJudged l c.index_mut-group.result.now) c.leave.ensures.limits (judged_before bs gs held settled.sound c.in-Some.place h c.index-held.ensures found.0 c.index_mut-group.result.now c.index_mut-group.ensures.value c.index_mut-batch.result.now c.index_mut-batch.ensures.value)
+    subst (λ l. IsJudged l c.index_mut-group.result.now) c.leave.ensures.entered.limits (judged_before bs gs held settled.sound c.in-Some.place h c.index-held.ensures found.0 c.index_mut-group.result.now c.index_mut-group.ensures.value c.index_mut-batch.result.now c.index_mut-batch.ensures.value)
 
 pub enter-requires-clause-tare : goal.enter-requires-clause-tare
 enter-requires-clause-tare c =
@@ -106,7 +113,7 @@ enter-requires-clause-room c =
     let held = sums.packs.items in
     let h = c.index-held.result.now in
     let found = number_at sums.numbers.keys held c.in-Some.place c.args.pack h settled.numbered c.in-Some.ensures.index c.index-held.ensures in
-    room_to bs gs held settled.sound c.in-Some.place h c.index-held.ensures found.0 c.index_mut-group.result.now c.index_mut-group.ensures.value c.index_mut-batch.result.now c.index_mut-batch.ensures.value c.leave.new.self c.leave.ensures c.leave-2.new.self c.leave-2.ensures.grosses c.leave-2.ensures.face c.leave-2.ensures.judged c.args.to
+    room_to bs gs held settled.sound c.in-Some.place h c.index-held.ensures found.0 c.index_mut-group.result.now c.index_mut-group.ensures.value c.index_mut-batch.result.now c.index_mut-batch.ensures.value c.leave.new.self c.leave.ensures.entered c.leave-2.new.self c.leave-2.ensures.grosses c.leave-2.ensures.face c.leave-2.ensures.judged c.args.to
 
 pub enter-requires-2-clause-tare : goal.enter-requires-2-clause-tare
 enter-requires-2-clause-tare c =
@@ -129,7 +136,7 @@ enter-requires-2-clause-few c =
     let held = sums.packs.items in
     let h = c.index-held.result.now in
     let found = number_at sums.numbers.keys held c.in-Some.place c.args.pack h settled.numbered c.in-Some.ensures.index c.index-held.ensures in
-    few_less bs gs held settled.sound c.in-Some.place h c.index-held.ensures found.0 c.index_mut-group.result.now c.index_mut-group.ensures.value c.index_mut-batch.result.now c.index_mut-batch.ensures.value c.leave.new.self c.leave.ensures c.leave-2.new.self c.leave-2.ensures.grosses c.leave-2.ensures.face c.leave-2.ensures.judged
+    few_less bs gs held settled.sound c.in-Some.place h c.index-held.ensures found.0 c.index_mut-group.result.now c.index_mut-group.ensures.value c.index_mut-batch.result.now c.index_mut-batch.ensures.value c.leave.new.self c.leave.ensures.entered c.leave-2.new.self c.leave-2.ensures.grosses c.leave-2.ensures.face c.leave-2.ensures.judged
 
 pub enter-requires-2-clause-judged : goal.enter-requires-2-clause-judged
 enter-requires-2-clause-judged c =
@@ -140,7 +147,58 @@ enter-requires-2-clause-judged c =
     let held = sums.packs.items in
     let h = c.index-held.result.now in
     let found = number_at sums.numbers.keys held c.in-Some.place c.args.pack h settled.numbered c.in-Some.ensures.index c.index-held.ensures in
-    subst (λ l. IsJudged l c.leave-2.new.self) (sym c.enter.ensures.limits) c.leave-2.ensures.judged
+    subst (λ l. IsJudged l c.leave-2.new.self) (sym c.enter.ensures.entered.limits) c.leave-2.ensures.judged
+
+pub leave-requires-3-clause-count : goal.leave-requires-3-clause-count
+leave-requires-3-clause-count c =
+    let sums = c.self.inside in
+    let settled = c.self.invariant.settled in
+    let bs = sums.batches.items in
+    let gs = sums.groups.items in
+    let held = sums.packs.items in
+    let h = c.index-held.result.now in
+    let found = number_at sums.numbers.keys held c.in-Some.place c.args.pack h settled.numbered c.in-Some.ensures.index c.index-held.ensures in
+    let gone = joins bs gs held settled.sound c.in-Some.place h c.index-held.ensures found.0 in
+    some_lying sums.piles held c.self.invariant.tallied (remove held c.in-Some.place) h gone
+
+pub leave-requires-3-clause-gross : goal.leave-requires-3-clause-gross
+leave-requires-3-clause-gross c =
+    let sums = c.self.inside in
+    let settled = c.self.invariant.settled in
+    let bs = sums.batches.items in
+    let gs = sums.groups.items in
+    let held = sums.packs.items in
+    let h = c.index-held.result.now in
+    let found = number_at sums.numbers.keys held c.in-Some.place c.args.pack h settled.numbered c.in-Some.ensures.index c.index-held.ensures in
+    let gone = joins bs gs held settled.sound c.in-Some.place h c.index-held.ensures found.0 in
+    heavy_lying sums.piles held c.self.invariant.tallied (remove held c.in-Some.place) h gone
+
+pub enter-requires-3-clause-count : goal.enter-requires-3-clause-count
+enter-requires-3-clause-count c =
+    let sums = c.self.inside in
+    let settled = c.self.invariant.settled in
+    let bs = sums.batches.items in
+    let gs = sums.groups.items in
+    let held = sums.packs.items in
+    let h = c.index-held.result.now in
+    let found = number_at sums.numbers.keys held c.in-Some.place c.args.pack h settled.numbered c.in-Some.ensures.index c.index-held.ensures in
+    let gone = joins bs gs held settled.sound c.in-Some.place h c.index-held.ensures found.0 in
+    let left = tallied_out sums.piles held c.self.invariant.tallied (remove held c.in-Some.place) h gone c.leave-3.new.self c.leave-3.ensures.count c.leave-3.ensures.gross in
+    omega (arith, few_lying c.leave-3.new.self (remove held c.in-Some.place) left c.args.to, length-remove held c.in-Some.place found.0, settled.sound.few)
+
+pub enter-requires-3-clause-gross : goal.enter-requires-3-clause-gross
+enter-requires-3-clause-gross c =
+    let sums = c.self.inside in
+    let settled = c.self.invariant.settled in
+    let bs = sums.batches.items in
+    let gs = sums.groups.items in
+    let held = sums.packs.items in
+    let h = c.index-held.result.now in
+    let found = number_at sums.numbers.keys held c.in-Some.place c.args.pack h settled.numbered c.in-Some.ensures.index c.index-held.ensures in
+    let gone = joins bs gs held settled.sound c.in-Some.place h c.index-held.ensures found.0 in
+    let left = tallied_out sums.piles held c.self.invariant.tallied (remove held c.in-Some.place) h gone c.leave-3.new.self c.leave-3.ensures.count c.leave-3.ensures.gross in
+    let light = All-remove (λ p. pos p.gross ≤ℤ MAX_GROSS) held c.in-Some.place settled.sound.light in
+    omega (arith, light_lying c.leave-3.new.self (remove held c.in-Some.place) left light (omega (arith, length-remove held c.in-Some.place found.0, settled.sound.few)) c.args.to)
 
 pub invariant_of-self : goal.invariant_of-self
 invariant_of-self c =
@@ -152,11 +210,17 @@ invariant_of-self c =
     let h = c.index-held.result.now in
     let found = number_at sums.numbers.keys held c.in-Some.place c.args.pack h settled.numbered c.in-Some.ensures.index c.index-held.ensures in
     let tare : c.leave-2.new.self.tare ≡ c.index_mut-group.result.now.tare = ap (λ (f : Face). f.tare) c.leave-2.ensures.face in
-    let enters = subst (λ t. IsEntered c.leave.new.self c.enter.new.self c.args.to h.gross t) tare c.enter.ensures in
-    let sound = sound_moved bs gs held settled.sound c.in-Some.place h c.index-held.ensures found.0 c.index_mut-group.result.now c.index_mut-group.ensures.value c.index_mut-batch.result.now c.index_mut-batch.ensures.value c.leave.new.self c.leave.ensures c.leave-2.new.self c.leave-2.ensures.grosses c.leave-2.ensures.face c.leave-2.ensures.judged c.args.to c.enter.new.self enters c.enter-2.new.self c.enter-2.ensures.grosses c.enter-2.ensures.face c.enter-2.ensures.judged in
-    let face = faces_moved bs gs held settled.sound c.in-Some.place h c.index-held.ensures found.0 c.index_mut-group.result.now c.index_mut-group.ensures.value c.index_mut-batch.result.now c.index_mut-batch.ensures.value c.leave.new.self c.leave.ensures c.leave-2.new.self c.leave-2.ensures.grosses c.leave-2.ensures.face c.leave-2.ensures.judged c.args.to c.enter.new.self enters c.enter-2.new.self c.enter-2.ensures.grosses c.enter-2.ensures.face c.enter-2.ensures.judged in
+    let enters = subst (λ t. IsEntered c.leave.new.self c.enter.new.self c.args.to h.gross t) tare c.enter.ensures.entered in
+    let sound = sound_moved bs gs held settled.sound c.in-Some.place h c.index-held.ensures found.0 c.index_mut-group.result.now c.index_mut-group.ensures.value c.index_mut-batch.result.now c.index_mut-batch.ensures.value c.leave.new.self c.leave.ensures.entered c.leave-2.new.self c.leave-2.ensures.grosses c.leave-2.ensures.face c.leave-2.ensures.judged c.args.to c.enter.new.self enters c.enter-2.new.self c.enter-2.ensures.grosses c.enter-2.ensures.face c.enter-2.ensures.judged in
+    let face = faces_moved bs gs held settled.sound c.in-Some.place h c.index-held.ensures found.0 c.index_mut-group.result.now c.index_mut-group.ensures.value c.index_mut-batch.result.now c.index_mut-batch.ensures.value c.leave.new.self c.leave.ensures.entered c.leave-2.new.self c.leave-2.ensures.grosses c.leave-2.ensures.face c.leave-2.ensures.judged c.args.to c.enter.new.self enters c.enter-2.new.self c.enter-2.ensures.grosses c.enter-2.ensures.face c.enter-2.ensures.judged in
+    let gone = joins bs gs held settled.sound c.in-Some.place h c.index-held.ensures found.0 in
+    let left = tallied_out sums.piles held c.self.invariant.tallied (remove held c.in-Some.place) h gone c.leave-3.new.self c.leave-3.ensures.count c.leave-3.ensures.gross in
+    let there = at_batch bs gs held settled.sound c.in-Some.place h c.index-held.ensures found.0 c.index_mut-group.result.now c.index_mut-group.ensures.value c.index_mut-batch.result.now c.index_mut-batch.ensures.value in
+    let reaches = map-set (λ (b : Batch). b.reach) bs c.index_mut-group.result.now.key.batch c.enter.new.self ∙ ap (λ n. set (reaches_of bs) c.index_mut-group.result.now.key.batch n) (c.enter.ensures.reach ∙ c.leave.ensures.reach)
+    ∙ set_same (reaches_of bs) c.index_mut-group.result.now.key.batch c.index_mut-batch.result.now.reach (slice_get-map (λ (b : Batch). b.reach) bs c.index_mut-group.result.now.key.batch ∙ rw there refl) in
     record {
-      settled = settled_moved held c.in-Some.place h c.args.to c.index-held.ensures found.0 bs _ gs _ sums.order sums.numbers.keys settled sound face (length-set gs h.group c.enter-2.new.self);
+      tallied = tallied_in c.leave-3.new.self (remove held c.in-Some.place) left (set held c.in-Some.place (Rattle.batch_sums.proofs.Moving.in_pile h c.args.to)) (Rattle.batch_sums.proofs.Moving.in_pile h c.args.to) (joins_set held c.in-Some.place h (Rattle.batch_sums.proofs.Moving.in_pile h c.args.to) found.0) c.enter-3.new.self c.enter-3.ensures.count c.enter-3.ensures.gross;
+      settled = settled_moved held c.in-Some.place h c.args.to c.index-held.ensures found.0 bs _ gs _ sums.order sums.numbers.keys settled reaches sound face (length-set gs h.group c.enter-2.new.self);
       room =
           let room = c.self.invariant.room in
           let ins = inside_moved held c.in-Some.place h c.args.to c.index-held.ensures found.0 in
@@ -184,8 +248,8 @@ returns-clause-packs c =
     let h = c.index-held.result.now in
     let found = number_at sums.numbers.keys held c.in-Some.place c.args.pack h settled.numbered c.in-Some.ensures.index c.index-held.ensures in
     let tare : c.leave-2.new.self.tare ≡ c.index_mut-group.result.now.tare = ap (λ (f : Face). f.tare) c.leave-2.ensures.face in
-    let enters = subst (λ t. IsEntered c.leave.new.self c.enter.new.self c.args.to h.gross t) tare c.enter.ensures in
-    let face = faces_moved bs gs held settled.sound c.in-Some.place h c.index-held.ensures found.0 c.index_mut-group.result.now c.index_mut-group.ensures.value c.index_mut-batch.result.now c.index_mut-batch.ensures.value c.leave.new.self c.leave.ensures c.leave-2.new.self c.leave-2.ensures.grosses c.leave-2.ensures.face c.leave-2.ensures.judged c.args.to c.enter.new.self enters c.enter-2.new.self c.enter-2.ensures.grosses c.enter-2.ensures.face c.enter-2.ensures.judged in
+    let enters = subst (λ t. IsEntered c.leave.new.self c.enter.new.self c.args.to h.gross t) tare c.enter.ensures.entered in
+    let face = faces_moved bs gs held settled.sound c.in-Some.place h c.index-held.ensures found.0 c.index_mut-group.result.now c.index_mut-group.ensures.value c.index_mut-batch.result.now c.index_mut-batch.ensures.value c.leave.new.self c.leave.ensures.entered c.leave-2.new.self c.leave-2.ensures.grosses c.leave-2.ensures.face c.leave-2.ensures.judged c.args.to c.enter.new.self enters c.enter-2.new.self c.enter-2.ensures.grosses c.enter-2.ensures.face c.enter-2.ensures.judged in
     rw (← c.self.view_is) (ap (λ fs. map (Rattle.batch_sums.specs.Kept.seen fs) (set held c.in-Some.place (Rattle.batch_sums.proofs.Moving.in_pile h c.args.to))) face
     ∙ moved_is (faces gs) c.args.pack c.args.to held c.in-Some.place h (settled.apart c.args.pack) found.0 c.index-held.ensures found.1)
 
@@ -199,6 +263,6 @@ returns-clause-batches c =
     let h = c.index-held.result.now in
     let found = number_at sums.numbers.keys held c.in-Some.place c.args.pack h settled.numbered c.in-Some.ensures.index c.index-held.ensures in
     let there = at_batch bs gs held settled.sound c.in-Some.place h c.index-held.ensures found.0 c.index_mut-group.result.now c.index_mut-group.ensures.value c.index_mut-batch.result.now c.index_mut-batch.ensures.value in
-    let terms : terms_of c.enter.new.self ≡ terms_of c.index_mut-batch.result.now = λ i. record { product = (c.enter.ensures.product ∙ sym c.leave.ensures.product) i; limits = (c.enter.ensures.limits ∙ sym c.leave.ensures.limits) i } in
+    let terms : terms_of c.enter.new.self ≡ terms_of c.index_mut-batch.result.now = λ i. record { product = (c.enter.ensures.entered.product ∙ sym c.leave.ensures.entered.product) i; limits = (c.enter.ensures.entered.limits ∙ sym c.leave.ensures.entered.limits) i } in
     rw (← c.self.view_is) (map-set terms_of bs c.index_mut-group.result.now.key.batch c.enter.new.self ∙ ap (λ t. set (map terms_of bs) c.index_mut-group.result.now.key.batch t) terms
     ∙ set_same (map terms_of bs) c.index_mut-group.result.now.key.batch (terms_of c.index_mut-batch.result.now) (slice_get-map terms_of bs c.index_mut-group.result.now.key.batch ∙ rw there refl))
