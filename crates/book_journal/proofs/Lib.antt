@@ -1,8 +1,10 @@
-pub mod Appends
+pub mod Calls
 pub mod Gates
 pub mod Journals
 pub mod Moments
 pub mod OpenRows
-pub mod Opens
+pub mod Overwritten
 pub mod Pieces
 pub mod Results
+pub mod Signs
+pub mod Standing
