@@ -7,14 +7,15 @@ use Rattle.book_snapshot.specs.declared.layout.TheConstants.{ROW_BYTES, OPEN}
 use Rattle.book_snapshot.specs.DenseRows.{IsRow}
 use Rattle.book_journal.specs.declared.layout.TheConstants.{MARK, CLOSED}
 use Rattle.book_journal.specs.declared.journal.Journal.{Journal}
-use Rattle.book_journal.specs.Rows.{Recovers, rows_of, gate_behind, row_behind, mark_of}
+use Rattle.book_journal.specs.Rows.{Recovers, SnapshotAgrees, rows_of, gate_behind, row_behind, mark_of}
 use Rattle.book_journal.specs.Journal.{StandsAs, HasRows, HangsWith, RecoversOrHangs}
 use Rattle.book_journal.specs.Settles.{Settles}
 use Rattle.book_journal.specs.Appending.{cleared, closed_gate, KeepsRows, AppendsRow, PutsRow}
+use Rattle.book_journal.specs.Laying.{WritesBehind}
 use Rattle.book_journal.specs.Marking.{AreMarked}
 use Rattle.book_journal.proofs.Journals.{true_or_false, stands_at, image_keeps, none_hangs}
 use Rattle.book_journal.proofs.Standing.{first_stands, first_rows, first_moments, staged_stands, staged_row, gate_stands, gate_rows, gate_row, gate_moments, closed_gate_stands, open_gate_rows, open_gate_stands}
-use Rattle.book_journal.proofs.Signs.{sign_stands, sign_rows, sign_moments, sign_is, unmarked_stands}
+use Rattle.book_journal.proofs.Signs.{sign_stands, sign_rows, sign_moments, sign_is, unmarked_stands, laid_stands, laid_rows, laid_moments, markable_stands}
 use Rattle.book_journal.proofs.Overwritten.{overwritten_again, overwritten_apart, overwritten_size}
 use Rattle.book_journal.proofs.Moments.{started, leaves_in, leaves_on}
 use Rattle.book_journal.proofs.Results.{ok_in}
@@ -185,3 +186,48 @@ row_over_gate true true b row gate beyond within =
     let size = overwritten_size b MARK (CLOSED ∷ []) (omega (arith, beyond, within)) in
     ap (λ (l : List ℕ). overwritten l gate (row ++ CLOSED ∷ [])) (sym (overwritten_apart b MARK gate (CLOSED ∷ []) (CLOSED ∷ []) (omega (arith, beyond)) within))
     ∙ overwritten_again low gate gate (CLOSED ∷ []) (row ++ CLOSED ∷ []) (omega arith) (omega (arith, length-append row (CLOSED ∷ []))) (omega (arith, size, within))
+
+-- writes behind the closed gate leave the rows
+module _ {D : Type 0} (g : disk.Ghosts D) (reads_image : (d : D) (bytes : List ℕ) → g.reads d ≡ Some bytes → g.image d bytes) (only_now : (d : D) (c : List ℕ) → g.since d (g.time d) c → g.image d c) (journal : Journal D) (rows : List (List ℕ)) (has : HasRows g journal rows) (calm : journal.hanging ≡ false) (quiet : journal.marked ≡ false) {T E : Type 0} (bytes : List ℕ) (result : Result T E) (new : D) (w : WritesBehind g (gate_behind journal.count + 1) bytes result has.bytes journal.disk new) where
+  flat : StandsAs journal.count false false has.bytes (g.image journal.disk)
+  flat = stands_at journal.count journal.count journal.hanging false journal.marked false has.bytes (g.image journal.disk) refl calm quiet has.stands
+
+  pub laid_has : HasRows g (record journal { disk = new }) rows
+  laid_has = record {
+    bytes = w.now;
+    told = w.told;
+    are = laid_rows g reads_image only_now journal.count journal.disk has.bytes has.told flat bytes result new w ∙ has.are;
+    stands = stands_at journal.count journal.count false journal.hanging false journal.marked w.now (g.image new) refl (sym calm) (sym quiet)
+        (laid_stands g reads_image only_now journal.count journal.disk has.bytes has.told flat bytes result new w);
+  }
+
+  pub laid_leaves : LeavesOnly g journal.disk new (λ c. Recovers c rows)
+  laid_leaves = leaves_in g journal.disk new _ (λ c. Recovers c rows) (laid_moments g reads_image only_now journal.count journal.disk has.bytes has.told flat bytes result new w) (λ c is. subst (λ (rs : List (List ℕ)). Recovers c rs) has.are is)
+
+-- a call that only read or synced leaves the rows
+pub synced_has : {D : Type 0} (g : disk.Ghosts D) (journal : Journal D) (disk : D) (rows : List (List ℕ)) → g.reads disk ≡ g.reads journal.disk → ((c : List ℕ) → g.image disk c → g.image journal.disk c) → HasRows g journal rows → HasRows g (record journal { disk = disk }) rows
+synced_has g journal disk rows same fewer has = record {
+  bytes = has.bytes;
+  told = same ∙ has.told;
+  are = has.are;
+  stands = record {
+      header = has.stands.header;
+      rows = has.stands.rows;
+      numbered = has.stands.numbered;
+      ends = λ c is. has.stands.ends c (fewer c is);
+      marks = λ c is. has.stands.marks c (fewer c is);
+      hung = has.stands.hung;
+    };
+}
+
+-- once a snapshot of the rows is laid and stable the mark may be set
+pub markable : {D : Type 0} (g : disk.Ghosts D) (journal : Journal D) (rows : List (List ℕ)) (has : HasRows g journal rows) → journal.hanging ≡ false → journal.marked ≡ false → Only has.bytes (g.image journal.disk) → SnapshotAgrees rows has.bytes → HasRows g (record journal { marked = true }) rows
+markable g journal rows has calm quiet only agrees =
+    let flat = stands_at journal.count journal.count journal.hanging false journal.marked false has.bytes (g.image journal.disk) refl calm quiet has.stands in
+    record {
+      bytes = has.bytes;
+      told = has.told;
+      are = has.are;
+      stands = stands_at journal.count journal.count false journal.hanging true true has.bytes (g.image journal.disk) refl (sym calm) refl
+          (markable_stands journal.count has.bytes (g.image journal.disk) flat only (subst (λ (rs : List (List ℕ)). SnapshotAgrees rs has.bytes) (sym has.are) agrees));
+    }

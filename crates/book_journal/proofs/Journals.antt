@@ -42,6 +42,9 @@ told_as told now P is holds other at_other =
 pub tells_on : (old mid new : Option (List ℕ)) → TellsAsBefore old mid → TellsAsBefore mid new → TellsAsBefore old new
 tells_on old mid new first second = second ∙ first
 
+pub tells_by : (old mid new : Option (List ℕ)) → TellsAsBefore old mid → new ≡ mid → TellsAsBefore old new
+tells_by old mid new first same = ap (λ (o : Option (List ℕ)). is_some o) same ∙ first
+
 pub told_after : (old new : Option (List ℕ)) (b : List ℕ) → TellsAsBefore old new → old ≡ Some b → (now : List ℕ) × (new ≡ Some now)
 told_after old new b tells told = told_before new old b (sym tells) told
 

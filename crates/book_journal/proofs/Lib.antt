@@ -1,3 +1,4 @@
+pub mod BehindGate
 pub mod Calls
 pub mod Gates
 pub mod Journals

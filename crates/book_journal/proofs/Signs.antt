@@ -16,7 +16,7 @@ use Rattle.book_journal.specs.Settles.{TornFrom, Settles}
 use Rattle.book_journal.specs.Laying.{KeptBefore, WritesBehind}
 use Rattle.book_journal.specs.Marking.{behind_closed_gate, with_snapshot}
 use Rattle.book_journal.proofs.Gates.{header_same, rows_kept, recovers_closed, torn_mark, mark_agrees, no_mark}
-use Rattle.book_journal.proofs.Overwritten.{written_at, kept_above}
+use Rattle.book_journal.proofs.Overwritten.{written_at, kept_above, overwritten_end}
 use Rattle.book_journal.proofs.Standing.{closed_stands}
 use Rattle.book_journal.proofs.Moments.{started, goes_on}
 
@@ -167,6 +167,12 @@ module _ (count : ℕ) (bytes b : List ℕ) (size_is : IsSnapshotSize count (len
       let second = length-append (end_block HEAD count (length bytes) ++ content_blocks (blocks_for (length bytes)) bytes) (end_block TAIL count (length bytes)) in
       let third = length-append (end_block HEAD count (length bytes)) (content_blocks (blocks_for (length bytes)) bytes) in
       omega (arith, ap length parts, first, second, third, front_size, blocks_size, length-end_block HEAD count (length bytes), length-end_block TAIL count (length bytes))
+
+  -- laid over everything behind the gate
+  pub laid_all : length b ≤ snapshot_end count (length bytes) → overwritten b (gate_behind count + 1) (behind_closed_gate count bytes) ≡ with_snapshot count bytes b
+  laid_all short =
+      let all = length-append (take (gate_behind count + 1) b) (behind_closed_gate count bytes) in
+      overwritten_end b (gate_behind count + 1) (behind_closed_gate count bytes) (omega (arith, all, laid_size, short, long, length-take-le (gate_behind count + 1) b (omega (arith, long))))
 
   from_place : drop (snapshot_place count) (with_snapshot count bytes b) ≡ end_block HEAD count (length bytes) ++ (content_blocks (blocks_for (length bytes)) bytes ++ end_block TAIL count (length bytes))
   from_place =

@@ -1,5 +1,5 @@
 -- Writes from a place on, behind everything that is to stay.
-use Rattle.std.specs.Prelude.{◌≡◌, ℕ, ◌+◌, ◌<◌, ◌≤◌, List, length, slice_index, Option, Some, Result, OnOk}
+use Rattle.std.specs.Prelude.{◌≡◌, ℕ, ◌+◌, ◌<◌, ◌≤◌, List, length, slice_index, Option, Some, Result, Ok, OnOk}
 use Rattle.disk_core.specs.Disk.{overwritten, Elapses}
 use Rattle.disk_core.specs.declared.disk.Disk as disk
 
@@ -15,6 +15,12 @@ pub record WritesBehind {D T E : Type 0} (disk : disk.Ghosts D) (place : ℕ) (b
   pub now : List ℕ
   pub told : disk.reads new ≡ Some now
   pub done : OnOk result (now ≡ overwritten there place bytes)
+  pub longer : length there ≤ length now
+  pub same : (k : ℕ) → k < place → k < length there → slice_index now k ≡ slice_index there k
   pub images : (c : List ℕ) → disk.image new c → KeptBefore (disk.image old) place c
   pub moments : Elapses (disk.time old) (disk.time new) (disk.since old) (disk.since new)
       (KeptBefore (disk.image old) place)
+
+-- that all of some writes are done
+abbrev pub all_done : Result (Unit {0}) (Unit {0})
+all_done = Ok tt

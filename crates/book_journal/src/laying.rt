@@ -1,9 +1,9 @@
-ghost use Rattle.std.specs.Prelude.{◌≡◌, ◌+◌, ◌*◌, ◌<◌, ◌≤◌, ℕ, length};
+ghost use Rattle.std.specs.Prelude.{◌≡◌, ◌+◌, ◌-◌, ◌*◌, ◌<◌, ◌≤◌, ◌++◌, ℕ, length, replicate};
 ghost use Rattle.device_facts.specs.Count.{CountsFault};
 ghost use Rattle.device_facts.specs.Known.{TellsAsBefore};
 ghost use Rattle.disk_core.specs.Disk.{WhereTold};
 ghost use Rattle.book_snapshot.specs.Layout.{blocks_for};
-ghost use Rattle.book_snapshot.specs.Blocks.{content_blocks, IsSnapshotSize};
+ghost use Rattle.book_snapshot.specs.Blocks.{end_block, content_blocks, IsSnapshotSize};
 ghost use Rattle.book_journal.specs.Rows.{gate_behind};
 ghost use Rattle.book_journal.specs.Marking.{behind_closed_gate};
 ghost use Rattle.book_journal.specs.Laying.{WritesBehind};
@@ -11,7 +11,7 @@ ghost use Rattle.book_journal.specs.Laying.{WritesBehind};
 use crate::blocks::{BLOCKS_BYTES, BLOCKS_CONTENT};
 use crate::layout::gate_behind;
 use book_snapshot::{
-    Kept, MAX_CONTENT, ROW_BYTES, blocks_for, head_block, put_blocks, snapshot_place, tail_block,
+    HEAD, Kept, MAX_CONTENT, ROW_BYTES, blocks_for, head_block, put_blocks, snapshot_place, tail_block,
 };
 use disk_core::{Disk, Failed};
 use hall_limits::MAX_ROWS;
@@ -37,9 +37,7 @@ pub(crate) fn write_snapshot<D: Disk>(
     ensures cause { CountsFault (D.faults disk.old) (D.faults disk.new) result }
     ensures asked { D.asked disk.new ≡ D.asked disk.old }
 {
-    let mut front = [0; FRONT];
-    front[ROW_BYTES - 1..].copy_from_slice(&head_block(kept));
-    disk.write_at(gate_behind(kept.rows) + 1, &front)?;
+    disk.write_at(gate_behind(kept.rows) + 1, &front_of(kept))?;
     let place = snapshot_place(kept.rows) + ROW_BYTES as u64;
     write_content(disk, place, content)?;
     disk.write_at(
@@ -47,6 +45,15 @@ pub(crate) fn write_snapshot<D: Disk>(
         &tail_block(kept),
     )?;
     Ok(())
+}
+
+// Zeros to the end of a slot, and the head block.
+fn front_of(kept: Kept) -> [u8; FRONT]
+    ensures { result ≡ replicate (ROW_BYTES - 1) 0 ++ end_block HEAD kept.rows kept.bytes }
+{
+    let mut front = [0; FRONT];
+    front[ROW_BYTES - 1..].copy_from_slice(&head_block(kept));
+    front
 }
 
 // Writes content in blocks from a place on, piece by piece.
@@ -66,8 +73,9 @@ fn write_content<D: Disk>(disk: &mut D, place: u64, content: &[u8]) -> Result<()
         let start = BLOCKS_CONTENT * piece;
         let end = (start + BLOCKS_CONTENT).min(content.len());
         let size = ROW_BYTES * blocks_for((end - start) as u64) as usize;
-        put_blocks(&content[start..end], &mut blocks[..size]);
-        disk.write_at(place + (BLOCKS_BYTES * piece) as u64, &blocks[..size])?;
+        let part = &mut blocks[..size];
+        put_blocks(&content[start..end], part);
+        disk.write_at(place + (BLOCKS_BYTES * piece) as u64, part)?;
     }
     Ok(())
 }
