@@ -60,6 +60,13 @@ pub not_false : (b : Bool) → not b ≡ false → b ≡ true
 not_false true is = refl
 not_false false is = absurd cc
 
+pub not_hangs : (b : Bool) → (IsTrue b → ⊥) → b ≡ false
+not_hangs true calm = absurd (calm (yes_is_true))
+  where
+    yes_is_true : IsTrue true
+    yes_is_true = refl
+not_hangs false calm = refl
+
 -- a row is its gate and the rest
 pub row_is : (row : List ℕ) → length row ≡ ROW_BYTES → get_or row 0 0 ≡ OPEN → OPEN ∷ drop 1 row ≡ row
 row_is row long gate =

@@ -1,6 +1,7 @@
 -- The mark of a journal, and a snapshot behind its closed gate.
 use Rattle.std.proofs.Common.{◌≡◌, ◌≢◌, ◌⊎◌, inl, inr, ⊎_elim, ℕ, ◌+◌, ◌-◌, ◌*◌, ◌<◌, ◌≤◌, Bool, true, false, Option, Some, Result, List, [], ◌∷◌, ◌++◌, length, get_or, take, drop, replicate, refl, sym, ◌∙◌, ap, subst, arith, length-append, length-drop, length-take, append_assoc}
 use Rattle.std.proofs.lemmas.List.{take_at, drop_at, drop-append-le, length-take-le, length-replicate, same_lists, drop-drop, get_or-drop, get_or-take, get_or_default, get_or_append_left, take_all}
+use Rattle.std.proofs.lemmas.Bool.{cases_lt}
 use Rattle.disk_core.specs.Disk.{overwritten, Only, Torn}
 use Rattle.disk_core.specs.Devices.{LeavesOnly}
 use Rattle.disk_core.specs.declared.disk.Disk as disk
@@ -14,9 +15,9 @@ use Rattle.book_journal.specs.Rows.{HasHeader, Recovers, SnapshotAgrees, FitsSna
 use Rattle.book_journal.specs.Journal.{IsClosedAs, MarkedAs, StandsAs}
 use Rattle.book_journal.specs.Settles.{TornFrom, Settles}
 use Rattle.book_journal.specs.Laying.{KeptBefore, WritesBehind}
-use Rattle.book_journal.specs.Marking.{behind_closed_gate, with_snapshot}
+use Rattle.book_journal.specs.Marking.{behind_closed_gate, with_snapshot, HoldsSnapshot}
 use Rattle.book_journal.proofs.Gates.{header_same, rows_kept, recovers_closed, torn_mark, mark_agrees, no_mark}
-use Rattle.book_journal.proofs.Overwritten.{written_at, kept_above, overwritten_end}
+use Rattle.book_journal.proofs.Overwritten.{written_at, kept_below, kept_above, overwritten_end, overwritten_size}
 use Rattle.book_journal.proofs.Standing.{closed_stands}
 use Rattle.book_journal.proofs.Moments.{started, goes_on}
 
@@ -227,3 +228,24 @@ pub gate_row_kept : (count : ℕ) (b now : List ℕ) → gate_behind count < len
 gate_row_kept count b now long torn =
     let size : length now ≡ length b = omega (arith, long, torn.no_shorter, torn.no_longer) in
     ap (λ (l : List ℕ). OPEN ∷ take (ROW_BYTES - 1) l) (sym (drop_same now b (gate_behind count + 1) size (λ k from lt. torn.outside k lt (inr (omega (arith, from))))))
+
+-- once the mark is set the snapshot fits, and holds its content
+pub laid_holds : (count : ℕ) (bytes b : List ℕ) → IsSnapshotSize count (length bytes) → HasHeader b → gate_behind count < length b → HoldsSnapshot count bytes (overwritten (with_snapshot count bytes b) MARK (MARKED ∷ []))
+laid_holds count bytes b size header long =
+    let laid = with_snapshot count bytes b in
+    let all = laid_size count bytes b size long in
+    let within : MARK ≤ length laid = omega (arith, all) in
+    let same_size : length (overwritten laid MARK (MARKED ∷ [])) ≡ length laid = omega (arith, overwritten_size laid MARK (MARKED ∷ []) within, all) in
+    let same : (n : ℕ) → ROW_BYTES ≤ n → drop n laid ≡ drop n (overwritten laid MARK (MARKED ∷ [])) = λ n beyond.
+      sym (drop_same (overwritten laid MARK (MARKED ∷ [])) laid n same_size (λ k from lt. kept_above laid MARK (MARKED ∷ []) k within (omega (arith, beyond, from)))) in
+    let front : (k : ℕ) → k < ROW_BYTES → get_or laid k 0 ≡ get_or b k 0 = λ k lt.
+      get_or_append_left (take (gate_behind count + 1) b) (behind_closed_gate count bytes) 0 k (omega (arith, lt, length-take-le (gate_behind count + 1) b (omega (arith, long)))) ∙ get_or-take (gate_behind count + 1) b k 0 (omega (arith, lt)) in
+    (record {
+       header = record {
+         long = omega (arith, same_size, all);
+         same = λ k lt other. ⊎_elim (λ below. kept_below laid MARK (MARKED ∷ []) k within below) (λ above. kept_above laid MARK (MARKED ∷ []) k within (omega (arith, above, other))) (cases_lt k MARK) ∙ front k lt ∙ header.same k lt other;
+       };
+       marked = written_at laid MARK (MARKED ∷ []) 0 MARK within (omega arith) (omega arith);
+       ends = ends_same count (length bytes) laid (overwritten laid MARK (MARKED ∷ [])) (sym same_size) same (laid_ends count bytes b size long);
+     },
+     sym (content_same count (length bytes) laid (overwritten laid MARK (MARKED ∷ [])) same) ∙ laid_content count bytes b size long)
