@@ -1,9 +1,12 @@
 pub mod BehindGate
 pub mod Calls
+pub mod Contents
+pub mod Ending
 pub mod Gates
 pub mod Journals
 pub mod Moments
 pub mod OpenRows
+pub mod OpenEnds
 pub mod Overwritten
 pub mod Pieces
 pub mod Results

@@ -42,8 +42,9 @@ impl<D: Disk> Journal<D> {
         let size = ROW_BYTES * blocks_for(count as u64) as usize;
         let place = snapshot_place(kept.rows) + ROW_BYTES as u64 + BLOCKS_BYTES as u64 * from;
         let mut blocks = [0; BLOCKS_BYTES];
-        self.disk.read_at(place, &mut blocks[..size])?;
-        content_of_blocks(&blocks[..size], &mut into[..count]);
+        let part = &mut blocks[..size];
+        self.disk.read_at(place, part)?;
+        content_of_blocks(part, &mut into[..count]);
         Ok(count)
     }
 }
