@@ -169,3 +169,17 @@ cut_unless count b shut other = elim (cases_lt (length b) (gate_behind count + R
 -- what a closed gate is
 pub closed_is : (gate : ℕ) (b : List ℕ) → stands_closed gate b ≡ true → (gate < length b) × (get_or b gate 0 ≢ OPEN)
 closed_is gate b is = (grind (arith, nat_tests, is), λ opened. absurd (true_false (sym is ∙ grind (arith, nat_tests, opened))))
+
+-- the first slot that is counted is there
+pub first_within : (b : List ℕ) (kept : Option Kept) → HasHeader b → IsSnapshotOf b kept → gate_behind (rows_before kept) ≤ length b
+first_within b None header of = let long = header.long in omega (arith, long)
+first_within b (Some kept) header of = omega (arith, of.ends.long)
+
+-- and so are those that are open behind it
+pub counted_within : (first count : ℕ) (b : List ℕ) → first ≤ count → gate_behind first ≤ length b → length (open_rows (count - first) (drop (gate_behind first) b)) ≡ count - first → gate_behind count ≤ length b
+counted_within first count b from within all = omega (arith, rows_fit (count - first) (drop (gate_behind first) b) all, length-drop (gate_behind first) b, from, within)
+
+-- a journal's rows are those that are counted
+pub rows_are_counted : (b : List ℕ) (rows : List (List ℕ)) (kept : Option Kept) (count : ℕ) → IsJournalOf rows b → IsSnapshotOf b kept → length rows ≤ MAX_ROWS → count ≡ rows_before kept + slots_behind (rows_before kept) b → length rows ≡ count
+rows_are_counted b rows kept count is of few slots =
+    omega (arith, journal_slots b rows is (rows_before kept) (snapshot_within b rows kept is of) few, slots)
