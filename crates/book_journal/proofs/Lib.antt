@@ -2,6 +2,7 @@ pub mod BehindGate
 pub mod Calls
 pub mod Contents
 pub mod Ending
+pub mod Fronts
 pub mod Gates
 pub mod Journals
 pub mod Moments

@@ -15,7 +15,7 @@ use Rattle.book_journal.specs.declared.types.JournalFault.TheVariants.{Failed, N
 
 -- a journal without rows: the header, and a closed gate
 abbrev pub new_journal : List ℕ
-new_journal = title ++ replicate (NEW_BYTES - 8) 0
+new_journal = title ++ replicate (NEW_BYTES - length title) 0
 
 -- no snapshot fits these bytes
 abbrev pub NoneFits : List ℕ → Type 0
