@@ -10,14 +10,15 @@ use Rattle.book_snapshot.specs.declared.types.Kept.{Kept}
 use Rattle.book_snapshot.specs.declared.layout.TheConstants.{ROW_BYTES, OPEN}
 use Rattle.book_snapshot.specs.DenseRows.{AreRows}
 use Rattle.book_snapshot.specs.Blocks.{EndsWithSnapshot}
-use Rattle.book_journal.specs.declared.layout.TheConstants.{MARK, CLOSED, NEW_BYTES}
+use Rattle.book_journal.specs.declared.layout.TheConstants.{MARK, CLOSED, NEW_BYTES, MAX_SLOTS}
 use Rattle.book_journal.specs.Rows.{HasHeader, FirstDiffersAt, Recovers, IsJournalOf, SnapshotAgrees, starts_open, open_rows, rows_of, gate_behind, mark_of, title}
 use Rattle.book_journal.specs.Journal.{HasGate, StandsAs, IsClosedAs, MarkedAs, HasRows}
 use Rattle.book_journal.specs.Mounting.{new_journal, IsSnapshotOf, rows_before, slots_behind, stands_closed, closed_behind, FindsJournal, MakesJournal, IsMounted}
 use Rattle.book_journal.specs.declared.journal.Journal.{Journal}
-use Rattle.book_journal.proofs.OpenRows.{open_rows-none, open_rows-shut, shut_by_cut, padded}
-use Rattle.book_journal.proofs.OpenEnds.{journal_of, journal_rows, journal_fits, journal_ends, rows_are_counted, snapshot_within, short_none, no_snapshot_cut, cut_unless, closed_is}
+use Rattle.book_journal.proofs.OpenRows.{rows_fit, open_rows-none, open_rows-shut, shut_by_cut, padded}
+use Rattle.book_journal.proofs.OpenEnds.{rows_counted, first_within, journal_of, journal_rows, journal_fits, journal_ends, rows_are_counted, snapshot_within, short_none, no_snapshot_cut, cut_unless, closed_is}
 use Rattle.book_journal.proofs.Ending.{closed_written}
+use Rattle.book_journal.proofs.Journals.{stands_at}
 use Rattle.book_journal.proofs.Gates.{header_same, rows_kept}
 use Rattle.book_journal.proofs.Standing.{closed_stands}
 use Rattle.book_journal.proofs.Overwritten.{written_at, kept_below, overwritten_size}
@@ -117,3 +118,62 @@ module _ (count : ℕ) (b : List ℕ) (header : HasHeader b) (within : gate_behi
       at : (mark_of b ≡ 0) ⊎ (mark_of b ≢ 0) → MarkedAs (not (mark_of b == 0)) rows (length (closed_behind count b)) (closed_behind count b)
       at (inl none) = unmarked_by (not (mark_of b == 0)) (is_zero (mark_of b) none) (same_mark ∙ none)
       at (inr set) = marked_by (not (mark_of b == 0)) (not_zero (mark_of b) set) (refl, still_agrees (agrees set))
+
+-- the slots that were counted are there
+pub slots_within : (b : List ℕ) (kept : Option Kept) (count : ℕ) → HasHeader b → IsSnapshotOf b kept → count ≡ rows_before kept + slots_behind (rows_before kept) b → gate_behind count ≤ length b
+slots_within b kept count header of slots =
+    let first = rows_before kept in
+    let there = drop (gate_behind first) b in
+    let all = ap length (rows_counted (MAX_SLOTS - first) there) in
+    omega (arith, slots, first_within b kept header of, rows_fit (slots_behind first b) there all, length-drop (gate_behind first) b)
+
+module _ {D : Type 0} (g : disk.Ghosts D) (reads_image : (d : D) (bytes : List ℕ) → g.reads d ≡ Some bytes → g.image d bytes) (b : List ℕ) (kept : Option Kept) (count : ℕ) (marked : Bool) (new : D) where
+  -- a disk that recovers rows is mounted as a journal that has them
+  pub mounted_rows : IsMounted g b kept count marked new → (rows : List (List ℕ)) → Recovers b rows → length rows ≤ MAX_ROWS → HasRows g (record { disk = new; count = count; hanging = false; marked = marked; kept = kept }) rows
+  mounted_rows (inl finds) rows recovers few =
+      let is = journal_of b rows finds.header recovers in
+      let counts = rows_are_counted b rows kept count is finds.snapshot few finds.slots in
+      let small : count ≤ MAX_ROWS = omega (arith, counts, few) in
+      let within : gate_behind count ≤ length b = subst (λ (n : ℕ). gate_behind n ≤ length b) counts (journal_fits b rows is) in
+      let shut : starts_open (drop (gate_behind count) b) ≡ false = subst (λ (n : ℕ). starts_open (drop (gate_behind n) b) ≡ false) counts (journal_ends b rows is) in
+      let are : rows_of count b ≡ rows = subst (λ (n : ℕ). rows_of n b ≡ rows) counts (journal_rows b rows is) in
+      let all : length (rows_of count b) ≡ count = ap length are ∙ counts in
+      let now = closed_behind count b in
+      let closed = closed_behind_as count b finds.header within small in
+      let long = closed.long in
+      let same = rows_kept count b now (omega (arith, long)) closed.same all in
+      let numbered = subst (λ (rs : List (List ℕ)). AreRows ROW_BYTES 1 rs) (sym are) is.numbered in
+      let agrees : mark_of b ≢ 0 → SnapshotAgrees (rows_of count b) b = λ set. subst (λ (rs : List (List ℕ)). SnapshotAgrees rs b) (sym are) (is.snapshot set) in
+      let marks = closed_marks count b finds.header within small (rows_of count b) refl all shut agrees in
+      record {
+        bytes = now;
+        told = finds.reads;
+        are = same ∙ are;
+        stands = closed_stands count marked b now (g.image new) finds.header all numbered (reads_image new now finds.reads)
+            (λ c at_c. subst (λ (l : List ℕ). IsClosedAs count b l) (sym (finds.only c at_c)) closed)
+            (λ c at_c. subst (λ (m : Bool). MarkedAs m (rows_of count b) (length now) c) (sym finds.mark) (subst (λ (l : List ℕ). MarkedAs (not (mark_of b == 0)) (rows_of count b) (length now) l) (sym (finds.only c at_c)) marks));
+      }
+  mounted_rows (inr makes) rows recovers few =
+      let none = short_none b rows makes.short recovers in
+      let closed : IsClosedAs 0 new_journal new_journal = record { long = omega arith; same = λ k lt other. refl; gate = λ opened. zero_one (get_or new_journal (gate_behind 0) 0) refl opened } in
+      let empty : rows_of 0 new_journal ≡ [] = open_rows-none (drop ROW_BYTES new_journal) in
+      let stands : StandsAs 0 false false new_journal (g.image new) =
+        closed_stands 0 false new_journal new_journal (g.image new) new_header (ap length empty) (subst (λ (rs : List (List ℕ)). AreRows ROW_BYTES 1 rs) (sym empty) tt) (reads_image new new_journal makes.reads)
+        (λ c at_c. subst (λ (l : List ℕ). IsClosedAs 0 new_journal l) (sym (makes.only c at_c)) closed)
+        (λ c at_c. ap (λ (l : List ℕ). mark_of l) (makes.only c at_c)) in
+      record {
+        bytes = new_journal;
+        told = makes.reads;
+        are = ap (λ (n : ℕ). rows_of n new_journal) makes.slots ∙ empty ∙ sym none;
+        stands = stands_at 0 count false false false marked new_journal (g.image new) (sym makes.slots) refl (sym makes.mark) stands;
+      }
+    where
+      zero_one : (n : ℕ) → n ≡ CLOSED → n ≡ OPEN → ⊥
+      zero_one n closed opened = absurd (omega (arith, closed, opened))
+
+  -- and on any disk the gate behind them is there
+  pub mounted_gate : IsMounted g b kept count marked new → count ≤ MAX_ROWS → (now : List ℕ) × (g.reads new ≡ Some now) × HasGate count now
+  mounted_gate (inl finds) few =
+      (closed_behind count b, finds.reads, closed_gate_behind count b finds.header (slots_within b kept count finds.header finds.snapshot finds.slots) few)
+  mounted_gate (inr makes) few =
+      (new_journal, makes.reads, subst (λ (n : ℕ). HasGate n new_journal) (sym makes.slots) record { header = new_header; long = omega arith })

@@ -46,7 +46,8 @@ closed_behind count bytes =
     else overwritten bytes (gate_behind count) (CLOSED ∷ [])
 
 -- A disk with the header: the snapshot that fits it, how many rows it has, whether its mark is set;
--- the gate behind the rows is closed, and a crash leaves what is read.
+-- the gate behind the rows is closed, and a crash leaves what is read. Where a snapshot fits nothing
+-- is written.
 pub record FindsJournal {D : Type 0} (disk : disk.Ghosts D) (bytes : List ℕ)
     (kept : Option Kept) (count : ℕ) (marked : Bool) (new : D) : Type 0 where
   pub header : HasHeader bytes
@@ -55,6 +56,7 @@ pub record FindsJournal {D : Type 0} (disk : disk.Ghosts D) (bytes : List ℕ)
   pub mark : marked ≡ not (mark_of bytes == 0)
   pub reads : disk.reads new ≡ Some (closed_behind count bytes)
   pub only : Only (closed_behind count bytes) (disk.image new)
+  pub still : (found : Kept) → kept ≡ Some found → closed_behind count bytes ≡ bytes
 
 -- A disk without it that is too short for a row: a new journal, and a crash leaves that.
 pub record MakesJournal {D : Type 0} (disk : disk.Ghosts D) (bytes : List ℕ)

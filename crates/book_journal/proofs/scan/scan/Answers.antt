@@ -4,7 +4,7 @@ use Rattle.disk_core.specs.Disk.{Only}
 use Rattle.book_journal.specs.Rows.{Recovers, open_rows, starts_open, gate_behind, mark_of}
 use Rattle.book_journal.specs.Mounting.{rows_before, slots_behind}
 use Rattle.book_journal.specs.Closing.{EndsAt, IsFull}
-use Rattle.book_journal.proofs.Ending.{still_recovers}
+use Rattle.book_journal.proofs.Ending.{still_recovers, still_behind}
 use Rattle.book_journal.proofs.OpenEnds.{journal_of, first_within, counted_within, slots_counted, rows_are_counted}
 use Rattle.book_journal.proofs.Moments.{leaves_on, unmoved_leaves, unmoved_on}
 use Rattle.book_journal.proofs.scan.scan.Goals as goal
@@ -65,13 +65,15 @@ returns-clause-finds g c b told only =
     let first = c.rows_before-first.ensures in
     let all = all_from c.rows_before-first.result (rows_before kept) count b first (c.in_ok-count.ensures.all b told_first front.size_is) in
     let closed = c.in_ok-close_behind.ensures.reads b (u.reads ∙ told) (λ f is. only f (u.images f is)) in
+    let slots = slots_counted (rows_before kept) count b (omega (arith, c.in_ok-count.ensures.least, first)) c.in_ok-count.ensures.most all (c.in_ok-count.ensures.end b told_first front.size_is) in
     record {
       header = front.header;
       snapshot = of;
-      slots = slots_counted (rows_before kept) count b (omega (arith, c.in_ok-count.ensures.least, first)) c.in_ok-count.ensures.most all (c.in_ok-count.ensures.end b told_first front.size_is);
+      slots = slots;
       mark = ap (λ (n : ℕ). not (n == 0)) front.mark_is;
       reads = closed.0;
       only = closed.1;
+      still = λ found is. still_behind b kept found count of slots is;
     }
 
 pub returns-clause-moments : goal.returns-clause-moments
