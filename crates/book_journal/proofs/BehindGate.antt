@@ -1,19 +1,19 @@
 -- Writes behind one another, from a place on.
-use Rattle.std.proofs.Common.{◌≡◌, ◌⊎◌, inl, inr, ⊎_elim, ℕ, zero, suc, ◌+◌, ◌-◌, ◌*◌, ◌/◌, ◌<◌, ◌≤◌, min, max, Option, Some, Result, Ok, Err, OnOk, OnErr, IsErrAnd, List, [], ◌∷◌, ◌++◌, length, get_or, take, drop, replicate, refl, sym, ◌∙◌, ap, subst, arith, length-append, length-drop, length-take}
-use Rattle.std.proofs.lemmas.List.{append-nil, append_assoc, take-append-drop, take_all, take-take, drop-take}
+use Rattle.std.proofs.Common.{◌≡◌, inl, inr, ℕ, zero, suc, ◌+◌, ◌-◌, ◌*◌, ◌/◌, ◌<◌, ◌≤◌, min, Some, Result, Ok, Err, OnOk, OnErr, IsErrAnd, List, [], ◌++◌, length, take, drop, refl, sym, ◌∙◌, ap, subst, arith, length-drop, length-take}
+use Rattle.std.proofs.lemmas.List.{append-nil, take-append-drop, take_all, take-take, drop-take}
 use Rattle.std.proofs.lemmas.Bool.{cases_lt}
 use Rattle.disk_core.specs.Disk.{overwritten, Writes, Torn, Elapses}
 use Rattle.disk_core.specs.Tears.{torn_by, length-overwritten}
 use Rattle.disk_core.specs.declared.disk.Disk as disk
-use Rattle.book_snapshot.specs.declared.layout.TheConstants.{ROW_BYTES, BLOCK_CONTENT, MAX_CONTENT}
+use Rattle.book_snapshot.specs.declared.layout.TheConstants.{BLOCK_CONTENT}
 use Rattle.book_snapshot.specs.Layout.{blocks_for}
 use Rattle.book_snapshot.specs.Blocks.{content_block, content_blocks}
-use Rattle.book_snapshot.specs.BlockLaws.{content_blocks-none, content_blocks-first, content_blocks-join, length-content_blocks}
-use Rattle.book_journal.specs.declared.blocks.TheConstants.{CALL_BLOCKS, BLOCKS_CONTENT, BLOCKS_BYTES}
+use Rattle.book_snapshot.specs.BlockLaws.{content_blocks-none, content_blocks-first, content_blocks-join}
+use Rattle.book_journal.specs.declared.blocks.TheConstants.{CALL_BLOCKS, BLOCKS_CONTENT}
 use Rattle.book_journal.specs.Rows.{gate_behind}
 use Rattle.book_journal.specs.Journal.{HasGate}
 use Rattle.book_journal.specs.Laying.{KeptBefore, WritesBehind, all_done}
-use Rattle.book_journal.proofs.Overwritten.{overwritten_on, overwritten_size}
+use Rattle.book_journal.proofs.Overwritten.{overwritten_on}
 use Rattle.book_journal.proofs.Moments.{elapses_in, elapses_on}
 use Rattle.book_journal.proofs.Results.{ok_at_err, ok_in}
 
@@ -52,8 +52,8 @@ module _ {D : Type 0} (g : disk.Ghosts D) where
   pub behind_one : (place : ℕ) (bytes : List ℕ) {T E : Type 0} (result : Result T E) (there : List ℕ) (old new : D) → Writes place bytes result there (g.reads new) (g.image old) (g.image new) → Elapses (g.time old) (g.time new) (g.since old) (g.since new) (g.image new) → WritesBehind g place bytes result there old new
   behind_one place bytes result there old new w elapses =
       let images : (c : List ℕ) → g.image new c → KeptBefore (g.image old) place c = λ c is.
-        let torn = w.images c is in
-        (torn.0, torn.1, torn.2.no_shorter, λ k lt inside. torn.2.outside k inside (inl lt)) in
+      let torn = w.images c is in
+      (torn.0, torn.1, torn.2.no_shorter, λ k lt inside. torn.2.outside k inside (inl lt)) in
       let torn = torn_at place bytes result there w.now w.done w.cut_short in
       record {
         now = w.now;
@@ -145,10 +145,10 @@ one_piece piece end content lt end_is =
     let sum : CALL_BLOCKS * piece + count ≡ blocks_before (piece + 1) (length content) = omega (arith, end_is, lt) in
     let start : BLOCK_CONTENT * (CALL_BLOCKS * piece) ≡ BLOCKS_CONTENT * piece = omega arith in
     let part : content_blocks count (take (end - BLOCKS_CONTENT * piece) (drop (BLOCKS_CONTENT * piece) content)) ≡ content_blocks count (drop (BLOCKS_CONTENT * piece) content) =
-      elim (cases_lt (BLOCKS_CONTENT * piece + BLOCKS_CONTENT) (length content)) [
-        | inl inside ↦ content_blocks-take count (end - BLOCKS_CONTENT * piece) (drop (BLOCKS_CONTENT * piece) content) (omega (arith, inside, end_is))
-        | inr last ↦ ap (λ (l : List ℕ). content_blocks count l) (take_all (end - BLOCKS_CONTENT * piece) (drop (BLOCKS_CONTENT * piece) content) (omega (arith, last, end_is, left)))
-      ] in
+    elim (cases_lt (BLOCKS_CONTENT * piece + BLOCKS_CONTENT) (length content)) [
+      | inl inside ↦ content_blocks-take count (end - BLOCKS_CONTENT * piece) (drop (BLOCKS_CONTENT * piece) content) (omega (arith, inside, end_is))
+      | inr last ↦ ap (λ (l : List ℕ). content_blocks count l) (take_all (end - BLOCKS_CONTENT * piece) (drop (BLOCKS_CONTENT * piece) content) (omega (arith, last, end_is, left)))
+    ] in
     ap (λ (n : ℕ). content_blocks n content ++ content_blocks (blocks_for (length (take (end - BLOCKS_CONTENT * piece) (drop (BLOCKS_CONTENT * piece) content)))) (take (end - BLOCKS_CONTENT * piece) (drop (BLOCKS_CONTENT * piece) content))) before
     ∙ ap (λ (n : ℕ). content_blocks (CALL_BLOCKS * piece) content ++ content_blocks (blocks_for n) (take (end - BLOCKS_CONTENT * piece) (drop (BLOCKS_CONTENT * piece) content))) part_size
     ∙ ap (λ (l : List ℕ). content_blocks (CALL_BLOCKS * piece) content ++ l) (part ∙ ap (λ (n : ℕ). content_blocks count (drop n content)) (sym start))
@@ -166,8 +166,8 @@ gate_stays g count bytes result there old new w gate =
     let long = gate.header.long in
     record {
       header = record {
-          long = omega (arith, long, w.longer);
-          same = λ k lt other. w.same k (omega (arith, lt)) (omega (arith, lt, long)) ∙ gate.header.same k lt other;
-        };
+        long = omega (arith, long, w.longer);
+        same = λ k lt other. w.same k (omega (arith, lt)) (omega (arith, lt, long)) ∙ gate.header.same k lt other;
+      };
       long = omega (arith, gate.long, w.longer);
     }

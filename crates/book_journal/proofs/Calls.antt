@@ -1,19 +1,19 @@
 -- What the calls on a journal leave of its rows.
-use Rattle.std.proofs.Common.{◌≡◌, ◌≢◌, ◌⊎◌, inl, inr, ⊎_elim, ℕ, ◌+◌, ◌-◌, ◌<◌, ◌≤◌, Bool, true, false, Option, Some, IsTrue, Result, Ok, Err, OnOk, OnErr, List, [], ◌∷◌, ◌++◌, length, get_or, take, drop, refl, sym, ◌∙◌, ap, subst, arith, length-append, if◌then◌else◌}
-use Rattle.disk_core.specs.Disk.{overwritten, Only, Torn}
+use Rattle.std.proofs.Common.{◌≡◌, ◌⊎◌, inl, inr, ⊎_elim, ℕ, ◌+◌, ◌-◌, ◌≤◌, Bool, true, false, Some, IsTrue, Result, OnOk, List, [], ◌∷◌, ◌++◌, length, refl, sym, ◌∙◌, ap, subst, arith, length-append, if◌then◌else◌}
+use Rattle.disk_core.specs.Disk.{overwritten, Only}
 use Rattle.disk_core.specs.Devices.{LeavesOnly}
 use Rattle.disk_core.specs.declared.disk.Disk as disk
 use Rattle.book_snapshot.specs.declared.layout.TheConstants.{ROW_BYTES, OPEN}
 use Rattle.book_snapshot.specs.DenseRows.{IsRow}
 use Rattle.book_journal.specs.declared.layout.TheConstants.{MARK, CLOSED}
 use Rattle.book_journal.specs.declared.journal.Journal.{Journal}
-use Rattle.book_journal.specs.Rows.{Recovers, SnapshotAgrees, rows_of, gate_behind, row_behind, mark_of}
-use Rattle.book_journal.specs.Journal.{StandsAs, HasRows, HangsWith, RecoversOrHangs}
+use Rattle.book_journal.specs.Rows.{Recovers, SnapshotAgrees, rows_of, gate_behind, row_behind}
+use Rattle.book_journal.specs.Journal.{StandsAs, HasRows, RecoversOrHangs}
 use Rattle.book_journal.specs.Settles.{Settles}
-use Rattle.book_journal.specs.Appending.{cleared, closed_gate, KeepsRows, AppendsRow, PutsRow}
+use Rattle.book_journal.specs.Appending.{cleared, KeepsRows}
 use Rattle.book_journal.specs.Laying.{WritesBehind}
 use Rattle.book_journal.specs.Marking.{AreMarked}
-use Rattle.book_journal.proofs.Journals.{true_or_false, stands_at, image_keeps, none_hangs}
+use Rattle.book_journal.proofs.Journals.{true_or_false, stands_at, image_keeps}
 use Rattle.book_journal.proofs.Standing.{first_stands, first_rows, first_moments, staged_stands, staged_row, gate_stands, gate_rows, gate_row, gate_moments, closed_gate_stands, open_gate_rows, open_gate_stands}
 use Rattle.book_journal.proofs.Signs.{sign_stands, sign_rows, sign_moments, sign_is, unmarked_stands, laid_stands, laid_rows, laid_moments, markable_stands}
 use Rattle.book_journal.proofs.Overwritten.{overwritten_again, overwritten_apart, overwritten_size}
@@ -45,12 +45,12 @@ module _ {D : Type 0} (g : disk.Ghosts D) (reads_image : (d : D) (bytes : List �
     pub signed : KeepsRows g journal (record journal { disk = new }) rows
     signed = record {
       has = record {
-          bytes = s.now;
-          told = s.told;
-          are = sign_rows g reads_image only_now journal.count journal.disk has.bytes has.told there byte result new s ∙ has.are;
-          stands = stands_at journal.count journal.count false journal.hanging true journal.marked s.now (g.image new) refl (sym (calm_of_marked marked)) (sym marked)
-              (sign_stands g reads_image only_now journal.count journal.disk has.bytes has.told there byte result new s);
-        };
+        bytes = s.now;
+        told = s.told;
+        are = sign_rows g reads_image only_now journal.count journal.disk has.bytes has.told there byte result new s ∙ has.are;
+        stands = stands_at journal.count journal.count false journal.hanging true journal.marked s.now (g.image new) refl (sym (calm_of_marked marked)) (sym marked)
+            (sign_stands g reads_image only_now journal.count journal.disk has.bytes has.told there byte result new s);
+      };
       moments = leaves_in g journal.disk new _ (RecoversOrHangs g journal rows) (sign_moments g reads_image only_now journal.count journal.disk has.bytes has.told there byte result new s) (λ c is. inl (as_rows c is));
     }
 
@@ -78,12 +78,12 @@ module _ {D : Type 0} (g : disk.Ghosts D) (reads_image : (d : D) (bytes : List �
     pub closing : KeepsRows g journal (record journal { disk = new }) rows
     closing = record {
       has = record {
-          bytes = s.now;
-          told = s.told;
-          are = gate_rows g reads_image only_now journal.count journal.disk has.bytes has.told hung CLOSED result new s ∙ has.are;
-          stands = stands_at journal.count journal.count true journal.hanging false journal.marked s.now (g.image new) refl (sym hangs) (sym quiet)
-              (gate_stands g reads_image only_now journal.count journal.disk has.bytes has.told hung CLOSED result new s);
-        };
+        bytes = s.now;
+        told = s.told;
+        are = gate_rows g reads_image only_now journal.count journal.disk has.bytes has.told hung CLOSED result new s ∙ has.are;
+        stands = stands_at journal.count journal.count true journal.hanging false journal.marked s.now (g.image new) refl (sym hangs) (sym quiet)
+            (gate_stands g reads_image only_now journal.count journal.disk has.bytes has.told hung CLOSED result new s);
+      };
       moments = closing_moments;
     }
 
@@ -93,12 +93,12 @@ module _ {D : Type 0} (g : disk.Ghosts D) (reads_image : (d : D) (bytes : List �
     pub closed : (s.now ≡ overwritten has.bytes (gate_behind journal.count) (CLOSED ∷ [])) × Only s.now (g.image new) → KeepsRows g journal (record journal { disk = new; hanging = false }) rows
     closed done = record {
       has = record {
-          bytes = s.now;
-          told = s.told;
-          are = gate_rows g reads_image only_now journal.count journal.disk has.bytes has.told hung CLOSED result new s ∙ has.are;
-          stands = stands_at journal.count journal.count false false false journal.marked s.now (g.image new) refl refl (sym quiet)
-              (closed_gate_stands g reads_image only_now journal.count journal.disk has.bytes has.told hung CLOSED result new s done (λ is. absurd (omega (arith, is))));
-        };
+        bytes = s.now;
+        told = s.told;
+        are = gate_rows g reads_image only_now journal.count journal.disk has.bytes has.told hung CLOSED result new s ∙ has.are;
+        stands = stands_at journal.count journal.count false false false journal.marked s.now (g.image new) refl refl (sym quiet)
+            (closed_gate_stands g reads_image only_now journal.count journal.disk has.bytes has.told hung CLOSED result new s done (λ is. absurd (omega (arith, is))));
+      };
       moments = closing_moments;
     }
 
@@ -211,13 +211,13 @@ synced_has g journal disk rows same fewer has = record {
   told = same ∙ has.told;
   are = has.are;
   stands = record {
-      header = has.stands.header;
-      rows = has.stands.rows;
-      numbered = has.stands.numbered;
-      ends = λ c is. has.stands.ends c (fewer c is);
-      marks = λ c is. has.stands.marks c (fewer c is);
-      hung = has.stands.hung;
-    };
+    header = has.stands.header;
+    rows = has.stands.rows;
+    numbered = has.stands.numbered;
+    ends = λ c is. has.stands.ends c (fewer c is);
+    marks = λ c is. has.stands.marks c (fewer c is);
+    hung = has.stands.hung;
+  };
 }
 
 -- once a snapshot of the rows is laid and stable the mark may be set

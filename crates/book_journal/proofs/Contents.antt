@@ -1,8 +1,8 @@
 -- The content of a snapshot, piece by piece.
-use Rattle.std.proofs.Common.{◌≡◌, ℕ, zero, suc, ◌+◌, ◌-◌, ◌*◌, ◌/◌, ◌<◌, ◌≤◌, min, List, [], ◌∷◌, ◌++◌, length, take, drop, refl, sym, ◌∙◌, ap, subst, arith, length-append, length-drop, length-take}
-use Rattle.std.proofs.lemmas.List.{take-take, drop-take, drop-drop, drop_at, take_at, take_all, take-append-le}
+use Rattle.std.proofs.Common.{◌≡◌, ℕ, zero, suc, ◌+◌, ◌-◌, ◌*◌, ◌<◌, ◌≤◌, min, List, ◌++◌, length, take, drop, sym, ◌∙◌, ap, subst, arith, length-drop}
+use Rattle.std.proofs.lemmas.List.{take-take, drop-take, drop-drop, drop_at, take_all, take-append-le}
 use Rattle.book_snapshot.specs.declared.layout.TheConstants.{ROW_BYTES, BLOCK_HEAD, BLOCK_CONTENT}
-use Rattle.book_snapshot.specs.Layout.{blocks_for, snapshot_place, snapshot_end}
+use Rattle.book_snapshot.specs.Layout.{blocks_for, snapshot_place}
 use Rattle.book_snapshot.specs.Blocks.{EndsWithSnapshot, block_content, snapshot_content}
 use Rattle.book_snapshot.specs.BlockLaws.{block_content-none, block_content-first, block_content-join, length-block_content}
 use Rattle.book_journal.specs.declared.blocks.TheConstants.{CALL_BLOCKS, BLOCKS_CONTENT, BLOCKS_BYTES}
@@ -14,7 +14,7 @@ block_content-take (suc count) size bytes long =
     let head : BLOCK_HEAD + (size - BLOCK_HEAD) ≡ size = omega (arith, long) in
     let rest : ROW_BYTES + (size - ROW_BYTES) ≡ size = omega (arith, long) in
     let first : take BLOCK_CONTENT (drop BLOCK_HEAD (take size bytes)) ≡ take BLOCK_CONTENT (drop BLOCK_HEAD bytes) =
-      ap (λ (n : ℕ). take BLOCK_CONTENT (drop BLOCK_HEAD (take n bytes))) (sym head) ∙ ap (λ (l : List ℕ). take BLOCK_CONTENT l) (drop-take BLOCK_HEAD (size - BLOCK_HEAD) bytes) ∙ take-take BLOCK_CONTENT (size - BLOCK_HEAD) (drop BLOCK_HEAD bytes) (omega (arith, long)) in
+    ap (λ (n : ℕ). take BLOCK_CONTENT (drop BLOCK_HEAD (take n bytes))) (sym head) ∙ ap (λ (l : List ℕ). take BLOCK_CONTENT l) (drop-take BLOCK_HEAD (size - BLOCK_HEAD) bytes) ∙ take-take BLOCK_CONTENT (size - BLOCK_HEAD) (drop BLOCK_HEAD bytes) (omega (arith, long)) in
     let others : drop ROW_BYTES (take size bytes) ≡ take (size - ROW_BYTES) (drop ROW_BYTES bytes) = ap (λ (n : ℕ). drop ROW_BYTES (take n bytes)) (sym rest) ∙ drop-take ROW_BYTES (size - ROW_BYTES) bytes in
     block_content-first count (take size bytes)
     ∙ ap (λ (l : List ℕ). l ++ block_content count (drop ROW_BYTES (take size bytes))) first
@@ -41,23 +41,23 @@ content_from rows size from bytes read into count got ends within count_is long 
     let sum : CALL_BLOCKS * from + (all - CALL_BLOCKS * from) ≡ all = omega (arith, within) in
     let behind : drop (ROW_BYTES * (CALL_BLOCKS * from)) (drop first bytes) ≡ there = drop-drop (ROW_BYTES * (CALL_BLOCKS * from)) first bytes ∙ ap (λ (n : ℕ). drop n bytes) (at_place first from) in
     let split : block_content all (drop first bytes) ≡ block_content (CALL_BLOCKS * from) (drop first bytes) ++ block_content (all - CALL_BLOCKS * from) there =
-      ap (λ (n : ℕ). block_content n (drop first bytes)) (sym sum) ∙ block_content-join (CALL_BLOCKS * from) (all - CALL_BLOCKS * from) (drop first bytes) ∙ ap (λ (l : List ℕ). block_content (CALL_BLOCKS * from) (drop first bytes) ++ block_content (all - CALL_BLOCKS * from) l) behind in
+    ap (λ (n : ℕ). block_content n (drop first bytes)) (sym sum) ∙ block_content-join (CALL_BLOCKS * from) (all - CALL_BLOCKS * from) (drop first bytes) ∙ ap (λ (l : List ℕ). block_content (CALL_BLOCKS * from) (drop first bytes) ++ block_content (all - CALL_BLOCKS * from) l) behind in
     let skipped : length (block_content (CALL_BLOCKS * from) (drop first bytes)) ≡ BLOCKS_CONTENT * from = length-block_content (CALL_BLOCKS * from) (drop first bytes) (omega (arith, length-drop first bytes, ends.long, within)) ∙ omega arith in
     let left : BLOCKS_CONTENT * from + (size - BLOCKS_CONTENT * from) ≡ size = omega (arith, within) in
     let rest : drop (BLOCKS_CONTENT * from) (snapshot_content rows size bytes) ≡ take (size - BLOCKS_CONTENT * from) (block_content (all - CALL_BLOCKS * from) there) =
-      ap (λ (n : ℕ). drop (BLOCKS_CONTENT * from) (take n (block_content all (drop first bytes)))) (sym left)
-      ∙ drop-take (BLOCKS_CONTENT * from) (size - BLOCKS_CONTENT * from) (block_content all (drop first bytes))
-      ∙ ap (λ (l : List ℕ). take (size - BLOCKS_CONTENT * from) (drop (BLOCKS_CONTENT * from) l)) split
-      ∙ ap (λ (l : List ℕ). take (size - BLOCKS_CONTENT * from) l) (drop_at (block_content (CALL_BLOCKS * from) (drop first bytes)) (block_content (all - CALL_BLOCKS * from) there) (BLOCKS_CONTENT * from) skipped) in
+    ap (λ (n : ℕ). drop (BLOCKS_CONTENT * from) (take n (block_content all (drop first bytes)))) (sym left)
+    ∙ drop-take (BLOCKS_CONTENT * from) (size - BLOCKS_CONTENT * from) (block_content all (drop first bytes))
+    ∙ ap (λ (l : List ℕ). take (size - BLOCKS_CONTENT * from) (drop (BLOCKS_CONTENT * from) l)) split
+    ∙ ap (λ (l : List ℕ). take (size - BLOCKS_CONTENT * from) l) (drop_at (block_content (CALL_BLOCKS * from) (drop first bytes)) (block_content (all - CALL_BLOCKS * from) there) (BLOCKS_CONTENT * from) skipped) in
     let more : blocks + (all - CALL_BLOCKS * from - blocks) ≡ all - CALL_BLOCKS * from = omega (arith, count_is, within) in
     let parts : block_content (all - CALL_BLOCKS * from) there ≡ block_content blocks there ++ block_content (all - CALL_BLOCKS * from - blocks) (drop (ROW_BYTES * blocks) there) =
-      ap (λ (n : ℕ). block_content n there) (sym more) ∙ block_content-join blocks (all - CALL_BLOCKS * from - blocks) there in
+    ap (λ (n : ℕ). block_content n there) (sym more) ∙ block_content-join blocks (all - CALL_BLOCKS * from - blocks) there in
     let held : length (block_content blocks there) ≡ BLOCK_CONTENT * blocks = length-block_content blocks there (omega (arith, inside, ends.long, within, count_is)) in
     is ∙ ap (λ (l : List ℕ). take count l) ours
     ∙ sym (ap (λ (l : List ℕ). take count l) rest
-      ∙ take-take count (size - BLOCKS_CONTENT * from) (block_content (all - CALL_BLOCKS * from) there) (omega (arith, count_is))
-      ∙ ap (λ (l : List ℕ). take count l) parts
-      ∙ take-append-le count (block_content blocks there) (block_content (all - CALL_BLOCKS * from - blocks) (drop (ROW_BYTES * blocks) there)) (omega (arith, held)))
+    ∙ take-take count (size - BLOCKS_CONTENT * from) (block_content (all - CALL_BLOCKS * from) there) (omega (arith, count_is))
+    ∙ ap (λ (l : List ℕ). take count l) parts
+    ∙ take-append-le count (block_content blocks there) (block_content (all - CALL_BLOCKS * from - blocks) (drop (ROW_BYTES * blocks) there)) (omega (arith, held)))
   where
     at_place : (first from : ℕ) → first + ROW_BYTES * (CALL_BLOCKS * from) ≡ first + BLOCKS_BYTES * from
     at_place first from = omega arith

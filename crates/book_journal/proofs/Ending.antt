@@ -1,19 +1,19 @@
 -- The gate behind the rows is closed where it isn't.
-use Rattle.std.proofs.Common.{◌≡◌, ◌≢◌, ◌⊎◌, inl, inr, ⊎_elim, ℕ, ◌+◌, ◌-◌, ◌*◌, ◌<◌, ◌≤◌, max, Bool, true, false, List, [], ◌∷◌, length, get_or, take, drop, refl, sym, ◌∙◌, ap, subst, arith, nat_lt, ◌||◌, if◌then◌else◌, Option, Some, None, Result}
+use Rattle.std.proofs.Common.{◌≡◌, ◌≢◌, ◌⊎◌, inl, inr, ⊎_elim, ℕ, ◌+◌, ◌-◌, ◌*◌, ◌<◌, ◌≤◌, Bool, true, false, List, [], ◌∷◌, length, get_or, drop, refl, sym, ◌∙◌, ap, subst, arith, nat_lt, ◌||◌, if◌then◌else◌, Option, Some, None, Result}
 use Rattle.std.proofs.lemmas.List.{drop-drop, get_or-drop, get_or-take}
 use Rattle.std.proofs.lemmas.Bool.{cases_lt}
 use Rattle.book_snapshot.specs.declared.types.Kept.{Kept}
-use Rattle.book_snapshot.specs.Layout.{snapshot_place, snapshot_end}
+use Rattle.book_snapshot.specs.Layout.{snapshot_place}
 use Rattle.book_snapshot.specs.Blocks.{EndsWithSnapshot}
 use Rattle.std.proofs.lemmas.Bool.Decides.{nat_tests}
 use Rattle.hall_limits.specs.declared.TheConstants.{MAX_ROWS}
-use Rattle.disk_core.specs.Disk.{overwritten, Only, Torn}
-use Rattle.disk_core.specs.Devices.{IsUnmoved, LeavesOnly}
+use Rattle.disk_core.specs.Disk.{overwritten, Only}
+use Rattle.disk_core.specs.Devices.{LeavesOnly}
 use Rattle.disk_core.specs.declared.disk.Disk as disk
-use Rattle.book_snapshot.specs.declared.layout.TheConstants.{ROW_BYTES, OPEN}
+use Rattle.book_snapshot.specs.declared.layout.TheConstants.{ROW_BYTES}
 use Rattle.book_snapshot.specs.DenseRows.{AreRows}
 use Rattle.book_journal.specs.declared.layout.TheConstants.{MARK, CLOSED, MAX_SLOTS}
-use Rattle.book_journal.specs.Rows.{HasHeader, Recovers, IsJournalOf, starts_open, rows_of, gate_behind, mark_of}
+use Rattle.book_journal.specs.Rows.{Recovers, IsJournalOf, starts_open, rows_of, gate_behind}
 use Rattle.book_journal.specs.Settles.{TornFrom, Settles}
 use Rattle.book_journal.specs.Mounting.{IsSnapshotOf, rows_before, slots_behind, stands_closed, closed_behind}
 use Rattle.book_journal.specs.Closing.{EndsAt}
@@ -30,6 +30,7 @@ closed_written count b few other = otherwise (nat_lt MAX_ROWS count || stands_cl
   where
     not_lt : (m n : ℕ) → n ≤ m → nat_lt m n ≡ false
     not_lt m n le = grind (arith, nat_tests)
+
     either : (x y : Bool) → x ≡ false → y ≡ false → (x || y) ≡ false
     either false y first second = second
     either true y first second = absurd cc
@@ -91,28 +92,36 @@ behind_snapshot b rows size count ends slots = elim (cases_lt MAX_ROWS count) [
   where
     there : List ℕ
     there = drop (gate_behind rows) b
+
     head_place : gate_behind rows + ROW_BYTES * 1 ≡ snapshot_place rows
     head_place = omega arith
+
     head_gate : get_or (drop (gate_behind rows) b) (ROW_BYTES * 1) 0 ≡ 0
     head_gate =
         let none : snapshot_place rows + 0 ≡ snapshot_place rows = omega arith in
         get_or-drop (gate_behind rows) b (ROW_BYTES * 1) 0 ∙ ap (λ (n : ℕ). get_or b n 0) (head_place ∙ sym none) ∙ sym (get_or-drop (snapshot_place rows) b 0 0)
         ∙ sym (get_or-take ROW_BYTES (drop (snapshot_place rows) b) 0 0 (omega arith)) ∙ ap (λ (l : List ℕ). get_or l 0 0) ends.head
+
     few_slots : slots_behind rows b ≤ 1
     few_slots = ⊎_elim (λ few. omega (arith, few)) (λ many.
-      let opened = slot_open (slots_behind rows b) 1 (drop (gate_behind rows) b) (ap length (rows_counted (MAX_SLOTS - rows) (drop (gate_behind rows) b))) (omega (arith, many)) in
-      absurd (omega (arith, opened, head_gate))) (cases_lt (slots_behind rows b) 2)
+        let opened = slot_open (slots_behind rows b) 1 (drop (gate_behind rows) b) (ap length (rows_counted (MAX_SLOTS - rows) (drop (gate_behind rows) b))) (omega (arith, many)) in
+        absurd (omega (arith, opened, head_gate))) (cases_lt (slots_behind rows b) 2)
+
     is_lt : (m n : ℕ) → m < n → nat_lt m n ≡ true
     is_lt m n lt = grind (arith, nat_tests)
+
     first_true : (x y : Bool) → x ≡ true → (x || y) ≡ true
     first_true true y is = refl
     first_true false y is = absurd cc
+
     second_true : (x y : Bool) → y ≡ true → (x || y) ≡ true
     second_true true y is = refl
     second_true false y is = is
+
     when : (test : Bool) (x y : List ℕ) → test ≡ true → (if test then x else y) ≡ x
     when true x y is = refl
     when false x y is = absurd cc
+
     true_or_false : (test : Bool) → (test ≡ true) ⊎ (test ≡ false)
     true_or_false true = inl refl
     true_or_false false = inr refl

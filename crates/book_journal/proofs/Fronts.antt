@@ -1,22 +1,20 @@
 -- The front of a disk, and what a disk is mounted as.
-use Rattle.std.proofs.Common.{◌≡◌, ◌≢◌, ◌⊎◌, inl, inr, ⊎_elim, ℕ, ◌+◌, ◌-◌, ◌<◌, ◌≤◌, min, Bool, true, false, not, IsTrue, List, [], ◌∷◌, length, get_or, take, drop, replicate, Option, Some, None, refl, sym, ◌∙◌, ap, subst, arith, nat_lt, ◌&&◌, ◌||◌, ◌==◌, if◌then◌else◌, length-drop}
+use Rattle.std.proofs.Common.{◌≡◌, ◌≢◌, ◌⊎◌, inl, inr, ⊎_elim, ℕ, ◌+◌, ◌-◌, ◌<◌, ◌≤◌, min, Bool, true, false, not, List, [], ◌∷◌, length, get_or, take, drop, Option, Some, refl, sym, ◌∙◌, ap, subst, arith, nat_lt, ◌||◌, ◌==◌, if◌then◌else◌, length-drop}
 use Rattle.std.proofs.lemmas.List.{get_or-take}
 use Rattle.std.proofs.lemmas.Bool.{cases_eq}
 use Rattle.std.proofs.lemmas.Bool.Decides.{nat_tests}
 use Rattle.hall_limits.specs.declared.TheConstants.{MAX_ROWS}
-use Rattle.disk_core.specs.Disk.{overwritten, Only}
+use Rattle.disk_core.specs.Disk.{overwritten}
 use Rattle.disk_core.specs.declared.disk.Disk as disk
 use Rattle.book_snapshot.specs.declared.types.Kept.{Kept}
 use Rattle.book_snapshot.specs.declared.layout.TheConstants.{ROW_BYTES, OPEN}
 use Rattle.book_snapshot.specs.DenseRows.{AreRows}
-use Rattle.book_snapshot.specs.Blocks.{EndsWithSnapshot}
 use Rattle.book_journal.specs.declared.layout.TheConstants.{MARK, CLOSED, NEW_BYTES, MAX_SLOTS}
-use Rattle.book_journal.specs.Rows.{HasHeader, FirstDiffersAt, Recovers, IsJournalOf, SnapshotAgrees, starts_open, open_rows, rows_of, gate_behind, mark_of, title}
+use Rattle.book_journal.specs.Rows.{HasHeader, FirstDiffersAt, Recovers, SnapshotAgrees, starts_open, rows_of, gate_behind, mark_of, title}
 use Rattle.book_journal.specs.Journal.{HasGate, StandsAs, IsClosedAs, MarkedAs, HasRows}
-use Rattle.book_journal.specs.Mounting.{new_journal, IsSnapshotOf, rows_before, slots_behind, stands_closed, closed_behind, FindsJournal, MakesJournal, IsMounted}
-use Rattle.book_journal.specs.declared.journal.Journal.{Journal}
-use Rattle.book_journal.proofs.OpenRows.{rows_fit, open_rows-none, open_rows-shut, shut_by_cut, padded}
-use Rattle.book_journal.proofs.OpenEnds.{rows_counted, first_within, journal_of, journal_rows, journal_fits, journal_ends, rows_are_counted, snapshot_within, short_none, no_snapshot_cut, cut_unless, closed_is}
+use Rattle.book_journal.specs.Mounting.{new_journal, IsSnapshotOf, rows_before, slots_behind, stands_closed, closed_behind, IsMounted}
+use Rattle.book_journal.proofs.OpenRows.{rows_fit, open_rows-none, padded}
+use Rattle.book_journal.proofs.OpenEnds.{rows_counted, first_within, journal_of, journal_rows, journal_fits, journal_ends, rows_are_counted, short_none, no_snapshot_cut, cut_unless, closed_is}
 use Rattle.book_journal.proofs.Ending.{closed_written}
 use Rattle.book_journal.proofs.Journals.{stands_at}
 use Rattle.book_journal.proofs.Gates.{header_same, rows_kept}
@@ -70,6 +68,7 @@ module _ (count : ℕ) (b : List ℕ) (header : HasHeader b) (within : gate_behi
       then_is false true p q is = refl
       then_is true false p q is = refl
       then_is false false p q is = absurd cc
+
       at : (closed : Bool) → stands_closed (gate_behind count) b ≡ closed → ((closed_behind count b ≡ b) × (gate_behind count < length b) × (get_or b (gate_behind count) 0 ≢ OPEN)) ⊎ ((closed_behind count b ≡ overwritten b (gate_behind count) (CLOSED ∷ [])) × (stands_closed (gate_behind count) b ≡ false))
       at true is = let facts = closed_is (gate_behind count) b is in inl (then_is (nat_lt MAX_ROWS count) (stands_closed (gate_behind count) b) b (overwritten b (gate_behind count) (CLOSED ∷ [])) is, facts.0, facts.1)
       at false is = inr (closed_written count b few is, is)
@@ -98,23 +97,29 @@ module _ (count : ℕ) (b : List ℕ) (header : HasHeader b) (within : gate_behi
         where
           closed_behind_mark : mark_of (closed_behind count b) ≡ mark_of b
           closed_behind_mark = ⊎_elim (λ still. ap (λ (l : List ℕ). mark_of l) still.0) (λ wrote. ap (λ (l : List ℕ). mark_of l) wrote.0 ∙ before_gate MARK (omega arith)) either_closed
+
       still_agrees : SnapshotAgrees rows b → SnapshotAgrees rows (closed_behind count b)
       still_agrees agree = ⊎_elim
           (λ still. subst (λ (l : List ℕ). SnapshotAgrees rows l) (sym still.0) agree)
           (λ wrote. λ n m ends. absurd (no_snapshot_cut count n m (closed_behind count b)
-            (ap length (rows_kept count b (closed_behind count b) (let long = (closed_behind_as).long in omega (arith, long)) (closed_behind_as).same counts) ∙ counts)
-            (let long = (closed_behind_as).long in omega (arith, long))
-            (omega (arith, ap length wrote.0, overwritten_size b (gate_behind count) (CLOSED ∷ []) within, cut_unless count b shut wrote.1))
-            ends))
+          (ap length (rows_kept count b (closed_behind count b) (let long = (closed_behind_as).long in omega (arith, long)) (closed_behind_as).same counts) ∙ counts)
+          (let long = (closed_behind_as).long in omega (arith, long))
+          (omega (arith, ap length wrote.0, overwritten_size b (gate_behind count) (CLOSED ∷ []) within, cut_unless count b shut wrote.1))
+          ends))
           either_closed
+
       marked_by : (test : Bool) → test ≡ true → MarkedAs true rows (length (closed_behind count b)) (closed_behind count b) → MarkedAs test rows (length (closed_behind count b)) (closed_behind count b)
       marked_by test is marks = subst (λ (t : Bool). MarkedAs t rows (length (closed_behind count b)) (closed_behind count b)) (sym is) marks
+
       unmarked_by : (test : Bool) → test ≡ false → MarkedAs false rows (length (closed_behind count b)) (closed_behind count b) → MarkedAs test rows (length (closed_behind count b)) (closed_behind count b)
       unmarked_by test is marks = subst (λ (t : Bool). MarkedAs t rows (length (closed_behind count b)) (closed_behind count b)) (sym is) marks
+
       not_zero : (n : ℕ) → n ≢ 0 → not (n == 0) ≡ true
       not_zero n other = grind (arith, nat_tests)
+
       is_zero : (n : ℕ) → n ≡ 0 → not (n == 0) ≡ false
       is_zero n none = grind (arith, nat_tests)
+
       at : (mark_of b ≡ 0) ⊎ (mark_of b ≢ 0) → MarkedAs (not (mark_of b == 0)) rows (length (closed_behind count b)) (closed_behind count b)
       at (inl none) = unmarked_by (not (mark_of b == 0)) (is_zero (mark_of b) none) (same_mark ∙ none)
       at (inr set) = marked_by (not (mark_of b == 0)) (not_zero (mark_of b) set) (refl, still_agrees (agrees set))
@@ -158,9 +163,9 @@ module _ {D : Type 0} (g : disk.Ghosts D) (reads_image : (d : D) (bytes : List �
       let closed : IsClosedAs 0 new_journal new_journal = record { long = omega arith; same = λ k lt other. refl; gate = λ opened. zero_one (get_or new_journal (gate_behind 0) 0) refl opened } in
       let empty : rows_of 0 new_journal ≡ [] = open_rows-none (drop ROW_BYTES new_journal) in
       let stands : StandsAs 0 false false new_journal (g.image new) =
-        closed_stands 0 false new_journal new_journal (g.image new) new_header (ap length empty) (subst (λ (rs : List (List ℕ)). AreRows ROW_BYTES 1 rs) (sym empty) tt) (reads_image new new_journal makes.reads)
-        (λ c at_c. subst (λ (l : List ℕ). IsClosedAs 0 new_journal l) (sym (makes.only c at_c)) closed)
-        (λ c at_c. ap (λ (l : List ℕ). mark_of l) (makes.only c at_c)) in
+      closed_stands 0 false new_journal new_journal (g.image new) new_header (ap length empty) (subst (λ (rs : List (List ℕ)). AreRows ROW_BYTES 1 rs) (sym empty) tt) (reads_image new new_journal makes.reads)
+      (λ c at_c. subst (λ (l : List ℕ). IsClosedAs 0 new_journal l) (sym (makes.only c at_c)) closed)
+      (λ c at_c. ap (λ (l : List ℕ). mark_of l) (makes.only c at_c)) in
       record {
         bytes = new_journal;
         told = makes.reads;

@@ -1,21 +1,19 @@
 -- What is known of a journal where its disk tells.
-use Rattle.std.proofs.Common.{◌≡◌, ◌≢◌, ◌⊎◌, inl, inr, ⊎_elim, ℕ, ◌+◌, ◌<◌, ◌≤◌, max, Bool, true, false, not, Option, Some, None, is_some, IsTrue, List, [], ◌∷◌, ◌++◌, length, get_or, drop, refl, sym, ◌∙◌, ap, subst, arith}
+use Rattle.std.proofs.Common.{◌≡◌, ◌≢◌, ◌⊎◌, inl, inr, ⊎_elim, ℕ, ◌+◌, ◌<◌, ◌≤◌, max, Bool, true, false, not, Option, Some, None, is_some, IsTrue, List, ◌∷◌, length, get_or, drop, refl, sym, ◌∙◌, ap, subst, arith}
 use Rattle.std.proofs.lemmas.List.{drop_more}
 use Rattle.std.proofs.lemmas.Bool.{cases_lt}
 use Rattle.device_facts.specs.Known.{TellsAsBefore}
 use Rattle.disk_core.specs.Disk.{WhereTold, Torn}
-use Rattle.disk_core.specs.Devices.{IsUnmoved, LeavesOnly}
+use Rattle.disk_core.specs.Devices.{IsUnmoved}
 use Rattle.disk_core.specs.declared.disk.Disk as disk
 use Rattle.book_snapshot.specs.declared.layout.TheConstants.{ROW_BYTES, OPEN}
-use Rattle.book_snapshot.specs.DenseRows.{IsRow}
 use Rattle.book_journal.specs.declared.layout.TheConstants.{MARK}
-use Rattle.book_journal.specs.Rows.{HasHeader, Recovers, rows_of, gate_behind, row_behind}
-use Rattle.book_journal.specs.Journal.{StandsAs, HasGate, IsSound, HasRows, HangsWith, RecoversOrHangs, ImagesKeepRows}
-use Rattle.book_journal.specs.Appending.{TouchesSlot, KeepsRows}
+use Rattle.book_journal.specs.Rows.{Recovers, rows_of, gate_behind, row_behind}
+use Rattle.book_journal.specs.Journal.{StandsAs, HasGate, HasRows, RecoversOrHangs, ImagesKeepRows}
+use Rattle.book_journal.specs.Appending.{TouchesSlot}
 use Rattle.book_journal.specs.declared.journal.Journal.{Journal}
-use Rattle.book_journal.proofs.Gates.{recovers_closed, recovers_hung, mark_agrees}
-use Rattle.book_journal.proofs.Standing.{recovers_now, either_now}
-use Rattle.book_journal.proofs.Moments.{leaves_in}
+use Rattle.book_journal.proofs.Gates.{recovers_closed, mark_agrees}
+use Rattle.book_journal.proofs.Standing.{either_now}
 
 -- a disk that tells now has told before
 pub told_before : (old new : Option (List ℕ)) (now : List ℕ) → TellsAsBefore old new → new ≡ Some now → (b : List ℕ) × (old ≡ Some b)
@@ -114,13 +112,13 @@ rows_on g journal disk rows unmoved has = record {
   told = unmoved.reads ∙ has.told;
   are = has.are;
   stands = record {
-      header = has.stands.header;
-      rows = has.stands.rows;
-      numbered = has.stands.numbered;
-      ends = λ c is. has.stands.ends c (unmoved.images c is);
-      marks = λ c is. has.stands.marks c (unmoved.images c is);
-      hung = has.stands.hung;
-    };
+    header = has.stands.header;
+    rows = has.stands.rows;
+    numbered = has.stands.numbered;
+    ends = λ c is. has.stands.ends c (unmoved.images c is);
+    marks = λ c is. has.stands.marks c (unmoved.images c is);
+    hung = has.stands.hung;
+  };
 }
 
 -- what a write leaves of the header and of a gate's place
@@ -131,9 +129,9 @@ gate_torn count place n most b now torn where_it gate =
     let longer = torn.no_shorter in
     record {
       header = record {
-          long = omega (arith, longest, longer);
-          same = λ k lt other. torn.outside k (omega (arith, lt, longest)) (outside k lt other where_it) ∙ gate.header.same k lt other;
-        };
+        long = omega (arith, longest, longer);
+        same = λ k lt other. torn.outside k (omega (arith, lt, longest)) (outside k lt other where_it) ∙ gate.header.same k lt other;
+      };
       long = omega (arith, long, longer);
     }
   where

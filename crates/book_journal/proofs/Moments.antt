@@ -1,5 +1,5 @@
 -- How a run of calls on a disk goes on.
-use Rattle.std.proofs.Common.{◌≡◌, ◌∙◌, inl, inr, ⊎_elim, ℕ, ◌≤◌, List, Option, Some, refl, sym, subst, arith}
+use Rattle.std.proofs.Common.{◌≡◌, ◌∙◌, inl, inr, ⊎_elim, ℕ, List, refl, sym, subst, arith}
 use Rattle.disk_core.specs.Disk.{Elapses, Only}
 use Rattle.disk_core.specs.Devices.{IsUnmoved, LeavesOnly}
 use Rattle.disk_core.specs.declared.disk.Disk as disk

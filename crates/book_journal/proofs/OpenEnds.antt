@@ -1,35 +1,26 @@
 -- How many slots are open, and what stands behind them.
-use Rattle.std.proofs.Common.{◌≡◌, ◌≢◌, ◌⊎◌, inl, inr, ⊎_elim, ℕ, zero, suc, ◌+◌, ◌-◌, ◌*◌, ◌<◌, ◌≤◌, min, max, Bool, true, false, not, List, [], ◌∷◌, ◌++◌, length, get_or, take, drop, refl, sym, ◌∙◌, ap, subst, arith, length-drop, nat_lt, ◌&&◌, ◌||◌, ◌==◌, if◌then◌else◌, Option, Some, None}
+use Rattle.std.proofs.Common.{◌≡◌, ◌≢◌, ◌⊎◌, inl, inr, ⊎_elim, ℕ, zero, suc, ◌+◌, ◌-◌, ◌*◌, ◌<◌, ◌≤◌, true, false, List, [], ◌∷◌, length, get_or, take, drop, sym, ◌∙◌, ap, subst, arith, length-drop, Option, Some, None}
 use Rattle.std.proofs.lemmas.List.{get_or-drop, drop-drop}
-use Rattle.std.proofs.lemmas.Bool.{cases_lt, cases_eq}
+use Rattle.std.proofs.lemmas.Bool.{cases_lt}
 use Rattle.std.proofs.lemmas.Bool.Decides.{nat_tests}
 use Rattle.hall_limits.specs.declared.TheConstants.{MAX_ROWS}
-use Rattle.disk_core.specs.Disk.{overwritten, Only, Torn}
-use Rattle.disk_core.specs.Devices.{IsUnmoved, LeavesOnly}
-use Rattle.disk_core.specs.declared.disk.Disk as disk
 use Rattle.book_snapshot.specs.declared.types.Kept.{Kept}
-use Rattle.book_snapshot.specs.declared.layout.TheConstants.{ROW_BYTES, OPEN, TAIL}
+use Rattle.book_snapshot.specs.declared.layout.TheConstants.{ROW_BYTES, OPEN}
 use Rattle.book_snapshot.specs.DenseRows.{AreRows}
-use Rattle.book_snapshot.specs.Layout.{snapshot_place, snapshot_end, blocks_for}
-use Rattle.book_snapshot.specs.Blocks.{EndsWithSnapshot, end_block}
-use Rattle.book_journal.specs.declared.layout.TheConstants.{MARK, MARKED, CLOSED, NEW_BYTES, MAX_SLOTS}
-use Rattle.book_journal.specs.Rows.{HasHeader, Recovers, IsJournalOf, FitsSnapshot, SnapshotAgrees, starts_open, open_rows, rows_of, gate_behind, mark_of, title}
-use Rattle.book_journal.specs.Journal.{StandsAs, IsClosedAs, MarkedAs}
-use Rattle.book_journal.specs.Settles.{TornFrom, Settles}
-use Rattle.book_journal.specs.Mounting.{NoneFits, IsSnapshotOf, rows_before, slots_behind, stands_closed, closed_behind}
-use Rattle.book_journal.specs.Closing.{EndsAt, IsFull}
-use Rattle.book_journal.proofs.OpenRows.{open_or_shut, open_rows-open, open_rows-shut, open_rows-none, open_long, open_gate, shut_by_cut, rows_fit, rows_stop, rows_same}
-use Rattle.book_journal.proofs.Gates.{behind, header_same, rows_kept, recovers_stop, shut_behind, cut_behind, open_behind, mark_kept}
-use Rattle.book_journal.proofs.Overwritten.{written_at, kept_below, overwritten_size}
-use Rattle.book_journal.proofs.Standing.{closed_stands}
-use Rattle.book_journal.proofs.Moments.{started, goes_on}
+use Rattle.book_snapshot.specs.Layout.{snapshot_end}
+use Rattle.book_snapshot.specs.Blocks.{EndsWithSnapshot}
+use Rattle.book_journal.specs.declared.layout.TheConstants.{NEW_BYTES, MAX_SLOTS}
+use Rattle.book_journal.specs.Rows.{HasHeader, Recovers, IsJournalOf, starts_open, open_rows, rows_of, gate_behind}
+use Rattle.book_journal.specs.Mounting.{IsSnapshotOf, rows_before, slots_behind, stands_closed}
+use Rattle.book_journal.proofs.OpenRows.{open_or_shut, open_rows-open, open_rows-shut, open_rows-none, open_gate, shut_by_cut, rows_fit, rows_stop}
+use Rattle.book_journal.proofs.Gates.{behind, open_behind}
 
 true_false : true ≡ false → ⊥
 true_false is = cc
 
 -- the open slots are those that are counted
 pub rows_counted : (most : ℕ) (bytes : List ℕ) → open_rows (length (open_rows most bytes)) bytes ≡ open_rows most bytes
-rows_counted zero bytes = ap (λ (n : ℕ). open_rows n bytes) (ap length (open_rows-none bytes)) 
+rows_counted zero bytes = ap (λ (n : ℕ). open_rows n bytes) (ap length (open_rows-none bytes))
 rows_counted (suc most) bytes = elim (open_or_shut bytes) [
   | inl is ↦
       let more = open_rows-open most bytes is in

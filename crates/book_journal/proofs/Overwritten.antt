@@ -1,9 +1,9 @@
 -- Bytes that were written over others.
-use Rattle.std.proofs.Common.{◌≡◌, ◌≢◌, ◌⊎◌, inl, inr, ⊎_elim, ℕ, ◌+◌, ◌-◌, ◌<◌, ◌≤◌, min, max, List, [], ◌∷◌, ◌++◌, length, get_or, take, drop, refl, sym, ◌∙◌, ap, subst, arith, length-append, length-take, length-drop, append_assoc}
+use Rattle.std.proofs.Common.{◌≡◌, inl, inr, ℕ, ◌+◌, ◌-◌, ◌<◌, ◌≤◌, max, List, [], ◌∷◌, ◌++◌, length, get_or, take, drop, refl, sym, ◌∙◌, ap, arith, length-append}
 use Rattle.std.proofs.lemmas.List.{get_or_append_left, get_or-append_right, get_or-take, get_or-drop, get_or-append-add, ext_get_or, length-take-le, drop_all, append-nil}
 use Rattle.std.proofs.lemmas.Bool.{cases_lt}
-use Rattle.disk_core.specs.Disk.{overwritten, Torn}
-use Rattle.disk_core.specs.Tears.{length-overwritten, torn_by}
+use Rattle.disk_core.specs.Disk.{overwritten}
+use Rattle.disk_core.specs.Tears.{length-overwritten}
 
 -- what was written stands at its place
 pub written_at : (old : List ℕ) (place : ℕ) (bytes : List ℕ) (j k : ℕ) → place ≤ length old → j < length bytes → place + j ≡ k → get_or (overwritten old place bytes) k 0 ≡ get_or bytes j 0
@@ -44,21 +44,21 @@ overwritten_on old place next first second within next_is =
     ext_get_or 0 (overwritten mid next second) (overwritten old place (first ++ second)) size (λ k lt. elim (cases_lt k place) [
       | inl below ↦ kept_below mid next second k within_mid (omega (arith, below, next_is)) ∙ kept_below old place first k within below ∙ sym (kept_below old place (first ++ second) k within below)
       | inr from ↦ elim (cases_lt k next) [
-          | inl in_first ↦
+        | inl in_first ↦
+            let j : place + (k - place) ≡ k = omega (arith, from) in
+            let small : k - place < length first = omega (arith, from, in_first, next_is) in
+            kept_below mid next second k within_mid in_first ∙ written_at old place first (k - place) k within small j
+            ∙ sym (written_at old place (first ++ second) (k - place) k within (omega (arith, small, both)) j ∙ get_or_append_left first second 0 (k - place) small)
+        | inr behind ↦ elim (cases_lt k (next + length second)) [
+          | inl in_second ↦
+              let i : next + (k - next) ≡ k = omega (arith, behind) in
               let j : place + (k - place) ≡ k = omega (arith, from) in
-              let small : k - place < length first = omega (arith, from, in_first, next_is) in
-              kept_below mid next second k within_mid in_first ∙ written_at old place first (k - place) k within small j
-              ∙ sym (written_at old place (first ++ second) (k - place) k within (omega (arith, small, both)) j ∙ get_or_append_left first second 0 (k - place) small)
-          | inr behind ↦ elim (cases_lt k (next + length second)) [
-              | inl in_second ↦
-                  let i : next + (k - next) ≡ k = omega (arith, behind) in
-                  let j : place + (k - place) ≡ k = omega (arith, from) in
-                  let same : k - place - length first ≡ k - next = omega (arith, from, behind, next_is) in
-                  written_at mid next second (k - next) k within_mid (omega (arith, in_second, behind)) i
-                  ∙ sym (written_at old place (first ++ second) (k - place) k within (omega (arith, both, in_second, next_is, from)) j
-                    ∙ get_or-append_right first second (length first) (k - place) 0 refl (omega (arith, behind, next_is, from)) ∙ ap (λ (n : ℕ). get_or second n 0) same)
-              | inr above ↦ kept_above mid next second k within_mid above ∙ kept_above old place first k within (omega (arith, behind, next_is)) ∙ sym (kept_above old place (first ++ second) k within (omega (arith, above, both, next_is)))
-          ]
+              let same : k - place - length first ≡ k - next = omega (arith, from, behind, next_is) in
+              written_at mid next second (k - next) k within_mid (omega (arith, in_second, behind)) i
+              ∙ sym (written_at old place (first ++ second) (k - place) k within (omega (arith, both, in_second, next_is, from)) j
+              ∙ get_or-append_right first second (length first) (k - place) 0 refl (omega (arith, behind, next_is, from)) ∙ ap (λ (n : ℕ). get_or second n 0) same)
+          | inr above ↦ kept_above mid next second k within_mid above ∙ kept_above old place first k within (omega (arith, behind, next_is)) ∙ sym (kept_above old place (first ++ second) k within (omega (arith, above, both, next_is)))
+        ]
       ]
     ])
 
@@ -73,10 +73,10 @@ overwritten_again old place at first second before after within =
     ext_get_or 0 (overwritten mid at second) (overwritten old at second) size (λ k lt. elim (cases_lt k at) [
       | inl below ↦ kept_below mid at second k at_mid below ∙ kept_below old place first k within (omega (arith, below, before)) ∙ sym (kept_below old at second k at_old below)
       | inr from ↦ elim (cases_lt k (at + length second)) [
-          | inl inside ↦
-              let j : at + (k - at) ≡ k = omega (arith, from) in
-              written_at mid at second (k - at) k at_mid (omega (arith, from, inside)) j ∙ sym (written_at old at second (k - at) k at_old (omega (arith, from, inside)) j)
-          | inr above ↦ kept_above mid at second k at_mid above ∙ kept_above old place first k within (omega (arith, above, after)) ∙ sym (kept_above old at second k at_old above)
+        | inl inside ↦
+            let j : at + (k - at) ≡ k = omega (arith, from) in
+            written_at mid at second (k - at) k at_mid (omega (arith, from, inside)) j ∙ sym (written_at old at second (k - at) k at_old (omega (arith, from, inside)) j)
+        | inr above ↦ kept_above mid at second k at_mid above ∙ kept_above old place first k within (omega (arith, above, after)) ∙ sym (kept_above old at second k at_old above)
       ]
     ])
 
@@ -94,18 +94,18 @@ overwritten_apart old place at first second apart within =
     ext_get_or 0 (overwritten low at second) (overwritten high place first) size (λ k lt. elim (cases_lt k place) [
       | inl below ↦ kept_below low at second k at_low (omega (arith, below, apart)) ∙ kept_below old place first k place_old below ∙ sym (kept_below high place first k place_high below ∙ kept_below old at second k within (omega (arith, below, apart)))
       | inr from ↦ elim (cases_lt k (place + length first)) [
-          | inl inside ↦
-              let j : place + (k - place) ≡ k = omega (arith, from) in
-              kept_below low at second k at_low (omega (arith, inside, apart)) ∙ written_at old place first (k - place) k place_old (omega (arith, from, inside)) j ∙ sym (written_at high place first (k - place) k place_high (omega (arith, from, inside)) j)
-          | inr above ↦ elim (cases_lt k at) [
-              | inl between ↦ kept_below low at second k at_low between ∙ kept_above old place first k place_old above ∙ sym (kept_above high place first k place_high above ∙ kept_below old at second k within between)
-              | inr behind ↦ elim (cases_lt k (at + length second)) [
-                  | inl in_second ↦
-                      let j : at + (k - at) ≡ k = omega (arith, behind) in
-                      written_at low at second (k - at) k at_low (omega (arith, behind, in_second)) j ∙ sym (kept_above high place first k place_high above ∙ written_at old at second (k - at) k within (omega (arith, behind, in_second)) j)
-                  | inr over ↦ kept_above low at second k at_low over ∙ kept_above old place first k place_old above ∙ sym (kept_above high place first k place_high above ∙ kept_above old at second k within over)
-              ]
+        | inl inside ↦
+            let j : place + (k - place) ≡ k = omega (arith, from) in
+            kept_below low at second k at_low (omega (arith, inside, apart)) ∙ written_at old place first (k - place) k place_old (omega (arith, from, inside)) j ∙ sym (written_at high place first (k - place) k place_high (omega (arith, from, inside)) j)
+        | inr above ↦ elim (cases_lt k at) [
+          | inl between ↦ kept_below low at second k at_low between ∙ kept_above old place first k place_old above ∙ sym (kept_above high place first k place_high above ∙ kept_below old at second k within between)
+          | inr behind ↦ elim (cases_lt k (at + length second)) [
+            | inl in_second ↦
+                let j : at + (k - at) ≡ k = omega (arith, behind) in
+                written_at low at second (k - at) k at_low (omega (arith, behind, in_second)) j ∙ sym (kept_above high place first k place_high above ∙ written_at old at second (k - at) k within (omega (arith, behind, in_second)) j)
+            | inr over ↦ kept_above low at second k at_low over ∙ kept_above old place first k place_old above ∙ sym (kept_above high place first k place_high above ∙ kept_above old at second k within over)
           ]
+        ]
       ]
     ])
 

@@ -2,7 +2,7 @@
 use Rattle.std.proofs.Common.{◌≡◌, ◌⊎◌, inl, inr, ⊎_elim, ℕ, ◌+◌, ◌-◌, ◌*◌, ◌<◌, ◌≤◌, min, false, List, length, get_or, take, drop, sym, ◌∙◌, ap, subst, arith, length-take}
 use Rattle.std.proofs.lemmas.List.{get_or-take, drop-drop}
 use Rattle.std.proofs.lemmas.Bool.{cases_lt}
-use Rattle.book_snapshot.specs.declared.layout.TheConstants.{ROW_BYTES, OPEN}
+use Rattle.book_snapshot.specs.declared.layout.TheConstants.{ROW_BYTES}
 use Rattle.book_journal.specs.declared.layout.TheConstants.{MAX_SLOTS}
 use Rattle.book_journal.specs.Rows.{starts_open, open_rows, gate_behind}
 use Rattle.book_journal.proofs.OpenRows.{rows_fit, rows_same, rows_join, end_by_gate, end_by_cut, gate_at_end}

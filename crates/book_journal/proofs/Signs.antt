@@ -1,22 +1,22 @@
 -- The mark of a journal, and a snapshot behind its closed gate.
-use Rattle.std.proofs.Common.{◌≡◌, ◌≢◌, ◌⊎◌, inl, inr, ⊎_elim, ℕ, ◌+◌, ◌-◌, ◌*◌, ◌<◌, ◌≤◌, Bool, true, false, Option, Some, Result, List, [], ◌∷◌, ◌++◌, length, get_or, take, drop, replicate, refl, sym, ◌∙◌, ap, subst, arith, length-append, length-drop, length-take, append_assoc}
-use Rattle.std.proofs.lemmas.List.{take_at, drop_at, drop-append-le, length-take-le, length-replicate, same_lists, drop-drop, get_or-drop, get_or-take, get_or_default, get_or_append_left, take_all}
+use Rattle.std.proofs.Common.{◌≡◌, inr, ⊎_elim, ℕ, ◌+◌, ◌-◌, ◌*◌, ◌<◌, ◌≤◌, true, false, Some, Result, List, [], ◌∷◌, ◌++◌, length, get_or, take, drop, replicate, sym, ◌∙◌, ap, subst, arith, length-append, length-drop, append_assoc}
+use Rattle.std.proofs.lemmas.List.{take_at, drop_at, length-take-le, same_lists, drop-drop, get_or-drop, get_or-take, get_or_default, get_or_append_left, take_all}
 use Rattle.std.proofs.lemmas.Bool.{cases_lt}
 use Rattle.disk_core.specs.Disk.{overwritten, Only, Torn}
 use Rattle.disk_core.specs.Devices.{LeavesOnly}
 use Rattle.disk_core.specs.declared.disk.Disk as disk
-use Rattle.book_snapshot.specs.declared.layout.TheConstants.{ROW_BYTES, OPEN, BLOCK_CONTENT, HEAD, TAIL, MAX_CONTENT}
+use Rattle.book_snapshot.specs.declared.layout.TheConstants.{ROW_BYTES, OPEN, HEAD, TAIL}
 use Rattle.book_snapshot.specs.Layout.{snapshot_place, snapshot_end, blocks_for}
-use Rattle.book_snapshot.specs.DenseRows.{AreRows, content}
+use Rattle.book_snapshot.specs.DenseRows.{content}
 use Rattle.book_snapshot.specs.Blocks.{IsSnapshotSize, EndsWithSnapshot, snapshot, snapshot_content, block_content, content_blocks, end_block}
 use Rattle.book_snapshot.specs.BlockLaws.{length-content_blocks, length-end_block, content_back, blocks_enough, one_size}
-use Rattle.book_journal.specs.declared.layout.TheConstants.{MARK, MARKED, CLOSED}
-use Rattle.book_journal.specs.Rows.{HasHeader, Recovers, SnapshotAgrees, FitsSnapshot, rows_of, gate_behind, row_behind, mark_of}
+use Rattle.book_journal.specs.declared.layout.TheConstants.{MARK, MARKED}
+use Rattle.book_journal.specs.Rows.{HasHeader, Recovers, SnapshotAgrees, rows_of, gate_behind, row_behind, mark_of}
 use Rattle.book_journal.specs.Journal.{IsClosedAs, MarkedAs, StandsAs}
 use Rattle.book_journal.specs.Settles.{TornFrom, Settles}
 use Rattle.book_journal.specs.Laying.{KeptBefore, WritesBehind}
 use Rattle.book_journal.specs.Marking.{behind_closed_gate, with_snapshot, HoldsSnapshot}
-use Rattle.book_journal.proofs.Gates.{header_same, rows_kept, recovers_closed, torn_mark, mark_agrees, no_mark}
+use Rattle.book_journal.proofs.Gates.{rows_kept, recovers_closed, torn_mark, no_mark}
 use Rattle.book_journal.proofs.Overwritten.{written_at, kept_below, kept_above, overwritten_end, overwritten_size}
 use Rattle.book_journal.proofs.Standing.{closed_stands}
 use Rattle.book_journal.proofs.Moments.{started, goes_on}
@@ -152,7 +152,6 @@ markable_stands count now image stands only agrees = record {
 
 -- a snapshot that was laid
 module _ (count : ℕ) (bytes b : List ℕ) (size_is : IsSnapshotSize count (length bytes)) (long : gate_behind count < length b) where
-
   front_size : length (take (gate_behind count + 1) b ++ replicate (ROW_BYTES - 1) 0) ≡ snapshot_place count
   front_size = omega (arith, long, length-append (take (gate_behind count + 1) b) (replicate (ROW_BYTES - 1) 0), length-take-le (gate_behind count + 1) b (omega (arith, long)))
 
@@ -212,13 +211,14 @@ module _ (count : ℕ) (bytes b : List ℕ) (size_is : IsSnapshotSize count (len
   pub laid_agrees : (rows : List (List ℕ)) → length rows ≡ count → bytes ≡ content rows → SnapshotAgrees rows (with_snapshot count bytes b)
   laid_agrees rows counts are other_count other_size ends =
       let tails : end_block TAIL other_count other_size ≡ end_block TAIL count (length bytes) =
-        sym ends.tail ∙ ap (λ (n : ℕ). drop n (with_snapshot count bytes b)) (omega_place other_count other_size (sym ends.long ∙ laid_size)) ∙ from_tail in
+      sym ends.tail ∙ ap (λ (n : ℕ). drop n (with_snapshot count bytes b)) (omega_place other_count other_size (sym ends.long ∙ laid_size)) ∙ from_tail in
       let same = one_size TAIL other_count other_size count (length bytes) ends.size size_is tails in
-      let all : take other_count rows ≡ rows = take_all other_count rows (omega (arith, same.0, counts)) in
-      (omega (arith, same.0, counts),
-       ap (λ (n : ℕ). snapshot_content n other_size (with_snapshot count bytes b)) same.0
-       ∙ ap (λ (n : ℕ). snapshot_content count n (with_snapshot count bytes b)) same.1
-       ∙ laid_content ∙ are ∙ ap (λ (rs : List (List ℕ)). content rs) (sym all))
+      let all : take other_count rows ≡ rows = take_all other_count rows (omega (arith, same.0, counts)) in (
+        omega (arith, same.0, counts),
+        ap (λ (n : ℕ). snapshot_content n other_size (with_snapshot count bytes b)) same.0
+            ∙ ap (λ (n : ℕ). snapshot_content count n (with_snapshot count bytes b)) same.1
+            ∙ laid_content ∙ are ∙ ap (λ (rs : List (List ℕ)). content rs) (sym all),
+      )
     where
       omega_place : (other_count other_size : ℕ) → snapshot_end other_count other_size ≡ snapshot_end count (length bytes) → snapshot_end other_count other_size - ROW_BYTES ≡ snapshot_end count (length bytes) - ROW_BYTES
       omega_place other_count other_size same = ap (λ (n : ℕ). n - ROW_BYTES) same
@@ -237,15 +237,16 @@ laid_holds count bytes b size header long =
     let within : MARK ≤ length laid = omega (arith, all) in
     let same_size : length (overwritten laid MARK (MARKED ∷ [])) ≡ length laid = omega (arith, overwritten_size laid MARK (MARKED ∷ []) within, all) in
     let same : (n : ℕ) → ROW_BYTES ≤ n → drop n laid ≡ drop n (overwritten laid MARK (MARKED ∷ [])) = λ n beyond.
-      sym (drop_same (overwritten laid MARK (MARKED ∷ [])) laid n same_size (λ k from lt. kept_above laid MARK (MARKED ∷ []) k within (omega (arith, beyond, from)))) in
+    sym (drop_same (overwritten laid MARK (MARKED ∷ [])) laid n same_size (λ k from lt. kept_above laid MARK (MARKED ∷ []) k within (omega (arith, beyond, from)))) in
     let front : (k : ℕ) → k < ROW_BYTES → get_or laid k 0 ≡ get_or b k 0 = λ k lt.
-      get_or_append_left (take (gate_behind count + 1) b) (behind_closed_gate count bytes) 0 k (omega (arith, lt, length-take-le (gate_behind count + 1) b (omega (arith, long)))) ∙ get_or-take (gate_behind count + 1) b k 0 (omega (arith, lt)) in
-    (record {
-       header = record {
-         long = omega (arith, same_size, all);
-         same = λ k lt other. ⊎_elim (λ below. kept_below laid MARK (MARKED ∷ []) k within below) (λ above. kept_above laid MARK (MARKED ∷ []) k within (omega (arith, above, other))) (cases_lt k MARK) ∙ front k lt ∙ header.same k lt other;
-       };
-       marked = written_at laid MARK (MARKED ∷ []) 0 MARK within (omega arith) (omega arith);
-       ends = ends_same count (length bytes) laid (overwritten laid MARK (MARKED ∷ [])) (sym same_size) same (laid_ends count bytes b size long);
-     },
-     sym (content_same count (length bytes) laid (overwritten laid MARK (MARKED ∷ [])) same) ∙ laid_content count bytes b size long)
+    get_or_append_left (take (gate_behind count + 1) b) (behind_closed_gate count bytes) 0 k (omega (arith, lt, length-take-le (gate_behind count + 1) b (omega (arith, long)))) ∙ get_or-take (gate_behind count + 1) b k 0 (omega (arith, lt)) in (
+      record {
+        header = record {
+          long = omega (arith, same_size, all);
+          same = λ k lt other. ⊎_elim (λ below. kept_below laid MARK (MARKED ∷ []) k within below) (λ above. kept_above laid MARK (MARKED ∷ []) k within (omega (arith, above, other))) (cases_lt k MARK) ∙ front k lt ∙ header.same k lt other;
+        };
+        marked = written_at laid MARK (MARKED ∷ []) 0 MARK within (omega arith) (omega arith);
+        ends = ends_same count (length bytes) laid (overwritten laid MARK (MARKED ∷ [])) (sym same_size) same (laid_ends count bytes b size long);
+      },
+      sym (content_same count (length bytes) laid (overwritten laid MARK (MARKED ∷ [])) same) ∙ laid_content count bytes b size long,
+    )

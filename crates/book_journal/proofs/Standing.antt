@@ -1,21 +1,19 @@
 -- The steps of a journal: a row behind its closed gate, its gate, and its mark.
-use Rattle.std.proofs.Common.{◌≡◌, ◌≢◌, ◌⊎◌, inl, inr, ⊎_elim, ℕ, ◌+◌, ◌-◌, ◌<◌, ◌≤◌, Bool, true, false, Option, Some, Result, List, [], ◌∷◌, ◌++◌, length, get_or, take, drop, refl, sym, ◌∙◌, ap, subst, arith, length-append, length-drop, append_assoc}
-use Rattle.std.proofs.lemmas.List.{take_at, drop_at, drop_more, length-take-le, get_or_at, same_lists, drop-drop, get_or-drop, get_or_default}
-use Rattle.disk_core.specs.Disk.{overwritten, Only, Torn}
+use Rattle.std.proofs.Common.{◌≡◌, ◌≢◌, ◌⊎◌, ℕ, ◌+◌, ◌-◌, ◌<◌, ◌≤◌, Bool, true, false, Some, Result, List, [], ◌∷◌, ◌++◌, length, get_or, take, drop, refl, sym, ◌∙◌, ap, subst, arith, length-append, append_assoc}
+use Rattle.std.proofs.lemmas.List.{take_at, drop_at, length-take-le, get_or_at}
+use Rattle.disk_core.specs.Disk.{overwritten, Only}
 use Rattle.disk_core.specs.Devices.{LeavesOnly}
 use Rattle.disk_core.specs.declared.disk.Disk as disk
 use Rattle.disk_core.specs.Tears.{length-overwritten}
 use Rattle.book_snapshot.specs.declared.layout.TheConstants.{ROW_BYTES, OPEN}
-use Rattle.book_snapshot.specs.Layout.{snapshot_place, snapshot_end}
-use Rattle.book_snapshot.specs.DenseRows.{IsRow, AreRows, content}
-use Rattle.book_snapshot.specs.Blocks.{EndsWithSnapshot, snapshot_content, block_content}
-use Rattle.book_journal.specs.declared.layout.TheConstants.{MARK, CLOSED}
-use Rattle.book_journal.specs.Rows.{HasHeader, Recovers, SnapshotAgrees, rows_of, gate_behind, row_behind, mark_of}
-use Rattle.book_journal.specs.Journal.{IsClosedAs, IsHungAs, EndsAs, MarkedAs, CanHang, StandsAs}
+use Rattle.book_snapshot.specs.DenseRows.{IsRow, AreRows}
+use Rattle.book_journal.specs.declared.layout.TheConstants.{CLOSED}
+use Rattle.book_journal.specs.Rows.{HasHeader, Recovers, rows_of, gate_behind, row_behind, mark_of}
+use Rattle.book_journal.specs.Journal.{IsClosedAs, IsHungAs, MarkedAs, StandsAs}
 use Rattle.book_journal.specs.Settles.{TornFrom, Settles}
-use Rattle.book_journal.proofs.Gates.{header_same, rows_kept, row_kept, rows_opened, recovers_closed, recovers_hung, torn_closed, torn_hung, torn_mark, mark_kept, mark_agrees, no_mark, numbered_more, closed_as_read, hung_as_read}
-use Rattle.book_journal.proofs.Overwritten.{written_at, kept_below, kept_above}
-use Rattle.book_journal.proofs.Moments.{started, goes_on, leaves_in, leaves_on}
+use Rattle.book_journal.proofs.Gates.{header_same, rows_kept, row_kept, rows_opened, recovers_closed, recovers_hung, torn_closed, torn_hung, mark_kept, no_mark, numbered_more, closed_as_read, hung_as_read}
+use Rattle.book_journal.proofs.Overwritten.{written_at}
+use Rattle.book_journal.proofs.Moments.{started, goes_on}
 
 no_true : {A : Type 0} → false ≡ true → A
 no_true is = absurd cc

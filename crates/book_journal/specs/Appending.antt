@@ -1,6 +1,6 @@
 -- What an append makes of the rows and of the disk.
-use Rattle.std.specs.Prelude.{◌≡◌, ◌≢◌, ◌⊎◌, ℕ, ◌+◌, ◌<◌, ◌≤◌, max, Bool, true, false, if◌then◌else◌, List, [], ◌∷◌, ◌++◌, length, slice_index, Option, Some, Result, OnOk, OnErr}
-use Rattle.disk_core.specs.Disk.{overwritten, WhereTold}
+use Rattle.std.specs.Prelude.{◌≡◌, ◌≢◌, ◌⊎◌, ℕ, ◌+◌, ◌<◌, ◌≤◌, max, Bool, true, false, if◌then◌else◌, List, [], ◌∷◌, ◌++◌, length, slice_index, Result, OnOk, OnErr}
+use Rattle.disk_core.specs.Disk.{overwritten}
 use Rattle.disk_core.specs.Devices.{LeavesOnly}
 use Rattle.disk_core.specs.declared.disk.Disk as disk
 use Rattle.book_journal.specs.declared.layout.TheConstants.{MARK, CLOSED}

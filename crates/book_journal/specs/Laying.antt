@@ -1,5 +1,5 @@
 -- Writes from a place on, behind everything that is to stay.
-use Rattle.std.specs.Prelude.{◌≡◌, ℕ, ◌+◌, ◌<◌, ◌≤◌, List, length, slice_index, Option, Some, Result, Ok, OnOk}
+use Rattle.std.specs.Prelude.{◌≡◌, ℕ, ◌<◌, ◌≤◌, List, length, slice_index, Some, Result, Ok, OnOk}
 use Rattle.disk_core.specs.Disk.{overwritten, Elapses}
 use Rattle.disk_core.specs.declared.disk.Disk as disk
 

@@ -1,5 +1,5 @@
 -- What mounting a disk finds there, and what it leaves of it.
-use Rattle.std.specs.Prelude.{◌≡◌, ◌≢◌, ◌⊎◌, ℕ, ◌+◌, ◌-◌, ◌*◌, ◌<◌, ◌≤◌, Bool, true, false, not, ◌&&◌, ◌||◌, ◌==◌, nat_lt, if◌then◌else◌, List, [], ◌∷◌, ◌++◌, length, drop, replicate, slice_index, Option, Some, None, MatchOption, Result, MatchResult}
+use Rattle.std.specs.Prelude.{◌≡◌, ◌⊎◌, ℕ, ◌+◌, ◌-◌, ◌*◌, ◌<◌, ◌≤◌, Bool, false, not, ◌&&◌, ◌||◌, ◌==◌, nat_lt, if◌then◌else◌, List, [], ◌∷◌, ◌++◌, length, drop, replicate, slice_index, Option, Some, None, MatchOption}
 use Rattle.hall_limits.specs.declared.TheConstants.{MAX_ROWS}
 use Rattle.device_facts.specs.Count.{Counted}
 use Rattle.disk_core.specs.Disk.{WhereTold, Only, overwritten}
@@ -8,7 +8,7 @@ use Rattle.disk_core.specs.declared.disk.Disk as disk
 use Rattle.book_snapshot.specs.declared.types.Kept.{Kept}
 use Rattle.book_snapshot.specs.declared.layout.TheConstants.{ROW_BYTES, OPEN}
 use Rattle.book_journal.specs.declared.layout.TheConstants.{CLOSED, NEW_BYTES, MAX_SLOTS}
-use Rattle.book_journal.specs.declared.slots.TheConstants.{PIECE_SLOTS, FEW_SLOTS, OPENING_BYTES, SLOT_COST}
+use Rattle.book_journal.specs.declared.slots.TheConstants.{PIECE_SLOTS, OPENING_BYTES, SLOT_COST}
 use Rattle.book_journal.specs.Rows.{HasHeader, FirstDiffersAt, FitsSnapshot, open_rows, gate_behind, mark_of, title}
 use Rattle.book_journal.specs.declared.types.JournalFault.{JournalFault}
 use Rattle.book_journal.specs.declared.types.JournalFault.TheVariants.{Failed, NotJournal}

@@ -1,5 +1,5 @@
 -- What is read of a snapshot.
-use Rattle.std.specs.Prelude.{◌≡◌, ℕ, ◌+◌, ◌-◌, ◌*◌, ◌<◌, ◌≤◌, min, List, length, take, drop, Option, Some, None, Result, IfOk}
+use Rattle.std.specs.Prelude.{◌≡◌, ℕ, ◌-◌, ◌*◌, ◌<◌, min, List, take, drop, Option, Some, None, Result, IfOk}
 use Rattle.book_snapshot.specs.declared.types.Kept.{Kept}
 use Rattle.book_snapshot.specs.Blocks.{IsSnapshotSize, EndsWithSnapshot, snapshot_content}
 use Rattle.book_journal.specs.declared.blocks.TheConstants.{BLOCKS_CONTENT}
@@ -15,4 +15,4 @@ abbrev pub ReadsContent : {E : Type 0} → Option Kept → List ℕ → ℕ → 
 ReadsContent None bytes from result into = ⊥
 ReadsContent (Some kept) bytes from result into = EndsWithSnapshot kept.rows kept.bytes bytes
     → IfOk result (λ count. (count ≡ min BLOCKS_CONTENT (kept.bytes - BLOCKS_CONTENT * from))
-      × (take count into ≡ take count (drop (BLOCKS_CONTENT * from) (snapshot_content kept.rows kept.bytes bytes))))
+    × (take count into ≡ take count (drop (BLOCKS_CONTENT * from) (snapshot_content kept.rows kept.bytes bytes))))

@@ -1,5 +1,5 @@
 -- A write and a sync.
-use Rattle.std.specs.Prelude.{◌≡◌, ℕ, ◌+◌, List, length, Option, Some, Result, OnOk, OnErr}
+use Rattle.std.specs.Prelude.{◌≡◌, ℕ, ◌+◌, List, length, Some, Result, OnOk}
 use Rattle.disk_core.specs.Disk.{overwritten, Torn, Only, Elapses}
 use Rattle.disk_core.specs.declared.disk.Disk as disk
 

@@ -19,18 +19,16 @@ impl<D: Disk> Journal<D> {
     /// left as it is, since its last bytes aren't the journal's. Failed comes only where the disk
     /// failed; the rows are the same then.
     ///
-    /// The journal doesn't hang and has 1 to 1 000 000 rows, and the content is of these rows and
-    /// has 1 to 92 000 000 bytes.
+    /// The journal doesn't hang and has 1 to 1 000 000 rows, and the content has 1 to 92 000 000
+    /// bytes. Where it isn't that of the rows, nothing is claimed of what a crash leaves.
     pub fn keep(&mut self, content: &Dense) -> Result<(), Failed>
         requires calm { ¬ Hangs self.old }
         requires some_rows { 1 ≤ count_of self.old }
         requires some_bytes { 1 ≤ length content.now }
         requires few_bytes { length content.now ≤ MAX_CONTENT }
-        requires of_rows { (rows : List (List ℕ)) → HasRows D.Disk self.old rows →
-            IsContentOf rows content.now }
         requires sound { IsSound D.Disk self.old }
         ensures keeps { (rows : List (List ℕ)) → HasRows D.Disk self.old rows →
-            KeepsSnapshot D.Disk self.old self.new rows }
+            IsContentOf rows content.now → KeepsSnapshot D.Disk self.old self.new rows }
         ensures written { WhereTold (D.reads (disk_of self.old)) (λ bytes. OnOk result
             (D.reads (disk_of self.new) ≡ Some (kept_disk self.old content.now bytes))) }
         ensures fits { WhereTold (D.reads (disk_of self.old)) (λ bytes.

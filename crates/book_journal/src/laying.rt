@@ -11,7 +11,8 @@ ghost use Rattle.book_journal.specs.Laying.{WritesBehind};
 use crate::blocks::{BLOCKS_BYTES, BLOCKS_CONTENT};
 use crate::layout::gate_behind;
 use book_snapshot::{
-    HEAD, Kept, MAX_CONTENT, ROW_BYTES, blocks_for, head_block, put_blocks, snapshot_place, tail_block,
+    HEAD, Kept, MAX_CONTENT, ROW_BYTES, blocks_for, head_block, put_blocks, snapshot_place,
+    tail_block,
 };
 use disk_core::{Disk, Failed};
 use hall_limits::MAX_ROWS;

@@ -31,7 +31,8 @@ impl<D: Disk> Journal<D> {
         ensures asked_most { D.asked (disk_of self.new) ≤ D.asked (disk_of self.old) + ROW_BYTES }
     {
         let mut row = [0; ROW_BYTES];
-        self.disk.read_at(ROW_BYTES as u64 * u64::from(number), &mut row)?;
+        self.disk
+            .read_at(ROW_BYTES as u64 * u64::from(number), &mut row)?;
         Ok(row)
     }
 }

@@ -9,7 +9,9 @@ ghost use Rattle.book_journal.specs.Mounting.{IsSnapshotOf};
 ghost use Rattle.book_journal.specs.Ends.{HasTail, NoTail, IsSized};
 
 use crate::layout::MARKED;
-use book_snapshot::{HEAD, Kept, ROW_BYTES, TAIL, head_block, read_tail, snapshot_end, snapshot_place};
+use book_snapshot::{
+    HEAD, Kept, ROW_BYTES, TAIL, head_block, read_tail, snapshot_end, snapshot_place,
+};
 use disk_core::{Disk, Failed};
 
 /// Finds the snapshot that fits a disk of that many bytes, which begins with the header and this
@@ -57,9 +59,9 @@ fn tail_at<D: Disk>(disk: &mut D, size: u64) -> Result<Option<Kept>, Failed>
 fn ending_at(block: &[u8; ROW_BYTES], size: u64) -> Option<Kept>
     ensures { MatchOption result
         ((rows bytes : ℕ) → IsSnapshotSize rows bytes → snapshot_end rows bytes ≡ size →
-            block.now ≢ end_block TAIL rows bytes)
+        block.now ≢ end_block TAIL rows bytes)
         (λ kept. IsSnapshotSize kept.rows kept.bytes × (snapshot_end kept.rows kept.bytes ≡ size)
-            × (block.now ≡ end_block TAIL kept.rows kept.bytes)) }
+        × (block.now ≡ end_block TAIL kept.rows kept.bytes)) }
 {
     let kept = read_tail(block)?;
     if snapshot_end(kept) == size {

@@ -1,5 +1,5 @@
-use Rattle.std.proofs.Common.{◌≡◌, ◌∙◌, ◌≤◌, ℕ, List, [], ◌∷◌, ap, refl, sym, subst, arith, Some, length, false}
-use Rattle.disk_core.specs.Disk.{Only, overwritten}
+use Rattle.std.proofs.Common.{◌≡◌, ◌∙◌, ℕ, List, [], ◌∷◌, ap, refl, sym, subst, arith, Some, false}
+use Rattle.disk_core.specs.Disk.{Only}
 use Rattle.book_journal.specs.declared.layout.TheConstants.{CLOSED}
 use Rattle.book_journal.specs.Rows.{Recovers, gate_behind}
 use Rattle.book_journal.specs.Mounting.{stands_closed, closed_behind}

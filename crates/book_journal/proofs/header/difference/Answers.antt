@@ -1,5 +1,5 @@
-use Rattle.std.proofs.Common.{◌≡◌, ◌≢◌, ◌<◌, ◌-◌, ◌∙◌, ℕ, List, ap, sym, subst, length, get_or, below_more}
-use Rattle.book_journal.specs.declared.layout.TheConstants.{MARK, NEW_BYTES}
+use Rattle.std.proofs.Common.{◌≡◌, ◌-◌, ◌∙◌, ℕ, List, ap, sym, length, get_or, below_more}
+use Rattle.book_journal.specs.declared.layout.TheConstants.{NEW_BYTES}
 use Rattle.book_journal.specs.Rows.{title}
 use Rattle.book_journal.specs.Mounting.{new_journal}
 use Rattle.book_journal.proofs.OpenRows.{padded}

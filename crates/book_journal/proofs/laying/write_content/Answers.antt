@@ -1,11 +1,9 @@
-use Rattle.std.proofs.Common.{◌≡◌, ◌∙◌, ◌+◌, ◌*◌, ◌-◌, ◌<◌, ◌≤◌, min, ℕ, List, [], ◌++◌, length, take, drop, ap, refl, sym, subst, arith, Some, Result}
-use Rattle.disk_core.specs.Disk.{overwritten, Writes}
-use Rattle.book_snapshot.specs.declared.layout.TheConstants.{ROW_BYTES}
+use Rattle.std.proofs.Common.{◌≡◌, ◌∙◌, ◌+◌, ◌*◌, ℕ, List, [], ◌++◌, length, ap, refl, sym, arith}
 use Rattle.book_snapshot.specs.Layout.{blocks_for}
 use Rattle.book_snapshot.specs.Blocks.{content_blocks}
 use Rattle.book_snapshot.specs.BlockLaws.{content_blocks-none, length-content_blocks}
-use Rattle.book_journal.specs.declared.blocks.TheConstants.{CALL_BLOCKS, BLOCKS_BYTES}
-use Rattle.book_journal.specs.Laying.{WritesBehind, all_done}
+use Rattle.book_journal.specs.declared.blocks.TheConstants.{BLOCKS_BYTES}
+use Rattle.book_journal.specs.Laying.{all_done}
 use Rattle.book_journal.proofs.BehindGate.{behind_none, behind_one, behind_both, behind_err, behind_as, blocks_before, piece_within, before_piece, behind_pieces, one_piece}
 use Rattle.book_journal.proofs.Journals.{told_before, tells_on}
 use Rattle.book_journal.proofs.Overwritten.{overwritten_size}

@@ -1,15 +1,13 @@
-use Rattle.std.proofs.Common.{◌≡◌, ◌∙◌, ◌+◌, ◌*◌, ◌-◌, ◌<◌, ◌≤◌, ℕ, List, ◌++◌, length, replicate, ap, refl, sym, subst, arith, Some, length-append}
-use Rattle.std.proofs.lemmas.List.{append_assoc, length-replicate}
-use Rattle.disk_core.specs.Disk.{overwritten}
+use Rattle.std.proofs.Common.{◌≡◌, ◌∙◌, ◌+◌, ◌*◌, ◌-◌, ◌≤◌, ℕ, List, ◌++◌, length, replicate, ap, refl, arith, length-append}
+use Rattle.std.proofs.lemmas.List.{append_assoc}
 use Rattle.book_snapshot.specs.declared.layout.TheConstants.{ROW_BYTES, HEAD, TAIL}
 use Rattle.book_snapshot.specs.Layout.{blocks_for, snapshot_place}
 use Rattle.book_snapshot.specs.Blocks.{end_block, content_blocks}
-use Rattle.book_snapshot.specs.BlockLaws.{length-content_blocks, length-end_block}
+use Rattle.book_snapshot.specs.BlockLaws.{length-content_blocks}
 use Rattle.book_journal.specs.Rows.{gate_behind}
 use Rattle.book_journal.specs.Marking.{behind_closed_gate}
-use Rattle.book_journal.specs.Laying.{WritesBehind}
 use Rattle.book_journal.proofs.BehindGate.{behind_one, behind_both, behind_err, behind_as, behind_at}
-use Rattle.book_journal.proofs.Journals.{told_before, tells_on}
+use Rattle.book_journal.proofs.Journals.{told_before}
 use Rattle.book_journal.proofs.Overwritten.{overwritten_size}
 use Rattle.book_journal.proofs.laying.write_snapshot.Goals as goal
 
@@ -60,7 +58,7 @@ returns-in_err-write_content-clause-writes g c there told =
     let new = c.write_content.new.disk in
     let within = c.requires.within there told in
     let one = behind_at g.D.Disk (c.gate_behind.result + 1) (gate_behind rows + 1) c.front_of.result (front rows size) _ there old mid (ap (λ (p : ℕ). p + 1) c.gate_behind.ensures) c.front_of.ensures
-      (behind_one g.D.Disk (c.gate_behind.result + 1) c.front_of.result _ there old mid (c.in_ok-write_at.ensures.writes there told) c.write_at.ensures.time) in
+    (behind_one g.D.Disk (c.gate_behind.result + 1) c.front_of.result _ there old mid (c.in_ok-write_at.ensures.writes there told) c.write_at.ensures.time) in
     let next = ap (λ (p : ℕ). p + ROW_BYTES) c.snapshot_place.ensures ∙ content_place rows size in
     let both = behind_both g.D.Disk (gate_behind rows + 1) (c.snapshot_place.result + ROW_BYTES) (front rows size) (content_blocks (blocks_for (length content)) content) _ c.write_content.result there old mid new one one.done (c.write_content.ensures.writes one.now one.told) next (omega (arith, within)) in
     behind_err g.D.Disk (gate_behind rows + 1) _ (behind_closed_gate rows content) c.write_content.result c.from_residual-in_err-write_content.result _ there old new c.from_residual-in_err-write_content.ensures.1 both
@@ -94,12 +92,12 @@ returns-in_err-write_at-2-clause-writes g c there told =
     let new = c.write_at-2.new.self in
     let within = c.requires.within there told in
     let one = behind_at g.D.Disk (c.gate_behind.result + 1) (gate_behind rows + 1) c.front_of.result (front rows size) _ there old mid (ap (λ (p : ℕ). p + 1) c.gate_behind.ensures) c.front_of.ensures
-      (behind_one g.D.Disk (c.gate_behind.result + 1) c.front_of.result _ there old mid (c.in_ok-write_at.ensures.writes there told) c.write_at.ensures.time) in
+    (behind_one g.D.Disk (c.gate_behind.result + 1) c.front_of.result _ there old mid (c.in_ok-write_at.ensures.writes there told) c.write_at.ensures.time) in
     let next = ap (λ (p : ℕ). p + ROW_BYTES) c.snapshot_place.ensures ∙ content_place rows size in
     let both = behind_both g.D.Disk (gate_behind rows + 1) (c.snapshot_place.result + ROW_BYTES) (front rows size) (content_blocks (blocks_for (length content)) content) _ _ there old mid laid one one.done (c.in_ok-write_content.ensures.writes one.now one.told) next (omega (arith, within)) in
     let last = behind_at g.D.Disk (c.snapshot_place.result + ROW_BYTES + ROW_BYTES * c.blocks_for.result) (c.snapshot_place.result + ROW_BYTES + ROW_BYTES * blocks_for (length content)) c.tail_block.result (end_block TAIL rows size) c.write_at-2.result both.now laid new
-      (ap (λ (n : ℕ). c.snapshot_place.result + ROW_BYTES + ROW_BYTES * n) (c.blocks_for.ensures ∙ ap (λ (n : ℕ). blocks_for n) c.requires.content)) c.tail_block.ensures
-      (behind_one g.D.Disk (c.snapshot_place.result + ROW_BYTES + ROW_BYTES * c.blocks_for.result) c.tail_block.result c.write_at-2.result both.now laid new (c.write_at-2.ensures.writes both.now both.told) c.write_at-2.ensures.time) in
+    (ap (λ (n : ℕ). c.snapshot_place.result + ROW_BYTES + ROW_BYTES * n) (c.blocks_for.ensures ∙ ap (λ (n : ℕ). blocks_for n) c.requires.content)) c.tail_block.ensures
+    (behind_one g.D.Disk (c.snapshot_place.result + ROW_BYTES + ROW_BYTES * c.blocks_for.result) c.tail_block.result c.write_at-2.result both.now laid new (c.write_at-2.ensures.writes both.now both.told) c.write_at-2.ensures.time) in
     let behind : c.snapshot_place.result + ROW_BYTES + ROW_BYTES * blocks_for (length content) ≡ gate_behind rows + 1 + length (front rows size ++ content_blocks (blocks_for (length content)) content) = omega (arith, next, length-append (front rows size) (content_blocks (blocks_for (length content)) content), length-content_blocks (blocks_for (length content)) content) in
     let all = behind_both g.D.Disk (gate_behind rows + 1) (c.snapshot_place.result + ROW_BYTES + ROW_BYTES * blocks_for (length content)) (front rows size ++ content_blocks (blocks_for (length content)) content) (end_block TAIL rows size) _ c.write_at-2.result there old laid new both both.done last behind (omega (arith, within)) in
     behind_err g.D.Disk (gate_behind rows + 1) _ (behind_closed_gate rows content) c.write_at-2.result c.from_residual-in_err-write_at-2.result _ there old new c.from_residual-in_err-write_at-2.ensures.1 all
@@ -115,12 +113,12 @@ returns-clause-writes g c there told =
     let new = c.write_at-2.new.self in
     let within = c.requires.within there told in
     let one = behind_at g.D.Disk (c.gate_behind.result + 1) (gate_behind rows + 1) c.front_of.result (front rows size) _ there old mid (ap (λ (p : ℕ). p + 1) c.gate_behind.ensures) c.front_of.ensures
-      (behind_one g.D.Disk (c.gate_behind.result + 1) c.front_of.result _ there old mid (c.in_ok-write_at.ensures.writes there told) c.write_at.ensures.time) in
+    (behind_one g.D.Disk (c.gate_behind.result + 1) c.front_of.result _ there old mid (c.in_ok-write_at.ensures.writes there told) c.write_at.ensures.time) in
     let next = ap (λ (p : ℕ). p + ROW_BYTES) c.snapshot_place.ensures ∙ content_place rows size in
     let both = behind_both g.D.Disk (gate_behind rows + 1) (c.snapshot_place.result + ROW_BYTES) (front rows size) (content_blocks (blocks_for (length content)) content) _ _ there old mid laid one one.done (c.in_ok-write_content.ensures.writes one.now one.told) next (omega (arith, within)) in
     let last = behind_at g.D.Disk (c.snapshot_place.result + ROW_BYTES + ROW_BYTES * c.blocks_for.result) (c.snapshot_place.result + ROW_BYTES + ROW_BYTES * blocks_for (length content)) c.tail_block.result (end_block TAIL rows size) _ both.now laid new
-      (ap (λ (n : ℕ). c.snapshot_place.result + ROW_BYTES + ROW_BYTES * n) (c.blocks_for.ensures ∙ ap (λ (n : ℕ). blocks_for n) c.requires.content)) c.tail_block.ensures
-      (behind_one g.D.Disk (c.snapshot_place.result + ROW_BYTES + ROW_BYTES * c.blocks_for.result) c.tail_block.result _ both.now laid new (c.in_ok-write_at-2.ensures.writes both.now both.told) c.write_at-2.ensures.time) in
+    (ap (λ (n : ℕ). c.snapshot_place.result + ROW_BYTES + ROW_BYTES * n) (c.blocks_for.ensures ∙ ap (λ (n : ℕ). blocks_for n) c.requires.content)) c.tail_block.ensures
+    (behind_one g.D.Disk (c.snapshot_place.result + ROW_BYTES + ROW_BYTES * c.blocks_for.result) c.tail_block.result _ both.now laid new (c.in_ok-write_at-2.ensures.writes both.now both.told) c.write_at-2.ensures.time) in
     let behind : c.snapshot_place.result + ROW_BYTES + ROW_BYTES * blocks_for (length content) ≡ gate_behind rows + 1 + length (front rows size ++ content_blocks (blocks_for (length content)) content) = omega (arith, next, length-append (front rows size) (content_blocks (blocks_for (length content)) content), length-content_blocks (blocks_for (length content)) content) in
     let all = behind_both g.D.Disk (gate_behind rows + 1) (c.snapshot_place.result + ROW_BYTES + ROW_BYTES * blocks_for (length content)) (front rows size ++ content_blocks (blocks_for (length content)) content) (end_block TAIL rows size) _ _ there old laid new both both.done last behind (omega (arith, within)) in
     behind_as g.D.Disk (gate_behind rows + 1) _ (behind_closed_gate rows content) _ _ there old new

@@ -1,5 +1,5 @@
-use Rattle.std.proofs.Common.{◌≡◌, ◌∙◌, ◌≤◌, inr, ℕ, List, [], length, ap, refl, sym, subst, arith, Some}
-use Rattle.disk_core.specs.Disk.{Only, overwritten}
+use Rattle.std.proofs.Common.{◌≡◌, ◌∙◌, inr, ℕ, List, [], length, ap, refl, subst, arith, Some}
+use Rattle.disk_core.specs.Disk.{Only}
 use Rattle.book_journal.specs.Rows.{Recovers}
 use Rattle.book_journal.specs.Mounting.{new_journal}
 use Rattle.book_journal.proofs.Overwritten.{overwritten_end}

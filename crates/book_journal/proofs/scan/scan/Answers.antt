@@ -1,9 +1,8 @@
-use Rattle.std.proofs.Common.{◌≡◌, ◌∙◌, ◌≤◌, ◌<◌, ◌+◌, ◌-◌, ◌⊎◌, inl, inr, ⊎_elim, ℕ, List, length, drop, ap, refl, sym, subst, arith, Some, false, Bool, not, ◌==◌}
+use Rattle.std.proofs.Common.{◌≡◌, ◌∙◌, ◌-◌, ◌⊎◌, inl, inr, ℕ, List, length, drop, ap, sym, subst, arith, false, not, ◌==◌}
 use Rattle.book_journal.specs.declared.layout.TheConstants.{MAX_SLOTS}
-use Rattle.disk_core.specs.Disk.{Only}
-use Rattle.book_journal.specs.Rows.{Recovers, open_rows, starts_open, gate_behind, mark_of}
-use Rattle.book_journal.specs.Mounting.{rows_before, slots_behind}
-use Rattle.book_journal.specs.Closing.{EndsAt, IsFull}
+use Rattle.book_journal.specs.Rows.{Recovers, open_rows, starts_open, gate_behind}
+use Rattle.book_journal.specs.Mounting.{rows_before}
+use Rattle.book_journal.specs.Closing.{IsFull}
 use Rattle.book_journal.proofs.Ending.{still_recovers, still_behind}
 use Rattle.book_journal.proofs.OpenEnds.{journal_of, first_within, counted_within, slots_counted, rows_are_counted}
 use Rattle.book_journal.proofs.Moments.{leaves_on, unmoved_leaves, unmoved_on}

@@ -1,6 +1,5 @@
 use Rattle.std.proofs.Common.{◌∙◌, ⊎_elim, inl, inr, ℕ, min, length, drop, ap, refl, sym, arith, length-drop, length-take}
 use Rattle.book_journal.proofs.OpenRows.{rows_fit}
-use Rattle.book_journal.proofs.Moments.{unmoved_by}
 use Rattle.book_journal.proofs.Pieces.{piece_all, piece_end}
 use Rattle.book_journal.proofs.slots.count_piece.Goals as goal
 

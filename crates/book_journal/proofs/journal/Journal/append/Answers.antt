@@ -1,12 +1,11 @@
-use Rattle.std.proofs.Common.{◌≡◌, ◌≤◌, ◌⊎◌, ◌∙◌, ⊎_elim, inl, inr, ℕ, List, [], ◌∷◌, ◌++◌, length, ap, refl, sym, subst, arith, Some}
+use Rattle.std.proofs.Common.{◌⊎◌, ◌∙◌, ⊎_elim, inl, inr, ℕ, List, [], ◌∷◌, ◌++◌, ap, subst, arith, Some}
 use Rattle.disk_core.specs.Disk.{overwritten}
-use Rattle.book_snapshot.specs.declared.layout.TheConstants.{ROW_BYTES}
 use Rattle.book_journal.specs.declared.layout.TheConstants.{CLOSED}
 use Rattle.book_journal.specs.Rows.{Recovers, gate_behind}
-use Rattle.book_journal.specs.Journal.{HasRows, RecoversOrHangs}
-use Rattle.book_journal.specs.Appending.{TouchesSlot, AppendsRow, cleared, closed_gate}
+use Rattle.book_journal.specs.Journal.{RecoversOrHangs}
+use Rattle.book_journal.specs.Appending.{TouchesSlot, cleared, closed_gate}
 use Rattle.book_journal.proofs.Calls.{no_both, row_over_gate}
-use Rattle.book_journal.proofs.Journals.{images_keep, none_hangs, told_after, told_as, touches_on}
+use Rattle.book_journal.proofs.Journals.{images_keep, none_hangs, told_after, touches_on}
 use Rattle.book_journal.proofs.Moments.{leaves_in, leaves_on}
 use Rattle.book_journal.proofs.Results.{ok_at_err, err_at}
 use Rattle.book_journal.proofs.journal.Journal.append.Goals as goal
@@ -77,8 +76,8 @@ returns-in_err-put-clause-appends g c rows has =
       moments = leaves_on g.D.Disk old.disk mid.disk new.disk P
           (leaves_in g.D.Disk old.disk mid.disk _ P kept.moments (λ f left. inl left))
           (leaves_on g.D.Disk mid.disk clear.disk new.disk P
-            (leaves_in g.D.Disk mid.disk clear.disk _ P quiet.moments (λ f left. inl (inl (none_hangs g.D.Disk g.met.D.Disk.reads_image g.met.D.Disk.only_now mid rows f calm left))))
-            (leaves_in g.D.Disk clear.disk new.disk _ P puts.moments (λ f left. ⊎_elim (λ without. inl (inl without)) (λ with_it. inr with_it) left)));
+          (leaves_in g.D.Disk mid.disk clear.disk _ P quiet.moments (λ f left. inl (inl (none_hangs g.D.Disk g.met.D.Disk.reads_image g.met.D.Disk.only_now mid rows f calm left))))
+          (leaves_in g.D.Disk clear.disk new.disk _ P puts.moments (λ f left. ⊎_elim (λ without. inl (inl without)) (λ with_it. inr with_it) left)));
     }
 
 pub returns-in_err-put-clause-images : goal.returns-in_err-put-clause-images
@@ -117,8 +116,8 @@ returns-clause-appends g c rows has =
       moments = leaves_on g.D.Disk old.disk mid.disk new.disk P
           (leaves_in g.D.Disk old.disk mid.disk _ P kept.moments (λ f left. inl left))
           (leaves_on g.D.Disk mid.disk clear.disk new.disk P
-            (leaves_in g.D.Disk mid.disk clear.disk _ P quiet.moments (λ f left. inl (inl (none_hangs g.D.Disk g.met.D.Disk.reads_image g.met.D.Disk.only_now mid rows f calm left))))
-            (leaves_in g.D.Disk clear.disk new.disk _ P puts.moments (λ f left. ⊎_elim (λ without. inl (inl without)) (λ with_it. inr with_it) left)));
+          (leaves_in g.D.Disk mid.disk clear.disk _ P quiet.moments (λ f left. inl (inl (none_hangs g.D.Disk g.met.D.Disk.reads_image g.met.D.Disk.only_now mid rows f calm left))))
+          (leaves_in g.D.Disk clear.disk new.disk _ P puts.moments (λ f left. ⊎_elim (λ without. inl (inl without)) (λ with_it. inr with_it) left)));
     }
 
 pub returns-clause-images : goal.returns-clause-images

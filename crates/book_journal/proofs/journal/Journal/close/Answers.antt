@@ -1,10 +1,9 @@
-use Rattle.std.proofs.Common.{◌≡◌, ◌≤◌, ◌+◌, ◌∙◌, inr, ℕ, List, [], ◌∷◌, ap, refl, sym, subst, arith, Some, IsTrue, Bool, if◌then◌else◌}
+use Rattle.std.proofs.Common.{◌≡◌, ◌∙◌, inr, ℕ, List, [], ◌∷◌, ap, refl, sym, arith, Some, Bool, if◌then◌else◌}
 use Rattle.disk_core.specs.Disk.{overwritten}
-use Rattle.book_snapshot.specs.declared.layout.TheConstants.{ROW_BYTES}
 use Rattle.book_journal.specs.declared.layout.TheConstants.{CLOSED}
 use Rattle.book_journal.specs.Rows.{gate_behind, row_behind}
-use Rattle.book_journal.specs.Appending.{TouchesSlot, KeepsRows}
-use Rattle.book_journal.proofs.Calls.{kept_still, closing, closing_row, closed}
+use Rattle.book_journal.specs.Appending.{TouchesSlot}
+use Rattle.book_journal.proofs.Calls.{kept_still, closing, closed}
 use Rattle.book_journal.proofs.Journals.{told_on, told_as, told_before, gate_torn, touches_torn}
 use Rattle.book_journal.proofs.Signs.{gate_row_kept}
 use Rattle.book_journal.proofs.Standing.{settles_at}

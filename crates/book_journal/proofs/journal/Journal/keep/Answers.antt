@@ -1,26 +1,25 @@
-use Rattle.std.proofs.Common.{◌≡◌, ◌≢◌, ◌∙◌, ◌+◌, ◌<◌, ◌≤◌, ⊎_elim, ℕ, List, length, ap, refl, sym, subst, arith, Some, IsTrue, Bool, true, false, nat_lt, if◌then◌else◌, [], ◌∷◌}
+use Rattle.std.proofs.Common.{◌≡◌, ◌∙◌, ◌≤◌, ℕ, List, length, ap, refl, sym, subst, arith, Some, Bool, true, false, nat_lt, if◌then◌else◌, [], ◌∷◌}
 use Rattle.std.proofs.lemmas.Bool.Decides.{nat_tests}
 use Rattle.disk_core.specs.Disk.{Only, overwritten}
 use Rattle.book_snapshot.specs.DenseRows.{content}
 use Rattle.book_snapshot.specs.Layout.{snapshot_end}
-use Rattle.book_snapshot.specs.Blocks.{IsSnapshotSize, snapshot_content}
+use Rattle.book_snapshot.specs.Blocks.{IsSnapshotSize}
 use Rattle.book_journal.specs.declared.layout.TheConstants.{MARK, MARKED, CLOSED}
 use Rattle.book_snapshot.specs.declared.layout.TheConstants.{ROW_BYTES}
 use Rattle.book_journal.specs.declared.journal.Journal.{Journal}
 use Rattle.book_journal.proofs.Overwritten.{overwritten_size}
-use Rattle.book_journal.specs.Rows.{Recovers, SnapshotAgrees, FitsSnapshot}
-use Rattle.book_journal.specs.Journal.{HasRows, RecoversOrHangs}
+use Rattle.book_journal.specs.Rows.{Recovers, SnapshotAgrees}
 use Rattle.book_journal.specs.Appending.{cleared}
 use Rattle.book_journal.specs.Marking.{with_snapshot, kept_disk, HoldsSnapshot}
 use Rattle.book_journal.proofs.Calls.{synced_has, markable}
 use Rattle.book_journal.proofs.Signs.{laid_agrees, laid_holds}
-use Rattle.book_journal.proofs.Journals.{image_keeps, none_hangs, not_hangs, told_after, told_as}
+use Rattle.book_journal.proofs.Journals.{image_keeps, none_hangs, not_hangs, told_as}
 use Rattle.book_journal.proofs.Moments.{goes_on, leaves_in, leaves_on}
 use Rattle.book_journal.proofs.journal.Journal.keep.Goals as goal
 
 -- the mark was cleared, or it wasn't
 pub returns-in_err-unmark-clause-keeps : goal.returns-in_err-unmark-clause-keeps
-returns-in_err-unmark-clause-keeps g c rows has =
+returns-in_err-unmark-clause-keeps g c rows has of_rows =
     let old = c.args.self.now in
     let kept = c.unmark.ensures.keeps rows has in
     record {
@@ -29,7 +28,7 @@ returns-in_err-unmark-clause-keeps g c rows has =
     }
 
 pub returns-in_err-size-clause-keeps : goal.returns-in_err-size-clause-keeps
-returns-in_err-size-clause-keeps g c rows has =
+returns-in_err-size-clause-keeps g c rows has of_rows =
     let old = c.args.self.now in
     let mid = c.unmark.new.self in
     let calm = not_hangs old.hanging c.requires.calm in
@@ -44,7 +43,7 @@ returns-in_err-size-clause-keeps g c rows has =
     }
 
 pub returns-then-size-snapshot_end-clause-keeps : goal.returns-then-size-snapshot_end-clause-keeps
-returns-then-size-snapshot_end-clause-keeps g c rows has =
+returns-then-size-snapshot_end-clause-keeps g c rows has of_rows =
     let old = c.args.self.now in
     let mid = c.unmark.new.self in
     let calm = not_hangs old.hanging c.requires.calm in
@@ -60,7 +59,7 @@ returns-then-size-snapshot_end-clause-keeps g c rows has =
 
 -- the snapshot couldn't be laid
 pub returns-in_err-lay-clause-keeps : goal.returns-in_err-lay-clause-keeps
-returns-in_err-lay-clause-keeps g c rows has =
+returns-in_err-lay-clause-keeps g c rows has of_rows =
     let old = c.args.self.now in
     let mid = c.unmark.new.self in
     let calm = not_hangs old.hanging c.requires.calm in
@@ -68,9 +67,9 @@ returns-in_err-lay-clause-keeps g c rows has =
     let kept = c.unmark.ensures.keeps rows has in
     let there = synced_has g.D.Disk mid c.len.new.self rows c.len.ensures.reads c.len.ensures.images kept.has in
     let so_far = goes_on g.D.Disk old.disk mid.disk c.len.new.self (λ f. Recovers f rows) (g.D.Disk.image c.len.new.self)
-      (leaves_in g.D.Disk old.disk mid.disk _ (λ f. Recovers f rows) kept.moments (λ f left. none_hangs g.D.Disk g.met.D.Disk.reads_image g.met.D.Disk.only_now old rows f calm left))
-      c.len.ensures.time
-      (λ f is. none_hangs g.D.Disk g.met.D.Disk.reads_image g.met.D.Disk.only_now mid rows f quiet (image_keeps g.D.Disk g.met.D.Disk.reads_image g.met.D.Disk.only_now mid rows kept.has f (c.len.ensures.images f is))) in
+    (leaves_in g.D.Disk old.disk mid.disk _ (λ f. Recovers f rows) kept.moments (λ f left. none_hangs g.D.Disk g.met.D.Disk.reads_image g.met.D.Disk.only_now old rows f calm left))
+    c.len.ensures.time
+    (λ f is. none_hangs g.D.Disk g.met.D.Disk.reads_image g.met.D.Disk.only_now mid rows f quiet (image_keeps g.D.Disk g.met.D.Disk.reads_image g.met.D.Disk.only_now mid rows kept.has f (c.len.ensures.images f is))) in
     let laid = c.lay.ensures.keeps rows there in
     record { has = laid.has; moments = leaves_on g.D.Disk old.disk c.len.new.self c.lay.new.self.disk (λ f. Recovers f rows) so_far laid.moments }
 
@@ -83,7 +82,7 @@ count_same n m size same = ap (λ (k : ℕ). snapshot_end k size) same
 
 -- the mark couldn't be set
 pub returns-in_err-mark-clause-keeps : goal.returns-in_err-mark-clause-keeps
-returns-in_err-mark-clause-keeps g c rows has =
+returns-in_err-mark-clause-keeps g c rows has of_rows =
     let old = c.args.self.now in
     let mid = c.unmark.new.self in
     let bytes = c.as_slice-2.result.now in
@@ -93,9 +92,9 @@ returns-in_err-mark-clause-keeps g c rows has =
     let b = kept.has.bytes in
     let there = synced_has g.D.Disk mid c.len.new.self rows c.len.ensures.reads c.len.ensures.images kept.has in
     let so_far = goes_on g.D.Disk old.disk mid.disk c.len.new.self (λ f. Recovers f rows) (g.D.Disk.image c.len.new.self)
-      (leaves_in g.D.Disk old.disk mid.disk _ (λ f. Recovers f rows) kept.moments (λ f left. none_hangs g.D.Disk g.met.D.Disk.reads_image g.met.D.Disk.only_now old rows f calm left))
-      c.len.ensures.time
-      (λ f is. none_hangs g.D.Disk g.met.D.Disk.reads_image g.met.D.Disk.only_now mid rows f quiet (image_keeps g.D.Disk g.met.D.Disk.reads_image g.met.D.Disk.only_now mid rows kept.has f (c.len.ensures.images f is))) in
+    (leaves_in g.D.Disk old.disk mid.disk _ (λ f. Recovers f rows) kept.moments (λ f left. none_hangs g.D.Disk g.met.D.Disk.reads_image g.met.D.Disk.only_now old rows f calm left))
+    c.len.ensures.time
+    (λ f is. none_hangs g.D.Disk g.met.D.Disk.reads_image g.met.D.Disk.only_now mid rows f quiet (image_keeps g.D.Disk g.met.D.Disk.reads_image g.met.D.Disk.only_now mid rows kept.has f (c.len.ensures.images f is))) in
     let laid = c.lay.ensures.keeps rows there in
     let same = ap length c.as_slice-2.ensures in
     let size_is : IsSnapshotSize mid.count (length bytes) = record { some_rows = omega (arith, c.requires.some_rows, c.unmark.ensures.count); few_rows = c.unmark.ensures.sound.few; some_bytes = omega (arith, c.requires.some_bytes, same); few_bytes = omega (arith, c.requires.few_bytes, same) } in
@@ -104,20 +103,20 @@ returns-in_err-mark-clause-keeps g c rows has =
     let as_laid : with_snapshot mid.count bytes b ≡ laid.has.bytes = cc (is.0, laid.has.told) in
     let long = (c.unmark.ensures.sound.gate b kept.has.told).long in
     let counts : length rows ≡ mid.count = ap length (sym kept.has.are) ∙ kept.has.stands.rows in
-    let agrees = laid_agrees mid.count bytes b size_is long rows counts (c.as_slice-2.ensures ∙ c.requires.of_rows rows has) in
+    let agrees = laid_agrees mid.count bytes b size_is long rows counts (c.as_slice-2.ensures ∙ of_rows) in
     let ready = markable g.D.Disk c.lay.new.self rows laid.has (ap (λ j. j.hanging) c.lay.ensures.same ∙ quiet) (ap (λ j. j.marked) c.lay.ensures.same ∙ c.in_ok-unmark.ensures.unmarked)
-      (subst (λ (l : List ℕ). Only l (g.D.Disk.image c.lay.new.self.disk)) as_laid is.1) (subst (λ (l : List ℕ). SnapshotAgrees rows l) as_laid agrees) in
+    (subst (λ (l : List ℕ). Only l (g.D.Disk.image c.lay.new.self.disk)) as_laid is.1) (subst (λ (l : List ℕ). SnapshotAgrees rows l) as_laid agrees) in
     let marked = (c.mark.ensures.marks rows ready).0 in
     record {
       has = marked.has;
       moments = leaves_on g.D.Disk old.disk c.len.new.self c.mark.new.self.disk (λ f. Recovers f rows) so_far
           (leaves_on g.D.Disk c.len.new.self c.lay.new.self.disk c.mark.new.self.disk (λ f. Recovers f rows) laid.moments
-            (leaves_in g.D.Disk c.lay.new.self.disk c.mark.new.self.disk _ (λ f. Recovers f rows) marked.moments (λ f left. none_hangs g.D.Disk g.met.D.Disk.reads_image g.met.D.Disk.only_now (record c.lay.new.self { marked = true }) rows f (ap (λ j. j.hanging) c.lay.ensures.same ∙ quiet) left)));
+          (leaves_in g.D.Disk c.lay.new.self.disk c.mark.new.self.disk _ (λ f. Recovers f rows) marked.moments (λ f left. none_hangs g.D.Disk g.met.D.Disk.reads_image g.met.D.Disk.only_now (record c.lay.new.self { marked = true }) rows f (ap (λ j. j.hanging) c.lay.ensures.same ∙ quiet) left)));
     }
 
 -- the snapshot was kept
 pub returns-clause-keeps : goal.returns-clause-keeps
-returns-clause-keeps g c rows has =
+returns-clause-keeps g c rows has of_rows =
     let old = c.args.self.now in
     let mid = c.unmark.new.self in
     let bytes = c.as_slice-2.result.now in
@@ -127,9 +126,9 @@ returns-clause-keeps g c rows has =
     let b = kept.has.bytes in
     let there = synced_has g.D.Disk mid c.len.new.self rows c.len.ensures.reads c.len.ensures.images kept.has in
     let so_far = goes_on g.D.Disk old.disk mid.disk c.len.new.self (λ f. Recovers f rows) (g.D.Disk.image c.len.new.self)
-      (leaves_in g.D.Disk old.disk mid.disk _ (λ f. Recovers f rows) kept.moments (λ f left. none_hangs g.D.Disk g.met.D.Disk.reads_image g.met.D.Disk.only_now old rows f calm left))
-      c.len.ensures.time
-      (λ f is. none_hangs g.D.Disk g.met.D.Disk.reads_image g.met.D.Disk.only_now mid rows f quiet (image_keeps g.D.Disk g.met.D.Disk.reads_image g.met.D.Disk.only_now mid rows kept.has f (c.len.ensures.images f is))) in
+    (leaves_in g.D.Disk old.disk mid.disk _ (λ f. Recovers f rows) kept.moments (λ f left. none_hangs g.D.Disk g.met.D.Disk.reads_image g.met.D.Disk.only_now old rows f calm left))
+    c.len.ensures.time
+    (λ f is. none_hangs g.D.Disk g.met.D.Disk.reads_image g.met.D.Disk.only_now mid rows f quiet (image_keeps g.D.Disk g.met.D.Disk.reads_image g.met.D.Disk.only_now mid rows kept.has f (c.len.ensures.images f is))) in
     let laid = c.lay.ensures.keeps rows there in
     let same = ap length c.as_slice-2.ensures in
     let size_is : IsSnapshotSize mid.count (length bytes) = record { some_rows = omega (arith, c.requires.some_rows, c.unmark.ensures.count); few_rows = c.unmark.ensures.sound.few; some_bytes = omega (arith, c.requires.some_bytes, same); few_bytes = omega (arith, c.requires.few_bytes, same) } in
@@ -138,15 +137,15 @@ returns-clause-keeps g c rows has =
     let as_laid : with_snapshot mid.count bytes b ≡ laid.has.bytes = cc (is.0, laid.has.told) in
     let long = (c.unmark.ensures.sound.gate b kept.has.told).long in
     let counts : length rows ≡ mid.count = ap length (sym kept.has.are) ∙ kept.has.stands.rows in
-    let agrees = laid_agrees mid.count bytes b size_is long rows counts (c.as_slice-2.ensures ∙ c.requires.of_rows rows has) in
+    let agrees = laid_agrees mid.count bytes b size_is long rows counts (c.as_slice-2.ensures ∙ of_rows) in
     let ready = markable g.D.Disk c.lay.new.self rows laid.has (ap (λ j. j.hanging) c.lay.ensures.same ∙ quiet) (ap (λ j. j.marked) c.lay.ensures.same ∙ c.in_ok-unmark.ensures.unmarked)
-      (subst (λ (l : List ℕ). Only l (g.D.Disk.image c.lay.new.self.disk)) as_laid is.1) (subst (λ (l : List ℕ). SnapshotAgrees rows l) as_laid agrees) in
+    (subst (λ (l : List ℕ). Only l (g.D.Disk.image c.lay.new.self.disk)) as_laid is.1) (subst (λ (l : List ℕ). SnapshotAgrees rows l) as_laid agrees) in
     let marked = (c.mark.ensures.marks rows ready).0 in
     record {
       has = marked.has;
       moments = leaves_on g.D.Disk old.disk c.len.new.self c.mark.new.self.disk (λ f. Recovers f rows) so_far
           (leaves_on g.D.Disk c.len.new.self c.lay.new.self.disk c.mark.new.self.disk (λ f. Recovers f rows) laid.moments
-            (leaves_in g.D.Disk c.lay.new.self.disk c.mark.new.self.disk _ (λ f. Recovers f rows) marked.moments (λ f left. none_hangs g.D.Disk g.met.D.Disk.reads_image g.met.D.Disk.only_now (record c.lay.new.self { marked = true }) rows f (ap (λ j. j.hanging) c.lay.ensures.same ∙ quiet) left)));
+          (leaves_in g.D.Disk c.lay.new.self.disk c.mark.new.self.disk _ (λ f. Recovers f rows) marked.moments (λ f left. none_hangs g.D.Disk g.met.D.Disk.reads_image g.met.D.Disk.only_now (record c.lay.new.self { marked = true }) rows f (ap (λ j. j.hanging) c.lay.ensures.same ∙ quiet) left)));
     }
 
 -- no longer than the end: the snapshot is laid
@@ -158,6 +157,7 @@ kept_here journal content b short = at (snapshot_end journal.count (length conte
       where
         not_lt : (m n : ℕ) → n ≤ m → nat_lt m n ≡ false
         not_lt m n le = grind (arith, nat_tests)
+
         otherwise : (test : Bool) (x y : List ℕ) → test ≡ false → (if test then x else y) ≡ y
         otherwise false x y is = refl
         otherwise true x y is = absurd cc
@@ -181,9 +181,9 @@ returns-clause-written g c b told =
     let is = c.in_ok-lay.ensures.laid clear (c.len.ensures.reads ∙ told_clear) short in
     c.in_ok-mark.ensures.written (with_snapshot mid.count bytes clear) is.0
     ∙ ap (λ (l : List ℕ). Some l)
-      (ap (λ (n : ℕ). overwritten (with_snapshot n bytes clear) MARK (MARKED ∷ [])) c.unmark.ensures.count
-      ∙ ap (λ (l : List ℕ). overwritten (with_snapshot old.count l clear) MARK (MARKED ∷ [])) c.as_slice-2.ensures
-      ∙ kept_here old c.args.content.now b (omega (arith, short, size, c.unmark.ensures.count, size_same mid.count (length bytes) (length c.args.content.now) same, count_same mid.count old.count (length c.args.content.now) c.unmark.ensures.count)))
+    (ap (λ (n : ℕ). overwritten (with_snapshot n bytes clear) MARK (MARKED ∷ [])) c.unmark.ensures.count
+    ∙ ap (λ (l : List ℕ). overwritten (with_snapshot old.count l clear) MARK (MARKED ∷ [])) c.as_slice-2.ensures
+    ∙ kept_here old c.args.content.now b (omega (arith, short, size, c.unmark.ensures.count, size_same mid.count (length bytes) (length c.args.content.now) same, count_same mid.count old.count (length c.args.content.now) c.unmark.ensures.count)))
 
 pub returns-clause-fits : goal.returns-clause-fits
 returns-clause-fits g c b told small now told_now =

@@ -1,11 +1,8 @@
-use Rattle.std.proofs.Common.{◌≡◌, ◌∙◌, ◌+◌, ◌<◌, ◌≤◌, ℕ, List, length, take, ap, refl, sym, subst, arith, Some}
+use Rattle.std.proofs.Common.{◌≡◌, ◌∙◌, ◌+◌, ℕ, List, length, ap, refl, subst, Some}
 use Rattle.disk_core.specs.Disk.{Only, overwritten}
 use Rattle.book_snapshot.specs.Blocks.{IsSnapshotSize}
-use Rattle.book_snapshot.specs.Layout.{snapshot_end}
-use Rattle.book_snapshot.specs.BlockLaws.{length-content_blocks}
 use Rattle.book_journal.specs.Rows.{Recovers, gate_behind}
-use Rattle.book_journal.specs.Marking.{behind_closed_gate, with_snapshot, KeepsSnapshot}
-use Rattle.book_journal.specs.Laying.{WritesBehind}
+use Rattle.book_journal.specs.Marking.{behind_closed_gate, with_snapshot}
 use Rattle.book_journal.proofs.Calls.{laid_has, laid_leaves, synced_has}
 use Rattle.book_journal.proofs.Signs.{laid_all}
 use Rattle.book_journal.proofs.BehindGate.{behind_at, gate_stays}
@@ -79,9 +76,10 @@ returns-clause-laid g c b told short =
     let size : IsSnapshotSize journal.count (length content) = subst (λ (n : ℕ). IsSnapshotSize n (length content)) c.requires.rows (subst (λ (n : ℕ). IsSnapshotSize c.args.kept.rows n) c.requires.bytes c.requires.size) in
     let long = (c.requires.sound.gate b told).long in
     let all = laid_all journal.count content b size long short in
-    let is : w.now ≡ with_snapshot journal.count content b = w.done ∙ ap (λ (n : ℕ). overwritten b (gate_behind n + 1) (behind_closed_gate n content)) c.requires.rows ∙ all in
-    (c.sync.ensures.reads ∙ w.told ∙ ap (λ (l : List ℕ). Some l) is,
-     subst (λ (l : List ℕ). Only l (g.D.Disk.image new)) is (c.in_ok-sync.ensures.stable w.now w.told))
+    let is : w.now ≡ with_snapshot journal.count content b = w.done ∙ ap (λ (n : ℕ). overwritten b (gate_behind n + 1) (behind_closed_gate n content)) c.requires.rows ∙ all in (
+      c.sync.ensures.reads ∙ w.told ∙ ap (λ (l : List ℕ). Some l) is,
+      subst (λ (l : List ℕ). Only l (g.D.Disk.image new)) is (c.in_ok-sync.ensures.stable w.now w.told),
+    )
 
 pub returns-clause-sound : goal.returns-clause-sound
 returns-clause-sound g c = record {

@@ -1,16 +1,16 @@
-use Rattle.std.proofs.Common.{◌≡◌, ◌∙◌, inl, ℕ, List, ap, refl, arith, Some, ◌∷◌, []}
+use Rattle.std.proofs.Common.{◌∙◌, inl, ℕ, List, ap, refl, arith, Some}
 use Rattle.book_journal.specs.declared.layout.TheConstants.{MARK}
 use Rattle.book_journal.specs.Appending.{TouchesSlot}
-use Rattle.book_journal.specs.Journal.{HasGate}
 use Rattle.book_journal.proofs.Calls.{signed, signed_as}
 use Rattle.book_journal.proofs.Journals.{told_on, told_as, gate_torn, touches_torn}
 use Rattle.book_journal.proofs.Results.{ok_at_err}
 use Rattle.book_journal.proofs.journal.Journal.mark.Goals as goal
 
 pub returns-in_err-settle-clause-marks : goal.returns-in_err-settle-clause-marks
-returns-in_err-settle-clause-marks g c rows has =
-    (signed g.D.Disk g.met.D.Disk.reads_image g.met.D.Disk.only_now c.args.self.now rows has c.requires.marked c.args.byte c.settle.result c.settle.new.disk (c.settle.ensures.settles has.bytes has.told),
-     ok_at_err _ c.from_residual.result _ c.from_residual.ensures.1)
+returns-in_err-settle-clause-marks g c rows has = (
+  signed g.D.Disk g.met.D.Disk.reads_image g.met.D.Disk.only_now c.args.self.now rows has c.requires.marked c.args.byte c.settle.result c.settle.new.disk (c.settle.ensures.settles has.bytes has.told),
+  ok_at_err _ c.from_residual.result _ c.from_residual.ensures.1,
+)
 
 pub returns-in_err-settle-clause-touched : goal.returns-in_err-settle-clause-touched
 returns-in_err-settle-clause-touched g c b told =
@@ -27,9 +27,10 @@ returns-in_err-settle-clause-sound g c = record {
 
 pub returns-clause-marks : goal.returns-clause-marks
 returns-clause-marks g c rows has =
-    let s = c.in_ok-settle.ensures.settles has.bytes has.told in
-    (signed g.D.Disk g.met.D.Disk.reads_image g.met.D.Disk.only_now c.args.self.now rows has c.requires.marked c.args.byte _ c.settle.new.disk s,
-     signed_as g.D.Disk g.met.D.Disk.reads_image g.met.D.Disk.only_now c.args.self.now rows has c.requires.marked c.args.byte _ c.settle.new.disk s)
+    let s = c.in_ok-settle.ensures.settles has.bytes has.told in (
+      signed g.D.Disk g.met.D.Disk.reads_image g.met.D.Disk.only_now c.args.self.now rows has c.requires.marked c.args.byte _ c.settle.new.disk s,
+      signed_as g.D.Disk g.met.D.Disk.reads_image g.met.D.Disk.only_now c.args.self.now rows has c.requires.marked c.args.byte _ c.settle.new.disk s,
+    )
 
 pub returns-clause-written : goal.returns-clause-written
 returns-clause-written g c b told = let s = c.in_ok-settle.ensures.settles b told in s.told ∙ ap (λ (l : List ℕ). Some l) s.done.0

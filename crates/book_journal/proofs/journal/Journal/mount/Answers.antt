@@ -1,4 +1,4 @@
-use Rattle.std.proofs.Common.{◌≡◌, ◌∙◌, ◌⊎◌, inl, inr, ⊎_elim, ℕ, List, refl, sym, subst, false, true}
+use Rattle.std.proofs.Common.{◌≡◌, ⊎_elim, false, true}
 use Rattle.book_journal.specs.Journal.{HasGate}
 use Rattle.book_journal.proofs.Fronts.{mounted_rows, mounted_gate}
 use Rattle.book_journal.proofs.Journals.{told_on}

@@ -1,11 +1,9 @@
-use Rattle.std.proofs.Common.{◌≡◌, ◌≤◌, ◌<◌, ◌+◌, ◌-◌, ◌∙◌, inl, inr, ℕ, List, [], ◌∷◌, ◌++◌, length, drop, ap, refl, sym, subst, arith, Some, IsTrue, true, false, Bool, length-drop, length-append}
+use Rattle.std.proofs.Common.{◌≡◌, ◌+◌, ◌-◌, ◌∙◌, inr, ℕ, List, [], ◌∷◌, ◌++◌, length, drop, ap, refl, sym, arith, Some, IsTrue, false, length-drop, length-append}
 use Rattle.disk_core.specs.Disk.{overwritten}
 use Rattle.book_snapshot.specs.declared.layout.TheConstants.{ROW_BYTES, OPEN}
 use Rattle.book_journal.specs.declared.layout.TheConstants.{CLOSED}
 use Rattle.book_journal.specs.Rows.{gate_behind, row_behind}
-use Rattle.book_journal.specs.Journal.{HasRows, HasGate}
-use Rattle.book_journal.specs.Settles.{Settles}
-use Rattle.book_journal.specs.Appending.{TouchesSlot, PutsRow}
+use Rattle.book_journal.specs.Appending.{TouchesSlot}
 use Rattle.book_journal.proofs.Calls.{unput, unput_moments, half_put, half_row, put_moments, put, no_both}
 use Rattle.book_journal.proofs.Journals.{told_on, told_as, told_before, tells_on, row_is, gate_torn, touches_torn, touches_on}
 use Rattle.book_journal.proofs.Overwritten.{overwritten_front, overwritten_size}
@@ -103,10 +101,12 @@ returns-in_err-settle-2-clause-sound g c = record {
       let tail = drop 1 c.args.row.now in
       let mid = c.settle.new.disk in
       let s = settles_at g.D.Disk _ (gate_behind journal.count + 1) _ (tail ++ CLOSED ∷ []) c.settle.result b journal.disk mid (ap (λ (p : ℕ). p + 1) c.gate_behind-gate.ensures) c.behind_gate.ensures (c.settle.ensures.settles b told) in
-      let s' = settles_at g.D.Disk _ (gate_behind journal.count) (OPEN ∷ []) (OPEN ∷ []) c.settle-2.result s.now mid c.settle-2.new.disk c.gate_behind-gate.ensures refl (c.settle-2.ensures.settles s.now s.told) in
-      (s'.now, s'.told,
+      let s' = settles_at g.D.Disk _ (gate_behind journal.count) (OPEN ∷ []) (OPEN ∷ []) c.settle-2.result s.now mid c.settle-2.new.disk c.gate_behind-gate.ensures refl (c.settle-2.ensures.settles s.now s.told) in (
+        s'.now,
+        s'.told,
         gate_torn journal.count (gate_behind journal.count) 1 _ s.now s'.now s'.torn (inr (omega arith))
-        (gate_torn journal.count (gate_behind journal.count + 1) (length (tail ++ CLOSED ∷ [])) _ b s.now s.torn (inr (omega arith)) (c.requires.sound.gate b told))));
+            (gate_torn journal.count (gate_behind journal.count + 1) (length (tail ++ CLOSED ∷ [])) _ b s.now s.torn (inr (omega arith)) (c.requires.sound.gate b told)),
+      ));
 }
 
 -- both were done
@@ -175,6 +175,6 @@ returns-clause-sound g c = record {
       let size = length-append tail (CLOSED ∷ []) in
       let staged = overwritten_size b (gate_behind journal.count + 1) (tail ++ CLOSED ∷ []) (omega (arith, long)) in
       let still = gate_torn journal.count (gate_behind journal.count) 1 _ s.now s'.now s'.torn (inr (omega arith))
-        (gate_torn journal.count (gate_behind journal.count + 1) (length (tail ++ CLOSED ∷ [])) _ b s.now s.torn (inr (omega arith)) (c.requires.sound.gate b told)) in
+      (gate_torn journal.count (gate_behind journal.count + 1) (length (tail ++ CLOSED ∷ [])) _ b s.now s.torn (inr (omega arith)) (c.requires.sound.gate b told)) in
       (s'.now, s'.told, record { header = still.header; long = omega (arith, ap length s.done.0, staged, size, tail_size row c.told-row, s'.torn.no_shorter) }));
 }

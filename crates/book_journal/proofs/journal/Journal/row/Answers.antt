@@ -1,4 +1,4 @@
-use Rattle.std.proofs.Common.{◌*◌, ◌∙◌, ℕ, List, ap, sym, length}
+use Rattle.std.proofs.Common.{◌*◌, ◌∙◌, ℕ, ap, sym, length}
 use Rattle.book_snapshot.specs.declared.layout.TheConstants.{ROW_BYTES}
 use Rattle.book_journal.proofs.OpenRows.{row_read}
 use Rattle.book_journal.proofs.journal.Journal.row.Goals as goal

@@ -1,6 +1,4 @@
-use Rattle.std.proofs.Common.{◌≡◌, ◌∙◌, inl, ℕ, List, ap, refl, sym, subst, Some}
-use Rattle.book_journal.specs.Journal.{HasRows}
-use Rattle.book_journal.specs.Appending.{KeepsRows}
+use Rattle.std.proofs.Common.{◌∙◌, ap}
 use Rattle.book_journal.proofs.Calls.{kept_still, cleared_rows}
 use Rattle.book_journal.proofs.journal.Journal.unmark.Goals as goal
 
