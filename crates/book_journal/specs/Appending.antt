@@ -21,7 +21,8 @@ with_row journal row bytes =
 -- nothing was written but the mark, the next slot and the gate behind it
 pub record TouchesSlot (count : ℕ) (bytes now : List ℕ) : Type 0 where
   pub outside : (k : ℕ) → k < length bytes → k ≢ MARK
-      → (k < gate_behind count) ⊎ (gate_behind (count + 1) < k) → slice_index now k ≡ slice_index bytes k
+      → (k < gate_behind count) ⊎ (gate_behind (count + 1) < k)
+      → slice_index now k ≡ slice_index bytes k
   pub no_shorter : length bytes ≤ length now
   pub no_longer : length now ≤ max (length bytes) (gate_behind (count + 1) + 1)
 
@@ -32,7 +33,8 @@ pub record AppendsRow {D E : Type 0} (disk : disk.Ghosts D) (row : List ℕ) (re
     (old new : Journal D) (rows : List (List ℕ)) : Type 0 where
   pub done : OnOk result (HasRows disk new (rows ++ row ∷ []))
   pub failed : OnErr result (HasRows disk new rows)
-  pub hung : (hung : List ℕ) → HangsWith disk new hung → OnErr result ((hung ≡ row) ⊎ HangsWith disk old hung)
+  pub hung : (hung : List ℕ) → HangsWith disk new hung
+      → OnErr result ((hung ≡ row) ⊎ HangsWith disk old hung)
   pub moments : LeavesOnly disk (disk_of old) (disk_of new)
       (λ c. RecoversOrHangs disk old rows c ⊎ Recovers c (rows ++ row ∷ []))
 

@@ -30,8 +30,10 @@ with_snapshot count content bytes =
 -- snapshot's end stays so; on another the snapshot is laid, and the mark set.
 abbrev pub kept_disk : {D : Type 0} → Journal D → List ℕ → List ℕ → List ℕ
 kept_disk journal content bytes =
-    if nat_lt (snapshot_end journal.count (length content)) (length bytes) then cleared journal.marked bytes
-    else overwritten (with_snapshot journal.count content (cleared journal.marked bytes)) MARK (MARKED ∷ [])
+    if nat_lt (snapshot_end journal.count (length content)) (length bytes)
+    then cleared journal.marked bytes
+    else overwritten (with_snapshot journal.count content (cleared journal.marked bytes))
+        MARK (MARKED ∷ [])
 
 -- The journal has the same rows, and a crash at any moment of the call leaves these.
 pub record KeepsSnapshot {D : Type 0} (disk : disk.Ghosts D) (old new : Journal D)

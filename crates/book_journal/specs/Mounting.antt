@@ -31,7 +31,7 @@ abbrev pub rows_before : Option Kept → ℕ
 rows_before None = 0
 rows_before (Some kept) = kept.rows
 
--- how many slots stand open from the first on that the snapshot doesn't hold, among those that count
+-- how many slots stand open from the first on that the snapshot doesn't hold, of those that count
 abbrev pub slots_behind : ℕ → List ℕ → ℕ
 slots_behind first bytes = length (open_rows (MAX_SLOTS - first) (drop (gate_behind first) bytes))
 
@@ -39,7 +39,7 @@ slots_behind first bytes = length (open_rows (MAX_SLOTS - first) (drop (gate_beh
 abbrev pub stands_closed : ℕ → List ℕ → Bool
 stands_closed gate bytes = nat_lt gate (length bytes) && not (slice_index bytes gate == OPEN)
 
--- what the disk reads once the gate behind the rows is closed; where too many slots are open, it stays
+-- what the disk reads once the gate behind the rows is closed; with too many open slots it stays
 abbrev pub closed_behind : ℕ → List ℕ → List ℕ
 closed_behind count bytes =
     if nat_lt MAX_ROWS count || stands_closed (gate_behind count) bytes then bytes
@@ -82,7 +82,8 @@ pub record KeepsFromSync {D : Type 0} (disk : disk.Ghosts D) (old new : D)
   pub before : synced ≤ disk.time new
   pub each : (c : List ℕ) → disk.since new synced c → P c
   pub handed_in : (c : List ℕ) → disk.since new (disk.time old) c → disk.image old c ⊎ P c
-  pub earlier : (t : ℕ) (c : List ℕ) → t ≤ disk.time old → disk.since new t c → disk.since old t c ⊎ P c
+  pub earlier : (t : ℕ) (c : List ℕ) → t ≤ disk.time old → disk.since new t c
+      → disk.since old t c ⊎ P c
 
 -- A disk that isn't a journal is longer than a new one, and named by its first byte that differs. It
 -- is as it was, no fault was counted, and few bytes were asked for.

@@ -15,6 +15,7 @@ pub record Settles {D T E : Type 0} (disk : disk.Ghosts D) (place : ℕ) (bytes 
   pub told : disk.reads new ≡ Some now
   pub done : OnOk result ((now ≡ overwritten there place bytes) × Only now (disk.image new))
   pub torn : Torn place (length bytes) (place + length bytes) there now
-  pub images : (c : List ℕ) → disk.image new c → TornFrom (disk.image old) place (length bytes) (length now) c
+  pub images : (c : List ℕ) → disk.image new c
+      → TornFrom (disk.image old) place (length bytes) (length now) c
   pub moments : Elapses (disk.time old) (disk.time new) (disk.since old) (disk.since new)
       (TornFrom (disk.image old) place (length bytes) (length now))

@@ -49,7 +49,8 @@ impl<D: Disk> Journal<D> {
             OnOk result (D.reads (disk_of self.new) ≡ Some (with_row self.old row.now bytes))) }
         ensures touched { WhereTold (D.reads (disk_of self.old)) (λ bytes.
             WhereTold (D.reads (disk_of self.new)) (TouchesSlot (count_of self.old) bytes)) }
-        ensures cause { CountsFault (D.faults (disk_of self.old)) (D.faults (disk_of self.new)) result }
+        ensures cause { CountsFault (D.faults (disk_of self.old)) (D.faults (disk_of self.new))
+            result }
         ensures asked { D.asked (disk_of self.new) ≡ D.asked (disk_of self.old) }
         ensures tells { TellsAsBefore (D.reads (disk_of self.old)) (D.reads (disk_of self.new)) }
         ensures sound { IsSound D.Disk self.new }
@@ -65,7 +66,8 @@ impl<D: Disk> Journal<D> {
         requires { IsSound D.Disk self.old }
         ensures keeps { (rows : List (List ℕ)) → HasRows D.Disk self.old rows →
             KeepsRows D.Disk self.old self.new rows }
-        ensures hung { (hung : List ℕ) → HangsWith D.Disk self.new hung → HangsWith D.Disk self.old hung }
+        ensures hung { (hung : List ℕ) → HangsWith D.Disk self.new hung →
+            HangsWith D.Disk self.old hung }
         ensures closed { OnOk result (self.new.hanging ≡ false) }
         ensures count { self.new.count ≡ self.old.count }
         ensures marked { self.new.marked ≡ self.old.marked }
@@ -101,7 +103,8 @@ impl<D: Disk> Journal<D> {
         ensures closed { OnOk result (self.new.hanging ≡ false) }
         ensures kept { self.new.kept ≡ self.old.kept }
         ensures written { WhereTold (D.reads self.old.disk) (λ bytes. OnOk result
-            (D.reads self.new.disk ≡ Some (overwritten bytes (gate_behind self.old.count) (row.now ++ CLOSED ∷ [])))) }
+            (D.reads self.new.disk ≡
+                Some (overwritten bytes (gate_behind self.old.count) (row.now ++ CLOSED ∷ [])))) }
         ensures touched { WhereTold (D.reads self.old.disk) (λ bytes.
             WhereTold (D.reads self.new.disk) (TouchesSlot self.old.count bytes)) }
         ensures cause { CountsFault (D.faults self.old.disk) (D.faults self.new.disk) result }

@@ -30,9 +30,11 @@ impl<D: Disk> Journal<D> {
             ReadsContent (kept_of self.old) bytes from result into.new) }
         ensures same { self.new ≡ record self.old { disk = disk_of self.new } }
         ensures unmoved { IsUnmoved D.Disk (disk_of self.old) (disk_of self.new) }
-        ensures rows { (rows : List (List ℕ)) → HasRows D.Disk self.old rows → HasRows D.Disk self.new rows }
+        ensures rows { (rows : List (List ℕ)) → HasRows D.Disk self.old rows →
+            HasRows D.Disk self.new rows }
         ensures sound { IsSound D.Disk self.old → IsSound D.Disk self.new }
-        ensures cause { CountsFault (D.faults (disk_of self.old)) (D.faults (disk_of self.new)) result }
+        ensures cause { CountsFault (D.faults (disk_of self.old)) (D.faults (disk_of self.new))
+            result }
         ensures asked_more { D.asked (disk_of self.old) ≤ D.asked (disk_of self.new) }
         ensures asked_most { D.asked (disk_of self.new) ≤ D.asked (disk_of self.old) + BLOCKS_BYTES }
     {

@@ -33,11 +33,13 @@ impl<D: Disk> Journal<D> {
             (D.reads (disk_of self.new) ≡ Some (kept_disk self.old content.now bytes))) }
         ensures fits { WhereTold (D.reads (disk_of self.old)) (λ bytes.
             length bytes ≤ snapshot_end (count_of self.old) (length content.now) →
-            OnOk result (WhereTold (D.reads (disk_of self.new)) (HoldsSnapshot (count_of self.old) content.now))) }
+            OnOk result (WhereTold (D.reads (disk_of self.new))
+                (HoldsSnapshot (count_of self.old) content.now))) }
         ensures count { count_of self.new ≡ count_of self.old }
         ensures kept { kept_of self.new ≡ kept_of self.old }
         ensures calm { ¬ Hangs self.new }
-        ensures cause { CountsFault (D.faults (disk_of self.old)) (D.faults (disk_of self.new)) result }
+        ensures cause { CountsFault (D.faults (disk_of self.old)) (D.faults (disk_of self.new))
+            result }
         ensures asked { D.asked (disk_of self.new) ≡ D.asked (disk_of self.old) }
         ensures tells { TellsAsBefore (D.reads (disk_of self.old)) (D.reads (disk_of self.new)) }
         ensures sound { IsSound D.Disk self.new }

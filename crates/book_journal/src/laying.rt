@@ -22,8 +22,8 @@ const FRONT: usize = ROW_BYTES - 1 + ROW_BYTES;
 /// The greatest place from which on content is written: behind the longest journal's head block.
 const MAX_PLACE: u64 = ROW_BYTES as u64 * (MAX_ROWS as u64 + 3);
 
-/// Writes a snapshot behind the closed gate, in order: zeros to the end of its slot, the head block,
-/// the content in blocks, the tail block.
+/// Writes a snapshot behind the closed gate, in order: zeros to the end of its slot, the head
+/// block, the content in blocks, the tail block.
 pub(crate) fn write_snapshot<D: Disk>(
     disk: &mut D,
     kept: Kept,
@@ -32,8 +32,9 @@ pub(crate) fn write_snapshot<D: Disk>(
     requires size { IsSnapshotSize kept.rows kept.bytes }
     requires content { kept.bytes ≡ length content.now }
     requires within { WhereTold (D.reads disk.old) (λ there. gate_behind kept.rows < length there) }
-    ensures writes { WhereTold (D.reads disk.old) (λ there. WritesBehind D.Disk (gate_behind kept.rows + 1)
-        (behind_closed_gate kept.rows content.now) result there disk.old disk.new) }
+    ensures writes { WhereTold (D.reads disk.old) (λ there. WritesBehind D.Disk
+        (gate_behind kept.rows + 1) (behind_closed_gate kept.rows content.now)
+        result there disk.old disk.new) }
     ensures tells { TellsAsBefore (D.reads disk.old) (D.reads disk.new) }
     ensures cause { CountsFault (D.faults disk.old) (D.faults disk.new) result }
     ensures asked { D.asked disk.new ≡ D.asked disk.old }
@@ -63,7 +64,8 @@ fn write_content<D: Disk>(disk: &mut D, place: u64, content: &[u8]) -> Result<()
     requires within { WhereTold (D.reads disk.old) (λ there. place ≤ length there) }
     requires place { place ≤ MAX_PLACE }
     ensures writes { WhereTold (D.reads disk.old) (λ there. WritesBehind D.Disk place
-        (content_blocks (blocks_for (length content.now)) content.now) result there disk.old disk.new) }
+        (content_blocks (blocks_for (length content.now)) content.now)
+        result there disk.old disk.new) }
     ensures tells { TellsAsBefore (D.reads disk.old) (D.reads disk.new) }
     ensures cause { CountsFault (D.faults disk.old) (D.faults disk.new) result }
     ensures asked { D.asked disk.new ≡ D.asked disk.old }

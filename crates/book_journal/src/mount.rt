@@ -26,7 +26,8 @@ fn open<D: Disk>(disk: &mut D) -> Result<Found, JournalFault>
     ensures most { IfOk result (λ found. found.count ≤ MAX_SLOTS) }
     ensures sized { IfOk result (λ found. IsSized found.kept) }
     ensures mounted { WhereTold (D.reads disk.old) (λ bytes. Only bytes (D.image disk.old) →
-        IfOk result (λ found. IsMounted D.Disk bytes found.kept found.count found.marked disk.new)) }
+        IfOk result (λ found.
+            IsMounted D.Disk bytes found.kept found.count found.marked disk.new)) }
     ensures moments { WhereTold (D.reads disk.old) (λ bytes. Only bytes (D.image disk.old) →
         (rows : List (List ℕ)) → Recovers bytes rows → length rows ≤ MAX_ROWS →
         LeavesOnly D.Disk disk.old disk.new (λ c. Recovers c rows)) }
@@ -62,9 +63,11 @@ fn start<D: Disk>(disk: &mut D) -> Result<Found, JournalFault>
     ensures most { IfOk result (λ found. found.count ≤ MAX_SLOTS) }
     ensures sized { IfOk result (λ found. IsSized found.kept) }
     ensures mounted { WhereTold (D.reads disk.old) (λ bytes.
-        IfOk result (λ found. IsMounted D.Disk bytes found.kept found.count found.marked disk.new)) }
-    ensures moments { WhereTold (D.reads disk.old) (λ bytes. (rows : List (List ℕ)) → Recovers bytes rows →
-        length rows ≤ MAX_ROWS → KeepsFromSync D.Disk disk.old disk.new (λ c. Recovers c rows)
+        IfOk result (λ found.
+            IsMounted D.Disk bytes found.kept found.count found.marked disk.new)) }
+    ensures moments { WhereTold (D.reads disk.old) (λ bytes.
+        (rows : List (List ℕ)) → Recovers bytes rows → length rows ≤ MAX_ROWS →
+        KeepsFromSync D.Disk disk.old disk.new (λ c. Recovers c rows)
         ⊎ (IsErr result × IsUnmoved D.Disk disk.old disk.new)) }
     ensures full { IfOk result (λ found. MAX_ROWS < found.count → IsUnmoved D.Disk disk.old disk.new) }
     ensures tells { TellsAsBefore (D.reads disk.old) (D.reads disk.new) }
@@ -83,9 +86,9 @@ impl<D: Disk> Journal<D> {
     ghost use Rattle.book_journal.specs.Opening.{HasMounted, KeepsRecovered};
 
     /// Mounts a disk as a journal, or hands it back with the reason. The disk is synced first. A
-    /// disk of at most 97 bytes that doesn't begin with the header is made a journal without rows; a
-    /// longer one isn't a journal. Where a snapshot fits, its rows come first. The rows in slots are
-    /// those behind it up to the first slot that is cut or closed, and the gate behind them is
+    /// disk of at most 97 bytes that doesn't begin with the header is made a journal without rows;
+    /// a longer one isn't a journal. Where a snapshot fits, its rows come first. The rows in slots
+    /// are those behind it up to the first slot that is cut or closed, and the gate behind them is
     /// closed. At most 1 000 001 are counted; a journal with so many is full, and its disk holds
     /// perhaps more.
     pub fn mount(disk: D) -> Result<Journal<D>, JournalRefused<D>>
@@ -99,8 +102,9 @@ impl<D: Disk> Journal<D> {
 
         // It has the rows that the disk recovers, and a crash from its first good sync on leaves
         // these, whatever it answers.
-        ensures rows { WhereTold (D.reads disk) (λ bytes. (rows : List (List ℕ)) → Recovers bytes rows →
-            length rows ≤ MAX_ROWS → KeepsRecovered D.Disk disk result rows) }
+        ensures rows { WhereTold (D.reads disk) (λ bytes.
+            (rows : List (List ℕ)) → Recovers bytes rows → length rows ≤ MAX_ROWS →
+            KeepsRecovered D.Disk disk result rows) }
         ensures sound { IfOk result (λ journal. count_of journal ≤ MAX_ROWS → IsSound D.Disk journal) }
 
         // It refuses a disk that isn't a journal, and otherwise only where the disk failed.
@@ -108,7 +112,8 @@ impl<D: Disk> Journal<D> {
             (λ refused. IsCauseOf D.Disk refused.why disk refused.disk) }
         ensures asked { IfOk result (λ journal. D.asked (disk_of journal) ≤
             D.asked disk + opening_cost (kept_of journal) (count_of journal)) }
-        ensures tells { MatchResult result (λ journal. TellsAsBefore (D.reads disk) (D.reads (disk_of journal)))
+        ensures tells { MatchResult result
+            (λ journal. TellsAsBefore (D.reads disk) (D.reads (disk_of journal)))
             (λ refused. TellsAsBefore (D.reads disk) (D.reads refused.disk)) }
     {
         let mut disk = disk;

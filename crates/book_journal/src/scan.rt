@@ -33,8 +33,8 @@ pub(crate) fn create<D: Disk>(disk: &mut D) -> Result<(), Failed>
     Ok(())
 }
 
-/// Finds the snapshot and the rows of a disk of that many bytes that begins with the header and this
-/// mark, and closes the gate behind them.
+/// Finds the snapshot and the rows of a disk of that many bytes that begins with the header and
+/// this mark, and closes the gate behind them.
 pub(crate) fn scan<D: Disk>(disk: &mut D, size: u64, mark: u8) -> Result<Found, Failed>
     requires { WhereTold (D.reads disk.old) (IsFront size mark) }
     ensures most { IfOk result (λ found. found.count ≤ MAX_SLOTS) }

@@ -22,8 +22,8 @@ pub const SLOT_COST: usize = 100;
 
 const PIECE: usize = ROW_BYTES * PIECE_SLOTS;
 
-/// Counts the slots behind so many rows up to the first that is cut or closed, on a disk of that many
-/// bytes, in pieces of so many slots. It tells how many rows these and the first are.
+/// Counts the slots behind so many rows up to the first that is cut or closed, on a disk of that
+/// many bytes, in pieces of so many slots. It tells how many rows these and the first are.
 pub(crate) fn count_rows<D: Disk>(
     disk: &mut D,
     size: u64,
@@ -75,7 +75,8 @@ fn count_piece<D: Disk>(disk: &mut D, place: u64, piece: &mut [u8]) -> Result<us
     ensures all { WhereTold (D.reads disk.old) (λ bytes. IfOk result (λ slots.
         length (open_rows slots (drop place bytes)) ≡ slots)) }
     ensures end { WhereTold (D.reads disk.old) (λ bytes. IfOk result (λ slots.
-        ((ROW_BYTES * slots + ROW_BYTES ≤ length piece.new) ⊎ (length bytes - place ≤ length piece.new)) →
+        ((ROW_BYTES * slots + ROW_BYTES ≤ length piece.new) ⊎
+            (length bytes - place ≤ length piece.new)) →
         starts_open (drop (ROW_BYTES * slots) (drop place bytes)) ≡ false)) }
     ensures unmoved { IsUnmoved D.Disk disk.old disk.new }
     ensures cause { CountsFault (D.faults disk.old) (D.faults disk.new) result }

@@ -8,8 +8,8 @@ use std::fmt;
 pub enum JournalFault {
     /// The disk failed.
     Failed,
-    /// The disk has more than 97 bytes and isn't a journal: the byte at this place is the first that
-    /// differs from a journal's header, byte 8 being passed over.
+    /// The disk has more than 97 bytes and isn't a journal: the byte at this place is the first
+    /// that differs from a journal's header, byte 8 being passed over.
     NotJournal { place: u64 },
 }
 

@@ -20,7 +20,7 @@ pub(crate) fn rows_of(alloc: Global, bytes: Vec<u8>) -> Option<u32> {
 #[test]
 fn a_journal_goes_on_after_a_failure_of_either_write(rt: HostRuntime) -> Result<(), Fail> {
     let alloc = rt.alloc();
-    // 4 calls to mount, 4 for an append, 1 or 3 for one that fails, 4 or 6 for the next, and 2 reads.
+    // 4 calls to mount, 4 to append, 1 or 3 for one that fails, 4 or 6 for the next, and 2 reads.
     for (failing, hanging, calls, rows) in [
         (9u32, false, 15, [1, 1, 1, 1]),
         (11, true, 19, [1, 2, 1, 2]),
