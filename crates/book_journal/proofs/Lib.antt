@@ -1,8 +1,15 @@
-pub mod Appends
+pub mod BehindGate
+pub mod Calls
+pub mod Contents
+pub mod Ending
+pub mod Fronts
 pub mod Gates
 pub mod Journals
 pub mod Moments
 pub mod OpenRows
-pub mod Opens
+pub mod OpenEnds
+pub mod Overwritten
 pub mod Pieces
 pub mod Results
+pub mod Signs
+pub mod Standing

@@ -11,10 +11,10 @@ pub err_at : {T E : Type 0} (result : Result T E) (P : Type 0) → P → OnErr r
 err_at (Ok x) P holds = tt
 err_at (Err e) P holds = holds
 
--- what holds anyway holds at an Ok
-pub ok_at : {T E : Type 0} (result : Result T E) (P : Type 0) → P → OnOk result P
-ok_at (Ok x) P holds = holds
-ok_at (Err e) P holds = tt
+-- what holds at an Ok may be said of less
+pub ok_in : {T E : Type 0} (result : Result T E) (P Q : Type 0) → (P → Q) → OnOk result P → OnOk result Q
+ok_in (Ok x) P Q less holds = less holds
+ok_in (Err e) P Q less holds = tt
 
 -- what holds anyway holds of the error
 pub match_at_err : {T E : Type 0} (Q : E → Type 0) (result : Result T E) (P R : Type 0) → IsErrAnd result Q → R → MatchResult result (λ _. P) (λ _. R)

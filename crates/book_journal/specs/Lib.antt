@@ -1,5 +1,12 @@
+pub mod Appending
+pub mod Closing
+pub mod Ends
 pub mod Journal
+pub mod Laying
+pub mod Marking
 pub mod Mounting
-pub mod Past
+pub mod Opening
+pub mod Reading
 pub mod Rows
+pub mod Scanning
 pub mod Settles

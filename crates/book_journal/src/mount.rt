@@ -1,115 +1,129 @@
-ghost use Rattle.std.specs.Prelude.{◌≡◌, ◌⊎◌, ◌+◌, ◌*◌, ◌≤◌, ℕ, List, IfOk, IfErr, MatchResult, length};
+ghost use Rattle.std.specs.Prelude.{◌≡◌, ◌⊎◌, ◌+◌, ◌*◌, ◌<◌, ◌≤◌, ℕ, List, IfOk, IfErr, IsErr, MatchResult, length};
 ghost use Rattle.device_facts.specs.Known.{TellsAsBefore};
 ghost use Rattle.disk_core.specs.Disk.{WhereTold, Only};
-ghost use Rattle.book_journal.specs.Past.{LeavesOnly};
+ghost use Rattle.disk_core.specs.Devices.{IsUnmoved, LeavesOnly};
 ghost use Rattle.book_journal.specs.Rows.{Recovers};
-ghost use Rattle.book_journal.specs.Mounting.{IsOpened, IsUnmoved, KeepsFromSync, IsCauseOf, NamesDifference};
+ghost use Rattle.book_journal.specs.Ends.{IsSized};
+ghost use Rattle.book_journal.specs.Mounting.{IsMounted, IsCauseOf, KeepsFromSync, opening_cost};
 
-use crate::header::NEW;
-use crate::journal::{Journal, ROW};
-use crate::opening::{begin, difference_on, find};
-use crate::types::{JournalFault, JournalRefused};
+use crate::header::difference;
+use crate::journal::Journal;
+use crate::layout::{MARK, MAX_SLOTS, NEW_BYTES};
+use crate::scan::{create, scan};
+use crate::types::{Found, JournalFault, JournalRefused};
+use book_snapshot::ROW_BYTES;
 use disk_core::Disk;
+use hall_limits::MAX_ROWS;
 
-// Opens a disk whose bytes are stable, and tells how many rows it has.
-fn open<D: Disk>(disk: &mut D) -> Result<u32, JournalFault>
-    ensures most { IfOk result (λ count. count ≤ 1000001) }
-    ensures opened { WhereTold (D.reads disk.old) (λ bytes. Only bytes (D.image disk.old) →
-        IfOk result (λ count. IsOpened D.reads D.image bytes count disk.new)) }
-    ensures any_moment { WhereTold (D.reads disk.old) (λ bytes. Only bytes (D.image disk.old) →
-        (rows : List (List ℕ)) → Recovers bytes rows → length rows ≤ 1000000 →
-        LeavesOnly D.time D.since disk.old disk.new (λ c. Recovers c rows)) }
-    ensures foreign { WhereTold (D.reads disk.old) (λ bytes. IfErr result (NamesDifference bytes)) }
-    ensures cause { MatchResult result (λ _. D.faults disk.new ≡ D.faults disk.old)
-        (λ why. IsCauseOf why (D.faults disk.old) (D.faults disk.new)) }
+const EMPTY: Found = Found {
+    count: 0,
+    marked: false,
+    kept: None,
+};
+
+// Opens a disk whose bytes are stable.
+fn open<D: Disk>(disk: &mut D) -> Result<Found, JournalFault>
+    ensures most { IfOk result (λ found. found.count ≤ MAX_SLOTS) }
+    ensures sized { IfOk result (λ found. IsSized found.kept) }
+    ensures mounted { WhereTold (D.reads disk.old) (λ bytes. Only bytes (D.image disk.old) →
+        IfOk result (λ found.
+            IsMounted D.Disk bytes found.kept found.count found.marked disk.new)) }
+    ensures moments { WhereTold (D.reads disk.old) (λ bytes. Only bytes (D.image disk.old) →
+        (rows : List (List ℕ)) → Recovers bytes rows → length rows ≤ MAX_ROWS →
+        LeavesOnly D.Disk disk.old disk.new (λ c. Recovers c rows)) }
+    ensures full { IfOk result (λ found. MAX_ROWS < found.count → IsUnmoved D.Disk disk.old disk.new) }
     ensures tells { TellsAsBefore (D.reads disk.old) (D.reads disk.new) }
-    ensures asked { IfOk result (λ count. D.asked disk.new ≤ D.asked disk.old + 64 * count + 4161) }
+    ensures cause { MatchResult result (λ _. D.faults disk.new ≡ D.faults disk.old)
+        (λ why. IsCauseOf D.Disk why disk.old disk.new) }
+    ensures asked { IfOk result (λ found.
+        D.asked disk.new ≤ D.asked disk.old + opening_cost found.kept found.count) }
 {
     let size = disk.len()?;
-    if size < ROW as u64 {
-        begin(disk)?;
-        return Ok(0);
+    if size < ROW_BYTES as u64 {
+        create(disk)?;
+        return Ok(EMPTY);
     }
-    let Some(place) = difference_on(disk)? else {
-        let count = find(disk, size)?;
-        return Ok(count);
+    let mut front = [0; ROW_BYTES];
+    disk.read_at(0, &mut front)?;
+    let Some(place) = difference(&front) else {
+        let found = scan(disk, size, front[MARK])?;
+        return Ok(found);
     };
-    if size > NEW as u64 {
+    if size > NEW_BYTES as u64 {
         return Err(JournalFault::NotJournal {
             place: place as u64,
         });
     }
-    begin(disk)?;
-    Ok(0)
+    create(disk)?;
+    Ok(EMPTY)
 }
 
 // Makes what a disk reads stable, and opens it.
-fn start<D: Disk>(disk: &mut D) -> Result<u32, JournalFault>
-    ensures most { IfOk result (λ count. count ≤ 1000001) }
-    ensures opened { WhereTold (D.reads disk.old) (λ bytes.
-        IfOk result (λ count. IsOpened D.reads D.image bytes count disk.new)) }
-    ensures synced { WhereTold (D.reads disk.old) (λ bytes. (rows : List (List ℕ)) → Recovers bytes rows →
-        length rows ≤ 1000000 →
-        MatchResult result
-        (λ _. KeepsFromSync D.time D.image D.since disk.old disk.new (λ c. Recovers c rows))
-        (λ _. KeepsFromSync D.time D.image D.since disk.old disk.new (λ c. Recovers c rows)
-        ⊎ IsUnmoved D.reads D.time D.image D.since disk.old disk.new)) }
-    ensures foreign { WhereTold (D.reads disk.old) (λ bytes. IfErr result (NamesDifference bytes)) }
-    ensures cause { MatchResult result (λ _. D.faults disk.new ≡ D.faults disk.old)
-        (λ why. IsCauseOf why (D.faults disk.old) (D.faults disk.new)) }
+fn start<D: Disk>(disk: &mut D) -> Result<Found, JournalFault>
+    ensures most { IfOk result (λ found. found.count ≤ MAX_SLOTS) }
+    ensures sized { IfOk result (λ found. IsSized found.kept) }
+    ensures mounted { WhereTold (D.reads disk.old) (λ bytes.
+        IfOk result (λ found.
+            IsMounted D.Disk bytes found.kept found.count found.marked disk.new)) }
+    ensures moments { WhereTold (D.reads disk.old) (λ bytes.
+        (rows : List (List ℕ)) → Recovers bytes rows → length rows ≤ MAX_ROWS →
+        KeepsFromSync D.Disk disk.old disk.new (λ c. Recovers c rows)
+        ⊎ (IsErr result × IsUnmoved D.Disk disk.old disk.new)) }
+    ensures full { IfOk result (λ found. MAX_ROWS < found.count → IsUnmoved D.Disk disk.old disk.new) }
     ensures tells { TellsAsBefore (D.reads disk.old) (D.reads disk.new) }
-    ensures asked { IfOk result (λ count. D.asked disk.new ≤ D.asked disk.old + 64 * count + 4161) }
+    ensures cause { MatchResult result (λ _. D.faults disk.new ≡ D.faults disk.old)
+        (λ why. IsCauseOf D.Disk why disk.old disk.new) }
+    ensures asked { IfOk result (λ found.
+        D.asked disk.new ≤ D.asked disk.old + opening_cost found.kept found.count) }
 {
     disk.sync()?;
-    let count = open(disk)?;
-    Ok(count)
+    let found = open(disk)?;
+    Ok(found)
 }
 
 impl<D: Disk> Journal<D> {
-    ghost use Rattle.book_journal.specs.Mounting.{CountedRows};
-    ghost use Rattle.book_journal.specs.Journal.{disk_of, count_of, Hangs, IsSound, HasRows, ImagesKeepRows};
+    ghost use Rattle.book_journal.specs.Journal.{disk_of, count_of, kept_of, Hangs, IsSound, HasRows};
+    ghost use Rattle.book_journal.specs.Opening.{HasMounted, KeepsRecovered};
 
-    /// Mounts a disk as a journal, or hands it back with the reason. The disk is synced first. A disk of at most 65
-    /// bytes that doesn't begin with the header is made a journal without rows; a longer one isn't a journal. The
-    /// rows are those up to the first slot that is cut or closed, and the gate behind them is closed. At most a
-    /// million and one rows are counted; a journal with so many is full, and its disk holds perhaps more.
+    /// Mounts a disk as a journal, or hands it back with the reason. The disk is synced first. A
+    /// disk of at most 97 bytes that doesn't begin with the header is made a journal without rows;
+    /// a longer one isn't a journal. Where a snapshot fits, its rows come first. The rows in slots
+    /// are those behind it up to the first slot that is cut or closed, and the gate behind them is
+    /// closed. At most 1 000 001 are counted; a journal with so many is full, and its disk holds
+    /// perhaps more.
     pub fn mount(disk: D) -> Result<Journal<D>, JournalRefused<D>>
-        // It has the rows that are counted of what the disk reads: those that this recovers, if they are at most a
-        // million.
-        ensures rows { WhereTold (D.reads disk) (λ bytes. IfOk result (λ journal. (rows : List (List ℕ)) ×
-            CountedRows bytes rows × (length rows ≡ count_of journal) × HasRows D.reads journal rows)) }
-        ensures recovered { WhereTold (D.reads disk) (λ bytes. (rows : List (List ℕ)) → Recovers bytes rows →
-            length rows ≤ 1000000 → IfOk result (λ journal. HasRows D.reads journal rows)) }
-        ensures most { IfOk result (λ journal. count_of journal ≤ 1000001) }
+        // What it finds on the disk, and what the disk reads then.
+        ensures mounted { WhereTold (D.reads disk) (λ bytes. IfOk result (HasMounted D.Disk bytes)) }
+        ensures most { IfOk result (λ journal. count_of journal ≤ MAX_SLOTS) }
+        ensures sized { IfOk result (λ journal. IsSized (kept_of journal)) }
         ensures calm { IfOk result (λ journal. ¬ Hangs journal) }
-        ensures images { IfOk result (λ journal. count_of journal ≤ 1000000 → ImagesKeepRows D.reads D.image journal) }
+        ensures full { IfOk result (λ journal. MAX_ROWS < count_of journal →
+            IsUnmoved D.Disk disk (disk_of journal)) }
 
-        // Whatever it answers, each crash from its first sync on leaves these rows, and before that sync, or where
-        // it failed, what a crash might have left of the disk that was handed in.
-        ensures synced { WhereTold (D.reads disk) (λ bytes. (rows : List (List ℕ)) → Recovers bytes rows →
-            length rows ≤ 1000000 →
-            MatchResult result
-            (λ journal. KeepsFromSync D.time D.image D.since disk (disk_of journal) (λ c. Recovers c rows))
-            (λ refused. KeepsFromSync D.time D.image D.since disk refused.disk (λ c. Recovers c rows)
-            ⊎ IsUnmoved D.reads D.time D.image D.since disk refused.disk)) }
+        // It has the rows that the disk recovers, and a crash from its first good sync on leaves
+        // these, whatever it answers.
+        ensures rows { WhereTold (D.reads disk) (λ bytes.
+            (rows : List (List ℕ)) → Recovers bytes rows → length rows ≤ MAX_ROWS →
+            KeepsRecovered D.Disk disk result rows) }
+        ensures sound { IfOk result (λ journal. count_of journal ≤ MAX_ROWS → IsSound D.Disk journal) }
 
         // It refuses a disk that isn't a journal, and otherwise only where the disk failed.
-        ensures not_journal { WhereTold (D.reads disk) (λ bytes. IfErr result (λ refused.
-            NamesDifference bytes refused.why)) }
         ensures cause { MatchResult result (λ journal. D.faults (disk_of journal) ≡ D.faults disk)
-            (λ refused. IsCauseOf refused.why (D.faults disk) (D.faults refused.disk)) }
-        ensures tells { MatchResult result (λ journal. TellsAsBefore (D.reads disk) (D.reads (disk_of journal)))
+            (λ refused. IsCauseOf D.Disk refused.why disk refused.disk) }
+        ensures asked { IfOk result (λ journal. D.asked (disk_of journal) ≤
+            D.asked disk + opening_cost (kept_of journal) (count_of journal)) }
+        ensures tells { MatchResult result
+            (λ journal. TellsAsBefore (D.reads disk) (D.reads (disk_of journal)))
             (λ refused. TellsAsBefore (D.reads disk) (D.reads refused.disk)) }
-        ensures asked { IfOk result (λ journal.
-            D.asked (disk_of journal) ≤ D.asked disk + 64 * count_of journal + 4161) }
-        ensures sound { IfOk result (λ journal. count_of journal ≤ 1000000 → IsSound D.reads D.image journal) }
     {
         let mut disk = disk;
         match start(&mut disk) {
-            Ok(count) => Ok(Journal {
+            Ok(found) => Ok(Journal {
                 disk,
-                count,
+                count: found.count,
                 hanging: false,
+                marked: found.marked,
+                kept: found.kept,
             }),
             Err(why) => Err(JournalRefused { disk, why }),
         }

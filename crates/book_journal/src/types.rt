@@ -1,3 +1,4 @@
+use book_snapshot::Kept;
 use disk_core::Failed;
 use std::error::Error;
 use std::fmt;
@@ -7,8 +8,8 @@ use std::fmt;
 pub enum JournalFault {
     /// The disk failed.
     Failed,
-    /// The disk has more than 65 bytes and isn't a journal: the byte at this place is the first that differs from a
-    /// journal's header, byte 8 being passed over.
+    /// The disk has more than 97 bytes and isn't a journal: the byte at this place is the first
+    /// that differs from a journal's header, byte 8 being passed over.
     NotJournal { place: u64 },
 }
 
@@ -39,4 +40,12 @@ impl Error for JournalFault {}
 pub struct JournalRefused<D> {
     pub disk: D,
     pub why: JournalFault,
+}
+
+// What was found on a disk: how many rows, whether its mark is set, and the snapshot that fits.
+#[derive(Clone, Copy)]
+pub(crate) struct Found {
+    pub(crate) count: u32,
+    pub(crate) marked: bool,
+    pub(crate) kept: Option<Kept>,
 }

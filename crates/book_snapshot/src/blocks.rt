@@ -34,7 +34,8 @@ fn put_block(piece: &[u8], into: &mut [u8])
 pub fn content_of_blocks(blocks: &[u8], into: &mut [u8])
     requires most { length into.old ≤ MAX_CONTENT }
     requires blocks { length blocks.now ≡ ROW_BYTES * blocks_for (length into.old) }
-    ensures { into.new ≡ take (length into.old) (block_content (blocks_for (length into.old)) blocks.now) }
+    ensures { into.new ≡
+        take (length into.old) (block_content (blocks_for (length into.old)) blocks.now) }
 {
     let count = blocks.len() / ROW_BYTES;
     for block in 0..count {

@@ -40,8 +40,8 @@ fn end_of(bytes: &[u8]) -> usize
     end
 }
 
-/// A law of the dense form: what rows of one size, whose numbers go on from one another, are squeezed
-/// to is squeezed from these rows alone.
+/// A law of the dense form: what rows of one size, whose numbers go on from one another, are
+/// squeezed to is squeezed from these rows alone.
 pub fn dense_forms_read_back()
     ensures { ReadsBack }
 {}

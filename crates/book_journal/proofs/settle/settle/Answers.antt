@@ -1,8 +1,8 @@
-use Rattle.std.proofs.Common.{◌+◌, ℕ, List, length, refl, sym, ◌∙◌, subst, arith}
+use Rattle.std.proofs.Common.{◌+◌, ◌∙◌, ℕ, List, length, refl, sym, subst, arith}
 use Rattle.disk_core.specs.Disk.{overwritten, Torn}
 use Rattle.disk_core.specs.Tears.{torn_by, length-overwritten}
 use Rattle.book_journal.proofs.Moments.{elapses_in, elapses_on}
-use Rattle.book_journal.proofs.Results.{ok_at_err, err_at}
+use Rattle.book_journal.proofs.Results.{ok_at_err}
 use Rattle.book_journal.proofs.settle.settle.Goals as goal
 
 pub returns-in_err-write_at-clause-settles : goal.returns-in_err-write_at-clause-settles
@@ -12,7 +12,7 @@ returns-in_err-write_at-clause-settles g c there told =
       now = w.now;
       told = w.told_now;
       done = ok_at_err _ c.from_residual.result _ c.from_residual.ensures.1;
-      cut_short = err_at c.from_residual.result _ w.cut_short;
+      torn = w.cut_short;
       images = w.images;
       moments = elapses_in _ _ c.write_at.ensures.time w.images;
     }
@@ -28,7 +28,7 @@ returns-in_err-sync-clause-settles g c there told =
       now = w.now;
       told = c.sync.ensures.reads ∙ w.told_now;
       done = ok_at_err _ c.from_residual-in_err-sync.result _ c.from_residual-in_err-sync.ensures.1;
-      cut_short = err_at c.from_residual-in_err-sync.result _ (subst (λ (f : List ℕ). Torn c.args.place (length bytes) (c.args.place + length bytes) there f) (sym w.done) torn);
+      torn = subst (λ (f : List ℕ). Torn c.args.place (length bytes) (c.args.place + length bytes) there f) (sym w.done) torn;
       images = images;
       moments = elapses_on _ (elapses_in _ _ c.write_at.ensures.time w.images) (elapses_in _ _ c.sync.ensures.time images);
     }
@@ -36,12 +36,15 @@ returns-in_err-sync-clause-settles g c there told =
 pub returns-clause-settles : goal.returns-clause-settles
 returns-clause-settles g c there told =
     let w = c.in_ok-write_at.ensures.writes there told in
+    let bytes = c.args.bytes.now in
+    let within = c.requires.within there told in
+    let torn : Torn c.args.place (length bytes) (c.args.place + length bytes) there (overwritten there c.args.place bytes) = torn_by there c.args.place (length bytes) (c.args.place + length bytes) bytes refl (omega (arith, within, length-overwritten there c.args.place bytes)) in
     let images = λ (f : List ℕ) (is : g.D.Disk.image c.sync.new.self f). w.images f (c.sync.ensures.images f is) in
     record {
       now = w.now;
       told = c.sync.ensures.reads ∙ w.told_now;
       done = (w.done, c.in_ok-sync.ensures.stable w.now w.told_now);
-      cut_short = tt;
+      torn = subst (λ (f : List ℕ). Torn c.args.place (length bytes) (c.args.place + length bytes) there f) (sym w.done) torn;
       images = images;
       moments = elapses_on _ (elapses_in _ _ c.write_at.ensures.time w.images) (elapses_in _ _ c.sync.ensures.time images);
     }

@@ -1,6 +1,6 @@
 use Rattle.std.proofs.Common.{◌∙◌, ⊎_elim, inl, inr, ℕ, min, length, drop, ap, refl, sym, arith, length-drop, length-take}
 use Rattle.book_journal.proofs.OpenRows.{rows_fit}
-use Rattle.book_journal.proofs.Pieces.{unmoved_by, piece_all, piece_end}
+use Rattle.book_journal.proofs.Pieces.{piece_all, piece_end}
 use Rattle.book_journal.proofs.slots.count_piece.Goals as goal
 
 pub returns-clause-inside : goal.returns-clause-inside
@@ -20,9 +20,3 @@ returns-clause-end g c bytes told enough =
     let got = read.count bytes told ∙ ap (λ (n : ℕ). min (length c.read_at.new.into) n) (sym (length-drop c.args.place bytes)) in
     piece_end c.read_at.new.into there c.in_ok-count.count c.open_slots.result (length c.read_at.new.into) got (read.bytes bytes told) refl c.open_slots.ensures.end
     (⊎_elim (λ room. inl room) (λ to_end. inr (omega (arith, to_end, length-drop c.args.place bytes))) enough)
-
-pub returns-clause-unmoved : goal.returns-clause-unmoved
-returns-clause-unmoved g c = unmoved_by g.D.Disk.reads g.D.Disk.time g.D.Disk.image g.D.Disk.since c.args.disk.now c.read_at.new.self c.read_at.ensures.reads c.read_at.ensures.images c.read_at.ensures.time
-
-pub returns-in_err-count-clause-unmoved : goal.returns-in_err-count-clause-unmoved
-returns-in_err-count-clause-unmoved g c = unmoved_by g.D.Disk.reads g.D.Disk.time g.D.Disk.image g.D.Disk.since c.args.disk.now c.read_at.new.self c.read_at.ensures.reads c.read_at.ensures.images c.read_at.ensures.time
