@@ -33,7 +33,7 @@ kept_disk journal content bytes =
     if nat_lt (snapshot_end journal.count (length content)) (length bytes)
     then cleared journal.marked bytes
     else overwritten (with_snapshot journal.count content (cleared journal.marked bytes))
-        MARK (MARKED ∷ [])
+    MARK (MARKED ∷ [])
 
 -- The journal has the same rows, and a crash at any moment of the call leaves these.
 pub record KeepsSnapshot {D : Type 0} (disk : disk.Ghosts D) (old new : Journal D)

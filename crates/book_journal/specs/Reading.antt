@@ -16,4 +16,4 @@ ReadsContent None bytes from result into = ⊥
 ReadsContent (Some kept) bytes from result into = EndsWithSnapshot kept.rows kept.bytes bytes
     → IfOk result (λ count. (count ≡ min BLOCKS_CONTENT (kept.bytes - BLOCKS_CONTENT * from))
     × (take count into
-        ≡ take count (drop (BLOCKS_CONTENT * from) (snapshot_content kept.rows kept.bytes bytes))))
+    ≡ take count (drop (BLOCKS_CONTENT * from) (snapshot_content kept.rows kept.bytes bytes))))

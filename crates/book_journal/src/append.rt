@@ -104,7 +104,7 @@ impl<D: Disk> Journal<D> {
         ensures kept { self.new.kept ≡ self.old.kept }
         ensures written { WhereTold (D.reads self.old.disk) (λ bytes. OnOk result
             (D.reads self.new.disk ≡
-                Some (overwritten bytes (gate_behind self.old.count) (row.now ++ CLOSED ∷ [])))) }
+            Some (overwritten bytes (gate_behind self.old.count) (row.now ++ CLOSED ∷ [])))) }
         ensures touched { WhereTold (D.reads self.old.disk) (λ bytes.
             WhereTold (D.reads self.new.disk) (TouchesSlot self.old.count bytes)) }
         ensures cause { CountsFault (D.faults self.old.disk) (D.faults self.new.disk) result }

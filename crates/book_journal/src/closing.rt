@@ -20,7 +20,7 @@ pub(crate) fn close_behind<D: Disk>(disk: &mut D, size: u64, count: u32) -> Resu
     requires ends { WhereTold (D.reads disk.old) (EndsAt size count) }
     ensures reads { WhereTold (D.reads disk.old) (λ bytes. Only bytes (D.image disk.old) →
         OnOk result ((D.reads disk.new ≡ Some (closed_behind count bytes)) ×
-            Only (closed_behind count bytes) (D.image disk.new))) }
+        Only (closed_behind count bytes) (D.image disk.new))) }
     ensures moments { WhereTold (D.reads disk.old) (λ bytes. Only bytes (D.image disk.old) →
         (rows : List (List ℕ)) → Recovers bytes rows → length rows ≡ count →
         LeavesOnly D.Disk disk.old disk.new (λ c. Recovers c rows)) }

@@ -34,7 +34,7 @@ impl<D: Disk> Journal<D> {
         ensures fits { WhereTold (D.reads (disk_of self.old)) (λ bytes.
             length bytes ≤ snapshot_end (count_of self.old) (length content.now) →
             OnOk result (WhereTold (D.reads (disk_of self.new))
-                (HoldsSnapshot (count_of self.old) content.now))) }
+            (HoldsSnapshot (count_of self.old) content.now))) }
         ensures count { count_of self.new ≡ count_of self.old }
         ensures kept { kept_of self.new ≡ kept_of self.old }
         ensures calm { ¬ Hangs self.new }

@@ -27,7 +27,7 @@ fn open<D: Disk>(disk: &mut D) -> Result<Found, JournalFault>
     ensures sized { IfOk result (λ found. IsSized found.kept) }
     ensures mounted { WhereTold (D.reads disk.old) (λ bytes. Only bytes (D.image disk.old) →
         IfOk result (λ found.
-            IsMounted D.Disk bytes found.kept found.count found.marked disk.new)) }
+        IsMounted D.Disk bytes found.kept found.count found.marked disk.new)) }
     ensures moments { WhereTold (D.reads disk.old) (λ bytes. Only bytes (D.image disk.old) →
         (rows : List (List ℕ)) → Recovers bytes rows → length rows ≤ MAX_ROWS →
         LeavesOnly D.Disk disk.old disk.new (λ c. Recovers c rows)) }
@@ -64,7 +64,7 @@ fn start<D: Disk>(disk: &mut D) -> Result<Found, JournalFault>
     ensures sized { IfOk result (λ found. IsSized found.kept) }
     ensures mounted { WhereTold (D.reads disk.old) (λ bytes.
         IfOk result (λ found.
-            IsMounted D.Disk bytes found.kept found.count found.marked disk.new)) }
+        IsMounted D.Disk bytes found.kept found.count found.marked disk.new)) }
     ensures moments { WhereTold (D.reads disk.old) (λ bytes.
         (rows : List (List ℕ)) → Recovers bytes rows → length rows ≤ MAX_ROWS →
         KeepsFromSync D.Disk disk.old disk.new (λ c. Recovers c rows)

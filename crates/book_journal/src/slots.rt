@@ -76,7 +76,7 @@ fn count_piece<D: Disk>(disk: &mut D, place: u64, piece: &mut [u8]) -> Result<us
         length (open_rows slots (drop place bytes)) ≡ slots)) }
     ensures end { WhereTold (D.reads disk.old) (λ bytes. IfOk result (λ slots.
         ((ROW_BYTES * slots + ROW_BYTES ≤ length piece.new) ⊎
-            (length bytes - place ≤ length piece.new)) →
+        (length bytes - place ≤ length piece.new)) →
         starts_open (drop (ROW_BYTES * slots) (drop place bytes)) ≡ false)) }
     ensures unmoved { IsUnmoved D.Disk disk.old disk.new }
     ensures cause { CountsFault (D.faults disk.old) (D.faults disk.new) result }

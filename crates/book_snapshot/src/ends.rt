@@ -26,7 +26,7 @@ pub fn read_tail(block: &[u8; ROW_BYTES]) -> Option<Kept>
     ensures { MatchOption result
         ((rows bytes : ℕ) → IsSnapshotSize rows bytes → block.now ≢ end_block TAIL rows bytes)
         (λ kept. IsSnapshotSize kept.rows kept.bytes ×
-            (block.now ≡ end_block TAIL kept.rows kept.bytes)) }
+        (block.now ≡ end_block TAIL kept.rows kept.bytes)) }
 {
     let kept = Kept {
         rows: get_u32(block, ROWS_PLACE),

@@ -9,9 +9,9 @@ is_row number [] written long kind is = absurd (omega (arith, long))
 is_row number (x ∷ []) written long kind is = absurd (omega (arith, long))
 is_row number (x ∷ y ∷ rest) written long kind is = record {
   numbered = record {
-      long = ap length is ∙ omega (arith, long, length-append (to_le_bytes w32 number) (drop 4 rest), length-drop 4 rest);
-      gate = ap (λ (l : List ℕ). get_or l 0 0) is;
-      field = ap (λ (l : List ℕ). slice_range l 2 6) is;
-    };
+    long = ap length is ∙ omega (arith, long, length-append (to_le_bytes w32 number) (drop 4 rest), length-drop 4 rest);
+    gate = ap (λ (l : List ℕ). get_or l 0 0) is;
+    field = ap (λ (l : List ℕ). slice_range l 2 6) is;
+  };
   kind = λ none. kind (sym (ap (λ (l : List ℕ). get_or l 1 0) is) ∙ none);
 }

@@ -32,7 +32,10 @@ fn a_dense_form_reads_as_its_row(rt: HostRuntime) -> Result<(), Fail> {
     assert_eq!(rt; read_one::<96>(&form, 300), Piece::Row { row, taken: 5 });
     let mut old = [0; 64];
     old.copy_from_slice(&row[..64]);
-    assert_eq!(rt; read_one::<64>(&form, 300), Piece::Row { row: old, taken: 5 });
+    assert_eq!(rt;
+        read_one::<64>(&form, 300),
+        Piece::Row { row: old, taken: 5 }
+    );
     for cut in 0..5usize {
         assert_eq!(rt; read_one::<96>(&form[..cut], 300), Piece::More);
     }

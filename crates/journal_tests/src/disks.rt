@@ -47,8 +47,12 @@ fn slots_that_are_cut_or_closed_end_the_rows(rt: HostRuntime) -> Result<(), Fail
 #[test]
 fn a_foreign_disk_is_named_by_its_first_byte(rt: HostRuntime) -> Result<(), Fail> {
     let alloc = rt.alloc();
-    for (place, byte, why) in [(3, 0, Some(3)), (7, b'1', Some(7)), (8, 9, None), (95, 1, Some(95))]
-    {
+    for (place, byte, why) in [
+        (3, 0, Some(3)),
+        (7, b'1', Some(7)),
+        (8, 9, None),
+        (95, 1, Some(95)),
+    ] {
         let mut bytes = header_and(alloc, &[0; 33], 999)?;
         if let Some(there) = bytes.get_mut(place) {
             *there = byte;
@@ -59,7 +63,11 @@ fn a_foreign_disk_is_named_by_its_first_byte(rt: HostRuntime) -> Result<(), Fail
         };
         assert_eq!(rt; found, why.map(|place| JournalFault::NotJournal { place }));
     }
-    let text = format!(in alloc; "{}, {}", JournalFault::NotJournal { place: 7 }, JournalFault::Failed)?;
+    let text = format!(in alloc;
+        "{}, {}",
+        JournalFault::NotJournal { place: 7 },
+        JournalFault::Failed
+    )?;
     assert_eq!(rt; text.as_str(), "not a journal at 7, the disk failed");
     Ok(())
 }
@@ -106,7 +114,13 @@ fn a_full_journal_is_opened_by_its_snapshot(rt: HostRuntime) -> Result<(), Fail>
     match Journal::mount(MemoryDisk::new(alloc, bytes, Vec::new(alloc))) {
         Ok(journal) => {
             assert_eq!(rt; journal.count(), 1_000_001);
-            assert_eq!(rt; journal.kept(), Some(Kept { rows: 1_000_000, bytes: 1 }));
+            assert_eq!(rt;
+                journal.kept(),
+                Some(Kept {
+                    rows: 1_000_000,
+                    bytes: 1
+                })
+            );
             assert_eq!(rt; journal.give_back().calls_made(), 6);
         }
         Err(_) => assert!(rt; false),

@@ -117,7 +117,10 @@ impl<D: Disk> TestJournal<D> {
 }
 
 /// What the disk of a journal reads.
-pub(crate) fn bytes_of(alloc: Global, journal: TestJournal<MemoryDisk>) -> Result<Vec<u8>, NoMemory> {
+pub(crate) fn bytes_of(
+    alloc: Global,
+    journal: TestJournal<MemoryDisk>,
+) -> Result<Vec<u8>, NoMemory> {
     let disk = journal.journal.give_back();
     Vec::from_slice(alloc, disk.bytes())
 }

@@ -21,7 +21,9 @@ fn worked(alloc: Global) -> Result<Option<TestJournal<MemoryDisk>>, NoMemory> {
 
 // Whether bytes stand at a place.
 fn stands(bytes: &[u8], place: usize, those: &[u8]) -> bool {
-    bytes.get(place..).is_some_and(|rest| rest.starts_with(those))
+    bytes
+        .get(place..)
+        .is_some_and(|rest| rest.starts_with(those))
 }
 
 #[test]
@@ -33,10 +35,28 @@ fn a_snapshot_stands_behind_the_closed_gate(rt: HostRuntime) -> Result<(), Fail>
     assert!(rt; stands(&bytes, 0, b"AQHBOOK2\x01\0"));
     assert!(rt; stands(&bytes, 96, &[1, 1, 1, 0, 0, 0]));
     assert!(rt; stands(&bytes, 576, &[0; 96]));
-    assert!(rt; stands(&bytes, 672, &[0, 83, 5, 0, 0, 0, 171, 0, 0, 0, 0, 0, 0, 0, 0]));
-    assert!(rt; stands(&bytes, 768, &[0, 0, 11, 1, 0, 0, 0, 0, 0, 0, 0, 0, 0xb6, 0x4e, 45, 2]));
+    assert!(rt;
+        stands(
+            &bytes,
+            672,
+            &[0, 83, 5, 0, 0, 0, 171, 0, 0, 0, 0, 0, 0, 0, 0]
+        )
+    );
+    assert!(rt;
+        stands(
+            &bytes,
+            768,
+            &[0, 0, 11, 1, 0, 0, 0, 0, 0, 0, 0, 0, 0xb6, 0x4e, 45, 2]
+        )
+    );
     assert!(rt; stands(&bytes, 864, &[0, 0, 0, 0]));
-    assert!(rt; stands(&bytes, 960, &[0, 84, 5, 0, 0, 0, 171, 0, 0, 0, 0, 0, 0, 0, 0]));
+    assert!(rt;
+        stands(
+            &bytes,
+            960,
+            &[0, 84, 5, 0, 0, 0, 171, 0, 0, 0, 0, 0, 0, 0, 0]
+        )
+    );
     Ok(())
 }
 
@@ -51,7 +71,13 @@ fn a_snapshot_is_read_in_pieces(rt: HostRuntime) -> Result<(), Fail> {
     }
     assert_eq!(rt; kept.keep(&content), Ok(()));
     let mut kept = mount_bytes(alloc, bytes_of(alloc, kept)?).expect(&rt, "a journal");
-    assert_eq!(rt; kept.journal.kept(), Some(Kept { rows: 60, bytes: 5520 }));
+    assert_eq!(rt;
+        kept.journal.kept(),
+        Some(Kept {
+            rows: 60,
+            bytes: 5520
+        })
+    );
     let mut read = Vec::new(alloc);
     for (piece, size) in [(0, 3948), (1, 1572)] {
         let mut into = [0; BLOCKS_CONTENT];
@@ -156,7 +182,13 @@ fn a_snapshot_of_other_rows_is_mounted_as_it_is(rt: HostRuntime) -> Result<(), F
         }
     }
     let mut kept = mount_bytes(alloc, bytes).expect(&rt, "a journal");
-    assert_eq!(rt; kept.journal.kept(), Some(Kept { rows: 5, bytes: 171 }));
+    assert_eq!(rt;
+        kept.journal.kept(),
+        Some(Kept {
+            rows: 5,
+            bytes: 171
+        })
+    );
     assert_eq!(rt; kept.journal.count(), 5);
     let mut into = [0; BLOCKS_CONTENT];
     assert_eq!(rt; kept.blocks(0, &mut into), Ok(171));
