@@ -1,5 +1,6 @@
+use crate::journals::squeeze_row;
 use crate::rows::{WORKED_SIZES, worked_rows};
-use book_snapshot::{Dense, Piece, read_one, squeeze};
+use book_snapshot::{Dense, Piece, read_one};
 use std::test::Fail;
 
 #[test]
@@ -7,7 +8,7 @@ fn the_worked_rows_have_171_bytes(rt: HostRuntime) -> Result<(), Fail> {
     let mut content = Dense::new(rt.alloc());
     for (row, size) in worked_rows().iter().zip(WORKED_SIZES) {
         let before = content.as_slice().len();
-        squeeze(row, &mut content)?;
+        squeeze_row(row, &mut content)?;
         assert_eq!(rt; content.as_slice().len().saturating_sub(before), size);
     }
     assert_eq!(rt; content.as_slice().len(), 171);

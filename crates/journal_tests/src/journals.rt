@@ -33,7 +33,8 @@ fn numbered(row: &Row, number: u32) -> Row
 
 // Whether a snapshot of this size has such a piece.
 fn holds(kept: Kept, piece: u64) -> bool
-    ensures { IsTrue result → IsSnapshotSize kept.rows kept.bytes × (BLOCKS_CONTENT * piece < kept.bytes) }
+    ensures { IsTrue result → IsSnapshotSize kept.rows kept.bytes ×
+        (BLOCKS_CONTENT * piece < kept.bytes) }
 {
     1 <= kept.rows
         && kept.rows <= MAX_ROWS
@@ -108,12 +109,20 @@ impl<D: Disk> TestJournal<D> {
         let mut content = Dense::new(alloc);
         for number in 1..self.journal.count().saturating_add(1) {
             match self.row(number) {
-                Ok(row) if row[1] != 0 => squeeze(&row, &mut content)?,
-                _ => return Ok(Err(Failed)),
+                Ok(row) => squeeze_row(&row, &mut content)?,
+                Err(failed) => return Ok(Err(failed)),
             }
         }
         Ok(self.keep(&content))
     }
+}
+
+/// Appends the dense form of a row, where it has a kind.
+pub(crate) fn squeeze_row(row: &Row, content: &mut Dense) -> Result<(), NoMemory> {
+    if row[1] != 0 {
+        squeeze(row, content)?;
+    }
+    Ok(())
 }
 
 /// What the disk of a journal reads.
