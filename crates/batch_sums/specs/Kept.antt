@@ -1,6 +1,7 @@
 -- What is kept of the packs, and what always holds of it.
 use Rattle.std.specs.Prelude.{◌^◌, ◌≡◌, ℕ, ℤ, pos, ◌+◌, ◌<◌, ◌≤◌, ◌≤ℤ◌, Bool, ◌&&◌, ◌==◌, List, [], ◌∷◌, ◌++◌, ◌||◌, length, take, nat_lt, slice_index, count_by, Option, Some, option_map, if◌then◌else◌}
 use Rattle.std.specs.List.{All, sum_by, slice_get}
+use Rattle.annex_tables.specs.declared.types.Limits.{Limits}
 use Rattle.hall_limits.specs.declared.TheConstants.{MAX_GROSS, MAX_TARE, MAX_DAY}
 use Rattle.pack_judge.specs.declared.types.Pile.{Pile}
 use Rattle.batch_sums.specs.declared.batch.Batch.{Batch}
@@ -24,6 +25,10 @@ pub record Sums : Type 0 where
 -- the totals of a batch that was added
 abbrev pub totals_in : Sums → ℕ → Option Totals
 totals_in sums batch = option_map (λ terms. totals_of terms.limits sums.packs batch) (slice_get sums.batches batch)
+
+-- the limits of a batch that was added
+abbrev pub kept_limits : Sums → ℕ → Option Limits
+kept_limits sums batch = option_map (λ terms. terms.limits) (slice_get sums.batches batch)
 
 abbrev pub terms_of : Batch → Terms
 terms_of batch = record { product = batch.product; limits = batch.limits }

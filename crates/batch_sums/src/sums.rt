@@ -1,5 +1,5 @@
 ghost use Rattle.std.specs.Prelude.{◌≡◌, ℕ, List, pos, find, map, ◌==◌, ◌*◌, Some, IsTrue, true, false, ◌≤ℤ◌, ◌+◌, ◌<◌, ◌≤◌, [], ◌∷◌, ◌++◌, length, IsOk, IfOk, OnOk, OnErr, if◌then◌else◌};
-ghost use Rattle.batch_sums.specs.Kept.{totals_in, counted_number};
+ghost use Rattle.batch_sums.specs.Kept.{totals_in, kept_limits, counted_number};
 ghost use Rattle.batch_sums.specs.Totals.{is_counted, population, of_batch};
 ghost use Rattle.batch_sums.specs.Asked.{numbers_of, piles_of, concerned_in, chosen_batches, IsLeast, IsLeastWith};
 ghost use Rattle.batch_sums.specs.Changes.{is_added, moved, corrected, concerned, group_count, IsUpTo, IsTareOf, HasFewPerGroup};
@@ -259,6 +259,14 @@ impl BatchSums {
     {
         let batch = &self.batches[batch as usize];
         batch.totals()
+    }
+
+    /// The limits in mg that a batch was added with. It takes no memory and no walk.
+    pub fn limits(&self, batch: u32) -> Limits
+        requires { batch < length self.now.batches }
+        ensures { kept_limits self.now batch ≡ Some result }
+    {
+        self.batches[batch as usize].limits
     }
 
     /// The pack that was added with this number, as it now is, and `None` where none was. It takes no memory and no walk.

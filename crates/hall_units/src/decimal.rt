@@ -11,6 +11,9 @@ pub const MAX_DECIMAL: usize = 40;
 /// No decimal text of a number of 32 bits has more bytes.
 pub const MAX_COUNT: usize = 10;
 
+/// No decimal text of a number of 64 bits has more bytes.
+pub const MAX_NUMBER: usize = 20;
+
 /// Appends the decimal digits of a number. With room for `MAX_DECIMAL` bytes it takes no memory; a
 /// refusal leaves the bytes as they were.
 pub fn push_decimal(to: &mut Vec<u8>, number: u128) -> Result<(), NoMemory>
@@ -28,5 +31,15 @@ pub fn push_count(to: &mut Vec<u8>, count: u32) -> Result<(), NoMemory>
 {
     let mut buffer = Buffer::new();
     push_bytes(to, buffer.format(count).as_bytes())?;
+    Ok(())
+}
+
+/// Appends the decimal digits of a number of 64 bits. With room for `MAX_NUMBER` bytes it takes no
+/// memory; a refusal leaves the bytes as they were.
+pub fn push_number(to: &mut Vec<u8>, value: u64) -> Result<(), NoMemory>
+    ensures { Prints to.old to.new result (decimal value) MAX_NUMBER }
+{
+    let mut buffer = Buffer::new();
+    push_bytes(to, buffer.format(value).as_bytes())?;
     Ok(())
 }

@@ -1,4 +1,7 @@
-ghost use Rattle.std.specs.Prelude.{◌≡◌, ◌↔◌, [], length, IsTrue};
+ghost use Rattle.std.specs.Prelude.{◌≡◌, ◌↔◌, [], length, IsTrue, nat_eq};
+ghost use Rattle.std.specs.Cmp.Lexicographic.{pointwise};
+ghost use Rattle.std.specs.Cmp.Rules.{comparing};
+ghost use Rattle.std.proofs.Common.{rules};
 
 use std::alloc::AllocError;
 use std::marker::Model;
@@ -43,6 +46,20 @@ impl Picks {
     {
         self.packs.as_slice()
     }
+}
+
+impl PartialEq for Picks {
+    ghost eq = { pointwise nat_eq };
+
+    ghost laws = { Prim.search (comparing, rules) };
+
+    fn eq(&self, other: &Picks) -> bool {
+        self.packs == other.packs
+    }
+}
+
+impl Eq for Picks {
+    ghost laws = { Prim.search (comparing, rules) };
 }
 
 impl From<Vec<u64>> for Picks {
