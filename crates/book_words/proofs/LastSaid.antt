@@ -3,8 +3,8 @@ use Rattle.std.proofs.Common.{◌≡◌, ℕ, ◌+◌, ◌<◌, List, [], ◌∷
 use Rattle.std.proofs.lemmas.List.{take_more}
 use Rattle.std.specs.List.{filter_map, last_or, cons_option}
 use Rattle.std.specs.Option.{option_or}
-use Rattle.book_words.specs.declared.types.Act.{Act}
-use Rattle.book_words.specs.declared.types.Entry.{Entry}
+use Rattle.book_words.specs.declared.act.Act.{Act}
+use Rattle.book_words.specs.declared.act.Entry.{Entry}
 use Rattle.book_words.specs.Acts.{last_said}
 
 pub last_or-cons : {A : Type 0} (o p : Option A) (xs : List A) → last_or o (cons_option p xs) ≡ last_or (option_or p o) xs

@@ -1,13 +1,10 @@
 -- What holds of each legal list.
 use Rattle.std.proofs.Common.{◌≡◌, zero, suc, ◌≤◌, ◌⊎◌, inl, inr, List, [], ◌∷◌, ◌++◌, length, refl, sym, ◌∙◌, ap, subst, arith, append_assoc, append-nil, length-append}
 use Rattle.hall_limits.specs.declared.TheConstants.{MAX_ROWS}
-use Rattle.book_words.specs.declared.types.Entry.{Entry}
-use Rattle.book_words.specs.Answers.{IsLawful, IsLegal}
+use Rattle.book_words.specs.declared.act.Entry.{Entry}
+use Rattle.book_words.specs.Answers.{ask_of, IsLawful, IsLegal}
 use Rattle.book_words.specs.Ranges.{AllInRange}
-use Rattle.book_words.specs.Soundness.{IsSound}
-use Rattle.book_words.proofs.MoveLaws.{balanced, each_moves}
-use Rattle.book_words.proofs.RefusalLemmas.{rules_in_range}
-use Rattle.book_words.proofs.TareLaws.{tares_known}
+use Rattle.book_words.proofs.RefusalLemmas.{act_rules, rules_in_range}
 
 abbrev head_or : Entry → List Entry → Entry
 head_or other [] = other
@@ -54,7 +51,7 @@ legal-prefix entries more legal before entry after parts =
 
 in_range_from : (before after : List Entry) → IsLegal (before ++ after) → AllInRange after
 in_range_from before [] legal k d inside = absurd (omega arith)
-in_range_from before (e ∷ es) legal zero d inside = rules_in_range before e.act (legal before e es refl).rules
+in_range_from before (e ∷ es) legal zero d inside = rules_in_range before e.act (act_rules before (ask_of e) e.act (legal before e es refl).rules)
 in_range_from before (e ∷ es) legal (suc k) d inside =
     in_range_from (before ++ e ∷ []) es (subst IsLegal (sym (append_assoc before (e ∷ []) es)) legal) k d (omega arith)
 
@@ -75,7 +72,6 @@ few_from before (e ∷ es) legal few =
 pub legal_few : (entries : List Entry) → IsLegal entries → length entries ≤ MAX_ROWS
 legal_few entries legal = few_from [] entries legal (omega arith)
 
--- legal rows are sound
-pub sound_of_legal : (rows : List Entry) → IsLegal rows → IsSound rows
-sound_of_legal rows legal =
-    record { legal = legal; balanced = balanced rows; moves = each_moves rows; tares = tares_known rows legal }
+-- the last entry of a legal list is lawful behind the others
+pub lawful_last : (entries : List Entry) (entry : Entry) → IsLegal (entries ++ entry ∷ []) → IsLawful entries entry
+lawful_last entries entry legal = legal entries entry [] refl

@@ -1,9 +1,10 @@
 pub mod NameLemmas
 pub mod LastSaid
 pub mod OneMoreEntry
-pub mod MoveLaws
 pub mod RefusalLemmas
-pub mod TareLaws
 pub mod LegalLemmas
-pub mod RangeLemmas
-mod Worked
+pub mod DrawnLemmas
+pub mod DrawnOnce
+pub mod OpenedOnce
+pub mod SampleSteps
+pub mod DrawnPacks

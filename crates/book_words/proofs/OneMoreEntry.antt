@@ -1,22 +1,34 @@
--- What one more entry changes of the readings before it: only what the lane's next act says, where
--- there was none.
-use Rattle.std.proofs.Common.{◌≡◌, ℕ, zero, suc, ◌+◌, ◌<◌, ◌≤◌, List, [], ◌∷◌, ◌++◌, length, take, drop, map, slice_get, Option, Some, None, option_map, refl, ◌∙◌, ap, arith, length-append}
+-- What one more entry changes of the readings before it: what the lane's next act says, where there
+-- was none, and whether it is taken back.
+use Rattle.std.proofs.Common.{◌≡◌, Bool, true, false, ◌||◌, sym, ℕ, zero, suc, ◌+◌, ◌<◌, ◌≤◌, List, [], ◌∷◌, ◌++◌, length, take, drop, map, slice_get, Option, Some, None, option_map, refl, ◌∙◌, ap, arith, length-append}
 use Rattle.std.proofs.lemmas.List.{take-append-le}
 use Rattle.std.proofs.Math.Seq.{take-append_seam}
 use Rattle.std.specs.List.{filter_map, range_with_len, cons_option}
 use Rattle.std.specs.Option.{option_or, option_and_then}
 use Rattle.pack_judge.specs.declared.types.Signal.{Signal}
-use Rattle.book_words.specs.declared.types.Prior.{Prior}
-use Rattle.book_words.specs.declared.types.Act.{Act}
-use Rattle.book_words.specs.declared.types.Act.TheVariants.{NewDay, PutProduct, PutTare, OpenBatch, StartLane, Weigh, StopLane}
-use Rattle.book_words.specs.declared.types.Entry.{Entry}
-use Rattle.book_words.specs.declared.types.Reading.{Reading}
-use Rattle.book_words.specs.Acts.{said, first_said, prior_told, newest_day, last_batch}
+use Rattle.book_words.specs.declared.act.Prior.{Prior}
+use Rattle.book_words.specs.declared.act.Act.{Act}
+use Rattle.book_words.specs.declared.act.Act.TheVariants.{NewDay, PutProduct, PutTare, OpenBatch, StartLane, Weigh, StopLane, Void, EndRun, Draw, Measure, DrawSecond, Close}
+use Rattle.book_words.specs.declared.act.Entry.{Entry}
+use Rattle.book_words.specs.declared.act.Reading.{Reading}
+use Rattle.book_words.specs.Acts.{said, first_said, prior_told, is_void_of, is_voided, newest_day, last_batch}
 use Rattle.book_words.specs.Readings.{reading_from, reading_at, readings_among, readings}
 
 -- a reading once an act came after it
 abbrev pub advance : Act → Reading → Reading
-advance act reading = record reading { next_prior = option_or reading.next_prior (prior_told reading.lane act) }
+advance act reading =
+    record reading {
+      next_prior = option_or reading.next_prior (prior_told reading.lane act);
+      voided = reading.voided || is_void_of reading.number act;
+    }
+
+or_false : (b : Bool) → b || false ≡ b
+or_false true = refl
+or_false false = refl
+
+or_assoc : (a b c : Bool) → (a || b) || c ≡ a || (b || c)
+or_assoc true b c = refl
+or_assoc false b c = refl
 
 first_said-push : {A : Type 0} (says : Act → Option A) (entries : List Entry) (entry : Entry) → first_said says (entries ++ entry ∷ []) ≡ option_or (first_said says entries) (says entry.act)
 first_said-push {A} says [] entry = only (says entry.act)
@@ -31,17 +43,31 @@ first_said-push {A} says (e ∷ es) entry = first (says e.act) (first_said-push 
     first None h = h
     first (Some x) h = refl
 
+-- the packs that one more entry takes back
+pub is_voided-push : (entries : List Entry) (entry : Entry) (pack : ℕ) → is_voided (entries ++ entry ∷ []) pack ≡ is_voided entries pack || is_void_of pack entry.act
+is_voided-push [] entry pack = or_false (is_void_of pack entry.act)
+is_voided-push (e ∷ es) entry pack =
+    ap (λ b. is_void_of pack e.act || b) (is_voided-push es entry pack)
+    ∙ sym (or_assoc (is_void_of pack e.act) (is_voided es pack) (is_void_of pack entry.act))
+
 reading_from-push : (number : ℕ) (before : List Entry) (act : Act) (signal : Option Signal) (after : List Entry) (entry : Entry)
     → reading_from number before act signal (after ++ entry ∷ []) ≡ option_map (advance entry.act) (reading_from number before act signal after)
 reading_from-push number before (Weigh lane gross prior) signal after entry =
-    let reading : Option Prior → Option Reading = λ o. Some (record { number = number; lane = lane; gross = gross; signal = signal; day = newest_day before; batch = last_batch before lane; next_prior = o }) in
-    ap reading (first_said-push (prior_told lane) after entry)
+    let reading : Option Prior → Bool → Option Reading = λ o voided. Some (record { number = number; lane = lane; gross = gross; signal = signal; day = newest_day before; batch = last_batch before lane; next_prior = o; voided = voided }) in
+    ap (λ o. reading o (is_voided (after ++ entry ∷ []) number)) (first_said-push (prior_told lane) after entry)
+    ∙ ap (reading (option_or (first_said (prior_told lane) after) (prior_told lane entry.act))) (is_voided-push after entry number)
 reading_from-push number before (NewDay day) signal after entry = refl
-reading_from-push number before (PutProduct name nominal) signal after entry = refl
+reading_from-push number before (PutProduct name nominal unit) signal after entry = refl
 reading_from-push number before (PutTare product day tare) signal after entry = refl
-reading_from-push number before (OpenBatch batch product) signal after entry = refl
+reading_from-push number before (OpenBatch batch product density) signal after entry = refl
 reading_from-push number before (StartLane lane batch) signal after entry = refl
 reading_from-push number before (StopLane lane prior) signal after entry = refl
+reading_from-push number before (Void pack) signal after entry = refl
+reading_from-push number before (EndRun batch) signal after entry = refl
+reading_from-push number before (Draw batch mode word) signal after entry = refl
+reading_from-push number before (Measure pack gross empty) signal after entry = refl
+reading_from-push number before (DrawSecond batch word) signal after entry = refl
+reading_from-push number before (Close batch) signal after entry = refl
 
 slice_get-push : (entries : List Entry) (entry : Entry) (place : ℕ) → place < length entries → slice_get (entries ++ entry ∷ []) place ≡ slice_get entries place
 slice_get-push [] entry place h = absurd (omega arith)

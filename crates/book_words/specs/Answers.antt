@@ -1,84 +1,81 @@
 -- What the book answers, and which lists are legal.
-use Rattle.std.specs.Prelude.{◌≡◌, ℕ, ◌+◌, ◌<◌, false, List, [], ◌∷◌, ◌++◌, length, count_by, Option, Some, None, Result, Ok, Err}
+use Rattle.std.specs.Prelude.{◌≡◌, ℕ, ◌+◌, ◌-◌, ◌<◌, List, [], ◌∷◌, ◌++◌, length, take, Option, Some, None, Result, Ok, Err}
 use Rattle.std.specs.List.{cons_option}
-use Rattle.std.specs.Option.{option_map_or}
 use Rattle.hall_limits.specs.declared.TheConstants.{MAX_ROWS}
 use Rattle.pack_judge.specs.declared.types.Signal.{Signal}
-use Rattle.pack_judge.specs.declared.types.Pile.TheVariants.{Passed, Rejected, Sampled, Voided}
-use Rattle.book_words.specs.declared.types.Act.{Act}
-use Rattle.book_words.specs.declared.types.Entry.{Entry}
-use Rattle.book_words.specs.declared.types.BatchState.{BatchState}
-use Rattle.book_words.specs.declared.types.BatchState.TheVariants.{Running, Ended, Drawn, Closed}
-use Rattle.book_words.specs.declared.types.Question.{Question}
-use Rattle.book_words.specs.declared.types.Question.TheVariants.{Summary}
-use Rattle.book_words.specs.declared.types.Ask.{Ask}
-use Rattle.book_words.specs.declared.types.Want.{Want}
-use Rattle.book_words.specs.declared.types.Want.TheVariants as want
-use Rattle.book_words.specs.declared.types.SummaryView.{SummaryView}
-use Rattle.book_words.specs.declared.types.Reply.{Reply}
-use Rattle.book_words.specs.declared.types.Reply.TheVariants.{Done, Judged, SummaryIs}
-use Rattle.book_words.specs.declared.types.Answered.{Answered}
-use Rattle.book_words.specs.declared.types.Refused.{Refused}
+use Rattle.book_words.specs.declared.act.Act.{Act}
+use Rattle.book_words.specs.declared.act.Act.TheVariants.{Close}
+use Rattle.book_words.specs.declared.act.Entry.{Entry}
+use Rattle.book_words.specs.declared.act.Ask.{Ask}
+use Rattle.book_words.specs.declared.act.Want.{Want}
+use Rattle.book_words.specs.declared.act.Want.TheVariants as want
+use Rattle.book_words.specs.declared.reply.Reply.{Reply}
+use Rattle.book_words.specs.declared.reply.Reply.TheVariants.{Done, Judged, Closed}
+use Rattle.book_words.specs.declared.reply.Answered.{Answered}
+use Rattle.book_words.specs.declared.reply.Refused.{Refused}
 use Rattle.book_words.specs.declared.refusal.Refusal.{Refusal}
-use Rattle.book_words.specs.Acts.{said, batch_opened, state_of}
-use Rattle.book_words.specs.Readings.{readings}
-use Rattle.book_words.specs.Piles.{tally, in_pile}
-use Rattle.book_words.specs.Signals.{recorded_signal}
-use Rattle.book_words.specs.Refusals.{same_state, refusal_of, refusal_by_rule}
+use Rattle.book_words.specs.Signals.{with_act, recorded_signal}
+use Rattle.book_words.specs.Verdicts.{verdict_of}
+use Rattle.book_words.specs.Desks.{desk_number, repeated_row}
+use Rattle.book_words.specs.Refusals.{refusal_of, refusal_by_rule}
+use Rattle.book_words.specs.Views.{question_told}
 
--- how many batches are in a state
-abbrev pub batches_in : List Entry → BatchState → ℕ
-batches_in entries state =
-    count_by (λ batch. option_map_or (λ now. same_state now state) (state_of entries batch) false)
-    (said batch_opened entries)
+-- a weighing is told its row and its signal, any other act its row
+abbrev pub judged_or_done : ℕ → Option Signal → Reply
+judged_or_done row (Some signal) = Judged row signal
+judged_or_done row None = Done row
 
--- the balance of the whole hall: the rows, the readings and the four piles, and the batches by
--- their state
-abbrev pub summary : List Entry → SummaryView
-summary entries =
-    let all = readings entries in
-    record {
-      rows = length entries;
-      readings = tally all;
-      passed = tally (in_pile Passed all);
-      rejected = tally (in_pile Rejected all);
-      sampled = tally (in_pile Sampled all);
-      voided = tally (in_pile Voided all);
-      running = batches_in entries Running;
-      ended = batches_in entries Ended;
-      drawn = batches_in entries Drawn;
-      closed = batches_in entries Closed;
-    }
-
--- what a question is told
-abbrev pub view_of : List Entry → Question → Reply
-view_of entries Summary = SummaryIs (summary entries)
-
--- what an accepted act is told: its row, and the signal where it has one
-abbrev pub reply_to : ℕ → Option Signal → Reply
-reply_to row (Some signal) = Judged row signal
-reply_to row None = Done row
+-- what an accepted act is told behind some entries: its row; with it a weighing its signal, and a
+-- closing the verdict over the list that it makes
+abbrev pub reply_behind : List Entry → Act → Reply
+reply_behind entries (Close batch) = Closed (length entries + 1) (verdict_of (with_act entries (Close batch)) batch)
+reply_behind entries act = judged_or_done (length entries + 1) (recorded_signal entries act)
 
 -- an accepted act is the next row
 abbrev pub accepted : List Entry → Act → Answered
-accepted entries act =
-    let row = length entries + 1 in
-    record { at = row; reply = reply_to row (recorded_signal entries act) }
+accepted entries act = record { at = length entries + 1; reply = reply_behind entries act }
+
+-- a repeat is told again what its row was told
+abbrev pub told_again : List Entry → ℕ → Act → Answered
+told_again entries row act = record { at = length entries; reply = reply_behind (take (row - 1) entries) act }
+
+-- a refusal speaks of the whole list
+abbrev pub refused_at : List Entry → Refusal → Refused
+refused_at entries refusal = record { at = length entries; refusal = refusal }
 
 -- an act is refused where a refusal holds, and else accepted
-abbrev pub act_answer : List Entry → Act → Option Refusal → Result Answered Refused
-act_answer entries act (Some refusal) = Err (record { at = length entries; refusal = refusal })
-act_answer entries act None = Ok (accepted entries act)
+abbrev pub new_answer : List Entry → Act → Option Refusal → Result Answered Refused
+new_answer entries act (Some refusal) = Err (refused_at entries refusal)
+new_answer entries act None = Ok (accepted entries act)
+
+-- a repeat is told again; any other act is new
+abbrev pub repeat_answer : List Entry → Act → Option ℕ → Option Refusal → Result Answered Refused
+repeat_answer entries act (Some row) refusal = Ok (told_again entries row act)
+repeat_answer entries act None refusal = new_answer entries act refusal
+
+-- a wrong desk is refused before anything else is looked at
+abbrev pub desk_answer : List Entry → Act → Option Refusal → Option ℕ → Option Refusal → Result Answered Refused
+desk_answer entries act (Some by_desk) row by_rule = Err (refused_at entries by_desk)
+desk_answer entries act None row by_rule = repeat_answer entries act row by_rule
+
+-- an act is answered by its desk, by the row that it repeats, and by the refusals
+abbrev pub act_answer : ℕ → List Entry → Ask → Act → Result Answered Refused
+act_answer limit entries ask act =
+    desk_answer entries act (desk_number ask act) (repeated_row entries ask act) (refusal_of limit entries ask act)
+
+-- what a question is told speaks of the whole list
+abbrev pub question_answer : List Entry → Result Reply Refusal → Result Answered Refused
+question_answer entries (Ok reply) = Ok (record { at = length entries; reply = reply })
+question_answer entries (Err refusal) = Err (refused_at entries refusal)
 
 -- what is wanted is answered over the list as it stands
-abbrev pub want_answer : ℕ → List Entry → Want → Result Answered Refused
-want_answer limit entries (want.Act act) = act_answer entries act (refusal_of limit entries act)
-want_answer limit entries (want.Question question) =
-    Ok (record { at = length entries; reply = view_of entries question })
+abbrev pub want_answer : ℕ → List Entry → Ask → Want → Result Answered Refused
+want_answer limit entries ask (want.Act act) = act_answer limit entries ask act
+want_answer limit entries ask (want.Question question) = question_answer entries (question_told entries question)
 
 -- the answer to whatever is asked of a book of so many rows at most, over the list as it stands
 abbrev pub answer : ℕ → List Entry → Ask → Result Answered Refused
-answer limit entries ask = want_answer limit entries ask.want
+answer limit entries ask = want_answer limit entries ask ask.want
 
 -- the entry of an act that is asked, made for whoever asks
 abbrev pub entry_for : List Entry → ℕ → Ask → Act → Entry
@@ -91,18 +88,18 @@ entry_for entries by ask act =
       signal = recorded_signal entries act;
     }
 
--- an act adds its entry unless it is refused
-abbrev pub entry_unless : Option Refusal → Entry → Option Entry
-entry_unless (Some refusal) entry = None
-entry_unless None entry = Some entry
+-- an act adds its entry unless it is a repeat or is refused
+abbrev pub entry_unless : Option ℕ → Option Refusal → Entry → Option Entry
+entry_unless None None entry = Some entry
+entry_unless _ _ entry = None
 
 -- the entry that what is wanted adds
 abbrev pub want_added : ℕ → List Entry → ℕ → Ask → Want → Option Entry
 want_added limit entries by ask (want.Act act) =
-    entry_unless (refusal_of limit entries act) (entry_for entries by ask act)
+    entry_unless (repeated_row entries ask act) (refusal_of limit entries ask act) (entry_for entries by ask act)
 want_added limit entries by ask (want.Question question) = None
 
--- the entry that an ask adds to the list, if any: that of an act that is accepted
+-- the entry that an ask adds to the list, if any: that of an act that is new and accepted
 abbrev pub added : ℕ → List Entry → ℕ → Ask → Option Entry
 added limit entries by ask = want_added limit entries by ask ask.want
 
@@ -110,14 +107,16 @@ added limit entries by ask = want_added limit entries by ask ask.want
 abbrev pub entries_after : ℕ → List Entry → ℕ → Ask → List Entry
 entries_after limit entries by ask = entries ++ cons_option (added limit entries by ask) []
 
--- an entry is lawful behind a list where there is room for it, no rule refuses its act, and its
--- signal is the one that the act gets; there are no desks yet that number their requests, so both
--- numbers are 0
+-- an entry as it was asked
+abbrev pub ask_of : Entry → Ask
+ask_of entry = record { desk = entry.desk; request = entry.request; want = want.Act entry.act }
+
+-- an entry is lawful behind a list where there is room for it, it repeats no row, no rule refuses
+-- it, and its signal is the one that the act gets
 pub record IsLawful (entries : List Entry) (entry : Entry) : Type 0 where
-  pub desk : entry.desk ≡ 0
-  pub request : entry.request ≡ 0
   pub room : length entries < MAX_ROWS
-  pub rules : refusal_by_rule entries entry.act ≡ None
+  pub new : repeated_row entries (ask_of entry) entry.act ≡ None
+  pub rules : refusal_by_rule entries (ask_of entry) entry.act ≡ None
   pub signal : entry.signal ≡ recorded_signal entries entry.act
 
 -- a list is legal where each entry is lawful behind those before it

@@ -1,21 +1,20 @@
 -- The readings of a list, and their nets. All masses are milligrams.
-use Rattle.std.specs.Prelude.{ℕ, ℤ, pos, ◌+◌, ◌-ℤ◌, Bool, false, List, take, drop, length, slice_get, Option, Some, None}
+use Rattle.std.specs.Prelude.{ℕ, ℤ, pos, ◌+◌, ◌-ℤ◌, Bool, false, ◌==◌, List, take, drop, length, slice_get, find, Option, Some, None}
 use Rattle.std.specs.List.{filter_map, range_with_len}
 use Rattle.std.specs.Option.{option_and_then, option_map_or, unwrap_or}
-use Rattle.annex_tables.specs.declared.types.Limits.{Limits}
-use Rattle.annex_tables.specs.Errors.{limits_of}
 use Rattle.pack_judge.specs.declared.types.Signal.{Signal}
 use Rattle.book_words.specs.declared.name.Name.{Name}
-use Rattle.book_words.specs.declared.types.Act.{Act}
-use Rattle.book_words.specs.declared.types.Act.TheVariants.{Weigh}
-use Rattle.book_words.specs.declared.types.Entry.{Entry}
-use Rattle.book_words.specs.declared.types.Reading.{Reading}
+use Rattle.book_words.specs.declared.act.Act.{Act}
+use Rattle.book_words.specs.declared.act.Act.TheVariants.{Weigh}
+use Rattle.book_words.specs.declared.act.Entry.{Entry}
+use Rattle.book_words.specs.declared.act.Reading.{Reading}
 use Rattle.book_words.specs.Names.{same_name}
-use Rattle.book_words.specs.Acts.{next_prior, newest_day, nominal_of, product_of, last_batch}
+use Rattle.book_words.specs.Acts.{next_prior, is_voided, newest_day, product_of, last_batch}
 use Rattle.book_words.specs.Tares.{tare_of_product}
 
 -- a weighing as a reading of its number: its day and its batch are told by the entries before it,
--- and what the gate did by its lane's first weighing or stop after it
+-- what the gate did by its lane's first weighing or stop after it, and whether it is taken back by
+-- the entries after it; no entry before it can name it
 abbrev pub reading_from : ℕ → List Entry → Act → Option Signal → List Entry → Option Reading
 reading_from number before (Weigh lane gross prior) signal after =
     Some (record {
@@ -26,6 +25,7 @@ reading_from number before (Weigh lane gross prior) signal after =
       day = newest_day before;
       batch = last_batch before lane;
       next_prior = next_prior after lane;
+      voided = is_voided after number;
     })
 reading_from number before _ signal after = None
 
@@ -45,6 +45,10 @@ readings_among count entries = filter_map (reading_at entries) (range_with_len 0
 -- the readings of the list
 abbrev pub readings : List Entry → List Reading
 readings entries = readings_among (length entries) entries
+
+-- the reading with a number, where there is one
+abbrev pub reading_of : List Entry → ℕ → Option Reading
+reading_of entries number = find (λ reading. reading.number == number) (readings entries)
 
 -- whether a reading is one of a batch
 abbrev pub is_of_batch : Name → Reading → Bool
@@ -67,9 +71,3 @@ net_of_gross entries batch day gross = gross -ℤ unwrap_or (tare_of_reading ent
 -- the net of a reading, by the tares of the whole list as it now is
 abbrev pub net_of_reading : List Entry → Reading → ℤ
 net_of_reading entries reading = net_of_gross entries reading.batch reading.day reading.gross
-
--- the limits of a batch's product; where there is no product or no nominal quantity of it, those of
--- a quantity of 0
-abbrev pub limits_of_batch : List Entry → Name → Limits
-limits_of_batch entries batch =
-    limits_of (unwrap_or (option_and_then (nominal_of entries) (product_of entries batch)) (pos 0))

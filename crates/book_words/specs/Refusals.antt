@@ -1,23 +1,38 @@
 -- Why an act isn't accepted. The numbers are those of the refusals, and of all that hold the first
--- is told.
-use Rattle.std.specs.Prelude.{ℕ, ℤ, pos, Bool, true, false, not, ◌&&◌, List, [], ◌∷◌, length, nat_le, int_lt, int_le, if◌then◌else◌, Option, Some, None, is_some, is_none, option_map}
-use Rattle.std.specs.List.{list_any}
-use Rattle.std.specs.Option.{option_and_then, option_or}
-use Rattle.hall_limits.specs.declared.TheConstants.{MIN_NOMINAL, MAX_NOMINAL, MAX_GROSS, MAX_TARE, MAX_DAY, MAX_LANE}
+-- is told. A condition on a thing that isn't there doesn't hold.
+use Rattle.std.specs.Prelude.{ℕ, ℤ, pos, Bool, true, false, not, ◌&&◌, ◌||◌, ◌==◌, List, [], ◌∷◌, ◌++◌, length, find, nat_le, nat_lt, int_lt, int_le, if◌then◌else◌, Option, Some, None, is_some, is_none, option_map}
+use Rattle.std.specs.List.{list_any, range_with_len}
+use Rattle.std.specs.Option.{option_and_then, option_map_or, option_or}
+use Rattle.hall_limits.specs.declared.TheConstants.{MIN_NOMINAL, MAX_NOMINAL, MAX_GROSS, MAX_TARE, MAX_DAY, MAX_LANE, MIN_DENSITY, MAX_DENSITY}
+use Rattle.annex_tables.specs.declared.types.Mode.{Mode}
+use Rattle.annex_tables.specs.declared.types.Mode.TheVariants.{Keep, Destroy}
+use Rattle.pack_judge.specs.declared.types.Pile as piles
+use Rattle.pack_judge.specs.declared.types.Pile.TheVariants.{Passed, Sampled}
 use Rattle.book_words.specs.declared.name.Name.{Name}
-use Rattle.book_words.specs.declared.types.Prior.{Prior}
-use Rattle.book_words.specs.declared.types.Prior.TheVariants.{Nothing}
-use Rattle.book_words.specs.declared.types.BatchState as states
-use Rattle.book_words.specs.declared.types.BatchState.TheVariants.{Running, Ended, Drawn, Closed}
-use Rattle.book_words.specs.declared.types.Act.{Act}
-use Rattle.book_words.specs.declared.types.Act.TheVariants.{NewDay, PutProduct, PutTare, OpenBatch, StartLane, Weigh, StopLane}
-use Rattle.book_words.specs.declared.types.Entry.{Entry}
+use Rattle.book_words.specs.declared.act.Prior.{Prior}
+use Rattle.book_words.specs.declared.act.Prior.TheVariants.{Nothing}
+use Rattle.book_words.specs.declared.act.Unit as units
+use Rattle.book_words.specs.declared.act.Unit.TheVariants.{Mass, Volume}
+use Rattle.book_words.specs.declared.act.BatchState as states
+use Rattle.book_words.specs.declared.act.BatchState.TheVariants.{Running, Ended, Drawn, Closed}
+use Rattle.book_words.specs.declared.act.Act.{Act}
+use Rattle.book_words.specs.declared.act.Act.TheVariants.{NewDay, PutProduct, PutTare, OpenBatch, StartLane, Weigh, StopLane, Void, EndRun, Draw, Measure, DrawSecond, Close}
+use Rattle.book_words.specs.declared.act.Ask.{Ask}
+use Rattle.book_words.specs.declared.act.Entry.{Entry}
+use Rattle.book_words.specs.declared.act.Reading.{Reading}
 use Rattle.book_words.specs.declared.refusal.Refusal.{Refusal}
-use Rattle.book_words.specs.declared.refusal.Refusal.TheVariants.{BookFull, DayUnset, DayBack, ProductKnown, ProductUnknown, NameShape, NominalRange, DayRange, BatchKnown, BatchUnknown, BatchState, LaneNumber, LaneBusy, LaneIdle, NoTare, GrossRange, PriorWrong, TareRange}
-use Rattle.book_words.specs.Names.{bytes_of, is_name_shape}
-use Rattle.book_words.specs.Acts.{newest_day, nominal_of, product_of, state_of, lane_batch}
+use Rattle.book_words.specs.declared.refusal.Refusal.TheVariants.{BookFull, DayUnset, DayBack, ProductKnown, ProductUnknown, NameShape, NominalRange, DayRange, BatchKnown, BatchUnknown, BatchState, LaneNumber, LaneBusy, LaneIdle, NoTare, GrossRange, PriorWrong, LanesRunning, TareRange, PackUnknown, PackPile, Unsettled, BatchEmpty, ModeSmall, NotDrawn, MeasuredAlready, SecondNotNeeded, Unmeasured, SecondNeeded, TareFrozen, DensityRange}
+use Rattle.book_words.specs.Names.{bytes_of, is_name_shape, same_name}
+use Rattle.book_words.specs.Acts.{said, batch_opened, newest_day, nominal_of, unit_of, product_of, state_of, same_state, lane_batch}
 use Rattle.book_words.specs.Tares.{tare_of_product}
-use Rattle.book_words.specs.Piles.{unsettled_reading}
+use Rattle.book_words.specs.Readings.{reading_of, tare_of_reading}
+use Rattle.book_words.specs.Population.{same_pile, is_unsettled, unsettled_reading, readings_of_batch, population}
+use Rattle.book_words.specs.Samples.{Sample, sample_of}
+use Rattle.book_words.specs.Piles.{pile_of}
+use Rattle.book_words.specs.Signals.{with_act}
+use Rattle.book_words.specs.Measures.{measured_of, first_unmeasured}
+use Rattle.book_words.specs.Verdicts.{first_defective, is_open, second_packs}
+use Rattle.book_words.specs.Desks.{same_number, desk_number, request_old, request_reused, request_gap}
 
 -- a refusal where a test holds
 abbrev pub refused_if : Bool → Refusal → Option Refusal
@@ -57,7 +72,7 @@ product_unknown entries name = refused_if (is_none (nominal_of entries name)) Pr
 abbrev pub name_shape : Name → Option Refusal
 name_shape name = refused_if (not (is_name_shape (bytes_of name))) NameShape
 
--- 11: the nominal quantity isn't 5 g to 10 kg
+-- 11: the nominal quantity isn't 5 g to 10 kg, or 5 mL to 10 L
 abbrev pub nominal_range : ℤ → Option Refusal
 nominal_range nominal = refused_if (not (is_within MIN_NOMINAL MAX_NOMINAL nominal)) NominalRange
 
@@ -73,19 +88,19 @@ batch_known entries name = refused_if (is_some (product_of entries name)) BatchK
 abbrev pub batch_unknown : List Entry → Name → Option Refusal
 batch_unknown entries name = refused_if (is_none (product_of entries name)) BatchUnknown
 
--- whether two states are the same
-abbrev pub same_state : states.BatchState → states.BatchState → Bool
-same_state Running Running = true
-same_state Ended Ended = true
-same_state Drawn Drawn = true
-same_state Closed Closed = true
-same_state _ _ = false
-
 -- 15: the state of the batch isn't one of those that the act allows
 abbrev pub batch_state : List states.BatchState → List Entry → Name → Option Refusal
 batch_state allowed entries batch =
     option_and_then (λ state. refused_if (not (list_any (same_state state) allowed)) (BatchState state))
     (state_of entries batch)
+
+-- the batch of a pack, where there is a pack of that number
+abbrev pub batch_of_pack : List Entry → ℕ → Option Name
+batch_of_pack entries pack = option_and_then (λ reading. reading.batch) (reading_of entries pack)
+
+-- 15, of a pack: the state of its batch isn't one of those that the act allows
+abbrev pub pack_state : List states.BatchState → List Entry → ℕ → Option Refusal
+pack_state allowed entries pack = option_and_then (batch_state allowed entries) (batch_of_pack entries pack)
 
 -- 16: the lane isn't 1 to 16
 abbrev pub lane_number : ℕ → Option Refusal
@@ -120,20 +135,183 @@ prior_wrong entries lane Nothing =
 prior_wrong entries lane _ =
     refused_if (is_none (unsettled_reading entries lane)) (PriorWrong false)
 
+-- the least lane that has a batch
+abbrev pub lane_running : List Entry → Name → Option ℕ
+lane_running entries batch =
+    find (λ lane. option_map_or (λ name. same_name name batch) (lane_batch entries lane) false)
+    (range_with_len 1 MAX_LANE)
+
+-- 22: a lane has the batch
+abbrev pub lanes_running : List Entry → Name → Option Refusal
+lanes_running entries batch = option_map (λ lane. LanesRunning lane) (lane_running entries batch)
+
 -- 23: the tare isn't 0 to 5 kg
 abbrev pub tare_range : ℤ → Option Refusal
 tare_range tare = refused_if (not (is_within (pos 0) MAX_TARE tare)) TareRange
 
--- the refusals that an act may meet, in the order of their numbers
+-- whether the packs of a batch are kept in its test
+abbrev pub is_kept_whole : Mode → Bool
+is_kept_whole Keep = true
+is_kept_whole Destroy = false
+
+-- the samples of the batch of a pack
+abbrev pub sample_of_pack : List Entry → ℕ → Option Sample
+sample_of_pack entries pack = option_and_then (sample_of entries) (batch_of_pack entries pack)
+
+-- whether a pack is kept in the test of its batch
+abbrev pub is_pack_kept : List Entry → ℕ → Bool
+is_pack_kept entries pack = option_map_or (λ sample. is_kept_whole sample.mode) (sample_of_pack entries pack) false
+
+-- 23, of an empty pack: its mass isn't 0 to 5 kg, or isn't 0 where packs are kept
+abbrev pub empty_range : List Entry → ℕ → ℤ → Option Refusal
+empty_range entries pack empty =
+    refused_if (not (is_within (pos 0) MAX_TARE empty) || (is_pack_kept entries pack && not (same_number empty (pos 0))))
+    TareRange
+
+-- 24: no reading has that number
+abbrev pub pack_unknown : List Entry → ℕ → Option Refusal
+pack_unknown entries pack = refused_if (is_none (reading_of entries pack)) PackUnknown
+
+-- 25: the pack doesn't lie in the pile that the act wants
+abbrev pub pack_pile : piles.Pile → List Entry → ℕ → Option Refusal
+pack_pile wanted entries pack =
+    option_and_then
+    (λ reading. refused_if (not (same_pile (pile_of entries reading) wanted)) (PackPile (pile_of entries reading)))
+    (reading_of entries pack)
+
+-- 26: the pack is the unsettled reading of its lane
+abbrev pub unsettled : List Entry → ℕ → Option Refusal
+unsettled entries pack =
+    option_and_then (λ reading. refused_if (is_unsettled reading) (Unsettled reading.lane)) (reading_of entries pack)
+
+-- 27: the batch has no pack in its population
+abbrev pub batch_empty : List Entry → Name → Option Refusal
+batch_empty entries batch = refused_if (length (population entries batch) == 0) BatchEmpty
+
+-- 28: packs are to be destroyed, and there are 1 to 99
+abbrev pub mode_small : List Entry → Name → Mode → Option Refusal
+mode_small entries batch Keep = None
+mode_small entries batch Destroy =
+    let n = length (population entries batch) in refused_if (nat_le 1 n && nat_le n 99) (ModeSmall n)
+
+-- whether a batch has ended and no more
+abbrev pub is_ended : Option states.BatchState → Bool
+is_ended (Some Ended) = true
+is_ended _ = false
+
+-- 29, of a closing: the batch has ended and has packs, and no sample of it was drawn
+abbrev pub not_drawn : List Entry → Name → Option Refusal
+not_drawn entries batch =
+    refused_if (is_ended (state_of entries batch) && nat_lt 0 (length (population entries batch))) NotDrawn
+
+-- 30: the pack was measured
+abbrev pub measured_already : List Entry → ℕ → Option Refusal
+measured_already entries pack =
+    option_map (λ measured. MeasuredAlready measured.gross) (measured_of entries pack)
+
+-- whether each of some packs was measured
+abbrev pub is_measured : List Entry → List ℕ → Bool
+is_measured entries packs = is_none (first_unmeasured entries packs)
+
+-- no second sample is drawn where the plan has none, where one was drawn, and where the first is
+-- measured and decides
+abbrev pub is_second_needless : List Entry → Name → Sample → Bool
+is_second_needless entries batch sample =
+    (sample.plan.second == 0) || is_some sample.second
+    || (is_measured entries sample.first
+    && not (is_open sample.plan (first_defective entries batch sample)))
+
+-- 31: no second sample is needed
+abbrev pub second_needless : List Entry → Name → Option Refusal
+second_needless entries batch =
+    option_and_then
+    (λ sample. refused_if (is_second_needless entries batch sample)
+    (SecondNotNeeded (first_defective entries batch sample)))
+    (sample_of entries batch)
+
+-- 32, of a second draw: a pack of the first sample isn't measured
+abbrev pub first_wanting : List Entry → Name → Option Refusal
+first_wanting entries batch =
+    option_and_then
+    (λ sample. option_map (λ pack. Unmeasured pack) (first_unmeasured entries sample.first))
+    (sample_of entries batch)
+
+-- the packs that have to be measured before a batch closes, in drawing order: the first sample, and
+-- the second where the first leaves it open
+abbrev pub needed_packs : List Entry → Name → Sample → List ℕ
+needed_packs entries batch sample =
+    sample.first
+    ++ (if is_open sample.plan (first_defective entries batch sample) then second_packs sample else [])
+
+-- 32, of a closing: a needed pack isn't measured
+abbrev pub needed_wanting : List Entry → Name → Option Refusal
+needed_wanting entries batch =
+    option_and_then
+    (λ sample. option_map (λ pack. Unmeasured pack) (first_unmeasured entries (needed_packs entries batch sample)))
+    (sample_of entries batch)
+
+-- a second sample is wanted where the first is measured and leaves it open, and none was drawn
+abbrev pub is_second_wanted : List Entry → Name → Sample → Bool
+is_second_wanted entries batch sample =
+    is_measured entries sample.first
+    && is_open sample.plan (first_defective entries batch sample) && is_none sample.second
+
+-- 33: a second sample is wanted
+abbrev pub second_wanted : List Entry → Name → Option Refusal
+second_wanted entries batch =
+    option_and_then
+    (λ sample. refused_if (is_second_wanted entries batch sample)
+    (SecondNeeded (first_defective entries batch sample)))
+    (sample_of entries batch)
+
+-- whether two tares, or their absence, are the same
+abbrev pub same_tare : Option ℤ → Option ℤ → Bool
+same_tare None None = true
+same_tare (Some a) (Some b) = same_number a b
+same_tare _ _ = false
+
+-- whether an act gives a reading another tare
+abbrev pub changes_tare : List Entry → Act → Reading → Bool
+changes_tare entries act reading =
+    not (same_tare (tare_of_reading entries reading.batch reading.day)
+    (tare_of_reading (with_act entries act) reading.batch reading.day))
+
+-- whether a batch is closed
+abbrev pub is_closed : Option states.BatchState → Bool
+is_closed (Some Closed) = true
+is_closed _ = false
+
+-- whether a batch is closed, and an act gives one of its readings another tare
+abbrev pub is_frozen : List Entry → Act → Name → Bool
+is_frozen entries act batch =
+    is_closed (state_of entries batch) && list_any (changes_tare entries act) (readings_of_batch entries batch)
+
+-- 34: a reading of a closed batch would get another tare; the first such batch in order of opening
+abbrev pub tare_frozen : List Entry → Act → Option Refusal
+tare_frozen entries act =
+    option_map (λ batch. TareFrozen batch) (find (is_frozen entries act) (said batch_opened entries))
+
+-- whether a density suits a unit: none for goods by mass, 500 to 2000 g a litre by volume
+abbrev pub suits_unit : units.Unit → ℕ → Bool
+suits_unit Mass density = density == 0
+suits_unit Volume density = nat_le MIN_DENSITY density && nat_le density MAX_DENSITY
+
+-- 35: the density doesn't suit the product
+abbrev pub density_range : List Entry → Name → ℕ → Option Refusal
+density_range entries product density =
+    option_and_then (λ unit. refused_if (not (suits_unit unit density)) DensityRange) (unit_of entries product)
+
+-- the refusals that an act may meet by the rules, in the order of their numbers
 abbrev pub refusals_of : List Entry → Act → List (Option Refusal)
 refusals_of entries (NewDay day) = day_back entries day ∷ day_range day ∷ []
-refusals_of entries (PutProduct name nominal) =
+refusals_of entries (PutProduct name nominal unit) =
     day_unset entries ∷ product_known entries name ∷ name_shape name ∷ nominal_range nominal ∷ []
 refusals_of entries (PutTare product day tare) =
-    day_unset entries ∷ product_unknown entries product ∷ day_range day ∷ tare_range tare ∷ []
-refusals_of entries (OpenBatch batch product) =
+    day_unset entries ∷ product_unknown entries product ∷ day_range day ∷ tare_range tare
+    ∷ tare_frozen entries (PutTare product day tare) ∷ []
+refusals_of entries (OpenBatch batch product density) =
     day_unset entries ∷ product_unknown entries product ∷ name_shape batch
-    ∷ batch_known entries batch ∷ []
+    ∷ batch_known entries batch ∷ density_range entries product density ∷ []
 refusals_of entries (StartLane lane batch) =
     day_unset entries ∷ batch_unknown entries batch ∷ batch_state (Running ∷ []) entries batch
     ∷ lane_number lane ∷ lane_busy entries lane ∷ no_tare entries batch ∷ []
@@ -143,11 +321,37 @@ refusals_of entries (Weigh lane gross prior) =
 refusals_of entries (StopLane lane prior) =
     day_unset entries ∷ lane_number lane ∷ lane_idle entries lane
     ∷ prior_wrong entries lane prior ∷ []
+refusals_of entries (Void pack) =
+    day_unset entries ∷ pack_state (Running ∷ Ended ∷ []) entries pack ∷ pack_unknown entries pack
+    ∷ pack_pile Passed entries pack ∷ unsettled entries pack ∷ []
+refusals_of entries (EndRun batch) =
+    day_unset entries ∷ batch_unknown entries batch ∷ batch_state (Running ∷ []) entries batch
+    ∷ lanes_running entries batch ∷ []
+refusals_of entries (Draw batch mode word) =
+    day_unset entries ∷ batch_unknown entries batch ∷ batch_state (Ended ∷ []) entries batch
+    ∷ batch_empty entries batch ∷ mode_small entries batch mode ∷ []
+refusals_of entries (Measure pack gross empty) =
+    day_unset entries ∷ pack_state (Drawn ∷ []) entries pack ∷ gross_range gross
+    ∷ empty_range entries pack empty ∷ pack_unknown entries pack ∷ pack_pile Sampled entries pack
+    ∷ measured_already entries pack ∷ []
+refusals_of entries (DrawSecond batch word) =
+    day_unset entries ∷ batch_unknown entries batch ∷ batch_state (Drawn ∷ []) entries batch
+    ∷ second_needless entries batch ∷ first_wanting entries batch ∷ []
+refusals_of entries (Close batch) =
+    day_unset entries ∷ batch_unknown entries batch ∷ batch_state (Ended ∷ Drawn ∷ []) entries batch
+    ∷ not_drawn entries batch ∷ needed_wanting entries batch ∷ second_wanted entries batch ∷ []
 
--- the refusal that the rules give, however many rows the list may have
-abbrev pub refusal_by_rule : List Entry → Act → Option Refusal
-refusal_by_rule entries act = first_refusal (refusals_of entries act)
+-- 1 to 4: the refusals by desk and request
+abbrev pub desk_refusals : List Entry → Ask → Act → List (Option Refusal)
+desk_refusals entries ask act =
+    desk_number ask act ∷ request_old entries ask ∷ request_reused entries ask act
+    ∷ request_gap entries ask ∷ []
+
+-- the refusal that the rules give an act, however many rows the list may have
+abbrev pub refusal_by_rule : List Entry → Ask → Act → Option Refusal
+refusal_by_rule entries ask act = first_refusal (desk_refusals entries ask act ++ refusals_of entries act)
 
 -- the refusal of an act in a book of so many rows
-abbrev pub refusal_of : ℕ → List Entry → Act → Option Refusal
-refusal_of limit entries act = option_or (book_full limit entries) (refusal_by_rule entries act)
+abbrev pub refusal_of : ℕ → List Entry → Ask → Act → Option Refusal
+refusal_of limit entries ask act =
+    first_refusal (desk_refusals entries ask act ++ book_full limit entries ∷ refusals_of entries act)

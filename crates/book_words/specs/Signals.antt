@@ -1,33 +1,51 @@
 -- The signal that a weighing gets.
-use Rattle.std.specs.Prelude.{ℤ, List, [], ◌∷◌, ◌++◌, length, Option, Some, None, option_map}
+use Rattle.std.specs.Prelude.{ℕ, ℤ, ◌*◌, Bool, nat_lt, ◌==◌, if◌then◌else◌, List, [], ◌∷◌, ◌++◌, length, Option, Some, None, option_map}
+use Rattle.hall_limits.specs.declared.TheConstants.{MAX_POPULATION}
+use Rattle.pack_judge.specs.declared.types.Class.{Class}
+use Rattle.pack_judge.specs.declared.types.Class.TheVariants as classes
+use Rattle.pack_judge.specs.declared.types.Cause.TheVariants as cause
 use Rattle.pack_judge.specs.declared.types.Signal.{Signal}
-use Rattle.pack_judge.specs.Judge.{signal_of}
+use Rattle.pack_judge.specs.declared.types.Signal.TheVariants.{Pass, Reject}
 use Rattle.book_words.specs.declared.name.Name.{Name}
-use Rattle.book_words.specs.declared.types.Act.{Act}
-use Rattle.book_words.specs.declared.types.Act.TheVariants.{Weigh}
-use Rattle.book_words.specs.declared.types.Entry.{Entry}
-use Rattle.book_words.specs.declared.types.Reading.{Reading}
+use Rattle.book_words.specs.declared.act.Act.{Act}
+use Rattle.book_words.specs.declared.act.Act.TheVariants.{Weigh}
+use Rattle.book_words.specs.declared.act.Entry.{Entry}
+use Rattle.book_words.specs.declared.act.Reading.{Reading}
 use Rattle.book_words.specs.Acts.{newest_day, last_batch}
-use Rattle.book_words.specs.Readings.{readings_among, net_of_gross, limits_of_batch}
-use Rattle.book_words.specs.Piles.{population_of, count_below, is_held}
+use Rattle.book_words.specs.Readings.{readings_among, net_of_gross}
+use Rattle.book_words.specs.Classes.{class_in_batch}
+use Rattle.book_words.specs.Population.{population_among, nonstandard_count, is_held}
 
--- an act at the end of the list, before anybody has judged it
+-- the signal of a class in a batch that isn't held and has room
+abbrev pub class_signal : Class → ℕ → ℕ → Signal
+class_signal classes.Inadequate population nonstandard = Reject cause.Inadequate
+class_signal classes.NonStandard population nonstandard =
+    if nat_lt population (40 * nonstandard) then Reject cause.Allowance else Pass
+class_signal classes.Standard population nonstandard = Pass
+
+-- the signal of a class in a batch: the first line that holds
+abbrev pub signal_by_class : Class → Bool → ℕ → ℕ → Signal
+signal_by_class class held population nonstandard =
+    if held then Reject cause.Held else
+    (if population == MAX_POPULATION then Reject cause.Full else
+    class_signal class population nonstandard)
+
+-- an act at the end of the list, before anybody has judged it: it has no signal yet
 abbrev pub with_act : List Entry → Act → List Entry
 with_act entries act = entries ++ record { by = 0; desk = 0; request = 0; act = act; signal = None } ∷ []
 
--- the population of a batch at an act: the piles are those that the act leaves, over the readings
--- before it
+-- the population of a batch at an act: over the readings before it, in the piles that the act
+-- leaves; so what a weighing says of the gate counts, and its own reading doesn't
 abbrev pub population_at : List Entry → Act → Name → List Reading
-population_at entries act batch =
-    population_of batch (readings_among (length entries) (with_act entries act))
+population_at entries act batch = population_among batch (readings_among (length entries) (with_act entries act))
 
--- the signal of a gross in a batch: by its net, and by the population at the act
+-- the signal of a gross in a batch: by its class, and by the population at the act
 abbrev pub judged_signal : List Entry → Act → ℤ → Name → Signal
 judged_signal entries act gross batch =
-    let limits = limits_of_batch entries batch in
     let some = population_at entries act batch in
-    signal_of (net_of_gross entries (Some batch) (newest_day entries) gross) limits
-    (is_held entries batch some) (length some) (count_below entries limits.t1 some)
+    signal_by_class
+    (class_in_batch entries batch (net_of_gross entries (Some batch) (newest_day entries) gross))
+    (is_held entries batch some) (length some) (nonstandard_count entries batch some)
 
 -- the signal that is recorded with an act: a weighing gets one in the batch of its lane, any other
 -- act has none

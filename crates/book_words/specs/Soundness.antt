@@ -2,15 +2,15 @@
 use Rattle.std.specs.Prelude.{◌≡◌, ℕ, Bool, true, ◌&&◌, List, is_some, Ok, Err}
 use Rattle.std.specs.List.{list_all}
 use Rattle.std.specs.Option.{option_and_then}
-use Rattle.book_words.specs.declared.types.Ask.{Ask}
-use Rattle.book_words.specs.declared.types.Answered.{Answered}
-use Rattle.book_words.specs.declared.types.Refused.{Refused}
-use Rattle.book_words.specs.declared.types.Entry.{Entry}
-use Rattle.book_words.specs.declared.types.Reading.{Reading}
+use Rattle.book_words.specs.declared.act.Ask.{Ask}
+use Rattle.book_words.specs.declared.act.Entry.{Entry}
+use Rattle.book_words.specs.declared.act.Reading.{Reading}
+use Rattle.book_words.specs.declared.reply.Answered.{Answered}
+use Rattle.book_words.specs.declared.reply.Refused.{Refused}
 use Rattle.book_words.specs.Acts.{nominal_of, product_of}
 use Rattle.book_words.specs.Readings.{readings, tare_of_reading}
 use Rattle.book_words.specs.Answers.{answer, IsLegal}
-use Rattle.book_words.specs.Balance.{IsBalanced, EachMoves}
+use Rattle.book_words.specs.Balance.{IsBalanced, EachMoves, VerdictsStay}
 
 -- a reading has a tare on its day, and a batch whose product has a nominal quantity
 abbrev pub has_tare_and_nominal : List Entry → Reading → Bool
@@ -24,12 +24,13 @@ abbrev pub TaresKnown : List Entry → Type 0
 TaresKnown entries = list_all (has_tare_and_nominal entries) (readings entries) ≡ true
 
 -- sound rows: each is lawful behind those before it, the piles add up, each row moves the packs
--- only as it may, and each reading has a tare and a nominal quantity
+-- only as it may, each reading has a tare and a nominal quantity, and each verdict stays
 pub record IsSound (rows : List Entry) : Type 0 where
   pub legal : IsLegal rows
   pub balanced : IsBalanced rows
   pub moves : EachMoves rows
   pub tares : TaresKnown rows
+  pub verdicts : VerdictsStay rows
 
 -- an answer that the book gives to some ask over some legal list
 pub record IsAnswer (answered : Answered) : Type 0 where

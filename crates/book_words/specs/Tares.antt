@@ -3,9 +3,9 @@ use Rattle.std.specs.Prelude.{ℤ, List, if◌then◌else◌, Option, Some, None
 use Rattle.tare_register.specs.declared.types.DatedTare.{DatedTare}
 use Rattle.tare_register.specs.Tares.{tare_by_rule}
 use Rattle.book_words.specs.declared.name.Name.{Name}
-use Rattle.book_words.specs.declared.types.Act.{Act}
-use Rattle.book_words.specs.declared.types.Act.TheVariants.{PutTare}
-use Rattle.book_words.specs.declared.types.Entry.{Entry}
+use Rattle.book_words.specs.declared.act.Act.{Act}
+use Rattle.book_words.specs.declared.act.Act.TheVariants.{PutTare}
+use Rattle.book_words.specs.declared.act.Entry.{Entry}
 use Rattle.book_words.specs.Names.{same_name}
 use Rattle.book_words.specs.Acts.{said}
 

@@ -1,14 +1,20 @@
-//! The words of the batch book: its acts and answers as data, and what each of them means over the
-//! list of accepted commands. Masses are whole milligrams, days are counted from 1970-01-01.
+//! The words of the batch book: its acts, questions and answers as data, and what each of them
+//! means over the list of accepted commands. Masses are whole milligrams, days are counted from
+//! 1970-01-01, volumes are microlitres, densities mg a litre.
 #![tactic(auto)]
 
+mod act;
+mod caller;
 mod name;
 mod refusal;
-mod types;
+mod reply;
+mod views;
 
+pub use act::{Act, Ask, BatchState, Entry, Prior, Question, Reading, Unit, Want};
+pub use caller::{AskError, Caller};
 pub use name::Name;
 pub use refusal::{MAX_REFUSAL_NAME, Refusal};
-pub use types::{
-    Act, Answered, Ask, BatchState, Entry, Prior, Question, Reading, Refused, Reply, SummaryView,
-    Want,
+pub use reply::{Answered, Refused, Reply};
+pub use views::{
+    Fails, LaneView, MAX_DRAWN, PackView, SampleView, Sheet, SummaryView, TestView, Verdict,
 };

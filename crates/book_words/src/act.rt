@@ -1,6 +1,6 @@
 use crate::name::Name;
-use crate::refusal::Refusal;
-use pack_judge::{Signal, Tally};
+use annex_tables::Mode;
+use pack_judge::Signal;
 
 /// What the next act of a lane says of the gate at the reading before it.
 #[derive(Clone, Copy, Debug, PartialEq, Eq)]
@@ -28,30 +28,102 @@ pub enum BatchState {
     Closed,
 }
 
+/// How the nominal quantity of a product is told (Directive 76/211/EEC, Article 1).
+#[derive(Clone, Copy, Debug, PartialEq, Eq)]
+pub enum Unit {
+    /// By mass, in mg.
+    Mass,
+    /// By volume, in microlitres.
+    Volume,
+}
+
 /// What the book is asked to take down. Masses are in mg, days are counted from 1970-01-01.
 #[derive(Clone, Copy, Debug, PartialEq, Eq)]
 pub enum Act {
     /// The day is now this one.
-    NewDay { day: i32 },
-    /// There is a product of this nominal quantity.
-    PutProduct { name: Name, nominal: i64 },
+    NewDay {
+        day: i32,
+    },
+    /// There is a product of this nominal quantity: mg or microlitres, by its unit.
+    PutProduct {
+        name: Name,
+        nominal: i64,
+        unit: Unit,
+    },
     /// From this day on, until the next day for which there is a tare, the empty package of the
     /// product weighs so much. The nets of readings of these days that were weighed before change
     /// too.
-    PutTare { product: Name, day: i32, tare: i64 },
-    /// A batch of a product begins.
-    OpenBatch { batch: Name, product: Name },
+    PutTare {
+        product: Name,
+        day: i32,
+        tare: i64,
+    },
+    /// A batch of a product begins. Its density is in mg a litre, and 0 where the product is by
+    /// mass.
+    OpenBatch {
+        batch: Name,
+        product: Name,
+        density: u32,
+    },
     /// A lane weighs packs of a batch from now on.
-    StartLane { lane: u8, batch: Name },
+    StartLane {
+        lane: u8,
+        batch: Name,
+    },
     /// A pack was weighed on a lane.
-    Weigh { lane: u8, gross: i64, prior: Prior },
+    Weigh {
+        lane: u8,
+        gross: i64,
+        prior: Prior,
+    },
     /// A lane stops.
-    StopLane { lane: u8, prior: Prior },
+    StopLane {
+        lane: u8,
+        prior: Prior,
+    },
+    /// A passed pack, named by the row of its weighing, is taken back.
+    Void {
+        pack: u32,
+    },
+    /// No more packs of a batch are weighed.
+    EndRun {
+        batch: Name,
+    },
+    /// The first sample of a batch is drawn by a word (Annex II). The packs are kept or destroyed.
+    Draw {
+        batch: Name,
+        mode: Mode,
+        word: u64,
+    },
+    /// A sampled pack was measured: its gross, and the mass of the empty pack where packs are
+    /// destroyed.
+    Measure {
+        pack: u32,
+        gross: i64,
+        empty: i64,
+    },
+    /// The second sample of a batch is drawn by a word.
+    DrawSecond {
+        batch: Name,
+        word: u64,
+    },
+    /// A batch gets its verdict.
+    Close {
+        batch: Name,
+    },
 }
 
 /// What the book is asked to tell.
 #[derive(Clone, Copy, Debug, PartialEq, Eq)]
 pub enum Question {
+    /// What stands of a batch: its piles, its test, its verdict.
+    Sheet { batch: Name },
+    /// What stands of the pack with this number.
+    Pack { pack: u32 },
+    /// What a lane does.
+    Lane { lane: u8 },
+    /// The packs that were drawn from a batch.
+    Sample { batch: Name },
     /// The balance of the whole hall.
     Summary,
 }
@@ -107,45 +179,6 @@ pub struct Reading {
     pub batch: Option<Name>,
     /// What the lane's next act says of the gate, where there is such an act.
     pub next_prior: Option<Prior>,
-}
-
-/// The balance of the whole hall: the rows of its list, its readings and the four piles, and how
-/// many batches are in each state.
-#[derive(Clone, Copy, Debug, PartialEq, Eq)]
-pub struct SummaryView {
-    pub rows: u32,
-    pub readings: Tally,
-    pub passed: Tally,
-    pub rejected: Tally,
-    pub sampled: Tally,
-    pub voided: Tally,
-    pub running: u32,
-    pub ended: u32,
-    pub drawn: u32,
-    pub closed: u32,
-}
-
-/// The answer to an ask that isn't refused.
-#[derive(Debug, PartialEq, Eq, Drop)]
-pub enum Reply {
-    /// The act is taken down in this row.
-    Done { row: u32 },
-    /// The weighing is taken down in this row, and gets this signal.
-    Judged { row: u32, signal: Signal },
-    /// The balance of the whole hall.
-    SummaryIs(SummaryView),
-}
-
-/// A reply, and the place in the list that it speaks of: the new row, or the length of the list.
-#[derive(Debug, PartialEq, Eq, Drop)]
-pub struct Answered {
-    pub at: u32,
-    pub reply: Reply,
-}
-
-/// A refusal, and the length of the list that it speaks of.
-#[derive(Clone, Copy, Debug, PartialEq, Eq)]
-pub struct Refused {
-    pub at: u32,
-    pub refusal: Refusal,
+    /// Whether an act behind it takes it back.
+    pub voided: bool,
 }

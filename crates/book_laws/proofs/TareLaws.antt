@@ -1,33 +1,33 @@
 -- Each reading of a legal list has a tare, and its batch's product a nominal quantity.
 use Rattle.std.proofs.Common.{◌≡◌, ℕ, ℤ, Bool, true, false, ◌||◌, cond, ◌==◌, int_le, int_lt, List, [], ◌∷◌, ◌++◌, map, length, ◌+◌, inl, inr, ◌⊎◌, Option, Some, None, is_some, is_none, option_map, refl, sym, ◌∙◌, ap, subst, arith, append_assoc, append-nil}
-use Rattle.std.proofs.lemmas.Bool.{and_from, cases_Bool}
+use Rattle.std.proofs.lemmas.Bool.{and_from, or_left, or_right, cases_Bool}
 use Rattle.std.proofs.lemmas.Int.{ints}
-use Rattle.std.proofs.lemmas.List.Elements.{filter_map-append}
+use Rattle.std.proofs.lemmas.List.Elements.{All-nil, All-cons, All-head, All-tail, All-append, All-map, All-weaker, filter_map-append}
 use Rattle.std.proofs.lemmas.List.Folds.{list_any-append}
-use Rattle.std.specs.List.{filter, cons_option, list_any, list_all, last_or}
+use Rattle.std.specs.List.{All, filter, cons_option, list_any, list_all, last_or}
 use Rattle.std.specs.Option.{option_or, option_and_then, option_flatten}
 use Rattle.book_words.specs.declared.name.Name.{Name}
-use Rattle.book_words.specs.declared.types.BatchState.TheVariants.{Running}
-use Rattle.book_words.specs.declared.types.Act.{Act}
-use Rattle.book_words.specs.declared.types.Act.TheVariants.{NewDay, PutProduct, PutTare, OpenBatch, StartLane, Weigh, StopLane}
+use Rattle.book_words.specs.declared.act.BatchState.TheVariants.{Running}
+use Rattle.book_words.specs.declared.act.Act.{Act}
+use Rattle.book_words.specs.declared.act.Act.TheVariants.{NewDay, OpenBatch, StartLane, Weigh, StopLane}
 use Rattle.tare_register.specs.declared.types.DatedTare.{DatedTare}
-use Rattle.book_words.specs.declared.types.Entry.{Entry}
-use Rattle.book_words.specs.declared.types.Reading.{Reading}
+use Rattle.book_words.specs.declared.act.Entry.{Entry}
+use Rattle.book_words.specs.declared.act.Reading.{Reading}
 use Rattle.book_words.specs.declared.refusal.Refusal.{Refusal}
 use Rattle.book_words.specs.declared.refusal.Refusal.TheVariants.{DayBack, NoTare}
 use Rattle.book_words.specs.Names.{same_name}
-use Rattle.book_words.specs.Acts.{said, last_said, day_set, nominal_put, product_given, lane_used, batch_started, newest_day, nominal_of, product_of, last_batch, lane_batch}
+use Rattle.book_words.specs.Acts.{said, last_said, day_set, nominal_put, product_given, lane_used, batch_started, newest_day, nominal_of, unit_of, product_of, density_of, state_of, last_batch, lane_batch}
 use Rattle.tare_register.specs.Tares.{latest, dated_by}
 use Rattle.tare_register.proofs.Latest.{none_greater, latest-append, latest_nothing}
 use Rattle.book_words.specs.Tares.{tare_put, tares_put, tare_of_product}
 use Rattle.book_words.specs.Readings.{readings, reading_from, tare_of_reading}
-use Rattle.book_words.specs.Refusals.{refused_if, refusal_by_rule, day_unset, day_back, product_unknown, name_shape, batch_known, batch_unknown, batch_state, lane_number, lane_busy, lane_idle, no_tare}
+use Rattle.book_words.specs.Refusals.{refused_if, day_unset, day_back, product_unknown, batch_unknown, batch_state, lane_number, lane_busy, lane_idle, no_tare}
 use Rattle.book_words.specs.Answers.{IsLegal}
 use Rattle.book_words.specs.Soundness.{has_tare_and_nominal, TaresKnown}
 use Rattle.book_words.proofs.LastSaid.{last_or-cons, last_said-push}
-use Rattle.book_words.proofs.NameLemmas.{same_name_is}
 use Rattle.book_words.proofs.RefusalLemmas.{none_of_two}
-use Rattle.book_words.proofs.OneMoreEntry.{advance, readings-push}
+use Rattle.book_words.proofs.OneMoreEntry.{advance, own_reading, readings-push}
+use Rattle.book_laws.proofs.KnownLaws.{IsAllowed, kept_behind, unit_known, density_known, state_known, is_there, product_of_stays}
 
 -- ---- a tare is there exactly where one is dated on the day or before it
 
@@ -42,18 +42,18 @@ and_more xs (y ∷ ys) h = subst (λ (zs : List DatedTare). is_some (latest zs) 
 first_is_some : (x : DatedTare) → is_some (latest (x ∷ [])) ≡ true
 first_is_some x = ap is_some (latest-append [] x)
 
-abbrev is_there : List DatedTare → Bool
-is_there [] = false
-is_there (x ∷ xs) = true
+abbrev has_any : List DatedTare → Bool
+has_any [] = false
+has_any (x ∷ xs) = true
 
-latest_is_there : (xs : List DatedTare) → is_some (latest xs) ≡ is_there xs
+latest_is_there : (xs : List DatedTare) → is_some (latest xs) ≡ has_any xs
 latest_is_there [] = ap is_some (sym latest_nothing)
 latest_is_there (x ∷ xs) = and_more (x ∷ []) xs (first_is_some x)
 
-filter_is_there : (test : DatedTare → Bool) (xs : List DatedTare) → is_there (filter test xs) ≡ list_any test xs
+filter_is_there : (test : DatedTare → Bool) (xs : List DatedTare) → has_any (filter test xs) ≡ list_any test xs
 filter_is_there test [] = refl
 filter_is_there test (x ∷ xs) =
-    elim (test x) as (λ b. is_there (cond b (x ∷ filter test xs) (filter test xs)) ≡ (b || list_any test xs)) [ true ↦ refl | false ↦ filter_is_there test xs ]
+    elim (test x) as (λ b. has_any (cond b (x ∷ filter test xs) (filter test xs)) ≡ (b || list_any test xs)) [ true ↦ refl | false ↦ filter_is_there test xs ]
 
 mapped_some : {A B : Type 0} (f : A → B) (o : Option A) → is_some (option_map f o) ≡ is_some o
 mapped_some f None = refl
@@ -68,20 +68,12 @@ tare_is_there entries product day =
     mapped_some (λ (dated : DatedTare). dated.tare) (latest (dated_by (tares_put entries product) day)) ∙ latest_is_there (dated_by (tares_put entries product) day)
     ∙ filter_is_there (λ (dated : DatedTare). int_le dated.day day) (said (tare_put product) entries)
 
-or_right : (a b : Bool) → b ≡ true → (a || b) ≡ true
-or_right true b h = refl
-or_right false b h = h
-
 or_other : (a b : Bool) → a ≡ false → (a || b) ≡ true → b ≡ true
 or_other true b f h = absurd (cc)
 or_other false b f h = h
 
 chain : (x y z : ℤ) → int_le x y ≡ true → int_le y z ≡ true → int_le x z ≡ true
 chain x y z h k = grind (arith, ints)
-
-or_left : (a b : Bool) → a ≡ true → (a || b) ≡ true
-or_left true b h = refl
-or_left false b h = absurd (cc)
 
 -- a tare stays where more is entered
 tare_stays : (entries : List Entry) (entry : Entry) (product : Name) (day : ℤ) → is_some (tare_of_product entries product day) ≡ true → is_some (tare_of_product (entries ++ entry ∷ []) product day) ≡ true
@@ -115,39 +107,6 @@ either_some (Some x) b h = refl
 nominal_stays : (entries : List Entry) (entry : Entry) (product : Name) → is_some (nominal_of entries product) ≡ true → is_some (nominal_of (entries ++ entry ∷ []) product) ≡ true
 nominal_stays entries entry product h = ap is_some (last_said-push (nominal_put product) entries entry) ∙ either_some (nominal_put product entry.act) (nominal_of entries product) h
 
-not_some : {A : Type 0} (o : Option A) (refusal : Refusal) → refused_if (is_some o) refusal ≡ None → is_some o ≡ false
-not_some None refusal h = refl
-not_some (Some x) refusal h = absurd (cc)
-
-not_none : {A : Type 0} (o : Option A) (refusal : Refusal) → refused_if (is_none o) refusal ≡ None → is_some o ≡ true
-not_none None refusal h = absurd (cc)
-not_none (Some x) refusal h = refl
-
--- no rule opens a batch that is there
-opens_no_known : (entries : List Entry) (act : Act) (batch product : Name) → refusal_by_rule entries act ≡ None → product_of entries batch ≡ Some product → product_given batch act ≡ None
-opens_no_known entries (OpenBatch name other) batch product h known = either (cases_Bool (same_name name batch))
-  where
-    either : (same_name name batch ≡ true) ⊎ (same_name name batch ≡ false) → cond (same_name name batch) (Some other) None ≡ None
-    either (inl t) =
-        let a = none_of_two (day_unset entries) _ h in
-        let b = none_of_two (product_unknown entries other) _ a.1 in
-        let c = none_of_two (name_shape name) _ b.1 in
-        let d = none_of_two (batch_known entries name) None c.1 in
-        let unknown = not_some (product_of entries name) _ d.0 in
-        let there : is_some (product_of entries name) ≡ true = ap (λ (n : Name). is_some (product_of entries n)) (same_name_is name batch t) ∙ ap is_some known in
-        absurd (cc)
-    either (inr f) = ap (λ b. cond b (Some other) None) f
-opens_no_known entries (NewDay day) batch product h known = refl
-opens_no_known entries (PutProduct name nominal) batch product h known = refl
-opens_no_known entries (PutTare name day tare) batch product h known = refl
-opens_no_known entries (StartLane lane name) batch product h known = refl
-opens_no_known entries (Weigh lane gross prior) batch product h known = refl
-opens_no_known entries (StopLane lane prior) batch product h known = refl
-
-product_stays : (entries : List Entry) (entry : Entry) (batch product : Name) → refusal_by_rule entries entry.act ≡ None → product_of entries batch ≡ Some product → product_of (entries ++ entry ∷ []) batch ≡ Some product
-product_stays entries entry batch product h known =
-    last_said-push (product_given batch) entries entry ∙ ap (λ o. option_or o (product_of entries batch)) (opens_no_known entries entry.act batch product h known) ∙ known
-
 -- ---- what is true of the batches, the lanes and the readings of a legal list
 
 -- a batch has a product with a nominal quantity, and a tare on a day
@@ -171,20 +130,17 @@ pub record IsWeighed (entries : List Entry) (reading : Reading) : Type 0 where
   pub on_day : reading.day ≡ Some day
   pub has : HasTareOn entries batch day
 
-abbrev AllWeighed : List Entry → List Reading → Type 0
-AllWeighed entries [] = Unit {0}
-AllWeighed entries (reading ∷ some) = IsWeighed entries reading × AllWeighed entries some
-
+-- a list of which that is so
 pub record IsTared (entries : List Entry) : Type 0 where
   pub products : (batch product : Name) → product_of entries batch ≡ Some product → is_some (nominal_of entries product) ≡ true
   pub lanes : (lane : ℕ) (batch : Name) → lane_batch entries lane ≡ Some batch → RunsFor entries batch
-  pub weighed : AllWeighed entries (readings entries)
+  pub weighed : All (IsWeighed entries) (readings entries)
 
-tare_on_stays : (entries : List Entry) (entry : Entry) (batch : Name) (day : ℤ) → refusal_by_rule entries entry.act ≡ None → HasTareOn entries batch day → HasTareOn (entries ++ entry ∷ []) batch day
+tare_on_stays : (entries : List Entry) (entry : Entry) (batch : Name) (day : ℤ) → IsAllowed entries entry.act → HasTareOn entries batch day → HasTareOn (entries ++ entry ∷ []) batch day
 tare_on_stays entries entry batch day h has =
     record {
       product = has.product;
-      known = product_stays entries entry batch has.product h has.known;
+      known = product_of_stays entries entry batch h (ap is_some has.known) ∙ has.known;
       nominal = nominal_stays entries entry has.product has.nominal;
       tare = tare_stays entries entry has.product day has.tare;
     }
@@ -193,7 +149,8 @@ tare_on_later : (entries : List Entry) (batch : Name) (day later : ℤ) → int_
 tare_on_later entries batch day later order has =
     record { product = has.product; known = has.known; nominal = has.nominal; tare = tare_later entries has.product day later order has.tare }
 
-some_is : {A : Type 0} (x y : A) → Some x ≡ Some y → x ≡ y
+-- what two options hold is the same where they are
+pub some_is : {A : Type 0} (x y : A) → Some x ≡ Some y → x ≡ y
 some_is x y h = cc
 
 not_before : (day last : ℤ) (refusal : Refusal) → refused_if (int_lt day last) refusal ≡ None → int_le last day ≡ true
@@ -204,20 +161,15 @@ not_before day last refusal h = each (cases_Bool (int_lt day last))
     each (inr f) = grind (arith, ints)
 
 -- days don't go back
-goes_on : (entries : List Entry) (act : Act) (last day : ℤ) → refusal_by_rule entries act ≡ None → day_set act ≡ Some day → newest_day entries ≡ Some last → int_le last day ≡ true
+goes_on : (entries : List Entry) (act : Act) (last day : ℤ) → IsAllowed entries act → day_set act ≡ Some day → newest_day entries ≡ Some last → int_le last day ≡ true
 goes_on entries (NewDay new) last day h is newest =
     let a = none_of_two (day_back entries new) _ h in
     let back : refused_if (int_lt new last) (DayBack last) ≡ None = sym (ap (option_and_then (λ l. refused_if (int_lt new l) (DayBack l))) newest) ∙ a.0 in
     subst (λ (d : ℤ). int_le last d ≡ true) (some_is new day is) (not_before new last (DayBack last) back)
-goes_on entries (PutProduct name nominal) last day h is newest = absurd (cc)
-goes_on entries (PutTare name date tare) last day h is newest = absurd (cc)
-goes_on entries (OpenBatch batch product) last day h is newest = absurd (cc)
-goes_on entries (StartLane lane batch) last day h is newest = absurd (cc)
-goes_on entries (Weigh lane gross prior) last day h is newest = absurd (cc)
-goes_on entries (StopLane lane prior) last day h is newest = absurd (cc)
+goes_on entries act last day h is newest = absurd (cc)
 
 -- a lane that runs goes on doing so
-runs_on : (entries : List Entry) (entry : Entry) (batch : Name) → refusal_by_rule entries entry.act ≡ None → RunsFor entries batch → RunsFor (entries ++ entry ∷ []) batch
+runs_on : (entries : List Entry) (entry : Entry) (batch : Name) → IsAllowed entries entry.act → RunsFor entries batch → RunsFor (entries ++ entry ∷ []) batch
 runs_on entries entry batch h runs = newest (day_set entry.act) refl
   where
     newest : (o : Option ℤ) → day_set entry.act ≡ o → RunsFor (entries ++ entry ∷ []) batch
@@ -235,16 +187,16 @@ runs_on entries entry batch h runs = newest (day_set entry.act) refl
         }
 
 -- a lane that starts runs for its batch
-start_runs : (entries : List Entry) (entry : Entry) (lane : ℕ) (batch : Name) → IsTared entries → entry.act ≡ StartLane lane batch → refusal_by_rule entries entry.act ≡ None → RunsFor (entries ++ entry ∷ []) batch
+start_runs : (entries : List Entry) (entry : Entry) (lane : ℕ) (batch : Name) → IsTared entries → entry.act ≡ StartLane lane batch → IsAllowed entries entry.act → RunsFor (entries ++ entry ∷ []) batch
 start_runs entries entry lane batch sound is h =
-    let rules : refusal_by_rule entries (StartLane lane batch) ≡ None = ap (refusal_by_rule entries) (sym is) ∙ h in
+    let rules : IsAllowed entries (StartLane lane batch) = subst (IsAllowed entries) is h in
     let a = none_of_two (day_unset entries) _ rules in
     let b = none_of_two (batch_unknown entries batch) _ a.1 in
     let c = none_of_two (batch_state (Running ∷ []) entries batch) _ b.1 in
     let d = none_of_two (lane_number lane) _ c.1 in
     let e = none_of_two (lane_busy entries lane) _ d.1 in
     let f = none_of_two (no_tare entries batch) None e.1 in
-    runs_on entries entry batch h (runs (newest_day entries) refl (not_none (newest_day entries) _ a.0) (product_of entries batch) refl (not_none (product_of entries batch) _ b.0) f.0)
+    runs_on entries entry batch h (runs (newest_day entries) refl (is_there (newest_day entries) _ a.0) (product_of entries batch) refl (is_there (product_of entries batch) _ b.0) f.0)
   where
     runs : (day : Option ℤ) → newest_day entries ≡ day → is_some day ≡ true → (product : Option Name) → product_of entries batch ≡ product → is_some product ≡ true → no_tare entries batch ≡ None → RunsFor entries batch
     runs None day_is there product product_is known tare = absurd (cc)
@@ -255,11 +207,11 @@ start_runs entries entry lane batch sound is h =
         record {
           day = day;
           newest = day_is;
-          has = record { product = product; known = product_is; nominal = sound.products batch product product_is; tare = not_none (tare_of_product entries product day) (NoTare product) free };
+          has = record { product = product; known = product_is; nominal = sound.products batch product product_is; tare = is_there (tare_of_product entries product day) (NoTare product) free };
         }
 
 -- each lane with a batch runs for it
-lanes_on : (entries : List Entry) (entry : Entry) (act : Act) (lane : ℕ) (batch : Name) → IsTared entries → entry.act ≡ act → refusal_by_rule entries entry.act ≡ None
+lanes_on : (entries : List Entry) (entry : Entry) (act : Act) (lane : ℕ) (batch : Name) → IsTared entries → entry.act ≡ act → IsAllowed entries entry.act
     → option_flatten (option_or (lane_used lane act) (last_said (lane_used lane) entries)) ≡ Some batch → RunsFor (entries ++ entry ∷ []) batch
 lanes_on entries entry (StartLane number started) lane batch sound is h on = either (cases_Bool (number == lane))
   where
@@ -273,43 +225,32 @@ lanes_on entries entry (StopLane number prior) lane batch sound is h on = either
     either : ((number == lane) ≡ true) ⊎ ((number == lane) ≡ false) → RunsFor (entries ++ entry ∷ []) batch
     either (inl t) = absurd (let wrong : None ≡ Some batch = sym (ap (λ b. option_flatten (option_or (cond b (Some None) None) (last_said (lane_used lane) entries))) t) ∙ on in cc)
     either (inr f) = runs_on entries entry batch h (sound.lanes lane batch (sym (ap (λ b. option_flatten (option_or (cond b (Some None) None) (last_said (lane_used lane) entries))) f) ∙ on))
-lanes_on entries entry (NewDay day) lane batch sound is h on = runs_on entries entry batch h (sound.lanes lane batch on)
-lanes_on entries entry (PutProduct name nominal) lane batch sound is h on = runs_on entries entry batch h (sound.lanes lane batch on)
-lanes_on entries entry (PutTare product day tare) lane batch sound is h on = runs_on entries entry batch h (sound.lanes lane batch on)
-lanes_on entries entry (OpenBatch name product) lane batch sound is h on = runs_on entries entry batch h (sound.lanes lane batch on)
-lanes_on entries entry (Weigh number gross prior) lane batch sound is h on = runs_on entries entry batch h (sound.lanes lane batch on)
+lanes_on entries entry act lane batch sound is h on = runs_on entries entry batch h (sound.lanes lane batch on)
 
 -- ---- the products of batches
 
-products_on : (entries : List Entry) (entry : Entry) (act : Act) (batch product : Name) → IsTared entries → entry.act ≡ act → refusal_by_rule entries entry.act ≡ None
+products_on : (entries : List Entry) (entry : Entry) (act : Act) (batch product : Name) → IsTared entries → entry.act ≡ act → IsAllowed entries entry.act
     → option_or (product_given batch act) (product_of entries batch) ≡ Some product → is_some (nominal_of (entries ++ entry ∷ []) product) ≡ true
-products_on entries entry (OpenBatch name other) batch product sound is h on = nominal_stays entries entry product (either (cases_Bool (same_name name batch)))
+products_on entries entry (OpenBatch name other density) batch product sound is h on = nominal_stays entries entry product (either (cases_Bool (same_name name batch)))
   where
-    rules : refusal_by_rule entries (OpenBatch name other) ≡ None
-    rules = ap (refusal_by_rule entries) (sym is) ∙ h
+    rules : IsAllowed entries (OpenBatch name other density)
+    rules = subst (IsAllowed entries) is h
 
     either : (same_name name batch ≡ true) ⊎ (same_name name batch ≡ false) → is_some (nominal_of entries product) ≡ true
     either (inl t) =
         let a = none_of_two (day_unset entries) _ rules in
         let b = none_of_two (product_unknown entries other) _ a.1 in
         let same : other ≡ product = some_is other product (sym (ap (λ c. option_or (cond c (Some other) None) (product_of entries batch)) t) ∙ on) in
-        subst (λ (p : Name). is_some (nominal_of entries p) ≡ true) same (not_none (nominal_of entries other) _ b.0)
+        subst (λ (p : Name). is_some (nominal_of entries p) ≡ true) same (is_there (nominal_of entries other) _ b.0)
     either (inr f) = sound.products batch product (sym (ap (λ c. option_or (cond c (Some other) None) (product_of entries batch)) f) ∙ on)
-products_on entries entry (NewDay day) batch product sound is h on = nominal_stays entries entry product (sound.products batch product on)
-products_on entries entry (PutProduct name nominal) batch product sound is h on = nominal_stays entries entry product (sound.products batch product on)
-products_on entries entry (PutTare name day tare) batch product sound is h on = nominal_stays entries entry product (sound.products batch product on)
-products_on entries entry (StartLane lane name) batch product sound is h on = nominal_stays entries entry product (sound.products batch product on)
-products_on entries entry (Weigh lane gross prior) batch product sound is h on = nominal_stays entries entry product (sound.products batch product on)
-products_on entries entry (StopLane lane prior) batch product sound is h on = nominal_stays entries entry product (sound.products batch product on)
+products_on entries entry act batch product sound is h on = nominal_stays entries entry product (sound.products batch product on)
 
 -- ---- the readings
 
-weighed_on : (entries : List Entry) (entry : Entry) (some : List Reading) → refusal_by_rule entries entry.act ≡ None → AllWeighed entries some → AllWeighed (entries ++ entry ∷ []) (map (advance entry.act) some)
-weighed_on entries entry [] h all = tt
-weighed_on entries entry (reading ∷ some) h all =
-    (record { batch = all.0.batch; of_batch = all.0.of_batch; day = all.0.day; on_day = all.0.on_day; has = tare_on_stays entries entry all.0.batch all.0.day h all.0.has }, weighed_on entries entry some h all.1)
+weighed_on : (entries : List Entry) (entry : Entry) → IsAllowed entries entry.act → (reading : Reading) → IsWeighed entries reading → IsWeighed (entries ++ entry ∷ []) (advance entry.act reading)
+weighed_on entries entry h reading is =
+    record { batch = is.batch; of_batch = is.of_batch; day = is.day; on_day = is.on_day; has = tare_on_stays entries entry is.batch is.day h is.has }
 
--- a lane that has a batch was started for that one last
 last_start : (lane : ℕ) (batch : Name) (act : Act) (o : Option (Option Name)) (p : Option Name) → (option_flatten o ≡ Some batch → p ≡ Some batch)
     → option_flatten (option_or (lane_used lane act) o) ≡ Some batch → option_or (batch_started lane act) p ≡ Some batch
 last_start lane batch (StartLane number started) o p before = either (number == lane)
@@ -322,11 +263,7 @@ last_start lane batch (StopLane number prior) o p before = either (number == lan
     either : (b : Bool) → option_flatten (option_or (cond b (Some None) None) o) ≡ Some batch → p ≡ Some batch
     either true k = absurd (cc)
     either false k = before k
-last_start lane batch (NewDay day) o p before = before
-last_start lane batch (PutProduct name nominal) o p before = before
-last_start lane batch (PutTare product day tare) o p before = before
-last_start lane batch (OpenBatch name product) o p before = before
-last_start lane batch (Weigh number gross prior) o p before = before
+last_start lane batch act o p before = before
 
 started_from : (lane : ℕ) (batch : Name) (entries : List Entry) (o : Option (Option Name)) (p : Option Name) → (option_flatten o ≡ Some batch → p ≡ Some batch)
     → option_flatten (last_or o (said (lane_used lane) entries)) ≡ Some batch → last_or p (said (batch_started lane) entries) ≡ Some batch
@@ -336,59 +273,45 @@ started_from lane batch (e ∷ es) o p before k =
     ∙ started_from lane batch es (option_or (lane_used lane e.act) o) (option_or (batch_started lane e.act) p) (last_start lane batch e.act o p before)
     (sym (ap (λ (x : Option (Option Name)). option_flatten x) (last_or-cons o (lane_used lane e.act) (said (lane_used lane) es))) ∙ k)
 
-started_for_it : (entries : List Entry) (lane : ℕ) (batch : Name) → lane_batch entries lane ≡ Some batch → last_batch entries lane ≡ Some batch
+-- a lane that has a batch was started for that one last
+pub started_for_it : (entries : List Entry) (lane : ℕ) (batch : Name) → lane_batch entries lane ≡ Some batch → last_batch entries lane ≡ Some batch
 started_for_it entries lane batch on = started_from lane batch entries None None (λ k. absurd (cc)) on
 
-own_weighed : (entries : List Entry) (entry : Entry) (act : Act) → IsTared entries → entry.act ≡ act → refusal_by_rule entries entry.act ≡ None → AllWeighed (entries ++ entry ∷ []) (cons_option (reading_from (length entries + 1) entries act entry.signal []) [])
+own_weighed : (entries : List Entry) (entry : Entry) (act : Act) → IsTared entries → entry.act ≡ act → IsAllowed entries entry.act → All (IsWeighed (entries ++ entry ∷ [])) (cons_option (reading_from (length entries + 1) entries act entry.signal []) [])
 own_weighed entries entry (Weigh lane gross prior) sound is h =
     let a = none_of_two (day_unset entries) _ rules in
     let b = none_of_two (lane_number lane) _ a.1 in
     let c = none_of_two (lane_idle entries lane) _ b.1 in
-    (own (lane_batch entries lane) refl (not_none (lane_batch entries lane) _ c.0), tt)
+    All-cons (IsWeighed (entries ++ entry ∷ [])) _ [] (own (lane_batch entries lane) refl (is_there (lane_batch entries lane) _ c.0)) (All-nil (IsWeighed (entries ++ entry ∷ [])))
   where
-    rules : refusal_by_rule entries (Weigh lane gross prior) ≡ None
-    rules = ap (refusal_by_rule entries) (sym is) ∙ h
+    rules : IsAllowed entries (Weigh lane gross prior)
+    rules = subst (IsAllowed entries) is h
 
     own : (o : Option Name) → lane_batch entries lane ≡ o → is_some o ≡ true
-        → IsWeighed (entries ++ entry ∷ []) (record { number = length entries + 1; lane = lane; gross = gross; signal = entry.signal; day = newest_day entries; batch = last_batch entries lane; next_prior = None })
+        → IsWeighed (entries ++ entry ∷ []) (record { number = length entries + 1; lane = lane; gross = gross; signal = entry.signal; day = newest_day entries; batch = last_batch entries lane; next_prior = None; voided = false })
     own None on there = absurd (cc)
     own (Some batch) on there =
         let runs = sound.lanes lane batch on in
         record { batch = batch; of_batch = started_for_it entries lane batch on; day = runs.day; on_day = runs.newest; has = tare_on_stays entries entry batch runs.day h runs.has }
-own_weighed entries entry (NewDay day) sound is h = tt
-own_weighed entries entry (PutProduct name nominal) sound is h = tt
-own_weighed entries entry (PutTare product day tare) sound is h = tt
-own_weighed entries entry (OpenBatch name product) sound is h = tt
-own_weighed entries entry (StartLane lane name) sound is h = tt
-own_weighed entries entry (StopLane lane prior) sound is h = tt
-
-all_append : (entries : List Entry) (some more : List Reading) → AllWeighed entries some → AllWeighed entries more → AllWeighed entries (some ++ more)
-all_append entries [] more h k = k
-all_append entries (reading ∷ some) more h k = (h.0, all_append entries some more h.1 k)
+own_weighed entries entry act sound is h = All-nil (IsWeighed (entries ++ entry ∷ []))
 
 -- a lawful entry keeps a list sound
-tared-push : (entries : List Entry) (entry : Entry) → IsTared entries → refusal_by_rule entries entry.act ≡ None → IsTared (entries ++ entry ∷ [])
+tared-push : (entries : List Entry) (entry : Entry) → IsTared entries → IsAllowed entries entry.act → IsTared (entries ++ entry ∷ [])
 tared-push entries entry sound h =
+    let Weighed : Reading → Type 0 = IsWeighed (entries ++ entry ∷ []) in
     record {
       products = λ batch product known. products_on entries entry entry.act batch product sound refl h (sym (last_said-push (product_given batch) entries entry) ∙ known);
       lanes = λ lane batch on. lanes_on entries entry entry.act lane batch sound refl h (sym (ap (λ (x : Option (Option Name)). option_flatten x) (last_said-push (lane_used lane) entries entry)) ∙ on);
-      weighed = subst (λ (some : List Reading). AllWeighed (entries ++ entry ∷ []) some) (sym (readings-push entries entry))
-          (all_append (entries ++ entry ∷ []) _ _ (weighed_on entries entry (readings entries) h sound.weighed) (own_weighed entries entry entry.act sound refl h));
+      weighed = subst (All Weighed) (sym (readings-push entries entry))
+          (All-append Weighed (map (advance entry.act) (readings entries)) (cons_option (own_reading entries entry) [])
+          (All-map Weighed (advance entry.act) (readings entries)
+          (All-weaker (IsWeighed entries) (λ reading. Weighed (advance entry.act reading)) (weighed_on entries entry h) (readings entries) sound.weighed))
+          (own_weighed entries entry entry.act sound refl h));
     }
 
-tared_after : (before after : List Entry) → IsTared before → IsLegal (before ++ after) → IsTared (before ++ after)
-tared_after before [] tared legal = subst IsTared (sym (append-nil before)) tared
-tared_after before (entry ∷ after) tared legal =
-    let whole : (before ++ entry ∷ []) ++ after ≡ before ++ entry ∷ after = append_assoc before (entry ∷ []) after in
-    let lawful = legal before entry after refl in
-    subst IsTared whole (tared_after (before ++ entry ∷ []) after (tared-push before entry tared lawful.rules) (subst IsLegal (sym whole) legal))
-
-nothing_tared : IsTared []
-nothing_tared = record { products = λ batch product known. absurd (cc); lanes = λ lane batch on. absurd (cc); weighed = tt }
-
-each_has : (entries : List Entry) (some : List Reading) → AllWeighed entries some → list_all (has_tare_and_nominal entries) some ≡ true
+each_has : (entries : List Entry) (some : List Reading) → All (IsWeighed entries) some → list_all (has_tare_and_nominal entries) some ≡ true
 each_has entries [] all = refl
-each_has entries (reading ∷ some) all = and_from (has_tare_and_nominal entries reading) _ (one all.0) (each_has entries some all.1)
+each_has entries (reading ∷ some) all = and_from (has_tare_and_nominal entries reading) _ (one (All-head (IsWeighed entries) reading some all)) (each_has entries some (All-tail (IsWeighed entries) reading some all))
   where
     one : IsWeighed entries reading → has_tare_and_nominal entries reading ≡ true
     one weighed =
@@ -401,6 +324,33 @@ each_has entries (reading ∷ some) all = and_from (has_tare_and_nominal entries
         ∙ ap (λ (p : Option Name). is_some (option_and_then (nominal_of entries) p)) has.known ∙ has.nominal in
         and_from _ _ tare nominal
 
+-- the batches, the lanes and the readings of a legal list have what they need
+pub tared_of : (entries : List Entry) → IsLegal entries → IsTared entries
+tared_of entries legal = kept_behind IsTared tared-push [] entries nothing legal
+  where
+    nothing : IsTared []
+    nothing = record { products = λ batch product known. absurd (cc); lanes = λ lane batch on. absurd (cc); weighed = All-nil (IsWeighed []) }
+
 -- each reading of a legal list has a tare and a nominal quantity
 pub tares_known : (entries : List Entry) → IsLegal entries → TaresKnown entries
-tares_known entries legal = each_has entries (readings entries) (tared_after [] entries nothing_tared legal).weighed
+tares_known entries legal = each_has entries (readings entries) (tared_of entries legal).weighed
+
+-- all that is asked of a reading is there: a tare on its day, and of its batch a unit, a density and
+-- a state
+pub record IsWhole (entries : List Entry) (reading : Reading) : Type 0 where
+  pub weighed : IsWeighed entries reading
+  pub unit : is_some (unit_of entries weighed.has.product) ≡ true
+  pub density : is_some (density_of entries weighed.batch) ≡ true
+  pub state : is_some (state_of entries weighed.batch) ≡ true
+
+-- so it is with each reading of a legal list
+pub readings_whole : (entries : List Entry) → IsLegal entries → All (IsWhole entries) (readings entries)
+readings_whole entries legal =
+    All-weaker (IsWeighed entries) (IsWhole entries)
+    (λ reading is. record {
+      weighed = is;
+      unit = unit_known entries is.has.product is.has.nominal;
+      density = density_known entries is.batch (ap is_some is.has.known);
+      state = state_known entries is.batch (ap is_some is.has.known);
+    })
+    (readings entries) (tared_of entries legal).weighed

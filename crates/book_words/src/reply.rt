@@ -1,0 +1,38 @@
+use crate::refusal::Refusal;
+use crate::views::{LaneView, PackView, SampleView, Sheet, SummaryView, Verdict};
+use pack_judge::Signal;
+
+/// The answer to an ask that isn't refused.
+#[derive(Debug, PartialEq, Eq, Drop)]
+pub enum Reply {
+    /// The act is taken down in this row.
+    Done { row: u32 },
+    /// The weighing is taken down in this row, and gets this signal.
+    Judged { row: u32, signal: Signal },
+    /// The batch is closed in this row, with this verdict.
+    Closed { row: u32, verdict: Verdict },
+    /// What stands of a batch.
+    SheetIs(Sheet),
+    /// What stands of a pack.
+    PackIs(PackView),
+    /// What a lane does.
+    LaneIs(LaneView),
+    /// The packs that were drawn from a batch.
+    SampleIs(SampleView),
+    /// The balance of the whole hall.
+    SummaryIs(SummaryView),
+}
+
+/// A reply, and the place in the list that it speaks of: the new row, or the length of the list.
+#[derive(Debug, PartialEq, Eq, Drop)]
+pub struct Answered {
+    pub at: u32,
+    pub reply: Reply,
+}
+
+/// A refusal, and the length of the list that it speaks of.
+#[derive(Clone, Copy, Debug, PartialEq, Eq)]
+pub struct Refused {
+    pub at: u32,
+    pub refusal: Refusal,
+}
