@@ -1,0 +1,10 @@
+pub mod SameNames
+pub mod Places
+pub mod SaidNames
+pub mod LookUps
+pub mod LegalNames
+pub mod Stepping
+pub mod Numbered
+pub mod Stored
+pub mod LaneLemmas
+pub mod Counting

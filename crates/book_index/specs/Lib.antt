@@ -1,0 +1,5 @@
+pub mod Known
+pub mod Changes
+pub mod Lanes
+pub mod Listed
+pub mod Invariant

@@ -1,0 +1,6 @@
+use Rattle.std.proofs.Common.{sym, ◌∙◌}
+use Rattle.book_packs.proofs.Adding.{leaving_is_added}
+use Rattle.book_packs.proofs.settling.settle.Goals as goal
+
+pub shift-requires : goal.shift-requires
+shift-requires c = leaving_is_added c.args.unsettled c.args.prior c.args.sums.now.packs c.in-Some.pack (sym c.leaving.ensures ∙ c.in-Some.is)

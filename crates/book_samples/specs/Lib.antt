@@ -1,0 +1,4 @@
+pub mod Kept
+pub mod Room
+pub mod Changed
+pub mod Testing

@@ -1,0 +1,115 @@
+ghost use Rattle.std.specs.Prelude.{◌≡◌, None, option_copied};
+
+use annex_tables::{Mode, Plan};
+use sample_draw::Picks;
+use std::marker::Model;
+
+/// What a pack weighed in the test, and what it weighed empty, in mg.
+#[derive(Clone, Copy, Debug, PartialEq, Eq)]
+pub struct Measured {
+    gross: i64,
+    empty: i64,
+}
+
+// Clauses see the two masses.
+impl Model for Measured {
+    ghost use Rattle.book_words.specs.Measures as measures;
+
+    ghost Value = { measures.Measured };
+
+    ghost view = { λ m. record { gross = m.gross; empty = m.empty } };
+
+    ghost inverse = { λ m. record { gross = m.gross; empty = m.empty } };
+}
+
+impl Measured {
+    /// What a pack weighed in the test, and what it weighed empty, in mg.
+    pub fn new(gross: i64, empty: i64) -> Measured
+        ensures { result ≡ record { gross = gross; empty = empty } }
+    {
+        Measured { gross, empty }
+    }
+
+    /// What the pack weighed in the test, in mg.
+    pub fn gross(&self) -> i64
+        ensures { result ≡ self.now.gross }
+    {
+        self.gross
+    }
+
+    /// What the pack weighed empty, in mg.
+    pub fn empty(&self) -> i64
+        ensures { result ≡ self.now.empty }
+    {
+        self.empty
+    }
+}
+
+/// The samples of a batch: the mode and the plan of its test, the packs of the first sample, and
+/// those of the second where one was drawn.
+#[derive(Debug, Drop)]
+pub struct Sample {
+    mode: Mode,
+    plan: Plan,
+    first: Picks,
+    second: Option<Picks>,
+}
+
+// Clauses see the packs as lists, in drawing order.
+impl Model for Sample {
+    ghost use Rattle.book_words.specs.Samples as samples;
+
+    ghost Value = { samples.Sample };
+
+    ghost view = { λ s.
+        record { mode = s.mode; plan = s.plan; first = s.first; second = s.second } };
+}
+
+impl Sample {
+    /// The first sample of a batch.
+    pub fn new(mode: Mode, plan: Plan, first: Picks) -> Sample
+        ensures { result ≡ record { mode = mode; plan = plan; first = first; second = None } }
+    {
+        Sample {
+            mode,
+            plan,
+            first,
+            second: None,
+        }
+    }
+
+    /// Whether the packs are kept or destroyed.
+    pub fn mode(&self) -> Mode
+        ensures { result ≡ self.now.mode }
+    {
+        self.mode
+    }
+
+    /// The plan of the test.
+    pub fn plan(&self) -> &Plan
+        ensures { result.now ≡ self.now.plan }
+    {
+        &self.plan
+    }
+
+    /// The packs of the first sample, in drawing order.
+    pub fn first(&self) -> &Picks
+        ensures { result.now ≡ self.now.first }
+    {
+        &self.first
+    }
+
+    /// The packs of the second sample, in drawing order, where one was drawn.
+    pub fn second(&self) -> Option<&Picks>
+        ensures { option_copied result ≡ self.now.second }
+    {
+        self.second.as_ref()
+    }
+
+    /// Takes the packs of the second sample, in drawing order.
+    pub(crate) fn take_second(&mut self, picks: Picks)
+        ensures { self.new ≡ record self.old { second = Some picks } }
+    {
+        self.second = Some(picks);
+    }
+}

@@ -1,0 +1,13 @@
+pub mod Parts
+pub mod Within
+pub mod Named
+pub mod Rows
+pub mod Untared
+pub mod Waiting
+pub mod Batches
+pub mod Planned
+pub mod Limited
+pub mod Seen
+pub mod Telling
+pub mod Frost
+pub mod Entered

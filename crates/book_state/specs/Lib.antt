@@ -1,0 +1,4 @@
+pub mod View
+pub mod Told
+pub mod Prepared
+pub mod Invariant

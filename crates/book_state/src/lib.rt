@@ -1,0 +1,18 @@
+//! The state of the batch book: the list of accepted commands, and beside it what is kept so that
+//! no answer walks over the list. All masses are whole milligrams, days are counted from
+//! 1970-01-01.
+#![tactic(auto)]
+
+mod drawing;
+mod drawn;
+mod entering;
+mod lookups;
+mod packs;
+mod samples;
+mod state;
+mod types;
+mod weighed;
+
+pub use drawn::Drawn;
+pub use state::State;
+pub use types::{AtWeighing, KnownPack, NoMemory};
