@@ -1,5 +1,3 @@
-pub mod JudgedLemmas
-pub mod PopulationLemmas
-pub mod InvariantLemmas
-pub mod SignalLemmas
-pub mod AskLemmas
+mod Decided
+mod Kept
+mod AskLemmas

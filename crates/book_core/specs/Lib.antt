@@ -1,4 +1,4 @@
-pub mod Judging
 pub mod View
 pub mod Steps
 pub mod Keeping
+pub mod Holding

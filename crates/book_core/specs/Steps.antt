@@ -1,20 +1,24 @@
 -- What the calls of a book answer.
-use Rattle.std.specs.Prelude.{◌≡◌, ℕ, ◌+◌, List, [], ◌∷◌, ◌++◌, length, Option, Some, None, Result, Ok, Err, IsSome}
+use Rattle.std.specs.Prelude.{◌≡◌, ⊤, ℕ, ◌+◌, Bool, true, false, List, [], ◌∷◌, ◌++◌, length, Option, Some, None, Result, Ok, Err, IsSome}
 use Rattle.std.specs.List.{cons_option}
-use Rattle.book_words.specs.declared.types.Act.{Act}
-use Rattle.book_words.specs.declared.types.Question.{Question}
-use Rattle.book_words.specs.declared.types.Want.{Want}
-use Rattle.book_words.specs.declared.types.Want.TheVariants as want
-use Rattle.book_words.specs.declared.types.Ask.{Ask}
-use Rattle.book_words.specs.declared.types.Answered.{Answered}
-use Rattle.book_words.specs.declared.types.Refused.{Refused}
-use Rattle.book_words.specs.declared.types.Entry.{Entry}
+use Rattle.book_words.specs.declared.act.Act.{Act}
+use Rattle.book_words.specs.declared.act.Act.TheVariants.{Weigh}
+use Rattle.book_words.specs.declared.act.Question.{Question}
+use Rattle.book_words.specs.declared.act.Question.TheVariants.{Sample}
+use Rattle.book_words.specs.declared.act.Want.{Want}
+use Rattle.book_words.specs.declared.act.Want.TheVariants as want
+use Rattle.book_words.specs.declared.act.Ask.{Ask}
+use Rattle.book_words.specs.declared.act.Entry.{Entry}
+use Rattle.book_words.specs.declared.reply.Answered.{Answered}
+use Rattle.book_words.specs.declared.reply.Refused.{Refused}
 use Rattle.book_words.specs.declared.refusal.Refusal.{Refusal}
-use Rattle.book_words.specs.Refusals.{book_full, refusals_of, refusal_of}
+use Rattle.book_words.specs.Desks.{desk_number, repeated_row}
+use Rattle.book_words.specs.Refusals.{book_full, desk_refusals, refusals_of, refusal_of}
 use Rattle.book_words.specs.Numbers.{refusal_number, EachFrom}
-use Rattle.book_words.specs.Answers.{entry_for}
+use Rattle.book_words.specs.Answers.{entry_for, refused_at, told_again, added}
+use Rattle.book_state.specs.Prepared.{is_for_sample}
 use Rattle.book_core.specs.declared.types.Step.{Step}
-use Rattle.book_core.specs.declared.types.Step.TheVariants.{New}
+use Rattle.book_core.specs.declared.types.Step.TheVariants.{New, Known}
 use Rattle.book_core.specs.declared.types.BookError.{BookError}
 use Rattle.book_core.specs.declared.types.BookError.TheVariants as error
 use Rattle.book_core.specs.View.{ReadyEntry, BookView}
@@ -29,36 +33,62 @@ asked_question question = record { desk = 0; request = 0; want = want.Question q
 
 -- the entry that an act will be, with its row
 abbrev pub ready_for : List Entry → ℕ → Ask → Act → ReadyEntry
-ready_for entries by ask act =
-    record { number = length entries + 1; entry = entry_for entries by ask act }
+ready_for entries by ask act = record { number = length entries + 1; entry = entry_for entries by ask act }
 
--- a refused act is answered its refusal, with the length of the list; any other act is ready
-abbrev pub step_unless : List Entry → ReadyEntry → Option Refusal → Result Step BookError
-step_unless entries ready (Some refusal) =
-    Err (error.Refused (record { at = length entries; refusal = refusal }))
-step_unless entries ready None = Ok (New ready)
+-- a repeat is told again, any other act that isn't refused is new
+abbrev pub decision_unless : List Entry → Act → Option ℕ → Option Refusal → Result (Option Answered) BookError
+decision_unless entries act (Some row) refusal = Ok (Some (told_again entries row act))
+decision_unless entries act None (Some refusal) = Err (error.Refused (refused_at entries refusal))
+decision_unless entries act None None = Ok None
+
+-- a wrong desk is refused before anything else is looked at
+abbrev pub decision_by : List Entry → Act → Option Refusal → Option ℕ → Option Refusal → Result (Option Answered) BookError
+decision_by entries act (Some by_desk) row by_rule = Err (error.Refused (refused_at entries by_desk))
+decision_by entries act None row by_rule = decision_unless entries act row by_rule
+
+-- whether an act is refused, and what it is told where it is a repeat
+abbrev pub decision : ℕ → List Entry → Ask → Act → Result (Option Answered) BookError
+decision limit entries ask act =
+    decision_by entries act (desk_number ask act) (repeated_row entries ask act) (refusal_of limit entries ask act)
+
+-- a refused act is answered its refusal, a repeat is known, and any other act is ready
+abbrev pub step_by : ReadyEntry → Result (Option Answered) BookError → Result Step BookError
+step_by ready (Err refused) = Err refused
+step_by ready (Ok (Some answered)) = Ok (Known answered)
+step_by ready (Ok None) = Ok (New ready)
 
 -- what making an act ready gives
 abbrev pub step_for : BookView → ℕ → ℕ → ℕ → Act → Result Step BookError
 step_for book by desk request act =
-    step_unless book.entries (ready_for book.entries by (asked_act desk request act) act)
-    (refusal_of book.limit book.entries act)
+    let ask = asked_act desk request act in
+    step_by (ready_for book.entries by ask act) (decision book.limit book.entries ask act)
 
 -- what a step has made ready
 abbrev pub made_ready : Result Step BookError → Option ReadyEntry
 made_ready (Ok (New ready)) = Some ready
 made_ready _ = None
 
--- a call gives what is wanted; only in place of a new step may it answer that there is no memory
-abbrev pub GivesUnlessNoMemory : Result Step BookError → Result Step BookError → Type 0
-GivesUnlessNoMemory (Err error.NoMemory) wanted = IsSome (made_ready wanted)
-GivesUnlessNoMemory given wanted = given ≡ wanted
+-- whether an act is a weighing
+abbrev pub is_weighing : Act → Bool
+is_weighing (Weigh lane gross prior) = true
+is_weighing _ = false
+
+-- an act may find no memory, unless it is a weighing for which there is room
+abbrev pub HasNoRoom : BookView → Act → Type 0
+HasNoRoom book act = is_weighing act ≡ true → book.spare ≡ 0
+
+-- a call gives what is wanted; only in place of a new step may it answer that there is no memory,
+-- and for a weighing only where no row is spare
+abbrev pub GivesUnlessNoMemory : BookView → Act → Result Step BookError → Result Step BookError → Type 0
+GivesUnlessNoMemory book act (Err error.NoMemory) wanted = IsSome (made_ready wanted) × HasNoRoom book act
+GivesUnlessNoMemory book act given wanted = given ≡ wanted
 
 -- a refusal that is answered has the least number of all that hold
-abbrev pub TellsLeast : ℕ → List Entry → Act → Result Step BookError → Type 0
-TellsLeast limit entries act (Err (error.Refused refused)) =
-    EachFrom (refusal_number refused.refusal) (book_full limit entries ∷ refusals_of entries act)
-TellsLeast limit entries act _ = Unit {0}
+abbrev pub TellsLeast : ℕ → List Entry → Ask → Act → Result Step BookError → Type 0
+TellsLeast limit entries ask act (Err (error.Refused refused)) =
+    EachFrom (refusal_number refused.refusal)
+    (desk_refusals entries ask act ++ book_full limit entries ∷ refusals_of entries act)
+TellsLeast limit entries ask act _ = Unit {0}
 
 -- what is ready to be entered behind an ask: an act leaves nothing ready, a question what there was
 abbrev pub pending_after : Option ReadyEntry → Want → Option ReadyEntry
@@ -70,12 +100,24 @@ abbrev pub handed_on : Result Answered Refused → Result Answered BookError
 handed_on (Ok answered) = Ok answered
 handed_on (Err refused) = Err (error.Refused refused)
 
--- a book gives the answer that is wanted; only an ask that adds an entry may find no memory
-abbrev pub GivesAnswer : Result Answered BookError → Result Answered Refused → Option Entry → Type 0
-GivesAnswer (Err error.NoMemory) wanted new = IsSome new
-GivesAnswer given wanted new = given ≡ handed_on wanted
+-- what may find no memory: an act that adds an entry, but no weighing for which there is room, and
+-- a question for a sample
+abbrev pub MayLackMemory : BookView → ℕ → Ask → Want → Type 0
+MayLackMemory book by ask (want.Act act) =
+    IsSome (added book.limit book.entries by ask) × HasNoRoom book act
+MayLackMemory book by ask (want.Question (Sample batch)) = ⊤
+MayLackMemory book by ask (want.Question question) = ⊥
+
+-- a book gives the answer that is wanted, unless it may and does find no memory
+abbrev pub GivesAnswer : Type 0 → Result Answered BookError → Result Answered Refused → Type 0
+GivesAnswer may_lack (Err error.NoMemory) wanted = may_lack
+GivesAnswer may_lack given wanted = given ≡ handed_on wanted
 
 -- the list behind an ask: its entry is added, unless there was no memory for it
 abbrev pub list_behind : Result Answered BookError → List Entry → Option Entry → List Entry
 list_behind (Err error.NoMemory) entries new = entries
 list_behind _ entries new = entries ++ cons_option new []
+
+-- a look gives the answer that is wanted; only one for a sample may find no memory
+abbrev pub GivesLook : Question → Result Answered BookError → Result Answered Refused → Type 0
+GivesLook question given wanted = GivesAnswer (is_for_sample question ≡ true) given wanted

@@ -1,6 +1,6 @@
 -- A book as contracts see it.
 use Rattle.std.specs.Prelude.{ℕ, List, Option}
-use Rattle.book_words.specs.declared.types.Entry.{Entry}
+use Rattle.book_words.specs.declared.act.Entry.{Entry}
 
 -- an act that is ready to be entered: the row that it will have, and the entry
 pub record ReadyEntry : Type 0 where

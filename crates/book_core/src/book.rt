@@ -1,74 +1,82 @@
-ghost use Rattle.std.specs.Prelude.{◌≡◌, ◌+◌, ◌≤◌, [], ◌∷◌, ◌++◌, length, Ok, None, Some};
+ghost use Rattle.std.specs.Prelude.{◌≡◌, ◌+◌, ◌≤◌, [], ◌∷◌, ◌++◌, length, ◌<◌, Ok, None, Some, true, OnOk, IfOk, IfErr, IsOk};
 ghost use Rattle.std.specs.Option.{option_map};
 ghost use Rattle.hall_limits.specs.declared.TheConstants.{MAX_ROWS};
-ghost use Rattle.book_words.specs.Piles.{unsettled_reading};
-ghost use Rattle.book_words.specs.Answers.{answer, added, IsLegal};
+ghost use Rattle.book_words.specs.Population.{unsettled_reading};
+ghost use Rattle.book_words.specs.Views.{pack_view, summary};
+ghost use Rattle.book_words.specs.Answers.{answer, added, IsLawful, IsLegal};
 ghost use Rattle.book_words.specs.Balance.{MovesOnly};
 ghost use Rattle.book_words.specs.Soundness.{IsSound};
-ghost use Rattle.book_core.specs.Judging.{HasItsSignal};
-ghost use Rattle.book_core.specs.Steps.{asked_act, asked_question, step_for, GivesUnlessNoMemory, made_ready, TellsLeast, pending_after, handed_on, GivesAnswer, list_behind};
+ghost use Rattle.book_core.specs.Steps.{asked_act, asked_question, step_for, GivesUnlessNoMemory, made_ready, TellsLeast, pending_after, GivesAnswer, GivesLook, MayLackMemory, list_behind, decision, ready_for, is_weighing};
+ghost use Rattle.book_state.specs.Told.{entry_numbered};
+ghost use Rattle.book_state.specs.Prepared.{drawn_by};
+ghost use Rattle.book_words.specs.Refusals.{first_refusal, refusals_of};
 
+use crate::pending::Pending;
 use crate::ready::Ready;
 use crate::rows::Rows;
-use crate::types::{BookError, Step};
-use crate::{growth, rules};
-use book_walks::{summaries, unsettled};
-use book_words::{Act, Answered, Ask, Entry, Question, Refused, Reply, Want};
+use crate::types::{BookError, NoMemory, Step};
+use book_rules::{
+    look, recorded_signal, refuse, refuse_desk, repeated_row, reply_again, reply_new, summarize,
+    view_pack,
+};
+use book_state::{Drawn, State};
+use book_words::{Act, Answered, Ask, Entry, PackView, Question, Refused, SummaryView, Want};
 use std::alloc::Global;
 use std::marker::Model;
 
 /// The batch book: the list of accepted commands, and the most rows that it may have.
 ///
-/// Each answer is computed by a walk over the list. A contract sees beside the list what was made
-/// ready last.
+/// A contract sees beside the list what was made ready last, and how many more acts are sure to
+/// find room.
 #[derive(Drop)]
 pub struct Book {
-    entries: Vec<Entry>,
+    state: State,
+    alloc: Global,
     limit: u32,
-    pending: Option<Ready>,
+    pending: Option<Pending>,
 }
 
 impl Model for Book {
-    ghost use Rattle.std.specs.Prelude.{vec_capacity, vec_len, ◌-◌};
     ghost use Rattle.book_core.specs.View.{BookView};
-    ghost use Rattle.book_core.specs.Keeping.{IsKept, IsPendingKept};
 
     ghost Value = { BookView };
 
-    ghost view = { λ b. record { entries = b.entries.items; limit = b.limit; pending = b.pending; spare = vec_capacity b.entries - vec_len b.entries } };
+    ghost use Rattle.book_core.specs.Holding.{ready_in, IsKept};
 
-    ghost invariant = { λ b. IsKept b.entries.items b.limit × IsPendingKept b.entries.items b.limit (vec_capacity b.entries) b.pending };
+    ghost view = { λ b. record { entries = b.state.entries; limit = b.limit; pending = ready_in b.pending; spare = b.state.spare } };
+
+    ghost invariant = { λ b. IsKept b.state b.limit b.pending };
 }
 
 impl Book {
-    /// A book without entries that may have `limit` rows, 1 to 1 000 000.
+    /// A book without entries that may have `limit` rows, 1 to 1 000 000. It takes no memory.
     pub fn new(alloc: Global, limit: u32) -> Book
         requires least { 1 ≤ limit }
         requires most { limit ≤ MAX_ROWS }
         ensures { result ≡ record { entries = []; limit = limit; pending = None; spare = 0 } }
     {
         Book {
-            entries: Vec::new(alloc),
+            state: State::new(alloc),
+            alloc,
             limit,
             pending: None,
         }
     }
 
-    /// Answers an ask of the caller `by`: an act is made ready and entered, or refused, and a
-    /// question is looked up.
+    /// Answers an ask of the caller `by`: an act is made ready and entered, or is a repeat and told
+    /// again what it was told, or is refused; and a question is looked up.
     ///
-    /// Desk and request are those of the hall's own commands, 0. Of several refusals that hold, the
-    /// one with the least number is answered, with the length of the list. Only where the ask would
-    /// have added an entry may there be no memory instead; the list then stays as it is.
+    /// Of several refusals that hold, the one with the least number is answered, with the length of
+    /// the list. Only where the ask would have added an entry, or asks for a sample, may there be no
+    /// memory instead, and for a weighing only where no row is spare; the list then stays as it is.
     pub fn ask(&mut self, by: u16, ask: &Ask) -> Result<Answered, BookError>
-        requires desk { ask.now.desk ≡ 0 }
-        requires request { ask.now.request ≡ 0 }
-        ensures answer { GivesAnswer result (answer self.old.limit self.old.entries ask.now)
-            (added self.old.limit self.old.entries by ask.now) }
+        ensures answer { GivesAnswer (MayLackMemory self.old by ask.now ask.now.want) result
+            (answer self.old.limit self.old.entries ask.now) }
         ensures entries { self.new.entries
             ≡ list_behind result self.old.entries (added self.old.limit self.old.entries by ask.now) }
         ensures limit { self.new.limit ≡ self.old.limit }
         ensures pending { self.new.pending ≡ pending_after self.old.pending ask.now.want }
+        ensures spare { self.old.spare ≤ self.new.spare + 1 }
         ensures legal_before { IsLegal self.old.entries }
         ensures legal { IsLegal self.new.entries }
     {
@@ -81,42 +89,102 @@ impl Book {
         }
     }
 
-    /// Makes an act ready: it is refused, or room is taken for it and its entry is made. The list
-    /// stays as it is.
+    /// Makes an act ready: it is refused, or it repeats the newest act of its desk, or room is taken
+    /// for it and its entry is made. The list stays as it is.
     ///
-    /// Desk and request are those of the hall's own commands, 0. Of several refusals that hold, the
-    /// one with the least number is answered, with the length of the list. Want of memory is
-    /// answered only for a lawful act.
+    /// Of several refusals that hold, the one with the least number is answered, with the length of
+    /// the list. Want of memory is answered only for a lawful act, and for a weighing only where no
+    /// row is spare.
     pub fn ready(&mut self, by: u16, desk: u16, request: u32, act: &Act) -> Result<Step, BookError>
-        requires desk { desk ≡ 0 }
-        requires request { request ≡ 0 }
-        ensures exact { GivesUnlessNoMemory result (step_for self.old by desk request act.now) }
-        ensures least { TellsLeast self.old.limit self.old.entries act.now result }
+        ensures exact { GivesUnlessNoMemory self.old act.now result
+            (step_for self.old by desk request act.now) }
+        ensures least { TellsLeast self.old.limit self.old.entries (asked_act desk request act.now)
+            act.now result }
         ensures pending { self.new.pending ≡ made_ready result }
         ensures entries { self.new.entries ≡ self.old.entries }
         ensures limit { self.new.limit ≡ self.old.limit }
+        ensures spare { self.old.spare ≤ self.new.spare }
         ensures legal { IsLegal self.new.entries }
     {
         self.pending = None;
-        let at = self.entries.len() as u32;
-        if let Some(refusal) = rules::refuse_within(self.limit, &self.entries, act) {
-            return Err(BookError::Refused(Refused { at, refusal }));
-        }
-        let Ok(signal) = growth::reserve_and_judge(&mut self.entries, act) else {
-            return Err(BookError::NoMemory);
+        let ask = Ask {
+            desk,
+            request,
+            want: Want::Act(*act),
         };
+        match self.decide(&ask, act) {
+            Err(error) => Err(error),
+            Ok(Some(answered)) => Ok(Step::Known(answered)),
+            Ok(None) => self.prepare(by, desk, request, act),
+        }
+    }
+
+    // Makes an act ready that isn't refused and repeats nothing.
+    fn prepare(&mut self, by: u16, desk: u16, request: u32, act: &Act) -> Result<Step, BookError>
+        requires found { decision self.old.limit self.old.entries (asked_act desk request act.now)
+            act.now ≡ Ok None }
+        requires empty { self.old.pending ≡ None }
+        ensures gives { GivesUnlessNoMemory self.old act.now result (Ok (Step.New
+            (ready_for self.old.entries by (asked_act desk request act.now) act.now))) }
+        ensures pending { self.new.pending ≡ made_ready result }
+        ensures entries { self.new.entries ≡ self.old.entries }
+        ensures limit { self.new.limit ≡ self.old.limit }
+        ensures spare { self.old.spare ≤ self.new.spare }
+    {
+        let drawn = self.make_room(act)?;
         let entry = Entry {
             by,
             desk,
             request,
             act: *act,
-            signal,
+            signal: recorded_signal(&self.state, act),
         };
-        self.pending = Some(Ready::new(at + 1, entry));
-        Ok(Step::New(Ready::new(at + 1, entry)))
+        let number = self.state.len() + 1;
+        let ready = Ready::new(number, entry);
+        self.pending = Some(Pending { ready, drawn });
+        Ok(Step::New(Ready::new(number, entry)))
     }
 
-    /// Enters what was made ready last, and answers it. It can't fail.
+    // What an act is told that repeats another, where it does; and why it is refused.
+    fn decide(&self, ask: &Ask, act: &Act) -> Result<Option<Answered>, BookError>
+        ensures { result ≡ decision self.now.limit self.now.entries ask.now act.now }
+    {
+        let at = self.state.len();
+        if let Some(refusal) = refuse_desk(ask, act) {
+            return Err(BookError::Refused(Refused { at, refusal }));
+        }
+        if let Some(row) = repeated_row(&self.state, ask, act) {
+            let reply = reply_again(&self.state, ask, row, act);
+            return Ok(Some(Answered { at, reply }));
+        }
+        match refuse(self.limit, &self.state, ask, act) {
+            Some(refusal) => Err(BookError::Refused(Refused { at, refusal })),
+            None => Ok(None),
+        }
+    }
+
+    // Takes room for an act that isn't refused, and draws what it draws. The list stays as it is.
+    fn make_room(&mut self, act: &Act) -> Result<Drawn, BookError>
+        requires free { first_refusal (refusals_of self.old.entries act.now) ≡ None }
+        ensures drawn { IfOk result (λ drawn. drawn ≡ drawn_by self.old.entries act.now) }
+        ensures room { OnOk result (0 < self.new.spare) }
+        ensures lacks { IfErr result (λ error. error ≡ BookError.NoMemory) }
+        ensures sure { is_weighing act.now ≡ true → 0 < self.old.spare → IsOk result }
+        ensures entries { self.new.entries ≡ self.old.entries }
+        ensures limit { self.new.limit ≡ self.old.limit }
+        ensures pending { self.old.pending ≡ None → self.new.pending ≡ None }
+        ensures spare { self.old.spare ≤ self.new.spare }
+    {
+        if self.state.reserve(1).is_err() {
+            return Err(BookError::NoMemory);
+        }
+        match self.state.draw(self.alloc, act) {
+            Ok(drawn) => Ok(drawn),
+            Err(_) => Err(BookError::NoMemory),
+        }
+    }
+
+    /// Enters what was made ready last, and answers it. It can't fail, and takes no memory.
     pub fn enter(&mut self, ready: Ready) -> Answered
         requires { self.old.pending ≡ Some ready }
         ensures entries { self.new.entries ≡ self.old.entries ++ ready.entry ∷ [] }
@@ -124,35 +192,54 @@ impl Book {
         ensures pending { self.new.pending ≡ None }
         ensures answer { Ok result ≡ answer self.old.limit self.old.entries
             (asked_act ready.entry.desk ready.entry.request ready.entry.act) }
-        ensures spare { self.new.spare + 1 ≡ self.old.spare }
-        ensures judged { HasItsSignal ready.entry }
+        ensures spare { self.old.spare ≤ self.new.spare + 1 }
+        ensures lawful { IsLawful self.old.entries ready.entry }
         ensures moves { MovesOnly self.old.entries ready.entry }
         ensures legal { IsLegal self.new.entries }
     {
-        let row = ready.number();
+        let Some(Pending { drawn, .. }) = self.pending.take() else {
+            unreachable!()
+        };
         let entry = *ready.entry();
-        self.pending = None;
-        growth::enter(&mut self.entries, entry);
+        let reply = reply_new(&self.state, &entry.act, entry.signal);
+        self.state.enter(entry, drawn);
         Answered {
-            at: row,
-            reply: match entry.signal {
-                Some(signal) => Reply::Judged { row, signal },
-                None => Reply::Done { row },
-            },
+            at: ready.number(),
+            reply,
         }
     }
 
-    /// Answers a question over the list as it stands.
+    /// Answers a question over the list as it stands. Only a question for a sample takes memory.
     pub fn look(&self, question: &Question) -> Result<Answered, BookError>
-        ensures answer { result ≡ handed_on (answer self.now.limit self.now.entries (asked_question question.now)) }
+        ensures answer { GivesLook question.now result
+            (answer self.now.limit self.now.entries (asked_question question.now)) }
         ensures legal { IsLegal self.now.entries }
     {
-        match question {
-            Question::Summary => Ok(Answered {
-                at: self.entries.len() as u32,
-                reply: Reply::SummaryIs(summaries::summarize(&self.entries)),
-            }),
+        let at = self.state.len();
+        match look(self.alloc, &self.state, question) {
+            Ok(Ok(reply)) => Ok(Answered { at, reply }),
+            Ok(Err(refusal)) => Err(BookError::Refused(Refused { at, refusal })),
+            Err(_) => Err(BookError::NoMemory),
         }
+    }
+
+    /// The balance of the whole hall. It takes no memory.
+    pub fn summary(&self) -> SummaryView
+        ensures { result ≡ summary self.now.entries }
+    {
+        summarize(&self.state)
+    }
+
+    /// Takes room for `more` further acts: so many weighings then find memory.
+    pub fn reserve(&mut self, more: u32) -> Result<(), NoMemory>
+        ensures ok { OnOk result (more ≤ self.new.spare) }
+        ensures spare { self.old.spare ≤ self.new.spare }
+        ensures entries { self.new.entries ≡ self.old.entries }
+        ensures limit { self.new.limit ≡ self.old.limit }
+        ensures pending { self.new.pending ≡ self.old.pending }
+    {
+        self.state.reserve(more)?;
+        Ok(())
     }
 
     /// The number of the unsettled pack of a lane: it passed, and no weighing or stop of the lane
@@ -164,22 +251,36 @@ impl Book {
         ensures { result
             ≡ option_map (λ reading. reading.number) (unsettled_reading self.now.entries lane) }
     {
-        unsettled::unsettled_pack(&self.entries, lane)
+        self.state.unsettled(lane)
     }
 
     /// The number of rows.
     pub fn len(&self) -> u32
         ensures { result ≡ length self.now.entries }
     {
-        self.entries.len() as u32
+        self.state.len()
+    }
+
+    /// What stands of the pack with a number; `None` exactly where there is no such pack.
+    pub fn pack(&self, number: u32) -> Option<PackView>
+        ensures { result ≡ pack_view self.now.entries number }
+    {
+        view_pack(&self.state, number)
+    }
+
+    /// The entry of a number; `None` exactly where the number isn't 1 to the number of rows.
+    pub fn entry(&self, number: u32) -> Option<Entry>
+        ensures { result ≡ entry_numbered self.now.entries number }
+    {
+        self.state.entry(number)
     }
 
     /// The rows: they are legal, their piles add up, each of them moves the packs only as it may,
-    /// and each reading has a tare and a nominal quantity.
+    /// each reading has a tare and a nominal quantity, and each verdict stays.
     pub fn rows(self) -> Rows
         ensures rows { result ≡ self.entries }
         ensures sound { IsSound result }
     {
-        Rows::new(self.entries)
+        Rows::new(self.state.into_entries())
     }
 }

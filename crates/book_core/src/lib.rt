@@ -1,14 +1,11 @@
-//! The batch book: one list of accepted commands, from which every answer is computed. Masses are
-//! whole milligrams, days are counted from 1970-01-01.
+//! The batch book: what is asked of it is refused by the first rule that holds, or added to its
+//! list of entries and answered.
 #![tactic(auto)]
 
 mod book;
-mod checks;
-mod growth;
+mod pending;
 mod ready;
 mod rows;
-mod rules;
-mod signals;
 mod types;
 
 pub use book::Book;

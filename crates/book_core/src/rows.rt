@@ -9,7 +9,7 @@ pub struct Rows {
 
 impl Model for Rows {
     ghost use Rattle.std.specs.Prelude.{List};
-    ghost use Rattle.book_words.specs.declared.types.Entry.{Entry};
+    ghost use Rattle.book_words.specs.declared.act.Entry.{Entry};
 
     ghost Value = { List Entry };
 

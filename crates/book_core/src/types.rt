@@ -10,8 +10,7 @@ pub type NoMemory = AllocError;
 pub enum Step {
     /// The act is lawful, and there is room for it.
     New(Ready),
-    /// The act repeats the newest one of its desk, which was answered so. That comes with numbered
-    /// requests; as yet no book answers it.
+    /// The act repeats the newest one of its desk, which was answered so.
     Known(Answered),
 }
 

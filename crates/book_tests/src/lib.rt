@@ -1,11 +1,9 @@
-//! Tests of the words of the book and of the book, by their public calls alone.
+//! Tests of the words of the book and of each call of the book.
 #![tactic(auto)]
 
 #[cfg(test)]
 mod begun;
 #[cfg(test)]
+mod calls;
+#[cfg(test)]
 mod names;
-#[cfg(test)]
-mod refusals;
-#[cfg(test)]
-mod worked_lists;

@@ -1,4 +1,5 @@
-use book_words::{Name, Refusal};
+use book_words::{BatchState, Name, Refusal};
+use pack_judge::Pile;
 use std::test::Fail;
 
 const LONGEST: [u8; 32] = *b"rice250-rice250-rice250-0123456.";
@@ -19,15 +20,55 @@ fn names_of_1_to_32_bytes(rt: HostRuntime) -> Result<(), Fail> {
     Ok(())
 }
 
+// All refusals with their names, in the order of their numbers.
+fn refusals(name: Name) -> [(Refusal, &'static str); 35] {
+    let state = BatchState::Ended;
+    let pile = Pile::Voided;
+    [
+        (Refusal::DeskNumber, "DeskNumber"),
+        (Refusal::RequestOld { last: 1 }, "RequestOld"),
+        (Refusal::RequestReused { row: 1 }, "RequestReused"),
+        (Refusal::RequestGap { last: 1 }, "RequestGap"),
+        (Refusal::BookFull { limit: 1 }, "BookFull"),
+        (Refusal::DayUnset, "DayUnset"),
+        (Refusal::DayBack { last: 1 }, "DayBack"),
+        (Refusal::ProductKnown, "ProductKnown"),
+        (Refusal::ProductUnknown, "ProductUnknown"),
+        (Refusal::NameShape, "NameShape"),
+        (Refusal::NominalRange, "NominalRange"),
+        (Refusal::DayRange, "DayRange"),
+        (Refusal::BatchKnown, "BatchKnown"),
+        (Refusal::BatchUnknown, "BatchUnknown"),
+        (Refusal::BatchState { state }, "BatchState"),
+        (Refusal::LaneNumber, "LaneNumber"),
+        (Refusal::LaneBusy { batch: name }, "LaneBusy"),
+        (Refusal::LaneIdle, "LaneIdle"),
+        (Refusal::NoTare { product: name }, "NoTare"),
+        (Refusal::GrossRange, "GrossRange"),
+        (Refusal::PriorWrong { wanted: true }, "PriorWrong"),
+        (Refusal::LanesRunning { lane: 1 }, "LanesRunning"),
+        (Refusal::TareRange, "TareRange"),
+        (Refusal::PackUnknown, "PackUnknown"),
+        (Refusal::PackPile { pile }, "PackPile"),
+        (Refusal::Unsettled { lane: 1 }, "Unsettled"),
+        (Refusal::BatchEmpty, "BatchEmpty"),
+        (Refusal::ModeSmall { n: 1 }, "ModeSmall"),
+        (Refusal::NotDrawn, "NotDrawn"),
+        (Refusal::MeasuredAlready { value: 1 }, "MeasuredAlready"),
+        (Refusal::SecondNotNeeded { d1: 1 }, "SecondNotNeeded"),
+        (Refusal::Unmeasured { pack: 1 }, "Unmeasured"),
+        (Refusal::SecondNeeded { d1: 1 }, "SecondNeeded"),
+        (Refusal::TareFrozen { batch: name }, "TareFrozen"),
+        (Refusal::DensityRange, "DensityRange"),
+    ]
+}
+
 #[test]
-fn refusals_have_numbers_and_names(rt: HostRuntime) {
-    for (refusal, number, name) in [
-        (Refusal::BookFull { limit: 1 }, 5, "BookFull"),
-        (Refusal::DayUnset, 6, "DayUnset"),
-        (Refusal::PriorWrong { wanted: true }, 21, "PriorWrong"),
-        (Refusal::TareRange, 23, "TareRange"),
-    ] {
-        assert_eq!(rt; refusal.number(), number);
+fn refusals_have_numbers_and_names(rt: HostRuntime) -> Result<(), Fail> {
+    let a = Name::new(&[65]).ok_or(std::fmt::Error)?;
+    for (place, (refusal, name)) in refusals(a).into_iter().enumerate() {
+        assert_eq!(rt; usize::from(refusal.number()), place + 1);
         assert_eq!(rt; refusal.name(), name);
     }
+    Ok(())
 }

@@ -1,50 +1,36 @@
-//! A second and plainer reading of the rules: a book that keeps a list, and walks it for every
-//! answer.
-
-use crate::entries::{Accepted, is_unsettled, pack_at};
-use crate::rules::refuse;
+use crate::entries::{rows, unsettled_of};
+use crate::rules::{is_desk_wrong, refuse_last, repeated_row};
 use crate::signals::signal_of_last;
-use crate::taken::{Taken, done, judged, refused};
-use book_core::{NoMemory, Rows};
-use book_words::{Act, SummaryView};
-use pack_judge::{Pile, Tally};
+use crate::taken::{Taken, refused, told};
+use crate::verdicts::verdict_of;
+use crate::views::{pack_view, tell};
+use book_core::NoMemory;
+use book_words::{Act, Ask, Entry, PackView, Refusal, Reply, Want};
+use pack_judge::Signal;
 use std::alloc::Global;
 
 /// A list of accepted acts, which may have at most `limit` entries.
 #[derive(Drop)]
 pub struct PlainBook {
-    entries: Vec<Accepted>,
+    entries: Vec<Entry>,
     limit: u32,
+    alloc: Global,
 }
 
-// A length as a number of rows.
-fn rows(many: usize) -> u32 {
-    u32::try_from(many).unwrap_or(u32::MAX)
-}
-
-// The packs of some entries that lie in a pile, or all of them where no pile is meant.
-fn tally(entries: &[Accepted], pile: Option<Pile>) -> Tally {
-    let mut tally = Tally { count: 0, gross: 0 };
-    for place in 0..entries.len() {
-        if let Some(pack) = pack_at(entries, place) {
-            if pile.map_or(true, |pile| pile == pack.pile) {
-                tally.count = tally.count.saturating_add(1);
-                tally.gross = tally.gross.saturating_add(pack.gross);
-            }
-        }
+// What the entry that stands last is told.
+fn reply_to_last(alloc: Global, entries: &[Entry]) -> Result<Reply, NoMemory> {
+    let row = rows(entries);
+    let Some(last) = entries.last() else {
+        return Ok(Reply::Done { row });
+    };
+    if let Act::Close { batch } = last.act {
+        let verdict = verdict_of(alloc, entries, batch)?;
+        return Ok(Reply::Closed { row, verdict });
     }
-    tally
-}
-
-// How many batches were opened.
-fn count_batches(entries: &[Accepted]) -> u32 {
-    let mut count: u32 = 0;
-    for entry in entries {
-        if matches!(entry.act, Act::OpenBatch { .. }) {
-            count = count.saturating_add(1);
-        }
+    match last.signal {
+        Some(signal) => Ok(Reply::Judged { row, signal }),
+        None => Ok(Reply::Done { row }),
     }
-    count
 }
 
 impl PlainBook {
@@ -53,57 +39,86 @@ impl PlainBook {
         PlainBook {
             entries: Vec::new(alloc),
             limit,
+            alloc,
         }
     }
 
-    /// Takes an act down, or refuses it. Only want of memory is an error of this call.
-    pub fn take(&mut self, act: &Act) -> Result<Taken, NoMemory> {
-        let at = rows(self.entries.len());
-        if let Some(refusal) = refuse(&self.entries, self.limit, act) {
-            return Ok(refused(at, refusal));
-        }
-        let act = *act;
-        self.entries.push(Accepted { act, signal: None })?;
-        let signal = signal_of_last(&self.entries);
-        let _ = self.entries.pop();
-        self.entries.push(Accepted { act, signal })?;
-        let row = at.saturating_add(1);
-        match signal {
-            Some(signal) => Ok(judged(row, signal)),
-            None => Ok(done(row)),
-        }
-    }
-
-    /// Whether a lane has an unsettled reading.
-    pub fn is_unsettled(&self, lane: u8) -> bool {
-        is_unsettled(&self.entries, lane)
-    }
-
-    /// The balance.
-    pub fn summary(&self) -> SummaryView {
-        let entries = self.entries.as_slice();
-        SummaryView {
-            rows: rows(entries.len()),
-            readings: tally(entries, None),
-            passed: tally(entries, Some(Pile::Passed)),
-            rejected: tally(entries, Some(Pile::Rejected)),
-            sampled: tally(entries, Some(Pile::Sampled)),
-            voided: tally(entries, Some(Pile::Voided)),
-            running: count_batches(entries),
-            ended: 0,
-            drawn: 0,
-            closed: 0,
-        }
-    }
-
-    /// Whether some rows have the same acts and signals in the same order, all brought by `by`.
-    pub fn has_the_rows(&self, rows: &Rows, by: u16) -> bool {
-        let rows = rows.as_slice();
-        for (row, entry) in rows.iter().zip(self.entries.iter()) {
-            if row.act != entry.act || row.signal != entry.signal || row.by != by {
-                return false;
+    /// Answers an ask of the caller `by`. Only want of memory is an error of this call.
+    pub fn take(&mut self, by: u16, ask: &Ask) -> Result<Taken, NoMemory> {
+        match ask.want {
+            Want::Act(act) => self.take_act(by, ask, &act),
+            Want::Question(question) => {
+                let at = rows(&self.entries);
+                match tell(self.alloc, &self.entries, &question)? {
+                    Ok(reply) => Ok(told(at, reply)),
+                    Err(refusal) => Ok(refused(at, refusal)),
+                }
             }
         }
-        rows.len() == self.entries.len()
+    }
+
+    // Answers an act: its desk is wrong, it is a repeat, or it is new.
+    fn take_act(&mut self, by: u16, ask: &Ask, act: &Act) -> Result<Taken, NoMemory> {
+        let at = rows(&self.entries);
+        if is_desk_wrong(ask, act) {
+            return Ok(refused(at, Refusal::DeskNumber));
+        }
+        if let Some(row) = repeated_row(&self.entries, ask, act) {
+            let until = self.entries.get(..row as usize).unwrap_or(&self.entries);
+            return Ok(told(at, reply_to_last(self.alloc, until)?));
+        }
+        let entry = Entry {
+            by,
+            desk: ask.desk,
+            request: ask.request,
+            act: *act,
+            signal: None,
+        };
+        self.entries.push(entry)?;
+        let judged = self.judge_last(ask, act);
+        let _ = self.entries.pop();
+        match judged? {
+            Err(refusal) => Ok(refused(at, refusal)),
+            Ok(signal) => self.enter(Entry { signal, ..entry }),
+        }
+    }
+
+    // Why the act that stands last is refused, or the signal that it gets.
+    fn judge_last(
+        &self,
+        ask: &Ask,
+        act: &Act,
+    ) -> Result<Result<Option<Signal>, Refusal>, NoMemory> {
+        match refuse_last(self.alloc, &self.entries, self.limit, ask, act)? {
+            Some(refusal) => Ok(Err(refusal)),
+            None => Ok(Ok(signal_of_last(self.alloc, &self.entries)?)),
+        }
+    }
+
+    // Adds an entry, and answers it.
+    fn enter(&mut self, entry: Entry) -> Result<Taken, NoMemory> {
+        self.entries.push(entry)?;
+        let reply = reply_to_last(self.alloc, &self.entries)?;
+        Ok(told(rows(&self.entries), reply))
+    }
+
+    /// The entries.
+    pub fn entries(&self) -> &[Entry] {
+        &self.entries
+    }
+
+    /// The number of the unsettled pack of a lane.
+    pub fn unsettled(&self, lane: u8) -> Option<u32> {
+        unsettled_of(&self.entries, lane)
+    }
+
+    /// What stands of the pack of a number.
+    pub fn pack(&self, number: u32) -> Result<Option<PackView>, NoMemory> {
+        pack_view(self.alloc, &self.entries, number)
+    }
+
+    /// The entry of a number.
+    pub fn entry(&self, number: u32) -> Option<Entry> {
+        self.entries.get((number as usize).checked_sub(1)?).copied()
     }
 }

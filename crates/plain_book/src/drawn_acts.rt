@@ -1,37 +1,43 @@
-//! Acts drawn by numbers, in and out of the ranges of the rules, and around the limits of the
-//! packs.
+//! Acts and questions drawn by numbers, in and out of the ranges of the rules.
 
 ghost use Rattle.std.specs.Prelude.{◌<◌};
 
-use book_core::Book;
-use book_words::{Act, Name, Prior};
+use crate::entries::{newest_of_desk, rows, unsettled_of};
+use annex_tables::Mode;
+use book_words::{Act, Ask, Entry, Name, Prior, Question, Unit, Want};
 use std::fmt;
 
 fn named(bytes: &[u8]) -> Result<Name, fmt::Error> {
     Name::new(bytes).ok_or(fmt::Error)
 }
 
-/// The names from which acts are drawn. The last of each has not the shape of a name.
+/// The names that are drawn. The last of each has not the shape of a name.
 #[derive(Clone, Copy)]
 pub struct Names {
-    products: [Name; 4],
-    batches: [Name; 4],
+    pub products: [Name; 4],
+    pub batches: [Name; 8],
 }
 
 impl Names {
-    /// Three good names of each, and one that isn't.
+    /// Three good names of products and seven of batches, and one of each that isn't.
     pub fn new() -> Result<Names, fmt::Error> {
-        let nobody = named(b"-nobody".as_slice())?;
-        let rice = named(b"rice".as_slice())?;
-        let salt = named(b"salt.50".as_slice())?;
-        let flour = named(b"Flour_10000-gramFlour_10000-gram".as_slice())?;
-        let a = named(b"A".as_slice())?;
-        let b = named(b"2".as_slice())?;
-        let c = named(b"C-3".as_slice())?;
-        let under = named(b"_rice".as_slice())?;
         Ok(Names {
-            products: [rice, salt, flour, nobody],
-            batches: [a, b, c, under],
+            products: [
+                named(b"rice".as_slice())?,
+                named(b"salt.50".as_slice())?,
+                named(b"Oil_10000-ml_Oil_10000-ml_Oil_10".as_slice())?,
+                named(b"-nobody".as_slice())?,
+            ],
+            batches: [
+                named(b"A".as_slice())?,
+                named(b"2".as_slice())?,
+                named(b"C-3".as_slice())?,
+                named(b"d.4".as_slice())?,
+                named(b"E_5".as_slice())?,
+                named(b"a".as_slice())?,
+                named(b"G7G7G7G7G7G7G7G7G7G7G7G7G7G7G7G7".as_slice())?,
+                named(b"_rice".as_slice())?,
+            ],
         })
     }
 }
@@ -39,105 +45,123 @@ impl Names {
 // Two of ten are out of range.
 const LANES: [u8; 10] = [1, 1, 1, 2, 2, 2, 3, 3, 0, 17];
 
-// What is said of the gate where a reading of the lane is unsettled, mostly as it should be.
-const WANTED: [Prior; 8] = [
-    Prior::Opened,
-    Prior::Opened,
-    Prior::Opened,
-    Prior::Opened,
-    Prior::Opened,
-    Prior::Stayed,
-    Prior::Unknown,
-    Prior::Nothing,
-];
+const PRIORS: [Prior; 4] = [Prior::Nothing, Prior::Opened, Prior::Stayed, Prior::Unknown];
 
-// What is said where none is.
-const UNWANTED: [Prior; 8] = [
-    Prior::Nothing,
-    Prior::Nothing,
-    Prior::Nothing,
-    Prior::Nothing,
-    Prior::Nothing,
-    Prior::Opened,
-    Prior::Stayed,
-    Prior::Unknown,
+/// In mg or microlitres, in each row of the table of errors. The last two are out of range.
+pub const NOMINALS: [i64; 12] = [
+    5_000, 50_000, 50_001, 123_456, 250_000, 250_000, 333_333, 750_000, 1_234_567, 10_000_000,
+    4_999, 10_000_001,
 ];
 
 // In mg.
-const NOMINALS: [i64; 5] = [50_000, 250_000, 10_000_000, 4_999, 10_000_001];
+const TARES: [i64; 8] = [10_000, 10_000, 10_001, 9_000, 0, 5_000_000, -1, 5_000_001];
 
 // In mg.
-const TARES: [i64; 10] = [
-    10_000, 10_000, 10_000, 10_000, 10_000, 9_000, 11_000, 0, -1, 5_000_001,
+const GROSSES: [i64; 8] = [
+    0, 30_000_000, 30_000_001, -1, 260_000, 251_000, 242_000, 62_000,
 ];
 
-// In mg. With a tare of 9 g, 10 g or 11 g each of the first nine pairs stands on both sides of a
-// limit of 250 g, 50 g or 10 kg.
-const GROSSES: [i64; 24] = [
-    250_000, 249_999, 252_000, 251_999, 251_000, 250_999, 242_000, 241_999, 243_000, 242_999,
-    55_500, 55_499, 51_000, 50_999, 9_860_000, 9_859_999, 9_710_000, 9_709_999, 260_000, 62_000, 0,
-    30_000_000, 30_000_001, -1,
-];
+// In mg a litre.
+const DENSITIES: [u32; 6] = [0, 0, 500_000, 2_000_000, 499_999, 2_000_001];
 
-/// What is drawn from next: a word of the generator of Knuth's MMIX, and a day round which days are
-/// drawn.
+// The last two aren't numbers of desks.
+const DESKS: [u16; 6] = [0, 0, 101, 164, 100, 165];
+
+/// What is drawn from next: a word of the generator of Knuth's MMIX, a day round which days are
+/// drawn, and what is meant for the batch that comes next.
 #[derive(Drop)]
 pub struct Draws {
-    word: u64,
-    day: i32,
+    pub word: u64,
+    pub day: i32,
+    /// The place of the batch among the names.
+    pub place: usize,
+    /// How many weighings the first batch gets.
+    pub many: u32,
+    /// How many weighings of the batch are still to be asked for.
+    pub left: u32,
+    /// Whether its packs lie round the limits.
+    pub rough: bool,
+    /// How many packs of its first sample are to be defective.
+    pub low: u32,
+    /// How many of its second.
+    pub second_low: u32,
+    /// How the others are filled: amply, round the nominal quantity or little.
+    pub filling: usize,
 }
 
 impl Draws {
-    /// The draws by a word, from 2025-03-02 on.
-    pub fn begin(word: u64) -> Draws {
-        Draws { word, day: 20_149 }
+    /// The draws by a word, from 2025-03-02 on, with so many weighings for the first batch.
+    pub fn begin(word: u64, many: u32) -> Draws {
+        Draws {
+            word,
+            day: 20_149,
+            place: 0,
+            many,
+            left: 0,
+            rough: false,
+            low: 0,
+            second_low: 0,
+            filling: 0,
+        }
     }
 
-    // A number below `count`.
-    fn below(&mut self, count: usize) -> usize
-        requires { 0 < count }
-        ensures { result < count }
-    {
+    // The next drawn number.
+    fn number(&mut self) -> u64 {
         self.word = self
             .word
             .wrapping_mul(6_364_136_223_846_793_005)
             .wrapping_add(1_442_695_040_888_963_407);
-        (self.word >> 33) as usize % count
+        self.word >> 33
+    }
+
+    /// A number below `count`.
+    pub fn below(&mut self, count: usize) -> usize
+        requires { 0 < count }
+        ensures { result < count }
+    {
+        self.number() as usize % count
+    }
+
+    /// A number from 0 to 255.
+    pub fn byte(&mut self) -> u8 {
+        (self.number() % 256) as u8
+    }
+
+    /// A quantity from 0 on and below `count`.
+    pub fn quantity(&mut self, count: i64) -> i64 {
+        let number = (self.number() % 1_000_000_000) as i64;
+        if count < 1 { 0 } else { number % count }
+    }
+
+    /// Whether one of so many comes up.
+    pub fn one_of(&mut self, count: usize) -> bool
+        requires { 0 < count }
+    {
+        self.below(count) == 0
+    }
+
+    pub fn product(&mut self, names: &Names) -> Name {
+        names.products[self.below(4)]
+    }
+
+    pub fn batch(&mut self, names: &Names) -> Name {
+        names.batches[self.below(8)]
+    }
+
+    pub fn mode(&mut self) -> Mode {
+        if self.one_of(3) {
+            Mode::Destroy
+        } else {
+            Mode::Keep
+        }
     }
 
     fn lane(&mut self) -> u8 {
         LANES[self.below(10)]
     }
 
-    // What is said of the gate of a lane.
-    fn prior(&mut self, book: &Book, lane: u8) -> Prior {
-        let number = self.below(8);
-        if book.unsettled(lane).is_some() {
-            WANTED[number]
-        } else {
-            UNWANTED[number]
-        }
-    }
-
-    // Two of three times a gross that is enough for each product.
-    fn gross(&mut self) -> i64 {
-        if self.below(3) > 0 {
-            10_020_000
-        } else {
-            GROSSES[self.below(24)]
-        }
-    }
-
-    fn product(&mut self, names: &Names) -> Name {
-        names.products[self.below(4)]
-    }
-
-    fn batch(&mut self, names: &Names) -> Name {
-        names.batches[self.below(4)]
-    }
-
     // A day up to two days from the one round which days are drawn, or one out of range.
-    fn day(&mut self) -> i32 {
+    fn drawn_day(&mut self) -> i32 {
         match self.below(12) {
             0 => -1,
             1 => 2_932_897,
@@ -149,60 +173,184 @@ impl Draws {
         }
     }
 
-    fn new_day(&mut self) -> Act {
-        let day = self.day();
-        self.day = self.day.saturating_add(1);
-        Act::NewDay { day }
+    /// A number round those of the rows of a list.
+    pub fn row(&mut self, entries: &[Entry]) -> u32 {
+        let count = entries.len().saturating_add(2);
+        u32::try_from(self.below(count)).unwrap_or(0)
     }
 
-    fn put_product(&mut self, names: &Names) -> Act {
-        let name = self.product(names);
-        let nominal = NOMINALS[self.below(5)];
-        Act::PutProduct { name, nominal }
-    }
-
-    fn put_tare(&mut self, names: &Names) -> Act {
-        let product = self.product(names);
-        let day = self.day();
-        let tare = TARES[self.below(10)];
-        Act::PutTare { product, day, tare }
-    }
-
-    fn open_batch(&mut self, names: &Names) -> Act {
-        let batch = self.batch(names);
-        let product = self.product(names);
-        Act::OpenBatch { batch, product }
-    }
-
-    fn start_lane(&mut self, names: &Names) -> Act {
-        let lane = self.lane();
-        let batch = self.batch(names);
-        Act::StartLane { lane, batch }
-    }
-
-    fn stop_lane(&mut self, book: &Book) -> Act {
-        let lane = self.lane();
-        let prior = self.prior(book, lane);
-        Act::StopLane { lane, prior }
-    }
-
-    fn weigh(&mut self, book: &Book) -> Act {
-        let lane = self.lane();
-        let gross = self.gross();
-        let prior = self.prior(book, lane);
-        Act::Weigh { lane, gross, prior }
-    }
-
-    /// The next act, for a book as it stands.
-    pub fn act(&mut self, names: &Names, book: &Book) -> Act {
-        match self.below(24) {
-            0 => self.new_day(),
-            1 => self.put_product(names),
-            2 | 3 => self.put_tare(names),
-            4 => self.open_batch(names),
-            5 | 6 => self.start_lane(names),
-            7 => self.stop_lane(book),
-            _ => self.weigh(book),
+    /// What is said of the gate of a lane: most times as it should be.
+    pub fn prior(&mut self, entries: &[Entry], lane: u8) -> Prior {
+        if self.one_of(16) {
+            PRIORS[self.below(4)]
+        } else if unsettled_of(entries, lane).is_some() {
+            Prior::Opened
+        } else {
+            Prior::Nothing
         }
     }
+
+    // Any act of the office on the day, products, tares and batches.
+    fn any_setup(&mut self, names: &Names) -> Act {
+        match self.below(4) {
+            0 => Act::NewDay {
+                day: self.drawn_day(),
+            },
+            1 => Act::PutProduct {
+                name: self.product(names),
+                nominal: NOMINALS[self.below(12)],
+                unit: if self.one_of(2) {
+                    Unit::Mass
+                } else {
+                    Unit::Volume
+                },
+            },
+            2 => Act::PutTare {
+                product: self.product(names),
+                day: self.drawn_day(),
+                tare: TARES[self.below(8)],
+            },
+            _ => Act::OpenBatch {
+                batch: self.batch(names),
+                product: self.product(names),
+                density: DENSITIES[self.below(6)],
+            },
+        }
+    }
+
+    // Any act of a lane.
+    fn any_of_lane(&mut self, names: &Names, entries: &[Entry]) -> Act {
+        let lane = self.lane();
+        match self.below(3) {
+            0 => Act::StartLane {
+                lane,
+                batch: self.batch(names),
+            },
+            1 => Act::Weigh {
+                lane,
+                gross: GROSSES[self.below(8)],
+                prior: self.prior(entries, lane),
+            },
+            _ => Act::StopLane {
+                lane,
+                prior: self.prior(entries, lane),
+            },
+        }
+    }
+
+    // Any act of the test of a batch.
+    fn any_of_test(&mut self, names: &Names, entries: &[Entry]) -> Act {
+        let batch = self.batch(names);
+        match self.below(6) {
+            0 => Act::Void {
+                pack: self.row(entries),
+            },
+            1 => Act::EndRun { batch },
+            2 => Act::Draw {
+                batch,
+                mode: self.mode(),
+                word: self.number(),
+            },
+            3 => Act::Measure {
+                pack: self.row(entries),
+                gross: GROSSES[self.below(8)],
+                empty: TARES[self.below(8)],
+            },
+            4 => Act::DrawSecond {
+                batch,
+                word: self.number(),
+            },
+            _ => Act::Close { batch },
+        }
+    }
+
+    /// Any act.
+    pub fn any_act(&mut self, names: &Names, entries: &[Entry]) -> Act {
+        match self.below(3) {
+            0 => self.any_setup(names),
+            1 => self.any_of_lane(names, entries),
+            _ => self.any_of_test(names, entries),
+        }
+    }
+
+    /// Any question.
+    pub fn any_question(&mut self, names: &Names, entries: &[Entry]) -> Question {
+        match self.below(5) {
+            0 => Question::Sheet {
+                batch: self.batch(names),
+            },
+            1 => Question::Pack {
+                pack: self.row(entries),
+            },
+            2 => Question::Lane { lane: self.lane() },
+            3 => Question::Sample {
+                batch: self.batch(names),
+            },
+            _ => Question::Summary,
+        }
+    }
+
+    // A number round that of the newest request of a desk.
+    fn request(&mut self, entries: &[Entry], desk: u16) -> u32 {
+        let last = newest_of_desk(entries, desk).map_or(0, |row| row.entry.request);
+        match self.below(6) {
+            0 => 0,
+            1 => last,
+            2 => last.saturating_sub(1),
+            3 => last.saturating_add(2),
+            _ => last.saturating_add(1),
+        }
+    }
+
+    /// An act of any desk, with any request.
+    pub fn by_any_desk(&mut self, entries: &[Entry], act: Act) -> Ask {
+        let desk = DESKS[self.below(6)];
+        Ask {
+            desk,
+            request: self.request(entries, desk),
+            want: Want::Act(act),
+        }
+    }
+
+    /// An act as it should be asked: by a desk with its next request, where it isn't a lane's, and
+    /// half of the others by none.
+    pub fn by_good_desk(&mut self, entries: &[Entry], act: Act) -> Ask {
+        let desk = if is_lane_act(&act) || self.one_of(2) {
+            0
+        } else {
+            DESKS[2 + self.below(2)]
+        };
+        let last = newest_of_desk(entries, desk).map_or(0, |row| row.entry.request);
+        Ask {
+            desk,
+            request: if desk == 0 { 0 } else { last.saturating_add(1) },
+            want: Want::Act(act),
+        }
+    }
+
+    /// The newest act of a desk once more; one that nobody asked for where there is none.
+    pub fn once_more(&mut self, entries: &[Entry]) -> Ask {
+        let desk = DESKS[2 + self.below(2)];
+        match newest_of_desk(entries, desk) {
+            Some(row) => Ask {
+                desk,
+                request: row.entry.request,
+                want: Want::Act(row.entry.act),
+            },
+            None => Ask {
+                desk,
+                request: 1,
+                want: Want::Act(Act::Void {
+                    pack: rows(entries),
+                }),
+            },
+        }
+    }
+}
+
+fn is_lane_act(act: &Act) -> bool {
+    matches!(
+        act,
+        Act::StartLane { .. } | Act::Weigh { .. } | Act::StopLane { .. }
+    )
 }

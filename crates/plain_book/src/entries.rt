@@ -1,18 +1,26 @@
-//! A second and plainer reading of the rules: what a list of accepted acts says. Each question
+//! What a list of entries says of days, products, batches, lanes, tares and desks. Each question
 //! walks the list anew.
 
-use book_words::{Act, Name, Prior};
-use pack_judge::{Pile, Signal};
+use book_words::{Act, BatchState, Entry, Name, Unit};
+use pack_judge::Signal;
 
-/// An accepted act, with the signal that it got.
-#[derive(Clone, Copy, Debug, PartialEq, Eq)]
-pub struct Accepted {
-    pub act: Act,
-    pub signal: Option<Signal>,
+/// A place in the list, counted from 0, as the number of a row, counted from 1.
+pub fn number_at(place: usize) -> u32 {
+    count_of(place).saturating_add(1)
+}
+
+/// A length as a number of 32 bits.
+pub fn count_of(many: usize) -> u32 {
+    u32::try_from(many).unwrap_or(u32::MAX)
+}
+
+/// The number of rows.
+pub fn rows(entries: &[Entry]) -> u32 {
+    count_of(entries.len())
 }
 
 /// The day that was set last.
-pub fn newest_day(entries: &[Accepted]) -> Option<i32> {
+pub fn newest_day(entries: &[Entry]) -> Option<i32> {
     let mut newest = None;
     for entry in entries {
         if let Act::NewDay { day } = entry.act {
@@ -22,34 +30,95 @@ pub fn newest_day(entries: &[Accepted]) -> Option<i32> {
     newest
 }
 
-/// The nominal quantity of a product in mg.
-pub fn nominal_of(entries: &[Accepted], product: Name) -> Option<i64> {
-    let mut found = None;
+/// What was put for a product.
+#[derive(Clone, Copy)]
+pub struct Product {
+    /// In mg or microlitres.
+    pub nominal: i64,
+    pub unit: Unit,
+}
+
+/// What was put for a product.
+pub fn product_named(entries: &[Entry], wanted: Name) -> Option<Product> {
     for entry in entries {
-        if let Act::PutProduct { name, nominal } = entry.act {
-            if name == product {
-                found = Some(nominal);
+        if let Act::PutProduct {
+            name,
+            nominal,
+            unit,
+        } = entry.act
+        {
+            if name == wanted {
+                return Some(Product { nominal, unit });
             }
         }
     }
-    found
+    None
 }
 
-/// The product of a batch.
-pub fn product_of(entries: &[Accepted], wanted: Name) -> Option<Name> {
+/// How a batch was opened.
+#[derive(Clone, Copy)]
+pub struct Opening {
+    pub product: Name,
+    /// In mg a litre, 0 for goods by mass.
+    pub density: u32,
+}
+
+/// How a batch was opened.
+pub fn opening_of(entries: &[Entry], wanted: Name) -> Option<Opening> {
+    for entry in entries {
+        if let Act::OpenBatch {
+            batch,
+            product,
+            density,
+        } = entry.act
+        {
+            if batch == wanted {
+                return Some(Opening { product, density });
+            }
+        }
+    }
+    None
+}
+
+// The batch that an act brings into a state, and the state.
+fn state_set(act: Act) -> Option<(Name, BatchState)> {
+    match act {
+        Act::OpenBatch { batch, .. } => Some((batch, BatchState::Running)),
+        Act::EndRun { batch } => Some((batch, BatchState::Ended)),
+        Act::Draw { batch, .. } => Some((batch, BatchState::Drawn)),
+        Act::Close { batch } => Some((batch, BatchState::Closed)),
+        _ => None,
+    }
+}
+
+/// The state of a batch, by the last of its openings, ends, draws and closings.
+pub fn state_of(entries: &[Entry], wanted: Name) -> Option<BatchState> {
+    let mut state = None;
+    for entry in entries {
+        if let Some((batch, now)) = state_set(entry.act) {
+            if batch == wanted {
+                state = Some(now);
+            }
+        }
+    }
+    state
+}
+
+/// The batch that a lane has: that of its last start, unless it was stopped after it.
+pub fn lane_batch(entries: &[Entry], wanted: u8) -> Option<Name> {
     let mut found = None;
     for entry in entries {
-        if let Act::OpenBatch { batch, product } = entry.act {
-            if batch == wanted {
-                found = Some(product);
-            }
+        match entry.act {
+            Act::StartLane { lane, batch } if lane == wanted => found = Some(batch),
+            Act::StopLane { lane, .. } if lane == wanted => found = None,
+            _ => {}
         }
     }
     found
 }
 
 /// The batch for which a lane was started last.
-pub fn last_start(entries: &[Accepted], wanted: u8) -> Option<Name> {
+pub fn last_start(entries: &[Entry], wanted: u8) -> Option<Name> {
     let mut found = None;
     for entry in entries {
         if let Act::StartLane { lane, batch } = entry.act {
@@ -61,47 +130,34 @@ pub fn last_start(entries: &[Accepted], wanted: u8) -> Option<Name> {
     found
 }
 
-/// Whether a lane runs: it was started, and no stop came after its last start.
-pub fn runs(entries: &[Accepted], wanted: u8) -> bool {
-    let mut running = false;
-    for entry in entries {
-        match entry.act {
-            Act::StartLane { lane, .. } if lane == wanted => running = true,
-            Act::StopLane { lane, .. } if lane == wanted => running = false,
-            _ => {}
-        }
+// The number of a weighing that passed.
+fn number_if_passed(place: usize, signal: Option<Signal>) -> Option<u32> {
+    if signal == Some(Signal::Pass) {
+        Some(number_at(place))
+    } else {
+        None
     }
-    running
 }
 
-/// Whether a lane has an unsettled reading: its last weighing or stop is a weighing that passed.
-pub fn is_unsettled(entries: &[Accepted], wanted: u8) -> bool {
-    let mut unsettled = false;
-    for entry in entries {
+/// The unsettled pack of a lane: that of its last weighing or stop, where this is a weighing that
+/// passed.
+pub fn unsettled_of(entries: &[Entry], wanted: u8) -> Option<u32> {
+    let mut unsettled = None;
+    for (place, entry) in entries.iter().enumerate() {
         match entry.act {
-            Act::Weigh { lane, .. } if lane == wanted => unsettled = entry.signal
-                == Some(Signal::Pass),
-            Act::StopLane { lane, .. } if lane == wanted => unsettled = false,
+            Act::Weigh { lane, .. } if lane == wanted => unsettled = number_if_passed(
+                place,
+                entry.signal,
+            ),
+            Act::StopLane { lane, .. } if lane == wanted => unsettled = None,
             _ => {}
         }
     }
     unsettled
 }
 
-// What the first weighing or stop of a lane says of the gate.
-fn first_prior(entries: &[Accepted], wanted: u8) -> Option<Prior> {
-    for entry in entries {
-        match entry.act {
-            Act::Weigh { lane, prior, .. } if lane == wanted => return Some(prior),
-            Act::StopLane { lane, prior } if lane == wanted => return Some(prior),
-            _ => {}
-        }
-    }
-    None
-}
-
 // The greatest day, up to some day, for which a product has a tare.
-fn greatest_tare_day(entries: &[Accepted], wanted: Name, until: i32) -> Option<i32> {
+fn greatest_tare_day(entries: &[Entry], wanted: Name, until: i32) -> Option<i32> {
     let mut greatest: Option<i32> = None;
     for entry in entries {
         if let Act::PutTare { product, day, .. } = entry.act {
@@ -114,7 +170,7 @@ fn greatest_tare_day(entries: &[Accepted], wanted: Name, until: i32) -> Option<i
 }
 
 // The tare in mg that was put last for a product and just this day.
-fn last_tare_for(entries: &[Accepted], wanted: Name, from: i32) -> Option<i64> {
+fn last_tare_for(entries: &[Entry], wanted: Name, from: i32) -> Option<i64> {
     let mut found = None;
     for entry in entries {
         if let Act::PutTare { product, day, tare } = entry.act {
@@ -127,48 +183,27 @@ fn last_tare_for(entries: &[Accepted], wanted: Name, from: i32) -> Option<i64> {
 }
 
 /// The tare of a product on a day, in mg.
-pub fn tare_of_product(entries: &[Accepted], product: Name, day: i32) -> Option<i64> {
+pub fn tare_of_product(entries: &[Entry], product: Name, day: i32) -> Option<i64> {
     last_tare_for(entries, product, greatest_tare_day(entries, product, day)?)
 }
 
-/// A pack that was weighed.
+/// A row of the list.
 #[derive(Clone, Copy)]
-pub struct Pack {
-    /// In mg.
-    pub gross: i64,
-    /// The day on which it was weighed.
-    pub day: Option<i32>,
-    /// Its batch.
-    pub batch: Option<Name>,
-    /// The pile in which it lies.
-    pub pile: Pile,
+pub struct Row {
+    pub number: u32,
+    pub entry: Entry,
 }
 
-// The pile of a pack, by its signal and by what its lane says of the gate afterwards.
-fn pile_of(signal: Option<Signal>, next: Option<Prior>) -> Pile {
-    match signal {
-        None => Pile::Passed,
-        Some(Signal::Reject(_)) => Pile::Rejected,
-        Some(Signal::Pass) => match next {
-            Some(Prior::Stayed) => Pile::Rejected,
-            Some(Prior::Unknown) => Pile::Voided,
-            _ => Pile::Passed,
-        },
+/// The newest row that a desk asked for.
+pub fn newest_of_desk(entries: &[Entry], desk: u16) -> Option<Row> {
+    let mut newest = None;
+    for (place, entry) in entries.iter().enumerate() {
+        if entry.desk == desk {
+            newest = Some(Row {
+                number: number_at(place),
+                entry: *entry,
+            });
+        }
     }
-}
-
-/// The pack at a place, counted from 0, where a weighing stands there.
-pub fn pack_at(entries: &[Accepted], place: usize) -> Option<Pack> {
-    let entry = entries.get(place)?;
-    let before = entries.get(..place)?;
-    let after = entries.get(place.saturating_add(1)..)?;
-    match entry.act {
-        Act::Weigh { lane, gross, .. } => Some(Pack {
-            gross,
-            day: newest_day(before),
-            batch: last_start(before, lane),
-            pile: pile_of(entry.signal, first_prior(after, lane)),
-        }),
-        _ => None,
-    }
+    newest
 }

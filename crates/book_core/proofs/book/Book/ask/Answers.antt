@@ -1,35 +1,44 @@
-use Rattle.std.proofs.Common.{◌∙◌}
+use Rattle.std.proofs.Common.{◌≡◌, List, Ok, ap, ◌∙◌}
 use Rattle.std.proofs.lemmas.Result.{err_from_is_err_and}
-use Rattle.book_core.proofs.AskLemmas.{error_answer, error_list, ready_is, new_answer, new_list, never_known}
+use Rattle.book_words.specs.declared.act.Entry.{Entry}
+use Rattle.book_words.specs.Answers.{answer}
+use Rattle.book_core.specs.Steps.{asked_act}
+use Rattle.book_core.proofs.AskLemmas.{error_answer, error_list, ready_is, new_answer, new_list, known_is, known_answer, known_list}
 use Rattle.book_core.proofs.book.Book.ask.Goals as goal
 
 pub returns-in_err-ready-in-Act-clause-answer : goal.returns-in_err-ready-in-Act-clause-answer
 returns-in_err-ready-in-Act-clause-answer c =
     let p = err_from_is_err_and c.from_residual.result c.from_residual.ensures.1 in
-    rw (p.1, p.2) (error_answer c.args.self.now.limit c.args.by c.args.self.now.entries c.args.ask.now _ c.ready.result _ c.in-Act.is c.in_err-ready-in-Act.was c.ready.ensures.exact)
+    rw (p.1, p.2) (error_answer c.args.self.now c.args.by c.args.ask.now _ c.ready.result _ c.in-Act.is c.in_err-ready-in-Act.was c.ready.ensures.exact)
 
 pub returns-in_err-ready-in-Act-clause-entries : goal.returns-in_err-ready-in-Act-clause-entries
 returns-in_err-ready-in-Act-clause-entries c =
     let p = err_from_is_err_and c.from_residual.result c.from_residual.ensures.1 in
     rw (p.1, p.2) (c.ready.ensures.entries
-    ∙ error_list c.args.self.now.limit c.args.by c.args.self.now.entries c.args.ask.now _ c.ready.result _ c.in-Act.is c.in_err-ready-in-Act.was c.ready.ensures.exact)
+    ∙ error_list c.args.self.now c.args.by c.args.ask.now _ c.ready.result _ c.in-Act.is c.in_err-ready-in-Act.was c.ready.ensures.exact)
 
 pub returns-in-New-clause-answer : goal.returns-in-New-clause-answer
 returns-in-New-clause-answer c =
-    let is = ready_is c.args.self.now.limit c.args.by c.args.self.now.entries c.args.ask.now _ c.ready.result _ c.in-New.ready c.in_ok-ready-in-Act.was c.in-New.is c.ready.ensures.exact in
-    new_answer c.args.self.now.limit c.args.by c.args.self.now.entries c.args.ask.now _ c.in-New.ready c.enter.result c.in-Act.is is.1
-    (rw (c.ready.ensures.limit, c.ready.ensures.entries) at c.enter.ensures.answer)
+    let is = ready_is c.args.self.now c.args.by c.args.ask.now _ c.ready.result _ c.in-New.ready c.in_ok-ready-in-Act.was c.in-New.is c.ready.ensures.exact in
+    let asked = asked_act c.in-New.ready.entry.desk c.in-New.ready.entry.request c.in-New.ready.entry.act in
+    let told : Ok c.enter.result ≡ answer c.ready.new.self.limit c.ready.new.self.entries asked = c.enter.ensures.answer in
+    new_answer c.args.self.now c.args.by c.args.ask.now _ c.in-New.ready c.enter.result c.in-Act.is is.1
+    (told ∙ ap (λ limit. answer limit c.ready.new.self.entries asked) c.ready.ensures.limit
+    ∙ ap (λ (es : List Entry). answer c.args.self.now.limit es asked) c.ready.ensures.entries)
 
 pub returns-in-New-clause-entries : goal.returns-in-New-clause-entries
 returns-in-New-clause-entries c =
-    let is = ready_is c.args.self.now.limit c.args.by c.args.self.now.entries c.args.ask.now _ c.ready.result _ c.in-New.ready c.in_ok-ready-in-Act.was c.in-New.is c.ready.ensures.exact in
-    new_list c.args.self.now.limit c.args.by c.args.self.now.entries c.enter.new.self.entries c.args.ask.now _ c.in-New.ready c.in-Act.is is
+    let is = ready_is c.args.self.now c.args.by c.args.ask.now _ c.ready.result _ c.in-New.ready c.in_ok-ready-in-Act.was c.in-New.is c.ready.ensures.exact in
+    new_list c.args.self.now c.args.by c.enter.new.self.entries c.args.ask.now _ c.in-New.ready c.in-Act.is is
     (rw c.ready.ensures.entries at c.enter.ensures.entries)
 
 pub returns-in-Known-clause-answer : goal.returns-in-Known-clause-answer
 returns-in-Known-clause-answer c =
-    absurd (never_known c.args.self.now.limit c.args.by c.args.self.now.entries c.args.ask.now _ c.ready.result _ c.in-Known.answered c.in_ok-ready-in-Act.was c.in-Known.is c.ready.ensures.exact)
+    known_answer c.args.self.now c.args.ask.now _ c.in-Known.answered c.in-Act.is
+    (known_is c.args.self.now c.args.by c.args.ask.now _ c.ready.result _ c.in-Known.answered c.in_ok-ready-in-Act.was c.in-Known.is c.ready.ensures.exact)
 
 pub returns-in-Known-clause-entries : goal.returns-in-Known-clause-entries
 returns-in-Known-clause-entries c =
-    absurd (never_known c.args.self.now.limit c.args.by c.args.self.now.entries c.args.ask.now _ c.ready.result _ c.in-Known.answered c.in_ok-ready-in-Act.was c.in-Known.is c.ready.ensures.exact)
+    c.ready.ensures.entries
+    ∙ known_list c.args.self.now c.args.by c.args.ask.now _ c.in-Known.answered c.in-Act.is
+    (known_is c.args.self.now c.args.by c.args.ask.now _ c.ready.result _ c.in-Known.answered c.in_ok-ready-in-Act.was c.in-Known.is c.ready.ensures.exact)

@@ -1,35 +1,48 @@
-use Rattle.std.proofs.Common.{List, [], ◌∷◌, ◌++◌, ap, sym, ◌∙◌, subst}
-use Rattle.std.specs.Vec.{vec_capacity}
-use Rattle.book_words.specs.declared.types.Entry.{Entry}
+use Rattle.std.proofs.Common.{[], ◌∷◌, ◌++◌, subst, sym, ◌∙◌, ap}
+use Rattle.book_words.specs.declared.act.Entry.{Entry}
+use Rattle.book_words.specs.Answers.{IsLawful, IsLegal}
+use Rattle.book_words.specs.Balance.{MovesOnly}
+use Rattle.book_words.proofs.LegalLemmas.{legal-push}
+use Rattle.book_laws.proofs.MoveLaws.{moves_only}
 use Rattle.book_core.specs.View.{BookView}
-use Rattle.book_core.specs.Keeping.{IsKept}
-use Rattle.book_words.proofs.MoveLaws.{moves_only}
-use Rattle.book_core.proofs.InvariantLemmas.{kept-push}
-use Rattle.book_core.proofs.SignalLemmas.{has_its_signal}
+use Rattle.book_core.proofs.Kept.{held_is, entered}
 use Rattle.book_core.proofs.book.Book.enter.Goals as goal
 
-pub enter-requires : goal.enter-requires
-enter-requires c =
-    let room = c.self.invariant.1 c.args.ready (ap (λ (v : BookView). v.pending) c.self.view_is ∙ c.requires) in
-    room.room
+pub enter-requires-clause-room : goal.enter-requires-clause-room
+enter-requires-clause-room c =
+    (held_is c.self.inside.state c.self.inside.limit c.self.inside.pending c.in-Some.field-0 c.args.ready c.self.invariant (sym c.take.ensures.value ∙ c.in-Some.is)
+    (ap (λ (b : BookView). b.pending) c.self.view_is ∙ c.requires)).room
+
+pub enter-requires-clause-lawful : goal.enter-requires-clause-lawful
+enter-requires-clause-lawful c =
+    subst (λ (e : Entry). IsLawful c.self.inside.state.entries e) (sym c.entry.ensures)
+    (held_is c.self.inside.state c.self.inside.limit c.self.inside.pending c.in-Some.field-0 c.args.ready c.self.invariant (sym c.take.ensures.value ∙ c.in-Some.is)
+    (ap (λ (b : BookView). b.pending) c.self.view_is ∙ c.requires)).lawful
 
 pub invariant_of-self : goal.invariant_of-self
 invariant_of-self c =
-    let room = c.self.invariant.1 c.args.ready (ap (λ (v : BookView). v.pending) c.self.view_is ∙ c.requires) in
-    let items = c.enter.ensures.items ∙ ap (λ (e : Entry). c.self.inside.entries.items ++ e ∷ []) c.entry-entry.ensures in
-    (subst (λ (es : List Entry). IsKept es c.self.inside.limit) (sym items) (kept-push c.self.inside.entries.items c.self.inside.limit (vec_capacity c.self.inside.entries) c.args.ready c.self.invariant.0 room), λ ready h. absurd (cc))
+    let is = held_is c.self.inside.state c.self.inside.limit c.self.inside.pending c.in-Some.field-0 c.args.ready c.self.invariant (sym c.take.ensures.value ∙ c.in-Some.is)
+    (ap (λ (b : BookView). b.pending) c.self.view_is ∙ c.requires) in
+    entered c.enter.new.self c.self.inside.state.entries c.args.ready.entry c.self.inside.limit c.take.new.self
+    (c.enter.ensures.entries ∙ ap (λ (e : Entry). c.self.inside.state.entries ++ e ∷ []) c.entry.ensures) c.take.ensures.after
+    c.self.invariant.legal is.lawful c.self.invariant.most
+
+pub returns-clause-lawful : goal.returns-clause-lawful
+returns-clause-lawful c =
+    let is = held_is c.self.inside.state c.self.inside.limit c.self.inside.pending c.in-Some.field-0 c.args.ready c.self.invariant (sym c.take.ensures.value ∙ c.in-Some.is)
+    (ap (λ (b : BookView). b.pending) c.self.view_is ∙ c.requires) in
+    subst (λ (b : BookView). IsLawful b.entries c.args.ready.entry) c.self.view_is is.lawful
+
+pub returns-clause-moves : goal.returns-clause-moves
+returns-clause-moves c =
+    let is = held_is c.self.inside.state c.self.inside.limit c.self.inside.pending c.in-Some.field-0 c.args.ready c.self.invariant (sym c.take.ensures.value ∙ c.in-Some.is)
+    (ap (λ (b : BookView). b.pending) c.self.view_is ∙ c.requires) in
+    subst (λ (b : BookView). MovesOnly b.entries c.args.ready.entry) c.self.view_is
+    (moves_only c.self.inside.state.entries c.args.ready.entry c.self.invariant.legal is.lawful)
 
 pub returns-clause-legal : goal.returns-clause-legal
 returns-clause-legal c =
-    let room = c.self.invariant.1 c.args.ready (ap (λ (v : BookView). v.pending) c.self.view_is ∙ c.requires) in
-    let items = c.enter.ensures.items ∙ ap (λ (e : Entry). c.self.inside.entries.items ++ e ∷ []) c.entry-entry.ensures in
-    let kept = subst (λ (es : List Entry). IsKept es c.self.inside.limit) (sym items) (kept-push c.self.inside.entries.items c.self.inside.limit (vec_capacity c.self.inside.entries) c.args.ready c.self.invariant.0 room) in
-    kept.legal
-
-pub returns-clause-judged : goal.returns-clause-judged
-returns-clause-judged c =
-    let room = c.self.invariant.1 c.args.ready (ap (λ (v : BookView). v.pending) c.self.view_is ∙ c.requires) in
-    has_its_signal c.self.inside.entries.items c.args.ready.entry room.lawful
-
-pub returns-clause-moves : goal.returns-clause-moves
-returns-clause-moves c = moves_only c.args.self.now.entries c.args.ready.entry
+    let is = held_is c.self.inside.state c.self.inside.limit c.self.inside.pending c.in-Some.field-0 c.args.ready c.self.invariant (sym c.take.ensures.value ∙ c.in-Some.is)
+    (ap (λ (b : BookView). b.pending) c.self.view_is ∙ c.requires) in
+    subst IsLegal (sym (c.enter.ensures.entries ∙ ap (λ (e : Entry). c.self.inside.state.entries ++ e ∷ []) c.entry.ensures))
+    (legal-push c.self.inside.state.entries c.args.ready.entry c.self.invariant.legal is.lawful)

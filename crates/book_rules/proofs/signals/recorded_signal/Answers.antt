@@ -1,0 +1,18 @@
+use Rattle.std.proofs.Common.{rules, sym, ◌∙◌, ap, ℤ, FitsSigned, w64}
+use Rattle.std.proofs.lemmas.Int.{to_z-of_z}
+use Rattle.book_words.specs.declared.act.Act.TheVariants.{Weigh}
+use Rattle.book_words.specs.Signals.{judged_signal}
+use Rattle.book_rules.proofs.Known.{lane_product}
+use Rattle.book_rules.proofs.Judging.{recorded}
+use Rattle.book_rules.proofs.signals.recorded_signal.Goals as goal
+
+pub judge-requires-clause-known : goal.judge-requires-clause-known
+judge-requires-clause-known c = lane_product c.args.state.now.entries c.in-Weigh.lane c.in_ok-batch.batch c.lane.ensures.legal (sym c.lane.ensures.value ∙ c.in_ok-batch.was)
+
+pub returns : goal.returns
+returns c =
+    let fits : FitsSigned w64 c.in-Weigh.gross = search rules in
+    recorded c.args.state.now.entries c.args.act.now c.in-Weigh.lane c.in-Weigh.gross c.in-Weigh.prior c.in_ok-batch.batch c.judge.result c.in-Weigh.is
+    (sym c.lane.ensures.value ∙ c.in_ok-batch.was)
+    (c.judge.ensures
+    ∙ ap (λ (gross : ℤ). judged_signal c.args.state.now.entries (Weigh c.in-Weigh.lane gross c.in-Weigh.prior) gross c.in_ok-batch.batch) (to_z-of_z w64 c.in-Weigh.gross fits))

@@ -1,0 +1,4 @@
+pub mod Testing
+pub mod Tallies
+pub mod Terms
+pub mod Replying
