@@ -1,21 +1,38 @@
 -- The texts of what the book answers. Each line ends in LF.
-use Rattle.std.specs.Prelude.{ℕ, Bool, List, [], ◌++◌, true, false, codes, decimal, Result, Ok, Err}
+use Rattle.std.specs.Prelude.{ℕ, ℤ, pos, Bool, List, [], ◌∷◌, ◌++◌, ◌==◌, true, false, if◌then◌else◌, codes, decimal, Option, Some, None, Result, Ok, Err}
 use Rattle.hall_units.specs.Grams.{gram_text}
 use Rattle.hall_units.specs.Days.{day_text}
+use Rattle.annex_tables.specs.declared.types.Mode.{Mode}
+use Rattle.annex_tables.specs.declared.types.Mode.TheVariants.{Keep, Destroy}
+use Rattle.pack_judge.specs.declared.types.Class.{Class}
+use Rattle.pack_judge.specs.declared.types.Class.TheVariants as classes
 use Rattle.pack_judge.specs.declared.types.Signal.{Signal}
 use Rattle.pack_judge.specs.declared.types.Signal.TheVariants.{Pass, Reject}
 use Rattle.pack_judge.specs.declared.types.Cause.{Cause}
 use Rattle.pack_judge.specs.declared.types.Cause.TheVariants.{Held, Full, Inadequate, Allowance}
+use Rattle.pack_judge.specs.declared.types.Pile.{Pile}
+use Rattle.pack_judge.specs.declared.types.Pile.TheVariants.{Passed, Rejected, Sampled, Voided}
 use Rattle.pack_judge.specs.declared.types.Tally.{Tally}
-use Rattle.book_words.specs.declared.types.BatchState as states
-use Rattle.book_words.specs.declared.types.BatchState.TheVariants.{Running, Ended, Drawn, Closed}
-use Rattle.book_words.specs.declared.types.SummaryView.{SummaryView}
-use Rattle.book_words.specs.declared.types.Reply.{Reply}
-use Rattle.book_words.specs.declared.types.Reply.TheVariants.{Done, Judged, SummaryIs}
-use Rattle.book_words.specs.declared.types.Answered.{Answered}
-use Rattle.book_words.specs.declared.types.Refused.{Refused}
+use Rattle.book_words.specs.declared.name.Name.{Name}
+use Rattle.book_words.specs.declared.act.Unit as units
+use Rattle.book_words.specs.declared.act.Unit.TheVariants.{Mass, Volume}
+use Rattle.book_words.specs.declared.act.BatchState as states
+use Rattle.book_words.specs.declared.act.BatchState.TheVariants.{Running, Ended, Drawn, Closed}
+use Rattle.book_words.specs.declared.views.Fails.{Fails}
+use Rattle.book_words.specs.declared.views.Verdict.{Verdict}
+use Rattle.book_words.specs.declared.views.Verdict.TheVariants.{Empty, Released, Withheld}
+use Rattle.book_words.specs.declared.views.TestView.{TestView}
+use Rattle.book_words.specs.declared.views.Sheet.{Sheet}
+use Rattle.book_words.specs.declared.views.PackView.{PackView}
+use Rattle.book_words.specs.declared.views.LaneView.{LaneView}
+use Rattle.book_words.specs.declared.views.SampleView.{SampleView}
+use Rattle.book_words.specs.declared.views.SummaryView.{SummaryView}
+use Rattle.book_words.specs.declared.reply.Reply.{Reply}
+use Rattle.book_words.specs.declared.reply.Reply.TheVariants as reply
+use Rattle.book_words.specs.declared.reply.Answered.{Answered}
+use Rattle.book_words.specs.declared.reply.Refused.{Refused}
 use Rattle.book_words.specs.declared.refusal.Refusal.{Refusal}
-use Rattle.book_words.specs.declared.refusal.Refusal.TheVariants.{BookFull, DayBack, BatchState, LaneBusy, NoTare, PriorWrong}
+use Rattle.book_words.specs.declared.refusal.Refusal.TheVariants as why
 use Rattle.book_words.specs.Names.{bytes_of}
 use Rattle.book_words.specs.Numbers.{refusal_number, refusal_name}
 
@@ -31,6 +48,31 @@ abbrev pub signal_text : Signal → List ℕ
 signal_text Pass = codes "pass"
 signal_text (Reject cause) = codes "reject " ++ cause_text cause
 
+-- the word for a class
+abbrev pub class_text : Class → List ℕ
+class_text classes.Standard = codes "standard"
+class_text classes.NonStandard = codes "nonstandard"
+class_text classes.Inadequate = codes "inadequate"
+
+-- the word for a pile
+abbrev pub pile_text : Pile → List ℕ
+pile_text Passed = codes "passed"
+pile_text Rejected = codes "rejected"
+pile_text Sampled = codes "sampled"
+pile_text Voided = codes "voided"
+
+-- the word for a state
+abbrev pub state_text : states.BatchState → List ℕ
+state_text Running = codes "running"
+state_text Ended = codes "ended"
+state_text Drawn = codes "drawn"
+state_text Closed = codes "closed"
+
+-- the word for a mode
+abbrev pub mode_text : Mode → List ℕ
+mode_text Keep = codes "keep"
+mode_text Destroy = codes "destroy"
+
 -- the row of an accepted act
 abbrev pub done_line : ℕ → List ℕ
 done_line row = decimal row ++ codes " ok\n"
@@ -39,10 +81,38 @@ done_line row = decimal row ++ codes " ok\n"
 abbrev pub judged_line : ℕ → Signal → List ℕ
 judged_line row signal = decimal row ++ codes " " ++ signal_text signal ++ codes "\n"
 
+-- some words, where a part of the test fails
+abbrev pub part_text : Bool → List ℕ → List ℕ
+part_text fails words = if fails then words else []
+
+-- the words for the parts that fail, each behind a blank
+abbrev pub fails_text : Fails → List ℕ
+fails_text fails =
+    part_text fails.contents (codes " contents") ++ part_text fails.mean (codes " mean")
+    ++ part_text fails.average (codes " average") ++ part_text fails.allowance (codes " allowance")
+    ++ part_text fails.inadequate (codes " inadequate")
+
+-- the words for a verdict
+abbrev pub verdict_text : Verdict → List ℕ
+verdict_text Empty = codes "empty"
+verdict_text Released = codes "released"
+verdict_text (Withheld fails) = codes "withheld" ++ fails_text fails
+
+-- the row of an accepted closing, and the verdict
+abbrev pub closed_line : ℕ → Verdict → List ℕ
+closed_line row verdict = decimal row ++ codes " " ++ verdict_text verdict ++ codes "\n"
+
 -- how many readings there are, and the sum of their grosses in grams
 abbrev pub tally_line : List ℕ → Tally → List ℕ
 tally_line label tally =
     label ++ decimal tally.count ++ codes " gross " ++ gram_text tally.gross ++ codes "\n"
+
+-- all readings, and those of the four piles, in five lines
+abbrev pub tally_lines : Tally → Tally → Tally → Tally → Tally → List ℕ
+tally_lines readings passed rejected sampled voided =
+    tally_line (codes "readings ") readings ++ tally_line (codes "passed ") passed
+    ++ tally_line (codes "rejected ") rejected ++ tally_line (codes "sampled ") sampled
+    ++ tally_line (codes "voided ") voided
 
 -- how many batches are in each state
 abbrev pub batches_line : SummaryView → List ℕ
@@ -55,40 +125,171 @@ batches_line view =
 unfoldable pub summary_text : SummaryView → List ℕ
 summary_text view =
     codes "rows " ++ decimal view.rows ++ codes "\n"
-    ++ tally_line (codes "readings ") view.readings ++ tally_line (codes "passed ") view.passed
-    ++ tally_line (codes "rejected ") view.rejected ++ tally_line (codes "sampled ") view.sampled
-    ++ tally_line (codes "voided ") view.voided ++ batches_line view
+    ++ tally_lines view.readings view.passed view.rejected view.sampled view.voided
+    ++ batches_line view
+
+-- what stands behind a quantity: nothing by mass, in grams, and `ml` by volume, in millilitres
+abbrev pub unit_text : units.Unit → List ℕ
+unit_text Mass = []
+unit_text Volume = codes " ml"
+
+-- a quantity of goods with its unit
+abbrev pub quantity_text : ℤ → units.Unit → List ℕ
+quantity_text quantity unit = gram_text quantity ++ unit_text unit
+
+-- the density of goods by volume, in grams a litre
+abbrev pub density_text : units.Unit → ℕ → List ℕ
+density_text Mass density = []
+density_text Volume density = codes " density " ++ gram_text (pos density)
+
+-- a batch, its product, the nominal quantity, its tolerable error and, by volume, the density
+abbrev pub goods_line : Sheet → List ℕ
+goods_line sheet =
+    codes "batch " ++ bytes_of sheet.batch ++ codes " product " ++ bytes_of sheet.product
+    ++ codes " nominal " ++ quantity_text sheet.nominal sheet.unit
+    ++ codes " tne " ++ quantity_text sheet.tne sheet.unit
+    ++ density_text sheet.unit sheet.density ++ codes "\n"
+
+-- the state of a batch
+abbrev pub state_line : states.BatchState → List ℕ
+state_line state = codes "state " ++ state_text state ++ codes "\n"
+
+-- the packs of the population of a batch, their nets in grams, and how many fall short
+abbrev pub population_line : Sheet → List ℕ
+population_line sheet =
+    codes "population " ++ decimal sheet.population ++ codes " net " ++ gram_text sheet.net
+    ++ codes " nonstandard " ++ decimal sheet.nonstandard
+    ++ codes " inadequate " ++ decimal sheet.inadequate ++ codes "\n"
+
+-- whether a batch is held
+abbrev pub held_line : Bool → List ℕ
+held_line true = codes "held yes\n"
+held_line false = codes "held no\n"
+
+-- how many packs of a sample were drawn, measured and found defective
+abbrev pub counts_line : List ℕ → ℕ → ℕ → ℕ → List ℕ
+counts_line label drawn measured defective =
+    label ++ decimal drawn ++ codes " measured " ++ decimal measured
+    ++ codes " defective " ++ decimal defective ++ codes "\n"
+
+-- the mode of a test, and its first sample
+abbrev pub first_line : TestView → List ℕ
+first_line test =
+    codes "test " ++ mode_text test.mode
+    ++ counts_line (codes " first ") test.first test.measured1 test.d1
+
+-- the second sample, where one was drawn; no drawn one is empty
+abbrev pub second_line : TestView → List ℕ
+second_line test =
+    if test.second == 0 then [] else
+    counts_line (codes "second ") test.second test.measured2 test.d2
+
+-- the lines of a test, once a sample was drawn
+abbrev pub test_lines : Option TestView → List ℕ
+test_lines None = []
+test_lines (Some test) = first_line test ++ second_line test
+
+-- the line of a verdict, once the batch is closed
+abbrev pub verdict_line : Option Verdict → List ℕ
+verdict_line None = []
+verdict_line (Some verdict) = codes "verdict " ++ verdict_text verdict ++ codes "\n"
+
+-- what stands of a batch
+unfoldable pub sheet_text : Sheet → List ℕ
+sheet_text sheet =
+    goods_line sheet ++ state_line sheet.state
+    ++ tally_lines sheet.readings sheet.passed sheet.rejected sheet.sampled sheet.voided
+    ++ population_line sheet ++ held_line sheet.held
+    ++ test_lines sheet.test ++ verdict_line sheet.verdict
+
+-- what a pack weighs, and what it was weighed for
+abbrev pub masses_text : PackView → List ℕ
+masses_text view =
+    codes "pack " ++ decimal view.pack ++ codes " batch " ++ bytes_of view.batch
+    ++ codes " lane " ++ decimal view.lane ++ codes " gross " ++ gram_text view.gross
+    ++ codes " net " ++ gram_text view.net
+
+-- what a pack is found to be: its class, its signal and its pile
+abbrev pub found_text : PackView → List ℕ
+found_text view =
+    codes " " ++ class_text view.class ++ codes " " ++ signal_text view.signal
+    ++ codes " " ++ pile_text view.pile
+
+-- what stands of a pack
+unfoldable pub pack_text : PackView → List ℕ
+pack_text view = masses_text view ++ found_text view ++ codes "\n"
+
+-- the unsettled pack of a lane, or that it has none
+abbrev pub unsettled_text : Option ℕ → List ℕ
+unsettled_text None = codes " settled"
+unsettled_text (Some pack) = codes " unsettled " ++ decimal pack
+
+-- what a lane weighs, or that it is idle
+abbrev pub use_text : Option Name → Option ℕ → List ℕ
+use_text None unsettled = codes " idle"
+use_text (Some batch) unsettled = codes " batch " ++ bytes_of batch ++ unsettled_text unsettled
+
+-- what a lane does
+unfoldable pub lane_text : LaneView → List ℕ
+lane_text view =
+    codes "lane " ++ decimal view.lane ++ use_text view.batch view.unsettled ++ codes "\n"
+
+-- some packs, each behind a blank
+abbrev pub packs_text : List ℕ → List ℕ
+packs_text [] = []
+packs_text (pack ∷ packs) = codes " " ++ decimal pack ++ packs_text packs
+
+-- the packs of a second sample, where one was drawn; no drawn one is empty
+abbrev pub second_text : List ℕ → List ℕ
+second_text [] = []
+second_text (pack ∷ packs) = codes " second" ++ packs_text (pack ∷ packs)
+
+-- the packs of a batch's samples in drawing order
+unfoldable pub sample_text : SampleView → List ℕ
+sample_text view =
+    codes "sample " ++ bytes_of view.batch ++ codes " first" ++ packs_text view.first
+    ++ second_text view.second ++ codes "\n"
 
 -- what is told where nothing stands against it
 abbrev pub reply_text : Reply → List ℕ
-reply_text (Done row) = done_line row
-reply_text (Judged row signal) = judged_line row signal
-reply_text (SummaryIs view) = summary_text view
+reply_text (reply.Done row) = done_line row
+reply_text (reply.Judged row signal) = judged_line row signal
+reply_text (reply.Closed row verdict) = closed_line row verdict
+reply_text (reply.SheetIs sheet) = sheet_text sheet
+reply_text (reply.PackIs view) = pack_text view
+reply_text (reply.LaneIs view) = lane_text view
+reply_text (reply.SampleIs view) = sample_text view
+reply_text (reply.SummaryIs view) = summary_text view
 
 -- the text of an answer
 abbrev pub answer_text : Answered → List ℕ
 answer_text answered = reply_text answered.reply
-
--- the word for a state
-abbrev pub state_text : states.BatchState → List ℕ
-state_text Running = codes "running"
-state_text Ended = codes "ended"
-state_text Drawn = codes "drawn"
-state_text Closed = codes "closed"
 
 -- whether a lane's act has to say what the gate did, or must not
 abbrev pub wanted_text : Bool → List ℕ
 wanted_text true = codes "wanted"
 wanted_text false = codes "unwanted"
 
--- what a refusal keeps, after a blank; most keep nothing
+-- what a refusal keeps, after a blank; the others keep nothing
 abbrev pub kept_text : Refusal → List ℕ
-kept_text (BookFull limit) = codes " " ++ decimal limit
-kept_text (DayBack last) = codes " " ++ day_text last
-kept_text (BatchState state) = codes " " ++ state_text state
-kept_text (LaneBusy batch) = codes " " ++ bytes_of batch
-kept_text (NoTare product) = codes " " ++ bytes_of product
-kept_text (PriorWrong wanted) = codes " " ++ wanted_text wanted
+kept_text (why.RequestOld last) = codes " " ++ decimal last
+kept_text (why.RequestReused row) = codes " " ++ decimal row
+kept_text (why.RequestGap last) = codes " " ++ decimal last
+kept_text (why.BookFull limit) = codes " " ++ decimal limit
+kept_text (why.DayBack last) = codes " " ++ day_text last
+kept_text (why.BatchState state) = codes " " ++ state_text state
+kept_text (why.LaneBusy batch) = codes " " ++ bytes_of batch
+kept_text (why.NoTare product) = codes " " ++ bytes_of product
+kept_text (why.PriorWrong wanted) = codes " " ++ wanted_text wanted
+kept_text (why.LanesRunning lane) = codes " " ++ decimal lane
+kept_text (why.PackPile pile) = codes " " ++ pile_text pile
+kept_text (why.Unsettled lane) = codes " " ++ decimal lane
+kept_text (why.ModeSmall n) = codes " " ++ decimal n
+kept_text (why.MeasuredAlready value) = codes " " ++ gram_text value
+kept_text (why.SecondNotNeeded d1) = codes " " ++ decimal d1
+kept_text (why.Unmeasured pack) = codes " " ++ decimal pack
+kept_text (why.SecondNeeded d1) = codes " " ++ decimal d1
+kept_text (why.TareFrozen batch) = codes " " ++ bytes_of batch
 kept_text _ = []
 
 -- the text of a refusal: its number, its name and what it keeps, and the length of the list

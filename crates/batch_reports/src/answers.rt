@@ -1,21 +1,24 @@
-ghost use Rattle.std.specs.Prelude.{◌≡◌, ◌≤◌, ◌++◌, codes, decimal, length};
 ghost use Rattle.book_words.specs.Ranges.{IsReplyInRange};
 ghost use Rattle.book_words.specs.Soundness.{IsAnswer};
 ghost use Rattle.hall_units.specs.Printing.{Prints};
 ghost use Rattle.batch_reports.specs.Appending.{HasRoom, Appended};
-ghost use Rattle.batch_reports.specs.Texts.{answer_text, reply_text, done_line, judged_line, signal_text};
+ghost use Rattle.batch_reports.specs.Texts.{answer_text, reply_text, done_line, judged_line, closed_line};
 
-use crate::append::{append, append_count};
+use crate::append::{append, append_count, append_word};
+use crate::lanes::push_lane;
+use crate::packs::push_pack;
+use crate::samples::push_sample;
+use crate::sheets::push_sheet;
 use crate::summaries::push_summary;
-use book_words::{Answered, Reply};
+use crate::verdicts::push_verdict;
+use crate::words::signal_words;
+use book_words::{Answered, Reply, Verdict};
 use hall_units::{NoMemory, make_room};
-use pack_judge::{Cause, Signal};
+use pack_judge::Signal;
 
-/// No text of an answer or of a refusal has more bytes.
+/// No text of an answer or of a refusal has more bytes. The longest is that of the samples: 160
+/// packs in 20 digits and a blank each, and a name of 32 bytes, which is 3 413 bytes.
 pub const TEXT_ROOM: usize = 4_096;
-
-/// The most bytes of the words for a signal.
-const MAX_SIGNAL: usize = 17;
 
 /// Appends the text of an answer. With room for `TEXT_ROOM` bytes it takes no memory; where memory
 /// is refused nothing is appended.
@@ -37,11 +40,16 @@ fn push_reply(to: &mut Vec<u8>, reply: &Reply)
     match reply {
         Reply::Done { row } => push_done(to, *row),
         Reply::Judged { row, signal } => push_judged(to, *row, *signal),
+        Reply::Closed { row, verdict } => push_closed(to, *row, verdict),
+        Reply::SheetIs(sheet) => push_sheet(to, sheet),
+        Reply::PackIs(view) => push_pack(to, view),
+        Reply::LaneIs(view) => push_lane(to, view),
+        Reply::SampleIs(view) => push_sample(to, view),
         Reply::SummaryIs(view) => push_summary(to, view),
     }
 }
 
-// Appends the line of an accepted act that is no weighing.
+// Appends the line of an accepted act that is neither a weighing nor a closing.
 fn push_done(to: &mut Vec<u8>, row: u32)
     requires { HasRoom to.old TEXT_ROOM }
     ensures { Appended to.old to.new (done_line row) TEXT_ROOM }
@@ -56,21 +64,17 @@ fn push_judged(to: &mut Vec<u8>, row: u32, signal: Signal)
     ensures { Appended to.old to.new (judged_line row signal) TEXT_ROOM }
 {
     append_count(to, row);
-    append(to, b" ");
-    append(to, signal_words(signal));
+    append_word(to, signal_words(signal));
     append(to, b"\n");
 }
 
-// The words for a signal.
-fn signal_words(signal: Signal) -> &'static [u8]
-    ensures text { result.now ≡ signal_text signal }
-    ensures short { length result.now ≤ MAX_SIGNAL }
+// Appends the line of an accepted closing.
+fn push_closed(to: &mut Vec<u8>, row: u32, verdict: &Verdict)
+    requires { HasRoom to.old TEXT_ROOM }
+    ensures { Appended to.old to.new (closed_line row verdict.now) TEXT_ROOM }
 {
-    match signal {
-        Signal::Pass => b"pass",
-        Signal::Reject(Cause::Held) => b"reject held",
-        Signal::Reject(Cause::Full) => b"reject full",
-        Signal::Reject(Cause::Inadequate) => b"reject inadequate",
-        Signal::Reject(Cause::Allowance) => b"reject allowance",
-    }
+    append_count(to, row);
+    append(to, b" ");
+    push_verdict(to, verdict);
+    append(to, b"\n");
 }

@@ -4,8 +4,15 @@
 
 mod answers;
 mod append;
+mod lanes;
+mod packs;
 mod refusals;
+mod samples;
+mod sheets;
 mod summaries;
+mod tallies;
+mod verdicts;
+mod words;
 
 pub use answers::{TEXT_ROOM, answer_text};
 pub use refusals::refusal_text;

@@ -1,25 +1,27 @@
-ghost use Rattle.std.specs.Prelude.{◌≡◌, ◌≤◌, ◌++◌, codes, decimal, if◌then◌else◌, length};
-ghost use Rattle.book_words.specs.Names.{bytes_of};
-ghost use Rattle.book_words.specs.Ranges.{IsRefusalInRange};
-ghost use Rattle.book_words.specs.Soundness.{IsRefusal};
+ghost use Rattle.std.specs.Prelude.{pos, ◌≡◌, ◌≤◌, ◌++◌, codes, decimal, length};
 ghost use Rattle.hall_units.specs.Days.{IsDay, day_text};
+ghost use Rattle.hall_units.specs.Grams.{gram_text};
 ghost use Rattle.hall_units.specs.Printing.{Prints};
+ghost use Rattle.book_words.specs.Names.{bytes_of};
+ghost use Rattle.book_words.specs.Ranges.{IsBetween, IsRefusalInRange};
+ghost use Rattle.book_words.specs.Soundness.{IsRefusal};
 ghost use Rattle.batch_reports.specs.Appending.{HasRoom, Appended};
-ghost use Rattle.batch_reports.specs.Texts.{refusal_text, kept_text, state_text, wanted_text};
+ghost use Rattle.batch_reports.specs.Texts.{refusal_text, kept_text, wanted_text};
 
 use crate::answers::TEXT_ROOM;
-use crate::append::{append, append_count, append_day};
-use book_words::{BatchState, Name, Refusal, Refused};
-use hall_limits::NAME_BYTES;
-use hall_units::{NoMemory, make_room};
+use crate::append::{append, append_count, append_day, append_grams, append_word};
+use crate::words::{MAX_WORDS, pile_word, state_word};
+use book_words::{Name, Refusal, Refused};
+use hall_limits::MAX_GROSS;
+use hall_units::{MAX_GRAM_TEXT, NoMemory, make_room};
 
-/// The most bytes of what a refusal keeps: a blank and a name.
-const MAX_KEPT: usize = 1 + NAME_BYTES;
+/// The most bytes of what a refusal keeps: a blank and a mass. A name is shorter.
+const MAX_KEPT: usize = 1 + MAX_GRAM_TEXT;
 
 /// Appends the text of a refusal: its number, its name and what it keeps, and the length of the
 /// list. With room for `TEXT_ROOM` bytes it takes no memory; where memory is refused nothing is
 /// appended.
-#[tactic(auto, using(book_words::proofs::RangeLemmas::refusal_told_in_range))]
+#[tactic(auto, using(book_laws::proofs::RangeLaws::refusal_told_in_range))]
 pub fn refusal_text(refused: &Refused, to: &mut Vec<u8>) -> Result<(), NoMemory>
     requires { IsRefusal refused.now }
     ensures { Prints to.old to.new result (refusal_text refused.now) TEXT_ROOM }
@@ -46,30 +48,42 @@ fn push_refused(to: &mut Vec<u8>, refused: &Refused)
     append(to, b"\n");
 }
 
-// Appends what a refusal keeps, after a blank; most keep nothing.
+// Appends what a refusal keeps, after a blank; the others keep nothing.
 fn push_kept(to: &mut Vec<u8>, refusal: &Refusal)
     requires room { HasRoom to.old MAX_KEPT }
     requires range { IsRefusalInRange refusal.now }
     ensures { Appended to.old to.new (kept_text refusal.now) MAX_KEPT }
 {
     match refusal {
-        Refusal::BookFull { limit } => push_limit(to, *limit),
+        Refusal::RequestOld { last } => push_count(to, *last),
+        Refusal::RequestReused { row } => push_count(to, *row),
+        Refusal::RequestGap { last } => push_count(to, *last),
+        Refusal::BookFull { limit } => push_count(to, *limit),
         Refusal::DayBack { last } => push_day(to, *last),
         Refusal::BatchState { state } => push_word(to, state_word(*state)),
         Refusal::LaneBusy { batch } => push_name(to, batch),
         Refusal::NoTare { product } => push_name(to, product),
         Refusal::PriorWrong { wanted } => push_word(to, wanted_word(*wanted)),
+        Refusal::LanesRunning { lane } => push_count(to, u32::from(*lane)),
+        Refusal::PackPile { pile } => push_word(to, pile_word(*pile)),
+        Refusal::Unsettled { lane } => push_count(to, u32::from(*lane)),
+        Refusal::ModeSmall { n } => push_count(to, *n),
+        Refusal::MeasuredAlready { value } => push_gross(to, *value),
+        Refusal::SecondNotNeeded { d1 } => push_count(to, *d1),
+        Refusal::Unmeasured { pack } => push_count(to, *pack),
+        Refusal::SecondNeeded { d1 } => push_count(to, *d1),
+        Refusal::TareFrozen { batch } => push_name(to, batch),
         _ => (),
     }
 }
 
-// Appends a blank and a number.
-fn push_limit(to: &mut Vec<u8>, limit: u32)
+// Appends a blank and a count.
+fn push_count(to: &mut Vec<u8>, count: u32)
     requires { HasRoom to.old MAX_KEPT }
-    ensures { Appended to.old to.new (codes " " ++ decimal limit) MAX_KEPT }
+    ensures { Appended to.old to.new (codes " " ++ decimal count) MAX_KEPT }
 {
     append(to, b" ");
-    append_count(to, limit);
+    append_count(to, count);
 }
 
 // Appends a blank and a day.
@@ -82,41 +96,37 @@ fn push_day(to: &mut Vec<u8>, day: i32)
     append_day(to, day);
 }
 
+// Appends a blank and a gross in grams.
+fn push_gross(to: &mut Vec<u8>, gross: i64)
+    requires room { HasRoom to.old MAX_KEPT }
+    requires range { IsBetween (pos 0) MAX_GROSS gross }
+    ensures { Appended to.old to.new (codes " " ++ gram_text gross) MAX_KEPT }
+{
+    append(to, b" ");
+    append_grams(to, gross);
+}
+
 // Appends a blank and a name.
 fn push_name(to: &mut Vec<u8>, name: &Name)
     requires { HasRoom to.old MAX_KEPT }
     ensures { Appended to.old to.new (codes " " ++ bytes_of name.now) MAX_KEPT }
 {
-    push_word(to, name.as_bytes());
+    append_word(to, name.as_bytes());
 }
 
-// Appends a blank and a word of at most 32 bytes.
+// Appends a blank and a word.
 fn push_word(to: &mut Vec<u8>, word: &[u8])
     requires room { HasRoom to.old MAX_KEPT }
-    requires short { length word.now ≤ NAME_BYTES }
+    requires short { length word.now ≤ MAX_WORDS }
     ensures { Appended to.old to.new (codes " " ++ word.now) MAX_KEPT }
 {
-    append(to, b" ");
-    append(to, word);
-}
-
-// The word for the state of a batch.
-fn state_word(state: BatchState) -> &'static [u8]
-    ensures text { result.now ≡ state_text state }
-    ensures short { length result.now ≤ NAME_BYTES }
-{
-    match state {
-        BatchState::Running => b"running",
-        BatchState::Ended => b"ended",
-        BatchState::Drawn => b"drawn",
-        BatchState::Closed => b"closed",
-    }
+    append_word(to, word);
 }
 
 // Whether the lane's act has to say what the gate did, or must not.
 fn wanted_word(wanted: bool) -> &'static [u8]
     ensures text { result.now ≡ wanted_text wanted }
-    ensures short { length result.now ≤ NAME_BYTES }
+    ensures short { length result.now ≤ MAX_WORDS }
 {
     if wanted { b"wanted" } else { b"unwanted" }
 }

@@ -3,7 +3,7 @@
 
 ghost use Rattle.std.specs.Prelude.{◌≡◌, ◌↔◌, false, List};
 ghost use Rattle.std.specs.Process.{exit_status};
-ghost use Rattle.book_words.specs.declared.types.Entry.{Entry};
+ghost use Rattle.book_words.specs.declared.act.Entry.{Entry};
 ghost use Rattle.hall_top.specs.Words.{asks_to_run};
 ghost use Rattle.hall_top.specs.Transcript.{new_book};
 ghost use Rattle.hall_top.specs.Run.{call, IsExplained};

@@ -19,13 +19,14 @@ pub const SETUP: [Exchange; 5] = [
     ("start 1 A", "5 ok"),
 ];
 
-/// A day of the hall: commands with their answers, the tallies and running batches of the summary
-/// that comes at the end, and how many rows are left.
+/// A day of the hall: commands with their answers, the tallies and the numbers of batches of the
+/// summary that comes at the end, and how many rows are left.
 pub struct Day {
     pub exchanges: &'static [Exchange],
-    pub passed: Tally,
-    pub rejected: Tally,
-    pub running: u32,
+    /// Of the passed, rejected, sampled and voided packs.
+    pub piles: [Tally; 4],
+    /// Batches that run, are ended, drawn and closed.
+    pub batches: [u32; 4],
     pub rows: usize,
 }
 
@@ -52,30 +53,38 @@ fn tally_line(alloc: Global, label: &str, tally: Tally) -> Result<String, AllocE
     format!(in alloc; "{label} {count} gross {grams}.{milligrams:03}\n")
 }
 
-/// The summary of a book without ended batches.
+// How many there are in all piles, and how much they weigh.
+fn sum_of(piles: [Tally; 4]) -> Tally {
+    let mut sum: Tally = (0, 0);
+    for (count, gross) in piles {
+        sum = (sum.0.saturating_add(count), sum.1.saturating_add(gross));
+    }
+    sum
+}
+
+/// The summary of a book.
 pub fn summary_of(
     alloc: Global,
     rows: usize,
-    passed: Tally,
-    rejected: Tally,
-    running: u32,
+    piles: [Tally; 4],
+    batches: [u32; 4],
 ) -> Result<String, AllocError> {
-    let readings = (
-        passed.0.saturating_add(rejected.0),
-        passed.1.saturating_add(rejected.1),
-    );
+    let [passed, rejected, sampled, voided] = piles;
+    let [running, ended, drawn, closed] = batches;
     let mut text = format!(in alloc; "rows {rows}\n")?;
     for (label, tally) in [
-        ("readings", readings),
+        ("readings", sum_of(piles)),
         ("passed", passed),
         ("rejected", rejected),
-        ("sampled", (0, 0)),
-        ("voided", (0, 0)),
+        ("sampled", sampled),
+        ("voided", voided),
     ] {
         text.push_str(tally_line(alloc, label, tally)?.as_str())?;
     }
-    let batches = format!(in alloc; "batches running {running} ended 0 drawn 0 closed 0\n")?;
-    text.push_str(batches.as_str())?;
+    let states = format!(in alloc;
+        "batches running {running} ended {ended} drawn {drawn} closed {closed}\n"
+    )?;
+    text.push_str(states.as_str())?;
     Ok(text)
 }
 
@@ -84,27 +93,65 @@ fn push_line(to: &mut String, line: &str) -> Result<(), AllocError> {
     to.push('\n')
 }
 
-/// Plays the exchanges of a beginning and of a day, and compares what the program prints and
-/// leaves.
+/// A script, and what it is to print.
+#[derive(Drop)]
+pub struct Play {
+    script: String,
+    wanted: String,
+}
+
+impl Play {
+    /// Nothing is said yet.
+    pub fn new(alloc: Global) -> Play {
+        Play {
+            script: String::new(alloc),
+            wanted: String::new(alloc),
+        }
+    }
+
+    /// A command, and its answer.
+    pub fn say(&mut self, command: &str, answer: &str) -> Result<(), AllocError> {
+        push_line(&mut self.script, command)?;
+        push_line(&mut self.wanted, answer)
+    }
+
+    /// Commands with their answers.
+    pub fn say_all(&mut self, exchanges: &[Exchange]) -> Result<(), AllocError> {
+        for (command, answer) in exchanges {
+            self.say(command, answer)?;
+        }
+        Ok(())
+    }
+
+    /// A command whose answer is that it has this row.
+    pub fn say_row(&mut self, alloc: Global, command: &str, row: u32) -> Result<(), AllocError> {
+        let answer = format!(in alloc; "{row} ok")?;
+        self.say(command, answer.as_str())
+    }
+
+    /// The commands of a day; then it compares what the program prints and leaves.
+    pub fn check(mut self, rt: &impl Abort, alloc: Global, day: &Day) -> Result<(), AllocError> {
+        self.say_all(day.exchanges)?;
+        let summary = summary_of(alloc, day.rows, day.piles, day.batches)?;
+        self.wanted.push_str(summary.as_str())?;
+        let mut sink = MemorySink::new(alloc, Vec::new(alloc));
+        let told = run_script(alloc, self.script.as_bytes(), &mut sink)?;
+        let printed = String::from_utf8_lossy(alloc, sink.bytes())?;
+        assert_eq!(rt; printed.as_str(), self.wanted.as_str());
+        assert_eq!(rt; told.status, 0);
+        assert_eq!(rt; told.rows.as_slice().len(), day.rows);
+        Ok(())
+    }
+}
+
+/// Plays the exchanges of a beginning and of a day.
 pub fn check_day(
     rt: &impl Abort,
     alloc: Global,
     begin: &[Exchange],
     day: &Day,
 ) -> Result<(), AllocError> {
-    let mut script = String::new(alloc);
-    let mut wanted = String::new(alloc);
-    for (command, answer) in begin.iter().chain(day.exchanges) {
-        push_line(&mut script, command)?;
-        push_line(&mut wanted, answer)?;
-    }
-    let summary = summary_of(alloc, day.rows, day.passed, day.rejected, day.running)?;
-    wanted.push_str(summary.as_str())?;
-    let mut sink = MemorySink::new(alloc, Vec::new(alloc));
-    let told = run_script(alloc, script.as_bytes(), &mut sink)?;
-    let printed = String::from_utf8_lossy(alloc, sink.bytes())?;
-    assert_eq!(rt; printed.as_str(), wanted.as_str());
-    assert_eq!(rt; told.status, 0);
-    assert_eq!(rt; told.rows.as_slice().len(), day.rows);
-    Ok(())
+    let mut play = Play::new(alloc);
+    play.say_all(begin)?;
+    play.check(rt, alloc, day)
 }

@@ -18,9 +18,8 @@ const LANES: [Day; 3] = [
             ("weigh 2 241.999", "12 reject inadequate"),
             ("stop 2", "13 ok"),
         ],
-        passed: (3, 752_999),
-        rejected: (2, 492_998),
-        running: 1,
+        piles: [(3, 752_999), (2, 492_998), (0, 0), (0, 0)],
+        batches: [1, 0, 0, 0],
         rows: 13,
     },
     // a lane stopped and started for another batch, whose limits of the gross are 505.000 g and
@@ -46,9 +45,8 @@ const LANES: [Day; 3] = [
             ("weigh 1 250.999", "19 reject allowance"),
             ("weigh 1 251.000", "20 pass"),
         ],
-        passed: (4, 1_496_999),
-        rejected: (4, 1_496_996),
-        running: 2,
+        piles: [(4, 1_496_999), (4, 1_496_996), (0, 0), (0, 0)],
+        batches: [2, 0, 0, 0],
         rows: 20,
     },
     // lanes are numbered from 1 to 16
@@ -78,9 +76,8 @@ const LANES: [Day; 3] = [
             ("stop 0", "refused 16 LaneNumber at 22"),
             ("start 16 A", "23 ok"),
         ],
-        passed: (1, 251_000),
-        rejected: (0, 0),
-        running: 1,
+        piles: [(1, 251_000), (0, 0), (0, 0), (0, 0)],
+        batches: [1, 0, 0, 0],
         rows: 23,
     },
 ];
@@ -88,6 +85,66 @@ const LANES: [Day; 3] = [
 #[test]
 fn lanes_and_their_batches(rt: HostRuntime) -> Result<(), Fail> {
     for day in &LANES {
+        check_day(&rt, rt.alloc(), &SETUP, day)?;
+    }
+    Ok(())
+}
+
+// What a line says of the gate: the pack before is passed, rejected or voided by it.
+const SAID: [Day; 2] = [
+    Day {
+        exchanges: &[
+            (
+                "weigh 1 251.000 opened",
+                "refused 21 PriorWrong unwanted at 5",
+            ),
+            ("weigh 1 260.000 none", "6 pass"),
+            ("weigh 1 260.000 none", "refused 21 PriorWrong wanted at 6"),
+            ("weigh 1 261.000 stayed", "7 pass"),
+            (
+                "pack 6",
+                "pack 6 batch A lane 1 gross 260.000 net 250.000 standard pass rejected",
+            ),
+            ("weigh 1 262.000 unknown", "8 pass"),
+            (
+                "pack 7",
+                "pack 7 batch A lane 1 gross 261.000 net 251.000 standard pass voided",
+            ),
+            ("weigh 1 263.000 opened", "9 pass"),
+            (
+                "pack 8",
+                "pack 8 batch A lane 1 gross 262.000 net 252.000 standard pass passed",
+            ),
+            ("stop 1 none", "refused 21 PriorWrong wanted at 9"),
+            // the number of the lane, and an idle one, come first
+            ("stop 17 none", "refused 16 LaneNumber at 9"),
+            ("stop 2 opened", "refused 18 LaneIdle at 9"),
+            ("stop 1 stayed", "10 ok"),
+            ("start 1 A", "11 ok"),
+            ("stop 1 unknown", "refused 21 PriorWrong unwanted at 11"),
+            ("stop 1 none", "12 ok"),
+        ],
+        piles: [(1, 262_000), (2, 523_000), (0, 0), (1, 261_000)],
+        batches: [1, 0, 0, 0],
+        rows: 12,
+    },
+    Day {
+        exchanges: &[
+            // what the gate did counts before the signal: the batch is no longer held
+            ("weigh 1 243.000", "6 pass"),
+            ("tare rice250 2025-03-03 12", "7 ok"),
+            ("weigh 1 260.000 stayed", "8 pass"),
+            ("weigh 1 252.999", "9 pass"),
+        ],
+        piles: [(2, 512_999), (1, 243_000), (0, 0), (0, 0)],
+        batches: [1, 0, 0, 0],
+        rows: 9,
+    },
+];
+
+#[test]
+fn a_line_says_what_the_gate_did(rt: HostRuntime) -> Result<(), Fail> {
+    for day in &SAID {
         check_day(&rt, rt.alloc(), &SETUP, day)?;
     }
     Ok(())
@@ -162,7 +219,7 @@ const PRIORS: [(usize, Act, Option<Signal>); 7] = [
     ),
 ];
 
-// So a script never meets the refusal of what is said of the gate.
+// So a line that says nothing of the gate never meets the refusal for it.
 #[test]
 fn the_program_says_what_the_gate_did(rt: HostRuntime) -> Result<(), Fail> {
     let alloc = rt.alloc();

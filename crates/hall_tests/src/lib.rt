@@ -5,6 +5,8 @@
 #[cfg(test)]
 mod days;
 #[cfg(test)]
+mod desks;
+#[cfg(test)]
 mod faults;
 #[cfg(test)]
 mod lanes;
@@ -14,6 +16,10 @@ mod lines;
 mod reads;
 #[cfg(test)]
 mod refusals;
+#[cfg(test)]
+mod samples;
+#[cfg(test)]
+mod small;
 #[cfg(test)]
 mod tares;
 #[cfg(test)]

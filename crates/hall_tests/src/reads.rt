@@ -116,7 +116,12 @@ fn full_text(alloc: Global) -> Result<String, AllocError> {
         text.push_str(format!(in alloc; "{row} pass\n")?.as_str())?;
     }
     text.push_str("10006 reject full\n")?;
-    let summary = summary_of(alloc, 10_006, (10_000, 2_600_000_000), (1, 260_000), 1)?;
+    let summary = summary_of(
+        alloc,
+        10_006,
+        [(10_000, 2_600_000_000), (1, 260_000), (0, 0), (0, 0)],
+        [1, 0, 0, 0],
+    )?;
     text.push_str(summary.as_str())?;
     Ok(text)
 }

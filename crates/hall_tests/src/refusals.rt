@@ -1,10 +1,8 @@
-use crate::days::{Day, check_day};
+use crate::days::{Day, SETUP, check_day};
 use std::test::Fail;
 
-// Each refusal that a script can meet, and which is told where several hold. A book of a million
-// rows, refusal 5, is left out. No line spells a day that refusal 12 is for, and no batch ends yet,
-// as refusal 15 wants. Refusal 21 can't be met, since the program itself says what the gate did
-// (lanes.rt).
+// The refusals up to a weighing, and which is told where several hold. A book of a million rows,
+// refusal 5, is left out, and no line spells a day that refusal 12 is for (texts.rt).
 const REFUSALS: Day = Day {
     exchanges: &[
         ("product rice250 250", "refused 6 DayUnset at 0"),
@@ -56,14 +54,38 @@ const REFUSALS: Day = Day {
         ("day 9999-12-31", "14 ok"),
         ("day 2025-03-03", "refused 7 DayBack 9999-12-31 at 14"),
     ],
-    passed: (1, 30_000_000),
-    rejected: (0, 0),
-    running: 1,
+    piles: [(1, 30_000_000), (0, 0), (0, 0), (0, 0)],
+    batches: [1, 0, 0, 0],
     rows: 14,
+};
+
+// After the setup: what isn't there.
+const UNKNOWN: Day = Day {
+    exchanges: &[
+        ("end B", "refused 14 BatchUnknown at 5"),
+        ("draw B keep 0", "refused 14 BatchUnknown at 5"),
+        ("second B 0", "refused 14 BatchUnknown at 5"),
+        ("close B", "refused 14 BatchUnknown at 5"),
+        ("sheet B", "refused 14 BatchUnknown at 5"),
+        ("sample B", "refused 14 BatchUnknown at 5"),
+        ("pack 5", "refused 24 PackUnknown at 5"),
+        ("pack 0", "refused 24 PackUnknown at 5"),
+        ("lane 0", "refused 16 LaneNumber at 5"),
+        ("lane 17", "refused 16 LaneNumber at 5"),
+        ("lane 1", "lane 1 batch A settled"),
+        ("void 17", "refused 24 PackUnknown at 5"),
+        ("measure 17 30000.001", "refused 20 GrossRange at 5"),
+        ("measure 17 1 5000.001", "refused 23 TareRange at 5"),
+        ("measure 17 1", "refused 24 PackUnknown at 5"),
+    ],
+    piles: [(0, 0), (0, 0), (0, 0), (0, 0)],
+    batches: [1, 0, 0, 0],
+    rows: 5,
 };
 
 #[test]
 fn refusals(rt: HostRuntime) -> Result<(), Fail> {
     check_day(&rt, rt.alloc(), &[], &REFUSALS)?;
+    check_day(&rt, rt.alloc(), &SETUP, &UNKNOWN)?;
     Ok(())
 }

@@ -36,9 +36,8 @@ const TARES: Day = Day {
         ("weigh 1 243.499", "28 reject inadequate"),
         ("weigh 1 243.500", "29 reject allowance"),
     ],
-    passed: (1, 247_000),
-    rejected: (15, 3_640_994),
-    running: 1,
+    piles: [(1, 247_000), (15, 3_640_994), (0, 0), (0, 0)],
+    batches: [1, 0, 0, 0],
     rows: 29,
 };
 

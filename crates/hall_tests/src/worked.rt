@@ -3,27 +3,24 @@ use std::test::Fail;
 
 const NOTHING: Day = Day {
     exchanges: &[],
-    passed: (0, 0),
-    rejected: (0, 0),
-    running: 0,
+    piles: [(0, 0), (0, 0), (0, 0), (0, 0)],
+    batches: [0, 0, 0, 0],
     rows: 0,
 };
 
 // After the setup: the tolerable negative error is 9 g, so the net is standard from 241 g on and
 // inadequate below 232 g.
-const WORKED: [Day; 8] = [
+const WORKED: [Day; 9] = [
     Day {
         exchanges: &[],
-        passed: (0, 0),
-        rejected: (0, 0),
-        running: 1,
+        piles: [(0, 0), (0, 0), (0, 0), (0, 0)],
+        batches: [1, 0, 0, 0],
         rows: 5,
     },
     Day {
         exchanges: &[("weigh 1 251.000", "6 pass"), ("weigh 1 251.000", "7 pass")],
-        passed: (2, 502_000),
-        rejected: (0, 0),
-        running: 1,
+        piles: [(2, 502_000), (0, 0), (0, 0), (0, 0)],
+        batches: [1, 0, 0, 0],
         rows: 7,
     },
     Day {
@@ -31,9 +28,8 @@ const WORKED: [Day; 8] = [
             ("weigh 1 250.999", "6 pass"),
             ("weigh 1 250.999", "7 reject allowance"),
         ],
-        passed: (1, 250_999),
-        rejected: (1, 250_999),
-        running: 1,
+        piles: [(1, 250_999), (1, 250_999), (0, 0), (0, 0)],
+        batches: [1, 0, 0, 0],
         rows: 7,
     },
     Day {
@@ -41,9 +37,8 @@ const WORKED: [Day; 8] = [
             ("weigh 1 242.000", "6 pass"),
             ("weigh 1 241.999", "7 reject inadequate"),
         ],
-        passed: (1, 242_000),
-        rejected: (1, 241_999),
-        running: 1,
+        piles: [(1, 242_000), (1, 241_999), (0, 0), (0, 0)],
+        batches: [1, 0, 0, 0],
         rows: 7,
     },
     Day {
@@ -51,9 +46,8 @@ const WORKED: [Day; 8] = [
             ("weigh 1 0", "6 reject inadequate"),
             ("weigh 1 30000", "7 pass"),
         ],
-        passed: (1, 30_000_000),
-        rejected: (1, 0),
-        running: 1,
+        piles: [(1, 30_000_000), (1, 0), (0, 0), (0, 0)],
+        batches: [1, 0, 0, 0],
         rows: 7,
     },
     // the tare of 12 g makes the pack's net 231 g
@@ -63,10 +57,38 @@ const WORKED: [Day; 8] = [
             ("tare rice250 2025-03-03 12", "7 ok"),
             ("weigh 1 260.000", "8 reject held"),
         ],
-        passed: (1, 243_000),
-        rejected: (1, 260_000),
-        running: 1,
+        piles: [(1, 243_000), (1, 260_000), (0, 0), (0, 0)],
+        batches: [1, 0, 0, 0],
         rows: 8,
+    },
+    // and a batch is no longer held once that pack is taken back
+    Day {
+        exchanges: &[
+            ("weigh 1 243.000", "6 pass"),
+            ("tare rice250 2025-03-03 12", "7 ok"),
+            ("weigh 1 260.000", "8 reject held"),
+            // the last reading of the lane was a reject
+            ("lane 1", "lane 1 batch A settled"),
+            (
+                "pack 6",
+                "pack 6 batch A lane 1 gross 243.000 net 231.000 inadequate pass passed",
+            ),
+            (
+                "pack 8",
+                "pack 8 batch A lane 1 gross 260.000 net 248.000 standard reject held rejected",
+            ),
+            ("void 6", "9 ok"),
+            ("weigh 1 260.000", "10 pass"),
+            (
+                "pack 6",
+                "pack 6 batch A lane 1 gross 243.000 net 231.000 inadequate pass voided",
+            ),
+            ("lane 1", "lane 1 batch A unsettled 10"),
+            ("lane 2", "lane 2 idle"),
+        ],
+        piles: [(1, 260_000), (1, 260_000), (0, 0), (1, 243_000)],
+        batches: [1, 0, 0, 0],
+        rows: 10,
     },
     // and that of 11 g makes it 232 g
     Day {
@@ -77,9 +99,8 @@ const WORKED: [Day; 8] = [
             ("tare rice250 2025-03-03 11", "9 ok"),
             ("weigh 1 260.000", "10 pass"),
         ],
-        passed: (2, 503_000),
-        rejected: (1, 260_000),
-        running: 1,
+        piles: [(2, 503_000), (1, 260_000), (0, 0), (0, 0)],
+        batches: [1, 0, 0, 0],
         rows: 10,
     },
     // the summary of a list is told wherever it is asked
@@ -93,12 +114,68 @@ sampled 0 gross 0.000\nvoided 0 gross 0.000\nbatches running 1 ended 0 drawn 0 c
             ),
             ("weigh 1 241.999", "7 reject inadequate"),
         ],
-        passed: (1, 251_000),
-        rejected: (1, 241_999),
-        running: 1,
+        piles: [(1, 251_000), (1, 241_999), (0, 0), (0, 0)],
+        batches: [1, 0, 0, 0],
         rows: 7,
     },
 ];
+
+// Goods by volume: 1000 ml with a tolerable negative error of 15 ml, at 1040.5 g a litre.
+const JUICE: Day = Day {
+    exchanges: &[
+        ("day 2025-03-03", "1 ok"),
+        ("product juice 1000 ml", "2 ok"),
+        ("tare juice 2025-03-03 30", "3 ok"),
+        ("open J juice", "refused 35 DensityRange at 3"),
+        ("open J juice 499.999", "refused 35 DensityRange at 3"),
+        ("open J juice 2000.001", "refused 35 DensityRange at 3"),
+        ("open J juice 1040.5", "4 ok"),
+        ("start 1 J", "5 ok"),
+        // the limits of the contents are 1024.8925 g and 1009.285 g
+        ("weigh 1 1054.893", "6 pass"),
+        ("weigh 1 1039.284", "7 reject inadequate"),
+        ("weigh 1 1039.285", "8 pass"),
+        ("weigh 1 1054.892", "9 reject allowance"),
+        (
+            "pack 8",
+            "pack 8 batch J lane 1 gross 1039.285 net 1009.285 nonstandard pass passed",
+        ),
+        (
+            "pack 9",
+            "pack 9 batch J lane 1 gross 1054.892 net 1024.892 nonstandard reject allowance rejected",
+        ),
+        (
+            "sheet J",
+            "batch J product juice nominal 1000.000 ml tne 15.000 ml density 1040.500\n\
+state running\n\
+readings 4 gross 4188.354\n\
+passed 2 gross 2094.178\n\
+rejected 2 gross 2094.176\n\
+sampled 0 gross 0.000\n\
+voided 0 gross 0.000\n\
+population 2 net 2034.178 nonstandard 1 inadequate 0\n\
+held no",
+        ),
+        // the least and the greatest density
+        ("open K juice 500", "10 ok"),
+        ("open L juice 2000", "11 ok"),
+        // goods by mass have none
+        ("product rice250 250", "12 ok"),
+        ("open M rice250 0.001", "refused 35 DensityRange at 12"),
+        ("open L rice250 1", "refused 13 BatchKnown at 12"),
+        ("open M rice 1", "refused 9 ProductUnknown at 12"),
+        ("open M rice250", "13 ok"),
+    ],
+    piles: [(2, 2_094_178), (2, 2_094_176), (0, 0), (0, 0)],
+    batches: [4, 0, 0, 0],
+    rows: 13,
+};
+
+#[test]
+fn goods_by_volume(rt: HostRuntime) -> Result<(), Fail> {
+    check_day(&rt, rt.alloc(), &[], &JUICE)?;
+    Ok(())
+}
 
 #[test]
 fn worked_days(rt: HostRuntime) -> Result<(), Fail> {

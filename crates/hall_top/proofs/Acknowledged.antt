@@ -1,40 +1,82 @@
 -- What was acknowledged stands once.
-use Rattle.std.proofs.Common.{◌≡◌, ℕ, ◌+◌, ◌-◌, ◌≤◌, suc, List, [], ◌∷◌, ◌++◌, length, Option, Some, None, option_map, Result, refl, sym, ap, ◌∙◌, subst, arith, append_assoc, append-nil, length-append}
+use Rattle.std.proofs.Common.{◌≡◌, ℕ, ◌+◌, ◌-◌, ◌≤◌, suc, List, [], ◌∷◌, ◌++◌, length, take, Option, Some, None, IfSome, option_map, Result, Ok, Err, refl, sym, ap, ◌∙◌, subst, arith, append_assoc, append-nil, length-append}
 use Rattle.std.specs.List.{slice_get, filter_map, cons_option, range_with_len, AllByRecursion}
 use Rattle.device_facts.specs.Prefix.{IsPrefixOf}
-use Rattle.book_words.specs.declared.types.Act.{Act}
-use Rattle.book_words.specs.declared.types.Want.{Want}
-use Rattle.book_words.specs.declared.types.Want.TheVariants as want
-use Rattle.book_words.specs.declared.types.Ask.{Ask}
-use Rattle.book_words.specs.declared.types.Entry.{Entry}
-use Rattle.book_words.specs.declared.types.Answered.{Answered}
-use Rattle.book_words.specs.declared.types.Refused.{Refused}
+use Rattle.book_words.specs.declared.act.Act.{Act}
+use Rattle.book_words.specs.declared.act.Question.{Question}
+use Rattle.book_words.specs.declared.act.Want.{Want}
+use Rattle.book_words.specs.declared.act.Want.TheVariants as want
+use Rattle.book_words.specs.declared.act.Ask.{Ask}
+use Rattle.book_words.specs.declared.act.Entry.{Entry}
+use Rattle.book_words.specs.declared.reply.Answered.{Answered}
+use Rattle.book_words.specs.declared.reply.Refused.{Refused}
 use Rattle.book_words.specs.declared.refusal.Refusal.{Refusal}
-use Rattle.book_words.specs.Answers.{want_answer, act_answer, entry_for, entry_unless, want_added}
-use Rattle.book_words.specs.Refusals.{refusal_of}
+use Rattle.book_words.specs.Signals.{recorded_signal}
+use Rattle.book_words.specs.Desks.{desk_number, request_old, request_reused, request_gap, repeated_row}
+use Rattle.book_words.specs.Refusals.{first_refusal, book_full, refusals_of}
+use Rattle.book_words.specs.Answers.{reply_behind, accepted, told_again, desk_answer, want_answer, entry_for, entry_unless, want_added}
 use Rattle.script_lines.specs.declared.command.Command.{Command}
 use Rattle.hall_top.specs.Run.{AreLeft}
-use Rattle.hall_top.specs.Transcript.{BookState, Exchange, script_caller, ask_at, exchange_at, after_command, after_commands, exchanges, row_of, acknowledged_row, StandsAmong, StandOnce}
+use Rattle.hall_top.proofs.RepeatLemmas.{IsToldAgain, repeat_found}
+use Rattle.hall_top.specs.Transcript.{BookState, Exchange, script_caller, ask_at, exchange_at, after_command, after_commands, exchanges, row_of, acknowledged_row, AddsRow, StandsAmong}
 
--- where an answer comes with a new entry, it tells that entry's row and signal
-record Acknowledges (entries : List Entry) (new : Option Entry) (answer : Result Answered Refused) : Type 0 where
+-- where an answer comes with a new entry, it tells that entry's row; and what is acknowledged stands
+-- so among all rows that begin with the list
+record Acknowledges (entries : List Entry) (ask : Ask) (want : Want) (new : Option Entry) (answer : Result Answered Refused) : Type 0 where
   row : (entry : Entry) → new ≡ Some entry → row_of answer ≡ length entries + 1
-  stands : (rows : List Entry) → ((entry : Entry) → new ≡ Some entry → slice_get rows (length entries) ≡ Some entry) → StandsAmong rows new answer
+  stands : (rows : List Entry) → IsPrefixOf (entries ++ cons_option new []) rows → StandsAmong rows ask want new answer
 
--- the entry at the number that follows so many
-at_next : (rows : List Entry) (count : ℕ) (entry : Entry) → slice_get rows count ≡ Some entry → slice_get rows (count + 1 - 1) ≡ Some entry
-at_next rows count entry is = let back : count + 1 - 1 ≡ count = omega arith in ap (slice_get rows) back ∙ is
+-- the entry behind some entries, and these
+seam : (entries more : List Entry) (entry : Entry) → slice_get (entries ++ entry ∷ more) (length entries) ≡ Some entry
+seam [] more entry = refl
+seam (x ∷ entries) more entry = seam entries more entry
 
-acknowledges_act : (entries : List Entry) (by : ℕ) (ask : Ask) (act : Act) (refusal : Option Refusal) → Acknowledges entries (entry_unless refusal (entry_for entries by ask act)) (act_answer entries act refusal)
-acknowledges_act entries by ask act (Some refusal) = record { row = λ entry is. absurd (cc); stands = λ rows here. tt }
-acknowledges_act entries by ask act None =
-    record { row = λ entry is. refl; stands = λ rows here. (at_next rows (length entries) _ (here (entry_for entries by ask act) refl), refl) }
+front : (entries more : List Entry) (entry : Entry) → take (length entries) (entries ++ entry ∷ more) ≡ entries
+front [] more entry = refl
+front (x ∷ entries) more entry = ap (λ xs. x ∷ xs) (front entries more entry)
 
-acknowledges_want : (limit : ℕ) (entries : List Entry) (by : ℕ) (ask : Ask) (want : Want) → Acknowledges entries (want_added limit entries by ask want) (want_answer limit entries want)
-acknowledges_want limit entries by ask (want.Act act) = acknowledges_act entries by ask act (refusal_of limit entries act)
-acknowledges_want limit entries by ask (want.Question question) = record { row = λ entry is. absurd (cc); stands = λ rows here. tt }
+-- a new entry stands behind those before it
+new_stands : (entries rows : List Entry) (by : ℕ) (ask : Ask) (act : Act) → IsPrefixOf (entries ++ entry_for entries by ask act ∷ []) rows → AddsRow rows (entry_for entries by ask act) (accepted entries act)
+new_stands entries rows by ask act prefix =
+    let entry = entry_for entries by ask act in
+    let back : length entries + 1 - 1 ≡ length entries = omega arith in
+    let parts : rows ≡ entries ++ entry ∷ prefix.0 = prefix.1 ∙ append_assoc entries (entry ∷ []) prefix.0 in
+    let before : take (length entries + 1 - 1) rows ≡ entries = ap (λ n. take n rows) back ∙ ap (take (length entries)) parts ∙ front entries prefix.0 entry in
+    record {
+      stands = ap (slice_get rows) back ∙ ap (λ (xs : List Entry). slice_get xs (length entries)) parts ∙ seam entries prefix.0 entry;
+      reply = ap (λ (xs : List Entry). reply_behind xs act) (sym before);
+      signal = ap (λ (xs : List Entry). recorded_signal xs act) (sym before);
+    }
 
-abbrev acknowledges : (book : BookState) (command : Command) → Acknowledges book.entries (exchange_at book command).added (exchange_at book command).answer
+acknowledges_question : (entries : List Entry) (ask : Ask) (question : Question) (answer : Result Answered Refused) → Acknowledges entries ask (want.Question question) None answer
+acknowledges_question entries ask question answer = record { row = λ entry is. absurd (cc); stands = λ rows prefix. refl }
+
+acknowledges_refusal : (entries : List Entry) (ask : Ask) (act : Act) (refused : Refused) → Acknowledges entries ask (want.Act act) None (Err refused)
+acknowledges_refusal entries ask act refused = record { row = λ entry is. absurd (cc); stands = λ rows prefix. tt }
+
+acknowledges_repeat : (entries : List Entry) (ask : Ask) (act : Act) (row : ℕ) → IsToldAgain entries ask act row → Acknowledges entries ask (want.Act act) None (Ok (told_again entries row act))
+acknowledges_repeat entries ask act row told =
+    record { row = λ entry is. absurd (cc); stands = λ rows prefix. told rows (prefix.0, prefix.1 ∙ ap (λ (xs : List Entry). xs ++ prefix.0) (append-nil entries)) }
+
+acknowledges_act : (entries : List Entry) (by : ℕ) (ask : Ask) (act : Act) (wrong : Option Refusal) (row : Option ℕ) (others : List (Option Refusal)) → IfSome row (IsToldAgain entries ask act)
+    → Acknowledges entries ask (want.Act act) (entry_unless row (first_refusal (wrong ∷ others)) (entry_for entries by ask act)) (desk_answer entries act wrong row (first_refusal (wrong ∷ others)))
+acknowledges_act entries by ask act None (Some row) others told = acknowledges_repeat entries ask act row told
+acknowledges_act entries by ask act (Some refusal) (Some row) others told = acknowledges_refusal entries ask act _
+acknowledges_act entries by ask act (Some refusal) None others told = acknowledges_refusal entries ask act _
+acknowledges_act entries by ask act None None others told = by_refusal (first_refusal others)
+  where
+    by_refusal : (refusal : Option Refusal) → Acknowledges entries ask (want.Act act) (entry_unless None refusal (entry_for entries by ask act)) (desk_answer entries act None None refusal)
+    by_refusal (Some refusal) = acknowledges_refusal entries ask act _
+    by_refusal None = record { row = λ entry is. refl; stands = λ rows prefix. new_stands entries rows by ask act prefix }
+
+acknowledges_want : (limit : ℕ) (entries : List Entry) (by : ℕ) (ask : Ask) (want : Want) → Acknowledges entries ask want (want_added limit entries by ask want) (want_answer limit entries ask want)
+acknowledges_want limit entries by ask (want.Act act) =
+    acknowledges_act entries by ask act (desk_number ask act) (repeated_row entries ask act)
+    (request_old entries ask ∷ request_reused entries ask act ∷ request_gap entries ask ∷ book_full limit entries ∷ refusals_of entries act)
+    (repeat_found entries ask act)
+acknowledges_want limit entries by ask (want.Question question) = acknowledges_question entries ask question _
+
+abbrev acknowledges : (book : BookState) (command : Command) → Acknowledges book.entries (exchange_at book command).ask (exchange_at book command).ask.want (exchange_at book command).added (exchange_at book command).answer
 acknowledges book command =
     let ask = ask_at book.entries command in acknowledges_want book.limit book.entries script_caller ask ask.want
 
@@ -47,30 +89,22 @@ entries_stay book [] = ([], sym (append-nil book.entries))
 entries_stay book (command ∷ commands) =
     prefix_on book.entries (after_command book command).entries _ (cons_option (exchange_at book command).added [], refl) (entries_stay (after_command book command) commands)
 
-seam : (entries more : List Entry) (entry : Entry) → slice_get (entries ++ entry ∷ more) (length entries) ≡ Some entry
-seam [] more entry = refl
-seam (x ∷ entries) more entry = seam entries more entry
-
-next_stands : (entries rows : List Entry) (new : Option Entry) (entry : Entry) → new ≡ Some entry → IsPrefixOf (entries ++ cons_option new []) rows → slice_get rows (length entries) ≡ Some entry
-next_stands entries rows new entry is prefix =
-    ap (λ (xs : List Entry). slice_get xs (length entries)) (prefix.1 ∙ ap (λ o. (entries ++ cons_option o []) ++ prefix.0) is ∙ append_assoc entries (entry ∷ []) prefix.0) ∙ seam entries prefix.0 entry
-
-each_stands : (book : BookState) (commands : List Command) (rows : List Entry) → IsPrefixOf (after_commands book commands).entries rows → AllByRecursion (λ (e : Exchange). StandsAmong rows e.added e.answer) (exchanges book commands)
+each_stands : (book : BookState) (commands : List Command) (rows : List Entry) → IsPrefixOf (after_commands book commands).entries rows → AllByRecursion (λ (e : Exchange). StandsAmong rows e.ask e.ask.want e.added e.answer) (exchanges book commands)
 each_stands book [] rows prefix = tt
 each_stands book (command ∷ commands) rows prefix =
     let after = after_command book command in
     let here = prefix_on after.entries _ rows (entries_stay after commands) prefix in (
-      (acknowledges book command).stands rows (λ entry is. next_stands book.entries rows (exchange_at book command).added entry is here),
+      (acknowledges book command).stands rows here,
       each_stands after commands rows prefix,
     )
 
 -- the row of one answer, before those of the others
-row_before : (entries rows : List Entry) (new : Option Entry) (answer : Result Answered Refused) (others : List ℕ) → Acknowledges entries new answer → length (entries ++ cons_option new []) ≤ length rows
+row_before : (entries rows : List Entry) (ask : Ask) (want : Want) (new : Option Entry) (answer : Result Answered Refused) (others : List ℕ) → Acknowledges entries ask want new answer → length (entries ++ cons_option new []) ≤ length rows
     → others ≡ range_with_len (length (entries ++ cons_option new []) + 1) (length rows - length (entries ++ cons_option new []))
     → cons_option (option_map (λ (e : Entry). row_of answer) new) others ≡ range_with_len (length entries + 1) (length rows - length entries)
-row_before entries rows None answer others acknowledges long is =
+row_before entries rows ask want None answer others acknowledges long is =
     is ∙ ap (λ (xs : List Entry). range_with_len (length xs + 1) (length rows - length xs)) (append-nil entries)
-row_before entries rows (Some entry) answer others acknowledges long is =
+row_before entries rows ask want (Some entry) answer others acknowledges long is =
     let longer : length (entries ++ entry ∷ []) ≡ length entries + 1 = length-append entries (entry ∷ []) in
     let one : length rows - length entries ≡ suc (length rows - length (entries ++ entry ∷ [])) = omega arith in
     ap (λ n. n ∷ others) (acknowledges.row entry refl) ∙ ap (λ ns. (length entries + 1) ∷ ns) (is ∙ ap (λ n. range_with_len (n + 1) (length rows - length (entries ++ entry ∷ []))) longer)
@@ -88,7 +122,7 @@ rows_once book (command ∷ commands) rows is =
     let after = after_command book command in
     let exchange = exchange_at book command in
     let long = subst (λ (xs : List Entry). length after.entries ≤ length xs) (sym is) (prefix_length after.entries _ (entries_stay after commands)) in
-    row_before book.entries rows exchange.added exchange.answer _ (acknowledges book command) long (rows_once after commands rows is)
+    row_before book.entries rows exchange.ask exchange.ask.want exchange.added exchange.answer _ (acknowledges book command) long (rows_once after commands rows is)
 
 -- the rows that commands leave
 pub are_left : (book : BookState) (commands : List Command) (rows : List Entry) → rows ≡ (after_commands book commands).entries → AreLeft book commands rows

@@ -3,21 +3,20 @@ use Rattle.std.proofs.Common.{◌≡◌, ℕ, ◌+◌, ◌*◌, ◌<◌, ◌≤�
 use Rattle.std.specs.Io.KnownBytes.{Consumes, Keeps, IsAtEnd}
 use Rattle.std.proofs.KnownBytes.{Consumes-whole, Consumes-nil, Consumes-trans, Consumes-kept}
 use Rattle.device_facts.specs.Count.{Counted}
-use Rattle.book_words.specs.declared.types.Entry.{Entry}
+use Rattle.book_words.specs.declared.act.Entry.{Entry}
 use Rattle.script_lines.specs.declared.command.Command.{Command}
 use Rattle.script_lines.specs.declared.command.Line.{Line}
 use Rattle.script_lines.specs.declared.command.Line.TheVariants.{Nothing, Asks, Bad}
-use Rattle.script_lines.specs.Lines.{ended_lines}
 use Rattle.script_lines.specs.Feed.{FeedView, feed_after}
-use Rattle.script_lines.specs.Script.{all_good, commands_of}
+use Rattle.script_lines.specs.Script.{all_good}
 use Rattle.script_lines.proofs.LineLists.{ended_lines-few}
 use Rattle.hall_top.specs.declared.reads.TheConstants.{MAX_READS, PIECE}
 use Rattle.hall_top.specs.declared.stop.Stop.{Stop}
 use Rattle.hall_top.specs.declared.stop.Stop.TheVariants.{Finished, BadLine, ReadFault, WriteFault, NoMemory, Spent}
 use Rattle.hall_top.specs.Texts.{read_fault}
-use Rattle.hall_top.specs.Transcript.{BookState, new_book, ended_lines_of, lines_of}
+use Rattle.hall_top.specs.Transcript.{BookState, new_book, lines_of}
 use Rattle.hall_top.specs.Streams.{Stream, Devices, IsCalm, HasFailed, Wrote, WroteAll}
-use Rattle.hall_top.specs.Run.{Call, StopsAtLine, StopsInScript, HasLine, StopsInInput, ReadsWhole, IsSpent, Explains}
+use Rattle.hall_top.specs.Run.{Call, StopsAtLine, StopsInScript, HasLine, StopsInInput, ReadsWhole, Explains}
 use Rattle.hall_top.specs.Reached.{RunState, SaysNoMemory, Reached, Steps, StopsAfter, EndsScript, StandsAfter, WentOn, HasTaken}
 use Rattle.hall_top.proofs.Acknowledged.{are_left}
 use Rattle.hall_top.proofs.Answering.{answered_none}

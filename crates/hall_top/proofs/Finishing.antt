@@ -1,14 +1,14 @@
 -- Lemmas on the end of a script.
-use Rattle.std.proofs.Common.{◌+◌, ◌≡◌, ◌<◌, true, List, ℕ, [], ◌∷◌, ◌++◌, length, refl, sym, ap, ◌∙◌, subst, arith}
-use Rattle.book_words.specs.declared.types.Entry.{Entry}
-use Rattle.book_words.specs.Answers.{summary}
+use Rattle.std.proofs.Common.{◌+◌, ◌≡◌, true, List, ℕ, [], ◌∷◌, ◌++◌, length, refl, sym, ap, ◌∙◌, subst, arith}
+use Rattle.book_words.specs.declared.act.Entry.{Entry}
+use Rattle.book_words.specs.Views.{summary}
 use Rattle.script_lines.specs.declared.command.Line.{Line}
 use Rattle.script_lines.specs.Lines.{rest_of}
 use Rattle.script_lines.specs.Feed.{FeedView}
 use Rattle.script_lines.specs.Script.{is_good, commands_of}
 use Rattle.batch_reports.specs.Texts.{summary_text}
 use Rattle.hall_top.specs.declared.stop.Stop.{Stop}
-use Rattle.hall_top.specs.Transcript.{BookState, after_commands, answers, ended_lines_of, lines_of}
+use Rattle.hall_top.specs.Transcript.{BookState, after_commands, answers, lines_of}
 use Rattle.hall_top.specs.Streams.{Stream, WroteAll, IsCutIn}
 use Rattle.hall_top.specs.Run.{StopsAtLine, StopsInScript, HasTranscript, LacksSummary}
 use Rattle.hall_top.specs.Reached.{RunState, HasAnswered, Reached, IsWholeSoFar}

@@ -1,4 +1,5 @@
 pub mod ScriptLines
+pub mod RepeatLemmas
 pub mod Acknowledged
 pub mod Answering
 pub mod HandedOn
@@ -6,3 +7,4 @@ pub mod Stepping
 pub mod Finishing
 pub mod Printed
 pub mod Explaining
+pub mod RequestOrder

@@ -1,5 +1,5 @@
 -- Lemmas on what went out.
-use Rattle.std.proofs.Common.{◌≡◌, ℕ, ◌<◌, List, [], length, take, Result, Ok, Err, OnOk, OnErr, IfErr, Option, inl, inr, ◌∙◌, subst, refl}
+use Rattle.std.proofs.Common.{◌≡◌, ℕ, ◌<◌, List, [], length, take, Result, Ok, Err, OnOk, OnErr, IfErr, inl, inr, ◌∙◌, subst, refl}
 use Rattle.std.specs.Io.KnownBytes.{Appends}
 use Rattle.std.proofs.KnownBytes.{Appends-nil, Appends-trans}
 use Rattle.device_facts.specs.Count.{Counted, CountsFault}

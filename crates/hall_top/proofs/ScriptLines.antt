@@ -1,5 +1,5 @@
 -- Lemmas on the lines of a script that goes on.
-use Rattle.std.proofs.Common.{◌≡◌, ℕ, ◌<◌, Bool, true, false, ◌&&◌, List, [], ◌∷◌, ◌++◌, length, map, nat_le, cond, eqb, refl, sym, ap, ◌∙◌, arith, append_assoc, append-nil, length-append}
+use Rattle.std.proofs.Common.{◌≡◌, ℕ, ◌<◌, Bool, true, false, ◌&&◌, List, [], ◌∷◌, ◌++◌, length, map, nat_le, cond, eqb, refl, sym, ap, ◌∙◌, arith, append_assoc, append-nil}
 use Rattle.std.proofs.lemmas.Bool.Decides.{nat_tests}
 use Rattle.std.proofs.lemmas.List.{length_push, map-append}
 use Rattle.std.proofs.lemmas.List.Elements.{filter_map-append}
@@ -8,7 +8,8 @@ use Rattle.script_lines.specs.declared.lines.TheConstants.{MAX_LINE}
 use Rattle.script_lines.specs.declared.command.Line.{Line}
 use Rattle.script_lines.specs.declared.command.Line.TheVariants.{Nothing, Bad}
 use Rattle.script_lines.specs.Lines.{has_end, ended_lines, rest_of, last_line}
-use Rattle.script_lines.specs.Script.{words_say, words_of, line_says, ended_says, last_says, is_good, all_good, asked, commands_of}
+use Rattle.script_lines.specs.Words.{words_of}
+use Rattle.script_lines.specs.Script.{words_say, line_says, ended_says, last_says, is_good, all_good, asked, commands_of}
 use Rattle.script_lines.proofs.LineLists.{ended_after, rest_after, last_line_is, ended_lines-append, rest_of-append, ended_with_part, ended_with_line, rest_with_part, rest_with_line}
 use Rattle.hall_top.specs.Transcript.{every_command, ended_lines_of, lines_of}
 use Rattle.hall_top.specs.Run.{HasLine}

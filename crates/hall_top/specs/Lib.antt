@@ -6,3 +6,4 @@ pub mod Run
 pub mod Reached
 pub mod Runs
 pub mod Words
+pub mod Requests

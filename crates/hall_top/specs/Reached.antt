@@ -1,7 +1,7 @@
 -- Where a run stands in its script.
-use Rattle.std.specs.Prelude.{◌≡◌, ℕ, ◌*◌, ◌<◌, ◌≤◌, ◌⊎◌, true, List, [], ◌∷◌, ◌++◌, length, Result, MatchResult}
+use Rattle.std.specs.Prelude.{◌≡◌, ℕ, ◌*◌, ◌<◌, ◌≤◌, ◌⊎◌, true, List, [], ◌++◌, length, Result, MatchResult}
 use Rattle.std.specs.Io.KnownBytes.{Consumes}
-use Rattle.book_words.specs.declared.types.Entry.{Entry}
+use Rattle.book_words.specs.declared.act.Entry.{Entry}
 use Rattle.script_lines.specs.declared.lines.TheConstants.{MAX_LINE}
 use Rattle.script_lines.specs.declared.command.Command.{Command}
 use Rattle.script_lines.specs.Lines.{rest_of}

@@ -1,11 +1,14 @@
 -- How a run of a script ends: what has then gone out, which rows it leaves, and why.
-use Rattle.std.specs.Prelude.{◌≡◌, ℕ, ◌+◌, ◌*◌, ◌<◌, ◌≤◌, ◌⊎◌, Bool, true, false, List, [], ◌∷◌, ◌++◌, length, ◌==◌, ◌||◌, IsSome, IfSome}
+use Rattle.std.specs.Prelude.{◌≡◌, ⊤, ℕ, ◌+◌, ◌*◌, ◌<◌, ◌≤◌, ◌⊎◌, Bool, true, false, List, [], ◌∷◌, ◌++◌, length, ◌==◌, ◌||◌, IsSome, IfSome, Option}
 use Rattle.std.specs.Io.KnownBytes.{Consumes, IsAtEnd}
 use Rattle.device_facts.specs.Count.{Calm}
 use Rattle.disk_core.specs.declared.source.Source as source
 use Rattle.disk_core.specs.declared.sink.Sink as sink
-use Rattle.book_words.specs.declared.types.Entry.{Entry}
-use Rattle.book_words.specs.Answers.{summary}
+use Rattle.book_words.specs.declared.act.Question.TheVariants.{Sample}
+use Rattle.book_words.specs.declared.act.Want.{Want}
+use Rattle.book_words.specs.declared.act.Want.TheVariants as want
+use Rattle.book_words.specs.declared.act.Entry.{Entry}
+use Rattle.book_words.specs.Views.{summary}
 use Rattle.script_lines.specs.declared.lines.TheConstants.{MAX_LINE}
 use Rattle.script_lines.specs.declared.command.Command.{Command}
 use Rattle.script_lines.specs.declared.command.Line.{Line}
@@ -48,10 +51,17 @@ pub record IsAnswerCut (book : BookState) (before now : Stream) (rows : List Ent
       (outcome_text (exchange_after book commands command).answer)
   pub rows_left : AreLeft book (commands ++ command ∷ []) rows
 
--- a command after others would have added a row, but there was no memory for it
+-- what may find no memory: an act that adds an entry, and a question for a sample
+abbrev pub MayFindNoMemory : Want → Option Entry → Type 0
+MayFindNoMemory (want.Act act) new = IsSome new
+MayFindNoMemory (want.Question (Sample batch)) new = ⊤
+MayFindNoMemory (want.Question question) new = ⊥
+
+-- there was no memory for a command after others: it would have added a row, or asks for a sample
 pub record FindsNoMemory (book : BookState) (rows : List Entry) (commands : List Command)
     (command : Command) : Type 0 where
-  pub would_add : IsSome (exchange_after book commands command).added
+  pub may : MayFindNoMemory (exchange_after book commands command).ask.want
+      (exchange_after book commands command).added
   pub rows_left : AreLeft book commands rows
 
 -- how a run stops at the line of a number, after these commands: at a bad line, in a failed write,

@@ -1,23 +1,27 @@
 -- What the commands of a script are answered, one after another.
-use Rattle.std.specs.Prelude.{◌≡◌, ⊤, true, ℕ, ◌+◌, ◌-◌, List, [], ◌∷◌, ◌++◌, length, flat_map, filter_map, is_some, if◌then◌else◌, Option, Some, None, option_map, Result, Ok, Err, slice_get}
+use Rattle.std.specs.Prelude.{◌≡◌, ⊤, true, ℕ, ◌+◌, ◌-◌, List, [], ◌∷◌, ◌++◌, length, take, flat_map, filter_map, is_some, if◌then◌else◌, Option, Some, None, option_map, Result, Ok, Err, slice_get}
 use Rattle.std.specs.List.{range_with_len, AllByRecursion}
 use Rattle.hall_limits.specs.declared.TheConstants.{MAX_ROWS}
-use Rattle.book_words.specs.declared.types.Prior.{Prior}
-use Rattle.book_words.specs.declared.types.Prior.TheVariants.{Nothing, Opened}
-use Rattle.book_words.specs.declared.types.Act.TheVariants as act
-use Rattle.book_words.specs.declared.types.Question.TheVariants as question
-use Rattle.book_words.specs.declared.types.Want.{Want}
-use Rattle.book_words.specs.declared.types.Want.TheVariants as want
-use Rattle.book_words.specs.declared.types.Ask.{Ask}
-use Rattle.book_words.specs.declared.types.Entry.{Entry}
-use Rattle.book_words.specs.declared.types.Answered.{Answered}
-use Rattle.book_words.specs.declared.types.Refused.{Refused}
-use Rattle.book_words.specs.Piles.{unsettled_reading}
-use Rattle.book_words.specs.Answers.{answer, added, entries_after, reply_to, summary}
+use Rattle.book_words.specs.declared.act.Prior.{Prior}
+use Rattle.book_words.specs.declared.act.Prior.TheVariants.{Nothing, Opened}
+use Rattle.book_words.specs.declared.act.Act.{Act}
+use Rattle.book_words.specs.declared.act.Act.TheVariants as act
+use Rattle.book_words.specs.declared.act.Question.TheVariants as question
+use Rattle.book_words.specs.declared.act.Want.{Want}
+use Rattle.book_words.specs.declared.act.Want.TheVariants as want
+use Rattle.book_words.specs.declared.act.Ask.{Ask}
+use Rattle.book_words.specs.declared.act.Entry.{Entry}
+use Rattle.book_words.specs.declared.reply.Answered.{Answered}
+use Rattle.book_words.specs.declared.reply.Refused.{Refused}
+use Rattle.book_words.specs.Population.{unsettled_reading}
+use Rattle.book_words.specs.Signals.{recorded_signal}
+use Rattle.book_words.specs.Desks.{same_act}
+use Rattle.book_words.specs.Views.{summary}
+use Rattle.book_words.specs.Answers.{answer, added, entries_after, reply_behind}
 use Rattle.script_lines.specs.declared.command.Allowed.{Allowed}
 use Rattle.script_lines.specs.declared.command.Command.{Command}
 use Rattle.script_lines.specs.declared.command.Verb.{Verb}
-use Rattle.script_lines.specs.declared.command.Verb.TheVariants.{Day, Product, Tare, Open, Start, Weigh, Stop, Summary}
+use Rattle.script_lines.specs.declared.command.Verb.TheVariants.{Day, Product, Tare, Open, Start, Weigh, Stop, Void, End, Draw, Measure, Second, Close, Sheet, Pack, Lane, Sample, Summary}
 use Rattle.script_lines.specs.declared.command.Line.{Line}
 use Rattle.script_lines.specs.Script.{ended_in, lines_in}
 use Rattle.batch_reports.specs.Texts.{outcome_text, summary_text}
@@ -55,13 +59,23 @@ prior_at entries lane None =
 -- what a verb wants of the book
 abbrev pub want_at : List Entry → Verb → Want
 want_at entries (Day day) = want.Act (act.NewDay day)
-want_at entries (Product name nominal) = want.Act (act.PutProduct name nominal)
+want_at entries (Product name nominal unit) = want.Act (act.PutProduct name nominal unit)
 want_at entries (Tare product day tare) = want.Act (act.PutTare product day tare)
-want_at entries (Open batch product) = want.Act (act.OpenBatch batch product)
+want_at entries (Open batch product density) = want.Act (act.OpenBatch batch product density)
 want_at entries (Start lane batch) = want.Act (act.StartLane lane batch)
 want_at entries (Weigh lane gross prior) =
     want.Act (act.Weigh lane gross (prior_at entries lane prior))
 want_at entries (Stop lane prior) = want.Act (act.StopLane lane (prior_at entries lane prior))
+want_at entries (Void pack) = want.Act (act.Void pack)
+want_at entries (End batch) = want.Act (act.EndRun batch)
+want_at entries (Draw batch mode word) = want.Act (act.Draw batch mode word)
+want_at entries (Measure pack gross empty) = want.Act (act.Measure pack gross empty)
+want_at entries (Second batch word) = want.Act (act.DrawSecond batch word)
+want_at entries (Close batch) = want.Act (act.Close batch)
+want_at entries (Sheet batch) = want.Question (question.Sheet batch)
+want_at entries (Pack pack) = want.Question (question.Pack pack)
+want_at entries (Lane lane) = want.Question (question.Lane lane)
+want_at entries (Sample batch) = want.Question (question.Sample batch)
 want_at entries Summary = want.Question question.Summary
 
 -- what a command asks the book
@@ -123,19 +137,42 @@ row_of (Err refused) = refused.at
 abbrev pub acknowledged_row : Exchange → Option ℕ
 acknowledged_row exchange = option_map (λ entry. row_of exchange.answer) exchange.added
 
--- an added entry stands among the rows at the number that its answer tells, with the signal that it
--- tells
-abbrev pub StandsAmong : List Entry → Option Entry → Result Answered Refused → Type 0
-StandsAmong rows None answer = ⊤
-StandsAmong rows (Some entry) (Ok answered) =
-    (slice_get rows (answered.at - 1) ≡ Some entry)
-    × (answered.reply ≡ reply_to answered.at entry.signal)
-StandsAmong rows (Some entry) (Err refused) = ⊥
+-- an act that adds an entry: that stands among the rows at the number that the answer tells, and
+-- with the rows before it the act gets this reply, and this signal
+pub record AddsRow (rows : List Entry) (entry : Entry) (answered : Answered) : Type 0 where
+  pub stands : slice_get rows (answered.at - 1) ≡ Some entry
+  pub reply : answered.reply ≡ reply_behind (take (answered.at - 1) rows) entry.act
+  pub signal : entry.signal ≡ recorded_signal (take (answered.at - 1) rows) entry.act
 
--- each acknowledged entry stands among the rows, and the acknowledged rows are those after the
+-- an act that repeats a row: that row has its desk, its request and the same act, and with the rows
+-- before it the act gets this reply
+pub record RepeatsRow (rows : List Entry) (ask : Ask) (act : Act) (answered : Answered)
+    : Type 0 where
+  pub row : ℕ
+  pub entry : Entry
+  pub stands : slice_get rows (row - 1) ≡ Some entry
+  pub desk : entry.desk ≡ ask.desk
+  pub request : entry.request ≡ ask.request
+  pub same : same_act entry.act act ≡ true
+  pub reply : answered.reply ≡ reply_behind (take (row - 1) rows) act
+
+-- an act that isn't refused has a row, added or repeated; a refused one adds none
+abbrev pub HasRow : List Entry → Ask → Act → Option Entry → Result Answered Refused → Type 0
+HasRow rows ask act (Some entry) (Ok answered) = AddsRow rows entry answered
+HasRow rows ask act None (Ok answered) = RepeatsRow rows ask act answered
+HasRow rows ask act None (Err refused) = ⊤
+HasRow rows ask act (Some entry) (Err refused) = ⊥
+
+-- what was acknowledged stands among the rows: each act has its row so, and a question adds none
+abbrev pub StandsAmong : List Entry → Ask → Want → Option Entry → Result Answered Refused → Type 0
+StandsAmong rows ask (want.Act act) new answer = HasRow rows ask act new answer
+StandsAmong rows ask (want.Question question) new answer = new ≡ None
+
+-- each acknowledged act stands among the rows, and the rows that were added are those after the
 -- first ones of the book, each once and in order
 pub record StandOnce (book : BookState) (commands : List Command) (rows : List Entry) : Type 0 where
-  pub each : AllByRecursion (λ exchange. StandsAmong rows exchange.added exchange.answer)
+  pub each : AllByRecursion (λ exchange.
+      StandsAmong rows exchange.ask exchange.ask.want exchange.added exchange.answer)
       (exchanges book commands)
   pub once : filter_map (λ exchange. acknowledged_row exchange) (exchanges book commands)
       ≡ range_with_len (length book.entries + 1) (length rows - length book.entries)

@@ -1,14 +1,16 @@
-ghost use Rattle.std.specs.Prelude.{◌≡◌, ◌≤◌, OnOk, OnErr, IsSome, vec_capacity};
-ghost use Rattle.book_words.specs.Answers.{summary};
+ghost use Rattle.std.specs.Prelude.{◌≡◌, ◌≤◌, OnOk, OnErr, vec_capacity};
+ghost use Rattle.book_words.specs.Views.{summary};
+ghost use Rattle.book_words.specs.Answers.{IsLegal};
 ghost use Rattle.batch_reports.specs.Texts.{outcome_text, summary_text};
 ghost use Rattle.hall_top.specs.Texts.{bad_line};
 ghost use Rattle.hall_top.specs.Books.{book_state};
 ghost use Rattle.hall_top.specs.Transcript.{exchange_at, after_command};
+ghost use Rattle.hall_top.specs.Run.{MayFindNoMemory};
 
 use crate::asking::ask_at;
 use batch_reports::{TEXT_ROOM, answer_text, refusal_text};
 use book_core::{Book, BookError};
-use book_words::Question;
+use book_words::{Answered, Reply};
 use disk_core::NoMemory;
 use hall_units::{push_bytes, push_decimal};
 use script_lines::Command;
@@ -23,16 +25,16 @@ pub fn compose_answer(
     command: &Command,
     text: &mut Vec<u8>,
 ) -> Result<(), NoMemory>
-    requires desk { command.now.desk ≡ 0 }
-    requires request { command.now.request ≡ 0 }
-    requires room { TEXT_ROOM ≤ vec_capacity text.old }
+    requires { TEXT_ROOM ≤ vec_capacity text.old }
     ensures text { OnOk result (text.new.items
         ≡ outcome_text (exchange_at (book_state book.old) command.now).answer) }
     ensures after { OnOk result (book_state book.new
         ≡ after_command (book_state book.old) command.now) }
     ensures same { OnErr result (book_state book.new ≡ book_state book.old) }
-    ensures would_add { OnErr result
-        (IsSome (exchange_at (book_state book.old) command.now).added) }
+    ensures may { OnErr result
+        (MayFindNoMemory (exchange_at (book_state book.old) command.now).ask.want
+        (exchange_at (book_state book.old) command.now).added) }
+    ensures legal { IsLegal book.new.entries }
     ensures capacity { vec_capacity text.new ≡ vec_capacity text.old }
 {
     text.clear();
@@ -52,12 +54,16 @@ pub fn compose_answer(
 
 /// Makes the text of the summary.
 pub fn compose_summary(book: &Book, text: &mut Vec<u8>)
-    requires { TEXT_ROOM ≤ vec_capacity text.old }
+    requires room { TEXT_ROOM ≤ vec_capacity text.old }
+    requires legal { IsLegal book.now.entries }
     ensures text { text.new.items ≡ summary_text (summary book.now.entries) }
     ensures capacity { vec_capacity text.new ≡ vec_capacity text.old }
 {
     text.clear();
-    let answered = book.look(&Question::Summary).unwrap();
+    let answered = Answered {
+        at: book.len(),
+        reply: Reply::SummaryIs(book.summary()),
+    };
     answer_text(&answered, text).unwrap();
 }
 

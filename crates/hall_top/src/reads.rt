@@ -1,4 +1,4 @@
-ghost use Rattle.std.specs.Prelude.{◌≡◌, ◌+◌, ◌<◌, ◌≤◌, List, ℕ, [], length, false, OnOk, MatchResult};
+ghost use Rattle.std.specs.Prelude.{◌≡◌, ◌+◌, ◌<◌, ◌≤◌, List, ℕ, [], length, false, OnOk, IfOk, MatchResult};
 ghost use Rattle.book_words.specs.Soundness.{IsSound};
 ghost use Rattle.script_lines.specs.Feed.{feed_after};
 ghost use Rattle.hall_top.specs.Texts.{read_fault};
@@ -12,7 +12,7 @@ use crate::run::Run;
 use crate::stop::Stop;
 use crate::writing::say_no_memory;
 use book_core::{Book, Rows};
-use disk_core::{Failed, Sink, Source, write_all};
+use disk_core::{Failed, NoMemory, Sink, Source, write_all};
 use hall_limits::MAX_ROWS;
 use std::alloc::Global;
 
@@ -116,6 +116,17 @@ fn end_unbegun<K: Sink>(alloc: Global, output: &mut K) -> RunEnd
     }
 }
 
+// A run over a new book, and room for what is read at once.
+fn begin(alloc: Global) -> Result<(Run, Vec<u8>), NoMemory>
+    ensures run { IfOk result (λ begun. run_state begun.0
+        ≡ record { book = new_book; feed = feed_after [] }) }
+    ensures room { IfOk result (λ begun. length begun.1.items ≡ PIECE) }
+{
+    let buffer = vec![in alloc; 0u8; PIECE]?;
+    let run = Run::new(alloc)?;
+    Ok((run, buffer))
+}
+
 /// Runs a script over a new book. All memory but that of the book's entries is taken before the
 /// first read.
 pub fn run_script<S: Source, K: Sink>(alloc: Global, input: &mut S, output: &mut K) -> RunEnd
@@ -124,10 +135,7 @@ pub fn run_script<S: Source, K: Sink>(alloc: Global, input: &mut S, output: &mut
         (call S.Source K.Sink input.old output.old input.new output.new result.rows) result.stop }
     ensures sound { IsSound result.rows }
 {
-    let Ok(mut run) = Run::new(alloc) else {
-        return end_unbegun(alloc, output);
-    };
-    let Ok(mut buffer) = vec![in alloc; 0u8; PIECE] else {
+    let Ok((mut run, mut buffer)) = begin(alloc) else {
         return end_unbegun(alloc, output);
     };
     let stop = read_all(&mut run, &mut buffer, input, output);

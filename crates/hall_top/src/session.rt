@@ -16,6 +16,7 @@ pub struct Session {
 
 impl Model for Session {
     ghost use Rattle.std.specs.Prelude.{◌≤◌, vec_capacity};
+    ghost use Rattle.book_words.specs.Answers.{IsLegal};
     ghost use Rattle.batch_reports.specs.declared.answers.TheConstants.{TEXT_ROOM};
     ghost use Rattle.hall_top.specs.Transcript.{BookState};
     ghost use Rattle.hall_top.specs.Books.{book_state};
@@ -24,16 +25,16 @@ impl Model for Session {
 
     ghost view = { λ s. book_state s.book };
 
-    ghost invariant = { λ s. TEXT_ROOM ≤ vec_capacity s.text };
+    ghost invariant = { λ s. (TEXT_ROOM ≤ vec_capacity s.text) × IsLegal s.book.entries };
 }
 
 impl Session {
     ghost use Rattle.std.specs.Prelude.{◌≡◌, ◌≤◌, [], ◌∷◌, true, OnOk, OnErr, IfOk, IfErr};
     ghost use Rattle.hall_limits.specs.declared.TheConstants.{MAX_ROWS};
-    ghost use Rattle.book_words.specs.Answers.{summary};
+    ghost use Rattle.book_words.specs.Views.{summary};
     ghost use Rattle.book_words.specs.Soundness.{IsSound};
     ghost use Rattle.script_lines.specs.declared.command.Line.TheVariants as line;
-    ghost use Rattle.script_lines.specs.Script.{HasNoDesk, is_good, commands_of};
+    ghost use Rattle.script_lines.specs.Script.{is_good, commands_of};
     ghost use Rattle.batch_reports.specs.Texts.{summary_text};
     ghost use Rattle.hall_top.specs.Streams.{output_at, WroteAll, IsCutIn};
     ghost use Rattle.hall_top.specs.Run.{StopsAtLine};
@@ -67,7 +68,6 @@ impl Session {
         number: u64,
         output: &mut K,
     ) -> Result<(), Stop>
-        requires { HasNoDesk line.now }
         ensures good { OnOk result (is_good line.now ≡ true) }
         ensures answered { OnOk result (HasAnswered self.old
             (output_at K.Sink output.old) (output_at K.Sink output.new)

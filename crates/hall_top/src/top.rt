@@ -1,6 +1,7 @@
 ghost use Rattle.std.specs.Prelude.{◌≡◌, ◌↔◌, true, false, IsTrue};
 ghost use Rattle.book_words.specs.Soundness.{IsSound};
 ghost use Rattle.hall_top.specs.Words.{asks_to_run};
+ghost use Rattle.hall_top.specs.Requests.{RequestsOnce};
 ghost use Rattle.hall_top.specs.Transcript.{new_book};
 ghost use Rattle.hall_top.specs.Run.{call, is_status, IsUsage, IsDone, IsBadLine, IsReadFault};
 ghost use Rattle.hall_top.specs.Run.{IsWriteFault, IsOutOfMemory, IsSpent, IsComplete};
@@ -12,9 +13,9 @@ use disk_core::{Sink, Source, write_all};
 use std::alloc::Global;
 
 /// Does what the words say; the program's own name isn't among them. `run`, without further words,
-/// reads a script over a new book of at most 1 000 000 rows. Each command is answered by its number
-/// in the book or by a named refusal, and its answer goes out before the next command is asked. At
-/// the end of the script comes the summary.
+/// reads a script over a new book of at most 1 000 000 rows. An act is answered by its row in the book
+/// or by a named refusal, and a question by what the rows tell; each answer goes out before the next
+/// command is asked. At the end of the script comes the summary.
 ///
 /// | status | comes | last line |
 /// |---|---|---|
@@ -28,6 +29,7 @@ use std::alloc::Global;
 ///
 /// Where several hold it is the smallest, but 7 comes last. What was accepted stands in the rows at
 /// every status. The end of the input wasn't given before, and nothing is read after it.
+#[tactic(auto, using(crate::proofs::RequestOrder::requests_once))]
 pub fn hall<S: Source, K: Sink>(
     alloc: Global,
     words: &[String],
@@ -56,6 +58,7 @@ pub fn hall<S: Source, K: Sink>(
 
     // At every status; and a good script that nothing stops is done.
     ensures rows { IsSound result.rows }
+    ensures requests { RequestsOnce result.rows }
     ensures complete { asks_to_run words.now ≡ true → IsComplete
         (call S.Source K.Sink input.old output.old input.new output.new result.rows)
         result.status }

@@ -1,5 +1,6 @@
 ghost use Rattle.std.specs.Prelude.{◌≡◌, ◌≤◌, [], ◌∷◌, OnOk, OnErr, IfErr, vec_capacity};
-ghost use Rattle.book_words.specs.Answers.{summary};
+ghost use Rattle.book_words.specs.Views.{summary};
+ghost use Rattle.book_words.specs.Answers.{IsLegal};
 ghost use Rattle.script_lines.specs.declared.command.Line.TheVariants as line;
 ghost use Rattle.batch_reports.specs.Texts.{summary_text};
 ghost use Rattle.hall_top.specs.declared.stop.Stop.TheVariants as stop;
@@ -24,15 +25,14 @@ pub fn write_answer<K: Sink>(
     number: u64,
     output: &mut K,
 ) -> Result<(), Stop>
-    requires desk { command.now.desk ≡ 0 }
-    requires request { command.now.request ≡ 0 }
-    requires room { TEXT_ROOM ≤ vec_capacity text.old }
+    requires { TEXT_ROOM ≤ vec_capacity text.old }
     ensures answered { OnOk result (HasAnswered (book_state book.old)
         (output_at K.Sink output.old) (output_at K.Sink output.new)
         (book_state book.new) (command.now ∷ [])) }
     ensures stops { IfErr result (StopsAtLine (book_state book.old)
         (output_at K.Sink output.old) (output_at K.Sink output.new)
         book.new.entries [] number (line.Asks command.now)) }
+    ensures legal { IsLegal book.new.entries }
     ensures capacity { vec_capacity text.new ≡ vec_capacity text.old }
 {
     if compose_answer(book, command, text).is_err() {
@@ -59,7 +59,8 @@ pub fn write_bad_line<K: Sink>(number: u64, text: &mut Vec<u8>, output: &mut K) 
 
 /// Writes the summary of a book.
 pub fn write_summary<K: Sink>(book: &Book, text: &mut Vec<u8>, output: &mut K) -> Result<(), Partly>
-    requires { TEXT_ROOM ≤ vec_capacity text.old }
+    requires room { TEXT_ROOM ≤ vec_capacity text.old }
+    requires legal { IsLegal book.now.entries }
     ensures wrote { OnOk result (WroteAll (output_at K.Sink output.old)
         (output_at K.Sink output.new) (summary_text (summary book.now.entries))) }
     ensures cut { OnErr result (IsCutIn (output_at K.Sink output.old)

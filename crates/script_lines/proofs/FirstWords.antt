@@ -4,7 +4,7 @@ use Rattle.std.specs.List.{slice_split, prefix_len, position_or_len}
 use Rattle.std.proofs.lemmas.Bool.{cases_Bool, lt-ltb}
 use Rattle.std.proofs.lemmas.List.{length-take-le}
 use Rattle.std.proofs.lemmas.List.Sums.{prefix_len-le-length}
-use Rattle.script_lines.specs.Script.{is_blank, words_of}
+use Rattle.script_lines.specs.Words.{is_blank, words_of}
 
 -- the words between the bytes that pass a test: `words_of` for any test
 abbrev words_by : (ℕ → Bool) → List ℕ → List (List ℕ)

@@ -1,10 +1,9 @@
 -- What the lines of a script say.
-use Rattle.std.specs.Prelude.{◌≡◌, ℕ, Bool, true, false, ◌||◌, List, [], ◌∷◌, ◌++◌, length, map, filter, ◌==◌, nat_lt, nat_le, if◌then◌else◌, Option, Some, None, option_map, codes, filter_map}
-use Rattle.std.specs.List.{slice_split, list_all}
+use Rattle.std.specs.Prelude.{ℕ, Bool, true, false, List, [], ◌∷◌, ◌++◌, length, map, nat_le, if◌then◌else◌, Option, Some, None, option_map, codes, filter_map}
+use Rattle.std.specs.List.{list_all}
 use Rattle.std.specs.Option.{option_and_then}
 use Rattle.std.specs.Str.{bytes_eq}
 use Rattle.std.specs.Str.Lines.{strip_carriage_return}
-use Rattle.hall_units.specs.Number.{bounded_number}
 use Rattle.hall_units.specs.Grams.{milligrams_of}
 use Rattle.hall_units.specs.Days.{day_of}
 use Rattle.book_words.specs.Names.{name_of}
@@ -12,27 +11,11 @@ use Rattle.script_lines.specs.declared.lines.TheConstants.{MAX_LINE}
 use Rattle.script_lines.specs.declared.command.Allowed.{Allowed}
 use Rattle.script_lines.specs.declared.command.Command.{Command}
 use Rattle.script_lines.specs.declared.command.Verb.{Verb}
-use Rattle.script_lines.specs.declared.command.Verb.TheVariants.{Day, Product, Tare, Open, Start, Weigh, Stop, Summary}
+use Rattle.script_lines.specs.declared.command.Verb.TheVariants.{Day, Product, Tare, Open, Start, Weigh, Stop, Void, End, Draw, Measure, Second, Close, Sheet, Pack, Lane, Sample, Summary}
 use Rattle.script_lines.specs.declared.command.Line.{Line}
 use Rattle.script_lines.specs.declared.command.Line.TheVariants.{Nothing, Asks, Bad}
 use Rattle.script_lines.specs.Lines.{ended_lines, rest_of, last_line}
-
--- a space or a tab
-abbrev pub is_blank : ℕ → Bool
-is_blank byte = byte == 32 || byte == 9
-
--- the words of a line: what stands between its blanks
-abbrev pub words_of : List ℕ → List (List ℕ)
-words_of line = filter (λ word. nat_lt 0 (length word)) (slice_split is_blank line)
-
--- there is just one word
-abbrev pub is_one_word : List (List ℕ) → Bool
-is_one_word (word ∷ []) = true
-is_one_word _ = false
-
--- the number of a lane in a word: 1 to 20 digits, and no more than a byte holds
-abbrev pub lane_in : List ℕ → Option ℕ
-lane_in word = bounded_number 20 255 word
+use Rattle.script_lines.specs.Words.{words_of, is_comment, desk_digits, desk_in, request_in, lane_in, pack_in, draw_word_in, mode_in, unit_said, density_said, empty_said, prior_said}
 
 -- what two things make, where both are there
 abbrev pub from_both : {A B C : Type 0} → (A → B → C) → Option A → Option B → Option C
@@ -48,10 +31,11 @@ abbrev pub day_line : List (List ℕ) → Option Verb
 day_line (date ∷ []) = option_map (λ day. Day day) (day_of date)
 day_line _ = None
 
--- `product NAME GRAMS`
+-- `product NAME GRAMS` by mass, or `product NAME AMOUNT ml` by volume
 abbrev pub product_line : List (List ℕ) → Option Verb
-product_line (name ∷ grams ∷ []) =
-    from_both (λ product nominal. Product product nominal) (name_of name) (milligrams_of grams)
+product_line (name ∷ amount ∷ unit) =
+    from_three (λ product nominal told. Product product nominal told)
+    (name_of name) (milligrams_of amount) (unit_said unit)
 product_line _ = None
 
 -- `tare NAME DATE GRAMS`
@@ -61,10 +45,11 @@ tare_line (name ∷ date ∷ grams ∷ []) =
     (name_of name) (day_of date) (milligrams_of grams)
 tare_line _ = None
 
--- `open BATCH NAME`
+-- `open BATCH NAME`, or `open BATCH NAME DENSITY`
 abbrev pub open_line : List (List ℕ) → Option Verb
-open_line (batch ∷ name ∷ []) =
-    from_both (λ opened product. Open opened product) (name_of batch) (name_of name)
+open_line (batch ∷ name ∷ density) =
+    from_three (λ opened product told. Open opened product told)
+    (name_of batch) (name_of name) (density_said density)
 open_line _ = None
 
 -- `start LANE BATCH`
@@ -73,16 +58,73 @@ start_line (number ∷ batch ∷ []) =
     from_both (λ lane started. Start lane started) (lane_in number) (name_of batch)
 start_line _ = None
 
--- `weigh LANE GRAMS`
+-- `weigh LANE GRAMS`, and perhaps a prior word
 abbrev pub weigh_line : List (List ℕ) → Option Verb
-weigh_line (number ∷ grams ∷ []) =
-    from_both (λ lane gross. Weigh lane gross None) (lane_in number) (milligrams_of grams)
+weigh_line (number ∷ grams ∷ prior) =
+    from_three (λ lane gross said. Weigh lane gross said)
+    (lane_in number) (milligrams_of grams) (prior_said prior)
 weigh_line _ = None
 
--- `stop LANE`
+-- `stop LANE`, and perhaps a prior word
 abbrev pub stop_line : List (List ℕ) → Option Verb
-stop_line (number ∷ []) = option_map (λ lane. Stop lane None) (lane_in number)
+stop_line (number ∷ prior) =
+    from_both (λ lane said. Stop lane said) (lane_in number) (prior_said prior)
 stop_line _ = None
+
+-- `void PACK`
+abbrev pub void_line : List (List ℕ) → Option Verb
+void_line (number ∷ []) = option_map (λ pack. Void pack) (pack_in number)
+void_line _ = None
+
+-- `end BATCH`
+abbrev pub end_line : List (List ℕ) → Option Verb
+end_line (batch ∷ []) = option_map (λ ended. End ended) (name_of batch)
+end_line _ = None
+
+-- `draw BATCH MODE WORD`
+abbrev pub draw_line : List (List ℕ) → Option Verb
+draw_line (batch ∷ mode ∷ number ∷ []) =
+    from_three (λ drawn fate word. Draw drawn fate word)
+    (name_of batch) (mode_in mode) (draw_word_in number)
+draw_line _ = None
+
+-- `measure PACK GRAMS`, and perhaps the mass of the empty pack
+abbrev pub measure_line : List (List ℕ) → Option Verb
+measure_line (number ∷ grams ∷ empty) =
+    from_three (λ pack gross told. Measure pack gross told)
+    (pack_in number) (milligrams_of grams) (empty_said empty)
+measure_line _ = None
+
+-- `second BATCH WORD`
+abbrev pub second_line : List (List ℕ) → Option Verb
+second_line (batch ∷ number ∷ []) =
+    from_both (λ drawn word. Second drawn word) (name_of batch) (draw_word_in number)
+second_line _ = None
+
+-- `close BATCH`
+abbrev pub close_line : List (List ℕ) → Option Verb
+close_line (batch ∷ []) = option_map (λ closed. Close closed) (name_of batch)
+close_line _ = None
+
+-- `sheet BATCH`
+abbrev pub sheet_line : List (List ℕ) → Option Verb
+sheet_line (batch ∷ []) = option_map (λ asked. Sheet asked) (name_of batch)
+sheet_line _ = None
+
+-- `pack PACK`
+abbrev pub pack_line : List (List ℕ) → Option Verb
+pack_line (number ∷ []) = option_map (λ pack. Pack pack) (pack_in number)
+pack_line _ = None
+
+-- `lane LANE`
+abbrev pub lane_line : List (List ℕ) → Option Verb
+lane_line (number ∷ []) = option_map (λ lane. Lane lane) (lane_in number)
+lane_line _ = None
+
+-- `sample BATCH`
+abbrev pub sample_line : List (List ℕ) → Option Verb
+sample_line (batch ∷ []) = option_map (λ sampled. Sample sampled) (name_of batch)
+sample_line _ = None
 
 -- `summary`
 abbrev pub summary_line : List (List ℕ) → Option Verb
@@ -91,7 +133,13 @@ summary_line _ = None
 
 -- the question of a first word and the others, where there is such a question
 abbrev pub question_by : List ℕ → List (List ℕ) → Option Verb
-question_by word others = if bytes_eq word (codes "summary") then summary_line others else None
+question_by word others =
+    if bytes_eq word (codes "sheet") then sheet_line others
+    else (if bytes_eq word (codes "pack") then pack_line others
+    else (if bytes_eq word (codes "lane") then lane_line others
+    else (if bytes_eq word (codes "sample") then sample_line others
+    else (if bytes_eq word (codes "summary") then summary_line others
+    else None))))
 
 -- the verb of a first word and the others, where there is such a command and it is allowed
 abbrev pub verb_by : Allowed → List ℕ → List (List ℕ) → Option Verb
@@ -103,28 +151,52 @@ verb_by allowed word others =
     else (if bytes_eq word (codes "start") then start_line others
     else (if bytes_eq word (codes "weigh") then weigh_line others
     else (if bytes_eq word (codes "stop") then stop_line others
+    else (if bytes_eq word (codes "void") then void_line others
+    else (if bytes_eq word (codes "end") then end_line others
+    else (if bytes_eq word (codes "draw") then draw_line others
+    else (if bytes_eq word (codes "measure") then measure_line others
+    else (if bytes_eq word (codes "second") then second_line others
+    else (if bytes_eq word (codes "close") then close_line others
     else (if allowed.questions then question_by word others
-    else None)))))))
+    else None)))))))))))))
 
--- a command that names no desk
-abbrev pub command_of : Verb → Command
-command_of verb = record { desk = 0; request = 0; verb = verb }
+-- a command that names no desk: desk and request are 0
+abbrev pub plain_command : Allowed → List ℕ → List (List ℕ) → Option Command
+plain_command allowed word others =
+    option_map (λ verb. record { desk = 0; request = 0; verb = verb }) (verb_by allowed word others)
 
--- a line without a verb is bad
-abbrev pub line_by : Option Verb → Line
-line_by (Some verb) = Asks (command_of verb)
+-- acts alone: what a desk may ask by a script
+abbrev pub acts_alone : Allowed
+acts_alone = record { questions = false }
+
+-- `@DESK REQUEST` and an act, from the digits of the desk on
+abbrev pub desk_command : List ℕ → List (List ℕ) → Option Command
+desk_command digits (number ∷ word ∷ others) =
+    from_three (λ desk request verb. record { desk = desk; request = request; verb = verb })
+    (desk_in digits) (request_in number) (verb_by acts_alone word others)
+desk_command _ _ = None
+
+-- the command of a first word and the others: of the desk whose digits the word has, or of none
+abbrev pub desk_or_plain_command : Allowed → Option (List ℕ) → List ℕ → List (List ℕ)
+    → Option Command
+desk_or_plain_command allowed (Some digits) word others = desk_command digits others
+desk_or_plain_command allowed None word others = plain_command allowed word others
+
+-- the command of a first word and the others
+abbrev pub command_by : Allowed → List ℕ → List (List ℕ) → Option Command
+command_by allowed word others =
+    desk_or_plain_command allowed (desk_digits word) word others
+
+-- a line without a command is bad
+abbrev pub line_by : Option Command → Line
+line_by (Some command) = Asks command
 line_by None = Bad
-
--- whether a word begins a comment
-abbrev pub is_comment : List ℕ → Bool
-is_comment [] = false
-is_comment (byte ∷ word) = byte == 35
 
 -- what words say: nothing where there are none or the first begins a comment, and else a command
 abbrev pub words_say : Allowed → List (List ℕ) → Line
 words_say allowed [] = Nothing
 words_say allowed (word ∷ others) =
-    if is_comment word then Nothing else line_by (verb_by allowed word others)
+    if is_comment word then Nothing else line_by (command_by allowed word others)
 
 -- what a line says whose words stand in a text; a line of more than 200 bytes is bad
 abbrev pub line_says : Allowed → List ℕ → List ℕ → Line
@@ -138,11 +210,6 @@ ended_says allowed line = line_says allowed line (strip_carriage_return line)
 -- what a last line without its LF says: a CR is a byte like another there
 abbrev pub last_says : Allowed → List ℕ → Line
 last_says allowed line = line_says allowed line line
-
--- a line names no desk: none does yet
-abbrev pub HasNoDesk : Line → Type 0
-HasNoDesk (Asks command) = (command.desk ≡ 0) × (command.request ≡ 0)
-HasNoDesk _ = Unit {0}
 
 -- what the lines that have ended say
 abbrev pub ended_in : Allowed → List ℕ → List Line

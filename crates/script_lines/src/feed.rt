@@ -1,6 +1,6 @@
 ghost use Rattle.std.specs.Prelude.{◌≡◌, ◌++◌, ◌∷◌, false, MatchOption};
 ghost use Rattle.script_lines.specs.Lines.{has_end};
-ghost use Rattle.script_lines.specs.Script.{HasNoDesk, ended_says};
+ghost use Rattle.script_lines.specs.Script.{ended_says};
 
 use crate::command::{Allowed, Line};
 use crate::lines::{MAX_LINE, read_ended_line, read_last_line};
@@ -34,7 +34,7 @@ impl Model for Feed {
 
 impl Feed {
     ghost use Rattle.std.specs.Prelude.{◌≡◌, ◌+◌, ◌<◌, ◌≤◌, ◌++◌, [], length, IfOk, OnOk, OnErr};
-    ghost use Rattle.script_lines.specs.Script.{HasNoDesk, ended_says, last_says};
+    ghost use Rattle.script_lines.specs.Script.{ended_says, last_says};
 
     /// A feed that was given nothing.
     pub fn new(alloc: Global) -> Result<Feed, AllocError>
@@ -75,7 +75,6 @@ impl Feed {
     pub fn end_line(&mut self, allowed: Allowed, part: &[u8]) -> Line
         requires { self.old.ended < u64.MAX }
         ensures says { result ≡ ended_says allowed (self.old.begun ++ part.now) }
-        ensures no_desk { HasNoDesk result }
         ensures ended { self.new ≡ record { ended = self.old.ended + 1; begun = [] } }
     {
         let line = self.read_end(allowed, part);
@@ -87,7 +86,6 @@ impl Feed {
     // What the line says that ends with these bytes.
     fn read_end(&mut self, allowed: Allowed, part: &[u8]) -> Line
         ensures says { result ≡ ended_says allowed (self.old.begun ++ part.now) }
-        ensures no_desk { HasNoDesk result }
         ensures ended { self.new.ended ≡ self.old.ended }
     {
         if self.begun.is_empty() {
@@ -102,7 +100,6 @@ impl Feed {
     /// What the line says that has begun, where the input ends without its LF.
     pub fn read_last(&self, allowed: Allowed) -> Line
         ensures says { result ≡ last_says allowed self.now.begun }
-        ensures no_desk { HasNoDesk result }
     {
         read_last_line(allowed, &self.begun)
     }
@@ -111,7 +108,6 @@ impl Feed {
 // What a line of any length says whose LF was read.
 fn read_whole(allowed: Allowed, line: &[u8]) -> Line
     ensures says { result ≡ ended_says allowed line.now }
-    ensures no_desk { HasNoDesk result }
 {
     if line.len() > MAX_LINE {
         return Line::Bad;

@@ -1,9 +1,13 @@
 //! The lines of a script: the bytes of a line in, a command out. It takes no memory.
 #![tactic(auto)]
 
+mod acts;
 mod command;
 mod feed;
+mod fields;
 mod lines;
+mod optional;
+mod questions;
 mod verbs;
 mod words;
 

@@ -1,6 +1,6 @@
 ghost use Rattle.std.specs.Prelude.{◌≡◌, ◌≤◌, ◌∷◌, [], false, length, MatchOption};
 ghost use Rattle.std.specs.List.{prefix_len, position_or_len};
-ghost use Rattle.script_lines.specs.Script.{is_blank, words_of, is_one_word};
+ghost use Rattle.script_lines.specs.Words.{is_blank, words_of, is_one_word, is_at_most_one};
 
 /// The first word of a line and what follows it, where there is a word.
 pub fn first_word(line: &[u8]) -> Option<(&[u8], &[u8])>
@@ -19,11 +19,22 @@ pub fn only_word(line: &[u8]) -> Option<&[u8]>
     ensures { MatchOption result (is_one_word (words_of line.now) ≡ false)
         (λ word. words_of line.now ≡ word.now ∷ []) }
 {
-    let (word, rest) = first_word(line)?;
+    optional_word(line)?
+}
+
+/// The word of a line that has at most one, where it has one.
+pub fn optional_word(line: &[u8]) -> Option<Option<&[u8]>>
+    ensures { MatchOption result (is_at_most_one (words_of line.now) ≡ false)
+        (λ perhaps. MatchOption perhaps (words_of line.now ≡ [])
+        (λ word. words_of line.now ≡ word.now ∷ [])) }
+{
+    let Some((word, rest)) = first_word(line) else {
+        return Some(None);
+    };
     if first_word(rest).is_some() {
         return None;
     }
-    Some(word)
+    Some(Some(word))
 }
 
 // The number of blanks with which a line begins.

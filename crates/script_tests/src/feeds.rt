@@ -1,30 +1,30 @@
-use script_lines::{Allowed, Feed, Line, TooLong, Verb, split_line};
+use crate::saying::{EVERY_COMMAND, desk_asks};
+use book_words::Prior;
+use script_lines::{Feed, Line, TooLong, Verb, split_line};
+use std::alloc::Global;
 use std::test::Fail;
 
-const EVERY_COMMAND: Allowed = Allowed { questions: true };
+// What a line says that comes in two parts, the number of the line after it, and what that one says
+// where nothing follows.
+fn in_parts(alloc: Global, part: &[u8], rest: &[u8]) -> Result<(Line, u64, Line), Fail> {
+    let mut feed = Feed::new(alloc)?;
+    feed.begin_line(part)?;
+    let line = feed.end_line(EVERY_COMMAND, rest);
+    Ok((line, feed.line_number(), feed.read_last(EVERY_COMMAND)))
+}
 
 // A line comes whole, or in two parts that are cut at each of its places.
 #[test]
 fn a_line_comes_in_parts(rt: HostRuntime) -> Result<(), Fail> {
-    let line = b"stop 255\r";
+    let line = b"@101 7 stop 255 opened\r";
+    let stop = Verb::Stop {
+        lane: 255,
+        prior: Some(Prior::Opened),
+    };
+    let says = (desk_asks(101, 7, stop), 2, Line::Nothing);
     for place in 0..line.len() {
-        let mut feed = Feed::new(rt.alloc())?;
         let (part, rest) = line.split_at(place);
-        assert_eq!(rt; feed.begin_line(part), Ok(()), "place {place}");
-        let Line::Asks(command) = feed.end_line(EVERY_COMMAND, rest) else {
-            return Err("no command".into());
-        };
-        let stop = Verb::Stop {
-            lane: 255,
-            prior: None,
-        };
-        assert_eq!(rt; command.verb, stop, "place {place}");
-        assert_eq!(rt; feed.line_number(), 2, "place {place}");
-        assert_eq!(rt;
-            feed.read_last(EVERY_COMMAND),
-            Line::Nothing,
-            "place {place}"
-        );
+        assert_eq!(rt; in_parts(rt.alloc(), part, rest)?, says, "place {place}");
     }
     Ok(())
 }

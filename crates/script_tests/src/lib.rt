@@ -2,6 +2,12 @@
 #![tactic(auto)]
 
 #[cfg(test)]
+mod bad;
+#[cfg(test)]
+mod commands;
+#[cfg(test)]
 mod feeds;
 #[cfg(test)]
 mod lines;
+#[cfg(test)]
+mod saying;

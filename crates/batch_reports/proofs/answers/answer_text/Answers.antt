@@ -1,4 +1,4 @@
-use Rattle.book_words.proofs.RangeLemmas.{answer_in_range}
+use Rattle.book_laws.proofs.RangeLaws.{answer_in_range}
 use Rattle.batch_reports.proofs.answers.answer_text.Goals as goal
 
 pub push_reply-requires-clause-range : goal.push_reply-requires-clause-range

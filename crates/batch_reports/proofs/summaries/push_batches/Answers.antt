@@ -3,7 +3,7 @@ use Rattle.batch_reports.proofs.summaries.push_batches.Goals as goal
 
 pub returns : goal.returns
 returns c = record {
-  items = simp (c.append.ensures.items, c.push_numbered-4.ensures.items, c.push_numbered-3.ensures.items, c.push_numbered-2.ensures.items, c.push_numbered.ensures.items, append_assoc);
+  items = simp (c.append.ensures.items, c.append_numbered-4.ensures.items, c.append_numbered-3.ensures.items, c.append_numbered-2.ensures.items, c.append_numbered.ensures.items, append_assoc);
   longest = omega arith;
-  capacity = c.append.ensures.capacity ∙ c.push_numbered-4.ensures.capacity ∙ c.push_numbered-3.ensures.capacity ∙ c.push_numbered-2.ensures.capacity ∙ c.push_numbered.ensures.capacity;
+  capacity = c.append.ensures.capacity ∙ c.append_numbered-4.ensures.capacity ∙ c.append_numbered-3.ensures.capacity ∙ c.append_numbered-2.ensures.capacity ∙ c.append_numbered.ensures.capacity;
 }

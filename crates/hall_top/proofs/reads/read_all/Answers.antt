@@ -1,4 +1,4 @@
-use Rattle.std.proofs.Common.{[], refl, arith, lit<, rules}
+use Rattle.std.proofs.Common.{[], refl, arith}
 use Rattle.hall_top.specs.Streams.{devices}
 use Rattle.hall_top.specs.Runs.{run_state}
 use Rattle.hall_top.proofs.Explaining.{begins, lines_few, has_taken_more, explained_spent}

@@ -1,6 +1,6 @@
 use Rattle.std.proofs.Common.{◌≡◌, ◌<◌, length, drop, arith, rules}
 use Rattle.std.specs.List.{prefix_len}
-use Rattle.script_lines.specs.Script.{is_blank}
+use Rattle.script_lines.specs.Words.{is_blank}
 use Rattle.script_lines.proofs.FirstWords.{words_of-wordless, words_of-first}
 use Rattle.script_lines.proofs.words.first_word.Goals as goal
 

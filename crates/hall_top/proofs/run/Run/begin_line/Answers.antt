@@ -1,4 +1,4 @@
-use Rattle.std.proofs.Common.{◌≡◌, ◌<◌, ℕ, ◌+◌, ◌++◌, [], List, length, refl, sym, ap, ◌∙◌, append-nil, subst}
+use Rattle.std.proofs.Common.{◌<◌, ℕ, ◌+◌, ◌++◌, [], length, refl, sym, ap, ◌∙◌, append-nil, subst}
 use Rattle.script_lines.specs.declared.lines.TheConstants.{MAX_LINE}
 use Rattle.script_lines.specs.declared.command.Line.TheVariants.{Bad}
 use Rattle.script_lines.specs.Lines.{rest_of}

@@ -1,4 +1,4 @@
-use Rattle.std.proofs.Common.{◌≡◌, ℕ, [], subst}
+use Rattle.std.proofs.Common.{ℕ, [], subst}
 use Rattle.std.proofs.lemmas.Result.{err_from_is_err_and}
 use Rattle.hall_top.specs.Streams.{output_at}
 use Rattle.hall_top.specs.Run.{StopsAtLine}

@@ -1,7 +1,5 @@
-use Rattle.std.proofs.Common.{◌≡◌, ℕ, List, ◌+◌, ◌≤◌, ◌++◌, ◌∷◌, [], length, Result, Ok, Err, sym, ap, ◌∙◌, append_assoc, append-nil, length-append, subst, arith}
+use Rattle.std.proofs.Common.{◌≡◌, ℕ, List, ◌++◌, ◌∷◌, [], length, sym, ap, ◌∙◌, append_assoc, length-append, arith}
 use Rattle.std.proofs.lemmas.Result.{err_from_is_err_and}
-use Rattle.hall_top.specs.Streams.{output_at}
-use Rattle.hall_top.specs.Reached.{StopsAfter}
 use Rattle.hall_top.specs.Runs.{run_state}
 use Rattle.hall_top.proofs.Stepping.{steps_on, steps_stop, steps_last}
 use Rattle.hall_top.proofs.run.Run.take_piece.Goals as goal

@@ -1,5 +1,5 @@
 use Rattle.std.proofs.Common.{[], OnOk, OnErr, subst}
-use Rattle.book_words.specs.Answers.{summary}
+use Rattle.book_words.specs.Views.{summary}
 use Rattle.batch_reports.specs.Texts.{summary_text}
 use Rattle.hall_top.specs.Transcript.{BookState}
 use Rattle.hall_top.specs.Streams.{output_at, WroteAll, IsCutIn}
