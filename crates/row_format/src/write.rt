@@ -1,0 +1,29 @@
+ghost use Rattle.row_format.specs.Spelling.{new_layout};
+ghost use Rattle.row_format.specs.Allowed.{IsAllowed, IsAllowedWhereLawful};
+ghost use Rattle.row_format.specs.Rows.{Spells};
+
+use book_snapshot::ROW_BYTES;
+use book_words::Entry;
+use hall_limits::NAME_BYTES;
+
+/// The row of an entry with its number, its gate open. What is lawful behind some list may stand in
+/// a row.
+pub fn write_row(entry: &Entry, number: u32) -> [u8; ROW_BYTES]
+    requires { IsAllowed NAME_BYTES entry.now }
+    ensures { Spells new_layout result number entry.now }
+{
+    unsafe { stub() };
+    unreachable!()
+}
+
+/// A law of the rules: an entry that is lawful behind some list may stand in a row.
+pub fn lawful_entries_are_allowed()
+    ensures { IsAllowedWhereLawful }
+{
+    unsafe { stub() };
+}
+
+unsafe extern "C" {
+    fn stub()
+        ensures { ⊥ };
+}
