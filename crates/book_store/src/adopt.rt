@@ -1,0 +1,49 @@
+use crate::store::Store;
+use crate::types::AdoptError;
+use book_words::Entry;
+use disk_core::Disk;
+
+impl<D: Disk> Store<D> {
+    ghost use Rattle.std.specs.Prelude.{◌≡◌, ◌⊎◌, Err, OnOk};
+    ghost use Rattle.device_facts.specs.Known.{TellsAsBefore};
+    ghost use Rattle.book_words.specs.Answers.{IsLawful, IsLegal};
+    ghost use Rattle.book_store.specs.declared.types.AdoptError.TheVariants as error;
+    ghost use Rattle.book_store.specs.Stores.{disk_of, entries_of, limit_of, Hangs, HasBook, ImagesHoldBook, IsSound};
+    ghost use Rattle.book_store.specs.Offers.{LeavesDisk, OffersEntry};
+    ghost use Rattle.book_store.specs.Adopting.{Adopts, list_adopted, CountsAdoptFault};
+
+    /// Appends an entry of another book as it stands, with whoever brought it, its desk and its
+    /// signal, and tells its number. It is written down and stable before it is in the book.
+    /// `Unlawful` comes exactly where it isn't lawful behind the list; the book's limit doesn't bind
+    /// it.
+    pub fn adopt(&mut self, entry: &Entry) -> Result<u32, AdoptError>
+        requires sound { IsSound D.Disk self.old }
+        ensures adopts { Adopts (entries_of self.old) entry.now result }
+        ensures entries { entries_of self.new ≡ list_adopted result (entries_of self.old) entry.now }
+        ensures legal { IsLegal (entries_of self.new) }
+
+        // What a crash leaves, during the call and after it.
+        ensures offers { IsLawful (entries_of self.old) entry.now → HasBook D.Disk self.old →
+            OffersEntry D.Disk entry.now self.old self.new }
+        ensures images { ImagesHoldBook D.Disk self.new }
+        ensures unlawful { result ≡ Err error.Unlawful → LeavesDisk D.Disk self.old self.new }
+        ensures no_memory { result ≡ Err error.NoMemory → disk_of self.new ≡ disk_of self.old }
+        ensures hangs { Hangs self.new → (result ≡ Err error.DiskFault) ⊎ Hangs self.old }
+        ensures settled { OnOk result (¬ Hangs self.new) }
+
+        ensures limit { limit_of self.new ≡ limit_of self.old }
+        ensures cause { CountsAdoptFault (D.faults (disk_of self.old)) (D.faults (disk_of self.new))
+            result }
+        ensures asked { D.asked (disk_of self.new) ≡ D.asked (disk_of self.old) }
+        ensures tells { TellsAsBefore (D.reads (disk_of self.old)) (D.reads (disk_of self.new)) }
+        ensures sound { IsSound D.Disk self.new }
+    {
+        unsafe { stub() };
+        unreachable!()
+    }
+}
+
+unsafe extern "C" {
+    fn stub()
+        ensures { ⊥ };
+}

@@ -1,0 +1,13 @@
+//! The book on a disk: an entry is written down and stable before it is in the book, and a disk that
+//! is opened again gives the book that it holds.
+#![tactic(auto)]
+
+mod adopt;
+mod ask;
+mod mount;
+mod rest;
+mod store;
+mod types;
+
+pub use store::Store;
+pub use types::{AdoptError, MountError, RestError, Unmounted};

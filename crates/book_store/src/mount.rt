@@ -1,0 +1,70 @@
+use crate::store::Store;
+use crate::types::Unmounted;
+use disk_core::Disk;
+use std::alloc::Global;
+
+/// The most bytes of the header, the ends of a snapshot and the gate behind the rows that opening
+/// asks of a disk where a snapshot fits.
+pub(crate) const OPENING_BYTES: u64 = 4_096;
+
+/// The most bytes that one call asks for content.
+pub(crate) const CALL_BYTES: u64 = 4_096;
+
+/// The most bytes that opening asks for each slot behind a snapshot.
+pub(crate) const SLOT_BYTES: u64 = 200;
+
+impl<D: Disk> Store<D> {
+    ghost use Rattle.std.specs.Prelude.{◌≡◌, ◌+◌, ◌≤◌, ℕ, List, length, IfOk, IfErr, MatchResult};
+    ghost use Rattle.hall_limits.specs.declared.TheConstants.{MAX_ROWS};
+    ghost use Rattle.device_facts.specs.Known.{TellsAsBefore};
+    ghost use Rattle.disk_core.specs.Disk.{WhereTold};
+    ghost use Rattle.book_words.specs.declared.act.Entry.{Entry};
+    ghost use Rattle.book_words.specs.Answers.{IsLegal};
+    ghost use Rattle.book_journal.specs.Rows.{FitsSnapshot};
+    ghost use Rattle.book_store.specs.Images.{HoldsBook};
+    ghost use Rattle.book_store.specs.Stores.{disk_of, entries_of, limit_of, Hangs, IsSound};
+    ghost use Rattle.book_store.specs.Listing.{IsOpenedAs};
+    ghost use Rattle.book_store.specs.Mounting.{IsCauseOf, KeepsHeld, opening_bytes};
+
+    /// Opens a disk as a book that may have `limit` rows, 1 to 1 000 000, or hands it back with the
+    /// reason. A book that has more rows opens all the same, and takes no more.
+    ///
+    /// The disk is synced first. One of at most 97 bytes without the header of a journal is made a
+    /// new one. Where a snapshot fits, it is read in place of its slots.
+    pub fn mount(alloc: Global, disk: D, limit: u32) -> Result<Store<D>, Unmounted<D>>
+        requires least { 1 ≤ limit }
+        requires most { limit ≤ MAX_ROWS }
+
+        // The book is the one that the disk's bytes list, and it is refused exactly where they list
+        // none.
+        ensures opened { WhereTold (D.reads disk) (λ bytes.
+            IfOk result (λ store. IsOpenedAs bytes (entries_of store))) }
+        ensures cause { MatchResult result (λ store. D.faults (disk_of store) ≡ D.faults disk)
+            (λ refused. IsCauseOf D.Disk refused.why disk refused.disk) }
+
+        // A disk that holds a book gives it, and a crash from the first good sync on leaves it,
+        // whatever is answered.
+        ensures held { WhereTold (D.reads disk) (λ bytes.
+            (entries : List Entry) → HoldsBook entries bytes → IsLegal entries →
+            KeepsHeld D.Disk disk entries result) }
+
+        ensures limit { IfOk result (λ store. limit_of store ≡ limit) }
+        ensures calm { IfOk result (λ store. ¬ Hangs store) }
+        ensures legal { IfOk result (λ store. IsLegal (entries_of store)) }
+        ensures sound { IfOk result (λ store. IsSound D.Disk store) }
+        ensures asked { WhereTold (D.reads disk) (λ bytes. (rows size : ℕ) →
+            FitsSnapshot rows size bytes → IfOk result (λ store. D.asked (disk_of store) ≤
+            D.asked disk + opening_bytes rows size (length (entries_of store)))) }
+        ensures tells { MatchResult result
+            (λ store. TellsAsBefore (D.reads disk) (D.reads (disk_of store)))
+            (λ refused. TellsAsBefore (D.reads disk) (D.reads refused.disk)) }
+    {
+        unsafe { stub() };
+        unreachable!()
+    }
+}
+
+unsafe extern "C" {
+    fn stub()
+        ensures { ⊥ };
+}

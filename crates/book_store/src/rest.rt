@@ -1,0 +1,52 @@
+use crate::store::Store;
+use crate::types::RestError;
+use disk_core::Disk;
+
+impl<D: Disk> Store<D> {
+    ghost use Rattle.std.specs.Prelude.{◌≡◌, ◌↔◌, ◌≤◌, true, false, Ok, Err, length};
+    ghost use Rattle.device_facts.specs.Known.{TellsAsBefore};
+    ghost use Rattle.disk_core.specs.Disk.{WhereTold};
+    ghost use Rattle.book_snapshot.specs.Layout.{snapshot_end};
+    ghost use Rattle.book_journal.specs.Marking.{HoldsSnapshot};
+    ghost use Rattle.book_store.specs.declared.types.RestError.TheVariants as error;
+    ghost use Rattle.book_store.specs.Stores.{disk_of, book_of, entries_of, Hangs, HasBook, KeepsBook, ImagesHoldBook, IsSound};
+    ghost use Rattle.book_store.specs.Resting.{book_content, HasNothingToKeep, CountsRestFault};
+
+    /// Keeps a snapshot of the book on its disk, which opening then reads in place of the slots, and
+    /// says so. Where the book is empty or an entry hangs there is nothing to keep, and the disk isn't
+    /// touched. The book stays as it is, and a crash at any moment leaves it.
+    ///
+    /// A disk that is longer than the snapshot's end is left without one, since its last bytes aren't
+    /// the book's.
+    pub fn rest(&mut self) -> Result<bool, RestError>
+        requires sound { IsSound D.Disk self.old }
+        ensures idle { (result ≡ Ok false) ↔ HasNothingToKeep self.old }
+        ensures book { book_of self.new ≡ book_of self.old }
+        ensures hangs { Hangs self.new ↔ Hangs self.old }
+
+        // What a crash leaves, during the call and after it, and what the disk then reads.
+        ensures keeps { HasBook D.Disk self.old → KeepsBook D.Disk self.old self.new }
+        ensures images { ImagesHoldBook D.Disk self.new }
+        ensures untouched { result ≡ Ok false → disk_of self.new ≡ disk_of self.old }
+        ensures no_memory { result ≡ Err error.NoMemory → disk_of self.new ≡ disk_of self.old }
+        ensures fits { WhereTold (D.reads (disk_of self.old)) (λ bytes.
+            length bytes
+            ≤ snapshot_end (length (entries_of self.old)) (length (book_content (entries_of self.old)))
+            → result ≡ Ok true → WhereTold (D.reads (disk_of self.new))
+            (HoldsSnapshot (length (entries_of self.old)) (book_content (entries_of self.old)))) }
+
+        ensures cause { CountsRestFault (D.faults (disk_of self.old)) (D.faults (disk_of self.new))
+            result }
+        ensures asked { D.asked (disk_of self.new) ≡ D.asked (disk_of self.old) }
+        ensures tells { TellsAsBefore (D.reads (disk_of self.old)) (D.reads (disk_of self.new)) }
+        ensures sound { IsSound D.Disk self.new }
+    {
+        unsafe { stub() };
+        unreachable!()
+    }
+}
+
+unsafe extern "C" {
+    fn stub()
+        ensures { ⊥ };
+}
