@@ -1,9 +1,11 @@
+pub mod Books
+pub mod Calls
+pub mod Kept
+pub mod Reached
+pub mod Requests
+pub mod Run
+pub mod Runs
+pub mod Streams
 pub mod Texts
 pub mod Transcript
-pub mod Books
-pub mod Streams
-pub mod Run
-pub mod Reached
-pub mod Runs
 pub mod Words
-pub mod Requests

@@ -9,15 +9,17 @@ use Rattle.script_lines.specs.Feed.{FeedView, feed_after}
 use Rattle.script_lines.specs.Script.{all_good, commands_of}
 use Rattle.hall_top.specs.declared.reads.TheConstants.{PIECE}
 use Rattle.hall_top.specs.declared.stop.Stop.{Stop}
-use Rattle.hall_top.specs.declared.stop.Stop.TheVariants.{Finished, BadLine, WriteFault, NoMemory}
+use Rattle.hall_top.specs.declared.stop.Stop.TheVariants.{Finished, BadLine, WriteFault, DiskFault, NoMemory}
 use Rattle.hall_top.specs.Texts.{no_memory}
 use Rattle.hall_top.specs.Transcript.{BookState, after_commands, answers, ended_lines_of, lines_of}
 use Rattle.hall_top.specs.Streams.{Stream, Devices, IsCalm, WroteAll, IsCutIn}
-use Rattle.hall_top.specs.Run.{StopsInScript, HasLine, HasTranscript, LacksSummary}
+use Rattle.hall_top.specs.Run.{StopsInScript, HasLine, HasTranscript, EndsEarly}
 
--- a run at one moment: its book, how many lines have ended, and the line that has begun
+-- a run at one moment: its book, how many rows that had as it was opened, how many lines have ended,
+-- and the line that has begun
 pub record RunState : Type 0 where
   pub book : BookState
+  pub opened : ℕ
   pub feed : FeedView
 
 -- the line went out that says that there is no memory, or was cut
@@ -38,6 +40,7 @@ pub record Reached (book : BookState) (before now : Stream) (taken : List ℕ)
     (run : RunState) : Type 0 where
   pub good : all_good (ended_lines_of taken) ≡ true
   pub fed : run.feed ≡ feed_after taken
+  pub opened : run.opened ≡ length book.entries
   pub short : length (rest_of taken) ≤ MAX_LINE
   pub answered : HasAnswered book before now run.book (commands_of (ended_lines_of taken))
 
@@ -77,13 +80,18 @@ pub record IsWholeSoFar (book : BookState) (before now : Stream) (script : List 
   pub good : all_good (lines_of script) ≡ true
   pub answered : HasAnswered book before now left (commands_of (lines_of script))
 
+-- a run stops at a line of a whole script, or at its end
+abbrev pub StopsOrEnds : BookState → Stream → Stream → List Entry → Stop → List ℕ → Type 0
+StopsOrEnds book before now rows stop script =
+    StopsInScript book before now rows stop script ⊎ EndsEarly book before now rows stop script
+
 -- how a run over a whole script ends
 abbrev pub EndsScript : BookState → Stream → Stream → List Entry → List ℕ → Stop → Type 0
 EndsScript book before now rows script Finished = HasTranscript book before now rows script
 EndsScript book before now rows script BadLine = StopsInScript book before now rows BadLine script
-EndsScript book before now rows script WriteFault =
-    StopsInScript book before now rows WriteFault script ⊎ LacksSummary book before now rows script
-EndsScript book before now rows script NoMemory = StopsInScript book before now rows NoMemory script
+EndsScript book before now rows script WriteFault = StopsOrEnds book before now rows WriteFault script
+EndsScript book before now rows script DiskFault = StopsOrEnds book before now rows DiskFault script
+EndsScript book before now rows script NoMemory = StopsOrEnds book before now rows NoMemory script
 EndsScript book before now rows script _ = ⊥
 
 -- a run that began with these devices took these bytes of its input

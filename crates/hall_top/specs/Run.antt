@@ -18,8 +18,8 @@ use Rattle.script_lines.specs.Script.{all_good, commands_of}
 use Rattle.batch_reports.specs.Texts.{outcome_text, summary_text}
 use Rattle.hall_top.specs.declared.reads.TheConstants.{MAX_READS, PIECE}
 use Rattle.hall_top.specs.declared.stop.Stop.{Stop}
-use Rattle.hall_top.specs.declared.stop.Stop.TheVariants.{Finished, BadLine, ReadFault, WriteFault, NoMemory, Spent}
-use Rattle.hall_top.specs.Texts.{usage, bad_line, read_fault, no_memory}
+use Rattle.hall_top.specs.declared.stop.Stop.TheVariants.{Finished, BadLine, ReadFault, WriteFault, DiskFault, NoMemory, Spent}
+use Rattle.hall_top.specs.Texts.{usage, bad_line, read_fault, disk_fault, no_memory}
 use Rattle.hall_top.specs.Transcript.{BookState, Exchange, exchange_at, after_commands, answers, transcript, StandOnce, ended_lines_of, lines_of}
 use Rattle.hall_top.specs.Streams.{Stream, Devices, devices, IsCalm, HasFailed, WroteAll, IsCutIn, Wrote}
 
@@ -64,16 +64,28 @@ pub record FindsNoMemory (book : BookState) (rows : List Entry) (commands : List
       (exchange_after book commands command).added
   pub rows_left : AreLeft book commands rows
 
+-- the disk failed at a command after others, which would have added a row
+pub record FindsDiskFault (book : BookState) (rows : List Entry) (commands : List Command)
+    (command : Command) : Type 0 where
+  pub offers : IsSome (exchange_after book commands command).added
+  pub rows_left : AreLeft book commands rows
+
 -- how a run stops at the line of a number, after these commands: at a bad line, in a failed write,
--- or where there is no memory for a command; no other line stops it, and none in another way
+-- where the disk fails at a command, or where there is no memory for it; no other line stops it, and
+-- none in another way
 abbrev pub StopsAtLine : BookState → Stream → Stream → List Entry → List Command → ℕ → Line
     → Stop → Type 0
 StopsAtLine book before now rows commands number Bad BadLine =
     IsAnsweredThen book before now rows commands (bad_line number)
 StopsAtLine book before now rows commands number (Asks command) WriteFault =
     IsAnswerCut book before now rows commands command
-    ⊎ (IsCutIn before now (answers book commands) no_memory
+    ⊎ ((IsCutIn before now (answers book commands) no_memory
     × FindsNoMemory book rows commands command)
+    ⊎ (IsCutIn before now (answers book commands) disk_fault
+    × FindsDiskFault book rows commands command))
+StopsAtLine book before now rows commands number (Asks command) DiskFault =
+    WroteAll before now (answers book commands ++ disk_fault)
+    × FindsDiskFault book rows commands command
 StopsAtLine book before now rows commands number (Asks command) NoMemory =
     WroteAll before now (answers book commands ++ no_memory)
     × FindsNoMemory book rows commands command
@@ -133,12 +145,31 @@ pub record HasTranscript (book : BookState) (before now : Stream) (rows : List E
   pub wrote : WroteAll before now (transcript book (commands_of (lines_of script)))
   pub rows_left : AreLeft book (commands_of (lines_of script)) rows
 
--- all lines of a script are good and answered, the summary was cut, and these rows are left
-pub record LacksSummary (book : BookState) (before now : Stream) (rows : List Entry)
+-- rows were added to those that the book had as it was opened
+abbrev pub HasGrown : ℕ → List Entry → Type 0
+HasGrown opened rows = opened < length rows
+
+-- How a run ends without its summary, all lines answered: where rows were added, the disk may fail
+-- and memory may lack while a snapshot of them is kept, and a line says so; that line and the summary
+-- may be cut.
+abbrev pub StopsAtSummary : ℕ → Stream → Stream → List Entry → Stop → Type 0
+StopsAtSummary opened before now rows DiskFault =
+    HasGrown opened rows × WroteAll before now disk_fault
+StopsAtSummary opened before now rows NoMemory =
+    HasGrown opened rows × WroteAll before now no_memory
+StopsAtSummary opened before now rows WriteFault =
+    IsCutIn before now [] (summary_text (summary rows))
+    ⊎ (HasGrown opened rows × (IsCutIn before now [] disk_fault ⊎ IsCutIn before now [] no_memory))
+StopsAtSummary opened before now rows _ = ⊥
+
+-- all lines of a script are good, at some moment all were answered, these rows are left, and then
+-- the run ended without its summary
+pub record EndsEarly (book : BookState) (before now : Stream) (rows : List Entry) (stop : Stop)
     (script : List ℕ) : Type 0 where
   pub good : all_good (lines_of script) ≡ true
-  pub cut : IsCutIn before now (answers book (commands_of (lines_of script)))
-      (summary_text (summary rows))
+  pub answered : Stream
+  pub wrote : WroteAll before answered (answers book (commands_of (lines_of script)))
+  pub stops : StopsAtSummary (length book.entries) answered now rows stop
   pub rows_left : AreLeft book (commands_of (lines_of script)) rows
 
 -- status 0: the whole script is good, its transcript went out, and nothing failed
@@ -147,11 +178,12 @@ pub record IsDone {S : Type 0} (book : BookState) (call : Call S) : Type 0 where
   pub read : ReadsWhole call.before.input call.now.input script
   pub done : HasTranscript book call.before.output call.now.output call.rows script
 
--- the whole script is good and answered, and its summary was cut
-pub record IsSummaryCut {S : Type 0} (book : BookState) (call : Call S) : Type 0 where
+-- the input was read to its end, the whole script is good and answered, and the run ended without
+-- its summary
+pub record StopsAtEnd {S : Type 0} (book : BookState) (call : Call S) (stop : Stop) : Type 0 where
   pub script : List ℕ
   pub read : ReadsWhole call.before.input call.now.input script
-  pub done : LacksSummary book call.before.output call.now.output call.rows script
+  pub ends : EndsEarly book call.before.output call.now.output call.rows stop script
 
 -- status 2: nothing was read, the line on the usage went out or was cut, and there are no rows
 pub record IsUsage {S : Type 0} (call : Call S) : Type 0 where
@@ -184,12 +216,12 @@ pub record NotBegun {S : Type 0} (book : BookState) (call : Call S) : Type 0 whe
   pub unread : call.now.source ≡ call.before.source
   pub rows_left : AreLeft book [] call.rows
 
--- what a failed write stopped: an answer, the summary, or the line that says that there is no
--- memory
+-- what a failed write stopped: an answer, the summary, or a line that says that the disk failed or
+-- that there is no memory
 abbrev pub IsCutShort : {S : Type 0} → BookState → Call S → Type 0
 IsCutShort book call =
     StopsInInput book call WriteFault
-    ⊎ (IsSummaryCut book call
+    ⊎ (StopsAtEnd book call WriteFault
     ⊎ (NotBegun book call × IsCutIn call.before.output call.now.output [] no_memory))
 
 -- status 5: the output failed, in one of these places; the input didn't
@@ -198,11 +230,19 @@ pub record IsWriteFault {S : Type 0} (book : BookState) (call : Call S) : Type 0
   pub cause : HasFailed call.before.output call.now.output
   pub calm : IsCalm call.before.input call.now.input
 
--- how a run is stopped for want of memory: at a command, or before it began
+-- status 6: the disk failed, at a command or at the end; the commands before are answered, then comes
+-- one line, and nothing else failed
+pub record IsDiskFault {S : Type 0} (book : BookState) (call : Call S) : Type 0 where
+  pub stops : StopsInInput book call DiskFault ⊎ StopsAtEnd book call DiskFault
+  pub calm : IsCalm call.before.input call.now.input
+  pub output_calm : IsCalm call.before.output call.now.output
+
+-- how a run is stopped for want of memory: at a command, at the end, or before it began
 abbrev pub RunsOut : {S : Type 0} → BookState → Call S → Type 0
 RunsOut book call =
     StopsInInput book call NoMemory
-    ⊎ (NotBegun book call × WroteAll call.before.output call.now.output no_memory)
+    ⊎ (StopsAtEnd book call NoMemory
+    ⊎ (NotBegun book call × WroteAll call.before.output call.now.output no_memory))
 
 -- status 7: there was no memory; the commands before are answered, then comes one line, and nothing
 -- failed
@@ -229,6 +269,7 @@ Explains book call Finished = IsDone book call
 Explains book call BadLine = IsBadLine book call
 Explains book call ReadFault = IsReadFault book call
 Explains book call WriteFault = IsWriteFault book call
+Explains book call DiskFault = IsDiskFault book call
 Explains book call NoMemory = IsOutOfMemory book call
 Explains book call Spent = IsSpent book call
 
@@ -238,30 +279,21 @@ status_of Finished = 0
 status_of BadLine = 3
 status_of ReadFault = 4
 status_of WriteFault = 5
+status_of DiskFault = 6
 status_of NoMemory = 7
 status_of Spent = 12
 
 -- the statuses that the program may end with
 abbrev pub is_status : ℕ → Bool
 is_status status =
-    status == 0 || status == 2 || status == 3 || status == 4 || status == 5 || status == 7
-    || status == 12
+    status == 0 || status == 2 || status == 3 || status == 4 || status == 5 || status == 6
+    || status == 7 || status == 8 || status == 9 || status == 12
 
--- what a status says of a call
-pub record IsExplained {S : Type 0} (book : BookState) (call : Call S) (status : ℕ) : Type 0 where
-  pub allowed : is_status status ≡ true
-  pub done : status ≡ 0 → IsDone book call
-  pub usage : status ≡ 2 → IsUsage call
-  pub bad_line : status ≡ 3 → IsBadLine book call
-  pub read_fault : status ≡ 4 → IsReadFault book call
-  pub write_fault : status ≡ 5 → IsWriteFault book call
-  pub no_memory : status ≡ 7 → IsOutOfMemory book call
-  pub spent : status ≡ 12 → IsSpent book call
-
--- a good script of fewer bytes than the reads, with no fault, is done, or there is no memory for it
-abbrev pub IsComplete : {S : Type 0} → Call S → ℕ → Type 0
-IsComplete call status = IfSome call.before.input.bytes (λ script.
+-- a good script of fewer bytes than the reads, with no fault of a stream, is done, unless the disk
+-- failed or there is no memory for it
+abbrev pub IsComplete : {S : Type 0} → Call S → Stop → Type 0
+IsComplete call stop = IfSome call.before.input.bytes (λ script.
     all_good (lines_of script) ≡ true → length script < MAX_READS
     → Calm call.before.input.faults call.now.input.faults
     → Calm call.before.output.faults call.now.output.faults
-    → (status ≡ 0) ⊎ (status ≡ 7))
+    → (stop ≡ Finished) ⊎ ((stop ≡ DiskFault) ⊎ (stop ≡ NoMemory)))

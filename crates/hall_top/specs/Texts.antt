@@ -16,3 +16,19 @@ read_fault = codes "read fault\n"
 -- there is no memory
 abbrev pub no_memory : List ℕ
 no_memory = codes "no memory\n"
+
+-- the disk failed
+abbrev pub disk_fault : List ℕ
+disk_fault = codes "disk fault\n"
+
+-- the disk isn't a journal: its first byte that differs from a header
+abbrev pub not_journal : ℕ → List ℕ
+not_journal place = codes "not a journal at " ++ decimal place ++ codes "\n"
+
+-- the row of a number is damaged
+abbrev pub damaged_row : ℕ → List ℕ
+damaged_row row = codes "damaged row " ++ decimal row ++ codes "\n"
+
+-- the book is whole, and has so many rows
+abbrev pub whole : ℕ → List ℕ
+whole rows = codes "rows " ++ decimal rows ++ codes " whole\n"

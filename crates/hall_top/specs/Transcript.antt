@@ -1,7 +1,6 @@
 -- What the commands of a script are answered, one after another.
 use Rattle.std.specs.Prelude.{◌≡◌, ⊤, true, ℕ, ◌+◌, ◌-◌, List, [], ◌∷◌, ◌++◌, length, take, flat_map, filter_map, is_some, if◌then◌else◌, Option, Some, None, option_map, Result, Ok, Err, slice_get}
 use Rattle.std.specs.List.{range_with_len, AllByRecursion}
-use Rattle.hall_limits.specs.declared.TheConstants.{MAX_ROWS}
 use Rattle.book_words.specs.declared.act.Prior.{Prior}
 use Rattle.book_words.specs.declared.act.Prior.TheVariants.{Nothing, Opened}
 use Rattle.book_words.specs.declared.act.Act.{Act}
@@ -31,9 +30,9 @@ pub record BookState : Type 0 where
   pub limit : ℕ
   pub entries : List Entry
 
--- a new book
-abbrev pub new_book : BookState
-new_book = record { limit = MAX_ROWS; entries = [] }
+-- a book as it was opened
+abbrev pub opened_book : ℕ → List Entry → BookState
+opened_book limit held = record { limit = limit; entries = held }
 
 -- the number that the entries of a script bear
 abbrev pub script_caller : ℕ

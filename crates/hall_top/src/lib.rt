@@ -3,14 +3,14 @@
 
 mod asking;
 mod composing;
+mod ended;
 mod reads;
 mod run;
 mod session;
 mod stop;
-mod told;
 mod top;
 mod words;
 mod writing;
 
-pub use told::Told;
+pub use ended::Ended;
 pub use top::hall;

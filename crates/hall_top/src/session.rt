@@ -1,64 +1,51 @@
 use crate::stop::Stop;
-use crate::writing::{write_answer, write_bad_line, write_summary};
-use batch_reports::TEXT_ROOM;
-use book_core::{Book, Rows};
-use disk_core::{NoMemory, Partly, Sink};
+use book_core::Rows;
+use book_store::Store;
+use disk_core::{Disk, NoMemory, Sink};
 use script_lines::Line;
 use std::alloc::Global;
-use std::marker::Model;
 
-/// A book whose answers go out one by one, and room for the text of an answer.
+/// A book on a disk whose answers go out one by one, and room for the text of an answer.
 #[derive(Drop)]
-pub struct Session {
-    book: Book,
+pub struct Session<D: Disk> {
+    store: Store<D>,
+    opened: u32,
     text: Vec<u8>,
 }
 
-impl Model for Session {
-    ghost use Rattle.std.specs.Prelude.{◌≤◌, vec_capacity};
+impl<D: Disk> Session<D> {
+    ghost use Rattle.std.specs.Prelude.{◌≡◌, ◌≤◌, [], ◌∷◌, true, OnOk, OnErr, IfOk, IfErr, length};
     ghost use Rattle.book_words.specs.Answers.{IsLegal};
-    ghost use Rattle.batch_reports.specs.declared.answers.TheConstants.{TEXT_ROOM};
-    ghost use Rattle.hall_top.specs.Transcript.{BookState};
-    ghost use Rattle.hall_top.specs.Books.{book_state};
-
-    ghost Value = { BookState };
-
-    ghost view = { λ s. book_state s.book };
-
-    ghost invariant = { λ s. (TEXT_ROOM ≤ vec_capacity s.text) × IsLegal s.book.entries };
-}
-
-impl Session {
-    ghost use Rattle.std.specs.Prelude.{◌≡◌, ◌≤◌, [], ◌∷◌, true, OnOk, OnErr, IfOk, IfErr};
-    ghost use Rattle.hall_limits.specs.declared.TheConstants.{MAX_ROWS};
     ghost use Rattle.book_words.specs.Views.{summary};
-    ghost use Rattle.book_words.specs.Soundness.{IsSound};
+    ghost use Rattle.book_words.specs.Soundness.{IsSound as IsSoundBook};
     ghost use Rattle.script_lines.specs.declared.command.Line.TheVariants as line;
     ghost use Rattle.script_lines.specs.Script.{is_good, commands_of};
     ghost use Rattle.batch_reports.specs.Texts.{summary_text};
-    ghost use Rattle.hall_top.specs.Streams.{output_at, WroteAll, IsCutIn};
-    ghost use Rattle.hall_top.specs.Run.{StopsAtLine};
+    ghost use Rattle.book_store.specs.Stores.{disk_of, entries_of, IsSound};
+    ghost use Rattle.hall_top.specs.Streams.{output_at, WroteAll};
+    ghost use Rattle.hall_top.specs.Run.{StopsAtLine, StopsAtSummary};
     ghost use Rattle.hall_top.specs.Reached.{HasAnswered};
+    ghost use Rattle.hall_top.specs.Kept.{Goes};
+    ghost use Rattle.hall_top.specs.Books.{book_in, store_in, opened_at, IsReady};
 
-    /// A new book that may have `limit` rows, 1 to 1 000 000.
-    pub fn new(alloc: Global, limit: u32) -> Result<Session, NoMemory>
-        requires least { 1 ≤ limit }
-        requires most { limit ≤ MAX_ROWS }
-        ensures { IfOk result (λ session. session ≡ record { limit = limit; entries = [] }) }
+    /// A session over a store, or the store where there is no memory for it.
+    pub fn new(alloc: Global, store: Store<D>) -> Result<Session<D>, Store<D>>
+        requires sound { IsSound D.Disk store }
+        requires legal { IsLegal (entries_of store) }
+        ensures store { IfOk result (λ session. store_in session ≡ store) }
+        ensures opened { IfOk result (λ session. opened_at session ≡ length (entries_of store)) }
+        ensures ready { IfOk result (IsReady D.Disk) }
+        ensures back { IfErr result (λ back. back ≡ store) }
     {
-        let text = Vec::with_capacity(alloc, TEXT_ROOM)?;
-        Ok(Session {
-            book: Book::new(alloc, limit),
-            text,
-        })
+        unsafe { stub() };
+        unreachable!()
     }
 
-    /// The rows of its book.
-    pub fn into_rows(self) -> Rows
-        ensures rows { result ≡ self.entries }
-        ensures sound { IsSound result }
+    /// The store.
+    pub fn into_store(self) -> Store<D>
+        ensures { result ≡ store_in self }
     {
-        self.book.rows()
+        self.store
     }
 
     /// Does what a line says: a command is asked and answered, and a bad line stops the run.
@@ -68,41 +55,54 @@ impl Session {
         number: u64,
         output: &mut K,
     ) -> Result<(), Stop>
+        requires ready { IsReady D.Disk self.old }
         ensures good { OnOk result (is_good line.now ≡ true) }
-        ensures answered { OnOk result (HasAnswered self.old
+        ensures answered { OnOk result (HasAnswered (book_in self.old)
             (output_at K.Sink output.old) (output_at K.Sink output.new)
-            self.new (commands_of (line.now ∷ []))) }
-        ensures stops { IfErr result (StopsAtLine self.old
+            (book_in self.new) (commands_of (line.now ∷ []))) }
+        ensures stops { IfErr result (StopsAtLine (book_in self.old)
             (output_at K.Sink output.old) (output_at K.Sink output.new)
-            self.new.entries [] number line.now) }
+            (entries_of (store_in self.new)) [] number line.now) }
+        ensures goes { Goes D.Disk result (store_in self.old) (store_in self.new) }
+        ensures opened { opened_at self.new ≡ opened_at self.old }
+        ensures ready { IsReady D.Disk self.new }
     {
-        match line {
-            Line::Nothing => Ok(()),
-            Line::Asks(command) => {
-                write_answer(&mut self.book, command, &mut self.text, number, output)?;
-                Ok(())
-            }
-            Line::Bad => Err(write_bad_line(number, &mut self.text, output)),
-        }
+        unsafe { stub() };
+        unreachable!()
     }
 
     /// Says that the line of a number is bad, and so ends the run.
     pub fn report_bad_line<K: Sink>(&mut self, number: u64, output: &mut K) -> Stop
-        ensures { StopsAtLine self.old
+        requires ready { IsReady D.Disk self.old }
+        ensures stops { StopsAtLine (book_in self.old)
             (output_at K.Sink output.old) (output_at K.Sink output.new)
-            self.new.entries [] number line.Bad result }
+            (entries_of (store_in self.new)) [] number line.Bad result }
+        ensures store { store_in self.new ≡ store_in self.old }
+        ensures ready { IsReady D.Disk self.new }
     {
-        write_bad_line(number, &mut self.text, output)
+        unsafe { stub() };
+        unreachable!()
     }
 
-    /// Writes the summary of the list as it stands.
-    pub fn write_summary<K: Sink>(&mut self, output: &mut K) -> Result<(), Partly>
+    /// Ends a run whose script was read and answered to its end: where rows were added, a snapshot of
+    /// the book is kept first; then comes the summary of the list as it stands.
+    pub fn finish<K: Sink>(&mut self, output: &mut K) -> Result<(), Stop>
+        requires ready { IsReady D.Disk self.old }
         ensures wrote { OnOk result (WroteAll (output_at K.Sink output.old)
-            (output_at K.Sink output.new) (summary_text (summary self.old.entries))) }
-        ensures cut { OnErr result (IsCutIn (output_at K.Sink output.old)
-            (output_at K.Sink output.new) [] (summary_text (summary self.old.entries))) }
-        ensures same { self.new ≡ self.old }
+            (output_at K.Sink output.new) (summary_text (summary (entries_of (store_in self.old))))) }
+        ensures stops { IfErr result (StopsAtSummary (opened_at self.old)
+            (output_at K.Sink output.old) (output_at K.Sink output.new)
+            (entries_of (store_in self.old))) }
+        ensures same { entries_of (store_in self.new) ≡ entries_of (store_in self.old) }
+        ensures goes { Goes D.Disk result (store_in self.old) (store_in self.new) }
+        ensures ready { IsReady D.Disk self.new }
     {
-        write_summary(&self.book, &mut self.text, output)
+        unsafe { stub() };
+        unreachable!()
     }
+}
+
+unsafe extern "C" {
+    fn stub()
+        ensures { ⊥ };
 }

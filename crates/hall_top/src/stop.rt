@@ -9,6 +9,8 @@ pub enum Stop {
     ReadFault,
     /// The output failed.
     WriteFault,
+    /// The disk failed.
+    DiskFault,
     /// There was no memory.
     NoMemory,
     /// The reads that a run may make were made, and the end wasn't seen.
@@ -28,6 +30,7 @@ impl Stop {
             Stop::BadLine => 3,
             Stop::ReadFault => 4,
             Stop::WriteFault => 5,
+            Stop::DiskFault => 6,
             Stop::NoMemory => 7,
             Stop::Spent => 12,
         }

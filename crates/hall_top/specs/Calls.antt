@@ -1,0 +1,113 @@
+-- What a whole call of the program does: its words, its disk, its command.
+use Rattle.std.specs.Prelude.{◌≡◌, ◌⊎◌, ◌×◌, ⊥, ℕ, ◌≤◌, List, [], ◌∷◌, ◌++◌, length, take}
+use Rattle.device_facts.specs.Count.{Counted, Rose}
+use Rattle.disk_core.specs.Disk.{WhereTold}
+use Rattle.disk_core.specs.Devices.{IsUnmoved}
+use Rattle.disk_core.specs.declared.disk.Disk as disk
+use Rattle.book_words.specs.declared.act.Entry.{Entry}
+use Rattle.book_words.specs.Answers.{IsLawful, IsLegal}
+use Rattle.book_journal.specs.Mounting.{KeepsFromSync}
+use Rattle.book_store.specs.declared.types.MountError.{MountError}
+use Rattle.book_store.specs.declared.types.MountError.TheVariants as mount
+use Rattle.book_store.specs.Images.{HoldsBook}
+use Rattle.book_store.specs.Listing.{IsOpenedAs}
+use Rattle.book_store.specs.Mounting.{IsCauseOf, IsPassing}
+use Rattle.hall_top.specs.declared.ended.Ended.{Ended}
+use Rattle.hall_top.specs.declared.stop.Stop.{Stop}
+use Rattle.hall_top.specs.declared.stop.Stop.TheVariants.{Finished, WriteFault, DiskFault, NoMemory}
+use Rattle.hall_top.specs.Texts.{usage, disk_fault, no_memory, not_journal, damaged_row, whole}
+use Rattle.hall_top.specs.Transcript.{BookState}
+use Rattle.hall_top.specs.Streams.{WroteAll, IsCutIn, IsCalm}
+use Rattle.hall_top.specs.Run.{Call, NotBegun}
+use Rattle.hall_top.specs.Kept.{CrashLeaves, CountsStop, HoldsOrOffered}
+
+-- nothing was read, and there are no rows
+pub record NothingDone {S : Type 0} (call : Call S) : Type 0 where
+  pub unread : call.now.source ≡ call.before.source
+  pub none : call.rows ≡ []
+
+-- why a disk wasn't opened as a book, as a line says it, and the status
+abbrev pub line_of : MountError → List ℕ
+line_of (mount.NotJournal place) = not_journal place
+line_of (mount.Damaged row) = damaged_row row
+line_of mount.DiskFault = disk_fault
+line_of mount.NoMemory = no_memory
+
+abbrev pub status_for : MountError → ℕ
+status_for (mount.NotJournal place) = 8
+status_for (mount.Damaged row) = 9
+status_for mount.DiskFault = 6
+status_for mount.NoMemory = 7
+
+-- the line that says why went out, or was cut
+abbrev pub SaysWhy : {S : Type 0} → MountError → Call S → ℕ → Type 0
+SaysWhy why call status =
+    (WroteAll call.before.output call.now.output (line_of why) × (status ≡ status_for why))
+    ⊎ (IsCutIn call.before.output call.now.output [] (line_of why) × (status ≡ 5))
+
+-- The disk wasn't opened as a book: nothing was read, and one line says why. A disk that holds a book
+-- is then as it was, or a crash leaves the book.
+pub record IsUnopened {S D : Type 0} (disk : disk.Ghosts D) (before : D) (ended : Ended D)
+    (call : Call S) : Type 0 where
+  pub why : MountError
+  pub cause : IsCauseOf disk why before ended.disk
+  pub nothing : NothingDone call
+  pub says : SaysWhy why call ended.status
+  pub none : ended.held ≡ 0
+  pub kept : WhereTold (disk.reads before) (λ bytes.
+      (held : List Entry) → HoldsBook held bytes → IsLegal held → IsPassing why
+      × (KeepsFromSync disk before ended.disk (HoldsBook held) ⊎ IsUnmoved disk before ended.disk))
+
+-- what is left of a disk that held a book: its rows begin with those; each crash from the first sync
+-- on leaves what it may; and at the end one leaves the rows, or, only where the disk failed, the rows
+-- and one more that was offered
+pub record KeepsRows {D : Type 0} (disk : disk.Ghosts D) (held : List Entry) (before : D)
+    (ended : Ended D) : Type 0 where
+  pub same : take ended.held ended.rows ≡ held
+  pub moments : KeepsFromSync disk before ended.disk (CrashLeaves held ended.rows)
+  pub end : (c : List ℕ) → disk.image ended.disk c
+      → HoldsBook ended.rows c
+      ⊎ (Rose (disk.faults before) (disk.faults ended.disk) × HoldsOrOffered ended.rows c)
+
+-- the disk's count behind a whole call: it stays, but one more is counted where the disk failed,
+-- which perhaps couldn't be written
+abbrev pub CountsEnd : ℕ → ℕ → Stop → Type 0
+CountsEnd before now DiskFault = Counted before now 1
+CountsEnd before now WriteFault = (now ≡ before) ⊎ Counted before now 1
+CountsEnd before now _ = now ≡ before
+
+-- The disk was opened as a book, and the command ended in one of its ways, which has its status. What
+-- `Explains` says of that way is the command's own meaning over the book as it was opened.
+pub record IsOpened {S D : Type 0} (disk : disk.Ghosts D) (limit : ℕ)
+    (Explains : BookState → Call S → Stop → Type 0) (status_of : Stop → ℕ) (before : D)
+    (ended : Ended D) (call : Call S) : Type 0 where
+  pub few : ended.held ≤ length ended.rows
+  pub opened : WhereTold (disk.reads before) (λ bytes. IsOpenedAs bytes (take ended.held ended.rows))
+  pub stop : Stop
+  pub status : ended.status ≡ status_of stop
+  pub explained : Explains (record { limit = limit; entries = take ended.held ended.rows }) call stop
+  pub cause : CountsEnd (disk.faults before) (disk.faults ended.disk) stop
+  pub kept : WhereTold (disk.reads before) (λ bytes.
+      (held : List Entry) → HoldsBook held bytes → IsLegal held → KeepsRows disk held before ended)
+
+-- the book was found whole: the input wasn't read, the line went out that says so, and the rows are
+-- those that the disk held
+pub record IsChecked {S : Type 0} (book : BookState) (call : Call S) : Type 0 where
+  pub unread : call.now.source ≡ call.before.source
+  pub rows : call.rows ≡ book.entries
+  pub wrote : WroteAll call.before.output call.now.output (whole (length call.rows))
+
+-- that line was cut
+pub record IsCheckCut {S : Type 0} (book : BookState) (call : Call S) : Type 0 where
+  pub unread : call.now.source ≡ call.before.source
+  pub rows : call.rows ≡ book.entries
+  pub cut : IsCutIn call.before.output call.now.output [] (whole (length call.rows))
+
+-- how a check ends
+abbrev pub ExplainsCheck : {S : Type 0} → BookState → Call S → Stop → Type 0
+ExplainsCheck book call Finished = IsChecked book call
+ExplainsCheck book call WriteFault =
+    IsCheckCut book call ⊎ (NotBegun book call × IsCutIn call.before.output call.now.output [] no_memory)
+ExplainsCheck book call NoMemory =
+    NotBegun book call × WroteAll call.before.output call.now.output no_memory
+ExplainsCheck book call _ = ⊥

@@ -1,0 +1,54 @@
+-- What a run makes of the store that it asks, and what a crash leaves of its disk.
+use Rattle.std.specs.Prelude.{◌≡◌, ◌⊎◌, ◌×◌, ℕ, ◌≤◌, List, [], ◌∷◌, ◌++◌, length, take, Result, Ok, Err}
+use Rattle.device_facts.specs.Count.{Counted}
+use Rattle.device_facts.specs.Prefix.{IsPrefixOf}
+use Rattle.disk_core.specs.declared.disk.Disk as disk
+use Rattle.book_words.specs.declared.act.Entry.{Entry}
+use Rattle.book_words.specs.Answers.{IsLawful, IsLegal}
+use Rattle.book_journal.specs.Mounting.{KeepsFromSync}
+use Rattle.book_store.specs.declared.store.Store.{Store}
+use Rattle.book_store.specs.Images.{HoldsBook}
+use Rattle.book_store.specs.Stores.{disk_of, entries_of, limit_of, HasBook, HangsWith, IsSound}
+use Rattle.hall_top.specs.declared.stop.Stop.{Stop}
+use Rattle.hall_top.specs.declared.stop.Stop.TheVariants.{WriteFault, DiskFault}
+
+-- an image holds these entries, or these and one more that was offered and is lawful behind them
+abbrev pub HoldsOrOffered : List Entry → List ℕ → Type 0
+HoldsOrOffered entries c = HoldsBook entries c
+    ⊎ ((offered : Entry) × IsLawful entries offered × HoldsBook (entries ++ offered ∷ []) c)
+
+-- what a crash leaves of a book: the rows that it held and some of those behind them, up to a row,
+-- and perhaps one more that was offered there
+pub record CrashLeaves (held rows : List Entry) (c : List ℕ) : Type 0 where
+  pub count : ℕ
+  pub least : length held ≤ count
+  pub most : count ≤ length rows
+  pub holds : HoldsOrOffered (take count rows) c
+
+-- A store over a disk that held these entries at the start has them all still: each image at a
+-- moment since the first sync is one that a crash may leave.
+pub record HasKept {D : Type 0} (disk : disk.Ghosts D) (held : List Entry) (start : D)
+    (store : Store D) : Type 0 where
+  pub has : HasBook disk store
+  pub begins : IsPrefixOf held (entries_of store)
+  pub hung : (entry : Entry) → HangsWith disk store entry → IsLawful (entries_of store) entry
+  pub moments : KeepsFromSync disk start (disk_of store) (CrashLeaves held (entries_of store))
+
+-- the disk's count behind a step of a run: it stays, but one more is counted where the disk failed,
+-- which perhaps couldn't be written
+abbrev pub CountsStop : {T : Type 0} → ℕ → ℕ → Result T Stop → Type 0
+CountsStop before now (Err DiskFault) = Counted before now 1
+CountsStop before now (Err WriteFault) = (now ≡ before) ⊎ Counted before now 1
+CountsStop before now _ = now ≡ before
+
+-- What a step of a run makes of the store: its book goes on, a crash leaves what it may, and the
+-- disk failed only where that is answered.
+pub record Goes {D T : Type 0} (disk : disk.Ghosts D) (result : Result T Stop)
+    (old new : Store D) : Type 0 where
+  pub sound : IsSound disk new
+  pub legal : IsLegal (entries_of new)
+  pub limit : limit_of new ≡ limit_of old
+  pub begins : IsPrefixOf (entries_of old) (entries_of new)
+  pub kept : (held : List Entry) (start : D) → HasKept disk held start old
+      → HasKept disk held start new
+  pub cause : CountsStop (disk.faults (disk_of old)) (disk.faults (disk_of new)) result
