@@ -2,6 +2,7 @@
 //! entries.
 #![tactic(auto)]
 
+mod buffer;
 mod read;
 mod types;
 mod write;
