@@ -213,10 +213,4 @@ fn unit_code(unit: &Unit) -> u8
 pub fn lawful_entries_are_allowed()
     ensures { IsAllowedWhereLawful }
 {
-    unsafe { stub() };
-}
-
-unsafe extern "C" {
-    fn stub()
-        ensures { ⊥ };
 }
