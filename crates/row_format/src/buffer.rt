@@ -44,6 +44,7 @@ impl RowBuffer {
     }
 
     /// Adds a field.
+    #[inline]
     pub fn push(&mut self, field: &[u8])
         requires { length self.old + length field.now ≤ ROW_BYTES }
         ensures { self.new ≡ self.old ++ field.now }
@@ -63,7 +64,7 @@ impl RowBuffer {
 
     /// Adds a name: its length, its bytes, and zeros up to the most that a name has.
     pub fn push_name(&mut self, name: &Name)
-        requires { length self.old + 33 ≤ ROW_BYTES }
+        requires { length self.old + (1 + NAME_BYTES) ≤ ROW_BYTES }
         ensures { self.new ≡ self.old ++ name_field NAME_BYTES name.now }
     {
         let bytes = name.as_bytes();

@@ -4,6 +4,7 @@
 
 mod buffer;
 mod read;
+mod spell;
 mod types;
 mod write;
 

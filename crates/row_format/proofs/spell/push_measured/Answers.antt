@@ -1,6 +1,6 @@
 use Rattle.std.proofs.Common.{rules, ◌≡◌, ◌++◌, ap, ◌∙◌, append_assoc}
 use Rattle.row_format.specs.Spelling.{four, four_of}
-use Rattle.row_format.proofs.write.push_measured.Goals as goal
+use Rattle.row_format.proofs.spell.push_measured.Goals as goal
 
 -- src/write.rt:146:1
 pub returns-clause-fields : goal.returns-clause-fields
