@@ -1,9 +1,9 @@
 -- What is lawful behind some list may stand in a row.
-use Rattle.std.proofs.Common.{◌≡◌, ◌⊎◌, inl, inr, ℕ, ℤ, pos, ◌≤◌, ◌<◌, ◌==◌, Bool, true, false, not, ◌&&◌, nat_le, List, [], ◌∷◌, Option, Some, None, IsSome, is_some, is_none, option_map, int_le, length, take, refl, sym, ◌∙◌, ap, subst, arith, length-take}
+use Rattle.std.proofs.Common.{◌≡◌, inl, inr, ℕ, ℤ, pos, ◌≤◌, ◌==◌, true, not, ◌&&◌, nat_le, List, [], ◌∷◌, Option, Some, None, IsSome, is_some, is_none, option_map, int_le, length, refl, sym, subst, arith, length-take}
 use Rattle.std.proofs.lemmas.Int.{ints}
 use Rattle.std.proofs.lemmas.Bool.{and_parts}
 use Rattle.std.proofs.lemmas.Bool.Decides.{nat_tests}
-use Rattle.std.specs.Option.{option_or, option_and_then}
+use Rattle.std.specs.Option.{option_and_then}
 use Rattle.hall_limits.specs.declared.TheConstants.{MIN_NOMINAL, MAX_NOMINAL, MAX_GROSS, MAX_TARE, MAX_DAY, MAX_LANE, MIN_DENSITY, MAX_DENSITY, NAME_BYTES}
 use Rattle.pack_judge.specs.declared.types.Signal.{Signal}
 use Rattle.book_words.specs.declared.name.Name.{Name}
@@ -15,16 +15,15 @@ use Rattle.book_words.specs.declared.act.Act.TheVariants.{NewDay, PutProduct, Pu
 use Rattle.book_words.specs.declared.act.Entry.{Entry}
 use Rattle.book_words.specs.declared.refusal.Refusal.{Refusal}
 use Rattle.book_words.specs.declared.refusal.Refusal.TheVariants as why
-use Rattle.book_words.specs.NamePlaces.{is_name_length, is_padded}
-use Rattle.book_words.specs.Names.{bytes_of}
+use Rattle.book_words.specs.NamePlaces.{is_name_length}
 use Rattle.book_words.specs.Acts.{nominal_of, unit_of, lane_batch, last_batch}
 use Rattle.book_words.specs.Signals.{judged_signal, recorded_signal}
 use Rattle.book_words.specs.Ranges.{IsBetween, is_act_in_range}
 use Rattle.book_words.specs.Refusals as rules
 use Rattle.book_words.specs.Refusals.{refused_if, first_refusal, refusals_of, suits_unit, is_within}
-use Rattle.book_words.specs.Answers.{ask_of, IsLawful}
+use Rattle.book_words.specs.Answers.{ask_of}
 use Rattle.book_words.proofs.RefusalLemmas.{none_of_two, not_refused, act_rules, rules_in_range}
-use Rattle.row_format.specs.Allowed.{IsShort, IsLane, IsDensity, IsActAllowed, HasSignal, IsAllowed, IsAllowedWhereLawful}
+use Rattle.row_format.specs.Allowed.{IsShort, IsLane, IsDensity, IsActAllowed, HasSignal, IsAllowedWhereLawful}
 use Rattle.row_format.proofs.Together.{unit_follows, start_follows}
 
 -- no rule of its own refuses an act behind some entries

@@ -1,5 +1,5 @@
 -- Things that the acts of a list say, two at a time.
-use Rattle.std.proofs.Common.{◌≡◌, ◌==◌, Bool, true, false, cond, ℕ, List, [], ◌∷◌, Option, Some, None, is_some, refl, sym, ap, subst}
+use Rattle.std.proofs.Common.{◌≡◌, ◌==◌, Bool, true, false, cond, ℕ, List, [], ◌∷◌, Option, Some, None, is_some, refl, sym, subst}
 use Rattle.std.specs.List.{last_or}
 use Rattle.std.specs.Option.{option_or, option_flatten}
 use Rattle.book_words.specs.declared.name.Name.{Name}

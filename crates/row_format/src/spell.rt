@@ -57,40 +57,47 @@ pub(crate) fn push_fields(row: &mut RowBuffer, act: &Act, signal: &Option<Signal
         Act::StopLane { lane, prior } => row.push(&[*lane, prior_code(prior)]),
         Act::Void { pack } => push_pack(row, *pack),
         Act::Draw { batch, mode, word } => push_draw(row, batch, mode, *word),
-        Act::Measure { pack, gross, empty } => push_measured(row, *pack, gross, empty),
+        Act::Measure { pack, gross, empty } => push_measurement(row, *pack, gross, empty),
         Act::DrawSecond { batch, word } => push_second(row, batch, *word),
         Act::EndRun { batch } | Act::Close { batch } => row.push_name(batch),
     }
 }
 
+// A product: its name, the nominal quantity and the unit.
 fn push_product(row: &mut RowBuffer, name: &Name, nominal: &i64, unit: &Unit)
     requires { length row.old ≡ HEAD_BYTES }
-    ensures { row.new ≡ row.old ++ (name_field NAME_BYTES name.now ++ eight_of nominal.now ++ unit_code unit.now ∷ []) }
+    ensures { row.new ≡ row.old
+        ++ (name_field NAME_BYTES name.now ++ eight_of nominal.now ++ unit_code unit.now ∷ []) }
 {
     row.push_name(name);
     row.push(&nominal.unsigned_abs().to_le_bytes());
     row.push(&[unit_code(unit)]);
 }
 
+// A tare: the product, the day from which on it holds, and the mass.
 fn push_tare(row: &mut RowBuffer, product: &Name, day: &i32, tare: &i64)
     requires head { length row.old ≡ HEAD_BYTES }
     requires range { IsGross tare.now }
-    ensures { row.new ≡ row.old ++ (name_field NAME_BYTES product.now ++ four_of day.now ++ four_of tare.now) }
+    ensures { row.new ≡ row.old
+        ++ (name_field NAME_BYTES product.now ++ four_of day.now ++ four_of tare.now) }
 {
     row.push_name(product);
     row.push(&day.unsigned_abs().to_le_bytes());
     row.push_mass(tare);
 }
 
+// A batch that is opened: its name, the product and the density.
 fn push_batch(row: &mut RowBuffer, batch: &Name, product: &Name, density: u32)
     requires { length row.old ≡ HEAD_BYTES }
-    ensures { row.new ≡ row.old ++ (name_field NAME_BYTES batch.now ++ name_field NAME_BYTES product.now ++ four density) }
+    ensures { row.new ≡ row.old
+        ++ (name_field NAME_BYTES batch.now ++ name_field NAME_BYTES product.now ++ four density) }
 {
     row.push_name(batch);
     row.push_name(product);
     row.push(&density.to_le_bytes());
 }
 
+// The start of a lane for a batch.
 fn push_start(row: &mut RowBuffer, lane: u8, batch: &Name)
     requires { length row.old ≡ HEAD_BYTES }
     ensures { row.new ≡ row.old ++ (lane ∷ name_field NAME_BYTES batch.now) }
@@ -99,16 +106,19 @@ fn push_start(row: &mut RowBuffer, lane: u8, batch: &Name)
     row.push_name(batch);
 }
 
+// A weighing: the lane, the gross, what is said of the gate before, and the signal.
 fn push_weighing(row: &mut RowBuffer, lane: u8, gross: &i64, prior: &Prior, signal: &Option<Signal>)
     requires head { length row.old ≡ HEAD_BYTES }
     requires range { IsGross gross.now }
-    ensures { row.new ≡ row.old ++ (lane ∷ four_of gross.now ++ prior_code prior.now ∷ signal_code signal.now ∷ []) }
+    ensures { row.new ≡ row.old
+        ++ (lane ∷ four_of gross.now ++ prior_code prior.now ∷ signal_code signal.now ∷ []) }
 {
     row.push(&[lane]);
     row.push_mass(gross);
     row.push(&[prior_code(prior), signal_code(signal)]);
 }
 
+// The number of a pack.
 fn push_pack(row: &mut RowBuffer, pack: u32)
     requires { length row.old ≡ HEAD_BYTES }
     ensures fields { row.new ≡ row.old ++ four pack }
@@ -117,9 +127,11 @@ fn push_pack(row: &mut RowBuffer, pack: u32)
     row.push(&pack.to_le_bytes());
 }
 
+// The first sample of a batch: its mode and its word.
 fn push_draw(row: &mut RowBuffer, batch: &Name, mode: &Mode, word: u64)
     requires { length row.old ≡ HEAD_BYTES }
-    ensures fields { row.new ≡ row.old ++ (name_field NAME_BYTES batch.now ++ mode_code mode.now ∷ eight word) }
+    ensures fields { row.new ≡ row.old
+        ++ (name_field NAME_BYTES batch.now ++ mode_code mode.now ∷ eight word) }
     ensures fits { word < 2 ^ 64 }
 {
     row.push_name(batch);
@@ -127,18 +139,20 @@ fn push_draw(row: &mut RowBuffer, batch: &Name, mode: &Mode, word: u64)
     row.push(&word.to_le_bytes());
 }
 
-fn push_measured(row: &mut RowBuffer, pack: u32, gross: &i64, empty: &i64)
+// A measured pack: its number, the gross, and the mass of the empty pack.
+fn push_measurement(row: &mut RowBuffer, pack: u32, gross: &i64, empty: &i64)
     requires head { length row.old ≡ HEAD_BYTES }
     requires gross { IsGross gross.now }
     requires empty { IsGross empty.now }
     ensures fields { row.new ≡ row.old ++ (four pack ++ four_of gross.now ++ four_of empty.now) }
     ensures fits { pack < 2 ^ 32 }
 {
-    row.push(&pack.to_le_bytes());
+    push_pack(row, pack);
     row.push_mass(gross);
     row.push_mass(empty);
 }
 
+// The second sample of a batch: its word.
 fn push_second(row: &mut RowBuffer, batch: &Name, word: u64)
     requires { length row.old ≡ HEAD_BYTES }
     ensures fields { row.new ≡ row.old ++ (name_field NAME_BYTES batch.now ++ eight word) }

@@ -1,4 +1,4 @@
-use Rattle.std.proofs.Common.{rules, ◌≡◌, ◌+◌, ◌≤◌, ap, sym, ◌∙◌, length, replicate, ◌++◌}
+use Rattle.std.proofs.Common.{rules, ap, ◌∙◌, replicate, ◌++◌}
 use Rattle.row_format.proofs.Filled.{filled_further, zeros_taken}
 use Rattle.row_format.proofs.buffer.RowBuffer.pass_over.Goals as goal
 

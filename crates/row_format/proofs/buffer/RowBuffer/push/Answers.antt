@@ -1,4 +1,4 @@
-use Rattle.std.proofs.Common.{rules, ◌≡◌, ◌+◌, ◌≤◌, length}
+use Rattle.std.proofs.Common.{rules, length}
 use Rattle.row_format.proofs.Filled.{filled_behind}
 use Rattle.row_format.proofs.buffer.RowBuffer.push.Goals as goal
 
