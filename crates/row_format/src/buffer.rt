@@ -22,7 +22,7 @@ impl Model for RowBuffer {
 
 impl RowBuffer {
     ghost use Rattle.std.specs.Prelude.{◌≡◌, ◌+◌, ◌≤◌, [], ◌∷◌, ◌++◌, length, replicate};
-    ghost use Rattle.row_format.specs.Spelling.{two, four, four_of, eight, filled, name_field};
+    ghost use Rattle.row_format.specs.Spelling.{four_of, filled, name_field};
     ghost use Rattle.row_format.specs.Allowed.{IsGross};
 
     /// No field yet.

@@ -1,4 +1,4 @@
-ghost use Rattle.std.specs.Prelude.{◌≡◌, ◌+◌, ◌≤◌, ◌<◌, ◌^◌, [], ◌∷◌, ◌++◌, length};
+ghost use Rattle.std.specs.Prelude.{◌≡◌, ◌<◌, ◌^◌, [], ◌∷◌, ◌++◌, length};
 ghost use Rattle.row_format.specs.Spelling.{four, eight, name_field, four_of, eight_of, prior_code, signal_code, mode_code, unit_code, kind_of, fields_of};
 ghost use Rattle.row_format.specs.Allowed.{IsActAllowed, IsGross, FitsAct};
 
