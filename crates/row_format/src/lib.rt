@@ -2,7 +2,9 @@
 //! entries.
 #![tactic(auto)]
 
+mod buffer;
 mod read;
+mod spell;
 mod types;
 mod write;
 
@@ -10,3 +12,6 @@ pub use book_snapshot::{OLD_ROW_BYTES, ROW_BYTES};
 pub use read::{read_old_row, read_row};
 pub use types::{OLD_NAME_BYTES, RowFault};
 pub use write::{lawful_entries_are_allowed, write_row};
+
+#[cfg(test)]
+mod tests;
