@@ -2,6 +2,10 @@
 //! entries.
 #![tactic(auto)]
 
+mod acts;
+mod codes;
+mod fields;
+mod places;
 mod read;
 mod types;
 mod write;

@@ -2,10 +2,16 @@ ghost use Rattle.std.specs.Prelude.{◌≡◌, Ok, IfOk, IfErr};
 ghost use Rattle.book_words.specs.declared.act.Entry.{Entry};
 ghost use Rattle.row_format.specs.Spelling.{new_layout, old_layout};
 ghost use Rattle.row_format.specs.Rows.{Spells, FirstFault};
+ghost use Rattle.row_format.specs.Reading.{IsRowOf, row_at};
 
+use crate::acts::act_at;
+use crate::codes::kind_at;
+use crate::fields::{gate_at, row_number_at};
+use crate::places::{BY_PLACE, DESK_PLACE, REQUEST_PLACE};
 use crate::types::RowFault;
 use book_snapshot::{OLD_ROW_BYTES, ROW_BYTES};
 use book_words::Entry;
+use hall_units::{get_u16, get_u32};
 
 /// The entry that a row with this number spells. A fault tells the first place whose byte no such
 /// row has behind the bytes before it. It takes no memory.
@@ -26,6 +32,27 @@ pub fn read_old_row(bytes: &[u8; OLD_ROW_BYTES], number: u32) -> Result<Entry, R
 {
     unsafe { stub() };
     unreachable!()
+}
+
+#[tactic(auto, unfolding(crate::specs::Reading::row_at))]
+fn row_at(bytes: &[u8], number: u32, width: usize) -> Result<Entry, RowFault>
+    requires { IsRowOf width bytes.now }
+    ensures { result ≡ row_at width number bytes.now }
+{
+    gate_at(bytes)?;
+    let kind = kind_at(bytes)?;
+    row_number_at(bytes, number)?;
+    let by = get_u16(bytes, BY_PLACE);
+    let desk = get_u16(bytes, DESK_PLACE);
+    let request = get_u32(bytes, REQUEST_PLACE);
+    let told = act_at(kind, bytes, width)?;
+    Ok(Entry {
+        by,
+        desk,
+        request,
+        act: told.act,
+        signal: told.signal,
+    })
 }
 
 unsafe extern "C" {
