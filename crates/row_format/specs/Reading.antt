@@ -20,6 +20,7 @@ use Rattle.row_format.specs.declared.acts.Told.{Told}
 use Rattle.row_format.specs.declared.places.TheConstants.{KIND_PLACE, NUMBER_PLACE, BY_PLACE, DESK_PLACE, REQUEST_PLACE, ACT_PLACE}
 use Rattle.row_format.specs.Spelling.{prior_code, signal_code, mode_code, unit_code}
 use Rattle.row_format.specs.declared.types.RowFault.{RowFault}
+use Rattle.row_format.specs.declared.types.TheConstants.{OLD_NAME_BYTES}
 use Rattle.row_format.specs.declared.fields.Numbers.{Numbers}
 use Rattle.book_words.specs.declared.name.Name.{Name}
 use Rattle.book_words.specs.Names.{name_of}
@@ -198,6 +199,7 @@ abbrev pub IsLong : List ℕ → Type 0
 IsLong bytes = (26 ≤ length bytes) × (length bytes < 2 ^ 32)
 
 pub record IsRowOf (width : ℕ) (bytes : List ℕ) : Type 0 where
+  pub wide : OLD_NAME_BYTES ≤ width
   pub short : width ≤ NAME_BYTES
   pub room : 18 + 2 * (1 + width) ≤ length bytes
   pub long : IsLong bytes

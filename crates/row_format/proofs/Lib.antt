@@ -1,0 +1,4 @@
+pub mod LowBytes
+pub mod Powers
+pub mod Loops
+pub mod Readers
