@@ -1,3 +1,4 @@
+pub mod FirstWrong
 pub mod LowBytes
 pub mod Powers
 pub mod Loops
