@@ -1,3 +1,4 @@
+pub mod FieldReaders
 pub mod FirstWrong
 pub mod LowBytes
 pub mod Powers
