@@ -1,3 +1,4 @@
+pub mod TypedReaders
 pub mod FieldReaders
 pub mod FirstWrong
 pub mod LowBytes

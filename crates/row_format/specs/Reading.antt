@@ -111,7 +111,7 @@ unfoldable pub name_at : ℕ → ℕ → List ℕ → Result Name RowFault
 name_at width place bytes = do
   len ← byte_in (between 1 width) place bytes
   _ ← zeros_at (width - len) (place + 1 + len) bytes
-  known place (name_of (slice_range bytes (place + 1) (place + 1 + len)))
+  known (place + 1 + len) (name_of (slice_range bytes (place + 1) (place + 1 + len)))
 
 -- the gate, and the number of the row
 unfoldable pub gate_at : ℕ → List ℕ → Result ℕ RowFault
