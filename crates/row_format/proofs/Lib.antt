@@ -1,3 +1,5 @@
+pub mod KindReaders
+pub mod NameReaders
 pub mod TypedReaders
 pub mod FieldReaders
 pub mod FirstWrong

@@ -41,7 +41,7 @@ pub one_between : (least greatest number : ℕ) → IsOneOf (between least great
 one_between least greatest number (inl h) = absurd (false_is_not_true h.0)
 one_between least greatest number (inr h) = h
 
-between_fits : (least greatest size : ℕ) → 1 ≤ size → least ≤ greatest → greatest < modulus size → HasSize (between least greatest) size
+pub between_fits : (least greatest size : ℕ) → 1 ≤ size → least ≤ greatest → greatest < modulus size → HasSize (between least greatest) size
 between_fits least greatest size positive some below =
     record {
       positive = positive;
@@ -157,7 +157,7 @@ density_reads =
 abbrev pub LaneField : ℕ → List ℕ → Type 0
 LaneField lane text = IsLane lane × (text ≡ lane ∷ [])
 
-small_byte : (number : ℕ) → number < 256 → low 1 number ≡ number ∷ []
+pub small_byte : (number : ℕ) → number < 256 → low 1 number ≡ number ∷ []
 small_byte number small = let e : number % 256 ≡ number = omega arith in ap (λ (x : ℕ). x ∷ []) e
 
 pub lane_reads : IsReader Within 1 LaneField lane_at
