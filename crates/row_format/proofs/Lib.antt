@@ -1,3 +1,4 @@
+pub mod RowReaders
 pub mod KindReaders
 pub mod NameReaders
 pub mod TypedReaders

@@ -8,9 +8,10 @@ use crate::acts::act_at;
 use crate::codes::kind_at;
 use crate::fields::{gate_at, row_number_at};
 use crate::places::{BY_PLACE, DESK_PLACE, REQUEST_PLACE};
-use crate::types::RowFault;
+use crate::types::{OLD_NAME_BYTES, RowFault};
 use book_snapshot::{OLD_ROW_BYTES, ROW_BYTES};
 use book_words::Entry;
+use hall_limits::NAME_BYTES;
 use hall_units::{get_u16, get_u32};
 
 /// The entry that a row with this number spells. A fault tells the first place whose byte no such
@@ -20,8 +21,7 @@ pub fn read_row(bytes: &[u8; ROW_BYTES], number: u32) -> Result<Entry, RowFault>
     ensures back { (entry : Entry) → Spells new_layout bytes.now number entry → result ≡ Ok entry }
     ensures fault { IfErr result (λ fault. FirstFault new_layout number bytes.now fault.place) }
 {
-    unsafe { stub() };
-    unreachable!()
+    row_at(bytes, number, NAME_BYTES)
 }
 
 /// The entry that a row of a journal of version 1 spells: 64 bytes, with names of at most 16.
@@ -30,10 +30,10 @@ pub fn read_old_row(bytes: &[u8; OLD_ROW_BYTES], number: u32) -> Result<Entry, R
     ensures back { (entry : Entry) → Spells old_layout bytes.now number entry → result ≡ Ok entry }
     ensures fault { IfErr result (λ fault. FirstFault old_layout number bytes.now fault.place) }
 {
-    unsafe { stub() };
-    unreachable!()
+    row_at(bytes, number, OLD_NAME_BYTES)
 }
 
+// The entry that a row with this number spells, where names have so many bytes.
 #[tactic(auto, unfolding(crate::specs::Reading::row_at))]
 fn row_at(bytes: &[u8], number: u32, width: usize) -> Result<Entry, RowFault>
     requires { IsRowOf width bytes.now }
@@ -53,9 +53,4 @@ fn row_at(bytes: &[u8], number: u32, width: usize) -> Result<Entry, RowFault>
         act: told.act,
         signal: told.signal,
     })
-}
-
-unsafe extern "C" {
-    fn stub()
-        ensures { ⊥ };
 }
