@@ -11,11 +11,10 @@ use Rattle.book_words.specs.Names.{bytes_of}
 use Rattle.row_format.specs.declared.codes.Kind.{Kind}
 use Rattle.row_format.specs.declared.codes.Kind.TheVariants as kinds
 use Rattle.row_format.specs.declared.acts.Told.{Told}
-use Rattle.row_format.specs.declared.types.RowFault.{RowFault}
 use Rattle.row_format.specs.Spelling.{four, eight, four_of, eight_of, name_field, prior_code, signal_code, mode_code, unit_code, fields_of, filled, kind_of}
 use Rattle.row_format.specs.Allowed.{IsShort, IsActAllowed, HasSignal, FitsAct}
-use Rattle.row_format.specs.Reading.{◌>>=◌, ended, zeros_at, number_of_kind, act_at, four_at, eight_at, day_at, gross_at, tare_at, nominal_at, density_at, lane_at, name_at, prior_at, signal_at, mode_at, unit_at}
-use Rattle.row_format.proofs.Readers.{Tells, IsReader, Within, Then, Image, then_reads, image_reads, same_reader}
+use Rattle.row_format.specs.Reading.{◌>>=◌, Reader, behind, told_of, ended, zeros_at, number_of_kind, name_at, act_at}
+use Rattle.row_format.proofs.Readers.{Tells, IsReader, Within, Then, Image, behind_reads, image_reads, same_reader}
 use Rattle.row_format.proofs.FieldReaders.{CodeField, ZeroField, zeros_read}
 use Rattle.row_format.proofs.TypedReaders.{FourBytes, EightBytes, DensityField, LaneField, Four, Eight, code_of_signal, day_reads, gross_reads, tare_reads, nominal_reads, density_reads, lane_reads, prior_reads, signal_reads, mode_reads, unit_reads, any_four_reads, any_eight_reads}
 use Rattle.row_format.proofs.NameReaders.{NameText, name_reads}
@@ -24,19 +23,69 @@ use Rattle.row_format.proofs.NameReaders.{NameText, name_reads}
 abbrev pub Fills : ℕ → ℕ → Type 0
 Fills end size = end ≡ size
 
-fills_within : (end size : ℕ) → Fills end size → end ≤ size
+pub fills_within : (end size : ℕ) → Fills end size → end ≤ size
 fills_within end size h = omega arith
 
-abbrev pub told_of : Act → Option Signal → Told
-told_of act signal = record { act = act; signal = signal }
+-- ---- the fields of each kind
 
 -- zeros alone, and what was told before
 abbrev End : ℕ → Told → Told → List ℕ → Type 0
 End size told = Image (λ (_ : ⊤). told) (ZeroField size)
 
-ended_reads : (told : Told) (size : ℕ) → IsReader Fills size (End size told) (ended told)
+abbrev Day : ℤ → List ℕ → Type 0
+Day = FourBytes (pos 0) MAX_DAY
+
+abbrev Gross : ℤ → List ℕ → Type 0
+Gross = FourBytes (pos 0) MAX_GROSS
+
+abbrev Tare : ℤ → List ℕ → Type 0
+Tare = FourBytes (pos 0) MAX_TARE
+
+abbrev Nominal : ℤ → List ℕ → Type 0
+Nominal = EightBytes MIN_NOMINAL MAX_NOMINAL
+
+-- the fields of each kind, one behind the other, and so many zeros
+abbrev Fields : (width rest : ℕ) → Kind → Told → List ℕ → Type 0
+Fields width rest kinds.NewDay = Then Day λ day. End rest (told_of (NewDay day) None)
+Fields width rest kinds.PutProduct =
+    Then (NameText width) λ name. Then Nominal λ nominal. Then (CodeField unit_code) λ unit. End rest (told_of (PutProduct name nominal unit) None)
+Fields width rest kinds.PutTare =
+    Then (NameText width) λ product. Then Day λ day. Then Tare λ tare. End rest (told_of (PutTare product day tare) None)
+Fields width rest kinds.OpenBatch =
+    Then (NameText width) λ batch. Then (NameText width) λ product. Then DensityField λ density. End rest (told_of (OpenBatch batch product density) None)
+Fields width rest kinds.StartLane = Then LaneField λ lane. Then (NameText width) λ batch. End rest (told_of (StartLane lane batch) None)
+Fields width rest kinds.Weigh =
+    Then LaneField λ lane. Then Gross λ gross. Then (CodeField prior_code) λ prior. Then (CodeField code_of_signal) λ signal. End rest (told_of (Weigh lane gross prior) (Some signal))
+Fields width rest kinds.StopLane = Then LaneField λ lane. Then (CodeField prior_code) λ prior. End rest (told_of (StopLane lane prior) None)
+Fields width rest kinds.Void = Then Four λ pack. End rest (told_of (Void pack) None)
+Fields width rest kinds.EndRun = Then (NameText width) λ batch. End rest (told_of (EndRun batch) None)
+Fields width rest kinds.Draw =
+    Then (NameText width) λ batch. Then (CodeField mode_code) λ mode. Then Eight λ word. End rest (told_of (Draw batch mode word) None)
+Fields width rest kinds.Measure = Then Four λ pack. Then Gross λ gross. Then Tare λ empty. End rest (told_of (Measure pack gross empty) None)
+Fields width rest kinds.DrawSecond = Then (NameText width) λ batch. Then Eight λ word. End rest (told_of (DrawSecond batch word) None)
+Fields width rest kinds.Close = Then (NameText width) λ batch. End rest (told_of (Close batch) None)
+
+-- how many bytes they have without the zeros
+abbrev pub size_of : ℕ → Kind → ℕ
+size_of width kinds.NewDay = 4
+size_of width kinds.PutProduct = 1 + width + 8 + 1
+size_of width kinds.PutTare = 1 + width + 4 + 4
+size_of width kinds.OpenBatch = 1 + width + (1 + width) + 4
+size_of width kinds.StartLane = 1 + (1 + width)
+size_of width kinds.Weigh = 1 + 4 + 1 + 1
+size_of width kinds.StopLane = 1 + 1
+size_of width kinds.Void = 4
+size_of width kinds.EndRun = 1 + width
+size_of width kinds.Draw = 1 + width + (1 + 8)
+size_of width kinds.Measure = 4 + 4 + 4
+size_of width kinds.DrawSecond = 1 + width + 8
+size_of width kinds.Close = 1 + width
+
+-- ---- their readers
+
+ended_reads : (size : ℕ) (told : Told) → IsReader Fills size (End size told) (ended told)
 unfolding ended
-ended_reads told size =
+ended_reads size told =
     let image = image_reads Within (λ (_ : ⊤). told) size (ZeroField size) (zeros_at size) (zeros_read size) in
     record {
       field = image.field;
@@ -45,13 +94,32 @@ ended_reads told size =
         subst (λ k. Tells (End size told) size (take size (drop place bytes)) place (zeros_at k place bytes >>= λ _. Ok told)) rest (image.tells place bytes (omega (arith, fills)) are);
     }
 
--- the fields of each kind have room in so many bytes, where names have so many
-pub record HasRoom (total width : ℕ) : Type 0 where
-  pub some : 1 ≤ width
-  pub short : width ≤ NAME_BYTES
-  pub names : 1 + width + (1 + width) + 4 ≤ total
-  pub name : 1 + width + 9 ≤ total
-  pub others : 12 ≤ total
+pub and_then : {A B : Type 0} {m n : ℕ} {F : A → List ℕ → Type 0} {S : A → B → List ℕ → Type 0} {f : Reader A} {k : A → Reader B} → IsReader Within m F f → ((a : A) → IsReader Fills n (S a) (k a)) → IsReader Fills (m + n) (Then F S) (behind m f k)
+and_then first next = behind_reads fills_within first (λ a text is. next a)
+
+sized : {B : Type 0} {m n : ℕ} {S : B → List ℕ → Type 0} {read : Reader B} → IsReader Fills m S read → m ≡ n → IsReader Fills n S read
+sized {B} {m} {n} {S} {read} reads same = subst (λ k. IsReader Fills k S read) same reads
+
+module _ (width rest : ℕ) (some : 1 ≤ width) (short : width ≤ NAME_BYTES) where
+  named : IsReader Within (1 + width) (NameText width) (name_at width)
+  named = name_reads width some short
+
+  fields_read : (kind : Kind) → IsReader Fills (size_of width kind + rest) (Fields width rest kind) (act_at kind width)
+  fields_read kinds.NewDay = sized (and_then day_reads λ day. ended_reads rest (told_of (NewDay day) None)) (omega arith)
+  fields_read kinds.PutProduct = sized (and_then named λ name. and_then nominal_reads λ nominal. and_then unit_reads λ unit. ended_reads rest (told_of (PutProduct name nominal unit) None)) (omega arith)
+  fields_read kinds.PutTare = sized (and_then named λ product. and_then day_reads λ day. and_then tare_reads λ tare. ended_reads rest (told_of (PutTare product day tare) None)) (omega arith)
+  fields_read kinds.OpenBatch = sized (and_then named λ batch. and_then named λ product. and_then density_reads λ density. ended_reads rest (told_of (OpenBatch batch product density) None)) (omega arith)
+  fields_read kinds.StartLane = sized (and_then lane_reads λ lane. and_then named λ batch. ended_reads rest (told_of (StartLane lane batch) None)) (omega arith)
+  fields_read kinds.Weigh = sized (and_then lane_reads λ lane. and_then gross_reads λ gross. and_then prior_reads λ prior. and_then signal_reads λ signal. ended_reads rest (told_of (Weigh lane gross prior) (Some signal))) (omega arith)
+  fields_read kinds.StopLane = sized (and_then lane_reads λ lane. and_then prior_reads λ prior. ended_reads rest (told_of (StopLane lane prior) None)) (omega arith)
+  fields_read kinds.Void = sized (and_then any_four_reads λ pack. ended_reads rest (told_of (Void pack) None)) (omega arith)
+  fields_read kinds.EndRun = sized (and_then named λ batch. ended_reads rest (told_of (EndRun batch) None)) (omega arith)
+  fields_read kinds.Draw = sized (and_then named λ batch. and_then mode_reads λ mode. and_then any_eight_reads λ word. ended_reads rest (told_of (Draw batch mode word) None)) (omega arith)
+  fields_read kinds.Measure = sized (and_then any_four_reads λ pack. and_then gross_reads λ gross. and_then tare_reads λ empty. ended_reads rest (told_of (Measure pack gross empty) None)) (omega arith)
+  fields_read kinds.DrawSecond = sized (and_then named λ batch. and_then any_eight_reads λ word. ended_reads rest (told_of (DrawSecond batch word) None)) (omega arith)
+  fields_read kinds.Close = sized (and_then named λ batch. ended_reads rest (told_of (Close batch) None)) (omega arith)
+
+-- ---- the spelling of an act
 
 -- the kind of an act
 abbrev pub kind_for : Act → Kind
@@ -84,42 +152,16 @@ kind_number (Measure pack gross empty) = refl
 kind_number (DrawSecond batch word) = refl
 kind_number (Close batch) = refl
 
--- an act and its signal may stand in so many bytes, and these are their text
-pub record IsAct (total width : ℕ) (act : Act) (signal : Option Signal) (text : List ℕ) : Type 0 where
+-- an act and its signal may stand in a row, and these are the bytes of their fields with so many
+-- zeros
+pub record IsAct (width rest : ℕ) (act : Act) (signal : Option Signal) (text : List ℕ) : Type 0 where
   pub allowed : IsActAllowed width act
   pub signalled : HasSignal act signal
   pub fits : FitsAct act
-  pub spelled : text ≡ filled total (fields_of width act signal)
+  pub spelled : text ≡ fields_of width act signal ++ replicate rest 0
 
-abbrev pub IsBody : ℕ → ℕ → Kind → Told → List ℕ → Type 0
-IsBody total width kind told text = (kind_for told.act ≡ kind) × IsAct total width told.act told.signal text
-
--- the fields of each kind, one behind the other, and the zeros behind them
-abbrev Fields : ℕ → ℕ → Kind → Told → List ℕ → Type 0
-Fields total width kinds.NewDay = Then (FourBytes (pos 0) MAX_DAY) (λ day. End (total - 4) (told_of (NewDay day) None))
-Fields total width kinds.PutProduct = Then (NameText width) (λ name. Then (EightBytes MIN_NOMINAL MAX_NOMINAL) (λ nominal. Then (CodeField unit_code) (λ unit. End (total - ((1 + width) + 8 + 1)) (told_of (PutProduct name nominal unit) None))))
-Fields total width kinds.PutTare = Then (NameText width) (λ product. Then (FourBytes (pos 0) MAX_DAY) (λ day. Then (FourBytes (pos 0) MAX_TARE) (λ tare. End (total - ((1 + width) + 4 + 4)) (told_of (PutTare product day tare) None))))
-Fields total width kinds.OpenBatch = Then (NameText width) (λ batch. Then (NameText width) (λ product. Then DensityField (λ density. End (total - ((1 + width) + (1 + width) + 4)) (told_of (OpenBatch batch product density) None))))
-Fields total width kinds.StartLane = Then LaneField (λ lane. Then (NameText width) (λ batch. End (total - (1 + (1 + width))) (told_of (StartLane lane batch) None)))
-Fields total width kinds.Weigh = Then LaneField (λ lane. Then (FourBytes (pos 0) MAX_GROSS) (λ gross. Then (CodeField prior_code) (λ prior. Then (CodeField code_of_signal) (λ signal. End (total - (1 + 4 + 1 + 1)) (told_of (Weigh lane gross prior) (Some signal))))))
-Fields total width kinds.StopLane = Then LaneField (λ lane. Then (CodeField prior_code) (λ prior. End (total - (1 + 1)) (told_of (StopLane lane prior) None)))
-Fields total width kinds.Void = Then Four (λ pack. End (total - 4) (told_of (Void pack) None))
-Fields total width kinds.EndRun = Then (NameText width) (λ batch. End (total - (1 + width)) (told_of (EndRun batch) None))
-Fields total width kinds.Draw = Then (NameText width) (λ batch. Then (CodeField mode_code) (λ mode. Then Eight (λ word. End (total - ((1 + width) + 1 + 8)) (told_of (Draw batch mode word) None))))
-Fields total width kinds.Measure = Then Four (λ pack. Then (FourBytes (pos 0) MAX_GROSS) (λ gross. Then (FourBytes (pos 0) MAX_TARE) (λ empty. End (total - (4 + 4 + 4)) (told_of (Measure pack gross empty) None))))
-Fields total width kinds.DrawSecond = Then (NameText width) (λ batch. Then Eight (λ word. End (total - ((1 + width) + 8)) (told_of (DrawSecond batch word) None)))
-Fields total width kinds.Close = Then (NameText width) (λ batch. End (total - (1 + width)) (told_of (Close batch) None))
-
--- ---- texts of one, two, three and four fields
-
-filled_is : (total size : ℕ) (fields text : List ℕ) → text ≡ fields ++ replicate size 0 → length fields + size ≡ total → text ≡ filled total fields
-filled_is total size fields text is long = let e : size ≡ total - length fields = omega (arith, long) in is ∙ ap (λ k. fields ++ replicate k 0) e
-
-filled_out : (total size : ℕ) (fields text : List ℕ) → text ≡ filled total fields → length fields + size ≡ total → text ≡ fields ++ replicate size 0
-filled_out total size fields text is long = let e : total - length fields ≡ size = omega (arith, long) in is ∙ ap (λ k. fields ++ replicate k 0) e
-
-join : (front rest a r text : List ℕ) → text ≡ front ++ rest → front ≡ a → rest ≡ r → text ≡ a ++ r
-join front rest a r text parts p q = parts ∙ ap (λ (xs : List ℕ). xs ++ rest) p ∙ ap (λ (xs : List ℕ). a ++ xs) q
+abbrev IsActOf : (width rest : ℕ) → Kind → Told → List ℕ → Type 0
+IsActOf width rest kind told text = (kind_for told.act ≡ kind) × IsAct width rest told.act told.signal text
 
 two_fields : (a b z : List ℕ) → (a ++ b) ++ z ≡ a ++ (b ++ z)
 two_fields a b z = append_assoc a b z
@@ -127,267 +169,186 @@ two_fields a b z = append_assoc a b z
 three_fields : (a b c z : List ℕ) → ((a ++ b) ++ c) ++ z ≡ a ++ (b ++ (c ++ z))
 three_fields a b c z = append_assoc (a ++ b) c z ∙ append_assoc a b (c ++ z)
 
-length_two : (a b : List ℕ) (m n : ℕ) → length a ≡ m → length b ≡ n → length (a ++ b) ≡ m + n
-length_two a b m n p q = length-append a b ∙ ap (λ k. k + length b) p ∙ ap (λ k. m + k) q
-
-length_three : (a b c : List ℕ) (m n o : ℕ) → length a ≡ m → length b ≡ n → length c ≡ o → length ((a ++ b) ++ c) ≡ m + n + o
-length_three a b c m n o p q r = length_two (a ++ b) c (m + n) o (length_two a b m n p q) r
-
-length_name : (width : ℕ) (name : Name) → IsShort width name → length (name_field width name) ≡ 1 + width
-length_name width name short = omega (arith, length-append (bytes_of name) (replicate (width - length (bytes_of name)) 0), length-replicate {A = ℕ} (width - length (bytes_of name)) 0)
-
--- ---- the fields of a kind are the text of an act
+-- a field behind which another text stands
+step : {A B : Type 0} {F : A → List ℕ → Type 0} {S : A → B → List ℕ → Type 0} {b : B} (a : A) (front rest : List ℕ) → F a front → S a b rest → Then F S b (front ++ rest)
+step a front rest starts goes = record { first = a; front = front; rest = rest; starts = starts; goes = goes; parts = refl }
 
 no_signal : (signal : Option Signal) → signal ≡ None → IsSome signal → ⊥
 no_signal signal is some = absurd cc
 
-fields_of_new_day : (total width : ℕ) → HasRoom total width → (told : Told) (text : List ℕ) → Fields total width kinds.NewDay told text → IsBody total width kinds.NewDay told text
-fields_of_new_day total width room told text x =
-    let end = x.goes in
-    let long : length (fields_of width (NewDay x.first) None) + (total - 4) ≡ total = omega (arith, room.names, room.name, room.others) in
-    let flat : (fields_of width (NewDay x.first) None) ++ (replicate (total - 4) 0) ≡ ((four_of x.first) ++ (replicate (total - 4) 0)) = refl in
-    let is : text ≡ ((four_of x.first) ++ (replicate (total - 4) 0)) = (join x.front x.rest (four_of x.first) (replicate (total - 4) 0) text x.parts (x.starts.1) end.spelled) in
-    subst (λ t. IsBody total width kinds.NewDay t text) (sym end.is) (refl, record { allowed = x.starts.0; signalled = refl; fits = tt; spelled = filled_is total (total - 4) (fields_of width (NewDay x.first) None) text (is ∙ sym flat) long })
+module _ (width rest : ℕ) where
+  told_as : (act : Act) (signal : Option Signal) (told : Told) (text : List ℕ) → told ≡ told_of act signal → IsAct width rest act signal text → IsActOf width rest (kind_for act) told text
+  told_as act signal told text is spelled = subst (λ t. IsActOf width rest (kind_for act) t text) (sym is) (refl, spelled)
 
-fields_of_put_product : (total width : ℕ) → HasRoom total width → (told : Told) (text : List ℕ) → Fields total width kinds.PutProduct told text → IsBody total width kinds.PutProduct told text
-fields_of_put_product total width room told text x =
-    let x2 = x.goes in
-    let x3 = x2.goes in
-    let end = x3.goes in
-    let long : length (fields_of width (PutProduct x.first x2.first x3.first) None) + (total - ((1 + width) + 8 + 1)) ≡ total = omega (arith, length_three (name_field width x.first) (eight_of x2.first) (unit_code x3.first ∷ []) (1 + width) 8 1 (length_name width x.first x.starts.0) refl refl, room.names, room.name, room.others) in
-    let flat : (fields_of width (PutProduct x.first x2.first x3.first) None) ++ (replicate (total - ((1 + width) + 8 + 1)) 0) ≡ ((name_field width x.first) ++ ((eight_of x2.first) ++ ((unit_code x3.first ∷ []) ++ (replicate (total - ((1 + width) + 8 + 1)) 0)))) = three_fields (name_field width x.first) (eight_of x2.first) (unit_code x3.first ∷ []) (replicate (total - ((1 + width) + 8 + 1)) 0) in
-    let is : text ≡ ((name_field width x.first) ++ ((eight_of x2.first) ++ ((unit_code x3.first ∷ []) ++ (replicate (total - ((1 + width) + 8 + 1)) 0)))) = (join x.front x.rest (name_field width x.first) ((eight_of x2.first) ++ ((unit_code x3.first ∷ []) ++ (replicate (total - ((1 + width) + 8 + 1)) 0))) text x.parts (x.starts.1) (join x2.front x2.rest (eight_of x2.first) ((unit_code x3.first ∷ []) ++ (replicate (total - ((1 + width) + 8 + 1)) 0)) x.rest x2.parts (x2.starts.1) (join x3.front x3.rest (unit_code x3.first ∷ []) (replicate (total - ((1 + width) + 8 + 1)) 0) x2.rest x3.parts (x3.starts) end.spelled))) in
-    subst (λ t. IsBody total width kinds.PutProduct t text) (sym end.is) (refl, record { allowed = (x.starts.0, x2.starts.0); signalled = refl; fits = tt; spelled = filled_is total (total - ((1 + width) + 8 + 1)) (fields_of width (PutProduct x.first x2.first x3.first) None) text (is ∙ sym flat) long })
+  -- the fields of a kind spell an act of that kind
+  act_of_fields : (kind : Kind) (told : Told) (text : List ℕ) → Fields width rest kind told text → IsActOf width rest kind told text
+  act_of_fields kinds.NewDay told text x =
+      let end = x.goes in
+      told_as (NewDay x.first) None told text end.is (record { allowed = x.starts.0; signalled = refl; fits = tt; spelled = rw (x.parts, x.starts.1, end.spelled) refl })
+  act_of_fields kinds.PutProduct told text x =
+      let y = x.goes in
+      let z = y.goes in
+      let end = z.goes in
+      told_as (PutProduct x.first y.first z.first) None told text end.is (record { allowed = (x.starts.0, y.starts.0); signalled = refl; fits = tt; spelled = rw (x.parts, x.starts.1, y.parts, y.starts.1, z.parts, z.starts, end.spelled) (sym (three_fields (name_field width x.first) (eight_of y.first) (unit_code z.first ∷ []) (replicate rest 0))) })
+  act_of_fields kinds.PutTare told text x =
+      let y = x.goes in
+      let z = y.goes in
+      let end = z.goes in
+      told_as (PutTare x.first y.first z.first) None told text end.is (record { allowed = (x.starts.0, y.starts.0, z.starts.0); signalled = refl; fits = tt; spelled = rw (x.parts, x.starts.1, y.parts, y.starts.1, z.parts, z.starts.1, end.spelled) (sym (three_fields (name_field width x.first) (four_of y.first) (four_of z.first) (replicate rest 0))) })
+  act_of_fields kinds.OpenBatch told text x =
+      let y = x.goes in
+      let z = y.goes in
+      let end = z.goes in
+      told_as (OpenBatch x.first y.first z.first) None told text end.is (record { allowed = (x.starts.0, y.starts.0, z.starts.0); signalled = refl; fits = tt; spelled = rw (x.parts, x.starts.1, y.parts, y.starts.1, z.parts, z.starts.1, end.spelled) (sym (three_fields (name_field width x.first) (name_field width y.first) (four z.first) (replicate rest 0))) })
+  act_of_fields kinds.StartLane told text x =
+      let y = x.goes in
+      let end = y.goes in
+      told_as (StartLane x.first y.first) None told text end.is (record { allowed = (x.starts.0, y.starts.0); signalled = refl; fits = tt; spelled = rw (x.parts, x.starts.1, y.parts, y.starts.1, end.spelled) refl })
+  act_of_fields kinds.Weigh told text x =
+      let y = x.goes in
+      let z = y.goes in
+      let u = z.goes in
+      let end = u.goes in
+      told_as (Weigh x.first y.first z.first) (Some u.first) told text end.is (record { allowed = (x.starts.0, y.starts.0); signalled = refl; fits = tt; spelled = rw (x.parts, x.starts.1, y.parts, y.starts.1, z.parts, z.starts, u.parts, u.starts, end.spelled) refl })
+  act_of_fields kinds.StopLane told text x =
+      let y = x.goes in
+      let end = y.goes in
+      told_as (StopLane x.first y.first) None told text end.is (record { allowed = x.starts.0; signalled = refl; fits = tt; spelled = rw (x.parts, x.starts.1, y.parts, y.starts, end.spelled) refl })
+  act_of_fields kinds.Void told text x =
+      let end = x.goes in
+      told_as (Void x.first) None told text end.is (record { allowed = tt; signalled = refl; fits = x.starts.below; spelled = rw (x.parts, x.starts.is, end.spelled) refl })
+  act_of_fields kinds.EndRun told text x =
+      let end = x.goes in
+      told_as (EndRun x.first) None told text end.is (record { allowed = x.starts.0; signalled = refl; fits = tt; spelled = rw (x.parts, x.starts.1, end.spelled) refl })
+  act_of_fields kinds.Draw told text x =
+      let y = x.goes in
+      let z = y.goes in
+      let end = z.goes in
+      told_as (Draw x.first y.first z.first) None told text end.is (record { allowed = x.starts.0; signalled = refl; fits = z.starts.below; spelled = rw (x.parts, x.starts.1, y.parts, y.starts, z.parts, z.starts.is, end.spelled) (sym (append_assoc (name_field width x.first) (mode_code y.first ∷ eight z.first) (replicate rest 0))) })
+  act_of_fields kinds.Measure told text x =
+      let y = x.goes in
+      let z = y.goes in
+      let end = z.goes in
+      told_as (Measure x.first y.first z.first) None told text end.is (record { allowed = (y.starts.0, z.starts.0); signalled = refl; fits = x.starts.below; spelled = rw (x.parts, x.starts.is, y.parts, y.starts.1, z.parts, z.starts.1, end.spelled) refl })
+  act_of_fields kinds.DrawSecond told text x =
+      let y = x.goes in
+      let end = y.goes in
+      told_as (DrawSecond x.first y.first) None told text end.is (record { allowed = x.starts.0; signalled = refl; fits = y.starts.below; spelled = rw (x.parts, x.starts.1, y.parts, y.starts.is, end.spelled) (sym (append_assoc (name_field width x.first) (eight y.first) (replicate rest 0))) })
+  act_of_fields kinds.Close told text x =
+      let end = x.goes in
+      told_as (Close x.first) None told text end.is (record { allowed = x.starts.0; signalled = refl; fits = tt; spelled = rw (x.parts, x.starts.1, end.spelled) refl })
 
-fields_of_put_tare : (total width : ℕ) → HasRoom total width → (told : Told) (text : List ℕ) → Fields total width kinds.PutTare told text → IsBody total width kinds.PutTare told text
-fields_of_put_tare total width room told text x =
-    let x2 = x.goes in
-    let x3 = x2.goes in
-    let end = x3.goes in
-    let long : length (fields_of width (PutTare x.first x2.first x3.first) None) + (total - ((1 + width) + 4 + 4)) ≡ total = omega (arith, length_three (name_field width x.first) (four_of x2.first) (four_of x3.first) (1 + width) 4 4 (length_name width x.first x.starts.0) refl refl, room.names, room.name, room.others) in
-    let flat : (fields_of width (PutTare x.first x2.first x3.first) None) ++ (replicate (total - ((1 + width) + 4 + 4)) 0) ≡ ((name_field width x.first) ++ ((four_of x2.first) ++ ((four_of x3.first) ++ (replicate (total - ((1 + width) + 4 + 4)) 0)))) = three_fields (name_field width x.first) (four_of x2.first) (four_of x3.first) (replicate (total - ((1 + width) + 4 + 4)) 0) in
-    let is : text ≡ ((name_field width x.first) ++ ((four_of x2.first) ++ ((four_of x3.first) ++ (replicate (total - ((1 + width) + 4 + 4)) 0)))) = (join x.front x.rest (name_field width x.first) ((four_of x2.first) ++ ((four_of x3.first) ++ (replicate (total - ((1 + width) + 4 + 4)) 0))) text x.parts (x.starts.1) (join x2.front x2.rest (four_of x2.first) ((four_of x3.first) ++ (replicate (total - ((1 + width) + 4 + 4)) 0)) x.rest x2.parts (x2.starts.1) (join x3.front x3.rest (four_of x3.first) (replicate (total - ((1 + width) + 4 + 4)) 0) x2.rest x3.parts (x3.starts.1) end.spelled))) in
-    subst (λ t. IsBody total width kinds.PutTare t text) (sym end.is) (refl, record { allowed = (x.starts.0, x2.starts.0, x3.starts.0); signalled = refl; fits = tt; spelled = filled_is total (total - ((1 + width) + 4 + 4)) (fields_of width (PutTare x.first x2.first x3.first) None) text (is ∙ sym flat) long })
+  ending : (act : Act) (signal : Option Signal) → signal ≡ None → End rest (told_of act None) (told_of act signal) (replicate rest 0)
+  ending act signal is = record { from = tt; spelled = refl; is = ap (told_of act) is }
 
-fields_of_open_batch : (total width : ℕ) → HasRoom total width → (told : Told) (text : List ℕ) → Fields total width kinds.OpenBatch told text → IsBody total width kinds.OpenBatch told text
-fields_of_open_batch total width room told text x =
-    let x2 = x.goes in
-    let x3 = x2.goes in
-    let end = x3.goes in
-    let long : length (fields_of width (OpenBatch x.first x2.first x3.first) None) + (total - ((1 + width) + (1 + width) + 4)) ≡ total = omega (arith, length_three (name_field width x.first) (name_field width x2.first) (four x3.first) (1 + width) (1 + width) 4 (length_name width x.first x.starts.0) (length_name width x2.first x2.starts.0) refl, room.names, room.name, room.others) in
-    let flat : (fields_of width (OpenBatch x.first x2.first x3.first) None) ++ (replicate (total - ((1 + width) + (1 + width) + 4)) 0) ≡ ((name_field width x.first) ++ ((name_field width x2.first) ++ ((four x3.first) ++ (replicate (total - ((1 + width) + (1 + width) + 4)) 0)))) = three_fields (name_field width x.first) (name_field width x2.first) (four x3.first) (replicate (total - ((1 + width) + (1 + width) + 4)) 0) in
-    let is : text ≡ ((name_field width x.first) ++ ((name_field width x2.first) ++ ((four x3.first) ++ (replicate (total - ((1 + width) + (1 + width) + 4)) 0)))) = (join x.front x.rest (name_field width x.first) ((name_field width x2.first) ++ ((four x3.first) ++ (replicate (total - ((1 + width) + (1 + width) + 4)) 0))) text x.parts (x.starts.1) (join x2.front x2.rest (name_field width x2.first) ((four x3.first) ++ (replicate (total - ((1 + width) + (1 + width) + 4)) 0)) x.rest x2.parts (x2.starts.1) (join x3.front x3.rest (four x3.first) (replicate (total - ((1 + width) + (1 + width) + 4)) 0) x2.rest x3.parts (x3.starts.1) end.spelled))) in
-    subst (λ t. IsBody total width kinds.OpenBatch t text) (sym end.is) (refl, record { allowed = (x.starts.0, x2.starts.0, x3.starts.0); signalled = refl; fits = tt; spelled = filled_is total (total - ((1 + width) + (1 + width) + 4)) (fields_of width (OpenBatch x.first x2.first x3.first) None) text (is ∙ sym flat) long })
+  -- what spells an act has the fields of its kind
+  fields_of_act : (act : Act) (signal : Option Signal) (text : List ℕ) → IsAct width rest act signal text → Fields width rest (kind_for act) (told_of act signal) text
+  fields_of_act (NewDay day) signal text is =
+      subst (Fields width rest kinds.NewDay (told_of (NewDay day) signal)) (sym (is.spelled)) (step day (four_of day) _ (is.allowed, refl) (ending (NewDay day) signal is.signalled))
+  fields_of_act (PutProduct name nominal unit) signal text is =
+      subst (Fields width rest kinds.PutProduct (told_of (PutProduct name nominal unit) signal)) (sym (is.spelled ∙ three_fields (name_field width name) (eight_of nominal) (unit_code unit ∷ []) (replicate rest 0))) (step name (name_field width name) _ (is.allowed.0, refl) (step nominal (eight_of nominal) _ (is.allowed.1, refl) (step unit (unit_code unit ∷ []) _ refl (ending (PutProduct name nominal unit) signal is.signalled))))
+  fields_of_act (PutTare product day tare) signal text is =
+      subst (Fields width rest kinds.PutTare (told_of (PutTare product day tare) signal)) (sym (is.spelled ∙ three_fields (name_field width product) (four_of day) (four_of tare) (replicate rest 0))) (step product (name_field width product) _ (is.allowed.0, refl) (step day (four_of day) _ (is.allowed.1, refl) (step tare (four_of tare) _ (is.allowed.2, refl) (ending (PutTare product day tare) signal is.signalled))))
+  fields_of_act (OpenBatch batch product density) signal text is =
+      subst (Fields width rest kinds.OpenBatch (told_of (OpenBatch batch product density) signal)) (sym (is.spelled ∙ three_fields (name_field width batch) (name_field width product) (four density) (replicate rest 0))) (step batch (name_field width batch) _ (is.allowed.0, refl) (step product (name_field width product) _ (is.allowed.1, refl) (step density (four density) _ (is.allowed.2, refl) (ending (OpenBatch batch product density) signal is.signalled))))
+  fields_of_act (StartLane lane batch) signal text is =
+      subst (Fields width rest kinds.StartLane (told_of (StartLane lane batch) signal)) (sym (is.spelled)) (step lane (lane ∷ []) _ (is.allowed.0, refl) (step batch (name_field width batch) _ (is.allowed.1, refl) (ending (StartLane lane batch) signal is.signalled)))
+  fields_of_act (Weigh lane gross prior) (Some signal) text is =
+      subst (Fields width rest kinds.Weigh (told_of (Weigh lane gross prior) (Some signal))) (sym (is.spelled)) (step lane (lane ∷ []) _ (is.allowed.0, refl) (step gross (four_of gross) _ (is.allowed.1, refl) (step prior (prior_code prior ∷ []) _ refl (step signal (code_of_signal signal ∷ []) _ refl (record { from = tt; spelled = refl; is = refl })))))
+  fields_of_act (Weigh lane gross prior) None text is = absurd (no_signal None refl is.signalled)
+  fields_of_act (StopLane lane prior) signal text is =
+      subst (Fields width rest kinds.StopLane (told_of (StopLane lane prior) signal)) (sym (is.spelled)) (step lane (lane ∷ []) _ (is.allowed, refl) (step prior (prior_code prior ∷ []) _ refl (ending (StopLane lane prior) signal is.signalled)))
+  fields_of_act (Void pack) signal text is =
+      subst (Fields width rest kinds.Void (told_of (Void pack) signal)) (sym (is.spelled)) (step pack (four pack) _ (record { below = is.fits; is = refl }) (ending (Void pack) signal is.signalled))
+  fields_of_act (EndRun batch) signal text is =
+      subst (Fields width rest kinds.EndRun (told_of (EndRun batch) signal)) (sym (is.spelled)) (step batch (name_field width batch) _ (is.allowed, refl) (ending (EndRun batch) signal is.signalled))
+  fields_of_act (Draw batch mode word) signal text is =
+      subst (Fields width rest kinds.Draw (told_of (Draw batch mode word) signal)) (sym (is.spelled ∙ append_assoc (name_field width batch) (mode_code mode ∷ eight word) (replicate rest 0))) (step batch (name_field width batch) _ (is.allowed, refl) (step mode (mode_code mode ∷ []) _ refl (step word (eight word) _ (record { below = is.fits; is = refl }) (ending (Draw batch mode word) signal is.signalled))))
+  fields_of_act (Measure pack gross empty) signal text is =
+      subst (Fields width rest kinds.Measure (told_of (Measure pack gross empty) signal)) (sym (is.spelled)) (step pack (four pack) _ (record { below = is.fits; is = refl }) (step gross (four_of gross) _ (is.allowed.0, refl) (step empty (four_of empty) _ (is.allowed.1, refl) (ending (Measure pack gross empty) signal is.signalled))))
+  fields_of_act (DrawSecond batch word) signal text is =
+      subst (Fields width rest kinds.DrawSecond (told_of (DrawSecond batch word) signal)) (sym (is.spelled ∙ append_assoc (name_field width batch) (eight word) (replicate rest 0))) (step batch (name_field width batch) _ (is.allowed, refl) (step word (eight word) _ (record { below = is.fits; is = refl }) (ending (DrawSecond batch word) signal is.signalled)))
+  fields_of_act (Close batch) signal text is =
+      subst (Fields width rest kinds.Close (told_of (Close batch) signal)) (sym (is.spelled)) (step batch (name_field width batch) _ (is.allowed, refl) (ending (Close batch) signal is.signalled))
 
-fields_of_start_lane : (total width : ℕ) → HasRoom total width → (told : Told) (text : List ℕ) → Fields total width kinds.StartLane told text → IsBody total width kinds.StartLane told text
-fields_of_start_lane total width room told text x =
-    let x2 = x.goes in
-    let end = x2.goes in
-    let long : length (fields_of width (StartLane x.first x2.first) None) + (total - (1 + (1 + width))) ≡ total = omega (arith, length_name width x2.first x2.starts.0, room.names, room.name, room.others) in
-    let flat : (fields_of width (StartLane x.first x2.first) None) ++ (replicate (total - (1 + (1 + width))) 0) ≡ ((x.first ∷ []) ++ ((name_field width x2.first) ++ (replicate (total - (1 + (1 + width))) 0))) = refl in
-    let is : text ≡ ((x.first ∷ []) ++ ((name_field width x2.first) ++ (replicate (total - (1 + (1 + width))) 0))) = (join x.front x.rest (x.first ∷ []) ((name_field width x2.first) ++ (replicate (total - (1 + (1 + width))) 0)) text x.parts (x.starts.1) (join x2.front x2.rest (name_field width x2.first) (replicate (total - (1 + (1 + width))) 0) x.rest x2.parts (x2.starts.1) end.spelled)) in
-    subst (λ t. IsBody total width kinds.StartLane t text) (sym end.is) (refl, record { allowed = (x.starts.0, x2.starts.0); signalled = refl; fits = tt; spelled = filled_is total (total - (1 + (1 + width))) (fields_of width (StartLane x.first x2.first) None) text (is ∙ sym flat) long })
+-- ---- in a row of so many bytes
 
-fields_of_weigh : (total width : ℕ) → HasRoom total width → (told : Told) (text : List ℕ) → Fields total width kinds.Weigh told text → IsBody total width kinds.Weigh told text
-fields_of_weigh total width room told text x =
-    let x2 = x.goes in
-    let x3 = x2.goes in
-    let x4 = x3.goes in
-    let end = x4.goes in
-    let long : length (fields_of width (Weigh x.first x2.first x3.first) (Some x4.first)) + (total - (1 + 4 + 1 + 1)) ≡ total = omega (arith, room.names, room.name, room.others) in
-    let flat : (fields_of width (Weigh x.first x2.first x3.first) (Some x4.first)) ++ (replicate (total - (1 + 4 + 1 + 1)) 0) ≡ ((x.first ∷ []) ++ ((four_of x2.first) ++ ((prior_code x3.first ∷ []) ++ ((code_of_signal x4.first ∷ []) ++ (replicate (total - (1 + 4 + 1 + 1)) 0))))) = refl in
-    let is : text ≡ ((x.first ∷ []) ++ ((four_of x2.first) ++ ((prior_code x3.first ∷ []) ++ ((code_of_signal x4.first ∷ []) ++ (replicate (total - (1 + 4 + 1 + 1)) 0))))) = (join x.front x.rest (x.first ∷ []) ((four_of x2.first) ++ ((prior_code x3.first ∷ []) ++ ((code_of_signal x4.first ∷ []) ++ (replicate (total - (1 + 4 + 1 + 1)) 0)))) text x.parts (x.starts.1) (join x2.front x2.rest (four_of x2.first) ((prior_code x3.first ∷ []) ++ ((code_of_signal x4.first ∷ []) ++ (replicate (total - (1 + 4 + 1 + 1)) 0))) x.rest x2.parts (x2.starts.1) (join x3.front x3.rest (prior_code x3.first ∷ []) ((code_of_signal x4.first ∷ []) ++ (replicate (total - (1 + 4 + 1 + 1)) 0)) x2.rest x3.parts (x3.starts) (join x4.front x4.rest (code_of_signal x4.first ∷ []) (replicate (total - (1 + 4 + 1 + 1)) 0) x3.rest x4.parts (x4.starts) end.spelled)))) in
-    subst (λ t. IsBody total width kinds.Weigh t text) (sym end.is) (refl, record { allowed = (x.starts.0, x2.starts.0); signalled = refl; fits = tt; spelled = filled_is total (total - (1 + 4 + 1 + 1)) (fields_of width (Weigh x.first x2.first x3.first) (Some x4.first)) text (is ∙ sym flat) long })
+-- names have so many bytes, and the fields of each kind have room in so many
+pub record HasRoom (total width : ℕ) : Type 0 where
+  pub some : 1 ≤ width
+  pub short : width ≤ NAME_BYTES
+  pub names : 1 + width + (1 + width) + 4 ≤ total
+  pub name : 1 + width + 9 ≤ total
+  pub others : 12 ≤ total
 
-fields_of_stop_lane : (total width : ℕ) → HasRoom total width → (told : Told) (text : List ℕ) → Fields total width kinds.StopLane told text → IsBody total width kinds.StopLane told text
-fields_of_stop_lane total width room told text x =
-    let x2 = x.goes in
-    let end = x2.goes in
-    let long : length (fields_of width (StopLane x.first x2.first) None) + (total - (1 + 1)) ≡ total = omega (arith, room.names, room.name, room.others) in
-    let flat : (fields_of width (StopLane x.first x2.first) None) ++ (replicate (total - (1 + 1)) 0) ≡ ((x.first ∷ []) ++ ((prior_code x2.first ∷ []) ++ (replicate (total - (1 + 1)) 0))) = refl in
-    let is : text ≡ ((x.first ∷ []) ++ ((prior_code x2.first ∷ []) ++ (replicate (total - (1 + 1)) 0))) = (join x.front x.rest (x.first ∷ []) ((prior_code x2.first ∷ []) ++ (replicate (total - (1 + 1)) 0)) text x.parts (x.starts.1) (join x2.front x2.rest (prior_code x2.first ∷ []) (replicate (total - (1 + 1)) 0) x.rest x2.parts (x2.starts) end.spelled)) in
-    subst (λ t. IsBody total width kinds.StopLane t text) (sym end.is) (refl, record { allowed = x.starts.0; signalled = refl; fits = tt; spelled = filled_is total (total - (1 + 1)) (fields_of width (StopLane x.first x2.first) None) text (is ∙ sym flat) long })
+size_fits : (total width : ℕ) → HasRoom total width → (kind : Kind) → size_of width kind ≤ total
+size_fits total width room kinds.NewDay = omega (arith, room.others)
+size_fits total width room kinds.PutProduct = omega (arith, room.name)
+size_fits total width room kinds.PutTare = omega (arith, room.name)
+size_fits total width room kinds.OpenBatch = omega (arith, room.names)
+size_fits total width room kinds.StartLane = omega (arith, room.name)
+size_fits total width room kinds.Weigh = omega (arith, room.others)
+size_fits total width room kinds.StopLane = omega (arith, room.others)
+size_fits total width room kinds.Void = omega (arith, room.others)
+size_fits total width room kinds.EndRun = omega (arith, room.name)
+size_fits total width room kinds.Draw = omega (arith, room.name)
+size_fits total width room kinds.Measure = omega (arith, room.others)
+size_fits total width room kinds.DrawSecond = omega (arith, room.name)
+size_fits total width room kinds.Close = omega (arith, room.name)
 
-fields_of_void : (total width : ℕ) → HasRoom total width → (told : Told) (text : List ℕ) → Fields total width kinds.Void told text → IsBody total width kinds.Void told text
-fields_of_void total width room told text x =
-    let end = x.goes in
-    let long : length (fields_of width (Void x.first) None) + (total - 4) ≡ total = omega (arith, room.names, room.name, room.others) in
-    let flat : (fields_of width (Void x.first) None) ++ (replicate (total - 4) 0) ≡ ((four x.first) ++ (replicate (total - 4) 0)) = refl in
-    let is : text ≡ ((four x.first) ++ (replicate (total - 4) 0)) = (join x.front x.rest (four x.first) (replicate (total - 4) 0) text x.parts (x.starts.is) end.spelled) in
-    subst (λ t. IsBody total width kinds.Void t text) (sym end.is) (refl, record { allowed = tt; signalled = refl; fits = x.starts.below; spelled = filled_is total (total - 4) (fields_of width (Void x.first) None) text (is ∙ sym flat) long })
+length_name : (width : ℕ) (name : Name) → IsShort width name → length (name_field width name) ≡ 1 + width
+length_name width name short = omega (arith, length-append (bytes_of name) (replicate (width - length (bytes_of name)) 0), length-replicate {A = ℕ} (width - length (bytes_of name)) 0)
 
-fields_of_end_run : (total width : ℕ) → HasRoom total width → (told : Told) (text : List ℕ) → Fields total width kinds.EndRun told text → IsBody total width kinds.EndRun told text
-fields_of_end_run total width room told text x =
-    let end = x.goes in
-    let long : length (fields_of width (EndRun x.first) None) + (total - (1 + width)) ≡ total = omega (arith, length_name width x.first x.starts.0, room.names, room.name, room.others) in
-    let flat : (fields_of width (EndRun x.first) None) ++ (replicate (total - (1 + width)) 0) ≡ ((name_field width x.first) ++ (replicate (total - (1 + width)) 0)) = refl in
-    let is : text ≡ ((name_field width x.first) ++ (replicate (total - (1 + width)) 0)) = (join x.front x.rest (name_field width x.first) (replicate (total - (1 + width)) 0) text x.parts (x.starts.1) end.spelled) in
-    subst (λ t. IsBody total width kinds.EndRun t text) (sym end.is) (refl, record { allowed = x.starts.0; signalled = refl; fits = tt; spelled = filled_is total (total - (1 + width)) (fields_of width (EndRun x.first) None) text (is ∙ sym flat) long })
+length_behind : (width : ℕ) (name : Name) (rest : List ℕ) → IsShort width name → length (name_field width name ++ rest) ≡ 1 + width + length rest
+length_behind width name rest short = length-append (name_field width name) rest ∙ ap (λ k. k + length rest) (length_name width name short)
 
-fields_of_draw : (total width : ℕ) → HasRoom total width → (told : Told) (text : List ℕ) → Fields total width kinds.Draw told text → IsBody total width kinds.Draw told text
-fields_of_draw total width room told text x =
-    let x2 = x.goes in
-    let x3 = x2.goes in
-    let end = x3.goes in
-    let long : length (fields_of width (Draw x.first x2.first x3.first) None) + (total - ((1 + width) + 1 + 8)) ≡ total = omega (arith, length_two (name_field width x.first) (mode_code x2.first ∷ eight x3.first) (1 + width) 9 (length_name width x.first x.starts.0) refl, room.names, room.name, room.others) in
-    let flat : (fields_of width (Draw x.first x2.first x3.first) None) ++ (replicate (total - ((1 + width) + 1 + 8)) 0) ≡ ((name_field width x.first) ++ ((mode_code x2.first ∷ []) ++ ((eight x3.first) ++ (replicate (total - ((1 + width) + 1 + 8)) 0)))) = two_fields (name_field width x.first) (mode_code x2.first ∷ eight x3.first) (replicate (total - ((1 + width) + 1 + 8)) 0) in
-    let is : text ≡ ((name_field width x.first) ++ ((mode_code x2.first ∷ []) ++ ((eight x3.first) ++ (replicate (total - ((1 + width) + 1 + 8)) 0)))) = (join x.front x.rest (name_field width x.first) ((mode_code x2.first ∷ []) ++ ((eight x3.first) ++ (replicate (total - ((1 + width) + 1 + 8)) 0))) text x.parts (x.starts.1) (join x2.front x2.rest (mode_code x2.first ∷ []) ((eight x3.first) ++ (replicate (total - ((1 + width) + 1 + 8)) 0)) x.rest x2.parts (x2.starts) (join x3.front x3.rest (eight x3.first) (replicate (total - ((1 + width) + 1 + 8)) 0) x2.rest x3.parts (x3.starts.is) end.spelled))) in
-    subst (λ t. IsBody total width kinds.Draw t text) (sym end.is) (refl, record { allowed = x.starts.0; signalled = refl; fits = x3.starts.below; spelled = filled_is total (total - ((1 + width) + 1 + 8)) (fields_of width (Draw x.first x2.first x3.first) None) text (is ∙ sym flat) long })
+-- how many bytes the fields of an act have
+length_fields : (width : ℕ) (act : Act) (signal : Option Signal) → IsActAllowed width act → length (fields_of width act signal) ≡ size_of width (kind_for act)
+length_fields width (NewDay day) signal is = refl
+length_fields width (PutProduct name nominal unit) signal is =
+    length-append (name_field width name ++ eight_of nominal) (unit_code unit ∷ []) ∙ ap (λ k. k + 1) (length_behind width name (eight_of nominal) is.0)
+length_fields width (PutTare product day tare) signal is =
+    length-append (name_field width product ++ four_of day) (four_of tare) ∙ ap (λ k. k + 4) (length_behind width product (four_of day) is.0)
+length_fields width (OpenBatch batch product density) signal is =
+    length-append (name_field width batch ++ name_field width product) (four density) ∙ ap (λ k. k + 4) (length_behind width batch (name_field width product) is.0 ∙ ap (λ k. 1 + width + k) (length_name width product is.1))
+length_fields width (StartLane lane batch) signal is = omega (arith, length_name width batch is.1)
+length_fields width (Weigh lane gross prior) signal is = refl
+length_fields width (StopLane lane prior) signal is = refl
+length_fields width (Void pack) signal is = refl
+length_fields width (EndRun batch) signal is = length_name width batch is
+length_fields width (Draw batch mode word) signal is = length_behind width batch (mode_code mode ∷ eight word) is
+length_fields width (Measure pack gross empty) signal is = refl
+length_fields width (DrawSecond batch word) signal is = length_behind width batch (eight word) is
+length_fields width (Close batch) signal is = length_name width batch is
 
-fields_of_measure : (total width : ℕ) → HasRoom total width → (told : Told) (text : List ℕ) → Fields total width kinds.Measure told text → IsBody total width kinds.Measure told text
-fields_of_measure total width room told text x =
-    let x2 = x.goes in
-    let x3 = x2.goes in
-    let end = x3.goes in
-    let long : length (fields_of width (Measure x.first x2.first x3.first) None) + (total - (4 + 4 + 4)) ≡ total = omega (arith, room.names, room.name, room.others) in
-    let flat : (fields_of width (Measure x.first x2.first x3.first) None) ++ (replicate (total - (4 + 4 + 4)) 0) ≡ ((four x.first) ++ ((four_of x2.first) ++ ((four_of x3.first) ++ (replicate (total - (4 + 4 + 4)) 0)))) = refl in
-    let is : text ≡ ((four x.first) ++ ((four_of x2.first) ++ ((four_of x3.first) ++ (replicate (total - (4 + 4 + 4)) 0)))) = (join x.front x.rest (four x.first) ((four_of x2.first) ++ ((four_of x3.first) ++ (replicate (total - (4 + 4 + 4)) 0))) text x.parts (x.starts.is) (join x2.front x2.rest (four_of x2.first) ((four_of x3.first) ++ (replicate (total - (4 + 4 + 4)) 0)) x.rest x2.parts (x2.starts.1) (join x3.front x3.rest (four_of x3.first) (replicate (total - (4 + 4 + 4)) 0) x2.rest x3.parts (x3.starts.1) end.spelled))) in
-    subst (λ t. IsBody total width kinds.Measure t text) (sym end.is) (refl, record { allowed = (x2.starts.0, x3.starts.0); signalled = refl; fits = x.starts.below; spelled = filled_is total (total - (4 + 4 + 4)) (fields_of width (Measure x.first x2.first x3.first) None) text (is ∙ sym flat) long })
+-- an act of this kind and its signal may stand in a row, and this is their text
+pub record IsBody (total width : ℕ) (kind : Kind) (told : Told) (text : List ℕ) : Type 0 where
+  pub of_kind : kind_for told.act ≡ kind
+  pub allowed : IsActAllowed width told.act
+  pub signalled : HasSignal told.act told.signal
+  pub fits : FitsAct told.act
+  pub spelled : text ≡ filled total (fields_of width told.act told.signal)
 
-fields_of_draw_second : (total width : ℕ) → HasRoom total width → (told : Told) (text : List ℕ) → Fields total width kinds.DrawSecond told text → IsBody total width kinds.DrawSecond told text
-fields_of_draw_second total width room told text x =
-    let x2 = x.goes in
-    let end = x2.goes in
-    let long : length (fields_of width (DrawSecond x.first x2.first) None) + (total - ((1 + width) + 8)) ≡ total = omega (arith, length_two (name_field width x.first) (eight x2.first) (1 + width) 8 (length_name width x.first x.starts.0) refl, room.names, room.name, room.others) in
-    let flat : (fields_of width (DrawSecond x.first x2.first) None) ++ (replicate (total - ((1 + width) + 8)) 0) ≡ ((name_field width x.first) ++ ((eight x2.first) ++ (replicate (total - ((1 + width) + 8)) 0))) = two_fields (name_field width x.first) (eight x2.first) (replicate (total - ((1 + width) + 8)) 0) in
-    let is : text ≡ ((name_field width x.first) ++ ((eight x2.first) ++ (replicate (total - ((1 + width) + 8)) 0))) = (join x.front x.rest (name_field width x.first) ((eight x2.first) ++ (replicate (total - ((1 + width) + 8)) 0)) text x.parts (x.starts.1) (join x2.front x2.rest (eight x2.first) (replicate (total - ((1 + width) + 8)) 0) x.rest x2.parts (x2.starts.is) end.spelled)) in
-    subst (λ t. IsBody total width kinds.DrawSecond t text) (sym end.is) (refl, record { allowed = x.starts.0; signalled = refl; fits = x2.starts.below; spelled = filled_is total (total - ((1 + width) + 8)) (fields_of width (DrawSecond x.first x2.first) None) text (is ∙ sym flat) long })
+module _ (total width : ℕ) (kind : Kind) where
+  zeros_behind : (told : Told) → kind_for told.act ≡ kind → IsActAllowed width told.act
+      → fields_of width told.act told.signal ++ replicate (total - size_of width kind) 0 ≡ filled total (fields_of width told.act told.signal)
+  zeros_behind told is allowed =
+      let long : size_of width kind ≡ length (fields_of width told.act told.signal) = ap (size_of width) (sym is) ∙ sym (length_fields width told.act told.signal allowed) in
+      ap (λ k. fields_of width told.act told.signal ++ replicate (total - k) 0) long
 
-fields_of_close : (total width : ℕ) → HasRoom total width → (told : Told) (text : List ℕ) → Fields total width kinds.Close told text → IsBody total width kinds.Close told text
-fields_of_close total width room told text x =
-    let end = x.goes in
-    let long : length (fields_of width (Close x.first) None) + (total - (1 + width)) ≡ total = omega (arith, length_name width x.first x.starts.0, room.names, room.name, room.others) in
-    let flat : (fields_of width (Close x.first) None) ++ (replicate (total - (1 + width)) 0) ≡ ((name_field width x.first) ++ (replicate (total - (1 + width)) 0)) = refl in
-    let is : text ≡ ((name_field width x.first) ++ (replicate (total - (1 + width)) 0)) = (join x.front x.rest (name_field width x.first) (replicate (total - (1 + width)) 0) text x.parts (x.starts.1) end.spelled) in
-    subst (λ t. IsBody total width kinds.Close t text) (sym end.is) (refl, record { allowed = x.starts.0; signalled = refl; fits = tt; spelled = filled_is total (total - (1 + width)) (fields_of width (Close x.first) None) text (is ∙ sym flat) long })
+  body_of_fields : (told : Told) (text : List ℕ) → Fields width (total - size_of width kind) kind told text → IsBody total width kind told text
+  body_of_fields told text x =
+      let act = act_of_fields width (total - size_of width kind) kind told text x in
+      record { of_kind = act.0; allowed = act.1.allowed; signalled = act.1.signalled; fits = act.1.fits; spelled = act.1.spelled ∙ zeros_behind told act.0 act.1.allowed }
 
-to_body : (total width : ℕ) → HasRoom total width → (kind : Kind) (told : Told) (text : List ℕ) → Fields total width kind told text → IsBody total width kind told text
-to_body total width room kinds.NewDay = fields_of_new_day total width room
-to_body total width room kinds.PutProduct = fields_of_put_product total width room
-to_body total width room kinds.PutTare = fields_of_put_tare total width room
-to_body total width room kinds.OpenBatch = fields_of_open_batch total width room
-to_body total width room kinds.StartLane = fields_of_start_lane total width room
-to_body total width room kinds.Weigh = fields_of_weigh total width room
-to_body total width room kinds.StopLane = fields_of_stop_lane total width room
-to_body total width room kinds.Void = fields_of_void total width room
-to_body total width room kinds.EndRun = fields_of_end_run total width room
-to_body total width room kinds.Draw = fields_of_draw total width room
-to_body total width room kinds.Measure = fields_of_measure total width room
-to_body total width room kinds.DrawSecond = fields_of_draw_second total width room
-to_body total width room kinds.Close = fields_of_close total width room
+  fields_of_body : (told : Told) (text : List ℕ) → IsBody total width kind told text → Fields width (total - size_of width kind) kind told text
+  fields_of_body told text is =
+      let spelled = is.spelled ∙ sym (zeros_behind told is.of_kind is.allowed) in
+      let act : IsAct width (total - size_of width kind) told.act told.signal text = record { allowed = is.allowed; signalled = is.signalled; fits = is.fits; spelled = spelled } in
+      subst (λ k. Fields width (total - size_of width kind) k told text) is.of_kind (fields_of_act width (total - size_of width kind) told.act told.signal text act)
 
-from_body : (total width : ℕ) → HasRoom total width → (act : Act) (signal : Option Signal) (text : List ℕ) → IsAct total width act signal text → Fields total width (kind_for act) (told_of act signal) text
-from_body total width room (NewDay day) signal text is =
-    let long : length (fields_of width (NewDay day) signal) + (total - 4) ≡ total = omega (arith, room.names, room.name, room.others) in
-    let whole : text ≡ (fields_of width (NewDay day) signal) ++ (replicate (total - 4) 0) = filled_out total (total - 4) (fields_of width (NewDay day) signal) text is.spelled long in
-    let flat : (fields_of width (NewDay day) signal) ++ (replicate (total - 4) 0) ≡ ((four_of day) ++ (replicate (total - 4) 0)) = refl in
-    record { first = day; front = (four_of day); rest = (replicate (total - 4) 0); starts = (is.allowed, refl); goes = record { from = tt; spelled = refl; is = ap (told_of (NewDay day)) is.signalled }; parts = whole ∙ flat }
-from_body total width room (PutProduct name nominal unit) signal text is =
-    let long : length (fields_of width (PutProduct name nominal unit) signal) + (total - ((1 + width) + 8 + 1)) ≡ total = omega (arith, length_three (name_field width name) (eight_of nominal) (unit_code unit ∷ []) (1 + width) 8 1 (length_name width name is.allowed.0) refl refl, room.names, room.name, room.others) in
-    let whole : text ≡ (fields_of width (PutProduct name nominal unit) signal) ++ (replicate (total - ((1 + width) + 8 + 1)) 0) = filled_out total (total - ((1 + width) + 8 + 1)) (fields_of width (PutProduct name nominal unit) signal) text is.spelled long in
-    let flat : (fields_of width (PutProduct name nominal unit) signal) ++ (replicate (total - ((1 + width) + 8 + 1)) 0) ≡ ((name_field width name) ++ ((eight_of nominal) ++ ((unit_code unit ∷ []) ++ (replicate (total - ((1 + width) + 8 + 1)) 0)))) = three_fields (name_field width name) (eight_of nominal) (unit_code unit ∷ []) (replicate (total - ((1 + width) + 8 + 1)) 0) in
-    record { first = name; front = (name_field width name); rest = ((eight_of nominal) ++ ((unit_code unit ∷ []) ++ (replicate (total - ((1 + width) + 8 + 1)) 0))); starts = (is.allowed.0, refl); goes = record { first = nominal; front = (eight_of nominal); rest = ((unit_code unit ∷ []) ++ (replicate (total - ((1 + width) + 8 + 1)) 0)); starts = (is.allowed.1, refl); goes = record { first = unit; front = (unit_code unit ∷ []); rest = (replicate (total - ((1 + width) + 8 + 1)) 0); starts = refl; goes = record { from = tt; spelled = refl; is = ap (told_of (PutProduct name nominal unit)) is.signalled }; parts = refl }; parts = refl }; parts = whole ∙ flat }
-from_body total width room (PutTare product day tare) signal text is =
-    let long : length (fields_of width (PutTare product day tare) signal) + (total - ((1 + width) + 4 + 4)) ≡ total = omega (arith, length_three (name_field width product) (four_of day) (four_of tare) (1 + width) 4 4 (length_name width product is.allowed.0) refl refl, room.names, room.name, room.others) in
-    let whole : text ≡ (fields_of width (PutTare product day tare) signal) ++ (replicate (total - ((1 + width) + 4 + 4)) 0) = filled_out total (total - ((1 + width) + 4 + 4)) (fields_of width (PutTare product day tare) signal) text is.spelled long in
-    let flat : (fields_of width (PutTare product day tare) signal) ++ (replicate (total - ((1 + width) + 4 + 4)) 0) ≡ ((name_field width product) ++ ((four_of day) ++ ((four_of tare) ++ (replicate (total - ((1 + width) + 4 + 4)) 0)))) = three_fields (name_field width product) (four_of day) (four_of tare) (replicate (total - ((1 + width) + 4 + 4)) 0) in
-    record { first = product; front = (name_field width product); rest = ((four_of day) ++ ((four_of tare) ++ (replicate (total - ((1 + width) + 4 + 4)) 0))); starts = (is.allowed.0, refl); goes = record { first = day; front = (four_of day); rest = ((four_of tare) ++ (replicate (total - ((1 + width) + 4 + 4)) 0)); starts = (is.allowed.1, refl); goes = record { first = tare; front = (four_of tare); rest = (replicate (total - ((1 + width) + 4 + 4)) 0); starts = (is.allowed.2, refl); goes = record { from = tt; spelled = refl; is = ap (told_of (PutTare product day tare)) is.signalled }; parts = refl }; parts = refl }; parts = whole ∙ flat }
-from_body total width room (OpenBatch batch product density) signal text is =
-    let long : length (fields_of width (OpenBatch batch product density) signal) + (total - ((1 + width) + (1 + width) + 4)) ≡ total = omega (arith, length_three (name_field width batch) (name_field width product) (four density) (1 + width) (1 + width) 4 (length_name width batch is.allowed.0) (length_name width product is.allowed.1) refl, room.names, room.name, room.others) in
-    let whole : text ≡ (fields_of width (OpenBatch batch product density) signal) ++ (replicate (total - ((1 + width) + (1 + width) + 4)) 0) = filled_out total (total - ((1 + width) + (1 + width) + 4)) (fields_of width (OpenBatch batch product density) signal) text is.spelled long in
-    let flat : (fields_of width (OpenBatch batch product density) signal) ++ (replicate (total - ((1 + width) + (1 + width) + 4)) 0) ≡ ((name_field width batch) ++ ((name_field width product) ++ ((four density) ++ (replicate (total - ((1 + width) + (1 + width) + 4)) 0)))) = three_fields (name_field width batch) (name_field width product) (four density) (replicate (total - ((1 + width) + (1 + width) + 4)) 0) in
-    record { first = batch; front = (name_field width batch); rest = ((name_field width product) ++ ((four density) ++ (replicate (total - ((1 + width) + (1 + width) + 4)) 0))); starts = (is.allowed.0, refl); goes = record { first = product; front = (name_field width product); rest = ((four density) ++ (replicate (total - ((1 + width) + (1 + width) + 4)) 0)); starts = (is.allowed.1, refl); goes = record { first = density; front = (four density); rest = (replicate (total - ((1 + width) + (1 + width) + 4)) 0); starts = (is.allowed.2, refl); goes = record { from = tt; spelled = refl; is = ap (told_of (OpenBatch batch product density)) is.signalled }; parts = refl }; parts = refl }; parts = whole ∙ flat }
-from_body total width room (StartLane lane batch) signal text is =
-    let long : length (fields_of width (StartLane lane batch) signal) + (total - (1 + (1 + width))) ≡ total = omega (arith, length_name width batch is.allowed.1, room.names, room.name, room.others) in
-    let whole : text ≡ (fields_of width (StartLane lane batch) signal) ++ (replicate (total - (1 + (1 + width))) 0) = filled_out total (total - (1 + (1 + width))) (fields_of width (StartLane lane batch) signal) text is.spelled long in
-    let flat : (fields_of width (StartLane lane batch) signal) ++ (replicate (total - (1 + (1 + width))) 0) ≡ ((lane ∷ []) ++ ((name_field width batch) ++ (replicate (total - (1 + (1 + width))) 0))) = refl in
-    record { first = lane; front = (lane ∷ []); rest = ((name_field width batch) ++ (replicate (total - (1 + (1 + width))) 0)); starts = (is.allowed.0, refl); goes = record { first = batch; front = (name_field width batch); rest = (replicate (total - (1 + (1 + width))) 0); starts = (is.allowed.1, refl); goes = record { from = tt; spelled = refl; is = ap (told_of (StartLane lane batch)) is.signalled }; parts = refl }; parts = whole ∙ flat }
-from_body total width room (Weigh lane gross prior) (Some signal) text is =
-    let long : length (fields_of width (Weigh lane gross prior) (Some signal)) + (total - (1 + 4 + 1 + 1)) ≡ total = omega (arith, room.names, room.name, room.others) in
-    let whole : text ≡ (fields_of width (Weigh lane gross prior) (Some signal)) ++ (replicate (total - (1 + 4 + 1 + 1)) 0) = filled_out total (total - (1 + 4 + 1 + 1)) (fields_of width (Weigh lane gross prior) (Some signal)) text is.spelled long in
-    let flat : (fields_of width (Weigh lane gross prior) (Some signal)) ++ (replicate (total - (1 + 4 + 1 + 1)) 0) ≡ ((lane ∷ []) ++ ((four_of gross) ++ ((prior_code prior ∷ []) ++ ((code_of_signal signal ∷ []) ++ (replicate (total - (1 + 4 + 1 + 1)) 0))))) = refl in
-    record { first = lane; front = (lane ∷ []); rest = ((four_of gross) ++ ((prior_code prior ∷ []) ++ ((code_of_signal signal ∷ []) ++ (replicate (total - (1 + 4 + 1 + 1)) 0)))); starts = (is.allowed.0, refl); goes = record { first = gross; front = (four_of gross); rest = ((prior_code prior ∷ []) ++ ((code_of_signal signal ∷ []) ++ (replicate (total - (1 + 4 + 1 + 1)) 0))); starts = (is.allowed.1, refl); goes = record { first = prior; front = (prior_code prior ∷ []); rest = ((code_of_signal signal ∷ []) ++ (replicate (total - (1 + 4 + 1 + 1)) 0)); starts = refl; goes = record { first = signal; front = (code_of_signal signal ∷ []); rest = (replicate (total - (1 + 4 + 1 + 1)) 0); starts = refl; goes = record { from = tt; spelled = refl; is = refl }; parts = refl }; parts = refl }; parts = refl }; parts = whole ∙ flat }
-from_body total width room (Weigh lane gross prior) None text is = absurd (no_signal None refl is.signalled)
-from_body total width room (StopLane lane prior) signal text is =
-    let long : length (fields_of width (StopLane lane prior) signal) + (total - (1 + 1)) ≡ total = omega (arith, room.names, room.name, room.others) in
-    let whole : text ≡ (fields_of width (StopLane lane prior) signal) ++ (replicate (total - (1 + 1)) 0) = filled_out total (total - (1 + 1)) (fields_of width (StopLane lane prior) signal) text is.spelled long in
-    let flat : (fields_of width (StopLane lane prior) signal) ++ (replicate (total - (1 + 1)) 0) ≡ ((lane ∷ []) ++ ((prior_code prior ∷ []) ++ (replicate (total - (1 + 1)) 0))) = refl in
-    record { first = lane; front = (lane ∷ []); rest = ((prior_code prior ∷ []) ++ (replicate (total - (1 + 1)) 0)); starts = (is.allowed, refl); goes = record { first = prior; front = (prior_code prior ∷ []); rest = (replicate (total - (1 + 1)) 0); starts = refl; goes = record { from = tt; spelled = refl; is = ap (told_of (StopLane lane prior)) is.signalled }; parts = refl }; parts = whole ∙ flat }
-from_body total width room (Void pack) signal text is =
-    let long : length (fields_of width (Void pack) signal) + (total - 4) ≡ total = omega (arith, room.names, room.name, room.others) in
-    let whole : text ≡ (fields_of width (Void pack) signal) ++ (replicate (total - 4) 0) = filled_out total (total - 4) (fields_of width (Void pack) signal) text is.spelled long in
-    let flat : (fields_of width (Void pack) signal) ++ (replicate (total - 4) 0) ≡ ((four pack) ++ (replicate (total - 4) 0)) = refl in
-    record { first = pack; front = (four pack); rest = (replicate (total - 4) 0); starts = record { below = is.fits; is = refl }; goes = record { from = tt; spelled = refl; is = ap (told_of (Void pack)) is.signalled }; parts = whole ∙ flat }
-from_body total width room (EndRun batch) signal text is =
-    let long : length (fields_of width (EndRun batch) signal) + (total - (1 + width)) ≡ total = omega (arith, length_name width batch is.allowed, room.names, room.name, room.others) in
-    let whole : text ≡ (fields_of width (EndRun batch) signal) ++ (replicate (total - (1 + width)) 0) = filled_out total (total - (1 + width)) (fields_of width (EndRun batch) signal) text is.spelled long in
-    let flat : (fields_of width (EndRun batch) signal) ++ (replicate (total - (1 + width)) 0) ≡ ((name_field width batch) ++ (replicate (total - (1 + width)) 0)) = refl in
-    record { first = batch; front = (name_field width batch); rest = (replicate (total - (1 + width)) 0); starts = (is.allowed, refl); goes = record { from = tt; spelled = refl; is = ap (told_of (EndRun batch)) is.signalled }; parts = whole ∙ flat }
-from_body total width room (Draw batch mode word) signal text is =
-    let long : length (fields_of width (Draw batch mode word) signal) + (total - ((1 + width) + 1 + 8)) ≡ total = omega (arith, length_two (name_field width batch) (mode_code mode ∷ eight word) (1 + width) 9 (length_name width batch is.allowed) refl, room.names, room.name, room.others) in
-    let whole : text ≡ (fields_of width (Draw batch mode word) signal) ++ (replicate (total - ((1 + width) + 1 + 8)) 0) = filled_out total (total - ((1 + width) + 1 + 8)) (fields_of width (Draw batch mode word) signal) text is.spelled long in
-    let flat : (fields_of width (Draw batch mode word) signal) ++ (replicate (total - ((1 + width) + 1 + 8)) 0) ≡ ((name_field width batch) ++ ((mode_code mode ∷ []) ++ ((eight word) ++ (replicate (total - ((1 + width) + 1 + 8)) 0)))) = two_fields (name_field width batch) (mode_code mode ∷ eight word) (replicate (total - ((1 + width) + 1 + 8)) 0) in
-    record { first = batch; front = (name_field width batch); rest = ((mode_code mode ∷ []) ++ ((eight word) ++ (replicate (total - ((1 + width) + 1 + 8)) 0))); starts = (is.allowed, refl); goes = record { first = mode; front = (mode_code mode ∷ []); rest = ((eight word) ++ (replicate (total - ((1 + width) + 1 + 8)) 0)); starts = refl; goes = record { first = word; front = (eight word); rest = (replicate (total - ((1 + width) + 1 + 8)) 0); starts = record { below = is.fits; is = refl }; goes = record { from = tt; spelled = refl; is = ap (told_of (Draw batch mode word)) is.signalled }; parts = refl }; parts = refl }; parts = whole ∙ flat }
-from_body total width room (Measure pack gross empty) signal text is =
-    let long : length (fields_of width (Measure pack gross empty) signal) + (total - (4 + 4 + 4)) ≡ total = omega (arith, room.names, room.name, room.others) in
-    let whole : text ≡ (fields_of width (Measure pack gross empty) signal) ++ (replicate (total - (4 + 4 + 4)) 0) = filled_out total (total - (4 + 4 + 4)) (fields_of width (Measure pack gross empty) signal) text is.spelled long in
-    let flat : (fields_of width (Measure pack gross empty) signal) ++ (replicate (total - (4 + 4 + 4)) 0) ≡ ((four pack) ++ ((four_of gross) ++ ((four_of empty) ++ (replicate (total - (4 + 4 + 4)) 0)))) = refl in
-    record { first = pack; front = (four pack); rest = ((four_of gross) ++ ((four_of empty) ++ (replicate (total - (4 + 4 + 4)) 0))); starts = record { below = is.fits; is = refl }; goes = record { first = gross; front = (four_of gross); rest = ((four_of empty) ++ (replicate (total - (4 + 4 + 4)) 0)); starts = (is.allowed.0, refl); goes = record { first = empty; front = (four_of empty); rest = (replicate (total - (4 + 4 + 4)) 0); starts = (is.allowed.1, refl); goes = record { from = tt; spelled = refl; is = ap (told_of (Measure pack gross empty)) is.signalled }; parts = refl }; parts = refl }; parts = whole ∙ flat }
-from_body total width room (DrawSecond batch word) signal text is =
-    let long : length (fields_of width (DrawSecond batch word) signal) + (total - ((1 + width) + 8)) ≡ total = omega (arith, length_two (name_field width batch) (eight word) (1 + width) 8 (length_name width batch is.allowed) refl, room.names, room.name, room.others) in
-    let whole : text ≡ (fields_of width (DrawSecond batch word) signal) ++ (replicate (total - ((1 + width) + 8)) 0) = filled_out total (total - ((1 + width) + 8)) (fields_of width (DrawSecond batch word) signal) text is.spelled long in
-    let flat : (fields_of width (DrawSecond batch word) signal) ++ (replicate (total - ((1 + width) + 8)) 0) ≡ ((name_field width batch) ++ ((eight word) ++ (replicate (total - ((1 + width) + 8)) 0))) = two_fields (name_field width batch) (eight word) (replicate (total - ((1 + width) + 8)) 0) in
-    record { first = batch; front = (name_field width batch); rest = ((eight word) ++ (replicate (total - ((1 + width) + 8)) 0)); starts = (is.allowed, refl); goes = record { first = word; front = (eight word); rest = (replicate (total - ((1 + width) + 8)) 0); starts = record { below = is.fits; is = refl }; goes = record { from = tt; spelled = refl; is = ap (told_of (DrawSecond batch word)) is.signalled }; parts = refl }; parts = whole ∙ flat }
-from_body total width room (Close batch) signal text is =
-    let long : length (fields_of width (Close batch) signal) + (total - (1 + width)) ≡ total = omega (arith, length_name width batch is.allowed, room.names, room.name, room.others) in
-    let whole : text ≡ (fields_of width (Close batch) signal) ++ (replicate (total - (1 + width)) 0) = filled_out total (total - (1 + width)) (fields_of width (Close batch) signal) text is.spelled long in
-    let flat : (fields_of width (Close batch) signal) ++ (replicate (total - (1 + width)) 0) ≡ ((name_field width batch) ++ (replicate (total - (1 + width)) 0)) = refl in
-    record { first = batch; front = (name_field width batch); rest = (replicate (total - (1 + width)) 0); starts = (is.allowed, refl); goes = record { from = tt; spelled = refl; is = ap (told_of (Close batch)) is.signalled }; parts = whole ∙ flat }
-
-fields_read : (total width : ℕ) → HasRoom total width → (kind : Kind) → IsReader Fills total (Fields total width kind) (act_at kind width)
-fields_read total width room kinds.NewDay =
-    let size : (4 + (total - 4)) ≡ total = omega (arith, room.names, room.name, room.others) in
-    subst (λ k. IsReader Fills k (Fields total width kinds.NewDay) (act_at kinds.NewDay width)) size (then_reads Fills 4 (total - 4) (FourBytes (pos 0) MAX_DAY) (λ day. End (total - 4) (told_of (NewDay day) None)) (day_at) (λ day place bytes. ended (told_of (NewDay day) None) place bytes) fills_within (day_reads) (λ day text is. ended_reads (told_of (NewDay day) None) (total - 4)))
-fields_read total width room kinds.PutProduct =
-    let size : ((1 + width) + (8 + (1 + (total - ((1 + width) + 8 + 1))))) ≡ total = omega (arith, room.names, room.name, room.others) in
-    subst (λ k. IsReader Fills k (Fields total width kinds.PutProduct) (act_at kinds.PutProduct width)) size (then_reads Fills (1 + width) (8 + (1 + (total - ((1 + width) + 8 + 1)))) (NameText width) (λ name. Then (EightBytes MIN_NOMINAL MAX_NOMINAL) (λ nominal. Then (CodeField unit_code) (λ unit. End (total - ((1 + width) + 8 + 1)) (told_of (PutProduct name nominal unit) None)))) (name_at width) (λ name place bytes. nominal_at place bytes >>= λ nominal. unit_at (place + 8) bytes >>= λ unit. ended (told_of (PutProduct name nominal unit) None) (place + 8 + 1) bytes) fills_within (name_reads width room.some room.short) (λ name text is. then_reads Fills 8 (1 + (total - ((1 + width) + 8 + 1))) (EightBytes MIN_NOMINAL MAX_NOMINAL) (λ nominal. Then (CodeField unit_code) (λ unit. End (total - ((1 + width) + 8 + 1)) (told_of (PutProduct name nominal unit) None))) (nominal_at) (λ nominal place bytes. unit_at place bytes >>= λ unit. ended (told_of (PutProduct name nominal unit) None) (place + 1) bytes) fills_within (nominal_reads) (λ nominal text is. then_reads Fills 1 (total - ((1 + width) + 8 + 1)) (CodeField unit_code) (λ unit. End (total - ((1 + width) + 8 + 1)) (told_of (PutProduct name nominal unit) None)) (unit_at) (λ unit place bytes. ended (told_of (PutProduct name nominal unit) None) place bytes) fills_within (unit_reads) (λ unit text is. ended_reads (told_of (PutProduct name nominal unit) None) (total - ((1 + width) + 8 + 1))))))
-fields_read total width room kinds.PutTare =
-    let size : ((1 + width) + (4 + (4 + (total - ((1 + width) + 4 + 4))))) ≡ total = omega (arith, room.names, room.name, room.others) in
-    subst (λ k. IsReader Fills k (Fields total width kinds.PutTare) (act_at kinds.PutTare width)) size (then_reads Fills (1 + width) (4 + (4 + (total - ((1 + width) + 4 + 4)))) (NameText width) (λ product. Then (FourBytes (pos 0) MAX_DAY) (λ day. Then (FourBytes (pos 0) MAX_TARE) (λ tare. End (total - ((1 + width) + 4 + 4)) (told_of (PutTare product day tare) None)))) (name_at width) (λ product place bytes. day_at place bytes >>= λ day. tare_at (place + 4) bytes >>= λ tare. ended (told_of (PutTare product day tare) None) (place + 4 + 4) bytes) fills_within (name_reads width room.some room.short) (λ product text is. then_reads Fills 4 (4 + (total - ((1 + width) + 4 + 4))) (FourBytes (pos 0) MAX_DAY) (λ day. Then (FourBytes (pos 0) MAX_TARE) (λ tare. End (total - ((1 + width) + 4 + 4)) (told_of (PutTare product day tare) None))) (day_at) (λ day place bytes. tare_at place bytes >>= λ tare. ended (told_of (PutTare product day tare) None) (place + 4) bytes) fills_within (day_reads) (λ day text is. then_reads Fills 4 (total - ((1 + width) + 4 + 4)) (FourBytes (pos 0) MAX_TARE) (λ tare. End (total - ((1 + width) + 4 + 4)) (told_of (PutTare product day tare) None)) (tare_at) (λ tare place bytes. ended (told_of (PutTare product day tare) None) place bytes) fills_within (tare_reads) (λ tare text is. ended_reads (told_of (PutTare product day tare) None) (total - ((1 + width) + 4 + 4))))))
-fields_read total width room kinds.OpenBatch =
-    let size : ((1 + width) + ((1 + width) + (4 + (total - ((1 + width) + (1 + width) + 4))))) ≡ total = omega (arith, room.names, room.name, room.others) in
-    subst (λ k. IsReader Fills k (Fields total width kinds.OpenBatch) (act_at kinds.OpenBatch width)) size (then_reads Fills (1 + width) ((1 + width) + (4 + (total - ((1 + width) + (1 + width) + 4)))) (NameText width) (λ batch. Then (NameText width) (λ product. Then DensityField (λ density. End (total - ((1 + width) + (1 + width) + 4)) (told_of (OpenBatch batch product density) None)))) (name_at width) (λ batch place bytes. name_at width place bytes >>= λ product. density_at (place + (1 + width)) bytes >>= λ density. ended (told_of (OpenBatch batch product density) None) (place + (1 + width) + 4) bytes) fills_within (name_reads width room.some room.short) (λ batch text is. then_reads Fills (1 + width) (4 + (total - ((1 + width) + (1 + width) + 4))) (NameText width) (λ product. Then DensityField (λ density. End (total - ((1 + width) + (1 + width) + 4)) (told_of (OpenBatch batch product density) None))) (name_at width) (λ product place bytes. density_at place bytes >>= λ density. ended (told_of (OpenBatch batch product density) None) (place + 4) bytes) fills_within (name_reads width room.some room.short) (λ product text is. then_reads Fills 4 (total - ((1 + width) + (1 + width) + 4)) DensityField (λ density. End (total - ((1 + width) + (1 + width) + 4)) (told_of (OpenBatch batch product density) None)) (density_at) (λ density place bytes. ended (told_of (OpenBatch batch product density) None) place bytes) fills_within (density_reads) (λ density text is. ended_reads (told_of (OpenBatch batch product density) None) (total - ((1 + width) + (1 + width) + 4))))))
-fields_read total width room kinds.StartLane =
-    let size : (1 + ((1 + width) + (total - (1 + (1 + width))))) ≡ total = omega (arith, room.names, room.name, room.others) in
-    subst (λ k. IsReader Fills k (Fields total width kinds.StartLane) (act_at kinds.StartLane width)) size (then_reads Fills 1 ((1 + width) + (total - (1 + (1 + width)))) LaneField (λ lane. Then (NameText width) (λ batch. End (total - (1 + (1 + width))) (told_of (StartLane lane batch) None))) (lane_at) (λ lane place bytes. name_at width place bytes >>= λ batch. ended (told_of (StartLane lane batch) None) (place + (1 + width)) bytes) fills_within (lane_reads) (λ lane text is. then_reads Fills (1 + width) (total - (1 + (1 + width))) (NameText width) (λ batch. End (total - (1 + (1 + width))) (told_of (StartLane lane batch) None)) (name_at width) (λ batch place bytes. ended (told_of (StartLane lane batch) None) place bytes) fills_within (name_reads width room.some room.short) (λ batch text is. ended_reads (told_of (StartLane lane batch) None) (total - (1 + (1 + width))))))
-fields_read total width room kinds.Weigh =
-    let size : (1 + (4 + (1 + (1 + (total - (1 + 4 + 1 + 1)))))) ≡ total = omega (arith, room.names, room.name, room.others) in
-    subst (λ k. IsReader Fills k (Fields total width kinds.Weigh) (act_at kinds.Weigh width)) size (then_reads Fills 1 (4 + (1 + (1 + (total - (1 + 4 + 1 + 1))))) LaneField (λ lane. Then (FourBytes (pos 0) MAX_GROSS) (λ gross. Then (CodeField prior_code) (λ prior. Then (CodeField code_of_signal) (λ signal. End (total - (1 + 4 + 1 + 1)) (told_of (Weigh lane gross prior) (Some signal)))))) (lane_at) (λ lane place bytes. gross_at place bytes >>= λ gross. prior_at (place + 4) bytes >>= λ prior. signal_at (place + 4 + 1) bytes >>= λ signal. ended (told_of (Weigh lane gross prior) (Some signal)) (place + 4 + 1 + 1) bytes) fills_within (lane_reads) (λ lane text is. then_reads Fills 4 (1 + (1 + (total - (1 + 4 + 1 + 1)))) (FourBytes (pos 0) MAX_GROSS) (λ gross. Then (CodeField prior_code) (λ prior. Then (CodeField code_of_signal) (λ signal. End (total - (1 + 4 + 1 + 1)) (told_of (Weigh lane gross prior) (Some signal))))) (gross_at) (λ gross place bytes. prior_at place bytes >>= λ prior. signal_at (place + 1) bytes >>= λ signal. ended (told_of (Weigh lane gross prior) (Some signal)) (place + 1 + 1) bytes) fills_within (gross_reads) (λ gross text is. then_reads Fills 1 (1 + (total - (1 + 4 + 1 + 1))) (CodeField prior_code) (λ prior. Then (CodeField code_of_signal) (λ signal. End (total - (1 + 4 + 1 + 1)) (told_of (Weigh lane gross prior) (Some signal)))) (prior_at) (λ prior place bytes. signal_at place bytes >>= λ signal. ended (told_of (Weigh lane gross prior) (Some signal)) (place + 1) bytes) fills_within (prior_reads) (λ prior text is. then_reads Fills 1 (total - (1 + 4 + 1 + 1)) (CodeField code_of_signal) (λ signal. End (total - (1 + 4 + 1 + 1)) (told_of (Weigh lane gross prior) (Some signal))) (signal_at) (λ signal place bytes. ended (told_of (Weigh lane gross prior) (Some signal)) place bytes) fills_within (signal_reads) (λ signal text is. ended_reads (told_of (Weigh lane gross prior) (Some signal)) (total - (1 + 4 + 1 + 1)))))))
-fields_read total width room kinds.StopLane =
-    let size : (1 + (1 + (total - (1 + 1)))) ≡ total = omega (arith, room.names, room.name, room.others) in
-    subst (λ k. IsReader Fills k (Fields total width kinds.StopLane) (act_at kinds.StopLane width)) size (then_reads Fills 1 (1 + (total - (1 + 1))) LaneField (λ lane. Then (CodeField prior_code) (λ prior. End (total - (1 + 1)) (told_of (StopLane lane prior) None))) (lane_at) (λ lane place bytes. prior_at place bytes >>= λ prior. ended (told_of (StopLane lane prior) None) (place + 1) bytes) fills_within (lane_reads) (λ lane text is. then_reads Fills 1 (total - (1 + 1)) (CodeField prior_code) (λ prior. End (total - (1 + 1)) (told_of (StopLane lane prior) None)) (prior_at) (λ prior place bytes. ended (told_of (StopLane lane prior) None) place bytes) fills_within (prior_reads) (λ prior text is. ended_reads (told_of (StopLane lane prior) None) (total - (1 + 1)))))
-fields_read total width room kinds.Void =
-    let size : (4 + (total - 4)) ≡ total = omega (arith, room.names, room.name, room.others) in
-    subst (λ k. IsReader Fills k (Fields total width kinds.Void) (act_at kinds.Void width)) size (then_reads Fills 4 (total - 4) Four (λ pack. End (total - 4) (told_of (Void pack) None)) (four_at) (λ pack place bytes. ended (told_of (Void pack) None) place bytes) fills_within (any_four_reads) (λ pack text is. ended_reads (told_of (Void pack) None) (total - 4)))
-fields_read total width room kinds.EndRun =
-    let size : ((1 + width) + (total - (1 + width))) ≡ total = omega (arith, room.names, room.name, room.others) in
-    subst (λ k. IsReader Fills k (Fields total width kinds.EndRun) (act_at kinds.EndRun width)) size (then_reads Fills (1 + width) (total - (1 + width)) (NameText width) (λ batch. End (total - (1 + width)) (told_of (EndRun batch) None)) (name_at width) (λ batch place bytes. ended (told_of (EndRun batch) None) place bytes) fills_within (name_reads width room.some room.short) (λ batch text is. ended_reads (told_of (EndRun batch) None) (total - (1 + width))))
-fields_read total width room kinds.Draw =
-    let size : ((1 + width) + (1 + (8 + (total - ((1 + width) + 1 + 8))))) ≡ total = omega (arith, room.names, room.name, room.others) in
-    subst (λ k. IsReader Fills k (Fields total width kinds.Draw) (act_at kinds.Draw width)) size (then_reads Fills (1 + width) (1 + (8 + (total - ((1 + width) + 1 + 8)))) (NameText width) (λ batch. Then (CodeField mode_code) (λ mode. Then Eight (λ word. End (total - ((1 + width) + 1 + 8)) (told_of (Draw batch mode word) None)))) (name_at width) (λ batch place bytes. mode_at place bytes >>= λ mode. eight_at (place + 1) bytes >>= λ word. ended (told_of (Draw batch mode word) None) (place + 1 + 8) bytes) fills_within (name_reads width room.some room.short) (λ batch text is. then_reads Fills 1 (8 + (total - ((1 + width) + 1 + 8))) (CodeField mode_code) (λ mode. Then Eight (λ word. End (total - ((1 + width) + 1 + 8)) (told_of (Draw batch mode word) None))) (mode_at) (λ mode place bytes. eight_at place bytes >>= λ word. ended (told_of (Draw batch mode word) None) (place + 8) bytes) fills_within (mode_reads) (λ mode text is. then_reads Fills 8 (total - ((1 + width) + 1 + 8)) Eight (λ word. End (total - ((1 + width) + 1 + 8)) (told_of (Draw batch mode word) None)) (eight_at) (λ word place bytes. ended (told_of (Draw batch mode word) None) place bytes) fills_within (any_eight_reads) (λ word text is. ended_reads (told_of (Draw batch mode word) None) (total - ((1 + width) + 1 + 8))))))
-fields_read total width room kinds.Measure =
-    let size : (4 + (4 + (4 + (total - (4 + 4 + 4))))) ≡ total = omega (arith, room.names, room.name, room.others) in
-    subst (λ k. IsReader Fills k (Fields total width kinds.Measure) (act_at kinds.Measure width)) size (then_reads Fills 4 (4 + (4 + (total - (4 + 4 + 4)))) Four (λ pack. Then (FourBytes (pos 0) MAX_GROSS) (λ gross. Then (FourBytes (pos 0) MAX_TARE) (λ empty. End (total - (4 + 4 + 4)) (told_of (Measure pack gross empty) None)))) (four_at) (λ pack place bytes. gross_at place bytes >>= λ gross. tare_at (place + 4) bytes >>= λ empty. ended (told_of (Measure pack gross empty) None) (place + 4 + 4) bytes) fills_within (any_four_reads) (λ pack text is. then_reads Fills 4 (4 + (total - (4 + 4 + 4))) (FourBytes (pos 0) MAX_GROSS) (λ gross. Then (FourBytes (pos 0) MAX_TARE) (λ empty. End (total - (4 + 4 + 4)) (told_of (Measure pack gross empty) None))) (gross_at) (λ gross place bytes. tare_at place bytes >>= λ empty. ended (told_of (Measure pack gross empty) None) (place + 4) bytes) fills_within (gross_reads) (λ gross text is. then_reads Fills 4 (total - (4 + 4 + 4)) (FourBytes (pos 0) MAX_TARE) (λ empty. End (total - (4 + 4 + 4)) (told_of (Measure pack gross empty) None)) (tare_at) (λ empty place bytes. ended (told_of (Measure pack gross empty) None) place bytes) fills_within (tare_reads) (λ empty text is. ended_reads (told_of (Measure pack gross empty) None) (total - (4 + 4 + 4))))))
-fields_read total width room kinds.DrawSecond =
-    let size : ((1 + width) + (8 + (total - ((1 + width) + 8)))) ≡ total = omega (arith, room.names, room.name, room.others) in
-    subst (λ k. IsReader Fills k (Fields total width kinds.DrawSecond) (act_at kinds.DrawSecond width)) size (then_reads Fills (1 + width) (8 + (total - ((1 + width) + 8))) (NameText width) (λ batch. Then Eight (λ word. End (total - ((1 + width) + 8)) (told_of (DrawSecond batch word) None))) (name_at width) (λ batch place bytes. eight_at place bytes >>= λ word. ended (told_of (DrawSecond batch word) None) (place + 8) bytes) fills_within (name_reads width room.some room.short) (λ batch text is. then_reads Fills 8 (total - ((1 + width) + 8)) Eight (λ word. End (total - ((1 + width) + 8)) (told_of (DrawSecond batch word) None)) (eight_at) (λ word place bytes. ended (told_of (DrawSecond batch word) None) place bytes) fills_within (any_eight_reads) (λ word text is. ended_reads (told_of (DrawSecond batch word) None) (total - ((1 + width) + 8)))))
-fields_read total width room kinds.Close =
-    let size : ((1 + width) + (total - (1 + width))) ≡ total = omega (arith, room.names, room.name, room.others) in
-    subst (λ k. IsReader Fills k (Fields total width kinds.Close) (act_at kinds.Close width)) size (then_reads Fills (1 + width) (total - (1 + width)) (NameText width) (λ batch. End (total - (1 + width)) (told_of (Close batch) None)) (name_at width) (λ batch place bytes. ended (told_of (Close batch) None) place bytes) fills_within (name_reads width room.some room.short) (λ batch text is. ended_reads (told_of (Close batch) None) (total - (1 + width))))
-
--- the reader of the fields of a kind tells the acts of that kind
-pub act_reads : (total width : ℕ) → HasRoom total width → (kind : Kind) → IsReader Fills total (IsBody total width kind) (act_at kind width)
-act_reads total width room kind =
-    same_reader Fills total total (Fields total width kind) (IsBody total width kind) (act_at kind width) refl (to_body total width room kind)
-    (λ told text is. subst (λ k. Fields total width k told text) is.0 (from_body total width room told.act told.signal text is.1))
-    (fields_read total width room kind)
+  -- the reader of the fields of a kind tells the acts of that kind
+  pub act_reads : HasRoom total width → IsReader Fills total (IsBody total width kind) (act_at kind width)
+  act_reads room =
+      let whole = size_fits total width room kind in
+      same_reader Fills (size_of width kind + (total - size_of width kind)) total (Fields width (total - size_of width kind) kind) (IsBody total width kind) (act_at kind width) (omega arith) body_of_fields fields_of_body (fields_read width (total - size_of width kind) room.some room.short kind)

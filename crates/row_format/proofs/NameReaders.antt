@@ -15,7 +15,7 @@ use Rattle.row_format.specs.Allowed.{IsShort}
 use Rattle.row_format.specs.Reading.{◌>>=◌, between, byte_in, name_at, known, zeros_at}
 use Rattle.row_format.proofs.LowBytes.{low}
 use Rattle.row_format.proofs.FirstWrong.{IsOneOf}
-use Rattle.row_format.proofs.Readers.{WrongAt, Tells, IsField, IsReader, Within, Then, then_reads, same_reader}
+use Rattle.row_format.proofs.Readers.{WrongAt, Tells, IsField, IsReader, Within, Then, behind_reads, same_reader}
 use Rattle.row_format.proofs.FieldReaders.{NumberField, byte_reads, ZeroField, zeros_read, slice_window, length-window}
 use Rattle.row_format.proofs.TypedReaders.{one_between, between_fits, small_byte}
 
@@ -70,8 +70,8 @@ list_reads size =
 abbrev ZerosBehind : ℕ → List ℕ → Name → List ℕ → Type 0
 ZerosBehind size bytes name text = (bytes_of name ≡ bytes) × (text ≡ replicate size 0)
 
-behind_reads : (size : ℕ) (bytes : List ℕ) → HasName bytes → IsReader Within size (ZerosBehind size bytes) (λ place all. zeros_at size place all >>= λ _. known place (name_of bytes))
-behind_reads size bytes has =
+known_reads : (size : ℕ) (bytes : List ℕ) → HasName bytes → IsReader Within size (ZerosBehind size bytes) (λ place all. zeros_at size place all >>= λ _. known place (name_of bytes))
+known_reads size bytes has =
     record {
       field = record {
         value = has.name;
@@ -141,13 +141,10 @@ behind_len : (width len : ℕ) → width ≤ NAME_BYTES → (1 ≤ len) × (len 
 behind_len width len short fits =
     let whole : len + (width - len) ≡ width = omega (arith, fits.1) in
     subst (λ k. IsReader Within k (Behind width len) (λ place bytes. zeros_at (width - len) (place + len) bytes >>= λ _. known (place + len) (name_of (slice_range bytes place (place + len))))) whole
-    (then_reads Within len (width - len) (ListField len) (ZerosBehind (width - len)) (λ place bytes. Ok (slice_range bytes place (place + len))) (λ x place bytes. zeros_at (width - len) place bytes >>= λ _. known place (name_of x)) (λ end size h. h) (list_reads len)
-        (λ x text is. behind_reads (width - len) x (made_name x (omega (arith, is.1, fits.0), omega (arith, is.1, fits.1)))))
+    (behind_reads {k = λ x place bytes. zeros_at (width - len) place bytes >>= λ _. known place (name_of x)} (λ end size h. h) (list_reads len) λ x text is. known_reads (width - len) x (made_name x (omega (arith, is.1, fits.0), omega (arith, is.1, fits.1))))
 
 pub name_reads : (width : ℕ) → 1 ≤ width → width ≤ NAME_BYTES → IsReader Within (1 + width) (NameText width) (name_at width)
 unfolding name_at
 name_reads width some short =
     same_reader Within (1 + width) (1 + width) (Parts width) (NameText width) (name_at width) refl (parts_to width short) (to_parts width short)
-    (then_reads Within 1 width (NumberField (between 1 width) 1) (Behind width) (byte_in (between 1 width)) (λ len place bytes. zeros_at (width - len) (place + len) bytes >>= λ _. known (place + len) (name_of (slice_range bytes place (place + len)))) (λ end size h. h)
-        (byte_reads (between 1 width) (between_fits 1 width 1 (omega arith) some (omega arith)))
-        (λ len text is. behind_len width len short (one_between 1 width len is.0)))
+    (behind_reads {k = λ len place bytes. zeros_at (width - len) (place + len) bytes >>= λ _. known (place + len) (name_of (slice_range bytes place (place + len)))} (λ end size h. h) (byte_reads (between 1 width) (between_fits 1 width 1 (omega arith) some (omega arith))) λ len text is. behind_len width len short (one_between 1 width len is.0))

@@ -3,7 +3,7 @@
 use Rattle.std.proofs.Common.{◌≡◌, ℕ, suc, ◌+◌, ◌<◌, ◌≤◌, List, [], ◌∷◌, ◌++◌, length, get_or, take, drop, Result, Ok, Err, refl, sym, ap, subst, ◌∙◌, arith}
 use Rattle.std.proofs.lemmas.List.{take_at, drop_at, take-append-le, length-append, length-take, length-drop, take-append-drop, drop-drop, drop-take, take-take}
 use Rattle.row_format.specs.declared.types.RowFault.{RowFault}
-use Rattle.row_format.specs.Reading.{◌>>=◌}
+use Rattle.row_format.specs.Reading.{◌>>=◌, Reader, behind}
 
 abbrev pub IsBytes : List ℕ → Type 0
 IsBytes bytes = (i : ℕ) → get_or bytes i 0 < 256
@@ -36,7 +36,7 @@ pub record IsField {B : Type 0} (size : ℕ) (S : B → List ℕ → Type 0) : T
   pub long : (b : B) (w : List ℕ) → S b w → length w ≡ size
   pub one : (a b : B) (w : List ℕ) → S a w → S b w → a ≡ b
 
-pub record IsReader {B : Type 0} (Ends : ℕ → ℕ → Type 0) (size : ℕ) (S : B → List ℕ → Type 0) (read : ℕ → List ℕ → Result B RowFault) : Type 0 where
+pub record IsReader {B : Type 0} (Ends : ℕ → ℕ → Type 0) (size : ℕ) (S : B → List ℕ → Type 0) (read : Reader B) : Type 0 where
   pub field : IsField size S
   pub tells : (place : ℕ) (bytes : List ℕ) → Ends (place + size) (length bytes) → IsBytes bytes → Tells S size (take size (drop place bytes)) place (read place bytes)
 
@@ -165,10 +165,10 @@ abbrev pub Within : ℕ → ℕ → Type 0
 Within end size = end ≤ size
 
 -- one reader, and then the one that its value tells
-pub then_reads : {A B : Type 0} (Ends : ℕ → ℕ → Type 0) (m n : ℕ) (F : A → List ℕ → Type 0) (S : A → B → List ℕ → Type 0) (f : ℕ → List ℕ → Result A RowFault) (k : A → ℕ → List ℕ → Result B RowFault)
+pub behind_reads : {A B : Type 0} {Ends : ℕ → ℕ → Type 0} {m n : ℕ} {F : A → List ℕ → Type 0} {S : A → B → List ℕ → Type 0} {f : Reader A} {k : A → Reader B}
     → ((end size : ℕ) → Ends end size → end ≤ size) → IsReader Within m F f → ((a : A) (u : List ℕ) → F a u → IsReader Ends n (S a) (k a))
-    → IsReader Ends (m + n) (Then F S) (λ place bytes. f place bytes >>= λ a. k a (place + m) bytes)
-then_reads Ends m n F S f k within first next =
+    → IsReader Ends (m + n) (Then F S) (behind m f k)
+behind_reads {A} {B} {Ends} {m} {n} {F} {S} {f} {k} within first next =
     record {
       field = then_field m n F S first.field (λ a u is. (next a u is).field);
       tells = λ place bytes ends are.
@@ -176,7 +176,7 @@ then_reads Ends m n F S f k within first next =
         let regrouped : place + (m + n) ≡ place + m + n = omega arith in
         let long : length (take m (drop place bytes)) ≡ m = omega (arith, length-take m (drop place bytes), length-drop place bytes) in
         let told = both_tell m n F S first.field (λ a u is. (next a u is).field) (take m (drop place bytes)) (take n (drop (place + m) bytes)) place (f place bytes) (λ a. k a (place + m) bytes) long (first.tells place bytes (omega arith) are) (λ a is. (next a _ is).tells (place + m) bytes (subst (λ end. Ends end (length bytes)) regrouped ends) are) in
-        subst (λ w. Tells (Then F S) (m + n) w place (f place bytes >>= λ a. k a (place + m) bytes)) (sym (window_parts m n place bytes)) told;
+        subst (λ w. Tells (Then F S) (m + n) w place (behind m f k place bytes)) (sym (window_parts m n place bytes)) told;
     }
 
 -- texts that are the same by another name
@@ -192,7 +192,7 @@ tells_same S T size place window (Err fault) to back told =
       wrong = λ x. told.wrong (record { value = x.value; text = x.text; is = back _ _ x.is; same = x.same });
     }
 
-same_sized : {B : Type 0} (Ends : ℕ → ℕ → Type 0) (m : ℕ) (S T : B → List ℕ → Type 0) (read : ℕ → List ℕ → Result B RowFault) → ((b : B) (w : List ℕ) → S b w → T b w) → ((b : B) (w : List ℕ) → T b w → S b w)
+same_sized : {B : Type 0} (Ends : ℕ → ℕ → Type 0) (m : ℕ) (S T : B → List ℕ → Type 0) (read : Reader B) → ((b : B) (w : List ℕ) → S b w → T b w) → ((b : B) (w : List ℕ) → T b w → S b w)
     → IsReader Ends m S read → IsReader Ends m T read
 same_sized Ends m S T read to back reads =
     let field = reads.field in
@@ -207,7 +207,7 @@ same_sized Ends m S T read to back reads =
       tells = λ place bytes ends are. tells_same S T m place (take m (drop place bytes)) (read place bytes) to back (reads.tells place bytes ends are);
     }
 
-pub same_reader : {B : Type 0} (Ends : ℕ → ℕ → Type 0) (m n : ℕ) (S T : B → List ℕ → Type 0) (read : ℕ → List ℕ → Result B RowFault) → m ≡ n → ((b : B) (w : List ℕ) → S b w → T b w) → ((b : B) (w : List ℕ) → T b w → S b w)
+pub same_reader : {B : Type 0} (Ends : ℕ → ℕ → Type 0) (m n : ℕ) (S T : B → List ℕ → Type 0) (read : Reader B) → m ≡ n → ((b : B) (w : List ℕ) → S b w → T b w) → ((b : B) (w : List ℕ) → T b w → S b w)
     → IsReader Ends m S read → IsReader Ends n T read
 same_reader Ends m n S T read size to back reads = subst (λ k. IsReader Ends k T read) size (same_sized Ends m S T read to back reads)
 
@@ -228,7 +228,7 @@ image_tells g S size place window (Err fault) told =
       wrong = λ x. told.wrong (record { value = x.is.from; text = x.text; is = x.is.spelled; same = x.same });
     }
 
-pub image_reads : {A B : Type 0} (Ends : ℕ → ℕ → Type 0) (g : A → B) (size : ℕ) (S : A → List ℕ → Type 0) (read : ℕ → List ℕ → Result A RowFault) → IsReader Ends size S read
+pub image_reads : {A B : Type 0} (Ends : ℕ → ℕ → Type 0) (g : A → B) (size : ℕ) (S : A → List ℕ → Type 0) (read : Reader A) → IsReader Ends size S read
     → IsReader Ends size (Image g S) (λ place bytes. read place bytes >>= λ a. Ok (g a))
 image_reads Ends g size S read reads =
     let field = reads.field in

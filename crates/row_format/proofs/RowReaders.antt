@@ -12,15 +12,12 @@ use Rattle.row_format.specs.declared.types.RowFault.{RowFault}
 use Rattle.row_format.specs.Spelling.{Layout, two, four, kind_of, fields_of, filled, spelled_fields, row_bytes}
 use Rattle.row_format.specs.Allowed.{IsAllowed, FitsFields}
 use Rattle.row_format.specs.Rows.{CanBeSpelled, Spells, BeginsRow, FirstFault}
-use Rattle.row_format.specs.Reading.{◌>>=◌, gate_at, kind_at, row_number_at, two_at, four_at, act_at, number_of_kind, row_at}
+use Rattle.row_format.specs.Reading.{◌>>=◌, gate_at, kind_at, row_number_at, two_at, four_at, act_at, number_of_kind, told_of, entry_of, row_at}
 use Rattle.row_format.proofs.LowBytes.{low, written_low}
-use Rattle.row_format.proofs.Readers.{IsBytes, Begins, WrongAt, Tells, IsField, IsReader, Within, Then, Image, then_reads, image_reads, same_reader}
+use Rattle.row_format.proofs.Readers.{IsBytes, Begins, WrongAt, Tells, IsField, IsReader, Within, Then, Image, image_reads, same_reader}
 use Rattle.row_format.proofs.FieldReaders.{CodeField}
 use Rattle.row_format.proofs.TypedReaders.{OneNumber, Two, Four, gate_reads, row_number_reads, kind_reads, two_reads, any_four_reads}
-use Rattle.row_format.proofs.KindReaders.{Fills, IsAct, IsBody, HasRoom, kind_for, kind_number, told_of, act_reads}
-
-abbrev entry_of : ℕ → ℕ → ℕ → Told → Entry
-entry_of by desk request told = record { by = by; desk = desk; request = request; act = told.act; signal = told.signal }
+use Rattle.row_format.proofs.KindReaders.{Fills, and_then, IsBody, HasRoom, kind_for, kind_number, act_reads}
 
 -- the layout of a row whose kind has so many bytes for its fields
 abbrev pub layout_of : ℕ → ℕ → Layout
@@ -55,8 +52,8 @@ module _ (total width number : ℕ) where
       let x6 = x5.goes in
       let body = x6.goes in
       let told = body.from in
-      let is = body.spelled.1 in
-      let kind : number_of_kind x2.first ≡ kind_of told.act = ap number_of_kind (sym body.spelled.0) ∙ kind_number told.act in
+      let is = body.spelled in
+      let kind : number_of_kind x2.first ≡ kind_of told.act = ap number_of_kind (sym is.of_kind) ∙ kind_number told.act in
       let fields = filled total (fields_of width told.act told.signal) in
       let six : x5.rest ≡ four x6.first ++ fields = join x6.front x6.rest (four x6.first) fields x5.rest x6.parts x6.starts.is is.spelled in
       let five : x4.rest ≡ two x5.first ++ (four x6.first ++ fields) = join x5.front x5.rest (two x5.first) _ x4.rest x5.parts x5.starts.is six in
@@ -113,7 +110,7 @@ module _ (total width number : ℕ) where
                   starts = record { below = x.can.fits.request; is = refl };
                   goes = record {
                     from = told;
-                    spelled = (refl, record { allowed = x.can.allowed.act; signalled = x.can.allowed.signal; fits = x.can.fits.act; spelled = refl });
+                    spelled = record { of_kind = refl; allowed = x.can.allowed.act; signalled = x.can.allowed.signal; fits = x.can.fits.act; spelled = refl };
                     is = refl;
                   };
                   parts = refl;
@@ -130,27 +127,17 @@ module _ (total width number : ℕ) where
       }
 
   module _ (room : HasRoom total width) (below : number < 2 ^ 32) where
-    within : (end size : ℕ) → Fills end size → end ≤ size
-    within end size h = omega arith
-
-    row_reads : IsReader Fills (14 + total) Spelled (λ place bytes.
-        gate_at place bytes >>= λ _. kind_at (place + 1) bytes >>= λ kind. row_number_at number (place + 1 + 1) bytes >>= λ _. two_at (place + 1 + 1 + 4) bytes >>= λ by. two_at (place + 1 + 1 + 4 + 2) bytes >>= λ desk.
-        four_at (place + 1 + 1 + 4 + 2 + 2) bytes >>= λ request. act_at kind width (place + 1 + 1 + 4 + 2 + 2 + 4) bytes >>= λ told. Ok (entry_of by desk request told))
+    row_reads : IsReader Fills (14 + total) Spelled (row_at width number)
+    unfolding row_at
     row_reads =
-        same_reader Fills (1 + (1 + (4 + (2 + (2 + (4 + total)))))) (14 + total) Parts Spelled (λ place bytes. gate_at place bytes >>= λ _. kind_at (place + 1) bytes >>= λ kind. row_number_at number (place + 1 + 1) bytes >>= λ _. two_at (place + 1 + 1 + 4) bytes >>= λ by. two_at (place + 1 + 1 + 4 + 2) bytes >>= λ desk. four_at (place + 1 + 1 + 4 + 2 + 2) bytes >>= λ request. act_at kind width (place + 1 + 1 + 4 + 2 + 2 + 4) bytes >>= λ told. Ok (entry_of by desk request told)) (omega arith) to_spelled from_spelled
-        (then_reads Fills 1 (1 + (4 + (2 + (2 + (4 + total))))) (OneNumber 1 OPEN) (λ _. Then (CodeField number_of_kind) (λ kind. Then (OneNumber 4 number) (λ _. Then Two (λ by. Then Two (λ desk. Then Four (λ request. Body kind by desk request)))))) gate_at (λ _ place bytes. kind_at place bytes >>= λ kind. row_number_at number (place + 1) bytes >>= λ _. two_at (place + 1 + 4) bytes >>= λ by. two_at (place + 1 + 4 + 2) bytes >>= λ desk. four_at (place + 1 + 4 + 2 + 2) bytes >>= λ request. act_at kind width (place + 1 + 4 + 2 + 2 + 4) bytes >>= λ told. Ok (entry_of by desk request told)) within gate_reads λ first text is.
-        (then_reads Fills 1 (4 + (2 + (2 + (4 + total)))) (CodeField number_of_kind) (λ kind. Then (OneNumber 4 number) (λ _. Then Two (λ by. Then Two (λ desk. Then Four (λ request. Body kind by desk request))))) kind_at (λ kind place bytes. row_number_at number place bytes >>= λ _. two_at (place + 4) bytes >>= λ by. two_at (place + 4 + 2) bytes >>= λ desk. four_at (place + 4 + 2 + 2) bytes >>= λ request. act_at kind width (place + 4 + 2 + 2 + 4) bytes >>= λ told. Ok (entry_of by desk request told)) within kind_reads λ kind text is.
-        (then_reads Fills 4 (2 + (2 + (4 + total))) (OneNumber 4 number) (λ _. Then Two (λ by. Then Two (λ desk. Then Four (λ request. Body kind by desk request)))) (row_number_at number) (λ _ place bytes. two_at place bytes >>= λ by. two_at (place + 2) bytes >>= λ desk. four_at (place + 2 + 2) bytes >>= λ request. act_at kind width (place + 2 + 2 + 4) bytes >>= λ told. Ok (entry_of by desk request told)) within (row_number_reads number below) λ first text is.
-        (then_reads Fills 2 (2 + (4 + total)) Two (λ by. Then Two (λ desk. Then Four (λ request. Body kind by desk request))) two_at (λ by place bytes. two_at place bytes >>= λ desk. four_at (place + 2) bytes >>= λ request. act_at kind width (place + 2 + 4) bytes >>= λ told. Ok (entry_of by desk request told)) within two_reads λ by text is.
-        (then_reads Fills 2 (4 + total) Two (λ desk. Then Four (λ request. Body kind by desk request)) two_at (λ desk place bytes. four_at place bytes >>= λ request. act_at kind width (place + 4) bytes >>= λ told. Ok (entry_of by desk request told)) within two_reads λ desk text is.
-        (then_reads Fills 4 total Four (λ request. Body kind by desk request) four_at (λ request place bytes. act_at kind width place bytes >>= λ told. Ok (entry_of by desk request told)) within any_four_reads λ request text is.
-        (image_reads Fills (entry_of by desk request) total (IsBody total width kind) (act_at kind width) (act_reads total width room kind))))))))
+        same_reader Fills (1 + (1 + (4 + (2 + (2 + (4 + total)))))) (14 + total) Parts Spelled (row_at width number) (omega arith) to_spelled from_spelled
+        (and_then gate_reads λ gate. and_then kind_reads λ kind. and_then (row_number_reads number below) λ same. and_then two_reads λ by. and_then two_reads λ desk. and_then any_four_reads λ request.
+            image_reads Fills (entry_of by desk request) total (IsBody total width kind) (act_at kind width) (act_reads total width kind room))
 
-  pub row_told : HasRoom total width → number < 2 ^ 32 → (bytes : List ℕ) → length bytes ≡ 14 + total → IsBytes bytes → Tells Spelled (14 + total) bytes 0 (row_at width number bytes)
-  unfolding row_at
+  pub row_told : HasRoom total width → number < 2 ^ 32 → (bytes : List ℕ) → length bytes ≡ 14 + total → IsBytes bytes → Tells Spelled (14 + total) bytes 0 (row_at width number 0 bytes)
   row_told room below bytes long are =
       let all : take (14 + total) bytes ≡ bytes = take_all (14 + total) bytes (omega (arith, long)) in
-      subst (λ w. Tells Spelled (14 + total) w 0 (row_at width number bytes)) all ((row_reads room below).tells 0 bytes (omega (arith, long)) are)
+      subst (λ w. Tells Spelled (14 + total) w 0 (row_at width number 0 bytes)) all ((row_reads room below).tells 0 bytes (omega (arith, long)) are)
 
   pub row_field : HasRoom total width → number < 2 ^ 32 → IsField (14 + total) Spelled
   row_field room below = (row_reads room below).field
@@ -184,7 +171,7 @@ tells_row total width number bytes (Err fault) field told =
       });
     }
 
-pub row_is_told : (total width number : ℕ) (bytes : List ℕ) (result : Result Entry RowFault) → HasRoom total width → number < 2 ^ 32 → length bytes ≡ 14 + total → IsBytes bytes → result ≡ row_at width number bytes
+pub row_is_told : (total width number : ℕ) (bytes : List ℕ) (result : Result Entry RowFault) → HasRoom total width → number < 2 ^ 32 → length bytes ≡ 14 + total → IsBytes bytes → result ≡ row_at width number 0 bytes
     → TellsRow (layout_of total width) number bytes result
 row_is_told total width number bytes result room below long are is =
-    subst (TellsRow (layout_of total width) number bytes) (sym is) (tells_row total width number bytes (row_at width number bytes) (row_field total width number room below) (row_told total width number room below bytes long are))
+    subst (TellsRow (layout_of total width) number bytes) (sym is) (tells_row total width number bytes (row_at width number 0 bytes) (row_field total width number room below) (row_told total width number room below bytes long are))

@@ -30,7 +30,7 @@ use Rattle.row_format.specs.Allowed.{IsShort, IsLane, IsDensity}
 use Rattle.row_format.specs.Reading.{◌>>=◌, between, four_in, eight_in, byte_in, gate_at, row_number_at, day_at, gross_at, tare_at, nominal_at, density_at, lane_at, name_at, known, zeros_at, code_at, coded, number_of_kind, all_kinds, all_signals, kind_at, prior_at, signal_at, mode_at, unit_at, two_at, four_at, eight_at}
 use Rattle.row_format.proofs.LowBytes.{low, modulus, written_low}
 use Rattle.row_format.proofs.FirstWrong.{IsOneOf}
-use Rattle.row_format.proofs.Readers.{Tells, IsField, IsReader, Within, Then, Image, then_reads, image_reads, same_reader}
+use Rattle.row_format.proofs.Readers.{Tells, IsField, IsReader, Within, Image, image_reads, same_reader}
 use Rattle.row_format.proofs.FieldReaders.{NumberField, HasSize, byte_reads, four_reads, eight_reads, AnyField, any_two, any_four, any_eight, CodeField, code_reads, ZeroField, zeros_read, slice_window, length-window}
 
 false_is_not_true : false ≡ true → ⊥

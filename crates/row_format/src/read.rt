@@ -37,7 +37,7 @@ pub fn read_old_row(bytes: &[u8; OLD_ROW_BYTES], number: u32) -> Result<Entry, R
 #[tactic(auto, unfolding(crate::specs::Reading::row_at))]
 fn row_at(bytes: &[u8], number: u32, width: usize) -> Result<Entry, RowFault>
     requires { IsRowOf width bytes.now }
-    ensures { result ≡ row_at width number bytes.now }
+    ensures { result ≡ row_at width number 0 bytes.now }
 {
     gate_at(bytes)?;
     let kind = kind_at(bytes)?;
