@@ -1,7 +1,7 @@
 -- What the readers of single fields tell.
-use Rattle.std.proofs.Common.{◌≡◌, ℕ, zero, suc, ◌+◌, ◌-◌, ◌*◌, ◌/◌, ◌%◌, ◌^◌, ◌<◌, ◌≤◌, Bool, true, false, cond, eqb, List, [], ◌∷◌, ◌++◌, length, get_or, take, drop, replicate, Option, Some, None, Result, Ok, Err, inl, inr, Decides, refl, sym, ap, subst, ◌∙◌, arith}
+use Rattle.std.proofs.Common.{◌≡◌, ℕ, suc, ◌+◌, ◌-◌, ◌%◌, ◌^◌, ◌<◌, ◌≤◌, Bool, true, false, cond, eqb, List, [], ◌∷◌, length, take, drop, replicate, Option, Some, None, Result, Ok, Err, inl, inr, Decides, refl, sym, ap, subst, ◌∙◌, arith}
 use Rattle.std.specs.Prelude.{⊤, slice_range, slice_index}
-use Rattle.std.specs.Int.{Width, w8, w16, w32, w64, byte_len, from_le_bytes, to_le_bytes}
+use Rattle.std.specs.Int.{w16, w32, w64, from_le_bytes}
 use Rattle.std.proofs.Math.Nat.{mod-eq_of_lt}
 use Rattle.std.proofs.lemmas.Nat.{le_bytes_2, le_bytes_4, le_bytes_8}
 use Rattle.std.proofs.lemmas.Bool.{eqb-true, eq-eqb, cases_lt}
@@ -11,7 +11,7 @@ use Rattle.row_format.specs.declared.fields.Numbers.{Numbers}
 use Rattle.row_format.specs.Reading.{has_number, wrong_from, number_in, byte_in, four_in, eight_in, two_at, four_at, eight_at, coded, known, code_at, zeros_in, zeros_at, faulty}
 use Rattle.row_format.proofs.LowBytes.{low, modulus, length-low, take-low, low_same, same_low, written_low}
 use Rattle.row_format.proofs.FirstWrong.{IsOneOf, Agrees, IsFirstWrong, has_decides, wrong_is}
-use Rattle.row_format.proofs.Readers.{IsBytes, Begins, WrongAt, Tells, IsField, IsReader, Within}
+use Rattle.row_format.proofs.Readers.{IsBytes, WrongAt, Tells, IsField, IsReader, Within}
 
 -- ---- the bytes of a field
 
@@ -288,7 +288,7 @@ zeros_read size =
         one = λ a b w x y. refl;
       };
       tells = λ place bytes inside are.
-        let window = take size (drop place bytes) in
-        let long : length window ≡ size = length-window size place bytes inside in
-        subst (λ w. Tells (ZeroField size) size window place (zeros_in place w)) (sym (slice_window size place bytes)) (subst (λ k. Tells (ZeroField k) k window place (zeros_in place window)) long (zeros_tell place window));
+          let window = take size (drop place bytes) in
+          let long : length window ≡ size = length-window size place bytes inside in
+          subst (λ w. Tells (ZeroField size) size window place (zeros_in place w)) (sym (slice_window size place bytes)) (subst (λ k. Tells (ZeroField k) k window place (zeros_in place window)) long (zeros_tell place window));
     }

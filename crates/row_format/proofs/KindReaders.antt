@@ -1,5 +1,5 @@
 -- What the readers of the fields of each kind tell: the spelling of an act, by its kind.
-use Rattle.std.proofs.Common.{◌≡◌, ℕ, zero, suc, ◌+◌, ◌-◌, ◌*◌, ◌^◌, ◌<◌, ◌≤◌, List, [], ◌∷◌, ◌++◌, length, take, drop, replicate, Option, Some, None, Result, Ok, Err, refl, sym, ap, subst, ◌∙◌, append_assoc, arith}
+use Rattle.std.proofs.Common.{◌≡◌, ℕ, ◌+◌, ◌-◌, ◌≤◌, List, [], ◌∷◌, ◌++◌, length, take, drop, replicate, Option, Some, None, Ok, refl, sym, ap, subst, ◌∙◌, append_assoc, arith}
 use Rattle.std.specs.Prelude.{⊤, ℤ, pos, IsSome}
 use Rattle.std.proofs.lemmas.List.{length-append, length-replicate}
 use Rattle.hall_limits.specs.declared.TheConstants.{NAME_BYTES, MIN_NOMINAL, MAX_NOMINAL, MAX_GROSS, MAX_TARE, MAX_DAY}
@@ -11,7 +11,7 @@ use Rattle.book_words.specs.Names.{bytes_of}
 use Rattle.row_format.specs.declared.codes.Kind.{Kind}
 use Rattle.row_format.specs.declared.codes.Kind.TheVariants as kinds
 use Rattle.row_format.specs.declared.acts.Told.{Told}
-use Rattle.row_format.specs.Spelling.{four, eight, four_of, eight_of, name_field, prior_code, signal_code, mode_code, unit_code, fields_of, filled, kind_of}
+use Rattle.row_format.specs.Spelling.{four, eight, four_of, eight_of, name_field, prior_code, mode_code, unit_code, fields_of, filled, kind_of}
 use Rattle.row_format.specs.Allowed.{IsShort, IsActAllowed, HasSignal, FitsAct}
 use Rattle.row_format.specs.Reading.{◌>>=◌, Reader, behind, told_of, ended, zeros_at, number_of_kind, name_at, act_at}
 use Rattle.row_format.proofs.Readers.{Tells, IsReader, Within, Then, Image, behind_reads, image_reads, same_reader}
@@ -90,8 +90,8 @@ ended_reads size told =
     record {
       field = image.field;
       tells = λ place bytes fills are.
-        let rest : size ≡ length bytes - place = omega (arith, fills) in
-        subst (λ k. Tells (End size told) size (take size (drop place bytes)) place (zeros_at k place bytes >>= λ _. Ok told)) rest (image.tells place bytes (omega (arith, fills)) are);
+          let rest : size ≡ length bytes - place = omega (arith, fills) in
+          subst (λ k. Tells (End size told) size (take size (drop place bytes)) place (zeros_at k place bytes >>= λ _. Ok told)) rest (image.tells place bytes (omega (arith, fills)) are);
     }
 
 pub and_then : {A B : Type 0} {m n : ℕ} {F : A → List ℕ → Type 0} {S : A → B → List ℕ → Type 0} {f : Reader A} {k : A → Reader B} → IsReader Within m F f → ((a : A) → IsReader Fills n (S a) (k a)) → IsReader Fills (m + n) (Then F S) (behind m f k)

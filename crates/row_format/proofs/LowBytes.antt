@@ -1,9 +1,8 @@
 -- The low bytes of a number, its little end first.
-use Rattle.std.proofs.Common.{◌≡◌, ℕ, zero, suc, ◌+◌, ◌*◌, ◌/◌, ◌%◌, ◌^◌, ◌<◌, ◌≤◌, List, [], ◌∷◌, length, get_or, take, refl, sym, ap, ◌∙◌, add-one, arith}
-use Rattle.std.specs.Int.{w16, w32, w64, byte_at, bytes_low_first, to_le_bytes}
+use Rattle.std.proofs.Common.{◌≡◌, ℕ, zero, suc, ◌+◌, ◌*◌, ◌/◌, ◌%◌, ◌^◌, ◌≤◌, List, [], ◌∷◌, length, get_or, take, refl, sym, ap, ◌∙◌, arith}
+use Rattle.std.specs.Int.{byte_at, bytes_low_first}
 use Rattle.std.proofs.Math.Nat.{pow-suc}
 use Rattle.std.proofs.lemmas.Nat.{mod-pow-add, shr-shr, pow-add}
-use Rattle.row_format.proofs.Readers.{IsBytes}
 
 abbrev pub low : ℕ → ℕ → List ℕ
 low zero number = []

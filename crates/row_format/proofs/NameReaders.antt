@@ -1,5 +1,5 @@
 -- What the reader of a name tells.
-use Rattle.std.proofs.Common.{◌≡◌, ℕ, zero, suc, ◌+◌, ◌-◌, ◌%◌, ◌<◌, ◌≤◌, Bool, true, false, List, [], ◌∷◌, ◌++◌, length, take, drop, replicate, Option, Some, None, Result, Ok, Err, inl, inr, refl, sym, ap, subst, ◌∙◌, arith}
+use Rattle.std.proofs.Common.{◌≡◌, ℕ, ◌+◌, ◌-◌, ◌≤◌, Bool, true, false, List, [], ◌∷◌, ◌++◌, length, take, drop, replicate, Option, Some, None, Result, Ok, Err, inr, refl, sym, ap, subst, ◌∙◌, arith}
 use Rattle.std.specs.Prelude.{⊤, slice_range, nat_le}
 use Rattle.std.proofs.lemmas.Bool.{and_parts, and_from, leb-true, le-leb}
 use Rattle.std.proofs.lemmas.List.{take_at, length-replicate}
@@ -12,10 +12,9 @@ use Rattle.book_words.proofs.NameLemmas.{padded_over, same_name_is, name_of_byte
 use Rattle.row_format.specs.declared.types.RowFault.{RowFault}
 use Rattle.row_format.specs.Spelling.{name_field}
 use Rattle.row_format.specs.Allowed.{IsShort}
-use Rattle.row_format.specs.Reading.{◌>>=◌, between, byte_in, name_at, known, zeros_at}
+use Rattle.row_format.specs.Reading.{◌>>=◌, between, name_at, known, zeros_at}
 use Rattle.row_format.proofs.LowBytes.{low}
-use Rattle.row_format.proofs.FirstWrong.{IsOneOf}
-use Rattle.row_format.proofs.Readers.{WrongAt, Tells, IsField, IsReader, Within, Then, behind_reads, same_reader}
+use Rattle.row_format.proofs.Readers.{Tells, IsReader, Within, Then, behind_reads, same_reader}
 use Rattle.row_format.proofs.FieldReaders.{NumberField, byte_reads, ZeroField, zeros_read, slice_window, length-window}
 use Rattle.row_format.proofs.TypedReaders.{one_between, between_fits, small_byte}
 

@@ -1,5 +1,5 @@
 -- Powers of 256.
-use Rattle.std.proofs.Common.{◌≡◌, ℕ, suc, ◌+◌, ◌*◌, ◌^◌, ◌<◌, ◌≤◌, refl, sym, ap, ◌∙◌, add-one, arith}
+use Rattle.std.proofs.Common.{◌≡◌, ℕ, ◌+◌, ◌*◌, ◌^◌, ◌≤◌, add-one, arith}
 use Rattle.std.proofs.Math.Nat.{pow-suc, pow-le-pow_right}
 
 -- one byte more

@@ -103,14 +103,14 @@ module _ {A B : Type 0} (m n : ℕ) (F : A → List ℕ → Type 0) (S : A → B
           same = take-append-le w.count w.before.text next.text (omega (arith, size)) ∙ w.before.same ∙ sym (take-append-le w.count front rest (omega arith));
         };
         wrong = λ x.
-          let whole = f.long x.is.first x.is.front x.is.starts in
-          let same : take (w.count + 1) (x.is.front ++ x.is.rest) ≡ take (w.count + 1) (front ++ rest) = ap (take (w.count + 1)) (sym x.is.parts) ∙ x.same in
-          w.wrong (record {
-            value = x.is.first;
-            text = x.is.front;
-            is = x.is.starts;
-            same = sym (take-append-le (w.count + 1) x.is.front x.is.rest (omega (arith, whole))) ∙ same ∙ take-append-le (w.count + 1) front rest (omega arith);
-          });
+            let whole = f.long x.is.first x.is.front x.is.starts in
+            let same : take (w.count + 1) (x.is.front ++ x.is.rest) ≡ take (w.count + 1) (front ++ rest) = ap (take (w.count + 1)) (sym x.is.parts) ∙ x.same in
+            w.wrong (record {
+              value = x.is.first;
+              text = x.is.front;
+              is = x.is.starts;
+              same = sym (take-append-le (w.count + 1) x.is.front x.is.rest (omega (arith, whole))) ∙ same ∙ take-append-le (w.count + 1) front rest (omega arith);
+            });
       }
 
   -- a fault in the field behind a good one
@@ -172,11 +172,11 @@ behind_reads {A} {B} {Ends} {m} {n} {F} {S} {f} {k} within first next =
     record {
       field = then_field m n F S first.field (λ a u is. (next a u is).field);
       tells = λ place bytes ends are.
-        let inside : place + (m + n) ≤ length bytes = within _ _ ends in
-        let regrouped : place + (m + n) ≡ place + m + n = omega arith in
-        let long : length (take m (drop place bytes)) ≡ m = omega (arith, length-take m (drop place bytes), length-drop place bytes) in
-        let told = both_tell m n F S first.field (λ a u is. (next a u is).field) (take m (drop place bytes)) (take n (drop (place + m) bytes)) place (f place bytes) (λ a. k a (place + m) bytes) long (first.tells place bytes (omega arith) are) (λ a is. (next a _ is).tells (place + m) bytes (subst (λ end. Ends end (length bytes)) regrouped ends) are) in
-        subst (λ w. Tells (Then F S) (m + n) w place (behind m f k place bytes)) (sym (window_parts m n place bytes)) told;
+          let inside : place + (m + n) ≤ length bytes = within _ _ ends in
+          let regrouped : place + (m + n) ≡ place + m + n = omega arith in
+          let long : length (take m (drop place bytes)) ≡ m = omega (arith, length-take m (drop place bytes), length-drop place bytes) in
+          let told = both_tell m n F S first.field (λ a u is. (next a u is).field) (take m (drop place bytes)) (take n (drop (place + m) bytes)) place (f place bytes) (λ a. k a (place + m) bytes) long (first.tells place bytes (omega arith) are) (λ a is. (next a _ is).tells (place + m) bytes (subst (λ end. Ends end (length bytes)) regrouped ends) are) in
+          subst (λ w. Tells (Then F S) (m + n) w place (behind m f k place bytes)) (sym (window_parts m n place bytes)) told;
     }
 
 -- texts that are the same by another name

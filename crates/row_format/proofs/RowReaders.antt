@@ -1,20 +1,17 @@
 -- What the reader of a row tells: what the bytes spell, or the first place where they go wrong.
-use Rattle.std.proofs.Common.{◌≡◌, ℕ, zero, suc, ◌+◌, ◌-◌, ◌^◌, ◌<◌, ◌≤◌, List, [], ◌∷◌, ◌++◌, length, take, drop, replicate, Option, Result, Ok, Err, refl, sym, ap, subst, ◌∙◌, arith}
+use Rattle.std.proofs.Common.{◌≡◌, ℕ, ◌+◌, ◌-◌, ◌^◌, ◌<◌, List, [], ◌∷◌, ◌++◌, length, take, replicate, Result, Ok, Err, refl, sym, ap, subst, ◌∙◌, arith}
 use Rattle.std.specs.Prelude.{IfOk, IfErr}
 use Rattle.std.proofs.lemmas.List.{take_all}
-use Rattle.hall_limits.specs.declared.TheConstants.{NAME_BYTES}
-use Rattle.pack_judge.specs.declared.types.Signal.{Signal}
 use Rattle.book_words.specs.declared.act.Entry.{Entry}
 use Rattle.book_snapshot.specs.declared.layout.TheConstants.{OPEN}
 use Rattle.row_format.specs.declared.codes.Kind.{Kind}
 use Rattle.row_format.specs.declared.acts.Told.{Told}
 use Rattle.row_format.specs.declared.types.RowFault.{RowFault}
 use Rattle.row_format.specs.Spelling.{Layout, two, four, kind_of, fields_of, filled, spelled_fields, row_bytes}
-use Rattle.row_format.specs.Allowed.{IsAllowed, FitsFields}
-use Rattle.row_format.specs.Rows.{CanBeSpelled, Spells, BeginsRow, FirstFault}
-use Rattle.row_format.specs.Reading.{◌>>=◌, gate_at, kind_at, row_number_at, two_at, four_at, act_at, number_of_kind, told_of, entry_of, row_at}
+use Rattle.row_format.specs.Rows.{Spells, FirstFault}
+use Rattle.row_format.specs.Reading.{act_at, number_of_kind, told_of, entry_of, row_at}
 use Rattle.row_format.proofs.LowBytes.{low, written_low}
-use Rattle.row_format.proofs.Readers.{IsBytes, Begins, WrongAt, Tells, IsField, IsReader, Within, Then, Image, image_reads, same_reader}
+use Rattle.row_format.proofs.Readers.{IsBytes, Tells, IsField, IsReader, Then, Image, image_reads, same_reader}
 use Rattle.row_format.proofs.FieldReaders.{CodeField}
 use Rattle.row_format.proofs.TypedReaders.{OneNumber, Two, Four, gate_reads, row_number_reads, kind_reads, two_reads, any_four_reads}
 use Rattle.row_format.proofs.KindReaders.{Fills, and_then, IsBody, HasRoom, kind_for, kind_number, act_reads}
@@ -132,7 +129,7 @@ module _ (total width number : ℕ) where
     row_reads =
         same_reader Fills (1 + (1 + (4 + (2 + (2 + (4 + total)))))) (14 + total) Parts Spelled (row_at width number) (omega arith) to_spelled from_spelled
         (and_then gate_reads λ gate. and_then kind_reads λ kind. and_then (row_number_reads number below) λ same. and_then two_reads λ by. and_then two_reads λ desk. and_then any_four_reads λ request.
-            image_reads Fills (entry_of by desk request) total (IsBody total width kind) (act_at kind width) (act_reads total width kind room))
+        image_reads Fills (entry_of by desk request) total (IsBody total width kind) (act_at kind width) (act_reads total width kind room))
 
   pub row_told : HasRoom total width → number < 2 ^ 32 → (bytes : List ℕ) → length bytes ≡ 14 + total → IsBytes bytes → Tells Spelled (14 + total) bytes 0 (row_at width number 0 bytes)
   row_told room below bytes long are =

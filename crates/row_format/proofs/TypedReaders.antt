@@ -1,11 +1,8 @@
 -- What the readers of typed fields tell, in the words of the spelling.
-use Rattle.std.proofs.Common.{◌≡◌, ℕ, zero, suc, ◌+◌, ◌-◌, ◌*◌, ◌%◌, ◌^◌, ◌<◌, ◌≤◌, Bool, true, false, List, [], ◌∷◌, ◌++◌, length, take, drop, replicate, Option, Some, None, Result, Ok, Err, inl, inr, refl, sym, ap, subst, ◌∙◌, arith}
-use Rattle.std.specs.Prelude.{⊤, ℤ, pos, negsuc, ◌≤ℤ◌, unsigned_abs, slice_range, nat_le}
+use Rattle.std.proofs.Common.{◌≡◌, ℕ, ◌%◌, ◌^◌, ◌<◌, ◌≤◌, true, false, List, [], ◌∷◌, Some, Ok, inl, inr, refl, sym, ap, subst, ◌∙◌, arith}
+use Rattle.std.specs.Prelude.{ℤ, pos, negsuc, unsigned_abs}
 use Rattle.std.proofs.lemmas.Int.{ints}
-use Rattle.std.proofs.lemmas.Bool.{and_parts, leb-true}
-use Rattle.std.proofs.lemmas.List.{take_at}
-use Rattle.std.proofs.lemmas.Slice.Eq.{bytes_eq-Decides}
-use Rattle.hall_limits.specs.declared.TheConstants.{NAME_BYTES, MIN_NOMINAL, MAX_NOMINAL, MAX_GROSS, MAX_TARE, MAX_DAY, MAX_LANE, MIN_DENSITY, MAX_DENSITY}
+use Rattle.hall_limits.specs.declared.TheConstants.{MIN_NOMINAL, MAX_NOMINAL, MAX_GROSS, MAX_TARE, MAX_DAY, MAX_LANE, MIN_DENSITY, MAX_DENSITY}
 use Rattle.book_snapshot.specs.declared.layout.TheConstants.{OPEN}
 use Rattle.annex_tables.specs.declared.types.Mode.{Mode}
 use Rattle.annex_tables.specs.declared.types.Mode.TheVariants.{Keep, Destroy}
@@ -16,22 +13,17 @@ use Rattle.book_words.specs.declared.act.Prior.{Prior}
 use Rattle.book_words.specs.declared.act.Prior.TheVariants.{Nothing, Opened, Stayed, Unknown}
 use Rattle.book_words.specs.declared.act.Unit as units
 use Rattle.book_words.specs.declared.act.Unit.TheVariants.{Mass, Volume}
-use Rattle.book_words.specs.declared.name.Name.{Name}
-use Rattle.book_words.specs.Names.{bytes_of, name_of}
-use Rattle.book_words.specs.NamePlaces.{is_name_length, is_padded}
 use Rattle.book_words.specs.Ranges.{IsBetween}
-use Rattle.book_words.proofs.NameLemmas.{padded_over, same_name_is, name_of_bytes, no_name_of}
 use Rattle.row_format.specs.declared.codes.Kind.{Kind}
 use Rattle.row_format.specs.declared.codes.Kind.TheVariants as kinds
-use Rattle.row_format.specs.declared.types.RowFault.{RowFault}
 use Rattle.row_format.specs.declared.fields.Numbers.{Numbers}
-use Rattle.row_format.specs.Spelling.{two, four, eight, four_of, eight_of, name_field, prior_code, signal_code, mode_code, unit_code}
-use Rattle.row_format.specs.Allowed.{IsShort, IsLane, IsDensity}
-use Rattle.row_format.specs.Reading.{◌>>=◌, between, four_in, eight_in, byte_in, gate_at, row_number_at, day_at, gross_at, tare_at, nominal_at, density_at, lane_at, name_at, known, zeros_at, code_at, coded, number_of_kind, all_kinds, all_signals, kind_at, prior_at, signal_at, mode_at, unit_at, two_at, four_at, eight_at}
+use Rattle.row_format.specs.Spelling.{two, four, eight, four_of, eight_of, prior_code, signal_code, mode_code, unit_code}
+use Rattle.row_format.specs.Allowed.{IsLane, IsDensity}
+use Rattle.row_format.specs.Reading.{◌>>=◌, between, four_in, eight_in, byte_in, gate_at, row_number_at, day_at, gross_at, tare_at, nominal_at, density_at, lane_at, coded, number_of_kind, all_kinds, all_signals, kind_at, prior_at, signal_at, mode_at, unit_at, two_at, four_at, eight_at}
 use Rattle.row_format.proofs.LowBytes.{low, modulus, written_low}
 use Rattle.row_format.proofs.FirstWrong.{IsOneOf}
-use Rattle.row_format.proofs.Readers.{Tells, IsField, IsReader, Within, Image, image_reads, same_reader}
-use Rattle.row_format.proofs.FieldReaders.{NumberField, HasSize, byte_reads, four_reads, eight_reads, AnyField, any_two, any_four, any_eight, CodeField, code_reads, ZeroField, zeros_read, slice_window, length-window}
+use Rattle.row_format.proofs.Readers.{IsReader, Within, Image, image_reads, same_reader}
+use Rattle.row_format.proofs.FieldReaders.{NumberField, HasSize, byte_reads, four_reads, eight_reads, AnyField, any_two, any_four, any_eight, CodeField, code_reads}
 
 false_is_not_true : false ≡ true → ⊥
 false_is_not_true h = cc

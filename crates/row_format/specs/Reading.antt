@@ -1,5 +1,5 @@
 -- Reading a row from left to right, with the first fault that is met.
-use Rattle.std.specs.Prelude.{◌≡◌, ℕ, zero, suc, ℤ, pos, ◌+◌, ◌-◌, ◌*◌, ◌%◌, Bool, true, false, ◌&&◌, ◌||◌, List, [], ◌∷◌, length, slice_index, slice_range, Option, Some, None, Result, Ok, Err, ⊤, ◌^◌, ◌<◌, ◌≤◌, unsigned_abs, nat_le, ◌==◌, if◌then◌else◌}
+use Rattle.std.specs.Prelude.{ℕ, zero, suc, ℤ, pos, ◌+◌, ◌-◌, ◌*◌, ◌%◌, Bool, true, false, ◌&&◌, ◌||◌, List, [], ◌∷◌, length, slice_index, slice_range, Option, Some, None, Result, Ok, Err, ⊤, ◌^◌, ◌<◌, ◌≤◌, unsigned_abs, nat_le, ◌==◌, if◌then◌else◌}
 use Rattle.std.specs.Int.{w16, w32, w64, from_le_bytes}
 use Rattle.hall_limits.specs.declared.TheConstants.{NAME_BYTES, MIN_NOMINAL, MAX_NOMINAL, MAX_GROSS, MAX_TARE, MAX_DAY, MAX_LANE, MIN_DENSITY, MAX_DENSITY}
 use Rattle.annex_tables.specs.declared.types.Mode.{Mode}
@@ -54,7 +54,7 @@ abbrev pub can_begin : Numbers → ℕ → ℕ → Bool
 can_begin numbers low modulus =
     (numbers.zero && low == 0)
     || (nat_le numbers.least (numbers.least - numbers.least % modulus + low)
-        && nat_le (numbers.least - numbers.least % modulus + low) numbers.greatest)
+    && nat_le (numbers.least - numbers.least % modulus + low) numbers.greatest)
     || nat_le (numbers.least - numbers.least % modulus + low + modulus) numbers.greatest
 
 -- how many low bytes are right, where so many are known to be, and at most so many more may be

@@ -2,7 +2,9 @@ ghost use Rattle.std.specs.Prelude.{◌≡◌, ◌+◌, ◌*◌, ◌≤◌, leng
 ghost use Rattle.row_format.specs.Reading.{IsLong, IsRowOf, ended, act_at, new_day_at, put_product_at, put_tare_at, open_batch_at, start_lane_at, weigh_at, stop_lane_at, void_at, end_run_at, draw_at, measure_at, draw_second_at, close_at};
 
 use crate::codes::{Kind, mode_at, prior_at, signal_at, unit_at};
-use crate::fields::{day_at, density_at, gross_at, lane_at, name_at, nominal_at, tare_at, zeros_at};
+use crate::fields::{
+    day_at, density_at, gross_at, lane_at, name_at, nominal_at, tare_at, zeros_at,
+};
 use crate::places::ACT_PLACE;
 use crate::types::RowFault;
 use book_words::Act;
@@ -54,7 +56,14 @@ fn new_day_at(bytes: &[u8]) -> Result<Told, RowFault>
     ensures { result ≡ new_day_at ACT_PLACE bytes.now }
 {
     let day = day_at(bytes, ACT_PLACE)?;
-    ended(bytes, ACT_PLACE + 4, Told { act: Act::NewDay { day }, signal: None })
+    ended(
+        bytes,
+        ACT_PLACE + 4,
+        Told {
+            act: Act::NewDay { day },
+            signal: None,
+        },
+    )
 }
 
 // A product.
@@ -65,7 +74,18 @@ fn put_product_at(bytes: &[u8], width: usize) -> Result<Told, RowFault>
     let name = name_at(bytes, ACT_PLACE, width)?;
     let nominal = nominal_at(bytes, ACT_PLACE + (1 + width))?;
     let unit = unit_at(bytes, ACT_PLACE + (1 + width) + 8)?;
-    ended(bytes, ACT_PLACE + (1 + width) + 8 + 1, Told { act: Act::PutProduct { name, nominal, unit }, signal: None })
+    ended(
+        bytes,
+        ACT_PLACE + (1 + width) + 8 + 1,
+        Told {
+            act: Act::PutProduct {
+                name,
+                nominal,
+                unit,
+            },
+            signal: None,
+        },
+    )
 }
 
 // A tare.
@@ -76,7 +96,14 @@ fn put_tare_at(bytes: &[u8], width: usize) -> Result<Told, RowFault>
     let product = name_at(bytes, ACT_PLACE, width)?;
     let day = day_at(bytes, ACT_PLACE + (1 + width))?;
     let tare = tare_at(bytes, ACT_PLACE + (1 + width) + 4)?;
-    ended(bytes, ACT_PLACE + (1 + width) + 4 + 4, Told { act: Act::PutTare { product, day, tare }, signal: None })
+    ended(
+        bytes,
+        ACT_PLACE + (1 + width) + 4 + 4,
+        Told {
+            act: Act::PutTare { product, day, tare },
+            signal: None,
+        },
+    )
 }
 
 // A batch that begins.
@@ -87,7 +114,18 @@ fn open_batch_at(bytes: &[u8], width: usize) -> Result<Told, RowFault>
     let batch = name_at(bytes, ACT_PLACE, width)?;
     let product = name_at(bytes, ACT_PLACE + (1 + width), width)?;
     let density = density_at(bytes, ACT_PLACE + (1 + width) + (1 + width))?;
-    ended(bytes, ACT_PLACE + (1 + width) + (1 + width) + 4, Told { act: Act::OpenBatch { batch, product, density }, signal: None })
+    ended(
+        bytes,
+        ACT_PLACE + (1 + width) + (1 + width) + 4,
+        Told {
+            act: Act::OpenBatch {
+                batch,
+                product,
+                density,
+            },
+            signal: None,
+        },
+    )
 }
 
 // A lane that starts.
@@ -97,7 +135,14 @@ fn start_lane_at(bytes: &[u8], width: usize) -> Result<Told, RowFault>
 {
     let lane = lane_at(bytes, ACT_PLACE)?;
     let batch = name_at(bytes, ACT_PLACE + 1, width)?;
-    ended(bytes, ACT_PLACE + 1 + (1 + width), Told { act: Act::StartLane { lane, batch }, signal: None })
+    ended(
+        bytes,
+        ACT_PLACE + 1 + (1 + width),
+        Told {
+            act: Act::StartLane { lane, batch },
+            signal: None,
+        },
+    )
 }
 
 // A weighing, with its signal.
@@ -109,7 +154,14 @@ fn weigh_at(bytes: &[u8]) -> Result<Told, RowFault>
     let gross = gross_at(bytes, ACT_PLACE + 1)?;
     let prior = prior_at(bytes, ACT_PLACE + 1 + 4)?;
     let signal = signal_at(bytes, ACT_PLACE + 1 + 4 + 1)?;
-    ended(bytes, ACT_PLACE + 1 + 4 + 1 + 1, Told { act: Act::Weigh { lane, gross, prior }, signal: Some(signal) })
+    ended(
+        bytes,
+        ACT_PLACE + 1 + 4 + 1 + 1,
+        Told {
+            act: Act::Weigh { lane, gross, prior },
+            signal: Some(signal),
+        },
+    )
 }
 
 // A lane that stops.
@@ -119,7 +171,14 @@ fn stop_lane_at(bytes: &[u8]) -> Result<Told, RowFault>
 {
     let lane = lane_at(bytes, ACT_PLACE)?;
     let prior = prior_at(bytes, ACT_PLACE + 1)?;
-    ended(bytes, ACT_PLACE + 1 + 1, Told { act: Act::StopLane { lane, prior }, signal: None })
+    ended(
+        bytes,
+        ACT_PLACE + 1 + 1,
+        Told {
+            act: Act::StopLane { lane, prior },
+            signal: None,
+        },
+    )
 }
 
 // A pack that is taken back.
@@ -128,7 +187,14 @@ fn void_at(bytes: &[u8]) -> Result<Told, RowFault>
     ensures { result ≡ void_at ACT_PLACE bytes.now }
 {
     let pack = get_u32(bytes, ACT_PLACE);
-    ended(bytes, ACT_PLACE + 4, Told { act: Act::Void { pack }, signal: None })
+    ended(
+        bytes,
+        ACT_PLACE + 4,
+        Told {
+            act: Act::Void { pack },
+            signal: None,
+        },
+    )
 }
 
 // The end of a batch's run.
@@ -137,7 +203,14 @@ fn end_run_at(bytes: &[u8], width: usize) -> Result<Told, RowFault>
     ensures { result ≡ end_run_at width ACT_PLACE bytes.now }
 {
     let batch = name_at(bytes, ACT_PLACE, width)?;
-    ended(bytes, ACT_PLACE + (1 + width), Told { act: Act::EndRun { batch }, signal: None })
+    ended(
+        bytes,
+        ACT_PLACE + (1 + width),
+        Told {
+            act: Act::EndRun { batch },
+            signal: None,
+        },
+    )
 }
 
 // The first sample of a batch.
@@ -148,7 +221,14 @@ fn draw_at(bytes: &[u8], width: usize) -> Result<Told, RowFault>
     let batch = name_at(bytes, ACT_PLACE, width)?;
     let mode = mode_at(bytes, ACT_PLACE + (1 + width))?;
     let word = get_u64(bytes, ACT_PLACE + (1 + width) + 1);
-    ended(bytes, ACT_PLACE + (1 + width) + 1 + 8, Told { act: Act::Draw { batch, mode, word }, signal: None })
+    ended(
+        bytes,
+        ACT_PLACE + (1 + width) + 1 + 8,
+        Told {
+            act: Act::Draw { batch, mode, word },
+            signal: None,
+        },
+    )
 }
 
 // A measured pack.
@@ -159,7 +239,14 @@ fn measure_at(bytes: &[u8]) -> Result<Told, RowFault>
     let pack = get_u32(bytes, ACT_PLACE);
     let gross = gross_at(bytes, ACT_PLACE + 4)?;
     let empty = tare_at(bytes, ACT_PLACE + 4 + 4)?;
-    ended(bytes, ACT_PLACE + 4 + 4 + 4, Told { act: Act::Measure { pack, gross, empty }, signal: None })
+    ended(
+        bytes,
+        ACT_PLACE + 4 + 4 + 4,
+        Told {
+            act: Act::Measure { pack, gross, empty },
+            signal: None,
+        },
+    )
 }
 
 // The second sample of a batch.
@@ -169,7 +256,14 @@ fn draw_second_at(bytes: &[u8], width: usize) -> Result<Told, RowFault>
 {
     let batch = name_at(bytes, ACT_PLACE, width)?;
     let word = get_u64(bytes, ACT_PLACE + (1 + width));
-    ended(bytes, ACT_PLACE + (1 + width) + 8, Told { act: Act::DrawSecond { batch, word }, signal: None })
+    ended(
+        bytes,
+        ACT_PLACE + (1 + width) + 8,
+        Told {
+            act: Act::DrawSecond { batch, word },
+            signal: None,
+        },
+    )
 }
 
 // A batch's end.
@@ -178,5 +272,12 @@ fn close_at(bytes: &[u8], width: usize) -> Result<Told, RowFault>
     ensures { result ≡ close_at width ACT_PLACE bytes.now }
 {
     let batch = name_at(bytes, ACT_PLACE, width)?;
-    ended(bytes, ACT_PLACE + (1 + width), Told { act: Act::Close { batch }, signal: None })
+    ended(
+        bytes,
+        ACT_PLACE + (1 + width),
+        Told {
+            act: Act::Close { batch },
+            signal: None,
+        },
+    )
 }

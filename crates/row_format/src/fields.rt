@@ -23,7 +23,11 @@ impl Numbers {
     pub fn between(least: u64, greatest: u64) -> Numbers
         ensures { (result.zero ≡ false) × (result.least ≡ least) × (result.greatest ≡ greatest) }
     {
-        Numbers { zero: false, least, greatest }
+        Numbers {
+            zero: false,
+            least,
+            greatest,
+        }
     }
 
     // Whether the number is one of them.
@@ -74,7 +78,9 @@ pub fn checked(number: u64, size: usize, place: usize, numbers: &Numbers) -> Res
     if numbers.has(number) {
         Ok(number)
     } else {
-        Err(RowFault { place: place + right_bytes(number, size, numbers) })
+        Err(RowFault {
+            place: place + right_bytes(number, size, numbers),
+        })
     }
 }
 
@@ -85,7 +91,9 @@ pub fn zeros_at(bytes: &[u8], place: usize, count: usize) -> Result<(), RowFault
 {
     for (behind, byte) in bytes[place..place + count].iter().enumerate() {
         if *byte != 0 {
-            return Err(RowFault { place: place + behind });
+            return Err(RowFault {
+                place: place + behind,
+            });
         }
     }
     Ok(())
@@ -111,7 +119,12 @@ pub fn gate_at(bytes: &[u8]) -> Result<u64, RowFault>
     requires { 1 ≤ length bytes.now }
     ensures { result ≡ gate_at 0 bytes.now }
 {
-    checked(u64::from(bytes[0]), 1, 0, &Numbers::between(u64::from(OPEN), u64::from(OPEN)))
+    checked(
+        u64::from(bytes[0]),
+        1,
+        0,
+        &Numbers::between(u64::from(OPEN), u64::from(OPEN)),
+    )
 }
 
 /// The number of a row, which is this one.
@@ -121,7 +134,12 @@ pub fn row_number_at(bytes: &[u8], number: u32) -> Result<u64, RowFault>
     ensures { result ≡ row_number_at number NUMBER_PLACE bytes.now }
 {
     let numbers = Numbers::between(u64::from(number), u64::from(number));
-    checked(u64::from(get_u32(bytes, NUMBER_PLACE)), 4, NUMBER_PLACE, &numbers)
+    checked(
+        u64::from(get_u32(bytes, NUMBER_PLACE)),
+        4,
+        NUMBER_PLACE,
+        &numbers,
+    )
 }
 
 /// The day at a place.

@@ -1,4 +1,4 @@
-use Rattle.std.proofs.Common.{◌+◌, ◌∙◌, arith}
+use Rattle.std.proofs.Common.{◌+◌, ◌∙◌}
 use Rattle.std.specs.List.{slice_range}
 use Rattle.row_format.proofs.Loops.{zero_more, zero_wrong, zero_last}
 use Rattle.row_format.proofs.fields.zeros_at.Goals as goal

@@ -1,4 +1,4 @@
-use Rattle.std.proofs.Common.{◌≡◌, ◌+◌, length, take, drop}
+use Rattle.std.proofs.Common.{◌≡◌, ◌+◌, drop}
 use Rattle.std.specs.List.{slice_range}
 use Rattle.row_format.specs.Reading.{zeros_in}
 use Rattle.row_format.proofs.fields.zeros_at.Given as goal

@@ -1,7 +1,6 @@
 use Rattle.std.proofs.Common.{◌≡◌, ◌+◌, ◌^◌, ◌<◌, length, arith}
 use Rattle.row_format.specs.declared.types.TheConstants.{OLD_NAME_BYTES}
 use Rattle.row_format.proofs.Readers.{IsBytes}
-use Rattle.row_format.proofs.KindReaders.{HasRoom}
 use Rattle.row_format.proofs.RowReaders.{row_is_told}
 use Rattle.row_format.proofs.read.read_old_row.Goals as goal
 

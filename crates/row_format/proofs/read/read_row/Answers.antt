@@ -1,7 +1,6 @@
 use Rattle.std.proofs.Common.{◌≡◌, ◌+◌, ◌^◌, ◌<◌, length, arith}
 use Rattle.hall_limits.specs.declared.TheConstants.{NAME_BYTES}
 use Rattle.row_format.proofs.Readers.{IsBytes}
-use Rattle.row_format.proofs.KindReaders.{HasRoom}
 use Rattle.row_format.proofs.RowReaders.{row_is_told}
 use Rattle.row_format.proofs.read.read_row.Goals as goal
 
