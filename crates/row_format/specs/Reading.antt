@@ -1,5 +1,5 @@
 -- Reading a row from left to right, with the first fault that is met.
-use Rattle.std.specs.Prelude.{ℕ, zero, suc, ℤ, pos, ◌+◌, ◌-◌, ◌*◌, ◌%◌, Bool, true, false, ◌&&◌, ◌||◌, List, [], ◌∷◌, length, slice_index, slice_range, Option, Some, None, Result, Ok, Err, ⊤, ◌^◌, ◌<◌, ◌≤◌, unsigned_abs, nat_le, ◌==◌, if◌then◌else◌}
+use Rattle.std.specs.Prelude.{ℕ, zero, suc, ℤ, pos, ◌+◌, ◌-◌, ◌*◌, ◌%◌, Bool, true, false, ◌&&◌, ◌||◌, List, [], ◌∷◌, length, slice_index, slice_range, Option, Some, None, Result, Ok, Err, ⊤, ◌≤◌, unsigned_abs, nat_le, ◌==◌, if◌then◌else◌}
 use Rattle.std.specs.Int.{w16, w32, w64, from_le_bytes}
 use Rattle.hall_limits.specs.declared.TheConstants.{NAME_BYTES, MIN_NOMINAL, MAX_NOMINAL, MAX_GROSS, MAX_TARE, MAX_DAY, MAX_LANE, MIN_DENSITY, MAX_DENSITY}
 use Rattle.annex_tables.specs.declared.types.Mode.{Mode}
@@ -18,6 +18,7 @@ use Rattle.book_snapshot.specs.declared.layout.TheConstants.{OPEN}
 use Rattle.row_format.specs.declared.codes.Kind.{Kind}
 use Rattle.row_format.specs.declared.codes.Kind.TheVariants as kinds
 use Rattle.row_format.specs.declared.acts.Told.{Told}
+use Rattle.row_format.specs.declared.places.TheConstants.{ACT_PLACE}
 use Rattle.row_format.specs.Spelling.{prior_code, signal_code, mode_code, unit_code}
 use Rattle.row_format.specs.declared.types.RowFault.{RowFault}
 use Rattle.row_format.specs.declared.types.TheConstants.{OLD_NAME_BYTES}
@@ -204,14 +205,11 @@ unfoldable pub unit_at : Reader units.Unit
 unit_at place bytes = code_at unit_code (Mass ∷ Volume ∷ []) place bytes
 
 -- the row is long enough for the fields of each kind, where names have so many bytes
-abbrev pub IsLong : List ℕ → Type 0
-IsLong bytes = (26 ≤ length bytes) × (length bytes < 2 ^ 32)
-
 pub record IsRowOf (width : ℕ) (bytes : List ℕ) : Type 0 where
   pub wide : OLD_NAME_BYTES ≤ width
   pub short : width ≤ NAME_BYTES
-  pub room : 18 + 2 * (1 + width) ≤ length bytes
-  pub long : IsLong bytes
+  pub names : ACT_PLACE + (1 + width) + (1 + width) + 4 ≤ length bytes
+  pub others : ACT_PLACE + 12 ≤ length bytes
 
 -- what was told, where zeros alone stand behind it
 unfoldable pub ended : Told → Reader Told
@@ -219,10 +217,11 @@ ended told place bytes = do
   _ ← zeros_at (length bytes - place) place bytes
   Ok told
 
--- the fields of each kind, one behind the other, and the zeros behind them
+-- an act and its signal
 abbrev pub told_of : Act → Option Signal → Told
 told_of act signal = record { act = act; signal = signal }
 
+-- the fields of each kind, one behind the other, and the zeros behind them
 abbrev pub new_day_at : Reader Told
 new_day_at = behind 4 day_at λ day. ended (told_of (NewDay day) None)
 

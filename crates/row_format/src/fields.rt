@@ -7,10 +7,12 @@ use book_snapshot::OPEN;
 use book_words::Name;
 use hall_limits::{
     MAX_DAY, MAX_DENSITY, MAX_GROSS, MAX_LANE, MAX_NOMINAL, MAX_TARE, MIN_DENSITY, MIN_NOMINAL,
+    NAME_BYTES,
 };
 use hall_units::{get_u32, get_u64};
 
-/// The numbers that a field may hold: those from the least to the greatest, and 0 where it is told.
+/// The numbers that a field may hold: those from the least to the greatest, and 0 where `zero` is
+/// set.
 #[derive(Clone, Copy)]
 pub struct Numbers {
     pub zero: bool,
@@ -37,7 +39,7 @@ impl Numbers {
         self.zero && number == 0 || self.least <= number && number <= self.greatest
     }
 
-    // Whether some of them is, below the modulus, this low part.
+    // Whether one of them has this low part, which is what the modulus leaves of it.
     fn can_begin(&self, low: u64, modulus: u64) -> bool
         requires least { self.now.least < 2 ^ 32 }
         requires low { low < modulus }
@@ -71,7 +73,7 @@ fn right_bytes(number: u64, size: usize, numbers: &Numbers) -> usize
 pub fn checked(number: u64, size: usize, place: usize, numbers: &Numbers) -> Result<u64, RowFault>
     requires least { numbers.now.least < 2 ^ 32 }
     requires size { (1 ≤ size) × (size ≤ 8) }
-    requires place { place < 2 ^ 32 }
+    requires place { place + size < 2 ^ 64 }
     ensures value { result ≡ number_in numbers.now size place number }
     ensures bound { IfOk result (λ number. number ≤ numbers.now.greatest) }
 {
@@ -102,9 +104,8 @@ pub fn zeros_at(bytes: &[u8], place: usize, count: usize) -> Result<(), RowFault
 /// The name at a place, where names have so many bytes.
 #[tactic(auto, unfolding(crate::specs::Reading::name_at))]
 pub fn name_at(bytes: &[u8], place: usize, width: usize) -> Result<Name, RowFault>
-    requires width { width ≤ 32 }
+    requires width { width ≤ NAME_BYTES }
     requires inside { place + (1 + width) ≤ length bytes.now }
-    requires place { place < 2 ^ 32 }
     ensures { result ≡ name_at width place bytes.now }
 {
     let numbers = Numbers::between(1, width as u64);
@@ -119,12 +120,8 @@ pub fn gate_at(bytes: &[u8]) -> Result<u64, RowFault>
     requires { 1 ≤ length bytes.now }
     ensures { result ≡ gate_at 0 bytes.now }
 {
-    checked(
-        u64::from(bytes[0]),
-        1,
-        0,
-        &Numbers::between(u64::from(OPEN), u64::from(OPEN)),
-    )
+    let gates = Numbers::between(u64::from(OPEN), u64::from(OPEN));
+    checked(u64::from(bytes[0]), 1, 0, &gates)
 }
 
 /// The number of a row, which is this one.
@@ -134,19 +131,14 @@ pub fn row_number_at(bytes: &[u8], number: u32) -> Result<u64, RowFault>
     ensures { result ≡ row_number_at number NUMBER_PLACE bytes.now }
 {
     let numbers = Numbers::between(u64::from(number), u64::from(number));
-    checked(
-        u64::from(get_u32(bytes, NUMBER_PLACE)),
-        4,
-        NUMBER_PLACE,
-        &numbers,
-    )
+    let read = get_u32(bytes, NUMBER_PLACE);
+    checked(u64::from(read), 4, NUMBER_PLACE, &numbers)
 }
 
 /// The day at a place.
 #[tactic(auto, unfolding(crate::specs::Reading::day_at))]
 pub fn day_at(bytes: &[u8], place: usize) -> Result<i32, RowFault>
-    requires inside { place + 4 ≤ length bytes.now }
-    requires place { place < 2 ^ 32 }
+    requires { place + 4 ≤ length bytes.now }
     ensures { result ≡ day_at place bytes.now }
 {
     let days = Numbers::between(0, MAX_DAY as u64);
@@ -156,8 +148,7 @@ pub fn day_at(bytes: &[u8], place: usize) -> Result<i32, RowFault>
 /// The gross at a place.
 #[tactic(auto, unfolding(crate::specs::Reading::gross_at))]
 pub fn gross_at(bytes: &[u8], place: usize) -> Result<i64, RowFault>
-    requires inside { place + 4 ≤ length bytes.now }
-    requires place { place < 2 ^ 32 }
+    requires { place + 4 ≤ length bytes.now }
     ensures { result ≡ gross_at place bytes.now }
 {
     let grosses = Numbers::between(0, MAX_GROSS as u64);
@@ -167,8 +158,7 @@ pub fn gross_at(bytes: &[u8], place: usize) -> Result<i64, RowFault>
 /// The tare, or the mass of an empty pack, at a place.
 #[tactic(auto, unfolding(crate::specs::Reading::tare_at))]
 pub fn tare_at(bytes: &[u8], place: usize) -> Result<i64, RowFault>
-    requires inside { place + 4 ≤ length bytes.now }
-    requires place { place < 2 ^ 32 }
+    requires { place + 4 ≤ length bytes.now }
     ensures { result ≡ tare_at place bytes.now }
 {
     let tares = Numbers::between(0, MAX_TARE as u64);
@@ -178,8 +168,7 @@ pub fn tare_at(bytes: &[u8], place: usize) -> Result<i64, RowFault>
 /// The nominal quantity at a place.
 #[tactic(auto, unfolding(crate::specs::Reading::nominal_at))]
 pub fn nominal_at(bytes: &[u8], place: usize) -> Result<i64, RowFault>
-    requires inside { place + 8 ≤ length bytes.now }
-    requires place { place < 2 ^ 32 }
+    requires { place + 8 ≤ length bytes.now }
     ensures { result ≡ nominal_at place bytes.now }
 {
     let nominals = Numbers::between(MIN_NOMINAL as u64, MAX_NOMINAL as u64);
@@ -189,8 +178,7 @@ pub fn nominal_at(bytes: &[u8], place: usize) -> Result<i64, RowFault>
 /// The density at a place: 0, or that of goods by volume.
 #[tactic(auto, unfolding(crate::specs::Reading::density_at))]
 pub fn density_at(bytes: &[u8], place: usize) -> Result<u32, RowFault>
-    requires inside { place + 4 ≤ length bytes.now }
-    requires place { place < 2 ^ 32 }
+    requires { place + 4 ≤ length bytes.now }
     ensures { result ≡ density_at place bytes.now }
 {
     let densities = Numbers {
@@ -204,8 +192,7 @@ pub fn density_at(bytes: &[u8], place: usize) -> Result<u32, RowFault>
 /// The number of a lane at a place.
 #[tactic(auto, unfolding(crate::specs::Reading::lane_at))]
 pub fn lane_at(bytes: &[u8], place: usize) -> Result<u8, RowFault>
-    requires inside { place + 1 ≤ length bytes.now }
-    requires place { place < 2 ^ 32 }
+    requires { place + 1 ≤ length bytes.now }
     ensures { result ≡ lane_at place bytes.now }
 {
     let lanes = Numbers::between(1, u64::from(MAX_LANE));
