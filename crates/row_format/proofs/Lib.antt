@@ -8,3 +8,4 @@ pub mod LowBytes
 pub mod Powers
 pub mod Loops
 pub mod Readers
+pub mod Worked

@@ -26,6 +26,7 @@ use Rattle.row_format.specs.declared.fields.Numbers.{Numbers}
 use Rattle.book_words.specs.declared.name.Name.{Name}
 use Rattle.book_words.specs.Names.{name_of}
 
+-- one reading, and then the next, up to the first fault
 infixl 10 ◌>>=◌
 abbrev pub ◌>>=◌ : {A B : Type 0} → Result A RowFault → (A → Result B RowFault) → Result B RowFault
 (Ok x) >>= f = f x
