@@ -1,3 +1,14 @@
 pub mod Filled
 pub mod Together
 pub mod Lawful
+pub mod RowReaders
+pub mod KindReaders
+pub mod NameReaders
+pub mod TypedReaders
+pub mod FieldReaders
+pub mod FirstWrong
+pub mod LowBytes
+pub mod Powers
+pub mod Loops
+pub mod Readers
+pub mod Worked

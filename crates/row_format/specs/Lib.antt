@@ -1,4 +1,5 @@
 pub mod Allowed
 pub mod Filling
+pub mod Reading
 pub mod Rows
 pub mod Spelling

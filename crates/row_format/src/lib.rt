@@ -3,6 +3,10 @@
 #![tactic(auto)]
 
 mod buffer;
+mod acts;
+mod codes;
+mod fields;
+mod places;
 mod read;
 mod spell;
 mod types;
