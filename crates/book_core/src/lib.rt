@@ -11,4 +11,4 @@ mod types;
 pub use book::Book;
 pub use ready::Ready;
 pub use rows::Rows;
-pub use types::{BookError, NoMemory, Step};
+pub use types::{BookError, NoMemory, ReplayError, Step};

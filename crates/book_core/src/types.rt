@@ -22,3 +22,12 @@ pub enum BookError {
     /// Memory was refused.
     NoMemory,
 }
+
+/// Why an entry isn't taken as it stands.
+#[derive(Clone, Copy, Debug, PartialEq, Eq)]
+pub enum ReplayError {
+    /// It isn't lawful behind the list.
+    Unlawful,
+    /// Memory was refused.
+    NoMemory,
+}

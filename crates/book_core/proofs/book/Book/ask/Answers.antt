@@ -1,8 +1,5 @@
-use Rattle.std.proofs.Common.{◌≡◌, List, Ok, ap, ◌∙◌}
+use Rattle.std.proofs.Common.{◌∙◌}
 use Rattle.std.proofs.lemmas.Result.{err_from_is_err_and}
-use Rattle.book_words.specs.declared.act.Entry.{Entry}
-use Rattle.book_words.specs.Answers.{answer}
-use Rattle.book_core.specs.Steps.{asked_act}
 use Rattle.book_core.proofs.AskLemmas.{error_answer, error_list, ready_is, new_answer, new_list, known_is, known_answer, known_list}
 use Rattle.book_core.proofs.book.Book.ask.Goals as goal
 
@@ -20,11 +17,8 @@ returns-in_err-ready-in-Act-clause-entries c =
 pub returns-in-New-clause-answer : goal.returns-in-New-clause-answer
 returns-in-New-clause-answer c =
     let is = ready_is c.args.self.now c.args.by c.args.ask.now _ c.ready.result _ c.in-New.ready c.in_ok-ready-in-Act.was c.in-New.is c.ready.ensures.exact in
-    let asked = asked_act c.in-New.ready.entry.desk c.in-New.ready.entry.request c.in-New.ready.entry.act in
-    let told : Ok c.enter.result ≡ answer c.ready.new.self.limit c.ready.new.self.entries asked = c.enter.ensures.answer in
-    new_answer c.args.self.now c.args.by c.args.ask.now _ c.in-New.ready c.enter.result c.in-Act.is is.1
-    (told ∙ ap (λ limit. answer limit c.ready.new.self.entries asked) c.ready.ensures.limit
-    ∙ ap (λ (es : List Entry). answer c.args.self.now.limit es asked) c.ready.ensures.entries)
+    new_answer c.args.self.now c.args.by c.ready.new.self.entries c.args.ask.now _ c.in-New.ready c.enter.result c.in-Act.is is c.ready.ensures.entries c.enter.ensures.lawful
+    c.enter.ensures.answer
 
 pub returns-in-New-clause-entries : goal.returns-in-New-clause-entries
 returns-in-New-clause-entries c =
