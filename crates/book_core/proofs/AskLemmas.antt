@@ -2,6 +2,7 @@
 use Rattle.std.proofs.Common.{◌≡◌, true, false, ℕ, List, [], ◌∷◌, ◌++◌, Option, Some, None, IsSome, Result, Ok, Err, refl, sym, ◌∙◌, ap, subst, append-nil}
 use Rattle.std.specs.List.{cons_option}
 use Rattle.std.specs.Option.{option_or}
+use Rattle.hall_limits.specs.declared.TheConstants.{MAX_ROWS}
 use Rattle.book_words.specs.declared.act.Act.{Act}
 use Rattle.book_words.specs.declared.act.Ask.{Ask}
 use Rattle.book_words.specs.declared.act.Want.{Want}
@@ -12,14 +13,14 @@ use Rattle.book_words.specs.declared.reply.Refused.{Refused}
 use Rattle.book_words.specs.declared.refusal.Refusal.{Refusal}
 use Rattle.book_words.specs.Desks.{desk_number, request_old, request_reused, request_gap, repeated_row}
 use Rattle.book_words.specs.Refusals.{first_refusal, book_full, refusals_of, refusal_of}
-use Rattle.book_words.specs.Answers.{accepted, answer, want_answer, entry_for, entry_unless, added, want_added}
+use Rattle.book_words.specs.Answers.{accepted, answer, want_answer, entry_for, entry_unless, added, want_added, IsLawful}
 use Rattle.book_core.specs.declared.types.Step.{Step}
 use Rattle.book_core.specs.declared.types.Step.TheVariants.{New, Known}
 use Rattle.book_core.specs.declared.types.BookError.{BookError}
 use Rattle.book_core.specs.declared.types.BookError.TheVariants as error
 use Rattle.book_core.specs.View.{ReadyEntry, BookView}
 use Rattle.book_core.specs.Steps.{asked_act, ready_for, step_by, step_for, decision_by, decision, GivesUnlessNoMemory, HasNoRoom, MayLackMemory, handed_on, GivesAnswer, TellsLeast, list_behind}
-use Rattle.book_core.proofs.Decided.{answered_by, answer_is, never_lacks, least_told}
+use Rattle.book_core.proofs.Decided.{answered_by, answer_is, never_lacks, least_told, lawful_answer}
 
 -- the entry that a decision adds
 abbrev added_by : Entry → Result (Option Answered) BookError → Option Entry
@@ -136,14 +137,18 @@ ready_is book by ask act step new given is is_new exact =
     let whole : step ≡ Ok (New given) = is ∙ ap (λ (s : Step). Ok s) is_new in
     new_by book act ready given d (subst (λ (s : Result Step BookError). GivesUnlessNoMemory book act s (step_by ready d)) whole exact)
 
--- what was entered is answered as the ask
-pub new_answer : (book : BookView) (by : ℕ) (ask : Ask) (act : Act) (given : ReadyEntry) (answered : Answered) → ask.want ≡ want.Act act
-    → given ≡ ready_for book.entries by ask act → Ok answered ≡ answer book.limit book.entries (asked_act given.entry.desk given.entry.request given.entry.act)
+-- what was entered is answered as the ask: what a book of the most rows answers a lawful entry, this
+-- book answers too
+pub new_answer : (book : BookView) (by : ℕ) (entries : List Entry) (ask : Ask) (act : Act) (given : ReadyEntry) (answered : Answered) → ask.want ≡ want.Act act
+    → (decision book.limit book.entries ask act ≡ Ok None) × (given ≡ ready_for book.entries by ask act) → entries ≡ book.entries → IsLawful entries given.entry
+    → Ok answered ≡ answer MAX_ROWS entries (asked_act given.entry.desk given.entry.request given.entry.act)
     → Ok answered ≡ handed_on (answer book.limit book.entries ask)
-new_answer book by ask act given answered wants is told =
-    ap handed_on told
-    ∙ ap (λ (r : ReadyEntry). handed_on (answer book.limit book.entries (asked_act r.entry.desk r.entry.request r.entry.act))) is
-    ∙ ap (λ (w : Want). handed_on (want_answer book.limit book.entries ask w)) (sym wants)
+new_answer book by entries ask act given answered wants is same lawful told =
+    ap handed_on (told ∙ lawful_answer entries given.entry lawful)
+    ∙ ap (λ (r : ReadyEntry). Ok (accepted entries r.entry.act)) is.1
+    ∙ ap (λ (es : List Entry). Ok (accepted es act)) same
+    ∙ ap (answered_by (accepted book.entries act)) (sym is.0)
+    ∙ sym (told_is book.limit book.entries ask act wants)
 
 -- and its entry is the one that the ask adds
 pub new_list : (book : BookView) (by : ℕ) (list : List Entry) (ask : Ask) (act : Act) (given : ReadyEntry) → ask.want ≡ want.Act act

@@ -2,6 +2,7 @@
 use Rattle.std.proofs.Common.{◌≡◌, Bool, ℕ, ◌<◌, nat_le, true, false, List, [], ◌∷◌, ◌++◌, length, Option, Some, None, Result, Ok, Err, refl, ◌∙◌, ap, arith}
 use Rattle.std.proofs.lemmas.Bool.Decides.{nat_tests}
 use Rattle.std.specs.Option.{option_or}
+use Rattle.hall_limits.specs.declared.TheConstants.{MAX_ROWS}
 use Rattle.book_words.specs.declared.act.Act.{Act}
 use Rattle.book_words.specs.declared.act.Ask.{Ask}
 use Rattle.book_words.specs.declared.act.Entry.{Entry}
@@ -12,7 +13,8 @@ use Rattle.book_words.specs.declared.refusal.Refusal.TheVariants.{BookFull}
 use Rattle.book_words.specs.Numbers.{refusal_number, EachFrom}
 use Rattle.book_words.specs.Desks.{desk_number, request_old, request_reused, request_gap, repeated_row}
 use Rattle.book_words.specs.Refusals.{refused_if, book_full, first_refusal, desk_refusals, refusals_of, refusal_of, refusal_by_rule}
-use Rattle.book_words.specs.Answers.{refused_at, accepted, desk_answer, act_answer}
+use Rattle.book_words.specs.Signals.{recorded_signal}
+use Rattle.book_words.specs.Answers.{refused_at, accepted, desk_answer, act_answer, ask_of, IsLawful}
 use Rattle.book_words.proofs.RefusalLemmas.{none_of_two, none_of_parts, least_refusal}
 use Rattle.book_core.specs.declared.types.BookError.{BookError}
 use Rattle.book_core.specs.declared.types.BookError.TheVariants as error
@@ -36,6 +38,10 @@ is_free limit entries ask act h =
     let parts = nothing entries act (desk_number ask act) (repeated_row entries ask act) (refusal_of limit entries ask act) h in
     record { desk = parts.0; new = parts.1; free = parts.2 }
 
+-- such an act is decided to be new
+pub free_decides : (limit : ℕ) (entries : List Entry) (ask : Ask) (act : Act) → IsFree limit entries ask act → decision limit entries ask act ≡ Ok None
+free_decides limit entries ask act free = λ i. decision_by entries act (free.desk i) (free.new i) (free.free i)
+
 -- there is room in the book for it
 pub has_room : (limit : ℕ) (entries : List Entry) (ask : Ask) (act : Act) → refusal_of limit entries ask act ≡ None → length entries < limit
 has_room limit entries ask act h =
@@ -54,6 +60,10 @@ own_rules limit entries ask act h =
     (none_of_two (book_full limit entries) (first_refusal (refusals_of entries act))
     (none_of_parts (desk_refusals entries ask act) (book_full limit entries ∷ refusals_of entries act) h).1).1
 
+-- so its own rules don't refuse what is decided to be new
+pub new_is_free : (limit : ℕ) (entries : List Entry) (ask : Ask) (act : Act) → decision limit entries ask act ≡ Ok None → first_refusal (refusals_of entries act) ≡ None
+new_is_free limit entries ask act found = own_rules limit entries ask act (is_free limit entries ask act found).free
+
 none_in_both : (a b : List (Option Refusal)) → first_refusal a ≡ None → first_refusal b ≡ None → first_refusal (a ++ b) ≡ None
 none_in_both [] b h k = k
 none_in_both (None ∷ os) b h k = none_in_both os b h k
@@ -65,6 +75,40 @@ all_rules limit entries ask act h =
     none_in_both (desk_refusals entries ask act) (refusals_of entries act)
     (none_of_parts (desk_refusals entries ask act) (book_full limit entries ∷ refusals_of entries act) h).0
     (own_rules limit entries ask act h)
+
+not_full : (test : Bool) (refusal : Refusal) → test ≡ false → refused_if test refusal ≡ None
+not_full test refusal h = ap (λ b. refused_if b refusal) h
+
+-- a lawful entry is neither refused nor known in a book of the most rows
+pub lawful_free : (entries : List Entry) (entry : Entry) → IsLawful entries entry → IsFree MAX_ROWS entries (ask_of entry) entry.act
+lawful_free entries entry lawful =
+    let ask = ask_of entry in
+    let act = entry.act in
+    let room = lawful.room in
+    let less : nat_le MAX_ROWS (length entries) ≡ false = grind (arith, nat_tests) in
+    let parts = none_of_parts (desk_refusals entries ask act) (refusals_of entries act) lawful.rules in
+    record {
+      desk = (none_of_two (desk_number ask act) _ parts.0).0;
+      new = lawful.new;
+      free = none_in_both (desk_refusals entries ask act) (book_full MAX_ROWS entries ∷ refusals_of entries act) parts.0
+          (ap (λ o. option_or o (first_refusal (refusals_of entries act))) (not_full _ (BookFull MAX_ROWS) less) ∙ parts.1);
+    }
+
+-- so it is decided to be new there
+pub lawful_decides : (entries : List Entry) (entry : Entry) → IsLawful entries entry → decision MAX_ROWS entries (ask_of entry) entry.act ≡ Ok None
+lawful_decides entries entry lawful = free_decides MAX_ROWS entries (ask_of entry) entry.act (lawful_free entries entry lawful)
+
+-- and an entry is lawful that is decided to be new there and has its signal
+pub decided_lawful : (entries : List Entry) (entry : Entry) → decision MAX_ROWS entries (ask_of entry) entry.act ≡ Ok None → entry.signal ≡ recorded_signal entries entry.act
+    → IsLawful entries entry
+decided_lawful entries entry h signal =
+    let free = is_free MAX_ROWS entries (ask_of entry) entry.act h in
+    record {
+      room = has_room MAX_ROWS entries (ask_of entry) entry.act free.free;
+      new = free.new;
+      rules = all_rules MAX_ROWS entries (ask_of entry) entry.act free.free;
+      signal = signal;
+    }
 
 refused_is : {some other : Refused} {A : Type 0} → ◌≡◌ {A = Result A BookError} (Err (error.Refused some)) (Err (error.Refused other)) → some ≡ other
 refused_is h = cc
@@ -118,3 +162,11 @@ answer_parts entries act None None None = refl
 pub answer_is : (limit : ℕ) (entries : List Entry) (ask : Ask) (act : Act)
     → handed_on (act_answer limit entries ask act) ≡ answered_by (accepted entries act) (decision limit entries ask act)
 answer_is limit entries ask act = answer_parts entries act (desk_number ask act) (repeated_row entries ask act) (refusal_of limit entries ask act)
+
+-- what is decided to be new is accepted
+pub new_is_accepted : (limit : ℕ) (entries : List Entry) (ask : Ask) (act : Act) → IsFree limit entries ask act → act_answer limit entries ask act ≡ Ok (accepted entries act)
+new_is_accepted limit entries ask act free = λ i. desk_answer entries act (free.desk i) (free.new i) (free.free i)
+
+-- so is a lawful entry in a book of the most rows
+pub lawful_answer : (entries : List Entry) (entry : Entry) → IsLawful entries entry → act_answer MAX_ROWS entries (ask_of entry) entry.act ≡ Ok (accepted entries entry.act)
+lawful_answer entries entry lawful = new_is_accepted MAX_ROWS entries (ask_of entry) entry.act (lawful_free entries entry lawful)

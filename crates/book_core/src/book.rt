@@ -1,4 +1,4 @@
-ghost use Rattle.std.specs.Prelude.{◌≡◌, ◌+◌, ◌≤◌, [], ◌∷◌, ◌++◌, length, ◌↔◌, ◌<◌, Ok, Err, None, Some, true, OnOk, OnErr, IfOk, IfErr, IsOk, is_none};
+ghost use Rattle.std.specs.Prelude.{◌≡◌, ◌+◌, ◌≤◌, [], ◌∷◌, ◌++◌, length, ◌↔◌, ◌<◌, Ok, Err, None, Some, true, OnOk, OnErr, IfOk, IsTrue, IsOk, is_none};
 ghost use Rattle.std.specs.Result.{result_ok};
 ghost use Rattle.std.specs.Option.{option_map};
 ghost use Rattle.hall_limits.specs.declared.TheConstants.{MAX_ROWS};
@@ -10,8 +10,6 @@ ghost use Rattle.book_words.specs.Balance.{MovesOnly};
 ghost use Rattle.book_words.specs.Soundness.{IsSound};
 ghost use Rattle.book_core.specs.Steps.{asked_act, asked_question, step_for, GivesUnlessNoMemory, made_ready, TellsLeast, pending_after, GivesAnswer, GivesLook, MayLackMemory, list_behind, decision, ready_for, is_weighing};
 ghost use Rattle.book_state.specs.Told.{entry_numbered};
-ghost use Rattle.book_state.specs.Prepared.{drawn_by};
-ghost use Rattle.book_words.specs.Refusals.{first_refusal, refusals_of};
 
 use crate::pending::Pending;
 use crate::ready::Ready;
@@ -23,6 +21,8 @@ use book_rules::{
 };
 use book_state::{Drawn, State};
 use book_words::{Act, Answered, Ask, Entry, PackView, Question, Refused, SummaryView, Want};
+use hall_limits::MAX_ROWS;
+use pack_judge::Signal;
 use std::alloc::Global;
 use std::marker::Model;
 
@@ -48,6 +48,13 @@ impl Model for Book {
     ghost view = { λ b. record { entries = b.state.entries; limit = b.limit; pending = ready_in b.pending; spare = b.state.spare } };
 
     ghost invariant = { λ b. IsKept b.state b.limit b.pending };
+}
+
+// Whether two signals are the same.
+fn is_same_signal(a: Option<Signal>, b: Option<Signal>) -> bool
+    ensures { IsTrue result ↔ (a ≡ b) }
+{
+    a == b
 }
 
 impl Book {
@@ -83,8 +90,13 @@ impl Book {
         ensures legal_before { IsLegal self.old.entries }
         ensures legal { IsLegal self.new.entries }
     {
-        unsafe { stub() };
-        unreachable!()
+        match &ask.want {
+            Want::Act(act) => match self.ready(by, ask.desk, ask.request, act)? {
+                Step::New(ready) => Ok(self.enter(ready)),
+                Step::Known(answered) => Ok(answered),
+            },
+            Want::Question(question) => self.look(question),
+        }
     }
 
     /// Makes an act ready: it is refused, or it repeats the newest act of its desk, or room is taken
@@ -110,7 +122,7 @@ impl Book {
             request,
             want: Want::Act(*act),
         };
-        match self.decide(&ask, act) {
+        match self.decide(self.limit, &ask, act) {
             Err(error) => Err(error),
             Ok(Some(answered)) => Ok(Step::Known(answered)),
             Ok(None) => self.prepare(by, desk, request, act),
@@ -129,7 +141,6 @@ impl Book {
         ensures limit { self.new.limit ≡ self.old.limit }
         ensures spare { self.old.spare ≤ self.new.spare }
     {
-        let drawn = self.make_room(act)?;
         let entry = Entry {
             by,
             desk,
@@ -137,15 +148,16 @@ impl Book {
             act: *act,
             signal: recorded_signal(&self.state, act),
         };
-        let number = self.state.len() + 1;
-        let ready = Ready::new(number, entry);
-        self.pending = Some(Pending { ready, drawn });
-        Ok(Step::New(Ready::new(number, entry)))
+        match self.hold(&entry) {
+            Ok(ready) => Ok(Step::New(ready)),
+            Err(_) => Err(BookError::NoMemory),
+        }
     }
 
-    // What an act is told that repeats another, where it does; and why it is refused.
-    fn decide(&self, ask: &Ask, act: &Act) -> Result<Option<Answered>, BookError>
-        ensures { result ≡ decision self.now.limit self.now.entries ask.now act.now }
+    // What an act is told that repeats another, where it does; and why a book of `limit` rows
+    // refuses it.
+    fn decide(&self, limit: u32, ask: &Ask, act: &Act) -> Result<Option<Answered>, BookError>
+        ensures { result ≡ decision limit self.now.entries ask.now act.now }
     {
         let at = self.state.len();
         if let Some(refusal) = refuse_desk(ask, act) {
@@ -155,30 +167,45 @@ impl Book {
             let reply = reply_again(&self.state, ask, row, act);
             return Ok(Some(Answered { at, reply }));
         }
-        match refuse(self.limit, &self.state, ask, act) {
+        match refuse(limit, &self.state, ask, act) {
             Some(refusal) => Err(BookError::Refused(Refused { at, refusal })),
             None => Ok(None),
         }
     }
 
-    // Takes room for an act that isn't refused, and draws what it draws. The list stays as it is.
-    fn make_room(&mut self, act: &Act) -> Result<Drawn, BookError>
-        requires free { first_refusal (refusals_of self.old.entries act.now) ≡ None }
-        ensures drawn { IfOk result (λ drawn. drawn ≡ drawn_by self.old.entries act.now) }
-        ensures room { OnOk result (0 < self.new.spare) }
-        ensures lacks { IfErr result (λ error. error ≡ BookError.NoMemory) }
-        ensures sure { is_weighing act.now ≡ true → 0 < self.old.spare → IsOk result }
+    // Takes room for a lawful entry, draws what its act draws, and keeps it ready to be entered. The
+    // list stays as it is.
+    fn hold(&mut self, entry: &Entry) -> Result<Ready, NoMemory>
+        requires lawful { IsLawful self.old.entries entry.now }
+        requires empty { self.old.pending ≡ None }
+        ensures ok { IfOk result (λ ready. ready
+            ≡ record { number = length self.old.entries + 1; entry = entry.now }) }
+        ensures sure { is_weighing entry.now.act ≡ true → 0 < self.old.spare → IsOk result }
+        ensures pending { self.new.pending ≡ result_ok result }
         ensures entries { self.new.entries ≡ self.old.entries }
         ensures limit { self.new.limit ≡ self.old.limit }
-        ensures pending { self.old.pending ≡ None → self.new.pending ≡ None }
         ensures spare { self.old.spare ≤ self.new.spare }
     {
-        if self.state.reserve(1).is_err() {
-            return Err(BookError::NoMemory);
-        }
-        match self.state.draw(self.alloc, act) {
-            Ok(drawn) => Ok(drawn),
-            Err(_) => Err(BookError::NoMemory),
+        self.state.reserve(1)?;
+        let drawn = self.state.draw(self.alloc, &entry.act)?;
+        let number = self.state.len() + 1;
+        let ready = Ready::new(number, *entry);
+        self.pending = Some(Pending { ready, drawn });
+        Ok(Ready::new(number, *entry))
+    }
+
+    // Whether an entry is lawful behind the list.
+    fn is_lawful(&self, entry: &Entry) -> bool
+        ensures { IsTrue result ↔ IsLawful self.now.entries entry.now }
+    {
+        let ask = Ask {
+            desk: entry.desk,
+            request: entry.request,
+            want: Want::Act(entry.act),
+        };
+        match self.decide(MAX_ROWS, &ask, &entry.act) {
+            Ok(None) => is_same_signal(entry.signal, recorded_signal(&self.state, &entry.act)),
+            _ => false,
         }
     }
 
@@ -196,8 +223,14 @@ impl Book {
         ensures spare { self.old.spare ≤ self.new.spare }
         ensures legal { IsLegal self.new.entries }
     {
-        unsafe { stub() };
-        unreachable!()
+        self.pending = None;
+        if !self.is_lawful(entry) {
+            return Err(ReplayError::Unlawful);
+        }
+        match self.hold(entry) {
+            Ok(ready) => Ok(ready),
+            Err(_) => Err(ReplayError::NoMemory),
+        }
     }
 
     /// Enters an entry of a book that is opened again, as it stands. `Unlawful` comes exactly where it
@@ -214,8 +247,9 @@ impl Book {
             ≤ self.new.spare + length self.new.entries }
         ensures legal { IsLegal self.new.entries }
     {
-        unsafe { stub() };
-        unreachable!()
+        let ready = self.admit(&entry)?;
+        let _ = self.enter(ready);
+        Ok(())
     }
 
     /// Enters what was made ready last, and answers it, whatever the book's limit is. It can't fail,
@@ -232,8 +266,16 @@ impl Book {
         ensures moves { MovesOnly self.old.entries ready.entry }
         ensures legal { IsLegal self.new.entries }
     {
-        unsafe { stub() };
-        unreachable!()
+        let Some(Pending { drawn, .. }) = self.pending.take() else {
+            unreachable!()
+        };
+        let entry = *ready.entry();
+        let reply = reply_new(&self.state, &entry.act, entry.signal);
+        self.state.enter(entry, drawn);
+        Answered {
+            at: ready.number(),
+            reply,
+        }
     }
 
     /// Answers a question over the list as it stands. Only a question for a sample takes memory.
@@ -293,8 +335,7 @@ impl Book {
         ensures view { result ≡ pack_view self.now.entries number }
         ensures there { is_none result ≡ is_none (reading_of self.now.entries number) }
     {
-        unsafe { stub() };
-        unreachable!()
+        view_pack(&self.state, number)
     }
 
     /// The entry of a number; `None` exactly where the number isn't 1 to the number of rows.
@@ -312,9 +353,4 @@ impl Book {
     {
         Rows::new(self.state.into_entries())
     }
-}
-
-unsafe extern "C" {
-    fn stub()
-        ensures { ⊥ };
 }

@@ -1,5 +1,5 @@
 -- What is told of a pack and of a batch, by what is known of them.
-use Rattle.std.proofs.Common.{◌≡◌, ℕ, ℤ, pos, ◌-ℤ◌, Bool, true, false, cond, ◌==◌, List, [], ◌∷◌, Option, Some, None, option_map, refl, sym, ◌∙◌, ap, subst}
+use Rattle.std.proofs.Common.{◌≡◌, ℕ, ℤ, pos, ◌-ℤ◌, Bool, true, false, cond, ◌==◌, List, [], ◌∷◌, Option, Some, None, option_map, is_some, refl, sym, ◌∙◌, ap, subst}
 use Rattle.std.proofs.lemmas.Bool.{eqb-true}
 use Rattle.std.specs.List.{find}
 use Rattle.std.specs.Option.{option_and_then, unwrap_or}
@@ -12,8 +12,11 @@ use Rattle.book_words.specs.declared.views.PackView.{PackView}
 use Rattle.book_words.specs.Acts.{nominal_of, product_of}
 use Rattle.book_words.specs.Readings.{readings, reading_of}
 use Rattle.book_words.specs.Classes.{nominal_of_batch, class_in_batch}
+use Rattle.book_words.specs.Refusals.{batch_of_pack}
+use Rattle.book_words.specs.Answers.{IsLegal}
 use Rattle.book_words.specs.Views.{pack_record, view_of_reading, pack_view}
-use Rattle.book_laws.proofs.TareLaws.{some_is}
+use Rattle.book_laws.proofs.TareLaws.{IsWeighed, tared_of, some_is}
+use Rattle.book_laws.proofs.ReadingLaws.{of_reading}
 use Rattle.book_state.specs.declared.types.KnownPack.{KnownPack}
 use Rattle.book_state.specs.Told.{known_record, known_reading, known_pack}
 
@@ -30,6 +33,16 @@ found_number pack (first ∷ some) reading h = step (first.number == pack) refl 
     step : (b : Bool) → (first.number == pack) ≡ b → (find (λ (r : Reading). r.number == pack) some ≡ Some reading → reading.number ≡ pack) → cond b (Some first) (find (λ (r : Reading). r.number == pack) some) ≡ Some reading → reading.number ≡ pack
     step true is rest k = ap (λ (r : Reading). r.number) (sym (some_is first reading k)) ∙ eqb-true first.number pack is
     step false is rest k = rest k
+
+-- the batch of a pack has a product
+pub pack_product : (entries : List Entry) (pack : ℕ) (batch : Name) → IsLegal entries → batch_of_pack entries pack ≡ Some batch → is_some (product_of entries batch) ≡ true
+pack_product entries pack batch legal of_batch = each (reading_of entries pack) refl of_batch
+  where
+    each : (o : Option Reading) → reading_of entries pack ≡ o → option_and_then (λ (r : Reading). r.batch) o ≡ Some batch → is_some (product_of entries batch) ≡ true
+    each None found h = absurd (cc)
+    each (Some reading) found h =
+        let weighed = (of_reading (IsWeighed entries) entries pack reading (tared_of entries legal).weighed found).1 in
+        subst (λ name. is_some (product_of entries name) ≡ true) (some_is weighed.batch batch (sym weighed.of_batch ∙ h)) (ap is_some weighed.has.known)
 
 -- what is told of a known pack
 abbrev pub view_by : ℕ → KnownPack → Name → Class → PackView

@@ -1,6 +1,7 @@
-ghost use Rattle.std.specs.Prelude.{◌≡◌, true, is_some, option_map, IfOk};
+ghost use Rattle.std.specs.Prelude.{◌≡◌, true, is_none, is_some, option_map, IfOk};
 ghost use Rattle.annex_tables.specs.Errors.{IsNominal, limits_of};
 ghost use Rattle.book_words.specs.Acts as acts;
+ghost use Rattle.book_words.specs.Readings.{reading_of};
 ghost use Rattle.book_words.specs.Samples.{sample_of};
 ghost use Rattle.book_words.specs.Classes.{class_in_batch};
 ghost use Rattle.book_words.specs.Verdicts.{second_packs};
@@ -161,9 +162,10 @@ fn class_in(state: &State, batch: &Name, net: i64) -> Class
     class(net, &limits)
 }
 
-/// What is told of the pack of a number, where there is one.
+/// What is told of the pack of a number; `None` exactly where there is no such pack.
 pub fn view_pack(state: &State, number: u32) -> Option<PackView>
-    ensures { result ≡ told.pack_view state.now.entries number }
+    ensures view { result ≡ told.pack_view state.now.entries number }
+    ensures there { is_none result ≡ is_none (reading_of state.now.entries number) }
 {
     let known = state.pack(number)?;
     let product = state.product(&known.batch)?;

@@ -7,3 +7,5 @@ mod begun;
 mod calls;
 #[cfg(test)]
 mod names;
+#[cfg(test)]
+mod replays;

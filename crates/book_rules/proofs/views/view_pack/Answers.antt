@@ -1,12 +1,23 @@
-use Rattle.std.proofs.Common.{rules, sym, ◌∙◌, ap, refl, arith, lit<, Some, ◌≤◌, unsigned_abs, FitsSigned, w32, w64}
+use Rattle.std.proofs.Common.{rules, sym, ◌∙◌, ap, refl, arith, lit<, Some, option_map, ◌≤◌, unsigned_abs, FitsSigned, w32, w64}
 use Rattle.std.proofs.lemmas.Int.{ints, to_z-of_z}
 use Rattle.reference_test.proofs.Computed.{computes_read, computes_difference}
+use Rattle.book_words.specs.Acts.{product_of}
 use Rattle.book_words.specs.Classes.{class_in_batch}
-use Rattle.book_rules.proofs.Viewing.{known_view}
+use Rattle.book_state.specs.declared.types.KnownPack.{KnownPack}
+use Rattle.book_rules.proofs.Known.{never_none}
+use Rattle.book_rules.proofs.Viewing.{known_view, pack_product}
 use Rattle.book_rules.proofs.views.view_pack.Goals as goal
 
-pub returns : goal.returns
-returns c =
+pub returns-in_err-product-clause-there : goal.returns-in_err-product-clause-there
+returns-in_err-product-clause-there c =
+    let entries = c.args.state.now.entries in
+    let known = c.in_ok-known.known in
+    let of_batch = sym c.pack.ensures.batch ∙ ap (option_map (λ (pack : KnownPack). pack.batch)) c.in_ok-known.was in
+    absurd (never_none (product_of entries known.batch) c.product.result (pack_product entries c.args.number known.batch c.pack.ensures.legal of_batch)
+    c.product.ensures.value c.in_err-product.was)
+
+pub returns-clause-view : goal.returns-clause-view
+returns-clause-view c =
     let entries = c.args.state.now.entries in
     let known = c.in_ok-known.known in
     let product = c.in_ok-product.product in

@@ -1,0 +1,88 @@
+use crate::begun::{Line, MARCH_3, line_of, pass, setup, take, take_all, take_from, weigh};
+use book_core::{Book, ReplayError};
+use book_words::{Act, Entry, Prior};
+use pack_judge::{Cause, Signal};
+use std::alloc::Global;
+use std::test::Fail;
+
+// A small day: five rows of the hall, the row 6 of a desk, and a weighing.
+fn take_day(book: &mut Book, acts: &[Act]) {
+    take_all(book, acts);
+    take_from(book, 101, 1, &Act::NewDay { day: MARCH_3 });
+    take(book, &weigh(260_000, Prior::Nothing));
+}
+
+// A weighing behind that day, with a signal.
+fn weighed(signal: Signal) -> Entry {
+    Entry {
+        by: 1,
+        desk: 0,
+        request: 0,
+        act: weigh(262_000, Prior::Opened),
+        signal: Some(signal),
+    }
+}
+
+// Whether another book takes each entry of a book.
+fn replay_all(book: &Book, other: &mut Book) -> bool {
+    for number in 1..=book.len() {
+        let Some(entry) = book.entry(number) else {
+            return false;
+        };
+        if other.replay(entry).is_err() {
+            return false;
+        }
+    }
+    true
+}
+
+// Whether two books have the same entries.
+fn have_same(book: &Book, other: &Book) -> bool {
+    for number in 1..=book.len() {
+        if book.entry(number) != other.entry(number) {
+            return false;
+        }
+    }
+    book.len() == other.len()
+}
+
+// Whether a book takes an entry neither at once nor in two steps.
+fn is_unlawful(book: &mut Book, entry: Entry) -> bool {
+    book.replay(entry) == Err(ReplayError::Unlawful) && book.admit(&entry).is_err()
+}
+
+// What an entry is told that is admitted and entered.
+fn enter_admitted(book: &mut Book, entry: &Entry) -> Option<Line> {
+    match book.admit(entry) {
+        Ok(ready) => Some(line_of(Ok(book.enter(ready)))),
+        Err(_) => None,
+    }
+}
+
+// Whether a day that is replayed into another book stands there, whatever its limit is, and an
+// entry that repeats the desk's or has another signal than it gets leaves it as it is.
+fn is_replayed(book: &mut Book, other: &mut Book, acts: &[Act]) -> bool {
+    take_day(book, acts);
+    let Some(asked) = book.entry(6) else {
+        return false;
+    };
+    let rejected = weighed(Signal::Reject(Cause::Inadequate));
+    replay_all(book, other)
+        && is_unlawful(other, asked)
+        && is_unlawful(other, rejected)
+        && have_same(book, other)
+        && enter_admitted(other, &weighed(Signal::Pass)) == Some(pass(8))
+}
+
+// Replays a day into a book of one row at most. No other function owns a book.
+fn replayed_day(alloc: Global, acts: &[Act]) -> bool {
+    let mut book = Book::new(alloc, 100);
+    let mut other = Book::new(alloc, 1);
+    is_replayed(&mut book, &mut other, acts)
+}
+
+#[test]
+fn a_replayed_day(rt: HostRuntime) -> Result<(), Fail> {
+    assert!(rt; replayed_day(rt.alloc(), &setup()?));
+    Ok(())
+}
