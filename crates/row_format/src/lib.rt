@@ -2,8 +2,8 @@
 //! entries.
 #![tactic(auto)]
 
-mod buffer;
 mod acts;
+mod buffer;
 mod codes;
 mod fields;
 mod places;
