@@ -1,0 +1,12 @@
+//! The words of the command line: what they ask for.
+#![tactic(auto)]
+
+mod asked;
+mod items;
+mod settings;
+mod text;
+mod types;
+
+pub use asked::wants;
+pub use text::Text;
+pub use types::{Command, Wants, WantsError};
