@@ -1,4 +1,4 @@
-use Rattle.std.proofs.Common.{◌≡◌, List, None, map, length}
+use Rattle.std.proofs.Common.{◌≡◌, None, map, length}
 use Rattle.std.specs.Option.{option_and_then}
 use Rattle.std.specs.String.{string_bytes}
 use Rattle.command_line.specs.Words.{read_items, wanted_by}
