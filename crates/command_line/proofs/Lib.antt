@@ -1,2 +1,4 @@
 pub mod Splits
 pub mod Endings
+pub mod OneWord
+pub mod Rows

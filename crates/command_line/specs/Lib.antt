@@ -1,2 +1,3 @@
 pub mod Words
 pub mod Taken
+pub mod Options
