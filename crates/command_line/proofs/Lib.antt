@@ -5,3 +5,4 @@ pub mod Rows
 pub mod Opening
 pub mod Taking
 pub mod Walking
+pub mod ClapReads

@@ -13,7 +13,7 @@ use Rattle.command_line.proofs.Opening.{Opened, opened}
 use Rattle.command_line.proofs.Rows.{Says, row_for, used_fresh}
 use Rattle.command_line.proofs.Taking.{Takes, taken}
 
-both : {a b : Bool} → a ≡ true → b ≡ true → (a && b) ≡ true
+pub both : {a b : Bool} → a ≡ true → b ≡ true → (a && b) ≡ true
 both {a} {b} p q = rw (p, q) refl
 
 -- the walk passes, ends with this held, and that passes too

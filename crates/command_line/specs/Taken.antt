@@ -5,10 +5,9 @@ use Rattle.std.specs.Option.{option_and_then}
 use Rattle.std.specs.Borrow.{Bor}
 use Rattle.command_line.specs.declared.types.Command.{Command}
 use Rattle.command_line.specs.declared.items.Item as items
-use Rattle.command_line.specs.declared.asked.Said.{Said}
 use Rattle.command_line.specs.declared.types.Wants.{Wants}
 use Rattle.command_line.specs.declared.settings.Settings.{Settings}
-use Rattle.command_line.specs.Words.{Item, Wanted, is_option, values_of, at_most_one, wanted_with}
+use Rattle.command_line.specs.Words.{Item, Wanted, is_option, values_of, at_most_one, read_items, wanted_by, wanted_with}
 
 -- the bytes of a text that may be there
 abbrev pub bytes_in : Option (Bor (List ℕ)) → Option (List ℕ)
@@ -38,10 +37,9 @@ abbrev pub wanted_behind : Command → Settings → List Item → Option Wanted
 wanted_behind command settings items =
     wanted_after command (bytes_in settings.book) (bytes_in settings.limit) items
 
--- what the words say, as a reader hands it on
-abbrev pub said_as : Said → Wanted
-said_as said =
-    record { command = said.command; book = bytes_in said.book; limit = said.limit }
+-- what a command asks for by the words behind it
+abbrev pub asked : Command → List (List ℕ) → Option Wanted
+asked command words = option_and_then (wanted_by command) (read_items None words)
 
 -- what is answered
 abbrev pub seen : Wants → Wanted

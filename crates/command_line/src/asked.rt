@@ -1,56 +1,54 @@
-ghost use Rattle.std.specs.Prelude.{◌≡◌, ◌↔◌, Some, None, map, IfOk, IfErr, MatchOption};
+ghost use Rattle.std.specs.Prelude.{◌≡◌, ◌↔◌, Some, None, is_some, map, true, IfOk, IfErr, MatchOption};
 ghost use Rattle.std.specs.String.{string_bytes};
-ghost use Rattle.command_line.specs.Words.{command_of, wanted_of};
 ghost use Rattle.command_line.specs.declared.types.WantsError.TheVariants.{Usage};
-ghost use Rattle.command_line.specs.Taken.{bytes_in, said_as, seen};
+ghost use Rattle.command_line.specs.Words.{command_of, wanted_of};
+ghost use Rattle.command_line.specs.Taken.{asked, bytes_in, seen};
 
-use crate::settings::{read_limit, read_settings};
+use crate::parser::parse;
+use crate::settings::{is_asked, read_limit};
 use crate::text::Text;
 use crate::types::{Command, Wants, WantsError};
 use std::alloc::{AllocError, Global};
 
-/// What the words ask for, with the path as it stands among them.
-#[derive(Clone, Copy)]
-pub struct Said<'a> {
-    pub command: Command,
-    pub book: Option<&'a str>,
-    pub limit: u32,
-}
-
-/// What the words of the command line ask for; the program's own name isn't among them.
+/// What the words of the command line ask for; the program's own name isn't among them. `Usage`
+/// comes just where they are outside the grammar, and `NoMemory` only where they are in it.
 pub fn wants(alloc: Global, words: &[String]) -> Result<Wants, WantsError>
-    // An `Ok` is what the words say. `Usage` comes just where they are outside the grammar; where
-    // they are in it, memory may be refused.
     ensures ok { IfOk result (λ wants. wanted_of (map string_bytes words.now) ≡ Some (seen wants)) }
-    ensures err { IfErr result (λ why. (why ≡ Usage) ↔ (wanted_of (map string_bytes words.now) ≡ None)) }
+    ensures err { IfErr result (λ why.
+        (why ≡ Usage) ↔ (wanted_of (map string_bytes words.now) ≡ None)) }
 {
-    let Some(said) = read_words(words) else {
+    let Some((command, rest)) = read_words(words) else {
         return Err(WantsError::Usage);
     };
-    let Ok(book) = copied(alloc, said.book) else {
+    let matches = match parse(alloc, command, rest) {
+        Ok(matches) => matches,
+        Err(why) => return Err(why),
+    };
+    let Some(limit) = read_limit(matches.get_str("limit")) else {
+        return Err(WantsError::Usage);
+    };
+    let Ok(book) = copied(alloc, matches.get_str("book")) else {
         return Err(WantsError::NoMemory);
     };
     Ok(Wants {
-        command: said.command,
+        command,
         book,
-        limit: said.limit,
+        limit,
     })
 }
 
-// What the words say.
-fn read_words<'a>(words: &'a [String]) -> Option<Said<'a>>
+// The command and the words behind it, where all of them are in the grammar.
+fn read_words<'a>(words: &'a [String]) -> Option<(Command, &'a [String])>
     ensures { MatchOption result (wanted_of (map string_bytes words.now) ≡ None)
-        (λ said. wanted_of (map string_bytes words.now) ≡ Some (said_as said)) }
+        (λ found. (wanted_of (map string_bytes words.now) ≡ asked found.0 (map string_bytes found.1.now))
+            × (is_some (asked found.0 (map string_bytes found.1.now)) ≡ true)) }
 {
     let (word, rest) = words.split_first()?;
     let command = read_command(word.as_str())?;
-    let settings = read_settings(command, rest)?;
-    let limit = read_limit(settings.limit)?;
-    Some(Said {
-        command,
-        book: settings.book,
-        limit,
-    })
+    if !is_asked(command, rest) {
+        return None;
+    }
+    Some((command, rest))
 }
 
 // The command that a word names.

@@ -3,6 +3,7 @@
 
 mod asked;
 mod items;
+mod parser;
 mod settings;
 mod text;
 mod types;

@@ -1,29 +1,35 @@
-ghost use Rattle.std.specs.Prelude.{◌≡◌, ◌∷◌, List, MatchOption, None, map, option_map};
-ghost use Rattle.std.specs.Option.{option_and_then};
+ghost use Rattle.std.specs.Prelude.{◌≡◌, ◌∷◌, List, MatchOption, None, is_some, map};
 ghost use Rattle.std.specs.String.{string_bytes};
-ghost use Rattle.command_line.specs.Words.{Item as Given, limit_in, read_items, wanted_by};
-ghost use Rattle.command_line.specs.Words.{wanted_with};
-ghost use Rattle.command_line.specs.Taken.{bytes_in, item_of, wanted_behind};
+ghost use Rattle.command_line.specs.Words.{Item as Given, limit_in, wanted_with};
+ghost use Rattle.command_line.specs.Taken.{asked, bytes_in, item_of, wanted_behind};
 
 use crate::items::{Item, first_item};
 use crate::types::Command;
 use hall_limits::MAX_ROWS;
 use hall_units::read_number;
 
-/// The value that was given to each option, where one was.
+// The value that was given to each option, where one was.
 #[derive(Clone, Copy)]
-pub struct Settings<'a> {
-    pub book: Option<&'a str>,
-    pub limit: Option<&'a str>,
+struct Settings<'a> {
+    book: Option<&'a str>,
+    limit: Option<&'a str>,
 }
 
-/// The values that the items of a command give to its options.
-pub fn read_settings<'a>(command: Command, words: &'a [String]) -> Option<Settings<'a>>
-    ensures { MatchOption result
-        (option_and_then (wanted_by command) (read_items None (map string_bytes words.now)) ≡ None)
-        (λ settings.
-            option_and_then (wanted_by command) (read_items None (map string_bytes words.now))
-                ≡ wanted_with command (bytes_in settings.book) (bytes_in settings.limit)) }
+/// Whether the words behind a command are in its grammar.
+pub fn is_asked(command: Command, words: &[String]) -> bool
+    ensures { result ≡ is_some (asked command (map string_bytes words.now)) }
+{
+    match read_settings(command, words) {
+        Some(settings) => read_limit(settings.limit).is_some(),
+        None => false,
+    }
+}
+
+// The values that the items of a command give to its options.
+fn read_settings<'a>(command: Command, words: &'a [String]) -> Option<Settings<'a>>
+    ensures { MatchOption result (asked command (map string_bytes words.now) ≡ None)
+        (λ settings. asked command (map string_bytes words.now)
+            ≡ wanted_with command (bytes_in settings.book) (bytes_in settings.limit)) }
 {
     let mut settings = Settings {
         book: None,
