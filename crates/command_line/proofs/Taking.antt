@@ -63,7 +63,7 @@ takes_limit book value more wanted left = record {
   limit_said = λ rows book_is limit. says_now rows (codes "limit") value refl limit;
 }
 
--- a command that asks for nothing asks for no wanted thing
+-- an option that has a value takes no other
 never : {X Y : Type 0} (t : Bool) (o : Option X) (y : Y) → (if t then option_and_then (λ x. None) o else None) ≡ Some y → ⊥
 never true None y bad = cc
 never true (Some x) y bad = cc

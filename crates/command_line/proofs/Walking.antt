@@ -45,7 +45,6 @@ module _ (command : Command) (book limit : Option Text) (full value : Text) (mor
     (takes : Takes command book limit full value more wanted) (held : Held)
     (settles : settle_passes (shape_for command).rules (shape_for command).args_override_self held ≡ true)
     (fresh : has_row takes.name (settled (shape_for command).rules held).rows ≡ false) where
-
   behind_attached : (rest : List Text) → Behind (shape_for command) held takes.name value ((full ++ 61 ∷ value) ∷ rest) rest
   behind_attached rest =
       let shape = shape_for command in
@@ -54,9 +53,9 @@ module _ (command : Command) (book limit : Option Text) (full value : Text) (mor
       record {
         next = reacted shape.rules rule (value ∷ []) held;
         on = λ end. walks_on shape (walk_from held) (walk_from (reacted shape.rules rule (value ∷ []) held)) (full ++ 61 ∷ value) rest end
-        (attached_passes shape takes.name value (full ++ 61 ∷ value) held takes.knows takes.attached takes.attached_plain
-        (both settles (use_ok shape takes.name value rows fresh)))
-        (attached_walk shape takes.name value (full ++ 61 ∷ value) held takes.knows takes.attached takes.attached_plain);
+            (attached_passes shape takes.name value (full ++ 61 ∷ value) held takes.knows takes.attached takes.attached_plain
+            (both settles (use_ok shape takes.name value rows fresh)))
+            (attached_walk shape takes.name value (full ++ 61 ∷ value) held takes.knows takes.attached takes.attached_plain);
         settles = refl;
         rows = used_fresh takes.name value rows fresh;
       }
@@ -69,11 +68,11 @@ module _ (command : Command) (book limit : Option Text) (full value : Text) (mor
       record {
         next = given shape takes.name value held;
         on = λ end left. walks_on shape (walk_from held) (waits shape takes.name held) full (value ∷ rest) end
-        (named_passes shape takes.name full held takes.knows takes.named takes.named_plain settles)
-        (named_walk shape takes.name full held takes.knows takes.named takes.named_plain)
-        (walks_on shape (waits shape takes.name held) (walk_from (given shape takes.name value held)) value rest end
-        (value_passes shape takes.name value held takes.knows plain)
-        (value_walk shape takes.name value held takes.knows plain) left);
+            (named_passes shape takes.name full held takes.knows takes.named takes.named_plain settles)
+            (named_walk shape takes.name full held takes.knows takes.named takes.named_plain)
+            (walks_on shape (waits shape takes.name held) (walk_from (given shape takes.name value held)) value rest end
+            (value_passes shape takes.name value held takes.knows plain)
+            (value_walk shape takes.name value held takes.knows plain) left);
         settles = given_settles shape takes.name value held takes.knows fresh;
         rows = given_rows shape takes.name value held takes.knows ∙ used_fresh takes.name value rows fresh;
       }

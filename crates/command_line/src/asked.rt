@@ -41,7 +41,7 @@ pub fn wants(alloc: Global, words: &[String]) -> Result<Wants, WantsError>
 fn read_words<'a>(words: &'a [String]) -> Option<(Command, &'a [String])>
     ensures { MatchOption result (wanted_of (map string_bytes words.now) ≡ None)
         (λ found. (wanted_of (map string_bytes words.now) ≡ asked found.0 (map string_bytes found.1.now))
-            × (is_some (asked found.0 (map string_bytes found.1.now)) ≡ true)) }
+        × (is_some (asked found.0 (map string_bytes found.1.now)) ≡ true)) }
 {
     let (word, rest) = words.split_first()?;
     let command = read_command(word.as_str())?;

@@ -14,8 +14,8 @@ pub struct Item<'a> {
 pub fn first_item<'a>(word: &'a str, words: &'a [String]) -> Option<(Item<'a>, &'a [String])>
     ensures found { MatchOption result (read_items None (word.now ∷ map string_bytes words.now) ≡ None)
         (λ found. read_items None (word.now ∷ map string_bytes words.now)
-            ≡ with_item found.0.name.now found.0.value.now
-                (read_items None (map string_bytes found.1.now))) }
+        ≡ with_item found.0.name.now found.0.value.now
+        (read_items None (map string_bytes found.1.now))) }
     ensures fewer { IfSome result (λ found. length found.1.now ≤ length words.now) }
 {
     let Some((name, value)) = word.split_once('=') else {
@@ -32,8 +32,8 @@ pub fn first_item<'a>(word: &'a str, words: &'a [String]) -> Option<(Item<'a>, &
 fn next_value<'a>(name: &'a str, words: &'a [String]) -> Option<(Item<'a>, &'a [String])>
     ensures found { MatchOption result (read_items (Some name.now) (map string_bytes words.now) ≡ None)
         (λ found. read_items (Some name.now) (map string_bytes words.now)
-            ≡ with_item found.0.name.now found.0.value.now
-                (read_items None (map string_bytes found.1.now))) }
+        ≡ with_item found.0.name.now found.0.value.now
+        (read_items None (map string_bytes found.1.now))) }
     ensures fewer { IfSome result (λ found. length found.1.now ≤ length words.now) }
 {
     let (word, rest) = words.split_first()?;

@@ -5,6 +5,8 @@ mod asked;
 mod items;
 mod parser;
 mod settings;
+#[cfg(test)]
+mod tests;
 mod text;
 mod types;
 

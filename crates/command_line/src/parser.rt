@@ -20,9 +20,9 @@ pub fn parse<'a>(
 ) -> Result<ArgMatches<'a>, WantsError>
     ensures { (wanted : Wanted) → asked command (map string_bytes words.now) ≡ Some wanted
         → MatchResult result
-            (λ matches. wanted_with command (first_value (found_of matches) (codes "book"))
-                (first_value (found_of matches) (codes "limit")) ≡ Some wanted)
-            (λ why. why ≡ NoMemory) }
+        (λ matches. wanted_with command (first_value (found_of matches) (codes "book"))
+        (first_value (found_of matches) (codes "limit")) ≡ Some wanted)
+        (λ why. why ≡ NoMemory) }
 {
     let Ok(options) = options(alloc, command) else {
         return Err(WantsError::NoMemory);
@@ -44,7 +44,9 @@ fn options<'a>(alloc: Global, command: Command) -> Result<clap::Command<'a>, All
         .arg(book)?;
     match command {
         Command::Run => {
-            let limit = Arg::new(alloc, "limit").long("limit").action(ArgAction::Set);
+            let limit = Arg::new(alloc, "limit")
+                .long("limit")
+                .action(ArgAction::Set);
             Ok(options.arg(limit)?)
         }
         Command::Check | Command::Migrate => Ok(options),

@@ -29,7 +29,7 @@ pub fn is_asked(command: Command, words: &[String]) -> bool
 fn read_settings<'a>(command: Command, words: &'a [String]) -> Option<Settings<'a>>
     ensures { MatchOption result (asked command (map string_bytes words.now) ≡ None)
         (λ settings. asked command (map string_bytes words.now)
-            ≡ wanted_with command (bytes_in settings.book) (bytes_in settings.limit)) }
+        ≡ wanted_with command (bytes_in settings.book) (bytes_in settings.limit)) }
 {
     let mut settings = Settings {
         book: None,
@@ -49,7 +49,7 @@ fn with_item<'a>(command: Command, settings: Settings<'a>, item: Item<'a>) -> Op
     ensures { (items : List Given) → MatchOption result
         (wanted_behind command settings.entry (item_of item.entry ∷ items) ≡ None)
         (λ more. wanted_behind command settings.entry (item_of item.entry ∷ items)
-            ≡ wanted_behind command more items) }
+        ≡ wanted_behind command more items) }
 {
     if item.name == "--book" && settings.book.is_none() {
         return Some(Settings {

@@ -1,4 +1,5 @@
 use crate::text::Text;
+use std::fmt;
 
 /// What the program is to do.
 #[derive(Clone, Copy, Debug, PartialEq, Eq)]
@@ -28,4 +29,13 @@ pub enum WantsError {
     Usage,
     /// There was no memory for the path.
     NoMemory,
+}
+
+impl fmt::Display for WantsError {
+    fn fmt<W: fmt::Write>(&self, f: &mut fmt::Formatter<W>) -> fmt::Result {
+        match self {
+            WantsError::Usage => write!(f, "these words are no command of hall"),
+            WantsError::NoMemory => write!(f, "no memory for the words"),
+        }
+    }
 }

@@ -9,7 +9,7 @@ use Rattle.command_line.proofs.settings.read_settings.Given as goal
 abbrev pub invariant-loop-word : goal.invariant-loop-word
 invariant-loop-word l =
     option_and_then (wanted_behind l.command l.settings) (read_items None (map string_bytes l.rest))
-        ≡ option_and_then (wanted_by l.command) (read_items None (map string_bytes l.words))
+    ≡ option_and_then (wanted_by l.command) (read_items None (map string_bytes l.words))
 
 abbrev pub decreases-loop-word : goal.decreases-loop-word
 decreases-loop-word l = length l.rest
