@@ -12,8 +12,10 @@ rule_for name = record (new_rule name) { long = Some name; action = Some Set }
 
 -- `--book`, and no other option, nor a program's name among the words
 abbrev pub book_app : App
-book_app = with_rule (on_top (λ shape. record shape { no_binary_name = true; disable_help_flag = true })
-    (new_app (codes "hall"))) (rule_for (codes "book"))
+book_app = with_rule
+    (on_top (λ shape. record shape { no_binary_name = true; disable_help_flag = true })
+    (new_app (codes "hall")))
+    (rule_for (codes "book"))
 
 abbrev pub app_for : Command → App
 app_for Run = with_rule book_app (rule_for (codes "limit"))

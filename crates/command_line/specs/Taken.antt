@@ -7,7 +7,8 @@ use Rattle.command_line.specs.declared.types.Command.{Command}
 use Rattle.command_line.specs.declared.items.Item as items
 use Rattle.command_line.specs.declared.types.Wants.{Wants}
 use Rattle.command_line.specs.declared.settings.Settings.{Settings}
-use Rattle.command_line.specs.Words.{Item, Wanted, is_option, values_of, at_most_one, read_items, wanted_by, wanted_with}
+use Rattle.command_line.specs.Words.{Item, Wanted, is_option, values_of, at_most_one}
+use Rattle.command_line.specs.Words.{read_items, wanted_by, wanted_with}
 
 -- the bytes of a text that may be there
 abbrev pub bytes_in : Option (Bor (List ℕ)) → Option (List ℕ)

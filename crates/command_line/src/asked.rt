@@ -1,7 +1,7 @@
-ghost use Rattle.std.specs.Prelude.{◌≡◌, ◌↔◌, Some, None, is_some, map, true, IfOk, IfErr, MatchOption};
-ghost use Rattle.std.specs.String.{string_bytes};
+ghost use Rattle.std.specs.Prelude.{◌≡◌, ◌↔◌, Some, None, is_some, true};
+ghost use Rattle.std.specs.Prelude.{IfOk, IfErr, MatchOption};
 ghost use Rattle.command_line.specs.declared.types.WantsError.TheVariants.{Usage};
-ghost use Rattle.command_line.specs.Words.{command_of, wanted_of};
+ghost use Rattle.command_line.specs.Words.{bytes_of, command_of, wanted_of};
 ghost use Rattle.command_line.specs.Taken.{asked, bytes_in, seen};
 
 use crate::parser::parse;
@@ -13,9 +13,9 @@ use std::alloc::{AllocError, Global};
 /// What the words of the command line ask for; the program's own name isn't among them. `Usage`
 /// comes just where they are outside the grammar, and `NoMemory` only where they are in it.
 pub fn wants(alloc: Global, words: &[String]) -> Result<Wants, WantsError>
-    ensures ok { IfOk result (λ wants. wanted_of (map string_bytes words.now) ≡ Some (seen wants)) }
+    ensures ok { IfOk result (λ wants. wanted_of (bytes_of words.now) ≡ Some (seen wants)) }
     ensures err { IfErr result (λ why.
-        (why ≡ Usage) ↔ (wanted_of (map string_bytes words.now) ≡ None)) }
+        (why ≡ Usage) ↔ (wanted_of (bytes_of words.now) ≡ None)) }
 {
     let Some((command, rest)) = read_words(words) else {
         return Err(WantsError::Usage);
@@ -39,9 +39,9 @@ pub fn wants(alloc: Global, words: &[String]) -> Result<Wants, WantsError>
 
 // The command and the words behind it, where all of them are in the grammar.
 fn read_words<'a>(words: &'a [String]) -> Option<(Command, &'a [String])>
-    ensures { MatchOption result (wanted_of (map string_bytes words.now) ≡ None)
-        (λ found. (wanted_of (map string_bytes words.now) ≡ asked found.0 (map string_bytes found.1.now))
-        × (is_some (asked found.0 (map string_bytes found.1.now)) ≡ true)) }
+    ensures { MatchOption result (wanted_of (bytes_of words.now) ≡ None)
+        (λ found. (wanted_of (bytes_of words.now) ≡ asked found.0 (bytes_of found.1.now))
+        × (is_some (asked found.0 (bytes_of found.1.now)) ≡ true)) }
 {
     let (word, rest) = words.split_first()?;
     let command = read_command(word.as_str())?;

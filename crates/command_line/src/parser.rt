@@ -1,10 +1,9 @@
-ghost use Rattle.std.specs.Prelude.{◌≡◌, Some, codes, map, IfOk, MatchResult};
-ghost use Rattle.std.specs.String.{string_bytes};
+ghost use Rattle.std.specs.Prelude.{◌≡◌, Some, codes, IfOk, MatchResult};
 ghost use Rattle.clap.specs.Words.{app_of, first_value, found_of, kind_of};
 ghost use Rattle.command_line.specs.declared.types.WantsError.TheVariants.{NoMemory};
 ghost use Rattle.command_line.specs.Options.{app_for};
 ghost use Rattle.command_line.specs.Taken.{asked};
-ghost use Rattle.command_line.specs.Words.{Wanted, wanted_with};
+ghost use Rattle.command_line.specs.Words.{bytes_of, Wanted, wanted_with};
 
 use crate::types::{Command, WantsError};
 use clap::error::ErrorKind;
@@ -18,7 +17,7 @@ pub fn parse<'a>(
     command: Command,
     words: &'a [String],
 ) -> Result<ArgMatches<'a>, WantsError>
-    ensures { (wanted : Wanted) → asked command (map string_bytes words.now) ≡ Some wanted
+    ensures { (wanted : Wanted) → asked command (bytes_of words.now) ≡ Some wanted
         → MatchResult result
         (λ matches. wanted_with command (first_value (found_of matches) (codes "book"))
         (first_value (found_of matches) (codes "limit")) ≡ Some wanted)

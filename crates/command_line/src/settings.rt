@@ -1,6 +1,5 @@
-ghost use Rattle.std.specs.Prelude.{◌≡◌, ◌∷◌, List, MatchOption, None, is_some, map};
-ghost use Rattle.std.specs.String.{string_bytes};
-ghost use Rattle.command_line.specs.Words.{Item as Given, limit_in, wanted_with};
+ghost use Rattle.std.specs.Prelude.{◌≡◌, ◌∷◌, List, MatchOption, None, is_some};
+ghost use Rattle.command_line.specs.Words.{bytes_of, Item as Given, limit_in, wanted_with};
 ghost use Rattle.command_line.specs.Taken.{asked, bytes_in, item_of, wanted_behind};
 
 use crate::items::{Item, first_item};
@@ -17,7 +16,7 @@ struct Settings<'a> {
 
 /// Whether the words behind a command are in its grammar.
 pub fn is_asked(command: Command, words: &[String]) -> bool
-    ensures { result ≡ is_some (asked command (map string_bytes words.now)) }
+    ensures { result ≡ is_some (asked command (bytes_of words.now)) }
 {
     match read_settings(command, words) {
         Some(settings) => read_limit(settings.limit).is_some(),
@@ -27,8 +26,8 @@ pub fn is_asked(command: Command, words: &[String]) -> bool
 
 // The values that the items of a command give to its options.
 fn read_settings<'a>(command: Command, words: &'a [String]) -> Option<Settings<'a>>
-    ensures { MatchOption result (asked command (map string_bytes words.now) ≡ None)
-        (λ settings. asked command (map string_bytes words.now)
+    ensures { MatchOption result (asked command (bytes_of words.now) ≡ None)
+        (λ settings. asked command (bytes_of words.now)
         ≡ wanted_with command (bytes_in settings.book) (bytes_in settings.limit)) }
 {
     let mut settings = Settings {
