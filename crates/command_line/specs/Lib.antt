@@ -1,0 +1,3 @@
+pub mod Words
+pub mod Taken
+pub mod Options

@@ -1,0 +1,15 @@
+//! The words of the command line: what they ask for.
+#![tactic(auto)]
+
+mod asked;
+mod items;
+mod parser;
+mod settings;
+#[cfg(test)]
+mod tests;
+mod text;
+mod types;
+
+pub use asked::wants;
+pub use text::Text;
+pub use types::{Command, Wants, WantsError};

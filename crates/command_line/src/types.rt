@@ -1,0 +1,41 @@
+use crate::text::Text;
+use std::fmt;
+
+/// What the program is to do.
+#[derive(Clone, Copy, Debug, PartialEq, Eq)]
+pub enum Command {
+    /// Reads a script: `run [--book PATH] [--limit N]`
+    Run,
+    /// Looks a book through: `check [--book PATH]`
+    Check,
+    /// Writes a book anew in the newest form: `migrate [--book PATH]`
+    Migrate,
+}
+
+/// What the words of the command line ask for.
+#[derive(Drop)]
+pub struct Wants {
+    pub command: Command,
+    /// The path of the book; without one the book is kept in memory.
+    pub book: Option<Text>,
+    /// The most rows of the book.
+    pub limit: u32,
+}
+
+/// Why the words give nothing.
+#[derive(Clone, Copy, Debug, PartialEq, Eq)]
+pub enum WantsError {
+    /// They are outside the grammar.
+    Usage,
+    /// There was no memory for the path.
+    NoMemory,
+}
+
+impl fmt::Display for WantsError {
+    fn fmt<W: fmt::Write>(&self, f: &mut fmt::Formatter<W>) -> fmt::Result {
+        match self {
+            WantsError::Usage => write!(f, "these words are no command of hall"),
+            WantsError::NoMemory => write!(f, "no memory for the words"),
+        }
+    }
+}
