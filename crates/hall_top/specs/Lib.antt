@@ -8,4 +8,5 @@ pub mod Runs
 pub mod Streams
 pub mod Texts
 pub mod Transcript
+pub mod Unanswered
 pub mod Words

@@ -1,7 +1,8 @@
 use crate::stop::Stop;
-use book_core::Rows;
+use crate::writing::{keep_snapshot, write_answer, write_bad_line, write_summary};
+use batch_reports::TEXT_ROOM;
 use book_store::Store;
-use disk_core::{Disk, NoMemory, Sink};
+use disk_core::{Disk, Sink};
 use script_lines::Line;
 use std::alloc::Global;
 
@@ -37,8 +38,15 @@ impl<D: Disk> Session<D> {
         ensures ready { IfOk result (IsReady D.Disk) }
         ensures back { IfErr result (λ back. back ≡ store) }
     {
-        unsafe { stub() };
-        unreachable!()
+        let opened = store.len();
+        match Vec::with_capacity(alloc, TEXT_ROOM) {
+            Ok(text) => Ok(Session {
+                store,
+                opened,
+                text,
+            }),
+            Err(_) => Err(store),
+        }
     }
 
     /// The store.
@@ -67,8 +75,14 @@ impl<D: Disk> Session<D> {
         ensures opened { opened_at self.new ≡ opened_at self.old }
         ensures ready { IsReady D.Disk self.new }
     {
-        unsafe { stub() };
-        unreachable!()
+        match line {
+            Line::Nothing => Ok(()),
+            Line::Asks(command) => {
+                write_answer(&mut self.store, command, &mut self.text, number, output)?;
+                Ok(())
+            }
+            Line::Bad => Err(write_bad_line(number, &mut self.text, output)),
+        }
     }
 
     /// Says that the line of a number is bad, and so ends the run.
@@ -80,8 +94,7 @@ impl<D: Disk> Session<D> {
         ensures store { store_in self.new ≡ store_in self.old }
         ensures ready { IsReady D.Disk self.new }
     {
-        unsafe { stub() };
-        unreachable!()
+        write_bad_line(number, &mut self.text, output)
     }
 
     /// Ends a run whose script was read and answered to its end: where rows were added, a snapshot of
@@ -97,12 +110,8 @@ impl<D: Disk> Session<D> {
         ensures goes { Goes D.Disk result (store_in self.old) (store_in self.new) }
         ensures ready { IsReady D.Disk self.new }
     {
-        unsafe { stub() };
-        unreachable!()
+        keep_snapshot(&mut self.store, self.opened, output)?;
+        write_summary(self.store.book(), &mut self.text, output)?;
+        Ok(())
     }
-}
-
-unsafe extern "C" {
-    fn stub()
-        ensures { ⊥ };
 }
