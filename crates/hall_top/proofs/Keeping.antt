@@ -1,23 +1,28 @@
 -- What a step of a run keeps of its book, whatever a crash makes of the disk.
-use Rattle.std.proofs.Common.{◌≡◌, ◌⊎◌, inl, inr, ⊎_elim, ℕ, ◌≤◌, List, [], ◌∷◌, ◌++◌, length, take, Option, Some, None, IsSome, Result, Ok, Err, OnOk, refl, sym, ap, ◌∙◌, subst, arith, append_assoc, append-nil, length-append}
+use Rattle.std.proofs.Common.{◌≡◌, ◌⊎◌, ◌≤◌, Bool, inl, inr, ⊎_elim, ℕ, List, [], ◌∷◌, ◌++◌, length, take, Option, Some, None, IsSome, Result, Ok, Err, OnOk, refl, sym, ap, ◌∙◌, subst, arith, append_assoc, append-nil, length-append}
 use Rattle.std.proofs.Math.Seq.{take-append_seam}
 use Rattle.std.proofs.lemmas.List.{take-append-le}
+use Rattle.device_facts.specs.Count.{Counted, Rose}
 use Rattle.device_facts.specs.Prefix.{IsPrefixOf}
 use Rattle.disk_core.specs.Devices.{LeavesOnly}
 use Rattle.disk_core.specs.declared.disk.Disk as disk
 use Rattle.book_words.specs.declared.act.Entry.{Entry}
 use Rattle.book_words.specs.declared.caller.AskError.{AskError}
+use Rattle.book_words.specs.declared.caller.AskError.TheVariants as error
 use Rattle.book_words.specs.declared.reply.Answered.{Answered}
 use Rattle.book_words.specs.Answers.{IsLawful, IsLegal}
 use Rattle.book_core.specs.View.{BookView}
 use Rattle.book_journal.specs.Mounting.{KeepsFromSync}
 use Rattle.book_store.specs.declared.store.Store.{Store}
+use Rattle.book_store.specs.declared.types.RestError.{RestError}
+use Rattle.book_store.specs.declared.types.RestError.TheVariants as rest
 use Rattle.book_store.specs.Images.{HoldsBook}
-use Rattle.book_store.specs.Stores.{disk_of, book_of, entries_of, limit_of, Hangs, HasBook, HangsWith, HoldsOrHangs, KeepsBook, IsSound}
-use Rattle.book_store.specs.Offers.{Offers, OffersEntry, LeavesDisk, list_behind}
+use Rattle.book_store.specs.Stores.{disk_of, book_of, entries_of, limit_of, Hangs, HasBook, HangsWith, HoldsOrHangs, ImagesHoldBook, KeepsBook, IsSound}
+use Rattle.book_store.specs.Offers.{Offers, OffersEntry, LeavesDisk, CountsDiskFault, list_behind}
+use Rattle.book_store.specs.Resting.{CountsRestFault}
 use Rattle.hall_top.specs.declared.stop.Stop.{Stop}
 use Rattle.hall_top.specs.declared.stop.Stop.TheVariants.{Finished, BadLine, ReadFault, WriteFault, DiskFault, NoMemory, Spent}
-use Rattle.hall_top.specs.Kept.{HoldsOrOffered, CrashLeaves, HasKept, CountsStop, Goes}
+use Rattle.hall_top.specs.Kept.{HoldsOrOffered, CrashLeaves, HangsAtFault, HasKept, CountsStop, Goes}
 use Rattle.hall_top.specs.Streams.{Stream}
 use Rattle.hall_top.specs.Reached.{SaysDiskFault, SaysNoMemory}
 
@@ -27,7 +32,7 @@ begins_on : (a b c : List Entry) → IsPrefixOf a b → IsPrefixOf b c → IsPre
 begins_on a b c first second =
     (first.0 ++ second.0, second.1 ∙ ap (λ (xs : List Entry). xs ++ second.0) first.1 ∙ append_assoc a first.0 second.0)
 
-same_begins : (a b : List Entry) → b ≡ a → IsPrefixOf a b
+pub same_begins : (a b : List Entry) → b ≡ a → IsPrefixOf a b
 same_begins a b same = ([], same ∙ sym (append-nil a))
 
 begins_short : (a b : List Entry) → IsPrefixOf a b → length a ≤ length b
@@ -54,7 +59,7 @@ leaves_of_more held rows next c begins left =
     }
 
 -- the rows that a list begins with are among what it may leave
-leaves_front : (held rows next : List Entry) (c : List ℕ) → IsPrefixOf held rows → IsPrefixOf rows next → HoldsOrOffered rows c → CrashLeaves held next c
+pub leaves_front : (held rows next : List Entry) (c : List ℕ) → IsPrefixOf held rows → IsPrefixOf rows next → HoldsOrOffered rows c → CrashLeaves held next c
 leaves_front held rows next c opened begins holds =
     record {
       count = length rows;
@@ -65,6 +70,18 @@ leaves_front held rows next c opened begins holds =
     }
 
 module _ {D : Type 0} (g : disk.Ghosts D) where
+  -- moments since a sync may be said of more
+  pub keeps_in : (start now : D) (P R : List ℕ → Type 0) → ((c : List ℕ) → P c → R c) → KeepsFromSync g start now P → KeepsFromSync g start now R
+  keeps_in start now P R more kept =
+      record {
+        synced = kept.synced;
+        after = kept.after;
+        before = kept.before;
+        each = λ c was. more c (kept.each c was);
+        handed_in = λ c was. ⊎_elim (λ is. inl is) (λ is. inr (more c is)) (kept.handed_in c was);
+        earlier = λ t c le was. ⊎_elim (λ is. inl is) (λ is. inr (more c is)) (kept.earlier t c le was);
+      }
+
   -- a call more, after a sync
   synced_on : (start old new : D) (P Q R : List ℕ → Type 0) → ((c : List ℕ) → P c → R c) → ((c : List ℕ) → Q c → R c)
       → KeepsFromSync g start old P → LeavesOnly g old new Q → KeepsFromSync g start new R
@@ -83,15 +100,46 @@ module _ {D : Type 0} (g : disk.Ghosts D) where
       }
 
   -- what hangs with a book, or stands behind it, was offered
-  hung_offered : (held : List Entry) (start : D) (store : Store D) (c : List ℕ) → HasKept g held start store → HoldsOrHangs g store c → HoldsOrOffered (entries_of store) c
+  pub hung_offered : (held : List Entry) (start : D) (store : Store D) (c : List ℕ) → HasKept g held start store → HoldsOrHangs g store c → HoldsOrOffered (entries_of store) c
   hung_offered held start store c kept (inl holds) = inl holds
   hung_offered held start store c kept (inr hangs) = inr (hangs.0, kept.hung hangs.0 hangs.1, hangs.2)
+
+  -- ---- what hangs
+
+  rose_on : (start old new : ℕ) → Counted old new 1 → (old ≡ start) ⊎ Rose start old → Rose start new
+  rose_on start old new more (inl same) = omega arith
+  rose_on start old new more (inr rose) = omega arith
+
+  -- a call at which the disk failed
+  fault_now : (start : D) (old new : Store D) → Counted (g.faults (disk_of old)) (g.faults (disk_of new)) 1 → HangsAtFault g start old → HangsAtFault g start new
+  fault_now start old new more fault =
+      inr (rose_on (g.faults start) (g.faults (disk_of old)) (g.faults (disk_of new)) more (⊎_elim (λ calm. inl calm.1) (λ rose. inr rose) fault))
+
+  -- a call at which it didn't
+  fault_before : (start : D) (old new : Store D) → (Hangs new → Hangs old) → g.faults (disk_of new) ≡ g.faults (disk_of old) → HangsAtFault g start old → HangsAtFault g start new
+  fault_before start old new hangs same (inl calm) = inl ((λ hung. calm.0 (hangs hung)), same ∙ calm.1)
+  fault_before start old new hangs same (inr rose) = inr (subst (Rose (g.faults start)) (sym same) rose)
+
+  fault_asked : (start : D) (old new : Store D) (result : Result Answered AskError) → (Hangs new → (result ≡ Err error.DiskFault) ⊎ Hangs old) → CountsDiskFault (g.faults (disk_of old)) (g.faults (disk_of new)) result
+      → HangsAtFault g start old → HangsAtFault g start new
+  fault_asked start old new (Err error.DiskFault) hangs cause fault = fault_now start old new cause fault
+  fault_asked start old new (Ok answered) hangs cause fault = fault_before start old new (λ hung. ⊎_elim (λ is. absurd (cc)) (λ was. was) (hangs hung)) cause fault
+  fault_asked start old new (Err error.NoMemory) hangs cause fault = fault_before start old new (λ hung. ⊎_elim (λ is. absurd (cc)) (λ was. was) (hangs hung)) cause fault
+  fault_asked start old new (Err (error.Refused refused)) hangs cause fault = fault_before start old new (λ hung. ⊎_elim (λ is. absurd (cc)) (λ was. was) (hangs hung)) cause fault
+
+  fault_rested : (start : D) (old new : Store D) (result : Result Bool RestError) → (Hangs new → Hangs old) → CountsRestFault (g.faults (disk_of old)) (g.faults (disk_of new)) result
+      → HangsAtFault g start old → HangsAtFault g start new
+  fault_rested start old new (Err rest.DiskFault) hangs cause fault = fault_now start old new cause fault
+  fault_rested start old new (Err rest.NoMemory) hangs cause fault = fault_before start old new hangs cause fault
+  fault_rested start old new (Ok kept) hangs cause fault = fault_before start old new hangs cause fault
+
+  -- ---- calls
 
   -- a call over which a crash leaves the rows, or one more that was offered
   kept_on : (held : List Entry) (start : D) (old new : Store D) (Q : List ℕ → Type 0) → HasKept g held start old → HasBook g new → IsPrefixOf (entries_of old) (entries_of new)
       → ((entry : Entry) → HangsWith g new entry → IsLawful (entries_of new) entry) → ((c : List ℕ) → Q c → HoldsOrOffered (entries_of old) c)
-      → LeavesOnly g (disk_of old) (disk_of new) Q → HasKept g held start new
-  kept_on held start old new Q kept has begins hung offered leaves =
+      → LeavesOnly g (disk_of old) (disk_of new) Q → ImagesHoldBook g new → HangsAtFault g start new → HasKept g held start new
+  kept_on held start old new Q kept has begins hung offered leaves images fault =
       record {
         has = has;
         begins = begins_on held (entries_of old) (entries_of new) kept.begins begins;
@@ -100,47 +148,51 @@ module _ {D : Type 0} (g : disk.Ghosts D) where
             (λ c is. leaves_of_more held (entries_of old) (entries_of new) c begins is)
             (λ c is. leaves_front held (entries_of old) (entries_of new) c kept.begins begins (offered c is))
             kept.moments leaves;
+        images = images has;
+        fault = fault;
       }
 
   -- a call that leaves disk and list as they were
-  kept_still : (held : List Entry) (start : D) (old new : Store D) → entries_of new ≡ entries_of old → LeavesDisk g old new → HasKept g held start old → HasKept g held start new
-  kept_still held start old new same leaves kept =
+  kept_still : (held : List Entry) (start : D) (old new : Store D) → entries_of new ≡ entries_of old → LeavesDisk g old new → ImagesHoldBook g new → HangsAtFault g start new → HasKept g held start old → HasKept g held start new
+  kept_still held start old new same leaves images fault kept =
       record {
         has = leaves.has kept.has;
         begins = begins_on held (entries_of old) (entries_of new) kept.begins (same_begins (entries_of old) (entries_of new) same);
         hung = λ entry hangs. subst (λ (es : List Entry). IsLawful es entry) (sym same) (kept.hung entry (leaves.hung entry hangs));
         moments = subst (λ (d : D). KeepsFromSync g start d (CrashLeaves held (entries_of new))) (sym leaves.same)
             (subst (λ (es : List Entry). KeepsFromSync g start (disk_of old) (CrashLeaves held es)) (sym same) kept.moments);
+        images = images (leaves.has kept.has);
+        fault = fault;
       }
 
   -- a call that offered an entry: it hangs only where it wasn't added
   kept_offer : (held : List Entry) (start : D) (entry : Entry) (old new : Store D) → HasKept g held start old → OffersEntry g entry old new → IsPrefixOf (entries_of old) (entries_of new)
-      → (Hangs new → entries_of new ≡ entries_of old) → HasKept g held start new
-  kept_offer held start entry old new kept offer begins unless =
+      → (Hangs new → entries_of new ≡ entries_of old) → ImagesHoldBook g new → HangsAtFault g start new → HasKept g held start new
+  kept_offer held start entry old new kept offer begins unless images fault =
       kept_on held start old new (λ c. HoldsOrHangs g old c ⊎ HoldsBook (entries_of old ++ entry ∷ []) c) kept offer.has begins
       (λ hung hangs. subst (λ (es : List Entry). IsLawful es hung) (sym (unless hangs.row.hangs))
       (⊎_elim (λ is. subst (IsLawful (entries_of old)) (sym is) offer.lawful) (λ is. kept.hung hung is) (offer.hung hung hangs)))
       (λ c is. ⊎_elim (λ was. hung_offered held start old c kept was) (λ stands. inr (entry, offer.lawful, stands)) is)
-      offer.moments
+      offer.moments images fault
 
   -- an ask, by what it offers
   kept_asked : (held : List Entry) (start : D) (old new : Store D) (result : Result Answered AskError) (offered : Option Entry) → entries_of new ≡ list_behind result (entries_of old) offered → Offers g offered old new
-      → (IsSome offered → OnOk result (¬ Hangs new)) → HasKept g held start old → HasKept g held start new
-  kept_asked held start old new (Ok answered) None is offers settled kept = kept_still held start old new is offers kept
-  kept_asked held start old new (Err why) None is offers settled kept = kept_still held start old new is offers kept
-  kept_asked held start old new (Ok answered) (Some entry) is offers settled kept =
-      kept_offer held start entry old new kept (offers kept.has) (entry ∷ [], is) (λ hangs. absurd (settled refl hangs))
-  kept_asked held start old new (Err why) (Some entry) is offers settled kept =
-      kept_offer held start entry old new kept (offers kept.has) (same_begins (entries_of old) (entries_of new) is) (λ hangs. is)
+      → (IsSome offered → OnOk result (¬ Hangs new)) → ImagesHoldBook g new → HangsAtFault g start new → HasKept g held start old → HasKept g held start new
+  kept_asked held start old new (Ok answered) None is offers settled images fault kept = kept_still held start old new is offers images fault kept
+  kept_asked held start old new (Err why) None is offers settled images fault kept = kept_still held start old new is offers images fault kept
+  kept_asked held start old new (Ok answered) (Some entry) is offers settled images fault kept =
+      kept_offer held start entry old new kept (offers kept.has) (entry ∷ [], is) (λ hangs. absurd (settled refl hangs)) images fault
+  kept_asked held start old new (Err why) (Some entry) is offers settled images fault kept =
+      kept_offer held start entry old new kept (offers kept.has) (same_begins (entries_of old) (entries_of new) is) (λ hangs. is) images fault
 
   -- a snapshot
-  kept_rested : (held : List Entry) (start : D) (old new : Store D) → entries_of new ≡ entries_of old → (HasBook g old → KeepsBook g old new) → HasKept g held start old → HasKept g held start new
-  kept_rested held start old new same keeps kept =
+  kept_rested : (held : List Entry) (start : D) (old new : Store D) → entries_of new ≡ entries_of old → (HasBook g old → KeepsBook g old new) → ImagesHoldBook g new → HangsAtFault g start new → HasKept g held start old → HasKept g held start new
+  kept_rested held start old new same keeps images fault kept =
       let rested = keeps kept.has in
       kept_on held start old new (HoldsOrHangs g old) kept rested.has (same_begins (entries_of old) (entries_of new) same)
       (λ hung hangs. subst (λ (es : List Entry). IsLawful es hung) (sym same) (kept.hung hung (rested.hung hung hangs)))
       (λ c is. hung_offered held start old c kept is)
-      rested.moments
+      rested.moments images fault
 
   -- ---- steps of a run
 
@@ -151,29 +203,31 @@ module _ {D : Type 0} (g : disk.Ghosts D) where
 
   -- an ask
   pub goes_asked : {T : Type 0} (old new : Store D) (result : Result Answered AskError) (given : Result T Stop) (offered : Option Entry) → entries_of new ≡ list_behind result (entries_of old) offered
-      → Offers g offered old new → (IsSome offered → OnOk result (¬ Hangs new)) → IsSound g new → IsLegal (entries_of new) → limit_of new ≡ limit_of old
+      → Offers g offered old new → (IsSome offered → OnOk result (¬ Hangs new)) → ImagesHoldBook g new → (Hangs new → (result ≡ Err error.DiskFault) ⊎ Hangs old)
+      → CountsDiskFault (g.faults (disk_of old)) (g.faults (disk_of new)) result → IsSound g new → IsLegal (entries_of new) → limit_of new ≡ limit_of old
       → CountsStop (g.faults (disk_of old)) (g.faults (disk_of new)) given → Goes g given old new
-  goes_asked old new result given offered is offers settled sound legal limit cause =
+  goes_asked old new result given offered is offers settled images hangs counts sound legal limit cause =
       record {
         sound = sound;
         legal = legal;
         limit = limit;
         begins = asked_begins result (entries_of old) (entries_of new) offered is;
-        kept = λ held start kept. kept_asked held start old new result offered is offers settled kept;
+        kept = λ held start kept. kept_asked held start old new result offered is offers settled images (fault_asked start old new result hangs counts kept.fault) kept;
         cause = cause;
       }
 
   -- a snapshot
-  pub goes_rested : {T : Type 0} (old new : Store D) (given : Result T Stop) → book_of new ≡ book_of old → (HasBook g old → KeepsBook g old new) → IsSound g new → IsLegal (entries_of old)
+  pub goes_rested : {T : Type 0} (old new : Store D) (result : Result Bool RestError) (given : Result T Stop) → book_of new ≡ book_of old → (HasBook g old → KeepsBook g old new) → ImagesHoldBook g new → (Hangs new → Hangs old)
+      → CountsRestFault (g.faults (disk_of old)) (g.faults (disk_of new)) result → IsSound g new → IsLegal (entries_of old)
       → CountsStop (g.faults (disk_of old)) (g.faults (disk_of new)) given → Goes g given old new
-  goes_rested old new given same keeps sound legal cause =
+  goes_rested old new result given same keeps images hangs counts sound legal cause =
       let entries : entries_of new ≡ entries_of old = ap (λ (b : BookView). b.entries) same in
       record {
         sound = sound;
         legal = subst IsLegal (sym entries) legal;
         limit = ap (λ (b : BookView). b.limit) same;
         begins = same_begins (entries_of old) (entries_of new) entries;
-        kept = λ held start kept. kept_rested held start old new entries keeps kept;
+        kept = λ held start kept. kept_rested held start old new entries keeps images (fault_rested start old new result hangs counts kept.fault) kept;
         cause = cause;
       }
 

@@ -3,6 +3,7 @@ pub mod RepeatLemmas
 pub mod Acknowledged
 pub mod Answering
 pub mod Keeping
+pub mod Held
 pub mod Stopping
 pub mod Summaries
 pub mod Stepping
