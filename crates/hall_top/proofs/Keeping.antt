@@ -1,9 +1,10 @@
 -- What a step of a run keeps of its book, whatever a crash makes of the disk.
-use Rattle.std.proofs.Common.{◌≡◌, ◌⊎◌, ◌≤◌, Bool, inl, inr, ⊎_elim, ℕ, List, [], ◌∷◌, ◌++◌, length, take, Option, Some, None, IsSome, Result, Ok, Err, OnOk, refl, sym, ap, ◌∙◌, subst, arith, append_assoc, append-nil, length-append}
+use Rattle.std.proofs.Common.{◌≡◌, ◌⊎◌, ◌≤◌, Bool, true, false, inl, inr, ⊎_elim, ℕ, List, [], ◌∷◌, ◌++◌, length, take, Option, Some, None, IsSome, Result, Ok, Err, OnOk, refl, sym, ap, ◌∙◌, subst, arith, append_assoc, append-nil, length-append}
 use Rattle.std.proofs.Math.Seq.{take-append_seam}
 use Rattle.std.proofs.lemmas.List.{take-append-le}
 use Rattle.device_facts.specs.Count.{Counted, Rose}
 use Rattle.device_facts.specs.Prefix.{IsPrefixOf}
+use Rattle.disk_core.specs.Disk.{WhereTold}
 use Rattle.disk_core.specs.Devices.{LeavesOnly}
 use Rattle.disk_core.specs.declared.disk.Disk as disk
 use Rattle.book_words.specs.declared.act.Entry.{Entry}
@@ -12,6 +13,8 @@ use Rattle.book_words.specs.declared.caller.AskError.TheVariants as error
 use Rattle.book_words.specs.declared.reply.Answered.{Answered}
 use Rattle.book_words.specs.Answers.{IsLawful, IsLegal}
 use Rattle.book_core.specs.View.{BookView}
+use Rattle.book_snapshot.specs.Layout.{snapshot_end}
+use Rattle.book_journal.specs.Marking.{HoldsSnapshot}
 use Rattle.book_journal.specs.Mounting.{KeepsFromSync}
 use Rattle.book_store.specs.declared.store.Store.{Store}
 use Rattle.book_store.specs.declared.types.RestError.{RestError}
@@ -19,10 +22,12 @@ use Rattle.book_store.specs.declared.types.RestError.TheVariants as rest
 use Rattle.book_store.specs.Images.{HoldsBook}
 use Rattle.book_store.specs.Stores.{disk_of, book_of, entries_of, limit_of, Hangs, HasBook, HangsWith, HoldsOrHangs, ImagesHoldBook, KeepsBook, IsSound}
 use Rattle.book_store.specs.Offers.{Offers, OffersEntry, LeavesDisk, CountsDiskFault, list_behind}
-use Rattle.book_store.specs.Resting.{CountsRestFault}
+use Rattle.book_store.specs.Resting.{book_content, HasNothingToKeep, CountsRestFault}
 use Rattle.hall_top.specs.declared.stop.Stop.{Stop}
 use Rattle.hall_top.specs.declared.stop.Stop.TheVariants.{Finished, BadLine, ReadFault, WriteFault, DiskFault, NoMemory, Spent}
 use Rattle.hall_top.specs.Kept.{HoldsOrOffered, CrashLeaves, HangsAtFault, HasKept, CountsStop, Goes}
+use Rattle.hall_top.specs.Run.{HasGrown}
+use Rattle.hall_top.specs.Snapshots.{LeavesSnapshot}
 use Rattle.hall_top.specs.Streams.{Stream}
 use Rattle.hall_top.specs.Reached.{SaysDiskFault, SaysNoMemory}
 
@@ -269,3 +274,15 @@ module _ {D : Type 0} (g : disk.Ghosts D) where
         kept = λ held start kept. second.kept held start (first.kept held start kept);
         cause = subst (λ (n : ℕ). CountsStop n (g.faults (disk_of new)) result) first.cause second.cause;
       }
+
+-- what keeping a snapshot leaves, by what it answered
+pub leaves_snapshot : {D : Type 0} (g : disk.Ghosts D) (opened : ℕ) (old new : Store D) (result : Result Bool RestError) (kept : Bool) → result ≡ Ok kept → (result ≡ Ok false → HasNothingToKeep old)
+    → WhereTold (g.reads (disk_of old)) (λ bytes. length bytes ≤ snapshot_end (length (entries_of old)) (length (book_content (entries_of old))) → result ≡ Ok true
+    → WhereTold (g.reads (disk_of new)) (HoldsSnapshot (length (entries_of old)) (book_content (entries_of old))))
+    → LeavesSnapshot g opened old new
+leaves_snapshot g opened old new result true is idle fits = λ grown calm bytes told short. fits bytes told short is
+leaves_snapshot g opened old new result false is idle fits = λ grown calm. nothing grown calm (idle is)
+  where
+    nothing : {A : Type 0} → HasGrown opened (entries_of old) → ¬ Hangs old → HasNothingToKeep old → A
+    nothing grown calm (inl empty) = absurd (omega (arith, grown, ap length empty))
+    nothing grown calm (inr hangs) = absurd (calm hangs)

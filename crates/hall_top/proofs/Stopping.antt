@@ -1,5 +1,5 @@
 -- Lemmas on how a step of a run stops it.
-use Rattle.std.proofs.Common.{◌≡◌, ℕ, List, [], ◌∷◌, IsSome, Option, inl, inr, ap, sym, subst}
+use Rattle.std.proofs.Common.{◌≡◌, ℕ, List, [], ◌∷◌, IsSome, inl, inr, ap, sym, subst}
 use Rattle.book_words.specs.declared.act.Entry.{Entry}
 use Rattle.book_words.specs.Views.{summary}
 use Rattle.script_lines.specs.declared.command.Command.{Command}

@@ -5,6 +5,7 @@ pub mod Reached
 pub mod Requests
 pub mod Run
 pub mod Runs
+pub mod Snapshots
 pub mod Streams
 pub mod Texts
 pub mod Transcript

@@ -1,5 +1,5 @@
 -- Why a command isn't answered.
-use Rattle.std.specs.Prelude.{◌≡◌, Result, Ok, Err, IsSome}
+use Rattle.std.specs.Prelude.{Result, Ok, Err, IsSome}
 use Rattle.hall_top.specs.declared.composing.Unanswered.{Unanswered}
 use Rattle.hall_top.specs.declared.composing.Unanswered.TheVariants as unanswered
 use Rattle.hall_top.specs.declared.stop.Stop.{Stop}

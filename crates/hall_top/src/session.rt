@@ -23,8 +23,9 @@ impl<D: Disk> Session<D> {
     ghost use Rattle.script_lines.specs.Script.{is_good, commands_of};
     ghost use Rattle.batch_reports.specs.Texts.{summary_text};
     ghost use Rattle.book_store.specs.Stores.{disk_of, entries_of, IsSound};
+    ghost use Rattle.hall_top.specs.Snapshots.{LeavesSnapshot};
     ghost use Rattle.hall_top.specs.Streams.{output_at, WroteAll};
-    ghost use Rattle.hall_top.specs.Run.{StopsAtLine, StopsAtSummary};
+    ghost use Rattle.hall_top.specs.Run.{HasGrown, StopsAtLine, StopsAtSummary};
     ghost use Rattle.hall_top.specs.Reached.{HasAnswered};
     ghost use Rattle.hall_top.specs.Kept.{Goes};
     ghost use Rattle.hall_top.specs.Books.{book_in, store_in, opened_at, IsReady};
@@ -108,6 +109,10 @@ impl<D: Disk> Session<D> {
             (entries_of (store_in self.old))) }
         ensures same { entries_of (store_in self.new) ≡ entries_of (store_in self.old) }
         ensures goes { Goes D.Disk result (store_in self.old) (store_in self.new) }
+        ensures snapshot { OnOk result (LeavesSnapshot D.Disk (opened_at self.old)
+            (store_in self.old) (store_in self.new)) }
+        ensures idle { ¬ HasGrown (opened_at self.old) (entries_of (store_in self.old))
+            → disk_of (store_in self.new) ≡ disk_of (store_in self.old) }
         ensures ready { IsReady D.Disk self.new }
     {
         keep_snapshot(&mut self.store, self.opened, output)?;

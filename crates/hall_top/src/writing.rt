@@ -3,13 +3,14 @@ ghost use Rattle.book_words.specs.Views.{summary};
 ghost use Rattle.book_words.specs.Answers.{IsLegal};
 ghost use Rattle.script_lines.specs.declared.command.Line.TheVariants as line;
 ghost use Rattle.batch_reports.specs.Texts.{summary_text};
-ghost use Rattle.book_store.specs.Stores.{book_of, entries_of, IsSound};
+ghost use Rattle.book_store.specs.Stores.{disk_of, book_of, entries_of, IsSound};
 ghost use Rattle.hall_top.specs.declared.stop.Stop.TheVariants as stop;
 ghost use Rattle.hall_top.specs.Texts.{bad_line};
 ghost use Rattle.hall_top.specs.Books.{stored_book};
 ghost use Rattle.hall_top.specs.Kept.{Goes};
+ghost use Rattle.hall_top.specs.Snapshots.{LeavesSnapshot};
 ghost use Rattle.hall_top.specs.Streams.{output_at, WroteAll, IsCutIn, Wrote};
-ghost use Rattle.hall_top.specs.Run.{StopsAtLine, StopsAtSummary};
+ghost use Rattle.hall_top.specs.Run.{HasGrown, StopsAtLine, StopsAtSummary};
 ghost use Rattle.hall_top.specs.Reached.{HasAnswered, SaysDiskFault, SaysNoMemory};
 
 use crate::composing::{Unanswered, compose_answer, compose_bad_line, compose_summary};
@@ -76,7 +77,8 @@ pub fn write_bad_line<K: Sink>(number: u64, text: &mut Vec<u8>, output: &mut K) 
     Stop::BadLine
 }
 
-/// Keeps a snapshot of a book that has grown since it was opened with so many rows.
+/// Keeps a snapshot of a book that has grown since it was opened with so many rows; the disk of
+/// another isn't touched.
 pub fn keep_snapshot<D: Disk, K: Sink>(
     store: &mut Store<D>,
     opened: u32,
@@ -89,6 +91,9 @@ pub fn keep_snapshot<D: Disk, K: Sink>(
         (output_at K.Sink output.new) (entries_of store.old)) }
     ensures book { book_of store.new ≡ book_of store.old }
     ensures goes { Goes D.Disk result store.old store.new }
+    ensures snapshot { OnOk result (LeavesSnapshot D.Disk opened store.old store.new) }
+    ensures idle { ¬ HasGrown opened (entries_of store.old)
+        → disk_of store.new ≡ disk_of store.old }
 {
     if store.len() <= opened {
         return Ok(());

@@ -1,4 +1,4 @@
-use Rattle.std.proofs.Common.{rules, ◌≡◌, Ok, Err, Result}
+use Rattle.std.proofs.Common.{rules, ◌≡◌, Ok, Err}
 use Rattle.book_words.specs.Answers.{added, answer}
 use Rattle.book_store.specs.Stores.{disk_of, entries_of, limit_of}
 use Rattle.hall_top.specs.declared.stop.Stop.TheVariants.{DiskFault, NoMemory}
