@@ -2,7 +2,10 @@ pub mod ScriptLines
 pub mod RepeatLemmas
 pub mod Acknowledged
 pub mod Answering
-pub mod HandedOn
+pub mod Keeping
+pub mod Held
+pub mod Stopping
+pub mod Summaries
 pub mod Stepping
 pub mod Finishing
 pub mod Printed

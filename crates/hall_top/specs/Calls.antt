@@ -1,5 +1,5 @@
 -- What a whole call of the program does: its words, its disk, its command.
-use Rattle.std.specs.Prelude.{◌≡◌, ◌⊎◌, ◌×◌, ⊥, ℕ, ◌≤◌, List, [], ◌∷◌, ◌++◌, length, take}
+use Rattle.std.specs.Prelude.{◌≡◌, ◌⊎◌, ℕ, ◌≤◌, List, [], ◌∷◌, ◌++◌, length, take}
 use Rattle.device_facts.specs.Count.{Counted, Rose}
 use Rattle.disk_core.specs.Disk.{WhereTold}
 use Rattle.disk_core.specs.Devices.{IsUnmoved}

@@ -5,7 +5,9 @@ pub mod Reached
 pub mod Requests
 pub mod Run
 pub mod Runs
+pub mod Snapshots
 pub mod Streams
 pub mod Texts
 pub mod Transcript
+pub mod Unanswered
 pub mod Words

@@ -10,7 +10,7 @@ use Rattle.script_lines.specs.Script.{all_good, commands_of}
 use Rattle.hall_top.specs.declared.reads.TheConstants.{PIECE}
 use Rattle.hall_top.specs.declared.stop.Stop.{Stop}
 use Rattle.hall_top.specs.declared.stop.Stop.TheVariants.{Finished, BadLine, WriteFault, DiskFault, NoMemory}
-use Rattle.hall_top.specs.Texts.{no_memory}
+use Rattle.hall_top.specs.Texts.{disk_fault, no_memory}
 use Rattle.hall_top.specs.Transcript.{BookState, after_commands, answers, ended_lines_of, lines_of}
 use Rattle.hall_top.specs.Streams.{Stream, Devices, IsCalm, WroteAll, IsCutIn}
 use Rattle.hall_top.specs.Run.{StopsInScript, HasLine, HasTranscript, EndsEarly}
@@ -21,6 +21,12 @@ pub record RunState : Type 0 where
   pub book : BookState
   pub opened : ℕ
   pub feed : FeedView
+
+-- the line went out that says that the disk failed, or was cut
+abbrev pub SaysDiskFault : Stream → Stream → Stop → Type 0
+SaysDiskFault before now DiskFault = WroteAll before now disk_fault
+SaysDiskFault before now WriteFault = IsCutIn before now [] disk_fault
+SaysDiskFault before now _ = ⊥
 
 -- the line went out that says that there is no memory, or was cut
 abbrev pub SaysNoMemory : Stream → Stream → Stop → Type 0

@@ -1,54 +1,67 @@
-ghost use Rattle.std.specs.Prelude.{◌≡◌, ◌≤◌, OnOk, OnErr, vec_capacity};
+ghost use Rattle.std.specs.Prelude.{◌≡◌, ◌≤◌, OnOk, OnErr, IfErr, vec_capacity};
 ghost use Rattle.book_words.specs.Views.{summary};
 ghost use Rattle.book_words.specs.Answers.{IsLegal};
 ghost use Rattle.batch_reports.specs.Texts.{outcome_text, summary_text};
+ghost use Rattle.book_store.specs.Stores.{entries_of, IsSound};
 ghost use Rattle.hall_top.specs.Texts.{bad_line};
-ghost use Rattle.hall_top.specs.Books.{book_state};
+ghost use Rattle.hall_top.specs.Books.{stored_book};
+ghost use Rattle.hall_top.specs.Kept.{Goes};
 ghost use Rattle.hall_top.specs.Transcript.{exchange_at, after_command};
-ghost use Rattle.hall_top.specs.Run.{MayFindNoMemory};
+ghost use Rattle.hall_top.specs.Unanswered.{stopped, MayStay};
 
 use crate::asking::ask_at;
 use batch_reports::{TEXT_ROOM, answer_text, refusal_text};
-use book_core::{Book, BookError};
-use book_words::{Answered, Reply};
-use disk_core::NoMemory;
+use book_core::Book;
+use book_store::Store;
+use book_words::{Answered, AskError, Reply};
+use disk_core::Disk;
 use hall_units::{push_bytes, push_decimal};
 use script_lines::Command;
-use std::alloc::AllocError;
 
 /// The number that the entries of a script bear.
 const SCRIPT: u16 = 0;
 
-/// Asks the book a command, and makes the text of its answer. Without memory nothing is entered.
-pub fn compose_answer(
-    book: &mut Book,
+/// Why a command isn't answered.
+#[derive(Clone, Copy, Debug, PartialEq, Eq)]
+pub enum Unanswered {
+    /// The disk failed: nothing is acknowledged.
+    DiskFault,
+    /// There is no memory for it: nothing was done.
+    NoMemory,
+}
+
+/// Asks the book of a store a command, and makes the text of its answer. Where the disk fails or
+/// there is no memory, nothing is entered.
+pub fn compose_answer<D: Disk>(
+    store: &mut Store<D>,
     command: &Command,
     text: &mut Vec<u8>,
-) -> Result<(), NoMemory>
-    requires { TEXT_ROOM ≤ vec_capacity text.old }
+) -> Result<(), Unanswered>
+    requires room { TEXT_ROOM ≤ vec_capacity text.old }
+    requires sound { IsSound D.Disk store.old }
+    requires legal { IsLegal (entries_of store.old) }
     ensures text { OnOk result (text.new.items
-        ≡ outcome_text (exchange_at (book_state book.old) command.now).answer) }
-    ensures after { OnOk result (book_state book.new
-        ≡ after_command (book_state book.old) command.now) }
-    ensures same { OnErr result (book_state book.new ≡ book_state book.old) }
-    ensures may { OnErr result
-        (MayFindNoMemory (exchange_at (book_state book.old) command.now).ask.want
-        (exchange_at (book_state book.old) command.now).added) }
-    ensures legal { IsLegal book.new.entries }
+        ≡ outcome_text (exchange_at (stored_book store.old) command.now).answer) }
+    ensures after { OnOk result (stored_book store.new
+        ≡ after_command (stored_book store.old) command.now) }
+    ensures same { OnErr result (stored_book store.new ≡ stored_book store.old) }
+    ensures may { IfErr result (MayStay (exchange_at (stored_book store.old) command.now)) }
+    ensures goes { Goes D.Disk (stopped result) store.old store.new }
     ensures capacity { vec_capacity text.new ≡ vec_capacity text.old }
 {
     text.clear();
-    let ask = ask_at(book, command);
-    match book.ask(SCRIPT, &ask) {
+    let ask = ask_at(store.book(), command);
+    match store.ask(SCRIPT, &ask) {
         Ok(answered) => {
             answer_text(&answered, text).unwrap();
             Ok(())
         }
-        Err(BookError::Refused(refused)) => {
+        Err(AskError::Refused(refused)) => {
             refusal_text(&refused, text).unwrap();
             Ok(())
         }
-        Err(BookError::NoMemory) => Err(AllocError),
+        Err(AskError::DiskFault) => Err(Unanswered::DiskFault),
+        Err(AskError::NoMemory) => Err(Unanswered::NoMemory),
     }
 }
 

@@ -1,7 +1,8 @@
 use crate::stop::Stop;
-use book_core::Rows;
+use crate::writing::{keep_snapshot, write_answer, write_bad_line, write_summary};
+use batch_reports::TEXT_ROOM;
 use book_store::Store;
-use disk_core::{Disk, NoMemory, Sink};
+use disk_core::{Disk, Sink};
 use script_lines::Line;
 use std::alloc::Global;
 
@@ -22,8 +23,9 @@ impl<D: Disk> Session<D> {
     ghost use Rattle.script_lines.specs.Script.{is_good, commands_of};
     ghost use Rattle.batch_reports.specs.Texts.{summary_text};
     ghost use Rattle.book_store.specs.Stores.{disk_of, entries_of, IsSound};
+    ghost use Rattle.hall_top.specs.Snapshots.{LeavesSnapshot};
     ghost use Rattle.hall_top.specs.Streams.{output_at, WroteAll};
-    ghost use Rattle.hall_top.specs.Run.{StopsAtLine, StopsAtSummary};
+    ghost use Rattle.hall_top.specs.Run.{HasGrown, StopsAtLine, StopsAtSummary};
     ghost use Rattle.hall_top.specs.Reached.{HasAnswered};
     ghost use Rattle.hall_top.specs.Kept.{Goes};
     ghost use Rattle.hall_top.specs.Books.{book_in, store_in, opened_at, IsReady};
@@ -37,8 +39,15 @@ impl<D: Disk> Session<D> {
         ensures ready { IfOk result (IsReady D.Disk) }
         ensures back { IfErr result (λ back. back ≡ store) }
     {
-        unsafe { stub() };
-        unreachable!()
+        let opened = store.len();
+        match Vec::with_capacity(alloc, TEXT_ROOM) {
+            Ok(text) => Ok(Session {
+                store,
+                opened,
+                text,
+            }),
+            Err(_) => Err(store),
+        }
     }
 
     /// The store.
@@ -67,8 +76,14 @@ impl<D: Disk> Session<D> {
         ensures opened { opened_at self.new ≡ opened_at self.old }
         ensures ready { IsReady D.Disk self.new }
     {
-        unsafe { stub() };
-        unreachable!()
+        match line {
+            Line::Nothing => Ok(()),
+            Line::Asks(command) => {
+                write_answer(&mut self.store, command, &mut self.text, number, output)?;
+                Ok(())
+            }
+            Line::Bad => Err(write_bad_line(number, &mut self.text, output)),
+        }
     }
 
     /// Says that the line of a number is bad, and so ends the run.
@@ -80,8 +95,7 @@ impl<D: Disk> Session<D> {
         ensures store { store_in self.new ≡ store_in self.old }
         ensures ready { IsReady D.Disk self.new }
     {
-        unsafe { stub() };
-        unreachable!()
+        write_bad_line(number, &mut self.text, output)
     }
 
     /// Ends a run whose script was read and answered to its end: where rows were added, a snapshot of
@@ -95,14 +109,14 @@ impl<D: Disk> Session<D> {
             (entries_of (store_in self.old))) }
         ensures same { entries_of (store_in self.new) ≡ entries_of (store_in self.old) }
         ensures goes { Goes D.Disk result (store_in self.old) (store_in self.new) }
+        ensures snapshot { OnOk result (LeavesSnapshot D.Disk (opened_at self.old)
+            (store_in self.old) (store_in self.new)) }
+        ensures idle { ¬ HasGrown (opened_at self.old) (entries_of (store_in self.old))
+            → disk_of (store_in self.new) ≡ disk_of (store_in self.old) }
         ensures ready { IsReady D.Disk self.new }
     {
-        unsafe { stub() };
-        unreachable!()
+        keep_snapshot(&mut self.store, self.opened, output)?;
+        write_summary(self.store.book(), &mut self.text, output)?;
+        Ok(())
     }
-}
-
-unsafe extern "C" {
-    fn stub()
-        ensures { ⊥ };
 }

@@ -1,46 +1,66 @@
-ghost use Rattle.std.specs.Prelude.{◌≡◌, ◌≤◌, [], ◌∷◌, OnOk, OnErr, IfErr, vec_capacity};
+ghost use Rattle.std.specs.Prelude.{◌≡◌, ◌≤◌, [], ◌∷◌, OnOk, IfErr, length, vec_capacity};
 ghost use Rattle.book_words.specs.Views.{summary};
 ghost use Rattle.book_words.specs.Answers.{IsLegal};
 ghost use Rattle.script_lines.specs.declared.command.Line.TheVariants as line;
 ghost use Rattle.batch_reports.specs.Texts.{summary_text};
+ghost use Rattle.book_store.specs.Stores.{disk_of, book_of, entries_of, IsSound};
 ghost use Rattle.hall_top.specs.declared.stop.Stop.TheVariants as stop;
 ghost use Rattle.hall_top.specs.Texts.{bad_line};
-ghost use Rattle.hall_top.specs.Books.{book_state};
+ghost use Rattle.hall_top.specs.Books.{stored_book};
+ghost use Rattle.hall_top.specs.Kept.{Goes};
+ghost use Rattle.hall_top.specs.Snapshots.{LeavesSnapshot};
 ghost use Rattle.hall_top.specs.Streams.{output_at, WroteAll, IsCutIn, Wrote};
-ghost use Rattle.hall_top.specs.Run.{StopsAtLine};
-ghost use Rattle.hall_top.specs.Reached.{HasAnswered, SaysNoMemory};
+ghost use Rattle.hall_top.specs.Run.{HasGrown, StopsAtLine, StopsAtSummary};
+ghost use Rattle.hall_top.specs.Reached.{HasAnswered, SaysDiskFault, SaysNoMemory};
 
-use crate::composing::{compose_answer, compose_bad_line, compose_summary};
+use crate::composing::{Unanswered, compose_answer, compose_bad_line, compose_summary};
 use crate::stop::Stop;
 use batch_reports::TEXT_ROOM;
 use book_core::Book;
-use disk_core::{Partly, Sink, write_all};
+use book_store::{RestError, Store};
+use disk_core::{Disk, Sink, write_all};
 use script_lines::Command;
 
-/// Asks the book a command and writes its answer, whose text it makes in `text`.
-pub fn write_answer<K: Sink>(
-    book: &mut Book,
+// Writes a whole text; where it is cut, a run stops.
+fn write_text<K: Sink>(text: &[u8], output: &mut K) -> Result<(), Stop>
+    ensures wrote { OnOk result (WroteAll (output_at K.Sink output.old)
+        (output_at K.Sink output.new) text.now) }
+    ensures cut { IfErr result (λ how. (how ≡ stop.WriteFault)
+        × IsCutIn (output_at K.Sink output.old) (output_at K.Sink output.new) [] text.now) }
+{
+    match write_all(output, text) {
+        Ok(()) => Ok(()),
+        Err(_) => Err(Stop::WriteFault),
+    }
+}
+
+/// Asks the book of a store a command and writes its answer, whose text it makes in `text`.
+pub fn write_answer<D: Disk, K: Sink>(
+    store: &mut Store<D>,
     command: &Command,
     text: &mut Vec<u8>,
     number: u64,
     output: &mut K,
 ) -> Result<(), Stop>
-    requires { TEXT_ROOM ≤ vec_capacity text.old }
-    ensures answered { OnOk result (HasAnswered (book_state book.old)
+    requires room { TEXT_ROOM ≤ vec_capacity text.old }
+    requires sound { IsSound D.Disk store.old }
+    requires legal { IsLegal (entries_of store.old) }
+    ensures answered { OnOk result (HasAnswered (stored_book store.old)
         (output_at K.Sink output.old) (output_at K.Sink output.new)
-        (book_state book.new) (command.now ∷ [])) }
-    ensures stops { IfErr result (StopsAtLine (book_state book.old)
+        (stored_book store.new) (command.now ∷ [])) }
+    ensures stops { IfErr result (StopsAtLine (stored_book store.old)
         (output_at K.Sink output.old) (output_at K.Sink output.new)
-        book.new.entries [] number (line.Asks command.now)) }
-    ensures legal { IsLegal book.new.entries }
+        (entries_of store.new) [] number (line.Asks command.now)) }
+    ensures goes { Goes D.Disk result store.old store.new }
     ensures capacity { vec_capacity text.new ≡ vec_capacity text.old }
 {
-    if compose_answer(book, command, text).is_err() {
-        return Err(say_no_memory(output));
-    }
-    match write_all(output, text) {
-        Ok(()) => Ok(()),
-        Err(_) => Err(Stop::WriteFault),
+    match compose_answer(store, command, text) {
+        Ok(()) => {
+            write_text(text, output)?;
+            Ok(())
+        }
+        Err(Unanswered::DiskFault) => Err(say_disk_fault(output)),
+        Err(Unanswered::NoMemory) => Err(say_no_memory(output)),
     }
 }
 
@@ -57,18 +77,58 @@ pub fn write_bad_line<K: Sink>(number: u64, text: &mut Vec<u8>, output: &mut K) 
     Stop::BadLine
 }
 
+/// Keeps a snapshot of a book that has grown since it was opened with so many rows; the disk of
+/// another isn't touched.
+pub fn keep_snapshot<D: Disk, K: Sink>(
+    store: &mut Store<D>,
+    opened: u32,
+    output: &mut K,
+) -> Result<(), Stop>
+    requires sound { IsSound D.Disk store.old }
+    requires legal { IsLegal (entries_of store.old) }
+    ensures quiet { OnOk result (output_at K.Sink output.new ≡ output_at K.Sink output.old) }
+    ensures stops { IfErr result (StopsAtSummary opened (output_at K.Sink output.old)
+        (output_at K.Sink output.new) (entries_of store.old)) }
+    ensures book { book_of store.new ≡ book_of store.old }
+    ensures goes { Goes D.Disk result store.old store.new }
+    ensures snapshot { OnOk result (LeavesSnapshot D.Disk opened store.old store.new) }
+    ensures idle { ¬ HasGrown opened (entries_of store.old)
+        → disk_of store.new ≡ disk_of store.old }
+{
+    if store.len() <= opened {
+        return Ok(());
+    }
+    match store.rest() {
+        Ok(_) => Ok(()),
+        Err(RestError::DiskFault) => Err(say_disk_fault(output)),
+        Err(RestError::NoMemory) => Err(say_no_memory(output)),
+    }
+}
+
 /// Writes the summary of a book.
-pub fn write_summary<K: Sink>(book: &Book, text: &mut Vec<u8>, output: &mut K) -> Result<(), Partly>
+pub fn write_summary<K: Sink>(book: &Book, text: &mut Vec<u8>, output: &mut K) -> Result<(), Stop>
     requires room { TEXT_ROOM ≤ vec_capacity text.old }
     requires legal { IsLegal book.now.entries }
     ensures wrote { OnOk result (WroteAll (output_at K.Sink output.old)
         (output_at K.Sink output.new) (summary_text (summary book.now.entries))) }
-    ensures cut { OnErr result (IsCutIn (output_at K.Sink output.old)
-        (output_at K.Sink output.new) [] (summary_text (summary book.now.entries))) }
+    ensures cut { IfErr result (λ how. (how ≡ stop.WriteFault)
+        × IsCutIn (output_at K.Sink output.old) (output_at K.Sink output.new) []
+        (summary_text (summary book.now.entries))) }
     ensures capacity { vec_capacity text.new ≡ vec_capacity text.old }
 {
     compose_summary(book, text);
-    write_all(output, text)
+    write_text(text, output)?;
+    Ok(())
+}
+
+/// Says that the disk failed.
+pub fn say_disk_fault<K: Sink>(output: &mut K) -> Stop
+    ensures { SaysDiskFault (output_at K.Sink output.old) (output_at K.Sink output.new) result }
+{
+    match write_all(output, b"disk fault\n") {
+        Ok(()) => Stop::DiskFault,
+        Err(_) => Stop::WriteFault,
+    }
 }
 
 /// Says that there is no memory.

@@ -1,4 +1,4 @@
-use Rattle.hall_top.proofs.HandedOn.{is_summary}
+use Rattle.hall_top.proofs.Summaries.{is_summary}
 use Rattle.hall_top.proofs.composing.compose_summary.Goals as goal
 
 pub answer_text-requires : goal.answer_text-requires

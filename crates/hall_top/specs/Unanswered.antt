@@ -1,0 +1,23 @@
+-- Why a command isn't answered.
+use Rattle.std.specs.Prelude.{Result, Ok, Err, IsSome}
+use Rattle.hall_top.specs.declared.composing.Unanswered.{Unanswered}
+use Rattle.hall_top.specs.declared.composing.Unanswered.TheVariants as unanswered
+use Rattle.hall_top.specs.declared.stop.Stop.{Stop}
+use Rattle.hall_top.specs.declared.stop.Stop.TheVariants.{DiskFault, NoMemory}
+use Rattle.hall_top.specs.Transcript.{Exchange}
+use Rattle.hall_top.specs.Run.{MayFindNoMemory}
+
+-- how a run stops where a command isn't answered, and its line isn't cut
+abbrev pub stop_of : Unanswered → Stop
+stop_of unanswered.DiskFault = DiskFault
+stop_of unanswered.NoMemory = NoMemory
+
+abbrev pub stopped : {T : Type 0} → Result T Unanswered → Result T Stop
+stopped (Ok done) = Ok done
+stopped (Err why) = Err (stop_of why)
+
+-- which exchanges may so stay without an answer: where the disk fails, one that adds a row; where
+-- there is no memory, one that adds a row or asks for a sample
+abbrev pub MayStay : Exchange → Unanswered → Type 0
+MayStay exchange unanswered.DiskFault = IsSome exchange.added
+MayStay exchange unanswered.NoMemory = MayFindNoMemory exchange.ask.want exchange.added
