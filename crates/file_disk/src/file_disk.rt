@@ -1,11 +1,12 @@
 ghost use Rattle.device_facts.specs.Count.{CountsFault};
 
 use crate::opening::open_locked;
-use crate::transfer::{fill, measure, put, settle};
+use crate::transfer::{fetch, measure, put, settle};
 use device_facts::counted_once_more;
 use disk_core::{DISK_END, Disk, Failed};
 use std::fs::File;
 use std::marker::Model;
+use std::rt::Files;
 
 /// A disk over a file of the operating system. It tells no bytes, images or moments, only its
 /// faults: what the system's calls do is trusted. A disk whose file isn't open fails at each call.
@@ -31,7 +32,7 @@ impl FileDisk {
     /// long as the disk is there, so no other hall uses it. Where the file is empty, its folder is
     /// synced, so that a crash leaves its name. A file that can't be opened, made, locked or synced,
     /// or that is no regular file, gives a disk that isn't open. Nothing is cut off a file.
-    pub fn open(rt: &HostRuntime, path: &str) -> Self
+    pub fn open<R: Files<File = File> + Alloc>(rt: &R, path: &str) -> Self
         ensures { result.faults ≡ 0 }
     {
         FileDisk {
@@ -91,7 +92,7 @@ impl Disk for FileDisk {
         ensures kept { self.new.is_open ≡ self.old.is_open }
         ensures cause { CountsFault self.old.faults self.new.faults result }
     {
-        let count = fill(self.file.as_ref(), place, into);
+        let count = fetch(self.file.as_ref(), place, into);
         self.faults = counted_after(self.faults, &count);
         count
     }
