@@ -1,7 +1,7 @@
 #!/bin/sh
 # Appends 250 000, 500 000 and 1 000 000 rows to a journal in memory. Opens the greatest by its slots
 # and by its snapshot (with all of its content), beside reading the bytes of the disk once.
-# There is no disk over a real file yet, so this shows what the journal's own work costs and how it
+# A disk in memory has no syncs, so this shows what the journal's own work costs and how it
 # grows. The program isn't a crate of the product: it is proved and built in a folder of its own. It
 # times each thing by itself, by a clock of nanoseconds; what is printed is the least of five runs.
 set -eu

@@ -90,8 +90,14 @@ script 1 "$packs"
 took=$(whole_run)
 found=$(compare "${found#* }")
 
+# A run whose output is closed answers nothing, and what it would answer must not land in the book.
+script 2 9
+"$program" run --book "$book" <"$work/script" >&- 2>/dev/null || true
+: >"$work/answers"
+found=$(compare "${found#* }")
+
 began=$(milliseconds)
-run=2 kills=0 early=0 late=0 offered=0
+run=3 kills=0 early=0 late=0 offered=0
 for part in $(awk -v seed="$seed" -v kills="$most_kills" 'BEGIN {
     srand(seed)
     for (i = 0; i < kills; i++) print int(1000 * rand())
