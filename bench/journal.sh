@@ -99,26 +99,36 @@ fn read_piece<D: Disk>(journal: &mut Journal<D>, piece: u64, into: &mut [u8; BLO
     }
 }
 
+// Adds a byte of a buffer at a place that the bytes before chose: a compiler leaves out a read of
+// which nothing is used.
+fn see(seen: &mut u64, bytes: &[u8]) {
+    let place = seen.wrapping_mul(16_807) % BLOCKS_CONTENT as u64;
+    let byte = bytes.get(place as usize).copied().unwrap_or(0);
+    *seen = seen.wrapping_mul(31).wrapping_add(u64::from(byte));
+}
+
 // Opens a journal as a book does: by its snapshot and all of its content, or else by its slots.
-fn open(disk: QuietDisk) -> Option<QuietDisk> {
+fn open(disk: QuietDisk, seen: &mut u64) -> Option<QuietDisk> {
     let mut journal = Journal::mount(disk).ok()?;
     let mut into = [0; BLOCKS_CONTENT];
     for piece in 0..30_000 {
         if !read_piece(&mut journal, piece, &mut into) {
             break;
         }
+        see(seen, &into);
     }
     Some(journal.give_back())
 }
 
 // Reads all bytes once.
-fn read_all(disk: &mut QuietDisk) -> bool {
+fn read_all(disk: &mut QuietDisk, seen: &mut u64) -> bool {
     let Ok(size) = disk.len() else { return false };
     let mut into = [0; 65_536];
     for piece in 0..(size / 65_536).min(10_000) {
         if disk.read_at(65_536 * piece, &mut into).is_err() {
             return false;
         }
+        see(seen, &into);
     }
     true
 }
@@ -130,19 +140,22 @@ fn tell(rt: &HostRuntime, name: &str, began: Instant) -> Option<()> {
 }
 
 fn timed_open(rt: &HostRuntime, name: &str, disk: QuietDisk) -> Option<QuietDisk> {
+    let mut seen = 0;
     let began = Instant::now(rt).ok()?;
-    let disk = open(disk)?;
+    let disk = open(disk, &mut seen)?;
     tell(rt, name, began)?;
+    println!(rt; "seen {seen}").ok()?;
     Some(disk)
 }
 
 fn timed_read(rt: &HostRuntime, disk: QuietDisk) -> Option<QuietDisk> {
-    let mut disk = disk;
+    let (mut disk, mut seen) = (disk, 0);
     let began = Instant::now(rt).ok()?;
-    if !read_all(&mut disk) {
+    if !read_all(&mut disk, &mut seen) {
         return None;
     }
     tell(rt, "read", began)?;
+    println!(rt; "seen {seen}").ok()?;
     Some(disk)
 }
 
