@@ -1,8 +1,9 @@
 #!/bin/sh
 # Appends 250 000, 500 000 and 1 000 000 rows to a journal in memory. Opens the greatest by its slots
 # and by its snapshot (with all of its content), beside reading the bytes of the disk once.
-# There is no disk over a real file yet, so this shows what the journal's own work costs and how it
-# grows. The program isn't a crate of the product: it is proved and built in a folder of its own.
+# A disk in memory has no syncs, so this shows what the journal's own work costs and how it
+# grows. The program isn't a crate of the product: it is proved and built in a folder of its own. It
+# times each thing by itself, by a clock of nanoseconds; what is printed is the least of five runs.
 set -eu
 here=$(dirname "$(readlink -f "$0")")
 work=$(mktemp -d)
@@ -17,7 +18,8 @@ done
 bench=$work/crates/journal_bench
 mkdir -p "$bench/src" "$bench/proofs/append_all" "$bench/proofs/numbered"
 cat >"$bench/src/main.rt" <<'RATTLE'
-//! Appends rows to a journal in memory, then opens it or reads its bytes again and again.
+//! Appends rows to a journal in memory, opens it by its slots, reads its bytes, keeps a snapshot and
+//! opens it by that, and prints how long each took.
 #![tactic(auto)]
 
 ghost use Rattle.std.specs.Prelude.{◌*◌, ◌<◌, IsTrue};
@@ -32,6 +34,7 @@ use hall_limits::MAX_ROWS;
 use hall_units::{put_u32, read_bounded};
 use std::env;
 use std::process::ExitCode;
+use std::time::Instant;
 
 // A weighing of 251 g on lane 1, as the row of this number.
 fn numbered(number: u32) -> [u8; ROW_BYTES]
@@ -96,82 +99,126 @@ fn read_piece<D: Disk>(journal: &mut Journal<D>, piece: u64, into: &mut [u8; BLO
     }
 }
 
+// Adds a byte of a buffer at a place that the bytes before chose: a compiler leaves out a read of
+// which nothing is used.
+fn see(seen: &mut u64, bytes: &[u8]) {
+    let place = seen.wrapping_mul(16_807) % BLOCKS_CONTENT as u64;
+    let byte = bytes.get(place as usize).copied().unwrap_or(0);
+    *seen = seen.wrapping_mul(31).wrapping_add(u64::from(byte));
+}
+
 // Opens a journal as a book does: by its snapshot and all of its content, or else by its slots.
-fn open(disk: QuietDisk) -> Option<QuietDisk> {
+fn open(disk: QuietDisk, seen: &mut u64) -> Option<QuietDisk> {
     let mut journal = Journal::mount(disk).ok()?;
     let mut into = [0; BLOCKS_CONTENT];
     for piece in 0..30_000 {
         if !read_piece(&mut journal, piece, &mut into) {
             break;
         }
+        see(seen, &into);
     }
     Some(journal.give_back())
 }
 
 // Reads all bytes once.
-fn read_all(disk: &mut QuietDisk) -> bool {
+fn read_all(disk: &mut QuietDisk, seen: &mut u64) -> bool {
     let Ok(size) = disk.len() else { return false };
     let mut into = [0; 65_536];
     for piece in 0..(size / 65_536).min(10_000) {
         if disk.read_at(65_536 * piece, &mut into).is_err() {
             return false;
         }
+        see(seen, &into);
     }
     true
 }
 
-fn open_all(disk: QuietDisk, times: u64, opens: bool) -> Option<QuietDisk> {
-    let mut disk = disk;
-    for _ in 0..times {
-        if opens {
-            disk = open(disk)?;
-        } else if !read_all(&mut disk) {
-            return None;
-        }
-    }
+// Prints a name and how many microseconds went by since then.
+fn tell(rt: &HostRuntime, name: &str, began: Instant) -> Option<()> {
+    let took = began.elapsed(rt).ok()?.as_micros();
+    println!(rt; "{name} {took}").ok()
+}
+
+fn timed_open(rt: &HostRuntime, name: &str, disk: QuietDisk) -> Option<QuietDisk> {
+    let mut seen = 0;
+    let began = Instant::now(rt).ok()?;
+    let disk = open(disk, &mut seen)?;
+    tell(rt, name, began)?;
+    println!(rt; "seen {seen}").ok()?;
     Some(disk)
 }
 
-fn run(rt: &HostRuntime, rows: u64, times: u64, kept: bool, opens: bool) -> Option<u32> {
-    let room = Vec::with_capacity(rt.alloc(), 200_000_000).ok()?;
-    let mut journal = Journal::mount(QuietDisk::new(room)).ok()?;
-    if journal.count() != 0 || !append_all(&mut journal, rows) {
+fn timed_read(rt: &HostRuntime, disk: QuietDisk) -> Option<QuietDisk> {
+    let (mut disk, mut seen) = (disk, 0);
+    let began = Instant::now(rt).ok()?;
+    if !read_all(&mut disk, &mut seen) {
         return None;
     }
-    let count = journal.count();
-    if kept {
-        let mut content = Dense::new(rt.alloc());
-        for _ in 0..rows {
-            squeeze(&numbered(1), &mut content).ok()?;
-        }
-        if !keep(&mut journal, &content) {
-            return None;
-        }
+    tell(rt, "read", began)?;
+    println!(rt; "seen {seen}").ok()?;
+    Some(disk)
+}
+
+fn content_of(rt: &HostRuntime, rows: u64) -> Option<Dense> {
+    let mut content = Dense::new(rt.alloc());
+    for _ in 0..rows {
+        squeeze(&numbered(1), &mut content).ok()?;
     }
-    let _ = open_all(journal.give_back(), times, opens)?;
-    Some(count)
+    Some(content)
+}
+
+fn timed_keep(rt: &HostRuntime, disk: QuietDisk, rows: u64) -> Option<QuietDisk> {
+    let content = content_of(rt, rows)?;
+    let mut journal = Journal::mount(disk).ok()?;
+    if journal.count() > MAX_ROWS {
+        return None;
+    }
+    let began = Instant::now(rt).ok()?;
+    if !keep(&mut journal, &content) {
+        return None;
+    }
+    tell(rt, "keep", began)?;
+    Some(journal.give_back())
+}
+
+fn timed_appends(rt: &HostRuntime, rows: u64) -> Option<QuietDisk> {
+    let room = Vec::with_capacity(rt.alloc(), 200_000_000).ok()?;
+    let mut journal = Journal::mount(QuietDisk::new(room)).ok()?;
+    if journal.count() != 0 {
+        return None;
+    }
+    let began = Instant::now(rt).ok()?;
+    if !append_all(&mut journal, rows) || u64::from(journal.count()) != rows {
+        return None;
+    }
+    tell(rt, "append", began)?;
+    Some(journal.give_back())
+}
+
+fn run(rt: &HostRuntime, rows: u64) -> Option<()> {
+    let disk = timed_appends(rt, rows)?;
+    let disk = timed_open(rt, "slots", disk)?;
+    let disk = timed_read(rt, disk)?;
+    let disk = timed_keep(rt, disk, rows)?;
+    let _ = timed_open(rt, "snapshot", disk)?;
+    Some(())
 }
 
 fn number(text: &str) -> Option<u64> {
     read_bounded(7, 1_000_000, text.as_bytes())
 }
 
-// The words: how many rows, whether a snapshot is kept (1) or not (0), how often the journal is
-// opened, and whether it is opened (1) or its bytes are read (0).
+// The word: how many rows.
 fn main(rt: HostRuntime) -> ExitCode {
     let Ok(args) = env::args(&rt) else {
         return ExitCode::from(2);
     };
-    let mut numbers = args.skip(1).filter_map(|word| number(&word));
-    let (Some(rows), Some(kept)) = (numbers.next(), numbers.next()) else {
+    let Some(rows) = args.skip(1).find_map(|word| number(&word)) else {
         return ExitCode::from(2);
     };
-    let (Some(times), Some(opens)) = (numbers.next(), numbers.next()) else {
-        return ExitCode::from(2);
-    };
-    match run(&rt, rows, times, kept == 1, opens == 1) {
-        Some(count) if u64::from(count) == rows => ExitCode::from(0),
-        _ => ExitCode::from(1),
+    match run(&rt, rows) {
+        Some(()) => ExitCode::from(0),
+        None => ExitCode::from(1),
     }
 }
 RATTLE
@@ -201,31 +248,31 @@ echo 'journal_bench: book_journal book_snapshot disk_core hall_limits hall_units
 program=$bench/out/journal_bench
 [ -x "$program" ] || { cat "$work/log" >&2; exit 70; }
 
-milliseconds() { echo $(($(date +%s%N) / 1000000)); }
-# best of 5 of a run with these words
-best() {
-    least=1000000000
-    for _ in 1 2 3 4 5; do
-        before=$(milliseconds)
-        "$program" "$@"
-        took=$(($(milliseconds) - before))
-        if [ "$took" -lt "$least" ]; then least=$took; fi
-    done
-    echo "$least"
-}
+# Five runs of the program, each of which prints the microseconds of each thing by its name.
 for rows in 250000 500000 1000000; do
-    echo "$rows appends: $(best "$rows" 0 0 0) ms"
+    for _ in 1 2 3 4 5; do
+        "$program" "$rows" >>"$work/times$rows"
+    done
 done
-# so many milliseconds more for ten of what is measured, told in tenths of one
-tenth() { echo "$(($1 / 10)).$(($1 % 10))"; }
-plain=$(best 1000000 0 0 0)
-kept=$(best 1000000 1 0 0)
-slots=$(($(best 1000000 0 10 1) - plain))
-bytes=$(($(best 1000000 0 10 0) - plain))
-snapshot=$(($(best 1000000 1 10 1) - kept))
-echo "keeping a snapshot of 1000000 rows: $((kept - plain)) ms"
-echo "opening 1000000 rows by their slots: $(tenth "$slots") ms"
-echo "opening 1000000 rows by a snapshot: $(tenth "$snapshot") ms"
-echo "reading the bytes of these slots once: $(tenth "$bytes") ms"
-[ "$bytes" -gt 0 ] || bytes=1
-echo "opening to reading, in hundredths: $((100 * slots / bytes)) by slots, $((100 * snapshot / bytes)) by a snapshot"
+
+# the least microseconds of a thing
+least() {
+    awk -v name="$2" '$1 == name && (!seen++ || $2 < best) { best = $2 } END { print best }' \
+        "$work/times$1"
+}
+
+# microseconds as milliseconds, and one time to another
+told() { awk -v us="$1" 'BEGIN { printf "%.1f ms", us / 1000 }'; }
+ratio() { awk -v a="$1" -v b="$2" 'BEGIN { printf "%.2f", a / b }'; }
+
+for rows in 250000 500000 1000000; do
+    echo "$rows appends: $(told "$(least "$rows" append)")"
+done
+slots=$(least 1000000 slots)
+snapshot=$(least 1000000 snapshot)
+bytes=$(least 1000000 read)
+echo "keeping a snapshot of 1000000 rows: $(told "$(least 1000000 keep)")"
+echo "opening 1000000 rows by their slots: $(told "$slots")"
+echo "opening 1000000 rows by a snapshot: $(told "$snapshot")"
+echo "reading the bytes of these slots once: $(told "$bytes")"
+echo "opening to reading: $(ratio "$slots" "$bytes") by slots, $(ratio "$snapshot" "$bytes") by a snapshot"

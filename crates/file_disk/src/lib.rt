@@ -1,0 +1,19 @@
+//! A disk over a file of the operating system: the file under which a hall keeps its book.
+//!
+//! Promised: each call that fails counts one fault; a disk whose file isn't open fails at each call
+//! and touches nothing; a buffer is filled with the bytes from its place on, as many as there are,
+//! however few of them each read of the system brings.
+//!
+//! Trusted: the system's calls, that they read, write and make stable what they say, and that a lock
+//! keeps other halls out; and std's `write_all_at`. A file tells no bytes, so no clause speaks of
+//! what stands in it.
+#![tactic(auto)]
+
+mod file_disk;
+mod opening;
+mod read_at;
+#[cfg(test)]
+mod tests;
+mod transfer;
+
+pub use file_disk::FileDisk;
