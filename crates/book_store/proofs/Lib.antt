@@ -1,2 +1,4 @@
+pub mod Exits
 pub mod Forms
 pub mod Reading
+pub mod Walks
