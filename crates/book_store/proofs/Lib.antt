@@ -1,4 +1,5 @@
 pub mod Exits
 pub mod Forms
+pub mod Parts
 pub mod Reading
 pub mod Walks
