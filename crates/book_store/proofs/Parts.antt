@@ -10,6 +10,9 @@ use Rattle.book_snapshot.specs.Layout.{blocks_for, snapshot_place}
 use Rattle.book_snapshot.specs.declared.layout.TheConstants.{ROW_BYTES}
 use Rattle.book_journal.specs.declared.blocks.TheConstants.{BLOCKS_CONTENT}
 use Rattle.book_journal.specs.Reading.{ReadsContent}
+use Rattle.book_journal.specs.Mounting.{rows_before}
+use Rattle.book_store.specs.Listing.{content_rows, snapshot_rows}
+use Rattle.book_store.specs.Opening.{StandsAtEnd}
 
 -- what was read of a piece, where the disk didn't fail
 read_count : {E : Type 0} (kept : Kept) (bytes : List ℕ) (from : ℕ) (result : Result ℕ E) (into : List ℕ)
@@ -55,3 +58,17 @@ parts_all from size whole content most all is = is ∙ take_all (BLOCKS_CONTENT 
 
 pub content_most : (rows size : ℕ) (bytes : List ℕ) → length (snapshot_content rows size bytes) ≤ size
 content_most rows size bytes = omega (arith, length-take size (block_content (blocks_for size) (drop (snapshot_place rows + ROW_BYTES) bytes)))
+
+-- the snapshot that is there
+pub snapshot_ends : (now : Option Kept) (kept : Kept) (bytes : List ℕ) → now ≡ Some kept → StandsAtEnd now bytes → EndsWithSnapshot kept.rows kept.bytes bytes
+snapshot_ends now kept bytes is ends = subst (λ (k : Option Kept). StandsAtEnd k bytes) is ends
+
+-- its rows are those of its content
+pub snapshot_listed : (now : Option Kept) (kept : Kept) (bytes content : List ℕ) (rows count : ℕ) → now ≡ Some kept → rows_before now ≤ count → rows ≡ min kept.rows count
+    → content ≡ snapshot_content kept.rows kept.bytes bytes → snapshot_rows now bytes ≡ content_rows rows 1 content
+snapshot_listed now kept bytes content rows count is counted rows_are content_is =
+    let few : kept.rows ≤ count = subst (λ (k : Option Kept). rows_before k ≤ count) is counted in
+    let all : kept.rows ≡ rows = omega (arith, few, rows_are) in
+    ap (λ (k : Option Kept). snapshot_rows k bytes) is
+    ∙ ap (λ (n : ℕ). content_rows n 1 (snapshot_content kept.rows kept.bytes bytes)) all
+    ∙ ap (λ (l : List ℕ). content_rows rows 1 l) (sym content_is)

@@ -57,3 +57,15 @@ read_more rows left entries entry number row is read spells only legal =
 -- an answer has one value
 pub same_ok : {T E : Type 0} (result : Result T E) (x y : T) → result ≡ Ok x → result ≡ Ok y → y ≡ x
 same_ok result x y is other = cc
+
+no_entry : (before : List Entry) (entry : Entry) (after : List Entry) → [] ≡ before ++ entry ∷ after → ⊥
+no_entry [] entry after is = absurd cc
+no_entry (first ∷ before) entry after is = absurd cc
+
+-- a book without entries is legal
+pub none_legal : IsLegal []
+none_legal before entry after is = absurd (no_entry before entry after is)
+
+-- before the first row
+pub read_start : (rows : List (Option (List ℕ))) → HasRead rows [] rows
+read_start rows = record { split = refl; can = tt; only = tt; legal = none_legal }

@@ -1,5 +1,5 @@
 -- Steps of the walks over content and over slots.
-use Rattle.std.proofs.Common.{◌≡◌, ⊎_elim, ◌⊎◌, inl, inr, ℕ, zero, suc, ◌+◌, ◌-◌, ◌*◌, ◌<◌, ◌≤◌, List, [], ◌∷◌, ◌++◌, length, take, drop, Option, Some, None, refl, sym, ◌∙◌, ap, subst, arith, length-drop}
+use Rattle.std.proofs.Common.{◌≡◌, ⊎_elim, ◌⊎◌, inl, inr, ℕ, zero, suc, ◌+◌, ◌-◌, ◌*◌, ◌<◌, ◌≤◌, min, List, [], ◌∷◌, ◌++◌, length, take, drop, Option, Some, None, refl, sym, ◌∙◌, ap, subst, arith, length-drop}
 use Rattle.std.proofs.lemmas.List.{drop-drop, drop_all}
 use Rattle.book_words.specs.declared.act.Entry.{Entry}
 use Rattle.book_snapshot.specs.declared.layout.TheConstants.{ROW_BYTES}
@@ -96,3 +96,10 @@ slots_none count before bytes all =
 
 pub slots_first : (count first entries : ℕ) (bytes : List ℕ) → first ≡ entries → slots_from (count - entries) (entries + 1) bytes ≡ slots_from (count - first) (first + 1) bytes
 slots_first count first entries bytes is = ap (λ (n : ℕ). slots_from (count - n) (n + 1) bytes) (sym is)
+
+-- the slots behind the rows of a snapshot that are all read
+pub slots_behind_snapshot : (count now first entries : ℕ) (bytes : List ℕ) → now ≡ count → entries ≡ min first count → first ≤ count
+    → slots_from (count - first) (first + 1) bytes ≡ slots_from (now - entries) (entries + 1) bytes
+slots_behind_snapshot count now first entries bytes same is all =
+    let read : entries ≡ first = omega (arith, is, all) in
+    slots_first count entries first bytes read ∙ ap (λ (n : ℕ). slots_from (n - entries) (entries + 1) bytes) (sym same)
