@@ -1,0 +1,1 @@
+-- What a mounted journal is as a store.
