@@ -1,5 +1,5 @@
 -- Errors that are handed on, and calls that only read.
-use Rattle.std.proofs.Common.{◌≡◌, ◌∙◌, ℕ, List, Result, Err, refl, sym, ap, subst}
+use Rattle.std.proofs.Common.{◌≡◌, ◌∙◌, Result, Err, refl, sym, ap, subst}
 use Rattle.disk_core.specs.declared.disk.Disk as disk
 use Rattle.book_journal.specs.declared.journal.Journal.{Journal}
 use Rattle.book_journal.specs.Journal.{disk_of, count_of, kept_of}

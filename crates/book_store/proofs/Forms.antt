@@ -1,11 +1,11 @@
 -- Dense forms as rows of content.
-use Rattle.std.proofs.Common.{◌≡◌, ◌≢◌, ◌⊎◌, inl, inr, ⊎_elim, ℕ, zero, suc, ◌+◌, ◌-◌, ◌<◌, ◌≤◌, Bool, true, false, not, ◌&&◌, ◌==◌, nat_le, nat_lt, if◌then◌else◌, List, [], ◌∷◌, ◌++◌, length, get_or, map, take, drop, replicate, slice_range, Option, Some, None, refl, sym, ◌∙◌, ap, subst, arith, length-append, length-drop, length-take, append_assoc}
+use Rattle.std.proofs.Common.{◌≡◌, ◌≢◌, ◌⊎◌, inl, inr, ⊎_elim, ℕ, zero, suc, ◌+◌, ◌-◌, ◌<◌, ◌≤◌, Bool, true, false, ◌&&◌, ◌==◌, if◌then◌else◌, List, [], ◌∷◌, ◌++◌, length, get_or, take, drop, replicate, slice_range, Some, None, refl, sym, ◌∙◌, ap, arith, length-drop}
 use Rattle.std.specs.Int.{w32, to_le_bytes}
 use Rattle.std.proofs.lemmas.List.{take-append-drop, drop_more, drop-drop}
 use Rattle.std.proofs.lemmas.Bool.{cases_lt}
 use Rattle.std.proofs.lemmas.Bool.Decides.{nat_tests}
 use Rattle.book_snapshot.specs.declared.layout.TheConstants.{ROW_BYTES, OPEN, KIND_PLACE, NUMBER_PLACE, FIELDS_PLACE, LEFT_OUT}
-use Rattle.book_snapshot.specs.DenseRows.{trimmed, short_row, dense, HasNumber, row_of}
+use Rattle.book_snapshot.specs.DenseRows.{trimmed, short_row, HasNumber, row_of}
 use Rattle.book_snapshot.specs.Reading.{IsReadAs, EndsEarly, IsFaulty}
 use Rattle.book_snapshot.proofs.Trimmed.{filled_up}
 use Rattle.book_store.specs.Listing.{begins_form, form_row, behind_form, content_rows}

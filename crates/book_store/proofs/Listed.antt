@@ -1,25 +1,22 @@
 -- The rows that a disk lists are those that are read of it, and of a book's disk the book's.
-use Rattle.std.proofs.Common.{◌≡◌, ◌≢◌, ◌⊎◌, inl, inr, ⊎_elim, ℕ, zero, suc, ◌+◌, ◌-◌, ◌*◌, ◌<◌, ◌≤◌, min, Bool, true, false, ◌||◌, nat_lt, if◌then◌else◌, List, [], ◌∷◌, ◌++◌, length, get_or, map, take, drop, Option, Some, None, refl, sym, ◌∙◌, ap, subst, arith, length-append, length-drop, length-take}
-use Rattle.std.proofs.lemmas.List.{map-append, take_at, drop_at, take-append-drop, drop-drop, get_or-drop, append-nil}
-use Rattle.std.proofs.Math.Seq.{get_or-append_right}
+use Rattle.std.proofs.Common.{◌≡◌, inl, inr, ⊎_elim, ℕ, zero, suc, ◌+◌, ◌-◌, ◌*◌, ◌<◌, ◌≤◌, true, false, List, [], ◌∷◌, ◌++◌, length, get_or, take, drop, Option, Some, None, refl, sym, ◌∙◌, ap, subst, arith, length-append, length-drop, length-take}
+use Rattle.std.proofs.lemmas.List.{map-append, take_at, drop_at, take-append-drop, drop-drop, get_or-drop}
 use Rattle.std.proofs.Math.ListN.{get_or-append}
 use Rattle.std.proofs.lemmas.Bool.{cases_lt}
 use Rattle.std.proofs.lemmas.Bool.Decides.{nat_tests}
 use Rattle.hall_limits.specs.declared.TheConstants.{MAX_ROWS}
-use Rattle.disk_core.specs.Disk.{overwritten}
 use Rattle.book_snapshot.specs.declared.types.Kept.{Kept}
-use Rattle.book_snapshot.specs.declared.layout.TheConstants.{ROW_BYTES, LEFT_OUT, FIELDS_PLACE}
+use Rattle.book_snapshot.specs.declared.layout.TheConstants.{ROW_BYTES, FIELDS_PLACE}
 use Rattle.book_snapshot.specs.DenseRows.{short_row, dense, content, IsRow, AreRows, row_of}
-use Rattle.book_snapshot.specs.Blocks.{snapshot_content, EndsWithSnapshot}
 use Rattle.book_snapshot.proofs.DenseLemmas.{short_some, short_most, short_last, row_back}
-use Rattle.book_journal.specs.declared.layout.TheConstants.{MARK, MAX_SLOTS, NEW_BYTES, CLOSED}
+use Rattle.book_journal.specs.declared.layout.TheConstants.{MAX_SLOTS}
 use Rattle.book_journal.specs.Rows.{HasHeader, IsJournalOf, Recovers, open_rows, rows_of, gate_behind, starts_open}
-use Rattle.book_journal.specs.Mounting.{IsSnapshotOf, rows_before, slots_behind, closed_behind, stands_closed}
-use Rattle.book_journal.proofs.OpenRows.{open_rows-open, open_rows-none, open_or_shut, open_rows-shut, rows_fit, rows_stop, same_take}
-use Rattle.book_journal.proofs.OpenEnds.{rows_counted, journal_of, short_none, journal_rows, journal_ends, snapshot_within, first_within, counted_within, rows_tail}
+use Rattle.book_journal.specs.Mounting.{IsSnapshotOf, rows_before, slots_behind, closed_behind}
+use Rattle.book_journal.proofs.OpenRows.{open_rows-open, open_rows-none, open_or_shut, open_rows-shut, rows_stop, same_take}
+use Rattle.book_journal.proofs.OpenEnds.{rows_counted, journal_of, short_none, journal_rows, journal_ends, snapshot_within, first_within, counted_within}
 use Rattle.book_journal.proofs.Gates.{behind}
 use Rattle.book_journal.proofs.Fronts.{closed_behind_as}
-use Rattle.book_store.specs.Listing.{begins_form, form_row, behind_form, content_rows, snapshot_rows, slot_rows, Lists, ListsRows, ListsNone}
+use Rattle.book_store.specs.Listing.{begins_form, form_row, behind_form, content_rows, snapshot_rows, slot_rows, Lists, ListsRows}
 use Rattle.book_store.specs.Opening.{slot_row, slots_from}
 use Rattle.book_store.proofs.Forms.{begins, content_rows-form, content_rows-none}
 use Rattle.book_store.proofs.Spelled.{listed}

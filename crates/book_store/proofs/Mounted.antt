@@ -1,5 +1,5 @@
 -- What a mounted journal is as a store.
-use Rattle.std.proofs.Common.{◌≡◌, ◌⊎◌, inl, inr, ⊎_elim, ℕ, ◌+◌, ◌-◌, ◌*◌, ◌<◌, ◌≤◌, List, [], ◌++◌, length, drop, map, Option, Some, None, Result, Ok, Err, IfOk, MatchResult, refl, sym, ◌∙◌, ap, subst, arith}
+use Rattle.std.proofs.Common.{◌≡◌, ◌⊎◌, inl, inr, ⊎_elim, ℕ, ◌+◌, ◌-◌, ◌<◌, ◌≤◌, List, ◌++◌, length, drop, Option, Some, None, Result, Ok, Err, IfOk, MatchResult, refl, sym, ◌∙◌, ap, subst, arith}
 use Rattle.hall_limits.specs.declared.TheConstants.{MAX_ROWS}
 use Rattle.device_facts.specs.Count.{Counted}
 use Rattle.disk_core.specs.Disk.{WhereTold}
@@ -19,7 +19,7 @@ use Rattle.book_journal.specs.declared.types.JournalFault.TheVariants as fault
 use Rattle.book_journal.specs.Rows.{FitsSnapshot, FirstDiffersAt, Recovers, gate_behind}
 use Rattle.book_journal.specs.Journal as journals
 use Rattle.book_journal.specs.Mounting as mounting
-use Rattle.book_journal.specs.Opening.{HasMounted, KeepsRecovered, RecoversRows}
+use Rattle.book_journal.specs.Opening.{HasMounted, RecoversRows}
 use Rattle.book_journal.proofs.Fronts.{no_header}
 use Rattle.book_journal.proofs.Moments.{unmoved_none}
 use Rattle.book_store.specs.declared.types.MountError.{MountError}
@@ -28,10 +28,10 @@ use Rattle.book_store.specs.declared.types.Unmounted.{Unmounted}
 use Rattle.book_store.specs.declared.store.Store.{Store}
 use Rattle.book_store.specs.Causes.{cause_of}
 use Rattle.book_store.specs.Images.{spelled, CanAllBeSpelled, HoldsBook}
-use Rattle.book_store.specs.Listing.{Lists, IsOpenedAs, snapshot_rows, slot_rows}
-use Rattle.book_store.specs.Mounting.{IsCauseOf, IsPassing, HasHeld, KeepsHeld, opening_bytes}
-use Rattle.book_store.specs.Opening.{IsReadable, rows_there, slots_from, StandsAtEnd, HasRead, Stops, CountsRefusal, Opens, reading_cost}
-use Rattle.book_store.specs.Stores.{disk_of, entries_of, IsSound, HasBook}
+use Rattle.book_store.specs.Listing.{Lists, IsOpenedAs, snapshot_rows}
+use Rattle.book_store.specs.Mounting.{IsCauseOf, IsPassing, KeepsHeld, opening_bytes}
+use Rattle.book_store.specs.Opening.{IsReadable, rows_there, slots_from, StandsAtEnd, Stops, CountsRefusal, Opens, reading_cost}
+use Rattle.book_store.specs.Stores.{disk_of, entries_of, IsSound}
 use Rattle.book_store.proofs.Exits.{count_kept}
 use Rattle.book_store.proofs.Listed.{recovered_listed, slots_read, snapshot_same, closed_long, counts_first}
 use Rattle.book_store.proofs.Spelled.{listed, opened_as, damaged_at, read_same, not_damaged, legal_few, length_spelled}
@@ -212,8 +212,7 @@ module _ {D : Type 0} (g : disk.Ghosts D) where
         let few = spelled_few entries legal in
         let is = there bytes journal most (mounted bytes told) in
         let are = recovered_listed bytes (spelled entries) _ holds.rows few is.lists in
-        let keeps = recovers (spelled entries) holds.rows few in
-        (
+        let keeps = recovers (spelled entries) holds.rows few in (
           passing_by refused.why _ _ _ entries holds.can legal are opens.counts (opens.stops is.now is.told is.readable),
           inl (keeps_on old (journals.disk_of journal) refused.disk (λ c. Recovers c (spelled entries)) (HoldsBook entries) counts_now keeps.moments opens.unmoved (λ c rows. record { rows = rows; can = holds.can })),
         )
@@ -237,7 +236,7 @@ module _ {D : Type 0} (g : disk.Ghosts D) where
   refused_held why error old new bytes entries counts_now is told holds legal caused recovers = (
     subst (λ (e : MountError). IsPassing e) (sym is) (passing_journal why old new bytes (spelled entries) told holds.rows caused),
     ⊎_elim
-    (λ keeps. inl (keeps_on old new new (λ c. Recovers c (spelled entries)) (HoldsBook entries) counts_now keeps (unmoved_none g new) (λ c rows. record { rows = rows; can = holds.can })))
-    (λ unmoved. inr unmoved)
-    (recovers (spelled entries) holds.rows (spelled_few entries legal)),
+        (λ keeps. inl (keeps_on old new new (λ c. Recovers c (spelled entries)) (HoldsBook entries) counts_now keeps (unmoved_none g new) (λ c rows. record { rows = rows; can = holds.can })))
+        (λ unmoved. inr unmoved)
+        (recovers (spelled entries) holds.rows (spelled_few entries legal)),
   )

@@ -1,13 +1,12 @@
 -- A book with one row more.
-use Rattle.std.proofs.Common.{◌≡◌, ◌≢◌, ℕ, suc, ◌+◌, List, [], ◌∷◌, ◌++◌, length, map, Option, Some, None, Result, Ok, refl, sym, ◌∙◌, ap, subst, arith, append_assoc}
+use Rattle.std.proofs.Common.{◌≡◌, ℕ, suc, ◌+◌, List, [], ◌∷◌, ◌++◌, length, map, Option, Some, Result, Ok, refl, sym, ◌∙◌, ap, subst, arith, append_assoc}
 use Rattle.std.proofs.lemmas.List.{map-append}
-use Rattle.std.specs.List.{AllByRecursion}
 use Rattle.book_words.specs.declared.act.Entry.{Entry}
-use Rattle.book_words.specs.Answers.{IsLawful, IsLegal}
+use Rattle.book_words.specs.Answers.{IsLegal}
 use Rattle.row_format.specs.Spelling.{new_layout, row_bytes}
 use Rattle.row_format.specs.Rows.{CanBeSpelled, Spells}
 use Rattle.book_store.specs.Images.{spelled, spelled_from, CanAllBeSpelled}
-use Rattle.book_store.specs.Opening.{AreOnlyReadings, HasRead, HasDamage}
+use Rattle.book_store.specs.Opening.{AreOnlyReadings, HasRead}
 
 -- one entry more
 spelled_push : (number : ℕ) (entries : List Entry) (entry : Entry)
@@ -31,9 +30,11 @@ only_push number [] entry all one =
     let none : number + 0 ≡ number = omega arith in
     (subst (λ (n : ℕ). (other : Entry) → CanBeSpelled new_layout other → row_bytes new_layout n other ≡ row_bytes new_layout n entry → other ≡ entry) none one, tt)
 only_push number (first ∷ entries) entry all one =
-    let next : number + suc (length entries) ≡ (number + 1) + length entries = omega arith in
-    (all.0, only_push (number + 1) entries entry all.1
-    (subst (λ (n : ℕ). (other : Entry) → CanBeSpelled new_layout other → row_bytes new_layout n other ≡ row_bytes new_layout n entry → other ≡ entry) next one))
+    let next : number + suc (length entries) ≡ (number + 1) + length entries = omega arith in (
+      all.0,
+      only_push (number + 1) entries entry all.1
+          (subst (λ (n : ℕ). (other : Entry) → CanBeSpelled new_layout other → row_bytes new_layout n other ≡ row_bytes new_layout n entry → other ≡ entry) next one),
+    )
 
 -- the next row is read
 pub read_more : (rows left : List (Option (List ℕ))) (entries : List Entry) (entry : Entry) (number : ℕ) (row : List ℕ)

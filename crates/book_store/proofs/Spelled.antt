@@ -1,13 +1,13 @@
 -- Rows that are those of a book, and of no other.
-use Rattle.std.proofs.Common.{◌≡◌, ◌≢◌, ℕ, zero, suc, ◌+◌, ◌<◌, ◌≤◌, List, [], ◌∷◌, ◌++◌, length, map, take, drop, slice_get, Option, Some, None, refl, sym, ◌∙◌, ap, subst, arith, length-append}
+use Rattle.std.proofs.Common.{◌≡◌, ℕ, suc, ◌+◌, ◌≤◌, List, [], ◌∷◌, ◌++◌, length, map, take, slice_get, Option, Some, refl, sym, ◌∙◌, ap, arith, length-append}
 use Rattle.std.proofs.lemmas.List.{length-map, append-nil, take_at}
 use Rattle.hall_limits.specs.declared.TheConstants.{MAX_ROWS}
 use Rattle.book_words.specs.declared.act.Entry.{Entry}
-use Rattle.book_words.specs.Answers.{IsLawful, IsLegal}
+use Rattle.book_words.specs.Answers.{IsLegal}
 use Rattle.row_format.specs.Spelling.{new_layout, row_bytes}
 use Rattle.row_format.specs.Rows.{CanBeSpelled}
 use Rattle.book_store.specs.Images.{spelled, spelled_from, CanAllBeSpelled}
-use Rattle.book_store.specs.Listing.{Lists, AreRowsOf, IsOpenedAs, IsDamagedAt}
+use Rattle.book_store.specs.Listing.{Lists, IsOpenedAs, IsDamagedAt}
 use Rattle.book_store.specs.Opening.{AreOnlyReadings, HasRead, HasDamage}
 
 pub length_spelled : (number : ℕ) (entries : List Entry) → length (spelled_from number entries) ≡ length entries

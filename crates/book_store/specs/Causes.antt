@@ -1,5 +1,4 @@
 -- Why a disk isn't mounted, where its journal isn't.
-use Rattle.std.specs.Prelude.{ℕ}
 use Rattle.book_journal.specs.declared.types.JournalFault.{JournalFault}
 use Rattle.book_journal.specs.declared.types.JournalFault.TheVariants as fault
 use Rattle.book_store.specs.declared.types.MountError.{MountError}

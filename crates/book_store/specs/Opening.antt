@@ -1,5 +1,5 @@
 -- What reading the rows that a disk lists makes of a book.
-use Rattle.std.specs.Prelude.{◌≡◌, ◌≢◌, ⊤, ℕ, zero, suc, ◌+◌, ◌-◌, ◌*◌, ◌≤◌, List, [], ◌∷◌, ◌++◌, length, map, take, drop, Option, Some, None, Result, Ok, Err, MatchOption}
+use Rattle.std.specs.Prelude.{◌≡◌, ◌≢◌, ⊤, ℕ, zero, suc, ◌+◌, ◌-◌, ◌*◌, ◌≤◌, List, [], ◌∷◌, ◌++◌, length, map, take, drop, Option, Some, None, Result, Ok, Err}
 use Rattle.device_facts.specs.Count.{Counted}
 use Rattle.disk_core.specs.Disk.{WhereTold}
 use Rattle.disk_core.specs.Devices.{IsUnmoved}
@@ -11,7 +11,7 @@ use Rattle.book_snapshot.specs.declared.types.Kept.{Kept}
 use Rattle.book_snapshot.specs.declared.layout.TheConstants.{ROW_BYTES}
 use Rattle.book_snapshot.specs.Blocks.{EndsWithSnapshot}
 use Rattle.row_format.specs.Spelling.{new_layout, row_bytes}
-use Rattle.row_format.specs.Rows.{CanBeSpelled, Spells}
+use Rattle.row_format.specs.Rows.{CanBeSpelled}
 use Rattle.book_journal.specs.declared.journal.Journal.{Journal}
 use Rattle.book_journal.specs.Rows.{gate_behind}
 use Rattle.book_journal.specs.Journal as journals

@@ -1,4 +1,5 @@
 ghost use Rattle.std.specs.Prelude.{◌≡◌, ◌+◌, ◌-◌, ◌*◌, ◌<◌, ◌≤◌, ◌++◌, [], ◌∷◌, ℕ, List, Option, Some, min, suc, IfOk, IfErr, OnOk, MatchResult, length, take, drop};
+ghost use Rattle.hall_limits.specs.declared.TheConstants.{MAX_ROWS};
 ghost use Rattle.disk_core.specs.Disk.{WhereTold};
 ghost use Rattle.book_snapshot.specs.Blocks.{EndsWithSnapshot, IsSnapshotSize, snapshot_content};
 ghost use Rattle.book_journal.specs.Ends.{IsSized};
@@ -12,9 +13,10 @@ use crate::mount::CALL_BYTES;
 use crate::replay::replay_row;
 use crate::types::MountError;
 use book_core::Book;
-use book_journal::{BLOCKS_CONTENT, Journal, Kept, MAX_SLOTS, ROW_BYTES};
+use book_journal::{BLOCKS_CONTENT, Journal, Kept, ROW_BYTES};
 use book_snapshot::{MAX_CONTENT, Piece, read_one};
 use disk_core::Disk;
+use hall_limits::MAX_ROWS;
 use std::alloc::Global;
 
 // Enters the entry of the row at the front of content, and tells how many bytes its form takes.
@@ -40,7 +42,7 @@ fn replay_form(bytes: &[u8], number: u32, book: &mut Book) -> Result<usize, Moun
 
 // Enters the entries of so many rows, which are all that content has.
 fn replay_content(content: &[u8], rows: u32, book: &mut Book) -> Result<(), MountError>
-    requires few { rows ≤ MAX_SLOTS }
+    requires few { rows ≤ MAX_ROWS }
     requires empty { book.old.entries ≡ [] }
     ensures reads { (listed left : List (Option (List ℕ))) →
         HasRead listed [] (content_rows rows 1 content.now ++ left) →
@@ -153,6 +155,8 @@ pub(crate) fn read_snapshot<D: Disk>(
         return Ok(());
     };
     let content = read_content(alloc, journal, kept)?;
-    replay_content(&content, kept.rows.min(journal.count()), book)?;
+    // A journal counts the rows of its snapshot, so these are all of them.
+    let rows = kept.rows.min(journal.count());
+    replay_content(&content, rows, book)?;
     Ok(())
 }

@@ -58,7 +58,8 @@ pub(crate) fn read_slots<D: Disk>(
         + ROW_BYTES * (count_of journal.old - length book.old.entries)) }
 {
     let first = book.len();
-    for before in first..journal.count() {
+    let count = journal.count();
+    for before in first..count {
         read_slot(journal, before + 1, book)?;
     }
     Ok(())

@@ -1,6 +1,6 @@
-use Rattle.std.proofs.Common.{◌≡◌, ◌∙◌, ◌+◌, ◌-◌, ◌*◌, sym, subst, refl, List, ℕ, arith, length}
+use Rattle.std.proofs.Common.{◌∙◌, refl, arith}
 use Rattle.book_snapshot.specs.Blocks.{snapshot_content}
-use Rattle.book_store.proofs.Exits.{handed_on, read_none, read_on, kept_kept}
+use Rattle.book_store.proofs.Exits.{read_none, read_on, kept_kept}
 use Rattle.book_store.proofs.Parts.{part_joins, parts_all, content_most}
 use Rattle.book_store.proofs.content.read_content.Goals as goal
 

@@ -1,4 +1,4 @@
-use Rattle.std.proofs.Common.{◌≡◌, ◌≤◌, ◌+◌, ◌-◌, ◌*◌, List, ℕ, Option, Some, length, take}
+use Rattle.std.proofs.Common.{◌≡◌, ◌≤◌, ◌+◌, ◌*◌, List, ℕ, Some, take}
 use Rattle.book_snapshot.specs.Blocks.{EndsWithSnapshot, snapshot_content}
 use Rattle.book_journal.specs.declared.blocks.TheConstants.{BLOCKS_CONTENT}
 use Rattle.book_journal.specs.Journal.{disk_of}

@@ -1,4 +1,4 @@
-use Rattle.std.proofs.Common.{◌≡◌, ◌∙◌, ◌+◌, ◌-◌, ◌*◌, ◌++◌, sym, subst, List, ℕ, ap, take, rules}
+use Rattle.std.proofs.Common.{◌≡◌, ◌∙◌, ◌++◌, sym, List, ℕ, ap, take, rules}
 use Rattle.book_journal.specs.Journal.{kept_of}
 use Rattle.book_store.proofs.Parts.{part_read}
 use Rattle.book_store.proofs.content.read_piece.Goals as goal

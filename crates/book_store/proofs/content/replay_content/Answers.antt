@@ -1,4 +1,4 @@
-use Rattle.std.proofs.Common.{◌≡◌, ◌∙◌, ◌+◌, ◌-◌, ◌++◌, ◌≤◌, sym, subst, List, [], ◌∷◌, ℕ, Option, Ok, None, refl, drop, length, arith, length-drop, ap}
+use Rattle.std.proofs.Common.{◌+◌, ◌-◌, ◌++◌, sym, subst, List, [], ℕ, Option, length, arith, length-drop, ap}
 use Rattle.std.proofs.lemmas.Result.{err_from_is_err_and}
 use Rattle.book_words.specs.declared.act.Entry.{Entry}
 use Rattle.book_store.specs.Listing.{content_rows}
@@ -39,8 +39,8 @@ returns-in_err-place-clause-reads c listed left read =
     let so_far = c.loop-before in
     let rest = c.split_at.result.1.now in
     let stops = c.in_err-place.ensures.reads listed left (c.args.rows - (so_far.before + 1))
-        (content_before listed left so_far.book.entries c.args.rows so_far.before so_far.place c.args.content.now rest c.loop-before-test.true c.split_at.ensures.back
-        (so_far.invariant.reads listed left read)) in
+    (content_before listed left so_far.book.entries c.args.rows so_far.before so_far.place c.args.content.now rest c.loop-before-test.true c.split_at.ensures.back
+    (so_far.invariant.reads listed left read)) in
     let p = err_from_is_err_and c.from_residual.result c.from_residual.ensures.1 in
     handed_on (λ r. ReadsOn listed c.replay_form.new.book.entries left r) c.from_residual.result p.0 _ p.1 p.2 stops
 

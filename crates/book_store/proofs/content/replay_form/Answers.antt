@@ -1,4 +1,4 @@
-use Rattle.std.proofs.Common.{◌≡◌, ◌∙◌, ◌+◌, ◌++◌, ⊎_elim, inl, inr, sym, subst, List, ℕ, Option, Ok, MatchResult, drop}
+use Rattle.std.proofs.Common.{◌+◌, ◌++◌, ⊎_elim, inl, inr, MatchResult, drop}
 use Rattle.std.proofs.lemmas.Result.{err_from_is_err_and}
 use Rattle.book_store.specs.Listing.{content_rows}
 use Rattle.book_store.specs.Opening.{HasRead, Stops}

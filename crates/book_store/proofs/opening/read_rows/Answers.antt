@@ -1,9 +1,9 @@
-use Rattle.std.proofs.Common.{◌≡◌, ◌∙◌, ◌+◌, ◌-◌, ◌≤◌, ◌++◌, sym, subst, List, [], ℕ, Option, length, ap, arith}
+use Rattle.std.proofs.Common.{◌∙◌, ◌≤◌, sym, subst, List, [], ℕ, Option, length}
 use Rattle.std.proofs.lemmas.Result.{err_from_is_err_and}
-use Rattle.book_journal.specs.Journal.{disk_of, count_of, kept_of}
+use Rattle.book_journal.specs.Journal.{count_of, kept_of}
 use Rattle.book_journal.specs.Mounting.{rows_before}
 use Rattle.book_journal.specs.Rows.{gate_behind}
-use Rattle.book_store.specs.Opening.{HasRead, ReadsOn, rows_there, slots_from}
+use Rattle.book_store.specs.Opening.{HasRead, ReadsOn, rows_there}
 use Rattle.book_store.proofs.Exits.{handed_on, grows_on, read_on, count_kept}
 use Rattle.book_store.proofs.Reading.{read_start}
 use Rattle.book_store.proofs.Walks.{slots_behind_snapshot}
@@ -25,7 +25,7 @@ returns-in_err-read_slots-clause-reads g c bytes told there =
     let first = c.in_ok-read_snapshot.ensures.reads bytes told there.ends there.counted rows _ (read_start rows) in
     let same = count_kept g.D.Disk old mid c.read_snapshot.ensures.read in
     let next = subst (λ (l : List (Option (List ℕ))). HasRead rows c.read_snapshot.new.book.entries l)
-        (slots_behind_snapshot (count_of old) (count_of mid) (rows_before (kept_of old)) (length c.read_snapshot.new.book.entries) bytes same c.in_ok-read_snapshot.ensures.count there.counted) first in
+    (slots_behind_snapshot (count_of old) (count_of mid) (rows_before (kept_of old)) (length c.read_snapshot.new.book.entries) bytes same c.in_ok-read_snapshot.ensures.count there.counted) first in
     let stops = c.in_err-read_slots.ensures.reads bytes (c.read_snapshot.ensures.read.unmoved.reads ∙ told) (subst (λ (n : ℕ). gate_behind n ≤ length bytes) (sym same) there.long) rows next in
     let p = err_from_is_err_and c.from_residual-in_err-read_slots.result c.from_residual-in_err-read_slots.ensures.1 in
     handed_on (λ r. ReadsOn rows c.read_slots.new.book.entries [] r) c.from_residual-in_err-read_slots.result p.0 _ p.1 p.2 stops
@@ -44,7 +44,7 @@ returns-clause-reads g c bytes told there =
     let first = c.in_ok-read_snapshot.ensures.reads bytes told there.ends there.counted rows _ (read_start rows) in
     let same = count_kept g.D.Disk old mid c.read_snapshot.ensures.read in
     let next = subst (λ (l : List (Option (List ℕ))). HasRead rows c.read_snapshot.new.book.entries l)
-        (slots_behind_snapshot (count_of old) (count_of mid) (rows_before (kept_of old)) (length c.read_snapshot.new.book.entries) bytes same c.in_ok-read_snapshot.ensures.count there.counted) first in
+    (slots_behind_snapshot (count_of old) (count_of mid) (rows_before (kept_of old)) (length c.read_snapshot.new.book.entries) bytes same c.in_ok-read_snapshot.ensures.count there.counted) first in
     c.in_ok-read_slots.ensures.reads bytes (c.read_snapshot.ensures.read.unmoved.reads ∙ told) (subst (λ (n : ℕ). gate_behind n ≤ length bytes) (sym same) there.long) rows next
 
 pub returns-clause-grows : goal.returns-clause-grows

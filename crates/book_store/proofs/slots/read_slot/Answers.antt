@@ -1,4 +1,4 @@
-use Rattle.std.proofs.Common.{◌≡◌, sym, subst, List, ◌∷◌, ℕ, Some}
+use Rattle.std.proofs.Common.{sym, subst, List, ◌∷◌, ℕ, Some}
 use Rattle.book_store.specs.Opening.{HasRead}
 use Rattle.book_store.proofs.slots.read_slot.Goals as goal
 

@@ -1,8 +1,8 @@
-use Rattle.std.proofs.Common.{◌≡◌, ◌∙◌, ◌+◌, ◌-◌, ◌*◌, ◌≤◌, ◌<◌, sym, subst, List, [], ◌∷◌, ℕ, Option, Some, refl, length, arith, ap}
+use Rattle.std.proofs.Common.{◌∙◌, ◌≤◌, sym, subst, List, [], ℕ, Option, refl, length, arith}
 use Rattle.std.proofs.lemmas.Result.{err_from_is_err_and}
-use Rattle.book_journal.specs.Journal.{disk_of, count_of}
+use Rattle.book_journal.specs.Journal.{count_of}
 use Rattle.book_journal.specs.Rows.{gate_behind}
-use Rattle.book_store.specs.Opening.{HasRead, ReadsOn, CountsReading, slots_from}
+use Rattle.book_store.specs.Opening.{HasRead, ReadsOn}
 use Rattle.book_store.proofs.Exits.{handed_on, grows_none, grows_on, read_none, read_on, count_kept}
 use Rattle.book_store.proofs.Walks.{slots_next, slots_none, slots_first}
 use Rattle.book_store.proofs.slots.read_slots.Goals as goal
@@ -25,8 +25,8 @@ returns-in_err-read_slot-clause-reads g c bytes told long rows read =
     let count = count_of c.args.journal.now in
     let same = count_kept g.D.Disk c.args.journal.now so_far.journal so_far.invariant.read in
     let next = subst (λ (l : List (Option (List ℕ))). HasRead rows so_far.book.entries l)
-        (slots_next count so_far.before bytes (omega (arith, c.loop-before-test.true, c.count-before-end.ensures)))
-        (so_far.invariant.reads bytes told long rows read) in
+    (slots_next count so_far.before bytes (omega (arith, c.loop-before-test.true, c.count-count.ensures)))
+    (so_far.invariant.reads bytes told long rows read) in
     let stops = c.in_err-read_slot.ensures.reads bytes (so_far.invariant.read.unmoved.reads ∙ told) (subst (λ (n : ℕ). gate_behind n ≤ length bytes) (sym same) long) rows _ next in
     let p = err_from_is_err_and c.from_residual.result c.from_residual.ensures.1 in
     handed_on (λ r. ReadsOn rows c.read_slot.new.book.entries [] r) c.from_residual.result p.0 _ p.1 p.2 stops
@@ -52,8 +52,8 @@ loop-before-preserved g c =
       asked = omega (arith, c.read_slot.ensures.asked, so_far.invariant.asked, so_far.invariant.behind);
       reads = λ bytes told long rows read.
           let next = subst (λ (l : List (Option (List ℕ))). HasRead rows so_far.book.entries l)
-              (slots_next count so_far.before bytes (omega (arith, c.loop-before-test.true, c.count-before-end.ensures)))
-              (so_far.invariant.reads bytes told long rows read) in
+          (slots_next count so_far.before bytes (omega (arith, c.loop-before-test.true, c.count-count.ensures)))
+          (so_far.invariant.reads bytes told long rows read) in
           step.reads bytes (so_far.invariant.read.unmoved.reads ∙ told) (subst (λ (n : ℕ). gate_behind n ≤ length bytes) (sym same) long) rows _ next;
     }
 
@@ -61,5 +61,5 @@ pub returns-clause-reads : goal.returns-clause-reads
 returns-clause-reads g c bytes told long rows read =
     let so_far = c.loop-before in
     subst (λ (l : List (Option (List ℕ))). HasRead rows so_far.book.entries l)
-    (slots_none (count_of c.args.journal.now) so_far.before bytes (omega (arith, c.loop-before-test.false, c.count-before-end.ensures)))
+    (slots_none (count_of c.args.journal.now) so_far.before bytes (omega (arith, c.loop-before-test.false, c.count-count.ensures)))
     (so_far.invariant.reads bytes told long rows read)

@@ -1,4 +1,3 @@
-use Rattle.std.proofs.Common.{◌≡◌}
 use Rattle.book_store.proofs.Mounted.{opened, sound, asked, caused, held, refused_cause, refused_held}
 use Rattle.book_store.proofs.store.Store.mount.Goals as goal
 
