@@ -95,9 +95,6 @@ full_still count bytes full = grind (arith, nat_tests)
 
 -- a disk with the header, and what is read of it once it is mounted
 module _ (bytes : List ℕ) (kept : Option Kept) (count : ℕ) (header : HasHeader bytes) (snapshot : IsSnapshotOf bytes kept) (slots : count ≡ rows_before kept + slots_behind (rows_before kept) bytes) (most : count ≤ MAX_SLOTS) where
-  first : ℕ
-  first = rows_before kept
-
   pub counts_first : rows_before kept ≤ count
   counts_first = omega (arith, slots)
 
@@ -167,7 +164,6 @@ rows_behind (suc first) more bytes counts =
 module _ (bytes : List ℕ) (rows : List (List ℕ)) (is : IsJournalOf rows bytes) (few : length rows ≤ MAX_ROWS) where
   slots_of : (first : ℕ) → first ≤ length rows → slot_rows first bytes ≡ drop first rows
   slots_of first le =
-      let more = length rows - first in
       let sum : first + (length rows - first) ≡ length rows = omega (arith, le) in
       let all : length (open_rows (first + (length rows - first)) (drop ROW_BYTES bytes)) ≡ first + (length rows - first) = subst (λ (n : ℕ). length (rows_of n bytes) ≡ n) (sym sum) (ap length (journal_rows bytes rows is)) in
       let there : open_rows (length rows - first) (drop (gate_behind first) bytes) ≡ drop first rows =
@@ -190,7 +186,6 @@ module _ (bytes : List ℕ) (rows : List (List ℕ)) (is : IsJournalOf rows byte
 
   journal_listed : (all : List (Option (List ℕ))) → ListsRows bytes all → all ≡ listed rows
   journal_listed all lists =
-      let first = rows_before lists.kept in
       let within = snapshot_within bytes rows lists.kept is lists.snapshot in
       lists.are
       ∙ ap (λ (l : List (Option (List ℕ))). l ++ listed (slot_rows (rows_before lists.kept) bytes)) (snapshot_of lists.kept lists.snapshot)
