@@ -1,7 +1,9 @@
 pub mod Adopting
+pub mod Causes
 pub mod Images
 pub mod Listing
 pub mod Mounting
 pub mod Offers
+pub mod Opening
 pub mod Resting
 pub mod Stores

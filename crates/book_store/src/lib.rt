@@ -4,8 +4,12 @@
 
 mod adopt;
 mod ask;
+mod content;
 mod mount;
+mod opening;
+mod replay;
 mod rest;
+mod slots;
 mod store;
 mod types;
 

@@ -1,5 +1,7 @@
+use crate::opening::{cause_of, open};
 use crate::store::Store;
 use crate::types::Unmounted;
+use book_journal::Journal;
 use disk_core::Disk;
 use std::alloc::Global;
 
@@ -59,12 +61,12 @@ impl<D: Disk> Store<D> {
             (λ store. TellsAsBefore (D.reads disk) (D.reads (disk_of store)))
             (λ refused. TellsAsBefore (D.reads disk) (D.reads refused.disk)) }
     {
-        unsafe { stub() };
-        unreachable!()
+        match Journal::mount(disk) {
+            Ok(journal) => open(alloc, journal, limit),
+            Err(refused) => Err(Unmounted {
+                disk: refused.disk,
+                why: cause_of(refused.why),
+            }),
+        }
     }
-}
-
-unsafe extern "C" {
-    fn stub()
-        ensures { ⊥ };
 }

@@ -1,0 +1,19 @@
+use Rattle.std.proofs.Common.{◌≡◌, ◌∙◌, sym, subst, List, ap}
+use Rattle.book_words.specs.declared.act.Entry.{Entry}
+use Rattle.book_words.specs.Answers.{IsLegal}
+use Rattle.book_core.specs.View.{BookView}
+use Rattle.book_store.proofs.Reading.{none_legal}
+use Rattle.book_store.proofs.opening.open.Goals as goal
+
+pub returns-in-Ok : goal.returns-in-Ok
+returns-in-Ok g c =
+    let new : c.new-book.result ≡ _ = c.new-book.ensures in
+    record {
+      read = c.read_rows.ensures.read;
+      limited = c.read_rows.ensures.grows.limit ∙ ap (λ (b : BookView). b.limit) new;
+      legal = c.read_rows.ensures.grows.legal (subst (λ (entries : List Entry). IsLegal entries) (sym (ap (λ (b : BookView). b.entries) new)) none_legal);
+      count = c.in-Ok.ensures.count;
+      calm = c.in-Ok.ensures.cause;
+      asked = c.in-Ok.ensures.asked;
+      listed = λ bytes told there. c.in-Ok.ensures.reads bytes told there;
+    }
