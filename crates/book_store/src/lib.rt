@@ -4,6 +4,7 @@
 
 mod adopt;
 mod ask;
+mod enter;
 mod mount;
 mod rest;
 mod store;

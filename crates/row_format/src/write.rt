@@ -1,6 +1,6 @@
 ghost use Rattle.row_format.specs.Spelling.{new_layout};
 ghost use Rattle.row_format.specs.Allowed.{IsAllowed, IsAllowedWhereLawful};
-ghost use Rattle.row_format.specs.Rows.{Spells};
+ghost use Rattle.row_format.specs.Rows.{Spells, SpellsOneEntry};
 
 use book_snapshot::ROW_BYTES;
 use book_words::Entry;
@@ -19,6 +19,13 @@ pub fn write_row(entry: &Entry, number: u32) -> [u8; ROW_BYTES]
 /// A law of the rules: an entry that is lawful behind some list may stand in a row.
 pub fn lawful_entries_are_allowed()
     ensures { IsAllowedWhereLawful }
+{
+    unsafe { stub() };
+}
+
+/// A law of the spelling: the bytes of a row spell one entry at most.
+pub fn rows_spell_one_entry()
+    ensures { SpellsOneEntry }
 {
     unsafe { stub() };
 }
