@@ -123,3 +123,20 @@ pub decides : (book : BookView) (by : ℕ) (ask : Ask) (act : Act) (given : Resu
 decides book by ask act given wants most gives =
     subst (λ (w : Want). Decides book act (want_added book.limit book.entries by ask w) (want_answer book.limit book.entries ask w) given) (sym wants)
     (decides_by book by ask act given (desk_number ask act) (repeated_row book.entries ask act) (refusal_of book.limit book.entries ask act) most refl refl refl gives)
+
+-- what a step says, case by case
+pub ready_is : (book : BookView) (act : Act) (new : Option Entry) (told : Result Answered Refused) (given : Result Step BookError) (step : Step) (ready : ReadyEntry) → given ≡ Ok step → step ≡ New ready
+    → Decides book act new told given → IsReady book.entries new told ready
+ready_is book act new told given step ready is step_is decides = subst (Decides book act new told) (is ∙ ap (λ (s : Step). Ok s) step_is) decides
+
+pub known_is : (book : BookView) (act : Act) (new : Option Entry) (told : Result Answered Refused) (given : Result Step BookError) (step : Step) (answered : Answered) → given ≡ Ok step → step ≡ Known answered
+    → Decides book act new told given → (told ≡ Ok answered) × (new ≡ None)
+known_is book act new told given step answered is step_is decides = subst (Decides book act new told) (is ∙ ap (λ (s : Step). Ok s) step_is) decides
+
+pub refused_is : (book : BookView) (act : Act) (new : Option Entry) (told : Result Answered Refused) (given : Result Step BookError) (e : BookError) (refused : Refused) → given ≡ Err e → e ≡ error.Refused refused
+    → Decides book act new told given → (told ≡ Err refused) × (new ≡ None)
+refused_is book act new told given e refused is error_is decides = subst (Decides book act new told) (is ∙ ap (λ (e : BookError). Err e) error_is) decides
+
+pub lacking_is : (book : BookView) (act : Act) (new : Option Entry) (told : Result Answered Refused) (given : Result Step BookError) (e : BookError) → given ≡ Err e → e ≡ error.NoMemory
+    → Decides book act new told given → HasNoRoom book act × IsLawfulNew book.entries new
+lacking_is book act new told given e is error_is decides = subst (Decides book act new told) (is ∙ ap (λ (e : BookError). Err e) error_is) decides

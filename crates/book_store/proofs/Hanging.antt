@@ -1,5 +1,5 @@
 -- What is known of a store from what is known of its journal.
-use Rattle.std.proofs.Common.{◌≡◌, ◌⊎◌, inl, inr, ⊎_elim, ℕ, ◌+◌, ◌<◌, ◌≤◌, List, [], ◌∷◌, ◌++◌, length, Option, Some, Result, Ok, Err, OnOk, refl, sym, ◌∙◌, ap, subst, arith}
+use Rattle.std.proofs.Common.{◌≡◌, ◌⊎◌, inl, inr, ⊎_elim, ℕ, ◌+◌, ◌<◌, ◌≤◌, List, [], ◌∷◌, ◌++◌, length, Option, Some, Result, Ok, Err, OnOk, OnErr, refl, sym, ◌∙◌, ap, subst, arith}
 use Rattle.hall_limits.specs.declared.TheConstants.{MAX_ROWS}
 use Rattle.disk_core.specs.Devices.{LeavesOnly}
 use Rattle.disk_core.specs.declared.disk.Disk as disk
@@ -26,6 +26,15 @@ holds_more entries entry c can more recovers = record {
   rows = subst (λ (rows : List (List ℕ)). Recovers c rows) (sym (spelled_more entries entry)) recovers;
   can = all_more entries entry can more;
 }
+
+-- what holds at an Ok, and at an error
+pub done_at : {T E : Type 0} (result : Result T E) (value : T) → result ≡ Ok value → (P : Type 0) → OnOk result P → P
+done_at (Ok x) value is P holds = holds
+done_at (Err e) value is P holds = absurd (cc)
+
+pub failed_at : {T E : Type 0} (result : Result T E) (why : E) → result ≡ Err why → (P : Type 0) → OnErr result P → P
+failed_at (Ok x) why is P holds = absurd (cc)
+failed_at (Err e) why is P holds = holds
 
 module _ {D : Type 0} (g : disk.Ghosts D) where
   -- a journal hangs with one row
@@ -82,48 +91,50 @@ module _ {D : Type 0} (g : disk.Ghosts D) where
 
   -- a row was appended
   module _ (old new : Store D) (entry : Entry) (row : List ℕ) (spells : Spells new_layout row (length (entries_of old) + 1) entry) (lawful : IsLawful (entries_of old) entry) (has : HasBook g old) where
-    moments : (result : Result ℕ (Unit {0})) → AppendsRow g row result old.journal new.journal (spelled (entries_of old)) → LeavesOnly g (disk_of old) (disk_of new) (λ c. HoldsOrHangs g old c ⊎ HoldsBook (entries_of old ++ entry ∷ []) c)
+    moments : {E : Type 0} (result : Result ℕ E) → AppendsRow g row result old.journal new.journal (spelled (entries_of old)) → LeavesOnly g (disk_of old) (disk_of new) (λ c. HoldsOrHangs g old c ⊎ HoldsBook (entries_of old ++ entry ∷ []) c)
     moments result appends = leaves_in g (disk_of old) (disk_of new) _ _ appends.moments (λ c left. ⊎_elim
         (λ before. inl (holds_or_hangs old c has before))
         (λ more. inr (holds_more (entries_of old) entry c has.can spells.can (subst (λ (r : List ℕ). Recovers c (spelled (entries_of old) ++ r ∷ [])) spells.row more)))
         left)
 
-    pub offers_done : (number : ℕ) → AppendsRow g row (Ok number) old.journal new.journal (spelled (entries_of old)) → entries_of new ≡ entries_of old ++ entry ∷ [] → ¬ Hangs new → OffersEntry g entry old new
-    offers_done number appends more calm = record {
+    pub offers_done : {E : Type 0} (result : Result ℕ E) (number : ℕ) → result ≡ Ok number → AppendsRow g row result old.journal new.journal (spelled (entries_of old)) → entries_of new ≡ entries_of old ++ entry ∷ [] → ¬ Hangs new → OffersEntry g entry old new
+    offers_done result number is appends more calm = record {
       lawful = lawful;
       has = record {
         rows = subst (λ (es : List Entry). HasRows g new.journal (spelled es)) (sym more)
             (subst (λ (rows : List (List ℕ)). HasRows g new.journal rows) (sym (spelled_more (entries_of old) entry))
-            (subst (λ (r : List ℕ). HasRows g new.journal (spelled (entries_of old) ++ r ∷ [])) spells.row appends.done));
+            (subst (λ (r : List ℕ). HasRows g new.journal (spelled (entries_of old) ++ r ∷ [])) spells.row (done_at result number is _ appends.done)));
         can = subst CanAllBeSpelled (sym more) (all_more (entries_of old) entry has.can spells.can);
         hung = λ hangs. absurd (calm hangs);
       };
       hung = λ hung hangs. absurd (calm (hangs.row).hangs);
-      moments = moments (Ok number) appends;
+      moments = moments result appends;
     }
 
-    pub offers_failed : (one : SpellsOneEntry) (failed : Unit {0}) → AppendsRow g row (Err failed) old.journal new.journal (spelled (entries_of old)) → entries_of new ≡ entries_of old → OffersEntry g entry old new
-    offers_failed one failed appends same = record {
-      lawful = lawful;
-      has = record {
-        rows = subst (λ (es : List Entry). HasRows g new.journal (spelled es)) (sym same) appends.failed;
-        can = subst CanAllBeSpelled (sym same) has.can;
-        hung = λ hangs.
-            let hung = row_hangs new.journal (spelled (entries_of old)) appends.failed hangs in
-            ⊎_elim (λ offered. (entry, with_row hung.0 entry hung.1 (offered ∙ spells.row) spells.can))
-            (λ before.
-              let found = has.hung before.hangs in
-              (found.0, with_row hung.0 found.0 hung.1 (one_row old.journal _ _ before (found.1).row) (found.1).can))
-            (appends.hung hung.0 hung.1);
-      };
-      hung = λ hung hangs.
-          let at = subst (λ (es : List Entry). journals.HangsWith g new.journal (row_bytes new_layout (length es + 1) hung)) same hangs.row in
-          ⊎_elim
-          (λ offered. inl (one row (length (entries_of old) + 1) hung entry (record { row = sym offered; can = hangs.can }) spells))
-          (λ before. inr (record { row = before; can = hangs.can }))
-          (appends.hung (row_bytes new_layout (length (entries_of old) + 1) hung) at);
-      moments = moments (Err failed) appends;
-    }
+    pub offers_failed : {E : Type 0} (result : Result ℕ E) (why : E) → result ≡ Err why → SpellsOneEntry → AppendsRow g row result old.journal new.journal (spelled (entries_of old)) → entries_of new ≡ entries_of old → OffersEntry g entry old new
+    offers_failed result why is one appends same =
+        let rows = failed_at result why is _ appends.failed in
+        record {
+          lawful = lawful;
+          has = record {
+            rows = subst (λ (es : List Entry). HasRows g new.journal (spelled es)) (sym same) rows;
+            can = subst CanAllBeSpelled (sym same) has.can;
+            hung = λ hangs.
+                let hung = row_hangs new.journal (spelled (entries_of old)) rows hangs in
+                ⊎_elim (λ offered. (entry, with_row hung.0 entry hung.1 (offered ∙ spells.row) spells.can))
+                (λ before.
+                  let found = has.hung before.hangs in
+                  (found.0, with_row hung.0 found.0 hung.1 (one_row old.journal _ _ before (found.1).row) (found.1).can))
+                (failed_at result why is _ (appends.hung hung.0 hung.1));
+          };
+          hung = λ hung hangs.
+              let at = subst (λ (es : List Entry). journals.HangsWith g new.journal (row_bytes new_layout (length es + 1) hung)) same hangs.row in
+              ⊎_elim
+              (λ offered. inl (one row (length (entries_of old) + 1) hung entry (record { row = sym offered; can = hangs.can }) spells))
+              (λ before. inr (record { row = before; can = hangs.can }))
+              (failed_at result why is _ (appends.hung (row_bytes new_layout (length (entries_of old) + 1) hung) at));
+          moments = moments result appends;
+        }
       where
         with_row : (r : List ℕ) (other : Entry) → journals.HangsWith g new.journal r → r ≡ row_bytes new_layout (length (entries_of old) + 1) other → CanBeSpelled new_layout other → HangsWith g new other
         with_row r other hangs is can = record {
@@ -131,6 +142,25 @@ module _ {D : Type 0} (g : disk.Ghosts D) where
               (subst (λ (l : List ℕ). journals.HangsWith g new.journal l) is hangs);
           can = can;
         }
+
+  -- an entry offered to a store with the same journal and list
+  pub offers_from : (old mid new : Store D) (entry : Entry) → mid.journal ≡ old.journal → entries_of mid ≡ entries_of old → HasBook g old → (HasBook g mid → OffersEntry g entry mid new) → OffersEntry g entry old new
+  offers_from old mid new entry journal same has offered =
+      let offers = offered (has_on old mid journal same has) in
+      record {
+        lawful = subst (λ (es : List Entry). IsLawful es entry) same offers.lawful;
+        has = offers.has;
+        hung = λ hung hangs. ⊎_elim (λ is. inl is) (λ before. inr (hangs_on old mid hung journal same before)) (offers.hung hung hangs);
+        moments = subst (λ (d : D). LeavesOnly g d (disk_of new) (λ c. HoldsOrHangs g old c ⊎ HoldsBook (entries_of old ++ entry ∷ []) c)) (ap (λ (j : Journal D). j.disk) journal)
+            (leaves_in g (disk_of mid) (disk_of new) _ _ offers.moments (λ c left. ⊎_elim
+              (λ held. inl (held_on c held))
+              (λ more. inr (subst (λ (es : List Entry). HoldsBook (es ++ entry ∷ []) c) same more))
+              left));
+      }
+    where
+      held_on : (c : List ℕ) → HoldsOrHangs g mid c → HoldsOrHangs g old c
+      held_on c (inl without) = inl (subst (λ (es : List Entry). HoldsBook es c) same without)
+      held_on c (inr with_it) = inr (with_it.0, hangs_on old mid with_it.0 journal same with_it.1, subst (λ (es : List Entry). HoldsBook (es ++ with_it.0 ∷ []) c) same with_it.2)
 
   module _ (reads_image : (d : D) (bytes : List ℕ) → g.reads d ≡ Some bytes → g.image d bytes) (only_now : (d : D) (c : List ℕ) → g.since d (g.time d) c → g.image d c) where
     pub images_hold : (store : Store D) → ImagesHoldBook g store

@@ -50,6 +50,11 @@ some_kind (Close batch) h = absurd (cc)
 pub has_kind : (row : List ℕ) (number : ℕ) (entry : Entry) → Spells new_layout row number entry → slice_index row KIND_PLACE ≢ 0
 has_kind row number entry spells h = some_kind entry.act (sym (ap (λ (l : List ℕ). slice_index l KIND_PLACE) spells.row) ∙ h)
 
+-- under equal names
+pub spells_as : (row : List ℕ) (number other : ℕ) (entry same : Entry) → number ≡ other → entry ≡ same → Spells new_layout row number entry → Spells new_layout row other same
+spells_as row number other entry same numbers entries spells =
+    subst (λ (e : Entry). Spells new_layout row other e) entries (subst (λ (n : ℕ). Spells new_layout row n entry) numbers spells)
+
 -- it is a row of the journal
 pub is_row : (row : List ℕ) (number : ℕ) (entry : Entry) → length row ≡ ROW_BYTES → Spells new_layout row number entry → IsRow ROW_BYTES number row
 is_row row number entry long spells =
