@@ -16,6 +16,7 @@ use Rattle.book_words.specs.Desks.{desk_number, request_old, request_reused, req
 use Rattle.book_words.specs.Refusals.{refused_if, first_refusal, book_full, desk_refusals, refusals_of, refusal_of, refusal_by_rule}
 use Rattle.book_words.specs.Answers.{accepted, answer, new_answer, desk_answer, act_answer, want_answer, entry_for, entry_unless, added, want_added, IsLawful}
 use Rattle.book_words.proofs.RefusalLemmas.{none_of_two, none_of_parts}
+use Rattle.book_store.specs.Offers.{list_behind}
 use Rattle.book_core.specs.declared.types.Step.{Step}
 use Rattle.book_core.specs.declared.types.Step.TheVariants.{New, Known}
 use Rattle.book_core.specs.declared.types.BookError.{BookError}
@@ -117,7 +118,7 @@ decides_by book by ask act given None None None most desk new free gives =
     (λ made. record { entry = entry; is = refl; lawful = lawful })
 
 -- what making an act ready says of the ask
-pub decides : (book : BookView) (by : ℕ) (ask : Ask) (act : Act) (given : Result Step BookError) → ask.want ≡ want.Act act → book.limit ≤ MAX_ROWS
+decides : (book : BookView) (by : ℕ) (ask : Ask) (act : Act) (given : Result Step BookError) → ask.want ≡ want.Act act → book.limit ≤ MAX_ROWS
     → GivesUnlessNoMemory book act given (step_for book by ask.desk ask.request act)
     → Decides book act (added book.limit book.entries by ask) (answer book.limit book.entries ask) given
 decides book by ask act given wants most gives =
@@ -125,18 +126,32 @@ decides book by ask act given wants most gives =
     (decides_by book by ask act given (desk_number ask act) (repeated_row book.entries ask act) (refusal_of book.limit book.entries ask act) most refl refl refl gives)
 
 -- what a step says, case by case
-pub ready_is : (book : BookView) (act : Act) (new : Option Entry) (told : Result Answered Refused) (given : Result Step BookError) (step : Step) (ready : ReadyEntry) → given ≡ Ok step → step ≡ New ready
-    → Decides book act new told given → IsReady book.entries new told ready
-ready_is book act new told given step ready is step_is decides = subst (Decides book act new told) (is ∙ ap (λ (s : Step). Ok s) step_is) decides
+module _ (book : BookView) (by : ℕ) (ask : Ask) (act : Act) (given : Result Step BookError)
+    (wants : ask.want ≡ want.Act act) (most : book.limit ≤ MAX_ROWS)
+    (gives : GivesUnlessNoMemory book act given (step_for book by ask.desk ask.request act)) where
+  abbrev Says : Result Step BookError → Type 0
+  Says step = Decides book act (added book.limit book.entries by ask) (answer book.limit book.entries ask) step
 
-pub known_is : (book : BookView) (act : Act) (new : Option Entry) (told : Result Answered Refused) (given : Result Step BookError) (step : Step) (answered : Answered) → given ≡ Ok step → step ≡ Known answered
-    → Decides book act new told given → (told ≡ Ok answered) × (new ≡ None)
-known_is book act new told given step answered is step_is decides = subst (Decides book act new told) (is ∙ ap (λ (s : Step). Ok s) step_is) decides
+  pub ready_is : (step : Step) (ready : ReadyEntry) → given ≡ Ok step → step ≡ New ready → IsReady book.entries (added book.limit book.entries by ask) (answer book.limit book.entries ask) ready
+  ready_is step ready is step_is = subst Says (is ∙ ap (λ (s : Step). Ok s) step_is) (decides book by ask act given wants most gives)
 
-pub refused_is : (book : BookView) (act : Act) (new : Option Entry) (told : Result Answered Refused) (given : Result Step BookError) (e : BookError) (refused : Refused) → given ≡ Err e → e ≡ error.Refused refused
-    → Decides book act new told given → (told ≡ Err refused) × (new ≡ None)
-refused_is book act new told given e refused is error_is decides = subst (Decides book act new told) (is ∙ ap (λ (e : BookError). Err e) error_is) decides
+  pub known_is : (step : Step) (answered : Answered) → given ≡ Ok step → step ≡ Known answered → (answer book.limit book.entries ask ≡ Ok answered) × (added book.limit book.entries by ask ≡ None)
+  known_is step answered is step_is = subst Says (is ∙ ap (λ (s : Step). Ok s) step_is) (decides book by ask act given wants most gives)
 
-pub lacking_is : (book : BookView) (act : Act) (new : Option Entry) (told : Result Answered Refused) (given : Result Step BookError) (e : BookError) → given ≡ Err e → e ≡ error.NoMemory
-    → Decides book act new told given → HasNoRoom book act × IsLawfulNew book.entries new
-lacking_is book act new told given e is error_is decides = subst (Decides book act new told) (is ∙ ap (λ (e : BookError). Err e) error_is) decides
+  pub refused_is : (e : BookError) (refused : Refused) → given ≡ Err e → e ≡ error.Refused refused → (answer book.limit book.entries ask ≡ Err refused) × (added book.limit book.entries by ask ≡ None)
+  refused_is e refused is error_is = subst Says (is ∙ ap (λ (e : BookError). Err e) error_is) (decides book by ask act given wants most gives)
+
+  pub lacking_is : (e : BookError) → given ≡ Err e → e ≡ error.NoMemory → HasNoRoom book act × IsLawfulNew book.entries (added book.limit book.entries by ask)
+  lacking_is e is error_is = subst Says (is ∙ ap (λ (e : BookError). Err e) error_is) (decides book by ask act given wants most gives)
+
+-- the list behind an act that is entered, and behind one that isn't
+pub list_more : (answered : Answered) (entries same list : List Entry) (entry : Entry) → {new : Option Entry} → new ≡ Some entry → list ≡ same ++ entry ∷ [] → same ≡ entries → list ≡ list_behind (Ok answered) entries new
+list_more answered entries same list entry is entered equal =
+    entered ∙ ap (λ (es : List Entry). es ++ entry ∷ []) equal ∙ ap (λ (o : Option Entry). list_behind (Ok answered) entries o) (sym is)
+
+pub list_same : (answered : Answered) (entries list : List Entry) (new : Option Entry) → new ≡ None → list ≡ entries → list ≡ list_behind (Ok answered) entries new
+list_same answered entries list new is equal = equal ∙ ap (λ (o : Option Entry). list_behind (Ok answered) entries o) (sym is)
+
+pub none_new : (new : Option Entry) → new ≡ None → IsSome new → ⊥
+none_new None is some = none_made some
+none_new (Some entry) is some = absurd (cc)

@@ -1,3 +1,4 @@
 pub mod Spelled
 pub mod Hanging
 pub mod Decided
+pub mod Adopting
