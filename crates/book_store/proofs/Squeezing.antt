@@ -1,6 +1,7 @@
 -- The dense forms of a book's rows, entry by entry.
 use Rattle.std.proofs.Common.{◌≡◌, ◌≢◌, ℕ, suc, ◌+◌, ◌-◌, ◌*◌, ◌<◌, ◌≤◌, nat_le, true, false, Bool, if◌then◌else◌, List, [], ◌∷◌, ◌++◌, length, take, drop, get_or, slice_index, Option, Some, None, refl, sym, ◌∙◌, ap, subst, arith, length-append, length-drop, length-take, append-nil}
 use Rattle.std.proofs.Math.Seq.{take-suc}
+use Rattle.std.proofs.lemmas.Bool.Decides.{nat_tests}
 use Rattle.std.proofs.lemmas.Grind.{flat_map-append}
 use Rattle.std.proofs.lemmas.List.{append_assoc, take-append-drop, drop_more}
 use Rattle.std.proofs.lemmas.Option.{slice_get-get_or, get_or_from_slice_get}
@@ -45,11 +46,16 @@ content_more entries entry =
     ∙ flat_map-append dense (spelled entries) (row ∷ [])
     ∙ ap (λ (l : List ℕ). book_content entries ++ l) (append-nil (dense row))
 
+where_true : (test : Bool) (found : Option Entry) {entry : Option Entry} → test ≡ true → (if test then found else None) ≡ entry → found ≡ entry
+where_true true found holds is = is
+where_true false found holds is = absurd (cc)
+
 -- the entry of the next number
 pub entry_there : (entries : List Entry) (before : ℕ) (entry : Entry) → entry_numbered entries (before + 1) ≡ Some entry → slice_get entries before ≡ Some entry
 entry_there entries before entry is =
     let place : before + 1 - 1 ≡ before = omega arith in
-    ap (λ (k : ℕ). slice_get entries k) (sym place) ∙ is
+    let some : nat_le 1 (before + 1) ≡ true = grind (arith, nat_tests) in
+    ap (λ (k : ℕ). slice_get entries k) (sym place) ∙ where_true (nat_le 1 (before + 1)) (slice_get entries (before + 1 - 1)) some is
 
 take_more : (entries : List Entry) (before : ℕ) (entry : Entry) → before < length entries → slice_get entries before ≡ Some entry → take (before + 1) entries ≡ take before entries ++ entry ∷ []
 take_more entries before entry inside is =
