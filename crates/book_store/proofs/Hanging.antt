@@ -16,7 +16,7 @@ use Rattle.book_journal.proofs.Journals.{image_keeps}
 use Rattle.book_journal.proofs.Moments.{started, leaves_in}
 use Rattle.book_store.specs.declared.store.Store.{Store}
 use Rattle.book_store.specs.Images.{spelled, CanAllBeSpelled, HoldsBook}
-use Rattle.book_store.specs.Stores.{disk_of, entries_of, limit_of, Hangs, HasBook, IsSound, HangsWith, HoldsOrHangs, ImagesHoldBook}
+use Rattle.book_store.specs.Stores.{disk_of, entries_of, limit_of, Hangs, HasBook, IsSound, HangsWith, HoldsOrHangs, ImagesHoldBook, KeepsBook}
 use Rattle.book_store.specs.Offers.{OffersEntry, LeavesDisk}
 use Rattle.book_store.proofs.Spelled.{spelled_more, all_more}
 
@@ -174,4 +174,12 @@ module _ {D : Type 0} (g : disk.Ghosts D) where
       hung = λ hung hangs. inr (hangs_on old new hung journal same hangs);
       moments = subst (λ (j : Journal D). LeavesOnly g (disk_of old) j.disk (λ c. HoldsOrHangs g old c ⊎ HoldsBook (entries_of old ++ entry ∷ []) c)) (sym journal)
           (started g (disk_of old) _ (λ c was. inl (images_hold old has c (only_now (disk_of old) c was))));
+    }
+
+    -- a disk that isn't touched keeps the book
+    pub keeps_none : (store : Store D) → HasBook g store → KeepsBook g store store
+    keeps_none store has = record {
+      has = has;
+      hung = λ hung hangs. hangs;
+      moments = started g (disk_of store) _ (λ c was. images_hold store has c (only_now (disk_of store) c was));
     }
