@@ -1,5 +1,5 @@
 -- What an ask is answered, by what making its act ready gives.
-use Rattle.std.proofs.Common.{◌≡◌, Bool, true, false, ℕ, ◌+◌, ◌<◌, ◌≤◌, nat_le, List, [], ◌∷◌, ◌++◌, length, Option, Some, None, IsSome, Result, Ok, Err, refl, sym, ◌∙◌, ap, subst, arith}
+use Rattle.std.proofs.Common.{◌≡◌, Bool, true, false, ℕ, ◌+◌, ◌≤◌, nat_le, List, [], ◌∷◌, ◌++◌, length, Option, Some, None, IsSome, Result, Ok, Err, refl, sym, ◌∙◌, ap, subst, arith}
 use Rattle.std.proofs.lemmas.Bool.Decides.{nat_tests}
 use Rattle.std.specs.Option.{option_or}
 use Rattle.hall_limits.specs.declared.TheConstants.{MAX_ROWS}
@@ -13,8 +13,8 @@ use Rattle.book_words.specs.declared.reply.Refused.{Refused}
 use Rattle.book_words.specs.declared.refusal.Refusal.{Refusal}
 use Rattle.book_words.specs.declared.refusal.Refusal.TheVariants.{BookFull}
 use Rattle.book_words.specs.Desks.{desk_number, request_old, request_reused, request_gap, repeated_row}
-use Rattle.book_words.specs.Refusals.{refused_if, first_refusal, book_full, desk_refusals, refusals_of, refusal_of, refusal_by_rule}
-use Rattle.book_words.specs.Answers.{accepted, answer, new_answer, desk_answer, act_answer, want_answer, entry_for, entry_unless, added, want_added, IsLawful}
+use Rattle.book_words.specs.Refusals.{refused_if, first_refusal, book_full, desk_refusals, refusals_of, refusal_of}
+use Rattle.book_words.specs.Answers.{accepted, answer, desk_answer, want_answer, entry_for, entry_unless, added, want_added, IsLawful}
 use Rattle.book_words.proofs.RefusalLemmas.{none_of_two, none_of_parts}
 use Rattle.book_store.specs.Offers.{list_behind}
 use Rattle.book_core.specs.declared.types.Step.{Step}
@@ -22,7 +22,7 @@ use Rattle.book_core.specs.declared.types.Step.TheVariants.{New, Known}
 use Rattle.book_core.specs.declared.types.BookError.{BookError}
 use Rattle.book_core.specs.declared.types.BookError.TheVariants as error
 use Rattle.book_core.specs.View.{ReadyEntry, BookView}
-use Rattle.book_core.specs.Steps.{asked_act, ready_for, step_by, step_for, decision_by, decision, made_ready, GivesUnlessNoMemory, HasNoRoom}
+use Rattle.book_core.specs.Steps.{asked_act, ready_for, step_by, step_for, decision_by, made_ready, GivesUnlessNoMemory, HasNoRoom}
 
 isnt_full : (limit : ℕ) (test : Bool) → refused_if test (BookFull limit) ≡ None → test ≡ false
 isnt_full limit false h = refl

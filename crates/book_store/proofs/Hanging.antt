@@ -1,5 +1,5 @@
 -- What is known of a store from what is known of its journal.
-use Rattle.std.proofs.Common.{◌≡◌, ◌⊎◌, inl, inr, ⊎_elim, ℕ, ◌+◌, ◌<◌, ◌≤◌, List, [], ◌∷◌, ◌++◌, length, Option, Some, Result, Ok, Err, OnOk, OnErr, refl, sym, ◌∙◌, ap, subst, arith}
+use Rattle.std.proofs.Common.{◌≡◌, ◌⊎◌, inl, inr, ⊎_elim, ℕ, ◌+◌, ◌≤◌, List, [], ◌∷◌, ◌++◌, length, Some, Result, Ok, Err, OnOk, OnErr, refl, sym, ◌∙◌, ap, subst}
 use Rattle.hall_limits.specs.declared.TheConstants.{MAX_ROWS}
 use Rattle.disk_core.specs.Devices.{LeavesOnly}
 use Rattle.disk_core.specs.declared.disk.Disk as disk
@@ -123,8 +123,8 @@ module _ {D : Type 0} (g : disk.Ghosts D) where
                 let hung = row_hangs new.journal (spelled (entries_of old)) rows hangs in
                 ⊎_elim (λ offered. (entry, with_row hung.0 entry hung.1 (offered ∙ spells.row) spells.can))
                 (λ before.
-                  let found = has.hung before.hangs in
-                  (found.0, with_row hung.0 found.0 hung.1 (one_row old.journal _ _ before (found.1).row) (found.1).can))
+                let found = has.hung before.hangs in
+                (found.0, with_row hung.0 found.0 hung.1 (one_row old.journal _ _ before (found.1).row) (found.1).can))
                 (failed_at result why is _ (appends.hung hung.0 hung.1));
           };
           hung = λ hung hangs.
@@ -153,9 +153,9 @@ module _ {D : Type 0} (g : disk.Ghosts D) where
         hung = λ hung hangs. ⊎_elim (λ is. inl is) (λ before. inr (hangs_on old mid hung journal same before)) (offers.hung hung hangs);
         moments = subst (λ (d : D). LeavesOnly g d (disk_of new) (λ c. HoldsOrHangs g old c ⊎ HoldsBook (entries_of old ++ entry ∷ []) c)) (ap (λ (j : Journal D). j.disk) journal)
             (leaves_in g (disk_of mid) (disk_of new) _ _ offers.moments (λ c left. ⊎_elim
-              (λ held. inl (held_on c held))
-              (λ more. inr (subst (λ (es : List Entry). HoldsBook (es ++ entry ∷ []) c) same more))
-              left));
+            (λ held. inl (held_on c held))
+            (λ more. inr (subst (λ (es : List Entry). HoldsBook (es ++ entry ∷ []) c) same more))
+            left));
       }
     where
       held_on : (c : List ℕ) → HoldsOrHangs g mid c → HoldsOrHangs g old c

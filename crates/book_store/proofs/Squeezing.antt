@@ -1,17 +1,17 @@
 -- The dense forms of a book's rows, entry by entry.
-use Rattle.std.proofs.Common.{◌≡◌, ◌≢◌, ℕ, suc, ◌+◌, ◌-◌, ◌*◌, ◌<◌, ◌≤◌, nat_le, true, false, Bool, if◌then◌else◌, List, [], ◌∷◌, ◌++◌, length, take, drop, get_or, slice_index, Option, Some, None, refl, sym, ◌∙◌, ap, subst, arith, length-append, length-drop, length-take, append-nil}
+use Rattle.std.proofs.Common.{◌≡◌, ℕ, suc, ◌+◌, ◌-◌, ◌*◌, ◌<◌, ◌≤◌, nat_le, true, false, Bool, if◌then◌else◌, List, [], ◌∷◌, ◌++◌, length, take, drop, slice_index, Option, Some, None, refl, sym, ◌∙◌, ap, arith, length-append, length-drop, length-take, append-nil}
 use Rattle.std.proofs.Math.Seq.{take-suc}
 use Rattle.std.proofs.lemmas.Bool.Decides.{nat_tests}
 use Rattle.std.proofs.lemmas.Grind.{flat_map-append}
-use Rattle.std.proofs.lemmas.List.{append_assoc, take-append-drop, drop_more}
-use Rattle.std.proofs.lemmas.Option.{slice_get-get_or, get_or_from_slice_get}
+use Rattle.std.proofs.lemmas.List.{take-append-drop, drop_more}
+use Rattle.std.proofs.lemmas.Option.{get_or_from_slice_get}
 use Rattle.std.specs.List.{slice_get}
-use Rattle.hall_limits.specs.declared.TheConstants.{MAX_ROWS, NAME_BYTES}
+use Rattle.hall_limits.specs.declared.TheConstants.{NAME_BYTES}
 use Rattle.book_words.specs.declared.act.Entry.{Entry}
-use Rattle.book_words.specs.Answers.{IsLawful, IsLegal}
+use Rattle.book_words.specs.Answers.{IsLegal}
 use Rattle.book_state.specs.Told.{entry_numbered}
-use Rattle.book_snapshot.specs.declared.layout.TheConstants.{ROW_BYTES, KIND_PLACE, FIELDS_PLACE, LEFT_OUT, MAX_CONTENT}
-use Rattle.book_snapshot.specs.DenseRows.{trimmed, short_row, dense, content}
+use Rattle.book_snapshot.specs.declared.layout.TheConstants.{ROW_BYTES, KIND_PLACE, FIELDS_PLACE, LEFT_OUT}
+use Rattle.book_snapshot.specs.DenseRows.{dense, content}
 use Rattle.book_snapshot.proofs.Trimmed.{trimmed_no_longer}
 use Rattle.row_format.specs.Spelling.{new_layout, row_bytes}
 use Rattle.row_format.specs.Allowed.{IsAllowed, IsAllowedWhereLawful}

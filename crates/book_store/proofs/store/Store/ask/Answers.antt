@@ -1,11 +1,10 @@
-use Rattle.std.proofs.Common.{◌≡◌, ◌≤◌, ◌+◌, ℕ, List, ◌∷◌, [], ◌++◌, length, Option, Some, None, IsSome, Result, Ok, Err, refl, sym, ◌∙◌, ap, subst}
+use Rattle.std.proofs.Common.{◌+◌, List, length, Option, IsSome, refl, sym, ◌∙◌, ap, subst}
 use Rattle.hall_limits.specs.declared.TheConstants.{MAX_ROWS}
 use Rattle.book_words.specs.declared.act.Want.{Want}
 use Rattle.book_words.specs.declared.act.Entry.{Entry}
 use Rattle.book_words.specs.Answers.{answer, IsLawful}
 use Rattle.book_core.specs.Steps.{asked_act, MayLackMemory}
-use Rattle.book_store.specs.declared.store.Store.{Store}
-use Rattle.book_store.specs.Offers.{Offers, list_behind}
+use Rattle.book_store.specs.Offers.{Offers}
 use Rattle.book_store.proofs.Decided.{ready_is, known_is, refused_is, lacking_is, list_more, list_same, none_new}
 use Rattle.book_store.proofs.Hanging.{images_hold, leaves_disk, offers_from, offers_none}
 use Rattle.book_store.proofs.store.Store.ask.Goals as goal
