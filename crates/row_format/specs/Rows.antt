@@ -1,5 +1,5 @@
 -- Which bytes spell an entry, and where bytes that spell none go wrong.
-use Rattle.std.specs.Prelude.{◌≡◌, ◌≢◌, ℕ, ◌+◌, ◌<◌, ◌^◌, List, take}
+use Rattle.std.specs.Prelude.{◌≡◌, ℕ, ◌+◌, ◌<◌, List, take}
 use Rattle.book_words.specs.declared.act.Entry.{Entry}
 use Rattle.row_format.specs.Spelling.{Layout, new_layout, row_bytes}
 use Rattle.row_format.specs.Allowed.{IsAllowed, FitsFields}

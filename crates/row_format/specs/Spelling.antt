@@ -1,5 +1,5 @@
 -- The bytes of a row: one spelling for each entry and number. Numbers have their little end first.
-use Rattle.std.specs.Prelude.{◌≡◌, ℕ, ℤ, ◌+◌, ◌-◌, List, [], ◌∷◌, ◌++◌, length, replicate, unsigned_abs, Option, Some, None}
+use Rattle.std.specs.Prelude.{ℕ, ℤ, ◌-◌, List, [], ◌∷◌, ◌++◌, length, replicate, unsigned_abs, Option, Some, None}
 use Rattle.std.specs.Int.{w16, w32, w64, to_le_bytes}
 use Rattle.hall_limits.specs.declared.TheConstants.{NAME_BYTES}
 use Rattle.annex_tables.specs.declared.types.Mode.{Mode}
