@@ -1,4 +1,4 @@
-use Rattle.std.proofs.Common.{◌∙◌, refl}
+use Rattle.std.proofs.Common.{rules, ◌∙◌, refl}
 use Rattle.book_store.proofs.Hanging.{images_hold, offers_done, offers_failed}
 use Rattle.book_store.proofs.Spelled.{spells_as}
 use Rattle.book_store.proofs.store.Store.enter.Goals as goal
@@ -18,5 +18,5 @@ pub returns-clause-offers : goal.returns-clause-offers
 returns-clause-offers g c has =
     let old = c.args.self.now in
     let spells = spells_as c.write_row-row.result _ _ _ _ (c.number.ensures ∙ c.requires.number) c.entry.ensures c.write_row-row.ensures in
-    offers_done g.D.Disk old (record old { journal = c.append.new.self; book = c.enter.new.self }) c.args.ready.entry c.write_row-row.result spells c.requires.lawful has
-    c.append.result _ c.in_ok-append.was (c.append.ensures.appends _ has.rows) c.enter.ensures.entries c.in_ok-append.ensures.settled
+    offers_done g.D.Disk old _ c.args.ready.entry c.write_row-row.result spells c.requires.lawful has
+    c.append.result _ c.in_ok-append.was (c.append.ensures.appends _ has.rows) (search rules) c.in_ok-append.ensures.settled
