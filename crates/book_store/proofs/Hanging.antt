@@ -1,10 +1,9 @@
 -- What is known of a store from what is known of its journal.
-use Rattle.std.proofs.Common.{◌≡◌, ◌⊎◌, inl, inr, ⊎_elim, ℕ, ◌+◌, ◌≤◌, List, [], ◌∷◌, ◌++◌, length, Some, Result, Ok, Err, OnOk, OnErr, refl, sym, ◌∙◌, ap, subst}
-use Rattle.hall_limits.specs.declared.TheConstants.{MAX_ROWS}
+use Rattle.std.proofs.Common.{◌≡◌, ◌⊎◌, inl, inr, ⊎_elim, ℕ, ◌+◌, List, [], ◌∷◌, ◌++◌, length, Some, Result, Ok, Err, OnOk, OnErr, refl, sym, ◌∙◌, ap, subst}
 use Rattle.disk_core.specs.Devices.{LeavesOnly}
 use Rattle.disk_core.specs.declared.disk.Disk as disk
 use Rattle.book_words.specs.declared.act.Entry.{Entry}
-use Rattle.book_words.specs.Answers.{IsLawful, IsLegal}
+use Rattle.book_words.specs.Answers.{IsLawful}
 use Rattle.row_format.specs.Spelling.{new_layout, row_bytes}
 use Rattle.row_format.specs.Rows.{CanBeSpelled, Spells, SpellsOneEntry}
 use Rattle.book_journal.specs.declared.journal.Journal.{Journal}
@@ -16,7 +15,7 @@ use Rattle.book_journal.proofs.Journals.{image_keeps}
 use Rattle.book_journal.proofs.Moments.{started, leaves_in}
 use Rattle.book_store.specs.declared.store.Store.{Store}
 use Rattle.book_store.specs.Images.{spelled, CanAllBeSpelled, HoldsBook}
-use Rattle.book_store.specs.Stores.{disk_of, entries_of, limit_of, Hangs, HasBook, IsSound, HangsWith, HoldsOrHangs, ImagesHoldBook, KeepsBook}
+use Rattle.book_store.specs.Stores.{disk_of, entries_of, Hangs, HasBook, HangsWith, HoldsOrHangs, ImagesHoldBook, KeepsBook}
 use Rattle.book_store.specs.Offers.{OffersEntry, LeavesDisk}
 use Rattle.book_store.proofs.Spelled.{spelled_more, all_more}
 
@@ -67,14 +66,6 @@ module _ {D : Type 0} (g : disk.Ghosts D) where
     same = ap (λ (j : Journal D). j.disk) journal;
     has = has_on old new journal same;
     hung = λ hung hangs. hangs_on old new hung journal same hangs;
-  }
-
-  pub sound_on : (old new : Store D) → new.journal ≡ old.journal → entries_of new ≡ entries_of old → limit_of new ≡ limit_of old → IsSound g old → IsSound g new
-  sound_on old new journal same limit sound = record {
-    journal = subst (λ (j : Journal D). journals.IsSound g j) (sym journal) sound.journal;
-    count = ap (λ (j : Journal D). j.count) journal ∙ sound.count ∙ ap (λ (es : List Entry). length es) (sym same);
-    legal = subst IsLegal (sym same) sound.legal;
-    most = subst (λ (n : ℕ). n ≤ MAX_ROWS) (sym limit) sound.most;
   }
 
   -- what recovers the rows, or one more, holds the book, or one entry more

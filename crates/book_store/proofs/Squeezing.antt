@@ -1,5 +1,5 @@
 -- The dense forms of a book's rows, entry by entry.
-use Rattle.std.proofs.Common.{◌≡◌, ℕ, suc, ◌+◌, ◌-◌, ◌*◌, ◌<◌, ◌≤◌, nat_le, true, false, Bool, if◌then◌else◌, List, [], ◌∷◌, ◌++◌, length, take, drop, slice_index, Option, Some, None, refl, sym, ◌∙◌, ap, arith, length-append, length-drop, length-take, append-nil}
+use Rattle.std.proofs.Common.{◌≡◌, ℕ, suc, ◌+◌, ◌-◌, ◌*◌, ◌<◌, ◌≤◌, nat_le, true, false, Bool, if◌then◌else◌, List, [], ◌∷◌, ◌++◌, length, take, drop, slice_index, Option, Some, None, sym, ◌∙◌, ap, arith, length-append, length-drop, length-take, append-nil}
 use Rattle.std.proofs.Math.Seq.{take-suc}
 use Rattle.std.proofs.lemmas.Bool.Decides.{nat_tests}
 use Rattle.std.proofs.lemmas.Grind.{flat_map-append}
@@ -29,9 +29,6 @@ pub record IsSqueezed (entries : List Entry) (count : ℕ) (bytes : List ℕ) : 
   pub is : bytes ≡ book_content (take count entries)
   pub least : count ≤ length bytes
   pub most : length bytes ≤ longest * count
-
-pub squeezed_none : (entries : List Entry) → IsSqueezed entries 0 []
-squeezed_none entries = record { is = refl; least = omega arith; most = omega arith }
 
 -- the dense form of a row isn't empty, and no longer than that
 dense_length : (row : List ℕ) → length row ≡ ROW_BYTES → length (dense row) ≤ longest
