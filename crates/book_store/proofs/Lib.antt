@@ -4,5 +4,10 @@ pub mod Listed
 pub mod Mounted
 pub mod Parts
 pub mod Reading
-pub mod Spelled
+pub mod Opened
 pub mod Walks
+pub mod Spelled
+pub mod Hanging
+pub mod Decided
+pub mod Adopting
+pub mod Squeezing

@@ -34,7 +34,7 @@ use Rattle.book_store.specs.Opening.{IsReadable, rows_there, slots_from, StandsA
 use Rattle.book_store.specs.Stores.{disk_of, entries_of, IsSound}
 use Rattle.book_store.proofs.Exits.{count_kept}
 use Rattle.book_store.proofs.Listed.{recovered_listed, slots_read, snapshot_same, closed_long, counts_first}
-use Rattle.book_store.proofs.Spelled.{listed, opened_as, damaged_at, read_same, not_damaged, legal_few, length_spelled}
+use Rattle.book_store.proofs.Opened.{listed, opened_as, damaged_at, read_same, not_damaged, legal_few, length_spelled}
 use Rattle.book_store.proofs.Walks.{slots_none}
 
 -- what stands at the end of some bytes stands there still
@@ -143,13 +143,15 @@ module _ {D : Type 0} (g : disk.Ghosts D) where
       opened_as bytes _ (entries_of store) is.lists (opens.listed is.now is.told is.readable)
   opened journal limit (Err refused) bytes most mounted opens = tt
 
-  pub sound : (journal : Journal D) (limit : ℕ) (result : Result (Store D) (Unmounted D)) → (journals.count_of journal ≤ MAX_ROWS → journals.IsSound g journal)
+  pub sound : (journal : Journal D) (limit : ℕ) (result : Result (Store D) (Unmounted D)) → limit ≤ MAX_ROWS → (journals.count_of journal ≤ MAX_ROWS → journals.IsSound g journal)
       → Opens g journal limit result → IfOk result (λ store. IsSound g store)
-  sound journal limit (Ok store) is opens = record {
+  sound journal limit (Ok store) most is opens = record {
     journal = opens.read.sound (is (omega (arith, opens.count, legal_few (entries_of store) opens.legal)));
     count = count_kept g journal store.journal opens.read ∙ opens.count;
+    legal = opens.legal;
+    most = subst (λ (n : ℕ). n ≤ MAX_ROWS) (sym opens.limited) most;
   }
-  sound journal limit (Err refused) is opens = tt
+  sound journal limit (Err refused) most is opens = tt
 
   asked_of : (old : D) (journal : Journal D) (limit : ℕ) (store : Store D) (bytes : List ℕ) (rows size : ℕ) → HasMounted g bytes journal
       → g.asked (journals.disk_of journal) ≤ g.asked old + mounting.opening_cost (journals.kept_of journal) (journals.count_of journal)
@@ -190,10 +192,10 @@ module _ {D : Type 0} (g : disk.Ghosts D) where
     passing_by NoMemory before now rows entries can legal are counts stops = tt
 
     pub held : (limit : ℕ) (result : Result (Store D) (Unmounted D)) (bytes : List ℕ) (entries : List Entry) → ((d : D) (t : ℕ) (c : List ℕ) → t ≤ g.time d → g.image d c → g.since d t c)
-        → g.reads old ≡ Some bytes → HoldsBook entries bytes → IsLegal entries
+        → g.reads old ≡ Some bytes → HoldsBook entries bytes → IsLegal entries → (journals.Hangs journal → ⊥)
         → ((rows : List (List ℕ)) → Recovers bytes rows → length rows ≤ MAX_ROWS → RecoversRows g old journal rows)
         → Opens g journal limit result → KeepsHeld g old entries result
-    held limit (Ok store) bytes entries counts_now told holds legal recovers opens =
+    held limit (Ok store) bytes entries counts_now told holds legal calm recovers opens =
         let few = spelled_few entries legal in
         let is = there bytes journal most (mounted bytes told) in
         let are = recovered_listed bytes (spelled entries) _ holds.rows few is.lists in
@@ -205,10 +207,11 @@ module _ {D : Type 0} (g : disk.Ghosts D) where
           has = record {
             rows = subst (λ (l : List Entry). journals.HasRows g store.journal (spelled l)) (sym same) (opens.read.rows (spelled entries) keeps.has);
             can = read.can;
+            hung = λ hangs. absurd (calm (subst (λ (j : Journal D). journals.Hangs j) opens.read.same hangs));
           };
           moments = keeps_on old (journals.disk_of journal) (disk_of store) (λ c. Recovers c (spelled entries)) (HoldsBook entries) counts_now keeps.moments opens.read.unmoved (λ c rows. record { rows = rows; can = holds.can });
         }
-    held limit (Err refused) bytes entries counts_now told holds legal recovers opens =
+    held limit (Err refused) bytes entries counts_now told holds legal calm recovers opens =
         let few = spelled_few entries legal in
         let is = there bytes journal most (mounted bytes told) in
         let are = recovered_listed bytes (spelled entries) _ holds.rows few is.lists in

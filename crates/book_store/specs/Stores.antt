@@ -1,8 +1,10 @@
 -- A store as contracts see it, and what its disk keeps of the book whatever a crash makes of it.
-use Rattle.std.specs.Prelude.{◌≡◌, ◌⊎◌, ℕ, ◌+◌, List, [], ◌∷◌, ◌++◌, length}
+use Rattle.std.specs.Prelude.{◌≡◌, ◌⊎◌, ℕ, ◌+◌, ◌≤◌, List, [], ◌∷◌, ◌++◌, length}
+use Rattle.hall_limits.specs.declared.TheConstants.{MAX_ROWS}
 use Rattle.disk_core.specs.Devices.{LeavesOnly}
 use Rattle.disk_core.specs.declared.disk.Disk as disk
 use Rattle.book_words.specs.declared.act.Entry.{Entry}
+use Rattle.book_words.specs.Answers.{IsLegal}
 use Rattle.book_core.specs.View.{BookView}
 use Rattle.row_format.specs.Spelling.{new_layout, row_bytes}
 use Rattle.row_format.specs.Rows.{CanBeSpelled}
@@ -33,23 +35,28 @@ spare_of store = (book_of store).spare
 abbrev pub Hangs : {D : Type 0} → Store D → Type 0
 Hangs store = journals.Hangs store.journal
 
--- The disk has the book: its rows stand where the disk tells, and no crash takes one away or makes
--- one up. Mounting a disk that holds a book gives this fact, and every call keeps it.
-pub record HasBook {D : Type 0} (disk : disk.Ghosts D) (store : Store D) : Type 0 where
-  pub rows : journals.HasRows disk store.journal (spelled (entries_of store))
-  pub can : CanAllBeSpelled (entries_of store)
-
--- the journal has as many rows as the book, and a gate behind them: so it is on every disk
-pub record IsSound {D : Type 0} (disk : disk.Ghosts D) (store : Store D) : Type 0 where
-  pub journal : journals.IsSound disk store.journal
-  pub count : journals.count_of store.journal ≡ length (entries_of store)
-
 -- the store hangs with this entry: a crash may leave it behind the others or not
 pub record HangsWith {D : Type 0} (disk : disk.Ghosts D) (store : Store D)
     (entry : Entry) : Type 0 where
   pub row : journals.HangsWith disk store.journal
       (row_bytes new_layout (length (entries_of store) + 1) entry)
   pub can : CanBeSpelled new_layout entry
+
+-- The disk has the book: its rows stand where the disk tells, no crash takes one away or makes one
+-- up, and what hangs is an entry. Mounting a disk that holds a book gives this fact, and every call
+-- keeps it.
+pub record HasBook {D : Type 0} (disk : disk.Ghosts D) (store : Store D) : Type 0 where
+  pub rows : journals.HasRows disk store.journal (spelled (entries_of store))
+  pub can : CanAllBeSpelled (entries_of store)
+  pub hung : Hangs store → (entry : Entry) × HangsWith disk store entry
+
+-- The journal has as many rows as the book, and a gate behind them; the book is legal, and its limit
+-- is one that a book may have. So it is on every disk.
+pub record IsSound {D : Type 0} (disk : disk.Ghosts D) (store : Store D) : Type 0 where
+  pub journal : journals.IsSound disk store.journal
+  pub count : journals.count_of store.journal ≡ length (entries_of store)
+  pub legal : IsLegal (entries_of store)
+  pub most : limit_of store ≤ MAX_ROWS
 
 -- an image holds the book, or the book and the entry that hangs
 abbrev pub HoldsOrHangs : {D : Type 0} → disk.Ghosts D → Store D → List ℕ → Type 0

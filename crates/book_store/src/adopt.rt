@@ -1,5 +1,6 @@
 use crate::store::Store;
 use crate::types::AdoptError;
+use book_core::ReplayError;
 use book_words::Entry;
 use disk_core::Disk;
 
@@ -38,12 +39,15 @@ impl<D: Disk> Store<D> {
         ensures tells { TellsAsBefore (D.reads (disk_of self.old)) (D.reads (disk_of self.new)) }
         ensures sound { IsSound D.Disk self.new }
     {
-        unsafe { stub() };
-        unreachable!()
+        let ready = match self.book.admit(entry) {
+            Ok(ready) => ready,
+            Err(ReplayError::Unlawful) => return Err(AdoptError::Unlawful),
+            Err(ReplayError::NoMemory) => return Err(AdoptError::NoMemory),
+        };
+        let number = ready.number();
+        match self.enter(ready) {
+            Ok(_) => Ok(number),
+            Err(_) => Err(AdoptError::DiskFault),
+        }
     }
-}
-
-unsafe extern "C" {
-    fn stub()
-        ensures { ⊥ };
 }

@@ -1,5 +1,6 @@
 use crate::store::Store;
-use book_words::{Answered, Ask, AskError};
+use book_core::{BookError, Step};
+use book_words::{Answered, Ask, AskError, Want};
 use disk_core::Disk;
 
 impl<D: Disk> Store<D> {
@@ -44,12 +45,21 @@ impl<D: Disk> Store<D> {
         ensures tells { TellsAsBefore (D.reads (disk_of self.old)) (D.reads (disk_of self.new)) }
         ensures sound { IsSound D.Disk self.new }
     {
-        unsafe { stub() };
-        unreachable!()
+        match &ask.want {
+            Want::Act(act) => match self.book.ready(by, ask.desk, ask.request, act) {
+                Ok(Step::New(ready)) => match self.enter(ready) {
+                    Ok(answered) => Ok(answered),
+                    Err(_) => Err(AskError::DiskFault),
+                },
+                Ok(Step::Known(answered)) => Ok(answered),
+                Err(BookError::Refused(refused)) => Err(AskError::Refused(refused)),
+                Err(BookError::NoMemory) => Err(AskError::NoMemory),
+            },
+            Want::Question(question) => match self.book.look(question) {
+                Ok(answered) => Ok(answered),
+                Err(BookError::Refused(refused)) => Err(AskError::Refused(refused)),
+                Err(BookError::NoMemory) => Err(AskError::NoMemory),
+            },
+        }
     }
-}
-
-unsafe extern "C" {
-    fn stub()
-        ensures { ⊥ };
 }

@@ -5,6 +5,7 @@
 mod adopt;
 mod ask;
 mod content;
+mod enter;
 mod mount;
 mod opening;
 mod replay;

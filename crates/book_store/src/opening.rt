@@ -64,7 +64,11 @@ pub(crate) fn open<D: Disk>(
     let mut journal = journal;
     let mut book = Book::new(alloc, limit);
     match read_rows(alloc, &mut journal, &mut book) {
-        Ok(()) => Ok(Store { journal, book }),
+        Ok(()) => Ok(Store {
+            journal,
+            book,
+            alloc,
+        }),
         Err(why) => Err(Unmounted {
             disk: journal.give_back(),
             why,

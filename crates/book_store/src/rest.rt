@@ -1,6 +1,16 @@
+ghost use Rattle.std.specs.Prelude.{◌≡◌, ◌≤◌, IfOk, OnOk, length};
+ghost use Rattle.hall_limits.specs.declared.TheConstants.{MAX_ROWS};
+ghost use Rattle.book_snapshot.specs.declared.layout.TheConstants.{MAX_CONTENT};
+ghost use Rattle.book_words.specs.Answers.{IsLegal};
+ghost use Rattle.book_store.specs.Resting.{book_content};
+
 use crate::store::Store;
 use crate::types::RestError;
+use book_core::{Book, NoMemory};
+use book_snapshot::{Dense, squeeze};
 use disk_core::Disk;
+use row_format::{lawful_entries_are_allowed, write_row};
+use std::alloc::Global;
 
 impl<D: Disk> Store<D> {
     ghost use Rattle.std.specs.Prelude.{◌≡◌, ◌↔◌, ◌≤◌, true, false, Ok, Err, length};
@@ -41,12 +51,34 @@ impl<D: Disk> Store<D> {
         ensures tells { TellsAsBefore (D.reads (disk_of self.old)) (D.reads (disk_of self.new)) }
         ensures sound { IsSound D.Disk self.new }
     {
-        unsafe { stub() };
-        unreachable!()
+        if self.book.len() == 0 || self.journal.hanging() {
+            return Ok(false);
+        }
+        let Ok(content) = squeezed(self.alloc, &self.book) else {
+            return Err(RestError::NoMemory);
+        };
+        match self.journal.keep(&content) {
+            Ok(()) => Ok(true),
+            Err(_) => Err(RestError::DiskFault),
+        }
     }
 }
 
-unsafe extern "C" {
-    fn stub()
-        ensures { ⊥ };
+// The dense forms of a book's rows.
+fn squeezed(alloc: Global, book: &Book) -> Result<Dense, NoMemory>
+    requires legal { IsLegal book.now.entries }
+    requires few { length book.now.entries ≤ MAX_ROWS }
+    ensures content { IfOk result (λ dense. dense ≡ book_content book.now.entries) }
+    ensures least { OnOk result
+        (length book.now.entries ≤ length (book_content book.now.entries)) }
+    ensures most { OnOk result (length (book_content book.now.entries) ≤ MAX_CONTENT) }
+{
+    lawful_entries_are_allowed();
+    let mut content = Dense::new(alloc);
+    for before in 0..book.len() {
+        let number = before + 1;
+        let entry = book.entry(number).unwrap();
+        squeeze(&write_row(&entry, number), &mut content)?;
+    }
+    Ok(content)
 }

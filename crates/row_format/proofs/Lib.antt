@@ -12,3 +12,4 @@ pub mod Powers
 pub mod Loops
 pub mod Readers
 pub mod Worked
+pub mod OneEntry

@@ -1,7 +1,7 @@
 -- Which bytes spell an entry, and where bytes that spell none go wrong.
 use Rattle.std.specs.Prelude.{◌≡◌, ℕ, ◌+◌, ◌<◌, List, take}
 use Rattle.book_words.specs.declared.act.Entry.{Entry}
-use Rattle.row_format.specs.Spelling.{Layout, row_bytes}
+use Rattle.row_format.specs.Spelling.{Layout, new_layout, row_bytes}
 use Rattle.row_format.specs.Allowed.{IsAllowed, FitsFields}
 
 -- a row can spell this entry
@@ -13,6 +13,11 @@ pub record CanBeSpelled (layout : Layout) (entry : Entry) : Type 0 where
 pub record Spells (layout : Layout) (bytes : List ℕ) (number : ℕ) (entry : Entry) : Type 0 where
   pub row : bytes ≡ row_bytes layout number entry
   pub can : CanBeSpelled layout entry
+
+-- A law of the spelling: the bytes of a row spell one entry at most.
+abbrev pub SpellsOneEntry : Type 0
+SpellsOneEntry = (bytes : List ℕ) (number : ℕ) (entry other : Entry)
+    → Spells new_layout bytes number entry → Spells new_layout bytes number other → entry ≡ other
 
 -- some row with this number begins with the first bytes
 pub record BeginsRow (layout : Layout) (number count : ℕ) (bytes : List ℕ) : Type 0 where

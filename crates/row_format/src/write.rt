@@ -1,6 +1,6 @@
 ghost use Rattle.row_format.specs.Spelling.{new_layout};
 ghost use Rattle.row_format.specs.Allowed.{IsAllowed, IsAllowedWhereLawful};
-ghost use Rattle.row_format.specs.Rows.{Spells};
+ghost use Rattle.row_format.specs.Rows.{Spells, SpellsOneEntry};
 
 use crate::buffer::RowBuffer;
 use crate::spell::{kind_of, push_fields};
@@ -27,4 +27,9 @@ pub fn write_row(entry: &Entry, number: u32) -> [u8; ROW_BYTES]
 /// A law of the rules: an entry that is lawful behind some list may stand in a row.
 pub fn lawful_entries_are_allowed()
     ensures { IsAllowedWhereLawful }
+{}
+
+/// A law of the spelling: the bytes of a row spell one entry at most.
+pub fn rows_spell_one_entry()
+    ensures { SpellsOneEntry }
 {}

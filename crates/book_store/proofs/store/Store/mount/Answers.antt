@@ -9,11 +9,11 @@ returns-in-Ok-clause-cause g c = caused g.D.Disk c.args.disk c.in-Ok.journal c.i
 
 pub returns-in-Ok-clause-held : goal.returns-in-Ok-clause-held
 returns-in-Ok-clause-held g c bytes told entries holds legal =
-    held g.D.Disk c.args.disk c.in-Ok.journal c.in-Ok.ensures.most c.in-Ok.ensures.mounted c.args.limit c.open.result bytes entries g.met.D.Disk.counts_now told holds legal
+    held g.D.Disk c.args.disk c.in-Ok.journal c.in-Ok.ensures.most c.in-Ok.ensures.mounted c.args.limit c.open.result bytes entries g.met.D.Disk.counts_now told holds legal c.in-Ok.ensures.calm
     (λ rows recovers few. c.in-Ok.ensures.rows bytes told rows recovers few) c.open.ensures
 
 pub returns-in-Ok-clause-sound : goal.returns-in-Ok-clause-sound
-returns-in-Ok-clause-sound g c = sound g.D.Disk c.in-Ok.journal c.args.limit c.open.result c.in-Ok.ensures.sound c.open.ensures
+returns-in-Ok-clause-sound g c = sound g.D.Disk c.in-Ok.journal c.args.limit c.open.result c.requires.most c.in-Ok.ensures.sound c.open.ensures
 
 pub returns-in-Ok-clause-asked : goal.returns-in-Ok-clause-asked
 returns-in-Ok-clause-asked g c bytes told rows size fits = asked g.D.Disk c.args.disk c.in-Ok.journal c.args.limit c.open.result bytes rows size (c.in-Ok.ensures.mounted bytes told) c.in-Ok.ensures.asked fits c.open.ensures

@@ -1,0 +1,5 @@
+use Rattle.book_store.proofs.Squeezing.{IsSqueezed}
+use Rattle.book_store.proofs.rest.squeezed.Given as goal
+
+abbrev pub invariant-loop-before : goal.invariant-loop-before
+invariant-loop-before l = IsSqueezed l.book.entries l.before l.content
