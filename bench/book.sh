@@ -115,8 +115,10 @@ def appending():
         for name, way in (("hall", by_hall), ("loop", by_loop), ("SQLite", by_sqlite)):
             best[name] = min(best.get(name, float("inf")), way())
     for name, seconds in best.items():
-        print(f"{name}: {weighings / seconds:.0f} rows a second, {1e6 * seconds / weighings:.0f} us a row")
-    print(f"hall to the loop {best['hall'] / best['loop']:.2f}, to SQLite {best['hall'] / best['SQLite']:.2f}")
+        each = 1e6 * seconds / weighings
+        print(f"{name}: {weighings / seconds:.0f} rows a second, {each:.0f} us a row")
+    to_loop, to_sqlite = best["hall"] / best["loop"], best["hall"] / best["SQLite"]
+    print(f"times of hall to the loop {to_loop:.2f}, to SQLite {to_sqlite:.2f}")
 
 
 # the least time of five runs, and their greatest memory
@@ -129,25 +131,27 @@ def least(words, answer):
     return min(run[0] for run in runs), max(run[1] for run in runs)
 
 
+# a check of the book, beside reading its file
+def compare(book, way):
+    whole = f"rows {rows} whole\n"
+    check, memory = least([program, "check", "--book", book], whole)
+    cat, _ = least(["cat", book], None)
+    print(f"{os.path.getsize(book)} bytes {way}: check {1e3 * check:.1f} ms, cat {1e3 * cat:.1f} ms,"
+          f" ratio {check / cat:.1f}")
+    print(f"peak memory of check: {memory} KiB, {1024 * memory / rows:.0f} bytes a row")
+
+
 def opening():
     book = quick + "/book"
     seconds, memory = timed([program, "run", "--book", book], quick + "/many", "/dev/null")
     print(f"{rows} rows made in {seconds:.1f} s, {1024 * memory / rows:.0f} bytes of memory a row")
-    whole = f"rows {rows} whole\n"
-    size = os.path.getsize(book)
-    check, memory = least([program, "check", "--book", book], whole)
-    cat, _ = least(["cat", book], None)
-    print(f"a book of {size} bytes: check {1e3 * check:.1f} ms, cat {1e3 * cat:.1f} ms, ratio {check / cat:.1f}")
-    print(f"peak memory of check: {memory} KiB, {1024 * memory / rows:.0f} bytes a row")
+    compare(book, "by the snapshot")
     slots = SLOT * (rows + 1)
-    if size == slots:
+    if os.path.getsize(book) == slots:
         print("the run kept no snapshot: this was the check by the slots")
         return
     os.truncate(book, slots)
-    check, memory = least([program, "check", "--book", book], whole)
-    cat, _ = least(["cat", book], None)
-    print(f"its slots alone, {slots} bytes: check {1e3 * check:.1f} ms, cat {1e3 * cat:.1f} ms, ratio {check / cat:.1f}")
-    print(f"peak memory of check: {memory} KiB, {1024 * memory / rows:.0f} bytes a row")
+    compare(book, "by the slots alone")
 
 
 appending()
