@@ -1,6 +1,6 @@
 -- What a run makes of the store that it asks, and what a crash leaves of its disk.
-use Rattle.std.specs.Prelude.{◌≡◌, ◌⊎◌, ◌×◌, ℕ, ◌≤◌, List, [], ◌∷◌, ◌++◌, length, take, Result, Ok, Err}
-use Rattle.device_facts.specs.Count.{Counted}
+use Rattle.std.specs.Prelude.{◌≡◌, ◌⊎◌, ⊤, ℕ, ◌≤◌, List, [], ◌∷◌, ◌++◌, length, take, Result, Ok, Err}
+use Rattle.device_facts.specs.Count.{Counted, Rose}
 use Rattle.device_facts.specs.Prefix.{IsPrefixOf}
 use Rattle.disk_core.specs.declared.disk.Disk as disk
 use Rattle.book_words.specs.declared.act.Entry.{Entry}
@@ -8,7 +8,7 @@ use Rattle.book_words.specs.Answers.{IsLawful, IsLegal}
 use Rattle.book_journal.specs.Mounting.{KeepsFromSync}
 use Rattle.book_store.specs.declared.store.Store.{Store}
 use Rattle.book_store.specs.Images.{HoldsBook}
-use Rattle.book_store.specs.Stores.{disk_of, entries_of, limit_of, HasBook, HangsWith, IsSound}
+use Rattle.book_store.specs.Stores.{disk_of, entries_of, limit_of, HasBook, Hangs, HangsWith, ImagesHoldBook, IsSound}
 use Rattle.hall_top.specs.declared.stop.Stop.{Stop}
 use Rattle.hall_top.specs.declared.stop.Stop.TheVariants.{WriteFault, DiskFault}
 
@@ -42,7 +42,7 @@ CountsStop before now (Err WriteFault) = (now ≡ before) ⊎ Counted before now
 CountsStop before now _ = now ≡ before
 
 -- What a step of a run makes of the store: its book goes on, a crash leaves what it may, and the
--- disk failed only where that is answered.
+-- disk failed only where that is answered. An entry hangs only where one did, or the disk failed.
 pub record Goes {D T : Type 0} (disk : disk.Ghosts D) (result : Result T Stop)
     (old new : Store D) : Type 0 where
   pub sound : IsSound disk new
@@ -51,4 +51,10 @@ pub record Goes {D T : Type 0} (disk : disk.Ghosts D) (result : Result T Stop)
   pub begins : IsPrefixOf (entries_of old) (entries_of new)
   pub kept : (held : List Entry) (start : D) → HasKept disk held start old
       → HasKept disk held start new
+  pub images : ImagesHoldBook disk old → ImagesHoldBook disk new
+  pub hangs : Hangs new → Hangs old ⊎ Rose (disk.faults (disk_of old)) (disk.faults (disk_of new))
   pub cause : CountsStop (disk.faults (disk_of old)) (disk.faults (disk_of new)) result
+
+-- what a whole run that ended so makes of the store
+abbrev pub GoesTo : {D : Type 0} → disk.Ghosts D → Stop → Store D → Store D → Type 0
+GoesTo disk stop old new = Goes {T = ⊤} disk (Err stop) old new
