@@ -1,5 +1,5 @@
 -- Lemmas on a check, and on statuses.
-use Rattle.std.proofs.Common.{◌≡◌, ℕ, List, length, Err, inl, inr, IsTrue, refl, sym, subst}
+use Rattle.std.proofs.Common.{◌≡◌, ℕ, length, Err, inl, inr, IsTrue, refl, sym, subst}
 use Rattle.book_store.specs.declared.types.MountError.{MountError}
 use Rattle.book_store.specs.declared.types.MountError.TheVariants as mount
 use Rattle.hall_top.specs.declared.stop.Stop.{Stop}

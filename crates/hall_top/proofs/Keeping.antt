@@ -4,7 +4,7 @@ use Rattle.device_facts.specs.Count.{Rose}
 use Rattle.disk_core.specs.declared.disk.Disk as disk
 use Rattle.book_words.specs.Answers.{IsLegal}
 use Rattle.book_store.specs.declared.store.Store.{Store}
-use Rattle.book_store.specs.Stores.{disk_of, entries_of, Hangs, IsSound}
+use Rattle.book_store.specs.Stores.{disk_of, entries_of, IsSound}
 use Rattle.hall_top.specs.declared.stop.Stop.{Stop}
 use Rattle.hall_top.specs.declared.stop.Stop.TheVariants.{Finished, BadLine, ReadFault, WriteFault, DiskFault, NoMemory, Spent}
 use Rattle.script_lines.specs.declared.command.Command.{Command}

@@ -1,4 +1,4 @@
-use Rattle.std.proofs.Common.{◌≡◌, ℕ, [], ◌++◌, codes, decimal, OnOk, OnErr, subst, rules}
+use Rattle.std.proofs.Common.{◌≡◌, ℕ, [], OnOk, OnErr, subst, rules}
 use Rattle.hall_top.specs.Texts.{damaged_row}
 use Rattle.hall_top.specs.Streams.{output_at, WroteAll, IsCutIn}
 use Rattle.hall_top.proofs.open.say_why.Goals as goal

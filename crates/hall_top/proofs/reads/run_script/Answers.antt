@@ -1,6 +1,5 @@
-use Rattle.std.proofs.Common.{List, Err, refl, sym, ap, ◌∙◌, subst}
+use Rattle.std.proofs.Common.{Err, refl, sym, ap, subst}
 use Rattle.std.specs.Bool.{⊤}
-use Rattle.book_words.specs.declared.act.Entry.{Entry}
 use Rattle.book_store.specs.declared.store.Store.{Store}
 use Rattle.book_store.specs.Stores.{entries_of}
 use Rattle.hall_top.specs.Streams.{devices}

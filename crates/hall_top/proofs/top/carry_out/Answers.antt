@@ -1,4 +1,4 @@
-use Rattle.std.proofs.Common.{inl, inr, refl, sym, ap, ◌∙◌, subst}
+use Rattle.std.proofs.Common.{inl, inr, refl}
 use Rattle.hall_top.specs.Run.{status_of}
 use Rattle.hall_top.specs.Calls.{ExplainsCommand}
 use Rattle.hall_top.specs.Streams.{devices}

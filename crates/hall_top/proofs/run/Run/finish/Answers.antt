@@ -1,4 +1,4 @@
-use Rattle.std.proofs.Common.{Ok, Err, ◌∙◌}
+use Rattle.std.proofs.Common.{Err, ◌∙◌}
 use Rattle.hall_top.specs.Books.{store_in}
 use Rattle.hall_top.proofs.Keeping.{goes_on, goes_as}
 use Rattle.hall_top.proofs.Finishing.{ends_stopped}
