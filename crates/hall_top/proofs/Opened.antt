@@ -13,13 +13,13 @@ use Rattle.book_store.specs.Images.{HoldsBook}
 use Rattle.book_store.specs.Listing.{IsOpenedAs}
 use Rattle.book_store.specs.Mounting.{HasHeld, IsCauseOf, IsPassing}
 use Rattle.book_store.specs.declared.types.Unmounted.{Unmounted}
-use Rattle.book_store.specs.Stores.{disk_of, entries_of, limit_of, Hangs, HoldsOrHangs, ImagesHoldBook}
+use Rattle.book_store.specs.Stores.{disk_of, entries_of, limit_of, Hangs, HoldsOrHangs}
 use Rattle.hall_top.specs.declared.ended.Ended.{Ended}
 use Rattle.hall_top.specs.declared.stop.Stop.{Stop}
 use Rattle.hall_top.specs.declared.stop.Stop.TheVariants.{Finished, BadLine, ReadFault, WriteFault, DiskFault, NoMemory, Spent}
 use Rattle.hall_top.specs.Transcript.{BookState}
 use Rattle.hall_top.specs.Run.{Call}
-use Rattle.hall_top.specs.Kept.{CrashLeaves, HasKept, HoldsOrOffered, CountsStop, GoesTo}
+use Rattle.hall_top.specs.Kept.{CrashLeaves, HangsAtFault, HasKept, HoldsOrOffered, CountsStop}
 use Rattle.hall_top.specs.Calls.{KeepsRows, CountsEnd, IsOpened, IsUnopened, IsDoneOver, SaysWhy}
 
 -- the front of a list that begins with another
@@ -55,7 +55,8 @@ keeps_more g old new P Q more keeps =
     }
 
 -- a store that was mounted on a disk that held these entries has kept them
-module _ {D : Type 0} (g : disk.Ghosts D) (held : List Entry) (start : D) (store : Store D) (calm : ¬ Hangs store) (has : HasHeld g start held store) where
+module _ {D : Type 0} (g : disk.Ghosts D) (counts_now : (d : D) (t : ℕ) (c : List ℕ) → t ≤ g.time d → g.image d c → g.since d t c) (held : List Entry) (start : D) (store : Store D) (calm : ¬ Hangs store)
+    (faults : g.faults (disk_of store) ≡ g.faults start) (has : HasHeld g start held store) where
   leaves : (c : List ℕ) → HoldsBook held c → CrashLeaves held (entries_of store) c
   leaves c holds =
       let whole : take (length held) (entries_of store) ≡ held = ap (take (length held)) (has.same ∙ sym (append-nil held)) ∙ front_of held [] in
@@ -73,39 +74,30 @@ module _ {D : Type 0} (g : disk.Ghosts D) (held : List Entry) (start : D) (store
         begins = ([], has.same ∙ sym (append-nil held));
         hung = λ entry hangs. absurd (calm hangs.row.hangs);
         moments = keeps_more g start (disk_of store) (HoldsBook held) (CrashLeaves held (entries_of store)) leaves has.moments;
+        images = λ c image. inl (subst (λ (es : List Entry). HoldsBook es c) (sym has.same) (has.moments.each c (counts_now (disk_of store) has.moments.synced c has.moments.before image)));
+        fault = inl (calm, faults);
       }
 
-  pub images_hold : ((d : D) (t : ℕ) (c : List ℕ) → t ≤ g.time d → g.image d c → g.since d t c) → ImagesHoldBook g store
-  images_hold counts_now book c image =
-      inl (subst (λ (es : List Entry). HoldsBook es c) (sym has.same) (has.moments.each c (counts_now (disk_of store) has.moments.synced c has.moments.before image)))
-
 -- at the end each image holds the rows, or the disk failed and an entry that was offered hangs
-end_image : {D : Type 0} (g : disk.Ghosts D) (held : List Entry) (start : D) (store last : Store D) (stop : Stop) (c : List ℕ) → ¬ Hangs store → GoesTo g stop store last → HasKept g held start last → HoldsOrHangs g last c
-    → HoldsBook (entries_of last) c ⊎ (Rose (g.faults (disk_of store)) (g.faults (disk_of last)) × HoldsOrOffered (entries_of last) c)
-end_image g held start store last stop c calm goes kept (inl holds) = inl holds
-end_image g held start store last stop c calm goes kept (inr (hung, hangs, holds)) =
-    inr (rose (goes.hangs hangs.row.hangs), inr (hung, kept.hung hung hangs, holds))
-  where
-    rose : Hangs store ⊎ Rose (g.faults (disk_of store)) (g.faults (disk_of last)) → Rose (g.faults (disk_of store)) (g.faults (disk_of last))
-    rose (inl before) = absurd (calm before)
-    rose (inr now) = now
+end_image : {D : Type 0} (g : disk.Ghosts D) (held : List Entry) (start : D) (last : Store D) (c : List ℕ) → HasKept g held start last → HangsAtFault g start last → HoldsOrHangs g last c
+    → HoldsBook (entries_of last) c ⊎ (Rose (g.faults start) (g.faults (disk_of last)) × HoldsOrOffered (entries_of last) c)
+end_image g held start last c kept fault (inl holds) = inl holds
+end_image g held start last c kept (inl (calm, same)) (inr (hung, hangs, holds)) = absurd (calm hangs.row.hangs)
+end_image g held start last c kept (inr rose) (inr (hung, hangs, holds)) = inr (rose, inr (hung, kept.hung hung hangs, holds))
 
 -- what is left of a disk that held these entries
-pub keeps_rows : {D : Type 0} (g : disk.Ghosts D) (counts_now : (d : D) (t : ℕ) (c : List ℕ) → t ≤ g.time d → g.image d c → g.since d t c) (held : List Entry) (before : D) (store last : Store D) (stop : Stop) (ended : Ended D)
-    → ¬ Hangs store → g.faults (disk_of store) ≡ g.faults before → HasHeld g before held store → GoesTo g stop store last → ended.disk ≡ disk_of last → ended.rows ≡ entries_of last → take ended.held ended.rows ≡ entries_of store
+keeps_rows : {D : Type 0} (g : disk.Ghosts D) (held : List Entry) (before : D) (store last : Store D) (ended : Ended D)
+    → HasHeld g before held store → HasKept g held before last → ended.disk ≡ disk_of last → ended.rows ≡ entries_of last → take ended.held ended.rows ≡ entries_of store
     → KeepsRows g held before ended
-keeps_rows g counts_now held before store last stop ended calm faults has goes disk_left rows front =
-    let kept = goes.kept held before (kept_so_far g held before store calm has) in
-    let images = goes.images (images_hold g held before store calm has counts_now) in
+keeps_rows g held before store last ended has kept disk_left rows front =
     record {
       same = front ∙ has.same;
       moments = subst (λ (d : _). KeepsFromSync g before d (CrashLeaves held ended.rows)) (sym disk_left)
           (subst (λ (es : List Entry). KeepsFromSync g before (disk_of last) (CrashLeaves held es)) (sym rows) kept.moments);
       end = λ c image.
-          let over = end_image g held before store last stop c calm goes kept (images kept.has c (subst (λ (d : _). g.image d c) disk_left image)) in
+          let over = end_image g held before last c kept kept.fault (kept.images c (subst (λ (d : _). g.image d c) disk_left image)) in
           subst (λ (d : _). HoldsBook ended.rows c ⊎ (Rose (g.faults before) (g.faults d) × HoldsOrOffered ended.rows c)) (sym disk_left)
-          (subst (λ (es : List Entry). HoldsBook es c ⊎ (Rose (g.faults before) (g.faults (disk_of last)) × HoldsOrOffered es c)) (sym rows)
-          (subst (λ (n : ℕ). HoldsBook (entries_of last) c ⊎ (Rose n (g.faults (disk_of last)) × HoldsOrOffered (entries_of last) c)) faults over));
+          (subst (λ (es : List Entry). HoldsBook es c ⊎ (Rose (g.faults before) (g.faults (disk_of last)) × HoldsOrOffered es c)) (sym rows) over);
     }
 
 -- a command that was done over a store that a disk was mounted as
@@ -128,7 +120,10 @@ is_opened g counts_now limit Explains status_of before store ended call limit_is
       cause = subst (λ (d : _). CountsEnd (g.faults before) (g.faults d) done.stop) (sym done.disk_left)
           (subst (λ (n : ℕ). CountsEnd n (g.faults (disk_of done.last)) done.stop) faults
           (counts_end (g.faults (disk_of store)) (g.faults (disk_of done.last)) done.stop done.goes.cause));
-      kept = λ bytes told rows holds legal. keeps_rows g counts_now rows before store done.last done.stop ended calm faults (held bytes told rows holds legal) done.goes done.disk_left done.rows front;
+      kept = λ bytes told rows holds legal.
+          let has = held bytes told rows holds legal in
+          let kept = done.goes.kept rows before (kept_so_far g counts_now rows before store calm faults has) in
+          keeps_rows g rows before store done.last ended has kept done.disk_left done.rows front;
     }
 
 -- a disk that wasn't opened as a book

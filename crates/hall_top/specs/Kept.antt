@@ -8,7 +8,7 @@ use Rattle.book_words.specs.Answers.{IsLawful, IsLegal}
 use Rattle.book_journal.specs.Mounting.{KeepsFromSync}
 use Rattle.book_store.specs.declared.store.Store.{Store}
 use Rattle.book_store.specs.Images.{HoldsBook}
-use Rattle.book_store.specs.Stores.{disk_of, entries_of, limit_of, HasBook, Hangs, HangsWith, ImagesHoldBook, IsSound}
+use Rattle.book_store.specs.Stores.{disk_of, entries_of, limit_of, Hangs, HasBook, HangsWith, HoldsOrHangs, IsSound}
 use Rattle.hall_top.specs.declared.stop.Stop.{Stop}
 use Rattle.hall_top.specs.declared.stop.Stop.TheVariants.{WriteFault, DiskFault}
 
@@ -25,14 +25,23 @@ pub record CrashLeaves (held rows : List Entry) (c : List ℕ) : Type 0 where
   pub most : count ≤ length rows
   pub holds : HoldsOrOffered (take count rows) c
 
+-- nothing hangs and the disk hasn't failed since the start, or it has
+abbrev pub HangsAtFault : {D : Type 0} → disk.Ghosts D → D → Store D → Type 0
+HangsAtFault disk start store =
+    (¬ Hangs store × (disk.faults (disk_of store) ≡ disk.faults start))
+    ⊎ Rose (disk.faults start) (disk.faults (disk_of store))
+
 -- A store over a disk that held these entries at the start has them all still: each image at a
--- moment since the first sync is one that a crash may leave.
+-- moment since the first sync is one that a crash may leave, and one from now on has all rows, and
+-- perhaps the one that hangs since the disk failed.
 pub record HasKept {D : Type 0} (disk : disk.Ghosts D) (held : List Entry) (start : D)
     (store : Store D) : Type 0 where
   pub has : HasBook disk store
   pub begins : IsPrefixOf held (entries_of store)
   pub hung : (entry : Entry) → HangsWith disk store entry → IsLawful (entries_of store) entry
   pub moments : KeepsFromSync disk start (disk_of store) (CrashLeaves held (entries_of store))
+  pub images : (c : List ℕ) → disk.image (disk_of store) c → HoldsOrHangs disk store c
+  pub fault : HangsAtFault disk start store
 
 -- the disk's count behind a step of a run: it stays, but one more is counted where the disk failed,
 -- which perhaps couldn't be written
@@ -42,7 +51,7 @@ CountsStop before now (Err WriteFault) = (now ≡ before) ⊎ Counted before now
 CountsStop before now _ = now ≡ before
 
 -- What a step of a run makes of the store: its book goes on, a crash leaves what it may, and the
--- disk failed only where that is answered. An entry hangs only where one did, or the disk failed.
+-- disk failed only where that is answered.
 pub record Goes {D T : Type 0} (disk : disk.Ghosts D) (result : Result T Stop)
     (old new : Store D) : Type 0 where
   pub sound : IsSound disk new
@@ -51,8 +60,6 @@ pub record Goes {D T : Type 0} (disk : disk.Ghosts D) (result : Result T Stop)
   pub begins : IsPrefixOf (entries_of old) (entries_of new)
   pub kept : (held : List Entry) (start : D) → HasKept disk held start old
       → HasKept disk held start new
-  pub images : ImagesHoldBook disk old → ImagesHoldBook disk new
-  pub hangs : Hangs new → Hangs old ⊎ Rose (disk.faults (disk_of old)) (disk.faults (disk_of new))
   pub cause : CountsStop (disk.faults (disk_of old)) (disk.faults (disk_of new)) result
 
 -- what a whole run that ended so makes of the store

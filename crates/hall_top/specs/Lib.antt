@@ -8,4 +8,3 @@ pub mod Runs
 pub mod Streams
 pub mod Texts
 pub mod Transcript
-pub mod Words

@@ -3,7 +3,7 @@ use Rattle.hall_top.specs.Books.{book_in, store_in}
 use Rattle.hall_top.specs.Streams.{devices}
 use Rattle.hall_top.specs.Runs.{run_state}
 use Rattle.hall_top.specs.declared.stop.Stop.TheVariants.{Spent}
-use Rattle.hall_top.proofs.Keeping.{goes_on, goes_as, goes_with, stays}
+use Rattle.hall_top.proofs.Going.{goes_on, goes_as, goes_with, stays}
 use Rattle.hall_top.proofs.Explaining.{begins, lines_few, has_taken_more, explained_spent}
 use Rattle.hall_top.proofs.reads.read_all.Goals as goal
 

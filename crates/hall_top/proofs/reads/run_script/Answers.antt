@@ -6,7 +6,7 @@ use Rattle.hall_top.specs.Streams.{devices}
 use Rattle.hall_top.specs.Run.{Explains}
 use Rattle.hall_top.specs.Kept.{GoesTo}
 use Rattle.hall_top.specs.Books.{stored_book}
-use Rattle.hall_top.proofs.Keeping.{stays_same, unbegun_counts}
+use Rattle.hall_top.proofs.Going.{stays_same, unbegun_counts}
 use Rattle.hall_top.proofs.Explaining.{call_from, explained_unbegun}
 use Rattle.hall_top.proofs.reads.run_script.Goals as goal
 

@@ -9,7 +9,7 @@ use Rattle.hall_top.specs.Books.{book_in, store_in}
 use Rattle.hall_top.specs.Streams.{output_at}
 use Rattle.hall_top.specs.Run.{StopsAtLine}
 use Rattle.hall_top.proofs.ScriptLines.{line_too_long, line_too_long_last}
-use Rattle.hall_top.proofs.Keeping.{stays, stays_same, bad_counts}
+use Rattle.hall_top.proofs.Going.{stays, stays_same, bad_counts}
 use Rattle.hall_top.proofs.Stepping.{reached_part, stops_anyway}
 use Rattle.hall_top.specs.Runs.{run_state}
 use Rattle.hall_top.proofs.run.Run.begin_line.Goals as goal

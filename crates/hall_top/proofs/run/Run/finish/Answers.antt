@@ -1,6 +1,6 @@
 use Rattle.std.proofs.Common.{Err, ◌∙◌}
 use Rattle.hall_top.specs.Books.{store_in}
-use Rattle.hall_top.proofs.Keeping.{goes_on, goes_as}
+use Rattle.hall_top.proofs.Going.{goes_on, goes_as}
 use Rattle.hall_top.proofs.Finishing.{ends_stopped}
 use Rattle.hall_top.proofs.run.Run.finish.Goals as goal
 

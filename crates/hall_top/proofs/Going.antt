@@ -1,6 +1,5 @@
 -- Lemmas on what the steps of a run make of its store.
-use Rattle.std.proofs.Common.{◌≡◌, ◌⊎◌, ℕ, List, [], Result, Ok, Err, inl, inr, refl, sym, ◌∙◌, subst, arith, append-nil}
-use Rattle.device_facts.specs.Count.{Rose}
+use Rattle.std.proofs.Common.{◌≡◌, ℕ, List, [], Result, Ok, Err, inl, refl, sym, ◌∙◌, subst, append-nil}
 use Rattle.disk_core.specs.declared.disk.Disk as disk
 use Rattle.book_words.specs.Answers.{IsLegal}
 use Rattle.book_store.specs.declared.store.Store.{Store}
@@ -17,26 +16,6 @@ use Rattle.hall_top.specs.Reached.{SaysNoMemory}
 use Rattle.hall_top.specs.Kept.{CountsStop, Goes}
 use Rattle.hall_top.proofs.Acknowledged.{prefix_on}
 
--- a count that rose before a step rose over it too
-risen_still : {T : Type 0} (x before now : ℕ) (result : Result T Stop) → CountsStop before now result → Rose x before → Rose x now
-risen_still x before now (Ok value) counts rose = subst (λ (n : ℕ). Rose x n) (sym counts) rose
-risen_still x before now (Err DiskFault) counts rose = omega (arith, counts, rose)
-risen_still x before now (Err WriteFault) (inl counts) rose = subst (λ (n : ℕ). Rose x n) (sym counts) rose
-risen_still x before now (Err WriteFault) (inr counts) rose = omega (arith, counts, rose)
-risen_still x before now (Err Finished) counts rose = subst (λ (n : ℕ). Rose x n) (sym counts) rose
-risen_still x before now (Err BadLine) counts rose = subst (λ (n : ℕ). Rose x n) (sym counts) rose
-risen_still x before now (Err ReadFault) counts rose = subst (λ (n : ℕ). Rose x n) (sym counts) rose
-risen_still x before now (Err NoMemory) counts rose = subst (λ (n : ℕ). Rose x n) (sym counts) rose
-risen_still x before now (Err Spent) counts rose = subst (λ (n : ℕ). Rose x n) (sym counts) rose
-
-hangs_on : {T A B : Type 0} (a b c : ℕ) (result : Result T Stop) → b ≡ a → CountsStop b c result → (B → A ⊎ Rose a b) → B ⊎ Rose b c → A ⊎ Rose a c
-hangs_on a b c result same counts first (inr rose) = inr (subst (λ (n : ℕ). Rose n c) same rose)
-hangs_on {A = A} a b c result same counts first (inl before) = risen (first before)
-  where
-    risen : A ⊎ Rose a b → A ⊎ Rose a c
-    risen (inl hung) = inl hung
-    risen (inr rose) = inr (risen_still a b c result counts rose)
-
 -- a step that goes on, and then another
 pub goes_on : {D T U : Type 0} (g : disk.Ghosts D) (x : T) (result : Result U Stop) (a b c : Store D) → Goes g (Ok x) a b → Goes g result b c → Goes g result a c
 goes_on g x result a b c first second =
@@ -46,8 +25,6 @@ goes_on g x result a b c first second =
       limit = second.limit ∙ first.limit;
       begins = prefix_on (entries_of a) (entries_of b) (entries_of c) first.begins second.begins;
       kept = λ held start has. second.kept held start (first.kept held start has);
-      images = λ hold. second.images (first.images hold);
-      hangs = λ now. hangs_on (g.faults (disk_of a)) (g.faults (disk_of b)) (g.faults (disk_of c)) result first.cause second.cause first.hangs (second.hangs now);
       cause = subst (λ (n : ℕ). CountsStop n (g.faults (disk_of c)) result) first.cause second.cause;
     }
 
@@ -60,8 +37,6 @@ stays g result store sound legal counts =
       limit = refl;
       begins = ([], sym (append-nil (entries_of store)));
       kept = λ held start has. has;
-      images = λ hold. hold;
-      hangs = λ now. inl now;
       cause = counts;
     }
 
@@ -83,8 +58,6 @@ goes_with g first result a b goes counts =
       limit = goes.limit;
       begins = goes.begins;
       kept = goes.kept;
-      images = goes.images;
-      hangs = goes.hangs;
       cause = counts;
     }
 
