@@ -8,9 +8,9 @@ use Rattle.script_lines.specs.declared.command.Command.{Command}
 use Rattle.script_lines.specs.declared.command.Line.{Line}
 use Rattle.script_lines.specs.declared.command.Line.TheVariants.{Nothing, Asks, Bad}
 use Rattle.hall_top.specs.declared.stop.Stop.{Stop}
-use Rattle.hall_top.specs.declared.stop.Stop.TheVariants.{Finished, BadLine, ReadFault, WriteFault, NoMemory, Spent}
+use Rattle.hall_top.specs.declared.stop.Stop.TheVariants.{Finished, BadLine, ReadFault, WriteFault, DiskFault, NoMemory, Spent}
 use Rattle.batch_reports.specs.Texts.{outcome_text}
-use Rattle.hall_top.specs.Texts.{bad_line, no_memory}
+use Rattle.hall_top.specs.Texts.{bad_line, no_memory, disk_fault}
 use Rattle.hall_top.specs.Transcript.{BookState, Exchange, exchange_at, after_command, after_commands, exchanges, answers}
 use Rattle.hall_top.specs.Streams.{Stream, WroteAll, IsCutIn, Wrote}
 use Rattle.hall_top.specs.Run.{MayFindNoMemory, StopsAtLine}
@@ -71,14 +71,19 @@ stops_here book before old now rows commands number (Asks command) WriteFault fi
       cut = cut_on before old now (answers book commands) _ first stops.cut;
       rows_left = are_left book (commands ++ command ∷ []) rows (stops.rows_left.left ∙ ap (λ (b : BookState). b.entries) (sym (after_commands-append book commands (command ∷ []))));
     })
-stops_here book before old now rows commands number (Asks command) WriteFault first (inr stops) =
-    inr (cut_on before old now (answers book commands) no_memory first stops.0, record { may = stops.1.may; rows_left = are_left book commands rows stops.1.rows_left.left })
+stops_here book before old now rows commands number (Asks command) WriteFault first (inr (inl stops)) =
+    inr (inl (cut_on before old now (answers book commands) no_memory first stops.0, record { may = stops.1.may; rows_left = are_left book commands rows stops.1.rows_left.left }))
+stops_here book before old now rows commands number (Asks command) WriteFault first (inr (inr stops)) =
+    inr (inr (cut_on before old now (answers book commands) disk_fault first stops.0, record { offers = stops.1.offers; rows_left = are_left book commands rows stops.1.rows_left.left }))
+stops_here book before old now rows commands number (Asks command) DiskFault first stops =
+    (wrote_on before old now (answers book commands) disk_fault first stops.0, record { offers = stops.1.offers; rows_left = are_left book commands rows stops.1.rows_left.left })
 stops_here book before old now rows commands number (Asks command) NoMemory first stops =
     (wrote_on before old now (answers book commands) no_memory first stops.0, record { may = stops.1.may; rows_left = are_left book commands rows stops.1.rows_left.left })
 stops_here book before old now rows commands number Nothing stop first stops = absurd stops
 stops_here book before old now rows commands number Bad Finished first stops = absurd stops
 stops_here book before old now rows commands number Bad ReadFault first stops = absurd stops
 stops_here book before old now rows commands number Bad WriteFault first stops = absurd stops
+stops_here book before old now rows commands number Bad DiskFault first stops = absurd stops
 stops_here book before old now rows commands number Bad NoMemory first stops = absurd stops
 stops_here book before old now rows commands number Bad Spent first stops = absurd stops
 stops_here book before old now rows commands number (Asks command) Finished first stops = absurd stops
@@ -95,8 +100,9 @@ stops_after book old_left before old now rows commands number line stop first st
 pub stops_at_want : (book : BookState) (before now : Stream) (rows : List Entry) (number : ℕ) (command : Command) (stop : Stop) → MayFindNoMemory (exchange_at book command).ask.want (exchange_at book command).added
     → rows ≡ book.entries → SaysNoMemory before now stop → StopsAtLine book before now rows [] number (Asks command) stop
 stops_at_want book before now rows number command NoMemory may same says = (says, record { may = may; rows_left = are_left book [] rows same })
-stops_at_want book before now rows number command WriteFault may same says = inr (says, record { may = may; rows_left = are_left book [] rows same })
+stops_at_want book before now rows number command WriteFault may same says = inr (inl (says, record { may = may; rows_left = are_left book [] rows same }))
 stops_at_want book before now rows number command Finished may same says = absurd says
 stops_at_want book before now rows number command BadLine may same says = absurd says
 stops_at_want book before now rows number command ReadFault may same says = absurd says
+stops_at_want book before now rows number command DiskFault may same says = absurd says
 stops_at_want book before now rows number command Spent may same says = absurd says

@@ -12,11 +12,11 @@ use Rattle.script_lines.specs.Script.{all_good}
 use Rattle.script_lines.proofs.LineLists.{ended_lines-few}
 use Rattle.hall_top.specs.declared.reads.TheConstants.{MAX_READS, PIECE}
 use Rattle.hall_top.specs.declared.stop.Stop.{Stop}
-use Rattle.hall_top.specs.declared.stop.Stop.TheVariants.{Finished, BadLine, ReadFault, WriteFault, NoMemory, Spent}
+use Rattle.hall_top.specs.declared.stop.Stop.TheVariants.{Finished, BadLine, ReadFault, WriteFault, DiskFault, NoMemory, Spent}
 use Rattle.hall_top.specs.Texts.{read_fault}
-use Rattle.hall_top.specs.Transcript.{BookState, new_book, lines_of}
+use Rattle.hall_top.specs.Transcript.{BookState, lines_of}
 use Rattle.hall_top.specs.Streams.{Stream, Devices, IsCalm, HasFailed, Wrote, WroteAll}
-use Rattle.hall_top.specs.Run.{Call, StopsAtLine, StopsInScript, HasLine, StopsInInput, ReadsWhole, Explains}
+use Rattle.hall_top.specs.Run.{Call, StopsAtLine, StopsInScript, HasLine, StopsInInput, ReadsWhole, StopsAtSummary, Explains}
 use Rattle.hall_top.specs.Reached.{RunState, SaysNoMemory, Reached, Steps, StopsAfter, EndsScript, StandsAfter, WentOn, HasTaken}
 use Rattle.hall_top.proofs.Acknowledged.{are_left}
 use Rattle.hall_top.proofs.Answering.{answered_none}
@@ -35,7 +35,8 @@ whatever_follows (Some xs) (Some ys) taken Q read h = subst Q (sym read) (h ys)
 -- where a write stopped a run, the output failed
 cut_failed : (book : BookState) (before now : Stream) (rows : List Entry) (commands : List Command) (number : ℕ) (line : Line) → StopsAtLine book before now rows commands number line WriteFault → HasFailed before now
 cut_failed book before now rows commands number (Asks command) (inl stops) = stops.cut.failed
-cut_failed book before now rows commands number (Asks command) (inr stops) = stops.0.failed
+cut_failed book before now rows commands number (Asks command) (inr (inl stops)) = stops.0.failed
+cut_failed book before now rows commands number (Asks command) (inr (inr stops)) = stops.0.failed
 cut_failed book before now rows commands number Nothing stops = absurd stops
 cut_failed book before now rows commands number Bad stops = absurd stops
 
@@ -44,6 +45,21 @@ memory_calm : (book : BookState) (before now : Stream) (rows : List Entry) (comm
 memory_calm book before now rows commands number (Asks command) stops = stops.0.calm
 memory_calm book before now rows commands number Nothing stops = absurd stops
 memory_calm book before now rows commands number Bad stops = absurd stops
+
+-- so it is where the disk failed
+disk_calm : (book : BookState) (before now : Stream) (rows : List Entry) (commands : List Command) (number : ℕ) (line : Line) → StopsAtLine book before now rows commands number line DiskFault → IsCalm before now
+disk_calm book before now rows commands number (Asks command) stops = stops.0.calm
+disk_calm book before now rows commands number Nothing stops = absurd stops
+disk_calm book before now rows commands number Bad stops = absurd stops
+
+-- where a write stopped a run at its end, the output failed
+end_failed : (opened : ℕ) (before now : Stream) (rows : List Entry) → StopsAtSummary opened before now rows WriteFault → HasFailed before now
+end_failed opened before now rows (inl cut) = cut.failed
+end_failed opened before now rows (inr (grown, inl cut)) = cut.failed
+end_failed opened before now rows (inr (grown, inr cut)) = cut.failed
+
+failed_behind : (a b c : Stream) → IsCalm a b → HasFailed b c → HasFailed a c
+failed_behind a b c calm failed = subst (λ (n : ℕ). Counted n c.faults 1) calm failed
 
 -- a script in which a run stops at a bad line has one
 bad_stops : (book : BookState) (before now : Stream) (rows : List Entry) (commands : List Command) (number : ℕ) (lines more : List Line) (line : Line) → StopsAtLine book before now rows commands number line BadLine → all_good (lines ++ line ∷ more) ≡ false
@@ -69,6 +85,8 @@ explain book call WriteFault stops calm =
     record { stops = inl stops; cause = cut_failed book call.before.output call.now.output call.rows _ _ stops.stops.line stops.stops.stops; calm = calm }
 explain book call NoMemory stops calm =
     record { stops = inl stops; calm = calm; output_calm = memory_calm book call.before.output call.now.output call.rows _ _ stops.stops.line stops.stops.stops }
+explain book call DiskFault stops calm =
+    record { stops = inl stops; calm = calm; output_calm = disk_calm book call.before.output call.now.output call.rows _ _ stops.stops.line stops.stops.stops }
 explain book call Finished stops calm = absurd (never_finished book call.before.output call.now.output call.rows _ _ stops.stops.line stops.stops.stops)
   where
     never_finished : (book : BookState) (before now : Stream) (rows : List Entry) (commands : List Command) (number : ℕ) (line : Line) → StopsAtLine book before now rows commands number line Finished → ⊥
@@ -114,11 +132,24 @@ explained_at_end book call taken BadLine ends read end calm = explain book call 
 explained_at_end book call taken WriteFault (inl ends) read end calm = explain book call WriteFault (stops_at_end book call taken WriteFault ends read end) calm
 explained_at_end book call taken WriteFault (inr ends) read end calm =
     record {
-      stops = inr (inl (record { script = taken; read = reads_whole call.before.input call.now.input taken read end calm; done = ends }));
-      cause = ends.cut.failed;
+      stops = inr (inl (record { script = taken; read = reads_whole call.before.input call.now.input taken read end calm; ends = ends }));
+      cause = failed_behind call.before.output ends.answered call.now.output ends.wrote.calm (end_failed _ ends.answered call.now.output call.rows ends.stops);
       calm = calm;
     }
-explained_at_end book call taken NoMemory ends read end calm = explain book call NoMemory (stops_at_end book call taken NoMemory ends read end) calm
+explained_at_end book call taken DiskFault (inl ends) read end calm = explain book call DiskFault (stops_at_end book call taken DiskFault ends read end) calm
+explained_at_end book call taken DiskFault (inr ends) read end calm =
+    record {
+      stops = inr (record { script = taken; read = reads_whole call.before.input call.now.input taken read end calm; ends = ends });
+      calm = calm;
+      output_calm = ends.stops.1.calm ∙ ends.wrote.calm;
+    }
+explained_at_end book call taken NoMemory (inl ends) read end calm = explain book call NoMemory (stops_at_end book call taken NoMemory ends read end) calm
+explained_at_end book call taken NoMemory (inr ends) read end calm =
+    record {
+      stops = inr (inl (record { script = taken; read = reads_whole call.before.input call.now.input taken read end calm; ends = ends }));
+      calm = calm;
+      output_calm = ends.stops.1.calm ∙ ends.wrote.calm;
+    }
 explained_at_end book call taken ReadFault ends read end calm = absurd ends
 explained_at_end book call taken Spent ends read end calm = absurd ends
 
@@ -177,12 +208,12 @@ explained_fault book before old now taken run stands says read failed =
     }
 
 -- where a run begins
-pub begins : {S : Type 0} (now : Devices S) (run : RunState) → run.feed ≡ feed_after [] → StandsAfter run.book now now [] run
-begins now run fed =
+pub begins : {S : Type 0} (now : Devices S) (run : RunState) → run.feed ≡ feed_after [] → run.opened ≡ length run.book.entries → StandsAfter run.book now now [] run
+begins now run fed opened =
     record {
       read = Consumes-nil now.input.bytes;
       calm = refl;
-      reached = record { good = refl; fed = fed; short = omega arith; answered = answered_none run.book run.book now.output refl };
+      reached = record { good = refl; fed = fed; opened = opened; short = omega arith; answered = answered_none run.book run.book now.output refl };
     }
 
 -- there are no more lines than bytes
@@ -217,13 +248,14 @@ explained_spent book before now run reads least most has =
     }
 
 -- a run that had no memory to begin with
-pub explained_unbegun : {S : Type 0} (call : Call S) (stop : Stop) → call.rows ≡ [] → call.now.source ≡ call.before.source → IsCalm call.before.input call.now.input
-    → SaysNoMemory call.before.output call.now.output stop → Explains new_book call stop
-explained_unbegun call NoMemory none same calm says =
-    record { stops = inr (record { unread = same; rows_left = are_left new_book [] call.rows none }, says); calm = calm; output_calm = says.calm }
-explained_unbegun call WriteFault none same calm says =
-    record { stops = inr (inr (record { unread = same; rows_left = are_left new_book [] call.rows none }, says)); cause = says.failed; calm = calm }
-explained_unbegun call Finished none same calm says = absurd says
-explained_unbegun call BadLine none same calm says = absurd says
-explained_unbegun call ReadFault none same calm says = absurd says
-explained_unbegun call Spent none same calm says = absurd says
+pub explained_unbegun : {S : Type 0} (book : BookState) (call : Call S) (stop : Stop) → call.rows ≡ book.entries → call.now.source ≡ call.before.source → IsCalm call.before.input call.now.input
+    → SaysNoMemory call.before.output call.now.output stop → Explains book call stop
+explained_unbegun book call NoMemory none same calm says =
+    record { stops = inr (inr (record { unread = same; rows_left = are_left book [] call.rows none }, says)); calm = calm; output_calm = says.calm }
+explained_unbegun book call WriteFault none same calm says =
+    record { stops = inr (inr (record { unread = same; rows_left = are_left book [] call.rows none }, says)); cause = says.failed; calm = calm }
+explained_unbegun book call Finished none same calm says = absurd says
+explained_unbegun book call BadLine none same calm says = absurd says
+explained_unbegun book call ReadFault none same calm says = absurd says
+explained_unbegun book call DiskFault none same calm says = absurd says
+explained_unbegun book call Spent none same calm says = absurd says

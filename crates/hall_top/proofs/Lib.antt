@@ -10,4 +10,8 @@ pub mod Stepping
 pub mod Finishing
 pub mod Printed
 pub mod Explaining
+pub mod Going
+pub mod Completing
+pub mod Checking
+pub mod Opened
 pub mod RequestOrder

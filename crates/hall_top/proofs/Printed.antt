@@ -1,5 +1,5 @@
 -- Lemmas on what went out.
-use Rattle.std.proofs.Common.{◌≡◌, ℕ, ◌<◌, List, [], length, take, Result, Ok, Err, OnOk, OnErr, IfErr, inl, inr, ◌∙◌, subst, refl}
+use Rattle.std.proofs.Common.{◌≡◌, ℕ, suc, ◌+◌, ◌<◌, List, [], ◌∷◌, ◌++◌, length, take, Result, Ok, Err, OnOk, OnErr, IfErr, inl, inr, ◌∙◌, subst, refl, sym, ap, arith, length-append}
 use Rattle.std.specs.Io.KnownBytes.{Appends}
 use Rattle.std.proofs.KnownBytes.{Appends-nil, Appends-trans}
 use Rattle.device_facts.specs.Count.{Counted, CountsFault}
@@ -35,3 +35,19 @@ pub cut_text : {T : Type 0} (old now : Stream) (written text : List ℕ) (result
     → IfErr result (λ partly. partly.done < length written) → CountsFault old.faults now.faults result → OnErr result (IsCutIn old now [] text)
 cut_text old now written text (Ok x) is out less cause = tt
 cut_text old now written text (Err e) is out less cause = subst (IsCutIn old now []) is (record { part = e.done; less = less; out = out; failed = cause })
+
+-- the front of a list that reaches into its second part
+take_behind : (first next : List ℕ) (n : ℕ) → take (length first + n) (first ++ next) ≡ first ++ take n next
+take_behind [] next n = ap (λ k. take k next) (let same : 0 + n ≡ n = omega arith in same)
+take_behind (x ∷ first) next n =
+    ap (λ k. take k (x ∷ (first ++ next))) (let same : length (x ∷ first) + n ≡ suc (length first + n) = omega arith in same) ∙ ap (λ xs. x ∷ xs) (take_behind first next n)
+
+-- the second of two texts was cut
+pub cut_second : (before mid now : Stream) (first next : List ℕ) → WroteAll before mid first → IsCutIn mid now [] next → IsCutIn before now [] (first ++ next)
+cut_second before mid now first next one cut =
+    record {
+      part = length first + cut.part;
+      less = omega (arith, cut.less, length-append first next);
+      out = subst (Appends before.bytes now.bytes) (sym (take_behind first next cut.part)) (Appends-trans _ _ _ first (take cut.part next) one.out cut.out);
+      failed = subst (λ (n : ℕ). Counted n now.faults 1) one.calm cut.failed;
+    }

@@ -38,13 +38,14 @@ answered_line book left before old now taken run line stands answered =
 
 -- a good line ends
 pub reached_end : (book : BookState) (before old now : Stream) (taken part : List ℕ) (run next : RunState) (said : Line) → Reached book before old taken run → has_end part ≡ false → said ≡ ended_line (run.feed.begun ++ part)
-    → is_good said ≡ true → next.feed ≡ make (run.feed.ended + 1) [] → HasAnswered run.book old now next.book (commands_of (said ∷ [])) → Reached book before now (taken ++ (part ++ 10 ∷ [])) next
-reached_end book before old now taken part run next said stands none says is fed answered =
+    → is_good said ≡ true → next.feed ≡ make (run.feed.ended + 1) [] → next.opened ≡ run.opened → HasAnswered run.book old now next.book (commands_of (said ∷ [])) → Reached book before now (taken ++ (part ++ 10 ∷ [])) next
+reached_end book before old now taken part run next said stands none says is fed opened answered =
     let ended = ended_of_line taken part none in
     let said_is : said ≡ ended_line (rest_of taken ++ part) = says ∙ ap (λ (f : FeedView). ended_line (f.begun ++ part)) stands.fed in
     record {
       good = ap all_good ended ∙ all_good-push (ended_lines_of taken) (ended_line (rest_of taken ++ part)) stands.good (ap is_good (sym said_is) ∙ is);
       fed = fed_line taken part run.feed next.feed none stands.fed fed;
+      opened = opened ∙ stands.opened;
       short = omega (arith, ap length (rest_with_line taken part));
       answered = subst (λ (ls : List Line). HasAnswered book before now next.book (commands_of ls)) (sym ended)
           (subst (HasAnswered book before now next.book) (sym (commands_of-push (ended_lines_of taken) (ended_line (rest_of taken ++ part))))
@@ -54,13 +55,14 @@ reached_end book before old now taken part run next said stands none says is fed
 
 -- more bytes of a line
 pub reached_part : (book : BookState) (before old : Stream) (taken part : List ℕ) (run next : RunState) → Reached book before old taken run → has_end part ≡ false → length (next.feed.begun) ≤ MAX_LINE
-    → next.feed ≡ make run.feed.ended (run.feed.begun ++ part) → next.book ≡ run.book → Reached book before old (taken ++ part) next
-reached_part book before old taken part run next stands none short fed same =
+    → next.feed ≡ make run.feed.ended (run.feed.begun ++ part) → next.opened ≡ run.opened → next.book ≡ run.book → Reached book before old (taken ++ part) next
+reached_part book before old taken part run next stands none short fed opened same =
     let ended = ended_of_part taken part none in
     let now = fed_part taken part run.feed next.feed none stands.fed fed in
     record {
       good = ap all_good ended ∙ stands.good;
       fed = now;
+      opened = opened ∙ stands.opened;
       short = omega (arith, short, ap (λ (f : FeedView). length f.begun) now);
       answered = subst (λ (ls : List Line). HasAnswered book before old next.book (commands_of ls)) (sym ended)
           (subst (λ (b : BookState). HasAnswered book before old b (commands_of (ended_lines_of taken))) (sym same) stands.answered);

@@ -1,25 +1,30 @@
 -- What a whole call of the program does: its words, its disk, its command.
-use Rattle.std.specs.Prelude.{◌≡◌, ◌⊎◌, ℕ, ◌≤◌, List, [], ◌∷◌, ◌++◌, length, take}
+use Rattle.std.specs.Prelude.{◌≡◌, ◌⊎◌, ℕ, ◌≤◌, List, [], length, take}
 use Rattle.device_facts.specs.Count.{Counted, Rose}
 use Rattle.disk_core.specs.Disk.{WhereTold}
 use Rattle.disk_core.specs.Devices.{IsUnmoved}
 use Rattle.disk_core.specs.declared.disk.Disk as disk
 use Rattle.book_words.specs.declared.act.Entry.{Entry}
-use Rattle.book_words.specs.Answers.{IsLawful, IsLegal}
+use Rattle.book_words.specs.Answers.{IsLegal}
 use Rattle.book_journal.specs.Mounting.{KeepsFromSync}
 use Rattle.book_store.specs.declared.types.MountError.{MountError}
 use Rattle.book_store.specs.declared.types.MountError.TheVariants as mount
+use Rattle.book_store.specs.declared.store.Store.{Store}
 use Rattle.book_store.specs.Images.{HoldsBook}
+use Rattle.book_store.specs.Stores.{disk_of, entries_of}
 use Rattle.book_store.specs.Listing.{IsOpenedAs}
 use Rattle.book_store.specs.Mounting.{IsCauseOf, IsPassing}
 use Rattle.hall_top.specs.declared.ended.Ended.{Ended}
 use Rattle.hall_top.specs.declared.stop.Stop.{Stop}
-use Rattle.hall_top.specs.declared.stop.Stop.TheVariants.{Finished, WriteFault, DiskFault, NoMemory}
-use Rattle.hall_top.specs.Texts.{usage, disk_fault, no_memory, not_journal, damaged_row, whole}
+use Rattle.hall_top.specs.declared.stop.Stop.TheVariants.{Finished, WriteFault, DiskFault}
+use Rattle.hall_top.specs.Texts.{disk_fault, no_memory, not_journal, damaged_row, whole}
 use Rattle.hall_top.specs.Transcript.{BookState}
-use Rattle.hall_top.specs.Streams.{WroteAll, IsCutIn, IsCalm}
-use Rattle.hall_top.specs.Run.{Call, NotBegun}
-use Rattle.hall_top.specs.Kept.{CrashLeaves, CountsStop, HoldsOrOffered}
+use Rattle.hall_top.specs.Streams.{Stream, WroteAll, IsCutIn}
+use Rattle.hall_top.specs.Run.{Call, Explains, IsComplete}
+use Rattle.hall_top.specs.Kept.{CrashLeaves, HoldsOrOffered, GoesTo}
+use Rattle.hall_top.specs.Books.{stored_book}
+use Rattle.hall_top.specs.declared.top.Command.{Command}
+use Rattle.hall_top.specs.declared.top.Command.TheVariants.{Run, Check}
 
 -- nothing was read, and there are no rows
 pub record NothingDone {S : Type 0} (call : Call S) : Type 0 where
@@ -40,10 +45,10 @@ status_for mount.DiskFault = 6
 status_for mount.NoMemory = 7
 
 -- the line that says why went out, or was cut
-abbrev pub SaysWhy : {S : Type 0} → MountError → Call S → ℕ → Type 0
-SaysWhy why call status =
-    (WroteAll call.before.output call.now.output (line_of why) × (status ≡ status_for why))
-    ⊎ (IsCutIn call.before.output call.now.output [] (line_of why) × (status ≡ 5))
+abbrev pub SaysWhy : MountError → Stream → Stream → ℕ → Type 0
+SaysWhy why before now status =
+    (WroteAll before now (line_of why) × (status ≡ status_for why))
+    ⊎ (IsCutIn before now [] (line_of why) × (status ≡ 5))
 
 -- The disk wasn't opened as a book: nothing was read, and one line says why. A disk that holds a book
 -- is then as it was, or a crash leaves the book.
@@ -52,7 +57,7 @@ pub record IsUnopened {S D : Type 0} (disk : disk.Ghosts D) (before : D) (ended 
   pub why : MountError
   pub cause : IsCauseOf disk why before ended.disk
   pub nothing : NothingDone call
-  pub says : SaysWhy why call ended.status
+  pub says : SaysWhy why call.before.output call.now.output ended.status
   pub none : ended.held ≡ 0
   pub kept : WhereTold (disk.reads before) (λ bytes.
       (held : List Entry) → HoldsBook held bytes → IsLegal held → IsPassing why
@@ -103,11 +108,38 @@ pub record IsCheckCut {S : Type 0} (book : BookState) (call : Call S) : Type 0 w
   pub rows : call.rows ≡ book.entries
   pub cut : IsCutIn call.before.output call.now.output [] (whole (length call.rows))
 
+-- the line that says that the book is whole went out, or was cut
+abbrev pub SaysWhole : Stream → Stream → ℕ → Stop → Type 0
+SaysWhole before now rows Finished = WroteAll before now (whole rows)
+SaysWhole before now rows WriteFault = IsCutIn before now [] (whole rows)
+SaysWhole before now rows _ = ⊥
+
 -- how a check ends
 abbrev pub ExplainsCheck : {S : Type 0} → BookState → Call S → Stop → Type 0
 ExplainsCheck book call Finished = IsChecked book call
-ExplainsCheck book call WriteFault =
-    IsCheckCut book call ⊎ (NotBegun book call × IsCutIn call.before.output call.now.output [] no_memory)
-ExplainsCheck book call NoMemory =
-    NotBegun book call × WroteAll call.before.output call.now.output no_memory
+ExplainsCheck book call WriteFault = IsCheckCut book call
 ExplainsCheck book call _ = ⊥
+
+-- how a run of a script ends, and that a good script which nothing stops is done
+pub record ExplainsRun {S : Type 0} (book : BookState) (call : Call S) (stop : Stop) : Type 0 where
+  pub explained : Explains book call stop
+  pub complete : IsComplete call stop
+
+-- how each command ends
+abbrev pub ExplainsCommand : {S : Type 0} → Command → BookState → Call S → Stop → Type 0
+ExplainsCommand Run book call stop = ExplainsRun book call stop
+ExplainsCommand Check book call stop = ExplainsCheck book call stop
+
+-- A command was done over a store: it ended in one of its ways, and the disk and the rows are those
+-- of the store that it left.
+pub record IsDoneOver {S D : Type 0} (disk : disk.Ghosts D)
+    (Explains : BookState → Call S → Stop → Type 0) (status_of : Stop → ℕ) (store : Store D)
+    (ended : Ended D) (call : Call S) : Type 0 where
+  pub last : Store D
+  pub stop : Stop
+  pub status : ended.status ≡ status_of stop
+  pub disk_left : ended.disk ≡ disk_of last
+  pub rows : ended.rows ≡ entries_of last
+  pub held : ended.held ≡ length (entries_of store)
+  pub goes : GoesTo disk stop store last
+  pub explained : Explains (stored_book store) call stop

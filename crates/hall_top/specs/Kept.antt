@@ -1,5 +1,5 @@
 -- What a run makes of the store that it asks, and what a crash leaves of its disk.
-use Rattle.std.specs.Prelude.{◌≡◌, ◌⊎◌, ℕ, ◌≤◌, List, [], ◌∷◌, ◌++◌, length, take, Result, Err}
+use Rattle.std.specs.Prelude.{◌≡◌, ◌⊎◌, ⊤, ℕ, ◌≤◌, List, [], ◌∷◌, ◌++◌, length, take, Result, Err}
 use Rattle.device_facts.specs.Count.{Counted, Rose}
 use Rattle.device_facts.specs.Prefix.{IsPrefixOf}
 use Rattle.disk_core.specs.declared.disk.Disk as disk
@@ -61,3 +61,7 @@ pub record Goes {D T : Type 0} (disk : disk.Ghosts D) (result : Result T Stop)
   pub kept : (held : List Entry) (start : D) → HasKept disk held start old
       → HasKept disk held start new
   pub cause : CountsStop (disk.faults (disk_of old)) (disk.faults (disk_of new)) result
+
+-- what a whole run that ended so makes of the store
+abbrev pub GoesTo : {D : Type 0} → disk.Ghosts D → Stop → Store D → Store D → Type 0
+GoesTo disk stop old new = Goes {T = ⊤} disk (Err stop) old new

@@ -10,4 +10,3 @@ pub mod Streams
 pub mod Texts
 pub mod Transcript
 pub mod Unanswered
-pub mod Words

@@ -2,15 +2,17 @@
 #![tactic(auto)]
 
 mod asking;
+mod check;
 mod composing;
 mod ended;
+mod numbered;
+mod open;
 mod reads;
 mod run;
 mod session;
 mod stop;
 mod top;
-mod words;
 mod writing;
 
 pub use ended::Ended;
-pub use top::hall;
+pub use top::{Command, carry_out};

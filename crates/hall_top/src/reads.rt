@@ -1,19 +1,21 @@
-ghost use Rattle.std.specs.Prelude.{◌≡◌, ◌+◌, ◌<◌, ◌≤◌, List, ℕ, [], length, false, OnOk, IfOk, MatchResult};
-ghost use Rattle.book_words.specs.Soundness.{IsSound};
+ghost use Rattle.std.specs.Prelude.{◌≡◌, ◌+◌, ◌<◌, ◌≤◌, List, ℕ, [], length, false, OnOk, IfOk, IfErr, MatchResult};
+ghost use Rattle.book_words.specs.Answers.{IsLegal};
 ghost use Rattle.script_lines.specs.Feed.{feed_after};
+ghost use Rattle.book_store.specs.Stores.{entries_of, IsSound};
 ghost use Rattle.hall_top.specs.Texts.{read_fault};
-ghost use Rattle.hall_top.specs.Transcript.{BookState, new_book};
+ghost use Rattle.hall_top.specs.Transcript.{BookState};
 ghost use Rattle.hall_top.specs.Streams.{Stream, Devices, devices, output_at, WroteAll, Wrote};
 ghost use Rattle.hall_top.specs.Run.{call, Explains};
+ghost use Rattle.hall_top.specs.Kept.{Goes, GoesTo};
+ghost use Rattle.hall_top.specs.Books.{book_in, store_in, stored_book, opened_at, IsReady};
 ghost use Rattle.hall_top.specs.Reached.{SaysNoMemory, StandsAfter, WentOn};
 ghost use Rattle.hall_top.specs.Runs.{run_state};
 
 use crate::run::Run;
 use crate::stop::Stop;
 use crate::writing::say_no_memory;
-use book_core::{Book, Rows};
-use disk_core::{Failed, NoMemory, Sink, Source, write_all};
-use hall_limits::MAX_ROWS;
+use book_store::Store;
+use disk_core::{Disk, Failed, Sink, Source, write_all};
 use std::alloc::Global;
 
 /// A run makes at most so many reads, each of which gives a byte.
@@ -22,11 +24,11 @@ pub const MAX_READS: u32 = 100_000_000;
 /// At most so many bytes are read at once.
 pub const PIECE: usize = 65_536;
 
-/// How a run stopped, and the rows that it leaves.
+/// How a run stopped, and the store that it leaves.
 #[derive(Drop)]
-pub struct RunEnd {
+pub struct RunEnd<D: Disk> {
     pub stop: Stop,
-    pub rows: Rows,
+    pub store: Store<D>,
 }
 
 // Says that the input failed.
@@ -39,8 +41,8 @@ fn say_read_fault<K: Sink>(output: &mut K)
 }
 
 // Makes one read, and takes what it gives.
-fn take_read<S: Source, K: Sink>(
-    run: &mut Run,
+fn take_read<S: Source, K: Sink, D: Disk>(
+    run: &mut Run<D>,
     buffer: &mut [u8],
     input: &mut S,
     output: &mut K,
@@ -49,6 +51,7 @@ fn take_read<S: Source, K: Sink>(
     requires some { 0 < length buffer.old }
     requires small { length buffer.old ≤ PIECE }
     requires room { run.old.feed.ended + length buffer.old < u64.MAX }
+    requires ready { IsReady D.Disk run.old.session }
     ensures unended { OnOk result (S.ended input.new ≡ false) }
     ensures explained { (book : BookState) (before : Devices S) (taken : List ℕ)
         → StandsAfter book before (devices S.Source K.Sink input.old output.old) taken
@@ -59,8 +62,10 @@ fn take_read<S: Source, K: Sink>(
         (Explains book (record {
           before = before;
           now = devices S.Source K.Sink input.new output.new;
-          rows = run.new.session.entries;
+          rows = entries_of (store_in run.new.session);
         })) }
+    ensures goes { Goes D.Disk result (store_in run.old.session) (store_in run.new.session) }
+    ensures ready { IsReady D.Disk run.new.session }
 {
     match input.read(buffer) {
         Ok(0) => Err(run.finish(output)),
@@ -73,8 +78,8 @@ fn take_read<S: Source, K: Sink>(
 }
 
 // Reads the whole input, piece by piece, and takes it.
-fn read_all<S: Source, K: Sink>(
-    run: &mut Run,
+fn read_all<S: Source, K: Sink, D: Disk>(
+    run: &mut Run<D>,
     buffer: &mut [u8],
     input: &mut S,
     output: &mut K,
@@ -83,9 +88,12 @@ fn read_all<S: Source, K: Sink>(
     requires some { 0 < length buffer.old }
     requires small { length buffer.old ≤ PIECE }
     requires begun { run.old.feed ≡ feed_after [] }
-    ensures { Explains run.old.session
-        (call S.Source K.Sink input.old output.old input.new output.new run.new.session.entries)
-        result }
+    requires opened { opened_at run.old.session ≡ length (entries_of (store_in run.old.session)) }
+    requires ready { IsReady D.Disk run.old.session }
+    ensures explained { Explains (book_in run.old.session)
+        (call S.Source K.Sink input.old output.old input.new output.new
+        (entries_of (store_in run.new.session))) result }
+    ensures goes { GoesTo D.Disk result (store_in run.old.session) (store_in run.new.session) }
 {
     for _turn in 0..MAX_READS {
         if let Err(stop) = take_read(run, buffer, input, output) {
@@ -95,52 +103,54 @@ fn read_all<S: Source, K: Sink>(
     Stop::Spent
 }
 
-/// No rows.
-pub fn no_rows(alloc: Global) -> Rows
-    ensures rows { result ≡ [] }
-    ensures sound { IsSound result }
+// A run over a store, and room for what is read at once; or the store.
+fn begin<D: Disk>(alloc: Global, store: Store<D>) -> Result<(Run<D>, Vec<u8>), Store<D>>
+    requires sound { IsSound D.Disk store }
+    requires legal { IsLegal (entries_of store) }
+    ensures fed { IfOk result (λ begun. begun.0.feed ≡ feed_after []) }
+    ensures opened { IfOk result (λ begun.
+        opened_at begun.0.session ≡ length (entries_of (store_in begun.0.session))) }
+    ensures store { IfOk result (λ begun. store_in begun.0.session ≡ store) }
+    ensures ready { IfOk result (λ begun. IsReady D.Disk begun.0.session) }
+    ensures room { IfOk result (λ begun. length begun.1.items ≡ PIECE) }
+    ensures back { IfErr result (λ back. back ≡ store) }
 {
-    Book::new(alloc, MAX_ROWS).rows()
-}
-
-// The end of a run that has no memory to begin with.
-fn end_unbegun<K: Sink>(alloc: Global, output: &mut K) -> RunEnd
-    ensures says { SaysNoMemory (output_at K.Sink output.old) (output_at K.Sink output.new)
-        result.stop }
-    ensures rows { result.rows ≡ [] }
-    ensures sound { IsSound result.rows }
-{
-    RunEnd {
-        stop: say_no_memory(output),
-        rows: no_rows(alloc),
+    let Ok(buffer) = vec![in alloc; 0u8; PIECE] else {
+        return Err(store);
+    };
+    match Run::new(alloc, store) {
+        Ok(run) => Ok((run, buffer)),
+        Err(store) => Err(store),
     }
 }
 
-// A run over a new book, and room for what is read at once.
-fn begin(alloc: Global) -> Result<(Run, Vec<u8>), NoMemory>
-    ensures run { IfOk result (λ begun. run_state begun.0
-        ≡ record { book = new_book; feed = feed_after [] }) }
-    ensures room { IfOk result (λ begun. length begun.1.items ≡ PIECE) }
+/// Runs a script over a store. All memory but that of the book's entries is taken before the first
+/// read.
+pub fn run_script<S: Source, K: Sink, D: Disk>(
+    alloc: Global,
+    store: Store<D>,
+    input: &mut S,
+    output: &mut K,
+) -> RunEnd<D>
+    requires unended { S.ended input.old ≡ false }
+    requires sound { IsSound D.Disk store }
+    requires legal { IsLegal (entries_of store) }
+    ensures explained { Explains (stored_book store)
+        (call S.Source K.Sink input.old output.old input.new output.new (entries_of result.store))
+        result.stop }
+    ensures goes { GoesTo D.Disk result.stop store result.store }
 {
-    let buffer = vec![in alloc; 0u8; PIECE]?;
-    let run = Run::new(alloc)?;
-    Ok((run, buffer))
-}
-
-/// Runs a script over a new book. All memory but that of the book's entries is taken before the
-/// first read.
-pub fn run_script<S: Source, K: Sink>(alloc: Global, input: &mut S, output: &mut K) -> RunEnd
-    requires { S.ended input.old ≡ false }
-    ensures explained { Explains new_book
-        (call S.Source K.Sink input.old output.old input.new output.new result.rows) result.stop }
-    ensures sound { IsSound result.rows }
-{
-    let Ok((mut run, mut buffer)) = begin(alloc) else {
-        return end_unbegun(alloc, output);
-    };
-    let stop = read_all(&mut run, &mut buffer, input, output);
-    RunEnd {
-        stop,
-        rows: run.into_rows(),
+    match begin(alloc, store) {
+        Ok((mut run, mut buffer)) => {
+            let stop = read_all(&mut run, &mut buffer, input, output);
+            RunEnd {
+                stop,
+                store: run.into_store(),
+            }
+        }
+        Err(store) => RunEnd {
+            stop: say_no_memory(output),
+            store,
+        },
     }
 }

@@ -1,8 +1,7 @@
 use crate::session::Session;
 use crate::stop::Stop;
-use book_core::Rows;
-use disk_core::{NoMemory, Sink};
-use hall_limits::MAX_ROWS;
+use book_store::Store;
+use disk_core::{Disk, Sink};
 use script_lines::{Allowed, Feed, TooLong, split_line};
 use std::alloc::Global;
 
@@ -11,45 +10,61 @@ const EVERY_COMMAND: Allowed = Allowed { questions: true };
 
 /// A run of a script: its book, and the lines that it was given.
 #[derive(Drop)]
-pub struct Run {
-    pub session: Session,
+pub struct Run<D: Disk> {
+    pub session: Session<D>,
     pub feed: Feed,
 }
 
-impl Run {
+impl<D: Disk> Run<D> {
     ghost use Rattle.std.specs.Prelude.{◌≡◌, ◌+◌, ◌<◌, ◌≤◌, ℕ, List, [], ◌∷◌, ◌++◌, length, false, OnOk, IfOk, IfErr};
-    ghost use Rattle.book_words.specs.Soundness.{IsSound};
+    ghost use Rattle.book_words.specs.Answers.{IsLegal};
     ghost use Rattle.script_lines.specs.Lines.{has_end};
     ghost use Rattle.script_lines.specs.Feed.{feed_after};
-    ghost use Rattle.hall_top.specs.Transcript.{BookState, new_book};
+    ghost use Rattle.book_store.specs.Stores.{entries_of, IsSound};
+    ghost use Rattle.hall_top.specs.Transcript.{BookState};
     ghost use Rattle.hall_top.specs.Streams.{Stream, output_at};
     ghost use Rattle.hall_top.specs.Run.{StopsInScript};
+    ghost use Rattle.hall_top.specs.Kept.{Goes, GoesTo};
+    ghost use Rattle.hall_top.specs.Books.{book_in, store_in, opened_at, IsReady};
     ghost use Rattle.hall_top.specs.Runs.{run_state};
     ghost use Rattle.hall_top.specs.Reached.{Reached, Steps, IsWholeSoFar, EndsScript};
 
-    /// A run that was given nothing, with room for all that it keeps but the entries of its book.
-    pub fn new(alloc: Global) -> Result<Run, NoMemory>
-        ensures { IfOk result
-            (λ run. run_state run ≡ record { book = new_book; feed = feed_after [] }) }
+    /// A run over a store that was given nothing, with room for all that it keeps but the entries of
+    /// its book; or the store where there is no memory for it.
+    pub fn new(alloc: Global, store: Store<D>) -> Result<Run<D>, Store<D>>
+        requires sound { IsSound D.Disk store }
+        requires legal { IsLegal (entries_of store) }
+        ensures fed { IfOk result (λ run. run.feed ≡ feed_after []) }
+        ensures opened { IfOk result (λ run.
+            opened_at run.session ≡ length (entries_of (store_in run.session))) }
+        ensures store { IfOk result (λ run. store_in run.session ≡ store) }
+        ensures ready { IfOk result (λ run. IsReady D.Disk run.session) }
+        ensures back { IfErr result (λ back. back ≡ store) }
     {
-        let session = Session::new(alloc, MAX_ROWS)?;
-        let feed = Feed::new(alloc)?;
-        Ok(Run { session, feed })
+        let Ok(feed) = Feed::new(alloc) else {
+            return Err(store);
+        };
+        match Session::new(alloc, store) {
+            Ok(session) => Ok(Run { session, feed }),
+            Err(store) => Err(store),
+        }
     }
 
-    /// The rows of its book.
-    pub fn into_rows(self) -> Rows
-        ensures rows { result ≡ self.session.entries }
-        ensures sound { IsSound result }
+    /// Its store.
+    pub fn into_store(self) -> Store<D>
+        ensures { result ≡ store_in self.session }
     {
-        self.session.into_rows()
+        self.session.into_store()
     }
 
     /// Takes a piece of the script: each line that ends in it is answered before the next.
     pub fn take_piece<K: Sink>(&mut self, piece: &[u8], output: &mut K) -> Result<(), Stop>
-        requires { self.old.feed.ended + length piece.now < u64.MAX }
-        ensures { Steps (output_at K.Sink output.old) (output_at K.Sink output.new)
+        requires room { self.old.feed.ended + length piece.now < u64.MAX }
+        requires ready { IsReady D.Disk self.old.session }
+        ensures steps { Steps (output_at K.Sink output.old) (output_at K.Sink output.new)
             (run_state self.old) (run_state self.new) piece.now result }
+        ensures goes { Goes D.Disk result (store_in self.old.session) (store_in self.new.session) }
+        ensures ready { IsReady D.Disk self.new.session }
     {
         let mut rest = piece;
         while let Some((part, after)) = split_line(rest) {
@@ -63,9 +78,12 @@ impl Run {
     fn end_line<K: Sink>(&mut self, part: &[u8], output: &mut K) -> Result<(), Stop>
         requires room { self.old.feed.ended < u64.MAX }
         requires no_end { has_end part.now ≡ false }
+        requires ready { IsReady D.Disk self.old.session }
         ensures steps { Steps (output_at K.Sink output.old) (output_at K.Sink output.new)
             (run_state self.old) (run_state self.new) (part.now ++ 10 ∷ []) result }
         ensures one { self.new.feed.ended ≡ self.old.feed.ended + 1 }
+        ensures goes { Goes D.Disk result (store_in self.old.session) (store_in self.new.session) }
+        ensures ready { IsReady D.Disk self.new.session }
     {
         let number = self.feed.line_number();
         let line = self.feed.end_line(EVERY_COMMAND, part);
@@ -78,8 +96,11 @@ impl Run {
     fn begin_line<K: Sink>(&mut self, part: &[u8], output: &mut K) -> Result<(), Stop>
         requires room { self.old.feed.ended < u64.MAX }
         requires no_end { has_end part.now ≡ false }
-        ensures { Steps (output_at K.Sink output.old) (output_at K.Sink output.new)
+        requires ready { IsReady D.Disk self.old.session }
+        ensures steps { Steps (output_at K.Sink output.old) (output_at K.Sink output.new)
             (run_state self.old) (run_state self.new) part.now result }
+        ensures goes { Goes D.Disk result (store_in self.old.session) (store_in self.new.session) }
+        ensures ready { IsReady D.Disk self.new.session }
     {
         match self.feed.begin_line(part) {
             Ok(()) => Ok(()),
@@ -90,14 +111,17 @@ impl Run {
         }
     }
 
-    /// Ends the run of a script that was read to its end: a last line may lack its LF, and then
-    /// comes the summary.
+    /// Ends the run of a script that was read to its end: a last line may lack its LF; then, where
+    /// rows were added, a snapshot of them is kept, and then comes the summary.
     pub fn finish<K: Sink>(&mut self, output: &mut K) -> Stop
-        requires { self.old.feed.ended < u64.MAX }
-        ensures { (book : BookState) (before : Stream) (taken : List ℕ)
+        requires room { self.old.feed.ended < u64.MAX }
+        requires ready { IsReady D.Disk self.old.session }
+        ensures ends { (book : BookState) (before : Stream) (taken : List ℕ)
             → Reached book before (output_at K.Sink output.old) taken (run_state self.old)
-            → EndsScript book before (output_at K.Sink output.new) self.new.session.entries taken
-            result }
+            → EndsScript book before (output_at K.Sink output.new)
+            (entries_of (store_in self.new.session)) taken result }
+        ensures goes { GoesTo D.Disk result (store_in self.old.session) (store_in self.new.session) }
+        ensures ready { IsReady D.Disk self.new.session }
     {
         match self.finish_line(output) {
             Ok(()) => self.finish_summary(output),
@@ -107,15 +131,19 @@ impl Run {
 
     // Does what a last line says that lacks its LF; without one nothing is left to do.
     fn finish_line<K: Sink>(&mut self, output: &mut K) -> Result<(), Stop>
-        requires { self.old.feed.ended < u64.MAX }
+        requires room { self.old.feed.ended < u64.MAX }
+        requires ready { IsReady D.Disk self.old.session }
         ensures whole { (book : BookState) (before : Stream) (taken : List ℕ)
             → Reached book before (output_at K.Sink output.old) taken (run_state self.old)
-            → OnOk result
-            (IsWholeSoFar book before (output_at K.Sink output.new) taken self.new.session) }
+            → OnOk result (IsWholeSoFar book before (output_at K.Sink output.new) taken
+            (book_in self.new.session)) }
         ensures stops { (book : BookState) (before : Stream) (taken : List ℕ)
             → Reached book before (output_at K.Sink output.old) taken (run_state self.old)
             → IfErr result (λ stop. StopsInScript book before (output_at K.Sink output.new)
-            self.new.session.entries stop taken) }
+            (entries_of (store_in self.new.session)) stop taken) }
+        ensures goes { Goes D.Disk result (store_in self.old.session) (store_in self.new.session) }
+        ensures opened { opened_at self.new.session ≡ opened_at self.old.session }
+        ensures ready { IsReady D.Disk self.new.session }
     {
         let line = self.feed.read_last(EVERY_COMMAND);
         let number = self.feed.line_number();
@@ -123,16 +151,20 @@ impl Run {
         Ok(())
     }
 
-    // Writes the summary.
+    // Keeps a snapshot where rows were added, and writes the summary.
     fn finish_summary<K: Sink>(&mut self, output: &mut K) -> Stop
-        ensures { (book : BookState) (before : Stream) (taken : List ℕ)
-            → IsWholeSoFar book before (output_at K.Sink output.old) taken self.old.session
-            → EndsScript book before (output_at K.Sink output.new) self.new.session.entries taken
-            result }
+        requires ready { IsReady D.Disk self.old.session }
+        ensures ends { (book : BookState) (before : Stream) (taken : List ℕ)
+            → opened_at self.old.session ≡ length book.entries
+            → IsWholeSoFar book before (output_at K.Sink output.old) taken (book_in self.old.session)
+            → EndsScript book before (output_at K.Sink output.new)
+            (entries_of (store_in self.new.session)) taken result }
+        ensures goes { GoesTo D.Disk result (store_in self.old.session) (store_in self.new.session) }
+        ensures ready { IsReady D.Disk self.new.session }
     {
-        match self.session.write_summary(output) {
+        match self.session.finish(output) {
             Ok(()) => Stop::Finished,
-            Err(_) => Stop::WriteFault,
+            Err(stop) => stop,
         }
     }
 }

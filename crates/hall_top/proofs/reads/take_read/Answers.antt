@@ -1,9 +1,13 @@
-use Rattle.std.proofs.Common.{◌≡◌, ◌<◌, ◌≤◌, List, ℕ, ◌++◌, length, take, append-nil, length-take, ap, ◌∙◌, subst, arith}
+use Rattle.std.proofs.Common.{◌≡◌, ◌<◌, ◌≤◌, List, ℕ, ◌++◌, length, take, Err, refl, append-nil, length-take, ap, ◌∙◌, subst, arith}
 use Rattle.std.specs.Io.KnownBytes.{Consumes}
 use Rattle.std.proofs.KnownBytes.{Consumes-trans}
 use Rattle.hall_top.specs.declared.reads.TheConstants.{PIECE}
+use Rattle.book_store.specs.Stores.{entries_of}
+use Rattle.hall_top.specs.Books.{store_in}
 use Rattle.hall_top.specs.Streams.{devices}
 use Rattle.hall_top.specs.Runs.{run_state}
+use Rattle.hall_top.specs.declared.stop.Stop.TheVariants.{ReadFault}
+use Rattle.hall_top.proofs.Going.{goes_as, stays}
 use Rattle.hall_top.proofs.Explaining.{call_from, explained_at_end, explained_after, explained_fault}
 use Rattle.hall_top.proofs.reads.take_read.Goals as goal
 
@@ -13,8 +17,8 @@ returns-in-Ok-eq0-clause-explained g c = λ book before taken stands.
     let none : taken ++ take c.in-Ok-eq0.field-0 c.read.new.into ≡ taken = ap (λ n. taken ++ take n c.read.new.into) c.in-Ok-eq0.field-0-test ∙ append-nil taken in
     let all = subst (Consumes before.input.bytes left) none (Consumes-trans _ _ _ taken _ stands.read c.in-Ok-eq0.ensures.bytes.0) in
     let end = c.in-Ok-eq0.ensures.bytes.1 c.in-Ok-eq0.field-0-test (omega arith) in
-    explained_at_end book (call_from before (devices g.S.Source g.K.Sink c.read.new.self c.finish.new.output) c.finish.new.self.session.entries) taken c.finish.result
-    (c.finish.ensures book before.output taken stands.reached) all end (c.in-Ok-eq0.ensures.cause ∙ stands.calm)
+    explained_at_end book (call_from before (devices g.S.Source g.K.Sink c.read.new.self c.finish.new.output) (entries_of (store_in c.finish.new.self.session))) taken c.finish.result
+    (c.finish.ensures.ends book before.output taken stands.reached) all end (c.in-Ok-eq0.ensures.cause ∙ stands.calm)
 
 some_taken : (xs : List ℕ) (n : ℕ) → n ≤ length xs → (n ≡ 0 → ⊥) → 0 < length (take n xs)
 some_taken xs n within more = omega (arith, length-take n xs, more)
@@ -26,7 +30,7 @@ pub returns-in-Ok-clause-explained : goal.returns-in-Ok-clause-explained
 returns-in-Ok-clause-explained g c = λ book before taken stands.
     let piece = take c.in-Ok.count c.read.new.into in
     explained_after book before (devices g.S.Source g.K.Sink c.args.input.now c.args.output.now) (devices g.S.Source g.K.Sink c.read.new.self c.take_piece.new.output) taken piece
-    (run_state c.args.run.now) (run_state c.take_piece.new.self) c.take_piece.result stands c.take_piece.ensures
+    (run_state c.args.run.now) (run_state c.take_piece.new.self) c.take_piece.result stands c.take_piece.ensures.steps
     (some_taken c.read.new.into c.in-Ok.count c.in-Ok.ensures.bound c.in-Ok.count-test.1) (small_piece c.read.new.into c.in-Ok.count (omega arith))
     c.in-Ok.ensures.bytes.0 c.in-Ok.ensures.cause
 
@@ -34,3 +38,9 @@ pub returns-in-Err-clause-explained : goal.returns-in-Err-clause-explained
 returns-in-Err-clause-explained g c = λ book before taken stands.
     explained_fault book before (devices g.S.Source g.K.Sink c.args.input.now c.args.output.now) (devices g.S.Source g.K.Sink c.read.new.self c.say_read_fault.new.output) taken (run_state c.args.run.now) stands
     c.say_read_fault.ensures c.in-Err.ensures.bytes c.in-Err.ensures.cause
+
+pub returns-in-Ok-eq0-clause-goes : goal.returns-in-Ok-eq0-clause-goes
+returns-in-Ok-eq0-clause-goes g c = goes_as g.D.Disk c.finish.result (store_in c.args.run.now.session) (store_in c.finish.new.self.session) c.finish.ensures.goes
+
+pub returns-in-Err-clause-goes : goal.returns-in-Err-clause-goes
+returns-in-Err-clause-goes g c = stays g.D.Disk (Err ReadFault) (store_in c.args.run.now.session) c.requires.ready.sound c.requires.ready.legal refl

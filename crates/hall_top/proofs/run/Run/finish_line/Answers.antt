@@ -1,5 +1,7 @@
 use Rattle.std.proofs.Common.{ℕ, [], subst}
 use Rattle.std.proofs.lemmas.Result.{err_from_is_err_and}
+use Rattle.book_store.specs.Stores.{entries_of}
+use Rattle.hall_top.specs.Books.{book_in, store_in}
 use Rattle.hall_top.specs.Streams.{output_at}
 use Rattle.hall_top.specs.Run.{StopsAtLine}
 use Rattle.hall_top.proofs.Finishing.{whole_last, stops_last}
@@ -10,9 +12,14 @@ pub returns-in_err-handle_line-clause-stops : goal.returns-in_err-handle_line-cl
 returns-in_err-handle_line-clause-stops g c = λ book before taken stands.
     let p = err_from_is_err_and c.from_residual.result c.from_residual.ensures.1 in
     rw (p.1, p.2) (stops_last book before _ _ taken (run_state c.args.self.now) _ c.read_last-line.result _ stands c.read_last-line.ensures.says
-    (subst (λ (n : ℕ). StopsAtLine c.args.self.now.session (output_at g.K.Sink c.args.output.now) (output_at g.K.Sink c.handle_line.new.output) c.handle_line.new.self.entries [] n c.read_last-line.result c.in_err-handle_line.field-0.0)
+    (subst (λ (n : ℕ). StopsAtLine (book_in c.args.self.now.session) (output_at g.K.Sink c.args.output.now) (output_at g.K.Sink c.handle_line.new.output) (entries_of (store_in c.handle_line.new.self)) [] n c.read_last-line.result c.in_err-handle_line.field-0.0)
     c.line_number-number.ensures c.in_err-handle_line.ensures.stops))
 
 pub returns-clause-whole : goal.returns-clause-whole
 returns-clause-whole g c = λ book before taken stands.
     whole_last book _ before _ _ taken (run_state c.args.self.now) c.read_last-line.result stands c.read_last-line.ensures.says c.in_ok-handle_line.ensures.good c.in_ok-handle_line.ensures.answered
+
+pub returns-in_err-handle_line-clause-goes : goal.returns-in_err-handle_line-clause-goes
+returns-in_err-handle_line-clause-goes g c =
+    let p = err_from_is_err_and c.from_residual.result c.from_residual.ensures.1 in
+    rw (p.1, p.2) c.in_err-handle_line.ensures.goes

@@ -1,4 +1,7 @@
-use Rattle.std.proofs.Common.{◌+◌, ◌≤◌, length}
+use Rattle.std.proofs.Common.{◌+◌, ◌≤◌, length, Ok}
+use Rattle.std.specs.Bool.{⊤}
+use Rattle.hall_top.specs.Kept.{Goes}
+use Rattle.hall_top.specs.Books.{store_in, IsReady}
 use Rattle.hall_top.specs.Streams.{output_at}
 use Rattle.hall_top.proofs.Stepping.{GoneOver}
 use Rattle.hall_top.specs.Runs.{run_state}
@@ -8,6 +11,8 @@ use Rattle.hall_top.proofs.run.Run.take_piece.Given as goal
 abbrev pub invariant-loop-part : goal.invariant-loop-part
 invariant-loop-part g l = record {
   over : GoneOver (output_at g.K.Sink l.fn.output) (output_at g.K.Sink l.output) (run_state l.fn.self) (run_state l.self) l.piece l.rest;
+  goes : Goes {T = ⊤} g.D.Disk (Ok tt) (store_in l.fn.self.session) (store_in l.self.session);
+  ready : IsReady g.D.Disk l.self.session;
   few : l.self.feed.ended + length l.rest ≤ l.fn.self.feed.ended + length l.piece;
 }
 

@@ -1,0 +1,54 @@
+-- Lemmas on a check, and on statuses.
+use Rattle.std.proofs.Common.{◌≡◌, ℕ, length, Err, inl, inr, IsTrue, refl, sym, subst}
+use Rattle.book_store.specs.declared.types.MountError.{MountError}
+use Rattle.book_store.specs.declared.types.MountError.TheVariants as mount
+use Rattle.hall_top.specs.declared.stop.Stop.{Stop}
+use Rattle.hall_top.specs.declared.stop.Stop.TheVariants.{Finished, BadLine, ReadFault, WriteFault, DiskFault, NoMemory, Spent}
+use Rattle.hall_top.specs.Transcript.{BookState}
+use Rattle.hall_top.specs.Streams.{Stream}
+use Rattle.hall_top.specs.Run.{Call, status_of, is_status}
+use Rattle.hall_top.specs.Kept.{CountsStop}
+use Rattle.hall_top.specs.Calls.{SaysWhy, SaysWhole, ExplainsCheck, status_for}
+
+-- a check that wrote its line, or a part of it
+pub explains_check : {S : Type 0} (book : BookState) (call : Call S) (stop : Stop) → call.now.source ≡ call.before.source → call.rows ≡ book.entries → SaysWhole call.before.output call.now.output (length call.rows) stop → ExplainsCheck book call stop
+explains_check book call Finished unread rows says = record { unread = unread; rows = rows; wrote = says }
+explains_check book call WriteFault unread rows says = record { unread = unread; rows = rows; cut = says }
+explains_check book call BadLine unread rows says = absurd says
+explains_check book call ReadFault unread rows says = absurd says
+explains_check book call DiskFault unread rows says = absurd says
+explains_check book call NoMemory unread rows says = absurd says
+explains_check book call Spent unread rows says = absurd says
+
+-- it touches no disk
+pub whole_counts : (T : Type 0) (before now : Stream) (rows count : ℕ) (stop : Stop) → SaysWhole before now rows stop → CountsStop {T = T} count count (Err stop)
+whole_counts T before now rows count Finished says = refl
+whole_counts T before now rows count WriteFault says = inl refl
+whole_counts T before now rows count BadLine says = absurd says
+whole_counts T before now rows count ReadFault says = absurd says
+whole_counts T before now rows count DiskFault says = absurd says
+whole_counts T before now rows count NoMemory says = absurd says
+whole_counts T before now rows count Spent says = absurd says
+
+stop_status : (stop : Stop) → IsTrue (is_status (status_of stop))
+stop_status Finished = refl
+stop_status BadLine = refl
+stop_status ReadFault = refl
+stop_status WriteFault = refl
+stop_status DiskFault = refl
+stop_status NoMemory = refl
+stop_status Spent = refl
+
+why_status : (why : MountError) → IsTrue (is_status (status_for why))
+why_status (mount.NotJournal place) = refl
+why_status (mount.Damaged row) = refl
+why_status mount.DiskFault = refl
+why_status mount.NoMemory = refl
+
+-- the statuses of a command, and of a disk that wasn't opened, are among those of the program
+pub status_of_stop : (status : ℕ) (stop : Stop) → status ≡ status_of stop → IsTrue (is_status status)
+status_of_stop status stop is = subst (λ (n : ℕ). IsTrue (is_status n)) (sym is) (stop_status stop)
+
+pub status_of_why : (why : MountError) (before now : Stream) (status : ℕ) → SaysWhy why before now status → IsTrue (is_status status)
+status_of_why why before now status (inl (out, is)) = subst (λ (n : ℕ). IsTrue (is_status n)) (sym is) (why_status why)
+status_of_why why before now status (inr (cut, is)) = subst (λ (n : ℕ). IsTrue (is_status n)) (sym is) refl

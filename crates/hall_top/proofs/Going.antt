@@ -1,0 +1,90 @@
+-- Lemmas on what the steps of a run make of its store.
+use Rattle.std.proofs.Common.{◌≡◌, ℕ, List, [], Result, Ok, Err, inl, refl, sym, ◌∙◌, subst, append-nil}
+use Rattle.disk_core.specs.declared.disk.Disk as disk
+use Rattle.book_words.specs.Answers.{IsLegal}
+use Rattle.book_store.specs.declared.store.Store.{Store}
+use Rattle.book_store.specs.Stores.{disk_of, entries_of, IsSound}
+use Rattle.hall_top.specs.declared.stop.Stop.{Stop}
+use Rattle.hall_top.specs.declared.stop.Stop.TheVariants.{Finished, BadLine, ReadFault, WriteFault, DiskFault, NoMemory, Spent}
+use Rattle.script_lines.specs.declared.command.Command.{Command}
+use Rattle.script_lines.specs.declared.command.Line.TheVariants.{Bad}
+use Rattle.book_words.specs.declared.act.Entry.{Entry}
+use Rattle.hall_top.specs.Transcript.{BookState}
+use Rattle.hall_top.specs.Streams.{Stream}
+use Rattle.hall_top.specs.Run.{StopsAtLine}
+use Rattle.hall_top.specs.Reached.{SaysNoMemory}
+use Rattle.hall_top.specs.Kept.{CountsStop, Goes}
+use Rattle.hall_top.proofs.Acknowledged.{prefix_on}
+
+-- a step that goes on, and then another
+pub goes_on : {D T U : Type 0} (g : disk.Ghosts D) (x : T) (result : Result U Stop) (a b c : Store D) → Goes g (Ok x) a b → Goes g result b c → Goes g result a c
+goes_on g x result a b c first second =
+    record {
+      sound = second.sound;
+      legal = second.legal;
+      limit = second.limit ∙ first.limit;
+      begins = prefix_on (entries_of a) (entries_of b) (entries_of c) first.begins second.begins;
+      kept = λ held start has. second.kept held start (first.kept held start has);
+      cause = subst (λ (n : ℕ). CountsStop n (g.faults (disk_of c)) result) first.cause second.cause;
+    }
+
+-- the store is as it was
+pub stays : {D T : Type 0} (g : disk.Ghosts D) (result : Result T Stop) (store : Store D) → IsSound g store → IsLegal (entries_of store) → CountsStop (g.faults (disk_of store)) (g.faults (disk_of store)) result → Goes g result store store
+stays g result store sound legal counts =
+    record {
+      sound = sound;
+      legal = legal;
+      limit = refl;
+      begins = ([], sym (append-nil (entries_of store)));
+      kept = λ held start has. has;
+      cause = counts;
+    }
+
+counts_as : (T U : Type 0) (before now : ℕ) (stop : Stop) → CountsStop {T = T} before now (Err stop) → CountsStop {T = U} before now (Err stop)
+counts_as T U before now Finished counts = counts
+counts_as T U before now BadLine counts = counts
+counts_as T U before now ReadFault counts = counts
+counts_as T U before now WriteFault counts = counts
+counts_as T U before now DiskFault counts = counts
+counts_as T U before now NoMemory counts = counts
+counts_as T U before now Spent counts = counts
+
+-- the same step, by another answer that counts so
+pub goes_with : {D T U : Type 0} (g : disk.Ghosts D) (first : Result T Stop) (result : Result U Stop) (a b : Store D) → Goes g first a b → CountsStop (g.faults (disk_of a)) (g.faults (disk_of b)) result → Goes g result a b
+goes_with g first result a b goes counts =
+    record {
+      sound = goes.sound;
+      legal = goes.legal;
+      limit = goes.limit;
+      begins = goes.begins;
+      kept = goes.kept;
+      cause = counts;
+    }
+
+-- how a run stops, whatever its steps answer
+pub goes_as : {D T U : Type 0} (g : disk.Ghosts D) (stop : Stop) (a b : Store D) → Goes {T = T} g (Err stop) a b → Goes {T = U} g (Err stop) a b
+goes_as {T = T} {U = U} g stop a b goes = goes_with g (Err stop) (Err stop) a b goes (counts_as T U (g.faults (disk_of a)) (g.faults (disk_of b)) stop goes.cause)
+
+-- the disk isn't touched where a run stops at a bad line
+pub bad_counts : (T : Type 0) (book : BookState) (before now : Stream) (rows : List Entry) (commands : List Command) (number count : ℕ) (stop : Stop) → StopsAtLine book before now rows commands number Bad stop → CountsStop {T = T} count count (Err stop)
+bad_counts T book before now rows commands number count BadLine stops = refl
+bad_counts T book before now rows commands number count Finished stops = absurd stops
+bad_counts T book before now rows commands number count ReadFault stops = absurd stops
+bad_counts T book before now rows commands number count WriteFault stops = absurd stops
+bad_counts T book before now rows commands number count DiskFault stops = absurd stops
+bad_counts T book before now rows commands number count NoMemory stops = absurd stops
+bad_counts T book before now rows commands number count Spent stops = absurd stops
+
+-- nor where there is no memory to begin with
+pub unbegun_counts : (T : Type 0) (before now : Stream) (count : ℕ) (stop : Stop) → SaysNoMemory before now stop → CountsStop {T = T} count count (Err stop)
+unbegun_counts T before now count NoMemory says = refl
+unbegun_counts T before now count WriteFault says = inl refl
+unbegun_counts T before now count Finished says = absurd says
+unbegun_counts T before now count BadLine says = absurd says
+unbegun_counts T before now count ReadFault says = absurd says
+unbegun_counts T before now count DiskFault says = absurd says
+unbegun_counts T before now count Spent says = absurd says
+
+-- the store is as it was, said of a store that is the same
+pub stays_same : {D T : Type 0} (g : disk.Ghosts D) (result : Result T Stop) (a b : Store D) → b ≡ a → IsSound g a → IsLegal (entries_of a) → CountsStop (g.faults (disk_of a)) (g.faults (disk_of a)) result → Goes g result a b
+stays_same g result a b same sound legal counts = subst (λ (s : Store _). Goes g result a s) (sym same) (stays g result a sound legal counts)

@@ -1,0 +1,143 @@
+-- Lemmas on a command over a disk that was opened as a book.
+use Rattle.std.proofs.Common.{◌≡◌, ◌⊎◌, ℕ, ◌≤◌, List, [], ◌∷◌, ◌++◌, length, take, Err, inl, inr, refl, sym, ap, ◌∙◌, subst, arith, append-nil, length-append}
+use Rattle.std.specs.Bool.{⊤}
+use Rattle.device_facts.specs.Count.{Rose}
+use Rattle.disk_core.specs.Disk.{WhereTold}
+use Rattle.disk_core.specs.Devices.{IsUnmoved}
+use Rattle.disk_core.specs.declared.disk.Disk as disk
+use Rattle.book_words.specs.declared.act.Entry.{Entry}
+use Rattle.book_words.specs.Answers.{IsLegal}
+use Rattle.book_journal.specs.Mounting.{KeepsFromSync}
+use Rattle.book_store.specs.declared.store.Store.{Store}
+use Rattle.book_store.specs.Images.{HoldsBook}
+use Rattle.book_store.specs.Listing.{IsOpenedAs}
+use Rattle.book_store.specs.Mounting.{HasHeld, IsCauseOf, IsPassing}
+use Rattle.book_store.specs.declared.types.Unmounted.{Unmounted}
+use Rattle.book_store.specs.Stores.{disk_of, entries_of, limit_of, Hangs, HoldsOrHangs}
+use Rattle.hall_top.specs.declared.ended.Ended.{Ended}
+use Rattle.hall_top.specs.declared.stop.Stop.{Stop}
+use Rattle.hall_top.specs.declared.stop.Stop.TheVariants.{Finished, BadLine, ReadFault, WriteFault, DiskFault, NoMemory, Spent}
+use Rattle.hall_top.specs.Transcript.{BookState}
+use Rattle.hall_top.specs.Run.{Call}
+use Rattle.hall_top.specs.Kept.{CrashLeaves, HangsAtFault, HasKept, HoldsOrOffered, CountsStop}
+use Rattle.hall_top.specs.Calls.{KeepsRows, CountsEnd, IsOpened, IsUnopened, IsDoneOver, SaysWhy}
+
+-- the front of a list that begins with another
+front_of : (first more : List Entry) → take (length first) (first ++ more) ≡ first
+front_of [] more = refl
+front_of (entry ∷ first) more = ap (λ (es : List Entry). entry ∷ es) (front_of first more)
+
+counts_end : (before now : ℕ) (stop : Stop) → CountsStop {T = ⊤} before now (Err stop) → CountsEnd before now stop
+counts_end before now DiskFault counts = counts
+counts_end before now WriteFault counts = counts
+counts_end before now Finished counts = counts
+counts_end before now BadLine counts = counts
+counts_end before now ReadFault counts = counts
+counts_end before now NoMemory counts = counts
+counts_end before now Spent counts = counts
+
+-- what each image keeps, where it keeps what another says
+keeps_more : {D : Type 0} (g : disk.Ghosts D) (old new : D) (P Q : List ℕ → Type 0) → ((c : List ℕ) → P c → Q c) → KeepsFromSync g old new P → KeepsFromSync g old new Q
+keeps_more g old new P Q more keeps =
+    record {
+      synced = keeps.synced;
+      after = keeps.after;
+      before = keeps.before;
+      each = λ c s. more c (keeps.each c s);
+      handed_in = λ c s. elim (keeps.handed_in c s) as (λ _. g.image old c ⊎ Q c) [
+        | inl image ↦ inl image
+        | inr p ↦ inr (more c p)
+      ];
+      earlier = λ t c le s. elim (keeps.earlier t c le s) as (λ _. g.since old t c ⊎ Q c) [
+        | inl past ↦ inl past
+        | inr p ↦ inr (more c p)
+      ];
+    }
+
+-- a store that was mounted on a disk that held these entries has kept them
+module _ {D : Type 0} (g : disk.Ghosts D) (counts_now : (d : D) (t : ℕ) (c : List ℕ) → t ≤ g.time d → g.image d c → g.since d t c) (held : List Entry) (start : D) (store : Store D) (calm : ¬ Hangs store)
+    (faults : g.faults (disk_of store) ≡ g.faults start) (has : HasHeld g start held store) where
+  leaves : (c : List ℕ) → HoldsBook held c → CrashLeaves held (entries_of store) c
+  leaves c holds =
+      let whole : take (length held) (entries_of store) ≡ held = ap (take (length held)) (has.same ∙ sym (append-nil held)) ∙ front_of held [] in
+      record {
+        count = length held;
+        least = omega arith;
+        most = omega (arith, ap length has.same);
+        holds = inl (subst (λ (es : List Entry). HoldsBook es c) (sym whole) holds);
+      }
+
+  pub kept_so_far : HasKept g held start store
+  kept_so_far =
+      record {
+        has = has.has;
+        begins = ([], has.same ∙ sym (append-nil held));
+        hung = λ entry hangs. absurd (calm hangs.row.hangs);
+        moments = keeps_more g start (disk_of store) (HoldsBook held) (CrashLeaves held (entries_of store)) leaves has.moments;
+        images = λ c image. inl (subst (λ (es : List Entry). HoldsBook es c) (sym has.same) (has.moments.each c (counts_now (disk_of store) has.moments.synced c has.moments.before image)));
+        fault = inl (calm, faults);
+      }
+
+-- at the end each image holds the rows, or the disk failed and an entry that was offered hangs
+end_image : {D : Type 0} (g : disk.Ghosts D) (held : List Entry) (start : D) (last : Store D) (c : List ℕ) → HasKept g held start last → HangsAtFault g start last → HoldsOrHangs g last c
+    → HoldsBook (entries_of last) c ⊎ (Rose (g.faults start) (g.faults (disk_of last)) × HoldsOrOffered (entries_of last) c)
+end_image g held start last c kept fault (inl holds) = inl holds
+end_image g held start last c kept (inl (calm, same)) (inr (hung, hangs, holds)) = absurd (calm hangs.row.hangs)
+end_image g held start last c kept (inr rose) (inr (hung, hangs, holds)) = inr (rose, inr (hung, kept.hung hung hangs, holds))
+
+-- what is left of a disk that held these entries
+keeps_rows : {D : Type 0} (g : disk.Ghosts D) (held : List Entry) (before : D) (store last : Store D) (ended : Ended D)
+    → HasHeld g before held store → HasKept g held before last → ended.disk ≡ disk_of last → ended.rows ≡ entries_of last → take ended.held ended.rows ≡ entries_of store
+    → KeepsRows g held before ended
+keeps_rows g held before store last ended has kept disk_left rows front =
+    record {
+      same = front ∙ has.same;
+      moments = subst (λ (d : _). KeepsFromSync g before d (CrashLeaves held ended.rows)) (sym disk_left)
+          (subst (λ (es : List Entry). KeepsFromSync g before (disk_of last) (CrashLeaves held es)) (sym rows) kept.moments);
+      end = λ c image.
+          let over = end_image g held before last c kept kept.fault (kept.images c (subst (λ (d : _). g.image d c) disk_left image)) in
+          subst (λ (d : _). HoldsBook ended.rows c ⊎ (Rose (g.faults before) (g.faults d) × HoldsOrOffered ended.rows c)) (sym disk_left)
+          (subst (λ (es : List Entry). HoldsBook es c ⊎ (Rose (g.faults before) (g.faults (disk_of last)) × HoldsOrOffered es c)) (sym rows) over);
+    }
+
+-- a command that was done over a store that a disk was mounted as
+pub is_opened : {S D : Type 0} (g : disk.Ghosts D) (counts_now : (d : D) (t : ℕ) (c : List ℕ) → t ≤ g.time d → g.image d c → g.since d t c) (limit : ℕ) (Explains : BookState → Call S → Stop → Type 0) (status_of : Stop → ℕ) (before : D) (store : Store D) (ended : Ended D) (call : Call S)
+    → limit_of store ≡ limit → ¬ Hangs store → g.faults (disk_of store) ≡ g.faults before
+    → WhereTold (g.reads before) (λ bytes. IsOpenedAs bytes (entries_of store))
+    → WhereTold (g.reads before) (λ bytes. (held : List Entry) → HoldsBook held bytes → IsLegal held → HasHeld g before held store)
+    → IsDoneOver g Explains status_of store ended call
+    → IsOpened g limit Explains status_of before ended call
+is_opened g counts_now limit Explains status_of before store ended call limit_is calm faults opened held done =
+    let begins = done.goes.begins in
+    let front : take ended.held ended.rows ≡ entries_of store =
+    ap (λ n. take n ended.rows) done.held ∙ ap (take (length (entries_of store))) (done.rows ∙ begins.1) ∙ front_of (entries_of store) begins.0 in
+    record {
+      few = omega (arith, done.held, ap length (done.rows ∙ begins.1), length-append (entries_of store) begins.0);
+      opened = λ bytes told. subst (IsOpenedAs bytes) (sym front) (opened bytes told);
+      stop = done.stop;
+      status = done.status;
+      explained = subst (λ (b : BookState). Explains b call done.stop) (λ i. record { limit = limit_is i; entries = (sym front) i }) done.explained;
+      cause = subst (λ (d : _). CountsEnd (g.faults before) (g.faults d) done.stop) (sym done.disk_left)
+          (subst (λ (n : ℕ). CountsEnd n (g.faults (disk_of done.last)) done.stop) faults
+          (counts_end (g.faults (disk_of store)) (g.faults (disk_of done.last)) done.stop done.goes.cause));
+      kept = λ bytes told rows holds legal.
+          let has = held bytes told rows holds legal in
+          let kept = done.goes.kept rows before (kept_so_far g counts_now rows before store calm faults has) in
+          keeps_rows g rows before store done.last ended has kept done.disk_left done.rows front;
+    }
+
+-- a disk that wasn't opened as a book
+pub is_unopened : {S D : Type 0} (g : disk.Ghosts D) (before : D) (refused : Unmounted D) (ended : Ended D) (call : Call S)
+    → IsCauseOf g refused.why before refused.disk
+    → WhereTold (g.reads before) (λ bytes. (held : List Entry) → HoldsBook held bytes → IsLegal held → IsPassing refused.why × (KeepsFromSync g before refused.disk (HoldsBook held) ⊎ IsUnmoved g before refused.disk))
+    → call.now.source ≡ call.before.source → ended.disk ≡ refused.disk → call.rows ≡ [] → ended.held ≡ 0 → SaysWhy refused.why call.before.output call.now.output ended.status
+    → IsUnopened g before ended call
+is_unopened g before refused ended call cause kept unread same rows held says =
+    record {
+      why = refused.why;
+      cause = subst (λ (d : _). IsCauseOf g refused.why before d) (sym same) cause;
+      nothing = record { unread = unread; none = rows };
+      says = says;
+      none = held;
+      kept = subst (λ (d : _). WhereTold (g.reads before) (λ bytes. (held : List Entry) → HoldsBook held bytes → IsLegal held → IsPassing refused.why × (KeepsFromSync g before d (HoldsBook held) ⊎ IsUnmoved g before d))) (sym same) kept;
+    }
