@@ -61,9 +61,6 @@ fn read_command(word: &str) -> Option<Command>
     if word == "check" {
         return Some(Command::Check);
     }
-    if word == "migrate" {
-        return Some(Command::Migrate);
-    }
     None
 }
 

@@ -1,5 +1,5 @@
 use super::*;
-use crate::types::Command::{Check, Migrate, Run};
+use crate::types::Command::{Check, Run};
 use hall_limits::MAX_ROWS;
 use std::alloc::{AllocError, Global};
 use std::test::Fail;
@@ -10,11 +10,9 @@ const BOOK: Option<&str> = Some("b.hall");
 static ASKED: [(&[&str], Command, Option<&str>, u32); 14] = [
     (&["run"], Run, None, MAX_ROWS),
     (&["check"], Check, None, MAX_ROWS),
-    (&["migrate"], Migrate, None, MAX_ROWS),
     (&["run", "--book", "b.hall"], Run, BOOK, MAX_ROWS),
     (&["run", "--book=b.hall"], Run, BOOK, MAX_ROWS),
     (&["check", "--book", "b.hall"], Check, BOOK, MAX_ROWS),
-    (&["migrate", "--book=b.hall"], Migrate, BOOK, MAX_ROWS),
     (&["run", "--limit", "1"], Run, None, 1),
     (&["run", "--limit=0000007"], Run, None, 7),
     (&["run", "--limit", "1000000"], Run, None, 1_000_000),

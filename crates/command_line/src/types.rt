@@ -6,10 +6,8 @@ use std::fmt;
 pub enum Command {
     /// Reads a script: `run [--book PATH] [--limit N]`
     Run,
-    /// Looks a book through: `check [--book PATH]`
+    /// Says whether a book is whole: `check [--book PATH]`
     Check,
-    /// Writes a book anew in the newest form: `migrate [--book PATH]`
-    Migrate,
 }
 
 /// What the words of the command line ask for.

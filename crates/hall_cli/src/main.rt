@@ -1,19 +1,33 @@
-//! The program `hall`: the real streams, and the words of the command line.
+//! The program `hall`: the real streams, the file of the book, and the words of the command line.
 #![tactic(auto)]
 
-ghost use Rattle.std.specs.Prelude.{◌≡◌, ◌↔◌, false, List};
+ghost use Rattle.std.specs.Prelude.{◌≡◌, ◌↔◌, false, None, Some, ◌≤◌, OnOk, IfOk};
 ghost use Rattle.std.specs.Process.{exit_status};
-ghost use Rattle.book_words.specs.declared.act.Entry.{Entry};
-ghost use Rattle.hall_top.specs.Words.{asks_to_run};
-ghost use Rattle.hall_top.specs.Transcript.{new_book};
-ghost use Rattle.hall_top.specs.Run.{call, IsExplained};
+ghost use Rattle.hall_limits.specs.declared.TheConstants.{MAX_ROWS};
+ghost use Rattle.command_line.specs.Words.{Wanted, bytes_of, wanted_of};
+ghost use Rattle.hall_top.specs.declared.ended.Ended.{Ended};
+ghost use Rattle.hall_top.specs.Run.{call};
+ghost use Rattle.hall_top.specs.Calls.{EndsAs};
 
-use disk_core::{Sink, Source, StdSink, StdSource};
+use command_line::{Wants, WantsError, wants};
+use disk_core::{Disk, QuietDisk, Sink, Source, StdSink, StdSource, write_all};
+use file_disk::FileDisk;
+use hall_limits::MAX_ROWS;
 use hall_top::hall;
 use std::alloc::{AllocError, Global};
 use std::env;
 use std::process::ExitCode;
 use std::rt::Env;
+
+/// The bytes that a book in memory has room for with each row: the row itself, and as many again for
+/// its snapshot.
+const BYTES_A_ROW: usize = 192;
+
+/// The rows more that its room is for: the header, the closed gates and the ends of the snapshot.
+const ROWS_MORE: usize = 4;
+
+/// The status where there is no memory.
+const NO_MEMORY: u8 = 7;
 
 /// The words behind the program's name. Where one isn't UTF-8, or there is no memory for them,
 /// there are none: no command is without words.
@@ -25,26 +39,64 @@ fn words(rt: &(impl Env + AllocGlobal)) -> Vec<String> {
     kept.unwrap_or(Vec::new(rt.alloc()))
 }
 
-/// Does what the words say. The exit status is that of the call: what it says of the streams is
-/// true for some rows.
-fn run<S: Source, K: Sink>(
+/// Does what the words say over a disk. The exit status is that of the call, and what it says of the
+/// streams and the disk is true for some rows.
+fn run<S: Source, K: Sink, D: Disk>(
     alloc: Global,
     words: &[String],
     input: &mut S,
     output: &mut K,
+    disk: D,
 ) -> ExitCode
     requires { S.ended input.old ≡ false }
-    ensures words { (exit_status result ≡ 2) ↔ (asks_to_run words.now ≡ false) }
-    ensures explained { (rows : List Entry) × IsExplained new_book
-        (call S.Source K.Sink input.old output.old input.new output.new rows)
-        (exit_status result) }
+    ensures words { (exit_status result ≡ 2) ↔ (wanted_of (bytes_of words.now) ≡ None) }
+    ensures ends { (wanted : Wanted) → wanted_of (bytes_of words.now) ≡ Some wanted →
+        (ended : Ended D) × (ended.status ≡ exit_status result) × EndsAs D.Disk wanted disk ended
+        (call S.Source K.Sink input.old output.old input.new output.new ended.rows) }
 {
-    ExitCode::from(hall(alloc, words, input, output).status)
+    ExitCode::from(hall(alloc, words, input, output, disk).status)
+}
+
+/// A disk in memory with room for a book of so many rows and its snapshot.
+fn memory_disk(alloc: Global, limit: u32) -> Result<QuietDisk, AllocError> {
+    let rows = limit.min(MAX_ROWS) as usize + ROWS_MORE;
+    Ok(QuietDisk::new(Vec::with_capacity(
+        alloc,
+        BYTES_A_ROW * rows,
+    )?))
+}
+
+/// The end of a call for which there is no memory.
+fn end_without_memory<K: Sink>(output: &mut K) -> ExitCode
+    ensures { exit_status result ≡ NO_MEMORY }
+{
+    let _ = write_all(output, b"no memory\n");
+    ExitCode::from(NO_MEMORY)
 }
 
 fn main(rt: HostRuntime) -> ExitCode {
+    let alloc = rt.alloc();
     let words = words(&rt);
     let mut input = StdSource::new(rt.stdin());
     let mut output = StdSink::new(rt.stdout());
-    run(rt.alloc(), &words, &mut input, &mut output)
+    let wanted = match wants(alloc, &words) {
+        Ok(wanted) => wanted,
+        Err(WantsError::NoMemory) => return end_without_memory(&mut output),
+        Err(WantsError::Usage) => {
+            let disk = QuietDisk::new(Vec::new(alloc));
+            return run(alloc, &words, &mut input, &mut output, disk);
+        }
+    };
+    match wanted {
+        Wants {
+            book: Some(path), ..
+        } => {
+            let disk = FileDisk::open(&rt, path.as_str());
+            run(alloc, &words, &mut input, &mut output, disk)
+        }
+        Wants { limit, .. } => match memory_disk(alloc, limit) {
+            Ok(disk) => run(alloc, &words, &mut input, &mut output, disk),
+            Err(_) => end_without_memory(&mut output),
+        },
+    }
 }

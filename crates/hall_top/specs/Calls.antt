@@ -17,14 +17,15 @@ use Rattle.book_store.specs.Mounting.{IsCauseOf, IsPassing}
 use Rattle.hall_top.specs.declared.ended.Ended.{Ended}
 use Rattle.hall_top.specs.declared.stop.Stop.{Stop}
 use Rattle.hall_top.specs.declared.stop.Stop.TheVariants.{Finished, WriteFault, DiskFault}
-use Rattle.hall_top.specs.Texts.{disk_fault, no_memory, not_journal, damaged_row, whole}
+use Rattle.hall_top.specs.Texts.{usage, disk_fault, no_memory, not_journal, damaged_row, whole}
 use Rattle.hall_top.specs.Transcript.{BookState}
-use Rattle.hall_top.specs.Streams.{Stream, WroteAll, IsCutIn}
-use Rattle.hall_top.specs.Run.{Call, Explains, IsComplete}
+use Rattle.hall_top.specs.Streams.{Stream, WroteAll, IsCutIn, Wrote}
+use Rattle.hall_top.specs.Run.{Call, Explains, IsComplete, status_of}
 use Rattle.hall_top.specs.Kept.{CrashLeaves, HoldsOrOffered, GoesTo}
 use Rattle.hall_top.specs.Books.{stored_book}
-use Rattle.hall_top.specs.declared.top.Command.{Command}
-use Rattle.hall_top.specs.declared.top.Command.TheVariants.{Run, Check}
+use Rattle.command_line.specs.Words.{Wanted}
+use Rattle.command_line.specs.declared.types.Command.{Command}
+use Rattle.command_line.specs.declared.types.Command.TheVariants.{Run, Check}
 
 -- nothing was read, and there are no rows
 pub record NothingDone {S : Type 0} (call : Call S) : Type 0 where
@@ -129,6 +130,21 @@ pub record ExplainsRun {S : Type 0} (book : BookState) (call : Call S) (stop : S
 abbrev pub ExplainsCommand : {S : Type 0} → Command → BookState → Call S → Stop → Type 0
 ExplainsCommand Run book call stop = ExplainsRun book call stop
 ExplainsCommand Check book call stop = ExplainsCheck book call stop
+
+-- A call with right words: the disk was opened as a book and the command ended in one of its ways, or
+-- it wasn't opened.
+abbrev pub EndsAs : {S D : Type 0} → disk.Ghosts D → Wanted → D → Ended D → Call S → Type 0
+EndsAs disk wanted before ended call =
+    IsOpened disk wanted.limit (ExplainsCommand wanted.command) status_of before ended call
+    ⊎ IsUnopened disk before ended call
+
+-- status 2: nothing was read, the disk is as it was, the line on the usage went out or was cut, and
+-- there are no rows
+pub record IsUsage {S D : Type 0} (before : D) (ended : Ended D) (call : Call S) : Type 0 where
+  pub same : ended.disk ≡ before
+  pub nothing : NothingDone call
+  pub wrote : Wrote call.before.output call.now.output [] usage
+  pub none : ended.held ≡ 0
 
 -- A command was done over a store: it ended in one of its ways, and the disk and the rows are those
 -- of the store that it left.

@@ -19,7 +19,7 @@ use Rattle.batch_reports.specs.Texts.{outcome_text, summary_text}
 use Rattle.hall_top.specs.declared.reads.TheConstants.{MAX_READS, PIECE}
 use Rattle.hall_top.specs.declared.stop.Stop.{Stop}
 use Rattle.hall_top.specs.declared.stop.Stop.TheVariants.{Finished, BadLine, ReadFault, WriteFault, DiskFault, NoMemory, Spent}
-use Rattle.hall_top.specs.Texts.{usage, bad_line, read_fault, disk_fault, no_memory}
+use Rattle.hall_top.specs.Texts.{bad_line, read_fault, disk_fault, no_memory}
 use Rattle.hall_top.specs.Transcript.{BookState, Exchange, exchange_at, after_commands, answers, transcript, StandOnce, ended_lines_of, lines_of}
 use Rattle.hall_top.specs.Streams.{Stream, Devices, devices, IsCalm, HasFailed, WroteAll, IsCutIn, Wrote}
 
@@ -184,12 +184,6 @@ pub record StopsAtEnd {S : Type 0} (book : BookState) (call : Call S) (stop : St
   pub script : List ℕ
   pub read : ReadsWhole call.before.input call.now.input script
   pub ends : EndsEarly book call.before.output call.now.output call.rows stop script
-
--- status 2: nothing was read, the line on the usage went out or was cut, and there are no rows
-pub record IsUsage {S : Type 0} (call : Call S) : Type 0 where
-  pub unread : call.now.source ≡ call.before.source
-  pub wrote : Wrote call.before.output call.now.output [] usage
-  pub none : call.rows ≡ []
 
 -- status 3: a line is bad; the commands before it are answered, and then comes its number
 pub record IsBadLine {S : Type 0} (book : BookState) (call : Call S) : Type 0 where

@@ -14,5 +14,6 @@ mod stop;
 mod top;
 mod writing;
 
+pub use command_line::{Command, Text, Wants, WantsError, wants};
 pub use ended::Ended;
-pub use top::{Command, carry_out};
+pub use top::hall;

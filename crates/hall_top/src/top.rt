@@ -1,4 +1,4 @@
-ghost use Rattle.std.specs.Prelude.{◌≡◌, ◌≤◌, ◌⊎◌, false, IsTrue};
+ghost use Rattle.std.specs.Prelude.{◌≡◌, ◌≤◌, ◌⊎◌, ◌↔◌, [], false, IsTrue, None, Some};
 ghost use Rattle.hall_limits.specs.declared.TheConstants.{MAX_ROWS};
 ghost use Rattle.book_words.specs.Answers.{IsLegal};
 ghost use Rattle.book_words.specs.Soundness.{IsSound as IsSoundBook};
@@ -7,24 +7,19 @@ ghost use Rattle.hall_top.specs.Requests.{RequestsOnce};
 ghost use Rattle.hall_top.specs.Run.{call, is_status, status_of};
 ghost use Rattle.hall_top.specs.Kept.{GoesTo};
 ghost use Rattle.hall_top.specs.Books.{stored_book};
-ghost use Rattle.hall_top.specs.Calls.{ExplainsCommand, IsDoneOver, IsOpened, IsUnopened};
+ghost use Rattle.command_line.specs.Words.{Wanted, bytes_of, wanted_of};
+ghost use Rattle.hall_top.specs.Texts.{usage};
+ghost use Rattle.hall_top.specs.Streams.{output_at, Wrote};
+ghost use Rattle.hall_top.specs.Calls.{ExplainsCommand, EndsAs, IsDoneOver, IsOpened, IsUnopened, IsUsage};
 
 use crate::check::check_book;
 use crate::ended::Ended;
-use crate::open::end_unopened;
+use crate::open::{end_unopened, no_rows};
 use crate::reads::{RunEnd, run_script};
-use book_store::Store;
-use disk_core::{Disk, Sink, Source};
+use book_store::{MountError, Store, Unmounted};
+use command_line::{Command, WantsError, wants};
+use disk_core::{Disk, Sink, Source, write_all};
 use std::alloc::Global;
-
-/// What is done with the book of a disk.
-#[derive(Clone, Copy, Debug, PartialEq, Eq)]
-pub enum Command {
-    /// Runs the script of the input over it.
-    Run,
-    /// Says that it is whole.
-    Check,
-}
 
 // Does a command over a store.
 fn run_command<S: Source, K: Sink, D: Disk>(
@@ -77,30 +72,9 @@ fn do_command<S: Source, K: Sink, D: Disk>(
     }
 }
 
-/// Opens a disk as a book that may have `limit` rows, and does a command over it.
-///
-/// `Run` reads a script. An act is answered by its row in the book or by a named refusal, and a
-/// question by what the rows tell; each answer goes out before the next command is asked, and each
-/// row is stable on the disk before its answer. At the end of the script, where rows were added, a
-/// snapshot of the book is kept; then comes the summary. `Check` reads nothing, and says that the
-/// book is whole.
-///
-/// | status | comes | last line |
-/// |---|---|---|
-/// | 0 | where the command was done | |
-/// | 3 | at a line outside the grammar | `bad line N` |
-/// | 4 | where the input failed | `read fault` |
-/// | 5 | where the output failed | |
-/// | 6 | where the disk failed | `disk fault` |
-/// | 7 | where there is no memory | `no memory` |
-/// | 8 | where the disk isn't a journal | `not a journal at PLACE` |
-/// | 9 | where its rows aren't those of a book | `damaged row N` |
-/// | 12 | where 100 000 000 reads each gave a byte, and no end was seen | |
-///
-/// At each status the rows that the disk held stand first among the rows, and a crash at any moment
-/// leaves them. The end of the input wasn't given before, and nothing is read after it.
+// Opens a disk as a book that may have `limit` rows, and does a command over it.
 #[tactic(auto, using(crate::proofs::RequestOrder::requests_once))]
-pub fn carry_out<S: Source, K: Sink, D: Disk>(
+fn carry_out<S: Source, K: Sink, D: Disk>(
     alloc: Global,
     command: Command,
     limit: u32,
@@ -122,5 +96,77 @@ pub fn carry_out<S: Source, K: Sink, D: Disk>(
     match Store::mount(alloc, disk, limit) {
         Ok(store) => do_command(alloc, command, store, input, output),
         Err(refused) => end_unopened(alloc, refused, output),
+    }
+}
+
+// The end of a call with wrong words: the line that says how it is used.
+fn end_with_usage<K: Sink, D>(alloc: Global, disk: D, output: &mut K) -> Ended<D>
+    ensures wrote { Wrote (output_at K.Sink output.old) (output_at K.Sink output.new) [] usage }
+    ensures status { result.status ≡ 2 }
+    ensures same { result.disk ≡ disk }
+    ensures held { result.held ≡ 0 }
+    ensures rows { result.rows ≡ [] }
+    ensures sound { IsSoundBook result.rows }
+{
+    let _ = write_all(output, b"usage: hall COMMAND [OPTIONS]\n");
+    Ended {
+        status: 2,
+        disk,
+        held: 0,
+        rows: no_rows(alloc),
+    }
+}
+
+/// Does what the words say; the program's own name isn't among them. The disk is opened as a book,
+/// whose rows may be as many as `--limit` says. `--book` is for who hands the disk in.
+///
+/// `run` reads a script. An act is answered by its row in the book or by a named refusal, and a
+/// question by what the rows tell; each answer goes out before the next command is asked, and each
+/// row is stable on the disk before its answer. At the end of the script, where rows were added, a
+/// snapshot of the book is kept; then comes the summary. `check` reads nothing, and says that the
+/// book is whole.
+///
+/// | status | comes | last line |
+/// |---|---|---|
+/// | 0 | where the command was done | |
+/// | 2 | at wrong words, and then nothing is read or opened | `usage: hall COMMAND [OPTIONS]` |
+/// | 3 | at a line outside the grammar | `bad line N` |
+/// | 4 | where the input failed | `read fault` |
+/// | 5 | where the output failed | |
+/// | 6 | where the disk failed | `disk fault` |
+/// | 7 | where there is no memory | `no memory` |
+/// | 8 | where the disk isn't a journal | `not a journal at PLACE` |
+/// | 9 | where its rows aren't those of a book | `damaged row N` |
+/// | 12 | where 100 000 000 reads each gave a byte, and no end was seen | |
+///
+/// At each status the rows that the disk held stand first among the rows, and a crash at any moment
+/// leaves them. The end of the input wasn't given before, and nothing is read after it.
+pub fn hall<S: Source, K: Sink, D: Disk>(
+    alloc: Global,
+    words: &[String],
+    input: &mut S,
+    output: &mut K,
+    disk: D,
+) -> Ended<D>
+    requires { S.ended input.old ≡ false }
+    ensures words { (result.status ≡ 2) ↔ (wanted_of (bytes_of words.now) ≡ None) }
+    ensures usage { result.status ≡ 2 → IsUsage disk result
+        (call S.Source K.Sink input.old output.old input.new output.new result.rows) }
+    ensures ends { (wanted : Wanted) → wanted_of (bytes_of words.now) ≡ Some wanted →
+        EndsAs D.Disk wanted disk result
+        (call S.Source K.Sink input.old output.old input.new output.new result.rows) }
+
+    // At every status.
+    ensures status { IsTrue (is_status result.status) }
+    ensures rows { IsSoundBook result.rows }
+    ensures requests { RequestsOnce result.rows }
+{
+    match wants(alloc, words) {
+        Ok(wanted) => carry_out(alloc, wanted.command, wanted.limit, input, output, disk),
+        Err(WantsError::Usage) => end_with_usage(alloc, disk, output),
+        Err(WantsError::NoMemory) => {
+            let why = MountError::NoMemory;
+            end_unopened(alloc, Unmounted { disk, why }, output)
+        }
     }
 }
