@@ -11,10 +11,10 @@ use Rattle.hall_top.specs.declared.stop.Stop.{Stop}
 use Rattle.hall_top.specs.declared.stop.Stop.TheVariants.{Finished, BadLine, ReadFault, WriteFault, DiskFault, NoMemory, Spent}
 use Rattle.batch_reports.specs.Texts.{outcome_text}
 use Rattle.hall_top.specs.Texts.{bad_line, no_memory, disk_fault}
-use Rattle.hall_top.specs.Transcript.{BookState, Exchange, exchange_at, after_command, after_commands, exchanges, answers}
+use Rattle.hall_top.specs.Transcript.{BookState, Exchange, after_command, after_commands, exchanges, answers}
 use Rattle.hall_top.specs.Streams.{Stream, WroteAll, IsCutIn, Wrote}
-use Rattle.hall_top.specs.Run.{MayFindNoMemory, StopsAtLine}
-use Rattle.hall_top.specs.Reached.{SaysNoMemory, HasAnswered}
+use Rattle.hall_top.specs.Run.{StopsAtLine}
+use Rattle.hall_top.specs.Reached.{HasAnswered}
 use Rattle.hall_top.proofs.Acknowledged.{are_left}
 
 pub after_commands-append : (book : BookState) (commands more : List Command) → after_commands book (commands ++ more) ≡ after_commands (after_commands book commands) more
@@ -95,14 +95,3 @@ pub stops_after : (book old_left : BookState) (before old now : Stream) (rows : 
     → StopsAtLine old_left old now rows [] number line stop → StopsAtLine book before now rows commands number line stop
 stops_after book old_left before old now rows commands number line stop first stops =
     stops_here book before old now rows commands number line stop first.wrote (subst (λ (b : BookState). StopsAtLine b old now rows [] number line stop) first.left stops)
-
--- a run stops at a command for which there is no memory
-pub stops_at_want : (book : BookState) (before now : Stream) (rows : List Entry) (number : ℕ) (command : Command) (stop : Stop) → MayFindNoMemory (exchange_at book command).ask.want (exchange_at book command).added
-    → rows ≡ book.entries → SaysNoMemory before now stop → StopsAtLine book before now rows [] number (Asks command) stop
-stops_at_want book before now rows number command NoMemory may same says = (says, record { may = may; rows_left = are_left book [] rows same })
-stops_at_want book before now rows number command WriteFault may same says = inr (inl (says, record { may = may; rows_left = are_left book [] rows same }))
-stops_at_want book before now rows number command Finished may same says = absurd says
-stops_at_want book before now rows number command BadLine may same says = absurd says
-stops_at_want book before now rows number command ReadFault may same says = absurd says
-stops_at_want book before now rows number command DiskFault may same says = absurd says
-stops_at_want book before now rows number command Spent may same says = absurd says
