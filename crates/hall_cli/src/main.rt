@@ -60,10 +60,7 @@ fn run<S: Source, K: Sink, D: Disk>(
 /// A disk in memory with room for a book of so many rows and its snapshot.
 fn memory_disk(alloc: Global, limit: u32) -> Result<QuietDisk, AllocError> {
     let rows = limit.min(MAX_ROWS) as usize + ROWS_MORE;
-    Ok(QuietDisk::new(Vec::with_capacity(
-        alloc,
-        BYTES_A_ROW * rows,
-    )?))
+    Ok(QuietDisk::new(Vec::with_capacity(alloc, BYTES_A_ROW * rows)?))
 }
 
 /// The end of a call for which there is no memory.
@@ -89,7 +86,8 @@ fn main(rt: HostRuntime) -> ExitCode {
     };
     match wanted {
         Wants {
-            book: Some(path), ..
+            book: Some(path),
+            ..
         } => {
             let disk = FileDisk::open(&rt, path.as_str());
             run(alloc, &words, &mut input, &mut output, disk)

@@ -1,5 +1,8 @@
 -- Lemmas on a check, and on statuses.
-use Rattle.std.proofs.Common.{◌≡◌, ℕ, length, Err, inl, inr, IsTrue, refl, sym, subst}
+use Rattle.std.proofs.Common.{◌≡◌, ℕ, length, Err, Option, Some, inl, inr, IsTrue, refl, sym, ◌∙◌, subst, arith}
+use Rattle.disk_core.specs.declared.disk.Disk as disk
+use Rattle.command_line.specs.Words.{Wanted}
+use Rattle.hall_top.specs.declared.ended.Ended.{Ended}
 use Rattle.book_store.specs.declared.types.MountError.{MountError}
 use Rattle.book_store.specs.declared.types.MountError.TheVariants as mount
 use Rattle.hall_top.specs.declared.stop.Stop.{Stop}
@@ -8,7 +11,7 @@ use Rattle.hall_top.specs.Transcript.{BookState}
 use Rattle.hall_top.specs.Streams.{Stream}
 use Rattle.hall_top.specs.Run.{Call, status_of, is_status}
 use Rattle.hall_top.specs.Kept.{CountsStop}
-use Rattle.hall_top.specs.Calls.{SaysWhy, SaysWhole, ExplainsCheck, status_for}
+use Rattle.hall_top.specs.Calls.{SaysWhy, SaysWhole, ExplainsCheck, EndsAs, status_for}
 
 -- a check that wrote its line, or a part of it
 pub explains_check : {S : Type 0} (book : BookState) (call : Call S) (stop : Stop) → call.now.source ≡ call.before.source → call.rows ≡ book.entries → SaysWhole call.before.output call.now.output (length call.rows) stop → ExplainsCheck book call stop
@@ -52,3 +55,35 @@ status_of_stop status stop is = subst (λ (n : ℕ). IsTrue (is_status n)) (sym 
 pub status_of_why : (why : MountError) (before now : Stream) (status : ℕ) → SaysWhy why before now status → IsTrue (is_status status)
 status_of_why why before now status (inl (out, is)) = subst (λ (n : ℕ). IsTrue (is_status n)) (sym is) (why_status why)
 status_of_why why before now status (inr (cut, is)) = subst (λ (n : ℕ). IsTrue (is_status n)) (sym is) refl
+
+-- and the status of wrong words is none of these
+stop_differs : (stop : Stop) → status_of stop ≡ 2 → ⊥
+stop_differs Finished is = absurd (omega (arith, is))
+stop_differs BadLine is = absurd (omega (arith, is))
+stop_differs ReadFault is = absurd (omega (arith, is))
+stop_differs WriteFault is = absurd (omega (arith, is))
+stop_differs DiskFault is = absurd (omega (arith, is))
+stop_differs NoMemory is = absurd (omega (arith, is))
+stop_differs Spent is = absurd (omega (arith, is))
+
+why_differs : (why : MountError) → status_for why ≡ 2 → ⊥
+why_differs (mount.NotJournal place) is = absurd (omega (arith, is))
+why_differs (mount.Damaged row) is = absurd (omega (arith, is))
+why_differs mount.DiskFault is = absurd (omega (arith, is))
+why_differs mount.NoMemory is = absurd (omega (arith, is))
+
+says_differs : (why : MountError) (before now : Stream) (status : ℕ) → SaysWhy why before now status → status ≡ 2 → ⊥
+says_differs why before now status (inl (out, is)) two = why_differs why (sym is ∙ two)
+says_differs why before now status (inr (cut, is)) two = absurd (omega (arith, is, two))
+
+pub usage_differs : {S D : Type 0} (g : disk.Ghosts D) (wanted : Wanted) (before : D) (ended : Ended D) (call : Call S) → EndsAs g wanted before ended call → ended.status ≡ 2 → ⊥
+usage_differs g wanted before ended call (inl opened) two = stop_differs opened.stop (sym opened.status ∙ two)
+usage_differs g wanted before ended call (inr unopened) two = says_differs unopened.why _ _ ended.status unopened.says two
+
+-- words that ask for this ask for nothing else
+pub same_wanted : {S D : Type 0} (g : disk.Ghosts D) (words : Option Wanted) (said wanted : Wanted) (before : D) (ended : Ended D) (call : Call S) → words ≡ Some said → words ≡ Some wanted
+    → EndsAs g said before ended call → EndsAs g wanted before ended call
+same_wanted g words said wanted before ended call is asked ends = subst (λ (w : Wanted). EndsAs g w before ended call) (some_same said wanted (sym is ∙ asked)) ends
+  where
+    some_same : (a b : Wanted) → Some a ≡ Some b → a ≡ b
+    some_same a b same = cc
