@@ -7,7 +7,7 @@ use std::test::Fail;
 const BOOK: Option<&str> = Some("b.hall");
 
 // Words and what they ask for, written by hand from the grammar, as what follows.
-static ASKED: [(&[&str], Command, Option<&str>, u32); 14] = [
+static ASKED: [(&[&str], Command, Option<&str>, u32); 12] = [
     (&["run"], Run, None, MAX_ROWS),
     (&["check"], Check, None, MAX_ROWS),
     (&["run", "--book", "b.hall"], Run, BOOK, MAX_ROWS),

@@ -1,0 +1,14 @@
+use Rattle.std.proofs.Common.{inr, refl}
+use Rattle.book_journal.proofs.Moments.{unmoved_none}
+use Rattle.book_store.specs.declared.types.MountError.TheVariants.{NoMemory}
+use Rattle.hall_top.specs.Streams.{devices}
+use Rattle.hall_top.proofs.Explaining.{call_from}
+use Rattle.hall_top.proofs.Opened.{is_unopened}
+use Rattle.hall_top.proofs.top.hall.Goals as goal
+
+pub returns-in-Err-NoMemory-clause-ends : goal.returns-in-Err-NoMemory-clause-ends
+returns-in-Err-NoMemory-clause-ends g c = λ wanted asks.
+    let before = devices g.S.Source g.K.Sink c.args.input.now c.args.output.now in
+    let now = devices g.S.Source g.K.Sink c.args.input.now c.end_unopened.new.output in
+    inr (is_unopened g.D.Disk c.args.disk (record { disk = c.args.disk; why = NoMemory }) c.end_unopened.result (call_from before now c.end_unopened.result.rows)
+    refl (λ bytes told held holds legal. (tt, inr (unmoved_none g.D.Disk c.args.disk))) refl c.end_unopened.ensures.disk c.end_unopened.ensures.rows c.end_unopened.ensures.held c.end_unopened.ensures.says)
