@@ -41,7 +41,7 @@ fn words(rt: &(impl Env + AllocGlobal)) -> Vec<String> {
 
 /// Does what the words say over a disk. The exit status is that of the call, and what it says of the
 /// streams and the disk is true for some rows.
-fn run<S: Source, K: Sink, D: Disk>(
+fn run<S: Source, K: Sink, D: Disk + Drop>(
     alloc: Global,
     words: &[String],
     input: &mut S,

@@ -1,37 +1,28 @@
-use disk_core::{MemorySink, MemorySource};
-use hall_top::{Told, hall};
+use disk_core::{MemorySink, QuietDisk, QuietSource};
+use hall_top::{Ended, hall};
 use std::alloc::{AllocError, Global};
 use std::process::Abort;
 
-/// A command and the line that answers it, both without their LF.
-pub type Exchange = (&'static str, &'static str);
-
-/// How many readings there are, and the sum of their grosses in mg.
-pub type Tally = (u32, u64);
+/// How many rows a day leaves, and its text. A line of the text is `COMMAND => ANSWER`, a comment
+/// of the script, which begins with `#`, or one more line that is printed, as those of the summary
+/// at the end.
+pub type Day = (usize, &'static str);
 
 /// A batch A of a product of 250 g runs on lane 1. A tare of 10 g makes the limits of the gross
 /// 251.000 g and 242.000 g.
-pub const SETUP: [Exchange; 5] = [
-    ("day 2025-03-03", "1 ok"),
-    ("product rice250 250", "2 ok"),
-    ("tare rice250 2025-03-03 10", "3 ok"),
-    ("open A rice250", "4 ok"),
-    ("start 1 A", "5 ok"),
-];
+pub const SETUP: &str = "\
+day 2025-03-03 => 1 ok
+product rice250 250 => 2 ok
+tare rice250 2025-03-03 10 => 3 ok
+open A rice250 => 4 ok
+start 1 A => 5 ok
+";
 
-/// A day of the hall: commands with their answers, the tallies and the numbers of batches of the
-/// summary that comes at the end, and how many rows are left.
-pub struct Day {
-    pub exchanges: &'static [Exchange],
-    /// Of the passed, rejected, sampled and voided packs.
-    pub piles: [Tally; 4],
-    /// Batches that run, are ended, drawn and closed.
-    pub batches: [u32; 4],
-    pub rows: usize,
-}
+// Room on a disk for a book of 10 006 rows and its snapshot.
+const ROOM: usize = 2_000_000;
 
-/// The words of a command line.
-pub fn words_of(alloc: Global, words: &[&str]) -> Result<Vec<String>, AllocError> {
+// The words of a command line.
+fn words_of(alloc: Global, words: &[&str]) -> Result<Vec<String>, AllocError> {
     let mut all = Vec::new(alloc);
     for word in words {
         all.push(String::from_str(alloc, word)?)?;
@@ -39,53 +30,54 @@ pub fn words_of(alloc: Global, words: &[&str]) -> Result<Vec<String>, AllocError
     Ok(all)
 }
 
-/// Runs a script, of which nothing fails.
-pub fn run_script(alloc: Global, script: &[u8], sink: &mut MemorySink) -> Result<Told, AllocError> {
-    let words = words_of(alloc, &["run"])?;
-    let mut source = MemorySource::new(Vec::from_slice(alloc, script)?, Vec::new(alloc));
-    Ok(hall(alloc, &words, &mut source, sink))
-}
-
-// A line of a summary.
-fn tally_line(alloc: Global, label: &str, tally: Tally) -> Result<String, AllocError> {
-    let (count, gross) = tally;
-    let (grams, milligrams) = (gross / 1_000, gross % 1_000);
-    format!(in alloc; "{label} {count} gross {grams}.{milligrams:03}\n")
-}
-
-// How many there are in all piles, and how much they weigh.
-fn sum_of(piles: [Tally; 4]) -> Tally {
-    let mut sum: Tally = (0, 0);
-    for (count, gross) in piles {
-        sum = (sum.0.saturating_add(count), sum.1.saturating_add(gross));
-    }
-    sum
-}
-
-/// The summary of a book.
-pub fn summary_of(
+/// Runs a script over an empty disk in memory.
+pub fn run_script(
     alloc: Global,
-    rows: usize,
-    piles: [Tally; 4],
-    batches: [u32; 4],
-) -> Result<String, AllocError> {
-    let [passed, rejected, sampled, voided] = piles;
-    let [running, ended, drawn, closed] = batches;
-    let mut text = format!(in alloc; "rows {rows}\n")?;
-    for (label, tally) in [
-        ("readings", sum_of(piles)),
-        ("passed", passed),
-        ("rejected", rejected),
-        ("sampled", sampled),
-        ("voided", voided),
-    ] {
-        text.push_str(tally_line(alloc, label, tally)?.as_str())?;
-    }
-    let states = format!(in alloc;
-        "batches running {running} ended {ended} drawn {drawn} closed {closed}\n"
-    )?;
-    text.push_str(states.as_str())?;
-    Ok(text)
+    words: &[&str],
+    script: &[u8],
+    output: &mut MemorySink,
+) -> Result<Ended<QuietDisk>, AllocError> {
+    let words = words_of(alloc, words)?;
+    let mut input = QuietSource::new(Vec::from_slice(alloc, script)?);
+    let disk = QuietDisk::new(Vec::with_capacity(alloc, ROOM)?);
+    Ok(hall(alloc, &words, &mut input, output, disk))
+}
+
+/// The status of a run, and how many rows it leaves.
+pub type Ends = (u8, usize);
+
+/// How a run ended.
+pub fn ends_of(ended: &Ended<QuietDisk>) -> Ends {
+    (ended.status, ended.rows.as_slice().len())
+}
+
+/// Compares what was printed and how a run ended with what is wanted.
+pub fn compare(
+    rt: &impl Abort,
+    alloc: Global,
+    printed: &[u8],
+    wanted: &str,
+    ends: (Ends, Ends),
+) -> Result<(), AllocError> {
+    let printed = String::from_utf8_lossy(alloc, printed)?;
+    assert_eq!(rt; printed.as_str(), wanted);
+    assert_eq!(rt; ends.0, ends.1);
+    Ok(())
+}
+
+/// Runs a script over an empty disk, and compares what is printed, the status, and how many rows
+/// are left.
+pub fn check_run(
+    rt: &impl Abort,
+    alloc: Global,
+    words: &[&str],
+    script: &[u8],
+    wanted: &str,
+    ends: Ends,
+) -> Result<(), AllocError> {
+    let mut output = MemorySink::new(alloc, Vec::new(alloc));
+    let ended = run_script(alloc, words, script, &mut output)?;
+    compare(rt, alloc, output.bytes(), wanted, (ends_of(&ended), ends))
 }
 
 fn push_line(to: &mut String, line: &str) -> Result<(), AllocError> {
@@ -115,43 +107,72 @@ impl Play {
         push_line(&mut self.wanted, answer)
     }
 
-    /// Commands with their answers.
-    pub fn say_all(&mut self, exchanges: &[Exchange]) -> Result<(), AllocError> {
-        for (command, answer) in exchanges {
-            self.say(command, answer)?;
+    /// A command whose answer is a row and a word.
+    pub fn say_row(
+        &mut self,
+        alloc: Global,
+        command: &str,
+        row: u32,
+        word: &str,
+    ) -> Result<(), AllocError> {
+        let answer = format!(in alloc; "{row} {word}")?;
+        self.say(command, answer.as_str())
+    }
+
+    // A line of a day.
+    fn say_line(&mut self, line: &str) -> Result<(), AllocError> {
+        match line.split_once(" => ") {
+            Some((command, answer)) => self.say(command, answer),
+            None if line.starts_with('#') => push_line(&mut self.script, line),
+            None => push_line(&mut self.wanted, line),
+        }
+    }
+
+    /// The lines of a day, or of a part of one.
+    pub fn say_lines(&mut self, lines: &str) -> Result<(), AllocError> {
+        for line in lines.lines() {
+            self.say_line(line)?;
         }
         Ok(())
     }
 
-    /// A command whose answer is that it has this row.
-    pub fn say_row(&mut self, alloc: Global, command: &str, row: u32) -> Result<(), AllocError> {
-        let answer = format!(in alloc; "{row} ok")?;
-        self.say(command, answer.as_str())
-    }
-
-    /// The commands of a day; then it compares what the program prints and leaves.
-    pub fn check(mut self, rt: &impl Abort, alloc: Global, day: &Day) -> Result<(), AllocError> {
-        self.say_all(day.exchanges)?;
-        let summary = summary_of(alloc, day.rows, day.piles, day.batches)?;
-        self.wanted.push_str(summary.as_str())?;
-        let mut sink = MemorySink::new(alloc, Vec::new(alloc));
-        let told = run_script(alloc, self.script.as_bytes(), &mut sink)?;
-        let printed = String::from_utf8_lossy(alloc, sink.bytes())?;
-        assert_eq!(rt; printed.as_str(), self.wanted.as_str());
-        assert_eq!(rt; told.status, 0);
-        assert_eq!(rt; told.rows.as_slice().len(), day.rows);
-        Ok(())
+    /// Compares what the program prints over an empty book in memory, and how many rows it leaves.
+    pub fn check(
+        &self,
+        rt: &impl Abort,
+        alloc: Global,
+        words: &[&str],
+        rows: usize,
+    ) -> Result<(), AllocError> {
+        let (script, wanted) = (self.script.as_bytes(), self.wanted.as_str());
+        check_run(rt, alloc, words, script, wanted, (0, rows))
     }
 }
 
-/// Plays the exchanges of a beginning and of a day.
+/// Plays a day behind a beginning.
 pub fn check_day(
     rt: &impl Abort,
     alloc: Global,
-    begin: &[Exchange],
-    day: &Day,
+    words: &[&str],
+    begin: &str,
+    day: Day,
 ) -> Result<(), AllocError> {
+    let (rows, text) = day;
     let mut play = Play::new(alloc);
-    play.say_all(begin)?;
-    play.check(rt, alloc, day)
+    play.say_lines(begin)?;
+    play.say_lines(text)?;
+    play.check(rt, alloc, words, rows)
+}
+
+/// Plays days, each behind the same beginning.
+pub fn check_days(
+    rt: &impl Abort,
+    alloc: Global,
+    begin: &str,
+    days: &[Day],
+) -> Result<(), AllocError> {
+    for day in days {
+        check_day(rt, alloc, &["run"], begin, *day)?;
+    }
+    Ok(())
 }

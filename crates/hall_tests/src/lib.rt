@@ -1,5 +1,5 @@
-//! Tests of the program in memory, by its public call alone: what a packer's script prints, which
-//! status it ends with and how many rows it leaves.
+//! Tests of the program in memory, by its public call alone: what a packer's script prints over an
+//! empty book, which status it ends with, and how many rows it leaves.
 #![tactic(auto)]
 
 #[cfg(test)]
@@ -7,13 +7,11 @@ mod days;
 #[cfg(test)]
 mod desks;
 #[cfg(test)]
-mod faults;
-#[cfg(test)]
 mod lanes;
 #[cfg(test)]
-mod lines;
+mod limits;
 #[cfg(test)]
-mod reads;
+mod lines;
 #[cfg(test)]
 mod refusals;
 #[cfg(test)]
@@ -22,9 +20,5 @@ mod samples;
 mod small;
 #[cfg(test)]
 mod tares;
-#[cfg(test)]
-mod texts;
-#[cfg(test)]
-mod words;
 #[cfg(test)]
 mod worked;

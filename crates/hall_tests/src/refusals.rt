@@ -1,91 +1,95 @@
-use crate::days::{Day, SETUP, check_day};
+use crate::days::{Day, SETUP, check_days};
 use std::test::Fail;
 
-// The refusals up to a weighing, and which is told where several hold. A book of a million rows,
-// refusal 5, is left out, and no line spells a day that refusal 12 is for (texts.rt).
-const REFUSALS: Day = Day {
-    exchanges: &[
-        ("product rice250 250", "refused 6 DayUnset at 0"),
-        ("tare rice250 2025-03-03 10", "refused 6 DayUnset at 0"),
-        ("open A rice250", "refused 6 DayUnset at 0"),
-        ("start 17 A", "refused 6 DayUnset at 0"),
-        ("weigh 1 251.000", "refused 6 DayUnset at 0"),
-        ("stop 1", "refused 6 DayUnset at 0"),
-        ("day 2025-03-03", "1 ok"),
-        ("day 2025-03-02", "refused 7 DayBack 2025-03-03 at 1"),
-        ("day 2025-03-03", "2 ok"),
-        (
-            "tare rice250 2025-03-03 10",
-            "refused 9 ProductUnknown at 2",
-        ),
-        ("open A rice250", "refused 9 ProductUnknown at 2"),
-        ("product -rice 250", "refused 10 NameShape at 2"),
-        ("product rice,250 4.999", "refused 10 NameShape at 2"),
-        ("product rice250 4.999", "refused 11 NominalRange at 2"),
-        ("product rice250 10000.001", "refused 11 NominalRange at 2"),
-        ("product rice250 250", "3 ok"),
-        ("product rice250 4.999", "refused 8 ProductKnown at 3"),
-        (
-            "tare rice250 2025-03-03 5000.001",
-            "refused 23 TareRange at 3",
-        ),
-        ("open .A rice250", "refused 10 NameShape at 3"),
-        ("start 17 A", "refused 14 BatchUnknown at 3"),
-        ("open A rice250", "4 ok"),
-        ("open A rice250", "refused 13 BatchKnown at 4"),
-        ("start 17 A", "refused 16 LaneNumber at 4"),
-        ("start 1 A", "refused 19 NoTare rice250 at 4"),
-        ("tare rice250 2025-03-04 10", "5 ok"),
-        ("start 1 A", "refused 19 NoTare rice250 at 5"),
-        ("tare rice250 2025-03-03 5000", "6 ok"),
-        ("start 1 A", "7 ok"),
-        ("start 1 A", "refused 17 LaneBusy A at 7"),
-        ("weigh 17 30000.001", "refused 16 LaneNumber at 7"),
-        ("weigh 2 30000.001", "refused 18 LaneIdle at 7"),
-        ("weigh 1 30000.001", "refused 20 GrossRange at 7"),
-        ("stop 17", "refused 16 LaneNumber at 7"),
-        ("stop 2", "refused 18 LaneIdle at 7"),
-        ("weigh 1 30000", "8 pass"),
-        ("stop 1", "9 ok"),
-        ("product least 5", "10 ok"),
-        ("product greatest 10000", "11 ok"),
-        ("tare least 1970-01-01 0", "12 ok"),
-        ("tare least 9999-12-31 0", "13 ok"),
-        ("day 9999-12-31", "14 ok"),
-        ("day 2025-03-03", "refused 7 DayBack 9999-12-31 at 14"),
-    ],
-    piles: [(1, 30_000_000), (0, 0), (0, 0), (0, 0)],
-    batches: [1, 0, 0, 0],
-    rows: 14,
-};
+// The refusals up to a weighing, and which is told where several hold. A full book is in
+// limits.rt, and no line spells a day that is out of its range.
+const REFUSALS: [Day; 1] = [(
+    14,
+    "\
+product rice250 250 => refused 6 DayUnset at 0
+tare rice250 2025-03-03 10 => refused 6 DayUnset at 0
+open A rice250 => refused 6 DayUnset at 0
+start 17 A => refused 6 DayUnset at 0
+weigh 1 251.000 => refused 6 DayUnset at 0
+stop 1 => refused 6 DayUnset at 0
+day 2025-03-03 => 1 ok
+day 2025-03-02 => refused 7 DayBack 2025-03-03 at 1
+day 2025-03-03 => 2 ok
+tare rice250 2025-03-03 10 => refused 9 ProductUnknown at 2
+open A rice250 => refused 9 ProductUnknown at 2
+product -rice 250 => refused 10 NameShape at 2
+product rice,250 4.999 => refused 10 NameShape at 2
+product rice250 4.999 => refused 11 NominalRange at 2
+product rice250 10000.001 => refused 11 NominalRange at 2
+product rice250 250 => 3 ok
+product rice250 4.999 => refused 8 ProductKnown at 3
+tare rice250 2025-03-03 5000.001 => refused 23 TareRange at 3
+open .A rice250 => refused 10 NameShape at 3
+start 17 A => refused 14 BatchUnknown at 3
+open A rice250 => 4 ok
+open A rice250 => refused 13 BatchKnown at 4
+start 17 A => refused 16 LaneNumber at 4
+start 1 A => refused 19 NoTare rice250 at 4
+tare rice250 2025-03-04 10 => 5 ok
+start 1 A => refused 19 NoTare rice250 at 5
+tare rice250 2025-03-03 5000 => 6 ok
+start 1 A => 7 ok
+start 1 A => refused 17 LaneBusy A at 7
+weigh 17 30000.001 => refused 16 LaneNumber at 7
+weigh 2 30000.001 => refused 18 LaneIdle at 7
+weigh 1 30000.001 => refused 20 GrossRange at 7
+stop 17 => refused 16 LaneNumber at 7
+stop 2 => refused 18 LaneIdle at 7
+weigh 1 30000 => 8 pass
+stop 1 => 9 ok
+product least 5 => 10 ok
+product greatest 10000 => 11 ok
+tare least 1970-01-01 0 => 12 ok
+tare least 9999-12-31 0 => 13 ok
+day 9999-12-31 => 14 ok
+day 2025-03-03 => refused 7 DayBack 9999-12-31 at 14
+rows 14
+readings 1 gross 30000.000
+passed 1 gross 30000.000
+rejected 0 gross 0.000
+sampled 0 gross 0.000
+voided 0 gross 0.000
+batches running 1 ended 0 drawn 0 closed 0
+",
+)];
 
 // After the setup: what isn't there.
-const UNKNOWN: Day = Day {
-    exchanges: &[
-        ("end B", "refused 14 BatchUnknown at 5"),
-        ("draw B keep 0", "refused 14 BatchUnknown at 5"),
-        ("second B 0", "refused 14 BatchUnknown at 5"),
-        ("close B", "refused 14 BatchUnknown at 5"),
-        ("sheet B", "refused 14 BatchUnknown at 5"),
-        ("sample B", "refused 14 BatchUnknown at 5"),
-        ("pack 5", "refused 24 PackUnknown at 5"),
-        ("pack 0", "refused 24 PackUnknown at 5"),
-        ("lane 0", "refused 16 LaneNumber at 5"),
-        ("lane 17", "refused 16 LaneNumber at 5"),
-        ("lane 1", "lane 1 batch A settled"),
-        ("void 17", "refused 24 PackUnknown at 5"),
-        ("measure 17 30000.001", "refused 20 GrossRange at 5"),
-        ("measure 17 1 5000.001", "refused 23 TareRange at 5"),
-        ("measure 17 1", "refused 24 PackUnknown at 5"),
-    ],
-    piles: [(0, 0), (0, 0), (0, 0), (0, 0)],
-    batches: [1, 0, 0, 0],
-    rows: 5,
-};
+const UNKNOWN: [Day; 1] = [(
+    5,
+    "\
+end B => refused 14 BatchUnknown at 5
+draw B keep 0 => refused 14 BatchUnknown at 5
+second B 0 => refused 14 BatchUnknown at 5
+close B => refused 14 BatchUnknown at 5
+sheet B => refused 14 BatchUnknown at 5
+sample B => refused 14 BatchUnknown at 5
+pack 5 => refused 24 PackUnknown at 5
+pack 0 => refused 24 PackUnknown at 5
+lane 0 => refused 16 LaneNumber at 5
+lane 17 => refused 16 LaneNumber at 5
+lane 1 => lane 1 batch A settled
+void 17 => refused 24 PackUnknown at 5
+measure 17 30000.001 => refused 20 GrossRange at 5
+measure 17 1 5000.001 => refused 23 TareRange at 5
+measure 17 1 => refused 24 PackUnknown at 5
+rows 5
+readings 0 gross 0.000
+passed 0 gross 0.000
+rejected 0 gross 0.000
+sampled 0 gross 0.000
+voided 0 gross 0.000
+batches running 1 ended 0 drawn 0 closed 0
+",
+)];
 
 #[test]
 fn refusals(rt: HostRuntime) -> Result<(), Fail> {
-    check_day(&rt, rt.alloc(), &[], &REFUSALS)?;
-    check_day(&rt, rt.alloc(), &SETUP, &UNKNOWN)?;
+    check_days(&rt, rt.alloc(), "", &REFUSALS)?;
+    check_days(&rt, rt.alloc(), SETUP, &UNKNOWN)?;
     Ok(())
 }

@@ -1,0 +1,110 @@
+use crate::runs::{empty_disk, run};
+use disk_core::{Failed, Sink, Source};
+use std::alloc::{AllocError, Global};
+use std::process::Abort;
+use std::test::Fail;
+
+// Gives lines of seven times the same byte, so many bytes a read and in so many reads, and keeps
+// the room of the last buffer.
+#[derive(Drop)]
+struct Lines {
+    byte: u8,
+    piece: usize,
+    reads: u32,
+    place: u8,
+    room: usize,
+    ended: bool,
+}
+
+impl Source for Lines {
+    ghost use Rattle.std.specs.Prelude.{None};
+    ghost use Rattle.device_facts.specs.Frame.{NothingElse, nothing_else};
+
+    ghost left = { λ _. None };
+
+    ghost ended = { λ s. s.ended };
+
+    ghost faults = { λ _. 0 };
+
+    ghost keeps_rest = { NothingElse };
+
+    ghost frame = { nothing_else };
+
+    fn read(&mut self, into: &mut [u8]) -> Result<usize, Failed> {
+        self.room = into.len();
+        let piece = if self.reads == 0 { 0 } else { self.piece };
+        let count = piece.min(into.len());
+        self.reads = self.reads.saturating_sub(1);
+        for i in 0..count {
+            self.place = self.place.wrapping_add(1) % 8;
+            into[i] = if self.place == 0 { b'\n' } else { self.byte };
+        }
+        self.ended = count == 0 && !into.is_empty();
+        Ok(count)
+    }
+}
+
+// Takes everything, and keeps the number of bytes alone.
+#[derive(Drop)]
+struct Nowhere {
+    bytes: u64,
+}
+
+impl Sink for Nowhere {
+    ghost use Rattle.std.specs.Prelude.{None};
+    ghost use Rattle.device_facts.specs.Frame.{NothingElse, nothing_else};
+
+    ghost held = { λ _. None };
+
+    ghost faults = { λ _. 0 };
+
+    ghost keeps_rest = { NothingElse };
+
+    ghost frame = { nothing_else };
+
+    fn write(&mut self, bytes: &[u8]) -> Result<usize, Failed> {
+        self.bytes = self.bytes.saturating_add(bytes.len() as u64);
+        Ok(bytes.len())
+    }
+}
+
+// A byte, how many a read gives, in how many reads, the status, and how many bytes are printed.
+// Where the reads are spent nothing is, and a summary of an empty list has 160 bytes.
+const READS: [((u8, usize, u32), (u8, u64)); 3] = [
+    ((b' ', 1, 100_000_000), (12, 0)),
+    ((b' ', 1, 99_999_999), (0, 160)),
+    ((b'#', 65_536, 1_600), (0, 160)),
+];
+
+// Runs a script of so many reads, each of so many times this byte.
+fn check_reads(
+    rt: &impl Abort,
+    alloc: Global,
+    lines: (u8, usize, u32),
+    ends: (u8, u64),
+) -> Result<(), AllocError> {
+    let (byte, piece, reads) = lines;
+    let mut input = Lines {
+        byte,
+        piece,
+        reads,
+        place: 0,
+        room: 0,
+        ended: false,
+    };
+    let mut output = Nowhere { bytes: 0 };
+    let ended = run(alloc, &["run"], &mut input, &mut output, empty_disk(alloc))?;
+    assert_eq!(rt; (ended.status, output.bytes), ends);
+    assert!(rt; ended.rows.as_slice().is_empty() && input.room >= 65_536);
+    Ok(())
+}
+
+// Reads that each give a byte are spent at 100 000 000; larger ones may give more bytes than that
+// in all.
+#[test]
+fn spent_are_the_reads_and_not_the_bytes(rt: HostRuntime) -> Result<(), Fail> {
+    for (lines, ends) in &READS {
+        check_reads(&rt, rt.alloc(), *lines, *ends)?;
+    }
+    Ok(())
+}

@@ -1,0 +1,86 @@
+use crate::days::{Play, SETUP, check_day};
+use std::test::Fail;
+
+// After the setup, in a book of five rows at most.
+const FIVE: &str = "\
+weigh 1 251.000 => refused 5 BookFull 5 at 5
+rows 5
+readings 0 gross 0.000
+passed 0 gross 0.000
+rejected 0 gross 0.000
+sampled 0 gross 0.000
+voided 0 gross 0.000
+batches running 1 ended 0 drawn 0 closed 0
+";
+
+// In a book of seven rows at most: a product whose name has 32 bytes, requests of a desk, and what
+// is told of them where the book is full. A repeat is told again, and what is wrong with a request
+// is told before.
+const SEVEN: &str = "\
+open A 0123456789abcdef0123456789abcdef => refused 6 DayUnset at 0
+@101 1 day 2025-03-03 => 1 ok
+@101 2 day 2025-03-02 => refused 7 DayBack 2025-03-03 at 1
+@101 2 product 0123456789abcdef0123456789abcdef 250 => 2 ok
+open A 0123456789abcdef0123456789abcdef => 3 ok
+start 1 A => refused 19 NoTare 0123456789abcdef0123456789abcdef at 3
+@101 3 tare 0123456789abcdef0123456789abcdef 2025-03-03 10 => 4 ok
+start 1 A => 5 ok
+start 1 A => refused 17 LaneBusy A at 5
+weigh 1 251.000 opened => refused 21 PriorWrong unwanted at 5
+@101 4 weigh 1 251.000 none => refused 1 DeskNumber at 5
+weigh 1 251.000 none => 6 pass
+weigh 1 251.000 none => refused 21 PriorWrong wanted at 6
+weigh 1 241.999 opened => 7 reject inadequate
+day 2025-03-04 => refused 5 BookFull 7 at 7
+day 2025-03-02 => refused 5 BookFull 7 at 7
+@101 3 tare 0123456789abcdef0123456789abcdef 2025-03-03 10 => 4 ok
+@101 3 day 2025-03-04 => refused 3 RequestReused 4 at 7
+@101 5 day 2025-03-04 => refused 4 RequestGap 3 at 7
+@101 4 day 2025-03-04 => refused 5 BookFull 7 at 7
+rows 7
+readings 2 gross 492.999
+passed 1 gross 251.000
+rejected 1 gross 241.999
+sampled 0 gross 0.000
+voided 0 gross 0.000
+batches running 1 ended 0 drawn 0 closed 0
+";
+
+// The words, what comes first, the day, and how many rows it leaves.
+const FULL_BOOKS: [(&[&str], &str, &str, usize); 2] = [
+    (&["run", "--limit", "5"], SETUP, FIVE, 5),
+    (&["run", "--limit", "7"], "", SEVEN, 7),
+];
+
+#[test]
+fn full_books(rt: HostRuntime) -> Result<(), Fail> {
+    for (words, begin, day, rows) in &FULL_BOOKS {
+        check_day(&rt, rt.alloc(), words, begin, (*rows, *day))?;
+    }
+    Ok(())
+}
+
+const FULL: &str = "\
+weigh 1 260.000 => 10006 reject full
+rows 10006
+readings 10001 gross 2600260.000
+passed 10000 gross 2600000.000
+rejected 1 gross 260.000
+sampled 0 gross 0.000
+voided 0 gross 0.000
+batches running 1 ended 0 drawn 0 closed 0
+";
+
+// The setup and 10 001 weighings, in a book of the usual limit.
+#[test]
+fn a_batch_has_ten_thousand_packs(rt: HostRuntime) -> Result<(), Fail> {
+    let alloc = rt.alloc();
+    let mut play = Play::new(alloc);
+    play.say_lines(SETUP)?;
+    for row in 6..10_006 {
+        play.say_row(alloc, "weigh 1 260.000", row, "pass")?;
+    }
+    play.say_lines(FULL)?;
+    play.check(&rt, alloc, &["run"], 10_006)?;
+    Ok(())
+}
