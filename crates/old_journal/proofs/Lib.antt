@@ -1,0 +1,3 @@
+pub mod Headers
+pub mod OpenSlots
+pub mod Standing
