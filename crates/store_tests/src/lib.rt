@@ -1,0 +1,10 @@
+//! Tests of the book on a disk by its public calls, over disks in memory: crashes, calls that fail,
+//! bytes that are changed, and how many calls a disk is asked.
+#![tactic(auto)]
+
+#[cfg(test)]
+mod books;
+#[cfg(test)]
+mod crashes;
+#[cfg(test)]
+mod stores;
