@@ -1,19 +1,10 @@
 use crate::books::{ROWS, long_run};
-use crate::stores::{KEEPS, Way, calls_of, image, use_bytes};
+use crate::stores::{CALLS, KEEPS, WHOLE, calls_of, image, use_bytes};
 use book_words::Entry;
 use disk_core::MemoryDisk;
 use std::alloc::{AllocError, Global};
 use std::process::Abort;
 use std::test::Fail;
-
-const WHOLE: Way = Way {
-    rows: ROWS,
-    rests: true,
-};
-
-// Mounting an empty disk makes four calls, each act four more, and keeping the snapshot seven: the
-// length, three writes and a sync, and the mark and a sync.
-const CALLS: u32 = 4 + 4 * ROWS + 7;
 
 // How many acts were acknowledged after so many calls.
 fn acknowledged(calls: u32) -> u32 {
@@ -33,7 +24,10 @@ fn check_crash(
     for keep in KEEPS {
         let seen = use_bytes(alloc, image(disk, after, keep)?, entries, WHOLE).seen;
         assert!(rt; seen.right, "call {after}");
-        assert!(rt; least <= seen.held && seen.held <= least.saturating_add(1), "call {after}");
+        assert!(rt;
+            least <= seen.held && seen.held <= least.saturating_add(1),
+            "call {after}"
+        );
     }
     Ok(())
 }

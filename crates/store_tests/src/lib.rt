@@ -7,4 +7,10 @@ mod books;
 #[cfg(test)]
 mod crashes;
 #[cfg(test)]
+mod damages;
+#[cfg(test)]
+mod failures;
+#[cfg(test)]
 mod stores;
+#[cfg(test)]
+mod worked;

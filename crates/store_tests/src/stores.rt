@@ -1,7 +1,7 @@
 ghost use Rattle.std.specs.Prelude.{◌≤◌, length};
 ghost use Rattle.book_store.specs.Stores.{IsSound};
 
-use crate::books::entry_at;
+use crate::books::{ROWS, entry_at};
 use book_store::{MountError, Store};
 use book_words::{Answered, Ask, AskError, Entry, Reply, Want};
 use disk_core::{Disk, Keep, MemoryDisk};
@@ -56,6 +56,17 @@ pub(crate) const LOOK: Way = Way {
     rests: false,
 };
 
+/// The long run, and its snapshot.
+pub(crate) const WHOLE: Way = Way {
+    rows: ROWS,
+    rests: true,
+};
+
+/// How many calls the long run makes over an empty disk: mounting makes four, each act four more,
+/// and keeping the snapshot seven, which are the length, three writes and a sync, and the mark and
+/// a sync.
+pub(crate) const CALLS: u32 = 4 + 4 * ROWS + 7;
+
 /// What is seen of a disk: how many rows it held when it was mounted; whether these and all
 /// answers were right; how often the disk failed; and why it wasn't mounted.
 #[derive(Clone, Copy, Debug, PartialEq, Eq)]
@@ -101,7 +112,8 @@ impl<D: Disk> TestStore<D> {
     // Whether an entry is told its row, and added no other. A desk's act is told again.
     fn is_told(&mut self, entry: &Entry, number: u32) -> bool {
         let told = Told::Row(number, entry.signal);
-        self.store.len() == number && (entry.desk == 0 || self.ask(entry) == told)
+        self.store.len() == number
+            && (entry.desk == 0 || self.ask(entry) == told)
             && self.store.len() == number
     }
 
@@ -233,4 +245,32 @@ pub(crate) fn calls_of(disk: &MemoryDisk) -> u32
 /// What a crash leaves after so many calls.
 pub(crate) fn image(disk: &MemoryDisk, after: u32, keep: Keep) -> Result<Vec<u8>, AllocError> {
     disk.crash(after.min(calls_of(disk)), keep)
+}
+
+// Mounts a disk again that failed as it was mounted.
+fn once_more(
+    alloc: Global,
+    used: Used<MemoryDisk>,
+    entries: &[Entry],
+    way: Way,
+) -> Used<MemoryDisk> {
+    if used.seen.why != Some(MountError::DiskFault) {
+        return used;
+    }
+    let faults = used.seen.faults.saturating_add(1);
+    let mut again = use_disk(alloc, used.disk, entries, way);
+    again.seen.faults = again.seen.faults.saturating_add(faults);
+    again
+}
+
+/// Mounts a disk, again where it fails, and takes its book so far.
+pub(crate) fn use_again(
+    alloc: Global,
+    disk: MemoryDisk,
+    entries: &[Entry],
+    way: Way,
+) -> Used<MemoryDisk> {
+    let first = use_disk(alloc, disk, entries, way);
+    let second = once_more(alloc, first, entries, way);
+    once_more(alloc, second, entries, way)
 }
