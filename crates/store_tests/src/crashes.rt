@@ -11,8 +11,8 @@ fn acknowledged(calls: u32) -> u32 {
     (calls.saturating_sub(4) / 4).min(ROWS)
 }
 
-// Mounts what a crash leaves after so many calls, in each way of it: the rows that were acknowledged
-// are there, and at most the next one; and each act behind them is then answered with its row.
+// Mounts what a crash leaves after so many calls, in each way of it: the acknowledged rows are
+// there, and at most the next one; and each act behind them is then answered with its row.
 fn check_crash(
     rt: &impl Abort,
     alloc: Global,
