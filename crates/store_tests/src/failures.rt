@@ -1,0 +1,62 @@
+use crate::books::{ROWS, long_run};
+use crate::stores::{CALLS, KEEPS, LOOK, WHOLE, calls_of, image, use_again, use_bytes};
+use book_words::Entry;
+use disk_core::MemoryDisk;
+use std::alloc::{AllocError, Global};
+use std::process::Abort;
+use std::test::Fail;
+
+// The disk of a run that is over holds each act once, whatever a crash then leaves of it.
+fn check_left(
+    rt: &impl Abort,
+    alloc: Global,
+    disk: &MemoryDisk,
+    entries: &[Entry],
+) -> Result<(), AllocError> {
+    let calls = calls_of(disk);
+    for keep in KEEPS {
+        let seen = use_bytes(alloc, image(disk, calls, keep)?, entries, LOOK).seen;
+        assert!(rt; seen.right && seen.held == ROWS);
+    }
+    Ok(())
+}
+
+// A run over a disk of which these calls fail.
+fn check_run(
+    rt: &impl Abort,
+    alloc: Global,
+    fails: Vec<u32>,
+    faults: u32,
+    entries: &[Entry],
+) -> Result<(), AllocError> {
+    let disk = MemoryDisk::new(alloc, Vec::new(alloc), fails);
+    let used = use_again(alloc, disk, entries, WHOLE);
+    assert!(rt; used.seen.right && used.seen.held == 0);
+    assert_eq!(rt; used.seen.faults, faults);
+    let read = Vec::from_slice(alloc, used.disk.bytes())?;
+    let seen = use_bytes(alloc, read, entries, LOOK).seen;
+    assert!(rt; seen.right && seen.held == ROWS);
+    check_left(rt, alloc, &used.disk, entries)
+}
+
+#[test]
+fn each_call_fails(rt: HostRuntime) -> Result<(), Fail> {
+    let alloc = rt.alloc();
+    let entries = long_run()?;
+    for call in 1..=CALLS {
+        check_run(&rt, alloc, vec![in alloc; call]?, 1, &entries)?;
+    }
+    Ok(())
+}
+
+// What is asked again begins with the call behind the one that failed.
+#[test]
+fn each_pair_of_calls_fails(rt: HostRuntime) -> Result<(), Fail> {
+    let alloc = rt.alloc();
+    let entries = long_run()?;
+    for call in 1..=CALLS {
+        let next = call.saturating_add(1);
+        check_run(&rt, alloc, vec![in alloc; call, next]?, 2, &entries)?;
+    }
+    Ok(())
+}

@@ -1,0 +1,16 @@
+//! Tests of the book on a disk by its public calls, over disks in memory: crashes, calls that fail,
+//! bytes that are changed, and how many calls a disk is asked.
+#![tactic(auto)]
+
+#[cfg(test)]
+mod books;
+#[cfg(test)]
+mod crashes;
+#[cfg(test)]
+mod damages;
+#[cfg(test)]
+mod failures;
+#[cfg(test)]
+mod stores;
+#[cfg(test)]
+mod worked;
