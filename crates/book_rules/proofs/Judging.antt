@@ -1,5 +1,5 @@
 -- The signal that is recorded, by what a weighing meets.
-use Rattle.std.proofs.Common.{◌≡◌, ℕ, ℤ, nat_lt, List, Option, Some, None, option_map, sym, ◌∙◌, ap}
+use Rattle.std.proofs.Common.{◌≡◌, ℕ, ℤ, nat_lt, true, List, Option, Some, option_map, is_some, sym, ◌∙◌, ap}
 use Rattle.annex_tables.specs.declared.types.Limits.{Limits}
 use Rattle.pack_judge.specs.declared.types.Signal.{Signal}
 use Rattle.pack_judge.specs.Judge.{signal_of}
@@ -8,20 +8,20 @@ use Rattle.book_words.specs.declared.act.Prior.{Prior}
 use Rattle.book_words.specs.declared.act.Act.{Act}
 use Rattle.book_words.specs.declared.act.Act.TheVariants.{Weigh}
 use Rattle.book_words.specs.declared.act.Entry.{Entry}
-use Rattle.book_words.specs.Acts.{newest_day, lane_batch}
+use Rattle.book_words.specs.Acts.{newest_day, lane_batch, product_of}
 use Rattle.book_words.specs.Readings.{net_of_gross}
 use Rattle.book_words.specs.Classes.{limits_of_batch, density_of_batch}
 use Rattle.book_words.specs.Signals.{judged_signal, recorded_signal}
+use Rattle.book_words.specs.Answers.{IsLegal}
 use Rattle.book_packs.specs.Densities.{limits_at}
 use Rattle.book_state.specs.declared.types.AtWeighing.{AtWeighing}
 use Rattle.book_state.specs.Told.{met_at}
-use Rattle.book_laws.proofs.TareLaws.{some_is, started_for_it}
-use Rattle.book_rules.proofs.Below.{signal_is}
+use Rattle.book_laws.proofs.TareLaws.{tared_of, started_for_it}
+use Rattle.book_views.proofs.Below.{signal_is}
 
--- limits that are told of a batch that is there
-pub told_limits : (o : Option Name) (x limits : Limits) → Some limits ≡ option_map (λ (product : Name). x) o → limits ≡ x
-told_limits None x limits h = absurd (cc)
-told_limits (Some product) x limits h = some_is limits x h
+-- the batch of a lane has a product
+pub lane_product : (entries : List Entry) (lane : ℕ) (batch : Name) → IsLegal entries → lane_batch entries lane ≡ Some batch → is_some (product_of entries batch) ≡ true
+lane_product entries lane batch legal on = ap is_some ((tared_of entries legal).lanes lane batch on).has.known
 
 -- a signal by the limits in mg, the net and what is met is the one of the gross
 pub judged : (entries : List Entry) (batch : Name) (gross : ℤ) (act : Act) (limits : Limits) (met : AtWeighing) (net : ℤ) (signal : Signal)

@@ -2,8 +2,7 @@ use Rattle.std.proofs.Common.{rules, sym, ◌∙◌, ap, ℤ, FitsSigned, w64}
 use Rattle.std.proofs.lemmas.Int.{to_z-of_z}
 use Rattle.book_words.specs.declared.act.Act.TheVariants.{Weigh}
 use Rattle.book_words.specs.Signals.{judged_signal}
-use Rattle.book_rules.proofs.Known.{lane_product}
-use Rattle.book_rules.proofs.Judging.{recorded}
+use Rattle.book_rules.proofs.Judging.{lane_product, recorded}
 use Rattle.book_rules.proofs.signals.recorded_signal.Goals as goal
 
 pub judge-requires-clause-known : goal.judge-requires-clause-known

@@ -1,0 +1,6 @@
+pub mod Accepting
+pub mod Adding
+pub mod Below
+pub mod Known
+pub mod Packing
+pub mod Viewing
