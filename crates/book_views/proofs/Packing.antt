@@ -17,7 +17,7 @@ use Rattle.book_state.specs.declared.types.KnownPack.{KnownPack}
 use Rattle.book_state.specs.Told.{known_record, known_reading, known_pack}
 use Rattle.book_laws.proofs.TareLaws.{some_is}
 use Rattle.book_packs.specs.Densities.{limit_at}
-use Rattle.book_views.proofs.Below.{below_is}
+use Rattle.book_packs.proofs.Below.{below_is}
 use Rattle.book_views.specs.Testing.{is_pack_defective}
 
 -- the contents of a known pack that was measured
