@@ -1,6 +1,5 @@
 pub mod Keeping
 pub mod Changing
-pub mod Accepting
 pub mod Fitting
 pub mod Known
 pub mod Ranged

@@ -1,31 +1,27 @@
--- The contents that are measured in a legal list are within the range of the calculations.
-use Rattle.std.proofs.Common.{◌≡◌, ℕ, ℤ, pos, neg_ℤ, ◌-ℤ◌, suc, Bool, true, false, int_le, List, [], ◌∷◌, length, Option, Some, None, IfSome, option_map, if◌then◌else◌, sym, subst, arith, ◌≤◌}
+-- What was measured in a legal list, and its tares, are within their limits.
+use Rattle.std.proofs.Common.{◌≡◌, ℕ, ℤ, pos, suc, Bool, true, false, int_le, List, [], ◌∷◌, length, Option, Some, None, IfSome, option_map, if◌then◌else◌, sym, subst, arith, ◌≤◌}
 use Rattle.std.specs.List.{All, last_or, cons_option}
-use Rattle.std.specs.Option.{option_or, option_and_then, unwrap_or}
+use Rattle.std.specs.Option.{option_or, option_and_then}
 use Rattle.std.proofs.lemmas.Bool.{and_parts}
 use Rattle.std.proofs.lemmas.Int.{ints}
 use Rattle.std.proofs.lemmas.List.Elements.{All-nil, All-cons, All-head, All-tail, All-filter}
 use Rattle.hall_limits.specs.declared.TheConstants.{MAX_GROSS, MAX_TARE, MAX_DAY}
-use Rattle.annex_tables.specs.declared.types.Mode.{Mode}
-use Rattle.annex_tables.specs.declared.types.Mode.TheVariants.{Keep, Destroy}
 use Rattle.tare_register.specs.declared.types.DatedTare.{DatedTare}
 use Rattle.tare_register.specs.Tares.{dated_by, of_greatest_day, latest}
 use Rattle.book_words.specs.declared.name.Name.{Name}
 use Rattle.book_words.specs.declared.act.Act.{Act}
 use Rattle.book_words.specs.declared.act.Act.TheVariants.{NewDay, PutProduct, PutTare, OpenBatch, StartLane, Weigh, StopLane, Void, EndRun, Draw, Measure, DrawSecond, Close}
 use Rattle.book_words.specs.declared.act.Entry.{Entry}
-use Rattle.book_words.specs.declared.act.Reading.{Reading}
 use Rattle.book_words.specs.Names.{same_name}
 use Rattle.book_words.specs.Acts.{said, product_of}
 use Rattle.book_words.specs.Tares.{tare_put, tares_put, tare_of_product}
-use Rattle.book_words.specs.Readings.{reading_of, tare_of_batch, tare_of_reading}
-use Rattle.book_words.specs.Measures.{Measured, measured_by, measured_of, actual_contents, contents_of_pack, contents_among}
+use Rattle.book_words.specs.Readings.{tare_of_batch, tare_of_reading}
+use Rattle.book_words.specs.Measures.{Measured, measured_by, measured_of}
 use Rattle.book_words.specs.Refusals.{is_within}
 use Rattle.book_words.specs.Ranges.{IsBetween, is_act_in_range, AllInRange}
 use Rattle.book_words.specs.Answers.{IsLegal}
 use Rattle.book_words.proofs.LastSaid.{last_or-cons}
 use Rattle.book_words.proofs.LegalLemmas.{legal_in_range}
-use Rattle.book_samples.specs.Testing.{AreContents}
 
 -- what a test says of a range
 pub between : (least greatest x : ℤ) → is_within least greatest x ≡ true → IsBetween least greatest x
@@ -138,45 +134,3 @@ tare_within entries batch day legal =
     (λ name. each_holds (tare_of_batch entries name) (IsBetween (pos 0) MAX_TARE) day
     (λ on. each_holds (λ (product : Name). tare_of_product entries product on) (IsBetween (pos 0) MAX_TARE) (product_of entries name)
     (λ product. product_tare_within entries product on legal)))
-
--- a gross less a tare
-pub contents_between : (gross tare : ℤ) → IsBetween (pos 0) MAX_GROSS gross → IsBetween (pos 0) MAX_TARE tare → IsBetween (neg_ℤ MAX_TARE) MAX_GROSS (gross -ℤ tare)
-contents_between gross tare h k =
-    (omega (arith, ints, h.0, k.1), omega (arith, ints, h.1, k.0))
-
-less_tare : (gross : ℤ) (o : Option ℤ) → IsBetween (pos 0) MAX_GROSS gross → IfSome o (IsBetween (pos 0) MAX_TARE) → IsBetween (neg_ℤ MAX_TARE) MAX_GROSS (gross -ℤ unwrap_or o (pos 0))
-less_tare gross None h k = contents_between gross (pos 0) h (omega (arith, ints), omega (arith, ints))
-less_tare gross (Some tare) h k = contents_between gross tare h k
-
-actual_within : (entries : List Entry) (mode : Mode) (reading : Reading) (measured : Measured) → IsLegal entries → IsMeasuredWithin measured
-    → IsBetween (neg_ℤ MAX_TARE) MAX_GROSS (actual_contents entries mode reading measured)
-actual_within entries Keep reading measured legal h = less_tare measured.gross (tare_of_reading entries reading.batch reading.day) h.0 (tare_within entries reading.batch reading.day legal)
-actual_within entries Destroy reading measured legal h = contents_between measured.gross measured.empty h.0 h.1
-
-pack_within : (entries : List Entry) (mode : Mode) (pack : ℕ) → IsLegal entries → IfSome (contents_of_pack entries mode pack) (IsBetween (neg_ℤ MAX_TARE) MAX_GROSS)
-pack_within entries mode pack legal =
-    each_holds (λ (reading : Reading). option_map (actual_contents entries mode reading) (measured_of entries pack)) (IsBetween (neg_ℤ MAX_TARE) MAX_GROSS) (reading_of entries pack)
-    (λ reading. either reading (measured_of entries pack) (measured_within entries pack legal))
-  where
-    either : (reading : Reading) (o : Option Measured) → IfSome o IsMeasuredWithin → IfSome (option_map (actual_contents entries mode reading) o) (IsBetween (neg_ℤ MAX_TARE) MAX_GROSS)
-    either reading None h = tt
-    either reading (Some measured) h = actual_within entries mode reading measured legal h
-
--- the contents of the measured packs of a legal list are in the range of the calculations
-pub contents_within : (entries : List Entry) (mode : Mode) (packs : List ℕ) → IsLegal entries → AreContents (contents_among entries mode packs)
-contents_within entries mode [] legal = All-nil (IsBetween (neg_ℤ MAX_TARE) MAX_GROSS)
-contents_within entries mode (pack ∷ packs) legal =
-    joined (contents_of_pack entries mode pack) (contents_among entries mode packs) (pack_within entries mode pack legal) (contents_within entries mode packs legal)
-  where
-    joined : (o : Option ℤ) (xs : List ℤ) → IfSome o (IsBetween (neg_ℤ MAX_TARE) MAX_GROSS) → AreContents xs → AreContents (cons_option o xs)
-    joined None xs h k = k
-    joined (Some x) xs h k = All-cons (IsBetween (neg_ℤ MAX_TARE) MAX_GROSS) x xs h k
-
--- there are no more contents than packs
-pub contents_few : (entries : List Entry) (mode : Mode) (packs : List ℕ) → length (contents_among entries mode packs) ≤ length packs
-contents_few entries mode [] = omega arith
-contents_few entries mode (pack ∷ packs) = either (contents_of_pack entries mode pack) (contents_among entries mode packs) (contents_few entries mode packs)
-  where
-    either : (o : Option ℤ) (xs : List ℤ) → length xs ≤ length packs → length (cons_option o xs) ≤ suc (length packs)
-    either None xs h = omega (arith, h)
-    either (Some x) xs h = omega (arith, h)
