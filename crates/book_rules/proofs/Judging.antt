@@ -1,5 +1,5 @@
 -- The signal that is recorded, by what a weighing meets.
-use Rattle.std.proofs.Common.{◌≡◌, ℕ, ℤ, ◌*◌, ◌==◌, nat_lt, int_lt, Bool, true, false, ◌&&◌, if◌then◌else◌, List, Option, Some, option_map, is_some, refl, sym, ◌∙◌, ap}
+use Rattle.std.proofs.Common.{◌≡◌, ℕ, ℤ, ◌*◌, ◌==◌, nat_lt, int_lt, Bool, true, false, ◌&&◌, if◌then◌else◌, List, Some, option_map, is_some, refl, sym, ◌∙◌, ap}
 use Rattle.hall_limits.specs.declared.TheConstants.{MAX_POPULATION}
 use Rattle.annex_tables.specs.declared.types.Limits.{Limits}
 use Rattle.pack_judge.specs.declared.types.Class.{Class}

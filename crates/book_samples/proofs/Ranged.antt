@@ -1,5 +1,5 @@
 -- What was measured in a legal list, and its tares, are within their limits.
-use Rattle.std.proofs.Common.{◌≡◌, ℕ, ℤ, pos, suc, Bool, true, false, int_le, List, [], ◌∷◌, length, Option, Some, None, IfSome, option_map, if◌then◌else◌, sym, subst, arith, ◌≤◌}
+use Rattle.std.proofs.Common.{◌≡◌, ℕ, ℤ, pos, suc, Bool, true, false, int_le, List, [], ◌∷◌, Option, Some, None, IfSome, option_map, if◌then◌else◌, sym, subst, arith}
 use Rattle.std.specs.List.{All, last_or, cons_option}
 use Rattle.std.specs.Option.{option_or, option_and_then}
 use Rattle.std.proofs.lemmas.Bool.{and_parts}
