@@ -2,5 +2,3 @@ pub mod Keeping
 pub mod Changing
 pub mod Fitting
 pub mod Known
-pub mod Ranged
-pub mod Suited

@@ -1,5 +1,4 @@
 pub mod Parts
-pub mod Within
 pub mod Named
 pub mod Rows
 pub mod Untared
