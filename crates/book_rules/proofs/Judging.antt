@@ -19,8 +19,8 @@ use Rattle.book_words.specs.Classes.{class_by_density, limits_of_batch, density_
 use Rattle.book_words.specs.Signals.{signal_by_class, judged_signal, recorded_signal}
 use Rattle.book_words.specs.Answers.{IsLegal}
 use Rattle.book_packs.specs.Densities.{limit_at, limits_at}
-use Rattle.book_state.specs.declared.types.AtWeighing.{AtWeighing}
-use Rattle.book_state.specs.Told.{met_at}
+use Rattle.book_packs.specs.declared.types.AtWeighing.{AtWeighing}
+use Rattle.book_packs.specs.Told.{met_at}
 use Rattle.book_packs.proofs.Below.{class_is}
 use Rattle.book_laws.proofs.TareLaws.{tared_of, started_for_it}
 

@@ -26,7 +26,7 @@ use Rattle.book_words.specs.Population.{population, population_among, is_counted
 use Rattle.book_words.specs.Signals.{class_signal, signal_by_class, judged_signal, population_at, recorded_signal}
 use Rattle.book_words.specs.Answers.{IsLegal}
 use Rattle.book_words.proofs.OneMoreEntry.{advance, own_reading}
-use Rattle.book_state.specs.Told.{totals_told}
+use Rattle.book_packs.specs.Told.{totals_told}
 use Rattle.book_laws.proofs.PackLaws.{batch_is}
 use Rattle.book_laws.proofs.ReadingLaws.{by_entries}
 use Rattle.book_laws.proofs.PopulationLaws.{counts_after, population_is, population_at_is, counts_after_gate, counts_after_void}

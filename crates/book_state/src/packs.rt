@@ -13,12 +13,14 @@ ghost use Rattle.book_words.specs.Refusals as rules;
 ghost use Rattle.book_words.specs.Answers.{IsLegal};
 ghost use Rattle.book_index.specs.Listed as listed;
 ghost use Rattle.book_packs.specs.Densities.{limits_at};
+ghost use Rattle.book_packs.specs.Told.{piles_told, met_at};
 ghost use Rattle.book_state.specs.Told as told;
 
 use crate::state::State;
-use crate::types::{AtWeighing, KnownPack};
+use crate::types::KnownPack;
 use annex_tables::Limits;
 use batch_sums::{Pack, Piles, Totals};
+use book_packs::AtWeighing;
 use book_words::{Act, Name, Prior};
 use hall_limits::MAX_LANE;
 use pack_judge::Signal;
@@ -138,7 +140,7 @@ impl State {
 
     /// The tallies of the four piles of the whole hall. It takes no memory and no walk.
     pub fn piles(&self) -> Piles
-        ensures { result ≡ told.piles_told self.now.entries }
+        ensures { result ≡ piles_told self.now.entries }
     {
         self.packs.piles()
     }
@@ -147,8 +149,7 @@ impl State {
     pub fn met(&self, lane: u8, gross: i64, prior: Prior, batch: &Name) -> AtWeighing
         requires lane { acts.lane_batch self.now.entries lane ≡ Some batch.now }
         requires free { rules.prior_wrong self.now.entries lane prior ≡ None }
-        ensures value { result
-            ≡ told.met_at self.now.entries (act.Weigh lane gross prior) batch.now }
+        ensures value { result ≡ met_at self.now.entries (act.Weigh lane gross prior) batch.now }
         ensures few { (result.population ≤ MAX_POPULATION)
             × (result.nonstandard ≤ result.population) }
     {
@@ -156,12 +157,7 @@ impl State {
         let Some(number) = self.index.batch_number(batch) else {
             unreachable!()
         };
-        let met = self.packs.totals_at(lane, prior, number);
-        AtWeighing {
-            population: met.population,
-            nonstandard: met.nonstandard,
-            inadequate: met.inadequate,
-        }
+        self.packs.totals_at(lane, prior, number)
     }
 
     /// The first closed batch, in order of opening, of which a tare gives a reading another one.

@@ -6,7 +6,7 @@ ghost use Rattle.book_words.specs.Acts.{product_of};
 ghost use Rattle.book_words.specs.Population.{population};
 ghost use Rattle.book_words.specs.Samples as samples;
 ghost use Rattle.book_words.specs.Verdicts as verdicts;
-ghost use Rattle.book_state.specs.Told.{totals_told};
+ghost use Rattle.book_packs.specs.Told.{totals_told};
 ghost use Rattle.book_state.specs.Prepared.{IsSampleOf};
 
 use crate::contents::{count_defective, sum_contents};

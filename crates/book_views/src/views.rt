@@ -7,7 +7,7 @@ ghost use Rattle.book_words.specs.Classes.{class_in_batch};
 ghost use Rattle.book_words.specs.Verdicts.{second_packs};
 ghost use Rattle.book_words.specs.Views as told;
 ghost use Rattle.book_words.specs.Answers.{IsLegal};
-ghost use Rattle.book_state.specs.Told.{totals_told};
+ghost use Rattle.book_packs.specs.Told.{totals_told};
 ghost use Rattle.book_state.specs.Prepared.{IsSampleOf};
 ghost use Rattle.book_views.specs.Terms.{HasTerms};
 

@@ -4,7 +4,7 @@ use Rattle.book_words.specs.Acts.{newest_day}
 use Rattle.book_words.specs.Readings.{net_of_gross}
 use Rattle.pack_judge.specs.Judge.{signal_of}
 use Rattle.book_words.specs.declared.act.Act.TheVariants.{Weigh}
-use Rattle.book_state.specs.Told.{met_at}
+use Rattle.book_packs.specs.Told.{met_at}
 use Rattle.book_views.proofs.Known.{never_unmapped, told_limits}
 use Rattle.book_rules.proofs.Judging.{judged}
 use Rattle.book_rules.proofs.signals.judge.Goals as goal
