@@ -384,7 +384,7 @@ nets_within entries (reading ∷ some) all each =
 
 -- ---- what questions are told
 
-error_within : (quantity : ℕ) → quantity ≤ 10000000 → error_of quantity ≤ 10000000
+error_within : (quantity : ℕ) → quantity ≤ unsigned_abs MAX_NOMINAL → error_of quantity ≤ unsigned_abs MAX_NOMINAL
 error_within quantity h = grind (arith, nat_tests)
 
 -- the error is within the range of nominal quantities

@@ -1,13 +1,11 @@
 ghost use Rattle.std.specs.Prelude.{◌≡◌, ◌≤◌, ◌≤ℤ◌, true, is_some};
 ghost use Rattle.hall_limits.specs.declared.TheConstants.{MIN_NOMINAL, MAX_NOMINAL, MIN_DENSITY, MAX_DENSITY};
 ghost use Rattle.book_words.specs.Acts.{product_of};
-ghost use Rattle.book_words.specs.Classes.{UNIT_DENSITY, nominal_of_batch, density_of_batch};
+ghost use Rattle.book_words.specs.Classes.{nominal_of_batch, density_of_batch};
 
+use book_packs::UNIT_DENSITY;
 use book_state::State;
 use book_words::{Name, Unit};
-
-/// The density at which a mass in mg and a volume in microlitres are one number, in mg a litre.
-pub const UNIT_DENSITY: u32 = 1_000_000;
 
 /// The nominal quantity of a batch that is there, in mg or microlitres by its unit.
 pub fn nominal_of_batch(state: &State, batch: &Name) -> i64

@@ -6,13 +6,15 @@ ghost use Rattle.book_words.specs.Acts.{product_of};
 ghost use Rattle.book_words.specs.Population.{population};
 ghost use Rattle.book_words.specs.Samples as samples;
 ghost use Rattle.book_words.specs.Verdicts as verdicts;
+ghost use Rattle.book_packs.specs.declared.densities.TheConstants.{UNIT_DENSITY};
 ghost use Rattle.book_packs.specs.Told.{totals_told};
 ghost use Rattle.book_state.specs.Prepared.{IsSampleOf};
 
 use crate::contents::{count_defective, sum_contents};
-use crate::limits::{UNIT_DENSITY, density_of_batch, nominal_of_batch};
+use crate::limits::{density_of_batch, nominal_of_batch};
 use annex_tables::Plan;
 use batch_sums::Totals;
+use book_packs::UNIT_DENSITY;
 use book_samples::Sample;
 use book_state::State;
 use book_words::{Fails, Name, Verdict};
@@ -84,7 +86,8 @@ fn mean_accepts(state: &State, batch: &Name, sample: &Sample) -> bool
 fn is_reached(population: u32, density: u32, nominal: i64, net: i64) -> bool
     requires least { MIN_NOMINAL ≤ℤ nominal }
     requires greatest { nominal ≤ℤ MAX_NOMINAL }
-    ensures { result ≡ int_le (pos population *ℤ pos density *ℤ nominal) (pos 1000000 *ℤ net) }
+    ensures { result ≡ int_le (pos population *ℤ pos density *ℤ nominal)
+        (pos UNIT_DENSITY *ℤ net) }
 {
     let wanted = i128::from(population) * i128::from(density) * i128::from(nominal);
     wanted <= i128::from(UNIT_DENSITY) * i128::from(net)

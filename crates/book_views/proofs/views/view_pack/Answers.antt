@@ -1,5 +1,6 @@
 use Rattle.std.proofs.Common.{rules, sym, ◌∙◌, ap, refl, arith, lit<, Some, option_map, ◌≤◌, unsigned_abs, FitsSigned, w32, w64}
 use Rattle.std.proofs.lemmas.Int.{ints, to_z-of_z}
+use Rattle.hall_limits.specs.declared.TheConstants.{MAX_GROSS, MAX_TARE}
 use Rattle.reference_test.proofs.Computed.{computes_read, computes_difference}
 use Rattle.book_words.specs.Acts.{product_of}
 use Rattle.book_words.specs.Classes.{class_in_batch}
@@ -23,10 +24,10 @@ returns-clause-view c =
     let product = c.in_ok-product.product in
     let weighed = c.in_ok-known.ensures.gross in
     let light = c.in_ok-known.ensures.tare in
-    let near : unsigned_abs known.gross ≤ 30000000 = omega (arith, ints, weighed.0, weighed.1) in
-    let less : unsigned_abs known.tare ≤ 5000000 = omega (arith, ints, light.0, light.1) in
-    let gross = computes_read w64 known.gross known.gross 30000000 (lit< tt) refl near in
-    let tare = computes_read w64 known.tare known.tare 5000000 (lit< tt) refl less in
+    let near : unsigned_abs known.gross ≤ unsigned_abs MAX_GROSS = omega (arith, ints, weighed.0, weighed.1) in
+    let less : unsigned_abs known.tare ≤ unsigned_abs MAX_TARE = omega (arith, ints, light.0, light.1) in
+    let gross = computes_read w64 known.gross known.gross (unsigned_abs MAX_GROSS) (lit< tt) refl near in
+    let tare = computes_read w64 known.tare known.tare (unsigned_abs MAX_TARE) (lit< tt) refl less in
     let net = computes_difference w64 (lit< tt) gross tare in
     let days : FitsSigned w32 known.day = search rules in
     let day = to_z-of_z w32 known.day days in
