@@ -121,7 +121,8 @@ module _ {A B : Type 0} (Q : B → Type 0) (P : A → Type 0) where
   mapped_has f None there h = tt
   mapped_has f (Some x) there h = h x there
 
-fewer : {A : Type 0} (test : A → Bool) (xs : List A) → length (filter test xs) ≤ length xs
+-- there are no more of some things that meet a test than there are
+pub fewer : {A : Type 0} (test : A → Bool) (xs : List A) → length (filter test xs) ≤ length xs
 fewer test [] = omega arith
 fewer test (x ∷ xs) = either (test x) (fewer test xs)
   where

@@ -1,5 +1,5 @@
 -- The four piles of some readings are all of them.
-use Rattle.std.proofs.Common.{◌≡◌, ◌+◌, ◌+ℤ◌, ◌≤◌, Bool, true, false, cond, List, [], ◌∷◌, length, filter, refl, sym, arith}
+use Rattle.std.proofs.Common.{◌≡◌, ◌+◌, ◌+ℤ◌, cond, List, [], ◌∷◌, length, refl, sym, arith}
 use Rattle.std.proofs.lemmas.Int.{ints}
 use Rattle.pack_judge.specs.declared.types.Pile.{Pile}
 use Rattle.pack_judge.specs.declared.types.Pile.TheVariants.{Passed, Rejected, Sampled, Voided}
@@ -11,7 +11,7 @@ use Rattle.book_words.specs.Population.{same_pile, readings_of_batch}
 use Rattle.book_words.specs.Piles.{pile_of, in_pile, gross_sum, tally}
 use Rattle.book_words.specs.Balance.{AddUp}
 use Rattle.book_words.specs.Answers.{IsLegal}
-use Rattle.book_laws.proofs.RangeLaws.{readings_few, batch_readings_few, piles_within, batch_piles_within}
+use Rattle.book_laws.proofs.RangeLaws.{fewer, readings_few, batch_readings_few, piles_within, batch_piles_within}
 use Rattle.book_views.specs.Tallies.{IsTally, all_of}
 
 adds_up : (entries : List Entry) (some : List Reading) → AddUp entries some
@@ -47,14 +47,6 @@ pub tally_of_piles : (entries : List Entry) (some : List Reading)
     → all_of (tally (in_pile entries Passed some)) (tally (in_pile entries Rejected some)) (tally (in_pile entries Sampled some)) (tally (in_pile entries Voided some)) ≡ tally some
 tally_of_piles entries some i =
     record { count = sym (adds_up entries some).count i; gross = sym (adds_up entries some).gross i }
-
-fewer : (test : Reading → Bool) (some : List Reading) → length (filter test some) ≤ length some
-fewer test [] = omega arith
-fewer test (reading ∷ some) = step (test reading) (fewer test some)
-  where
-    step : (b : Bool) → length (filter test some) ≤ length some → length (cond b (reading ∷ filter test some) (filter test some)) ≤ length (reading ∷ some)
-    step true h = omega (arith, h)
-    step false h = omega (arith, h)
 
 -- each pile of a batch has a tally as it can be
 pub batch_tally : (entries : List Entry) (batch : Name) (pile : Pile) → IsLegal entries → IsTally (tally (in_pile entries pile (readings_of_batch entries batch)))
