@@ -49,14 +49,25 @@ fn each_call_fails(rt: HostRuntime) -> Result<(), Fail> {
     Ok(())
 }
 
+// Where one call fails at least one more is made, so that each of these second calls is made.
+fn check_pairs(
+    rt: &impl Abort,
+    alloc: Global,
+    first: u32,
+    entries: &[Entry],
+) -> Result<(), AllocError> {
+    for second in first.saturating_add(1)..=CALLS + 1 {
+        check_run(rt, alloc, vec![in alloc; first, second]?, 2, entries)?;
+    }
+    Ok(())
+}
+
 // What is asked again begins with the call behind the one that failed.
 #[test]
 fn each_pair_of_calls_fails(rt: HostRuntime) -> Result<(), Fail> {
-    let alloc = rt.alloc();
     let entries = long_run()?;
-    for call in 1..=CALLS {
-        let next = call.saturating_add(1);
-        check_run(&rt, alloc, vec![in alloc; call, next]?, 2, &entries)?;
+    for first in 1..=CALLS {
+        check_pairs(&rt, rt.alloc(), first, &entries)?;
     }
     Ok(())
 }
