@@ -2,8 +2,7 @@
 use Rattle.std.specs.Prelude.{◌≡◌, ◌≢◌, ℕ, zero, suc, ◌+◌, ◌<◌, ◌≤◌, Bool, ◌&&◌, ◌==◌, nat_le, if◌then◌else◌, List, [], ◌∷◌, codes, length, take, drop, slice_index}
 use Rattle.std.specs.List.{AllByRecursion}
 use Rattle.book_words.specs.declared.act.Entry.{Entry}
-use Rattle.book_snapshot.specs.declared.layout.TheConstants.{OLD_ROW_BYTES, OPEN}
-use Rattle.old_journal.specs.declared.types.TheConstants.{MARK}
+use Rattle.book_snapshot.specs.declared.layout.TheConstants.{MARK, OLD_ROW_BYTES, OPEN}
 use Rattle.row_format.specs.Spelling.{old_layout, row_bytes}
 use Rattle.row_format.specs.Rows.{CanBeSpelled}
 

@@ -2,8 +2,7 @@
 use Rattle.std.specs.Prelude.{◌≡◌, ℕ, zero, suc, ◌+◌, ◌-◌, ◌<◌, Bool, true, false, ◌&&◌, ◌||◌, ◌==◌, nat_lt, if◌then◌else◌, List, [], ◌∷◌, ◌++◌, length, drop, replicate, slice_index}
 use Rattle.device_facts.specs.Prefix.{IsPrefixOf}
 use Rattle.book_words.specs.declared.act.Entry.{Entry}
-use Rattle.book_snapshot.specs.declared.layout.TheConstants.{OLD_ROW_BYTES}
-use Rattle.old_journal.specs.declared.types.TheConstants.{MARK}
+use Rattle.book_snapshot.specs.declared.layout.TheConstants.{MARK, OLD_ROW_BYTES}
 use Rattle.row_format.specs.Spelling.{old_layout}
 use Rattle.row_format.specs.Rows.{Spells}
 use Rattle.old_journal.specs.declared.types.Stage.{Stage}
