@@ -6,7 +6,7 @@ use std::alloc::{AllocError, Global};
 use std::process::Abort;
 use std::test::Fail;
 
-// How far the second calls that fail are apart: an act makes four, so that each of its calls is met.
+// How far the second calls that fail are apart: an act makes four, so that each of them is met.
 const STEP: u32 = 3;
 
 // The disk of a run that is over holds each act once, whatever a crash then leaves of it.

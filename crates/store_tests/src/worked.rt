@@ -150,8 +150,8 @@ fn mount_many(
     Ok(used)
 }
 
-// 4 096 bytes, and as many for each of the three calls that the content takes, are 16 384; 663 slots
-// of 96 bytes are 63 648.
+// 4 096 bytes, and as many for each of the three calls that the content takes, are 16 384; 663
+// slots of 96 bytes are 63 648.
 #[test]
 fn many_rows_are_mounted_by_few_calls(rt: HostRuntime) -> Result<(), Fail> {
     let alloc = rt.alloc();
