@@ -1,18 +1,14 @@
 //! Asks that are mostly accepted: they lead one batch after the other from its opening to its
 //! verdict, and sometimes ask for what comes too early or too late.
 
-use crate::book::PlainBook;
-use crate::drawn_acts::{Draws, NOMINALS, Names};
-use crate::entries::{
-    lane_batch, newest_day, opening_of, product_named, state_of, tare_of_product, unsettled_of,
-};
-use crate::measures::{first_unmeasured, measured_count};
-use crate::packs::{Bounds, bounds_of, pack_of, population, tare_of_pack};
-use crate::samples::{Sample, sample_of};
-use crate::verdicts::{defectives, is_open};
+use crate::drawn_acts::{Draws, NOMINALS};
 use annex_tables::Mode;
-use book_core::NoMemory;
-use book_words::{Act, Ask, BatchState, Entry, Name, Unit, Want};
+use book_words::{Act, Ask, BatchState, Entry, Name, Unit};
+use plain_book::{
+    Bounds, NoMemory, PlainBook, Sample, bounds_of, defectives, first_unmeasured, is_open,
+    lane_batch, measured_count, newest_day, opening_of, pack_of, population, product_named,
+    sample_of, state_of, tare_of_pack, tare_of_product, unsettled_of,
+};
 use std::alloc::Global;
 
 // How many weighings each batch but the first gets.
@@ -22,7 +18,7 @@ const SIZES: [u32; 4] = [1, 6, 20, 45];
 const DENSITIES: [u32; 4] = [500_000, 917_431, 1_030_000, 2_000_000];
 
 // In mg: the tare that each product begins with, and corrections.
-const TARES: [i64; 6] = [10_000, 10_000, 10_001, 9_500, 12_000, 19_000];
+const TARES: [i64; 6] = [10_000, 10_000, 10_001, 9_500, 19_000, 40_000];
 
 // How many packs of a sample are to be defective, where there are many and where there are few.
 const LOWS_OF_MANY: [u32; 8] = [0, 1, 2, 2, 2, 2, 2, 3];
@@ -45,42 +41,43 @@ fn lane_with(entries: &[Entry], batch: Name) -> u8 {
     0
 }
 
+// The tare in mg of the product of a batch on the newest day.
+fn tare_now(entries: &[Entry], batch: Name) -> Option<i64> {
+    let product = opening_of(entries, batch)?.product;
+    tare_of_product(entries, product, newest_day(entries)?)
+}
+
 impl Draws {
-    // A gross in mg of a pack of a batch, whose tare is this now.
-    fn gross(&mut self, bounds: &Bounds, tare: i64) -> i64 {
-        let around = self.quantity(3).saturating_sub(1);
-        let quantity = if self.filling == 2 {
-            bounds.t1.saturating_add(self.quantity(400))
-        } else if self.rough {
-            match self.below(8) {
+    // The quantity that is meant for a pack of a batch that runs.
+    fn aim(&mut self, bounds: &Bounds) -> i64 {
+        let near = self.quantity(2_000);
+        let far = self.quantity(bounds.nominal);
+        let kind = self.below(8);
+        if self.filling == 2 {
+            bounds.t1.saturating_add(near % 400)
+        } else if !self.rough {
+            bounds.nominal.saturating_add(near)
+        } else {
+            match kind {
                 0 => bounds.t1,
                 1 => bounds.t2,
-                2 | 3 => bounds.t1.saturating_add(self.quantity(2_000)),
-                _ => bounds.nominal.saturating_add(self.quantity(bounds.nominal)),
+                2 | 3 => bounds.t1.saturating_add(near),
+                _ => bounds.nominal.saturating_add(far),
             }
-        } else {
-            bounds.nominal.saturating_add(self.quantity(3_000))
-        };
-        let mass = mass_of(bounds, quantity);
-        mass.saturating_add(tare).saturating_add(around)
-    }
-
-    // The tare in mg of the product of a batch on the newest day.
-    fn tare_now(&mut self, entries: &[Entry], batch: Name) -> Option<i64> {
-        let product = opening_of(entries, batch)?.product;
-        tare_of_product(entries, product, newest_day(entries)?)
+        }
     }
 
     // A weighing on a lane of a batch that runs on it.
     fn weigh(&mut self, entries: &[Entry], lane: u8, batch: Name) -> Act {
-        let tare = self.tare_now(entries, batch).unwrap_or(0);
-        let gross = match bounds_of(entries, batch) {
-            Some(bounds) => self.gross(&bounds, tare),
+        let tare = tare_now(entries, batch).unwrap_or(0);
+        let around = self.quantity(3).saturating_sub(1);
+        let mass = match bounds_of(entries, batch) {
+            Some(bounds) => mass_of(&bounds, self.aim(&bounds)),
             None => 0,
         };
         Act::Weigh {
             lane,
-            gross,
+            gross: mass.saturating_add(tare).saturating_add(around),
             prior: self.prior(entries, lane),
         }
     }
@@ -98,8 +95,12 @@ impl Draws {
     fn correct(&mut self, entries: &[Entry], batch: Name) -> Act {
         let back = if self.one_of(4) { 1 } else { 0 };
         let day = newest_day(entries).unwrap_or(0).saturating_sub(back);
+        let product = match opening_of(entries, batch) {
+            Some(opening) => opening.product,
+            None => batch,
+        };
         Act::PutTare {
-            product: opening_of(entries, batch).map_or(batch, |opening| opening.product),
+            product,
             day,
             tare: TARES[self.below(6)],
         }
@@ -108,29 +109,21 @@ impl Draws {
     // A void of a pack: of the unsettled one of a lane, or any.
     fn take_back(&mut self, entries: &[Entry]) -> Act {
         let any = self.row(entries);
-        let unsettled = unsettled_of(entries, 1);
+        let unsettled = unsettled_of(entries, 1).unwrap_or(any);
         Act::Void {
-            pack: if self.one_of(2) {
-                unsettled.unwrap_or(any)
-            } else {
-                any
-            },
+            pack: if self.one_of(2) { unsettled } else { any },
         }
     }
 
     // What a product needs before a batch of it is opened, and then its opening.
-    fn before_opening(&mut self, names: &Names, entries: &[Entry], batch: Name) -> Act {
-        let name = names.products[self.place % 3];
+    fn before_opening(&mut self, entries: &[Entry], batch: Name) -> Act {
+        let name = self.names.products[self.place % 3];
         let day = newest_day(entries).unwrap_or(0);
         let Some(product) = product_named(entries, name) else {
             return Act::PutProduct {
                 name,
                 nominal: NOMINALS[self.below(12)],
-                unit: if self.one_of(2) {
-                    Unit::Mass
-                } else {
-                    Unit::Volume
-                },
+                unit: self.unit(),
             };
         };
         if tare_of_product(entries, name, day).is_none() && !self.one_of(8) {
@@ -167,52 +160,47 @@ impl Draws {
         }
     }
 
+    // Most times a weighing; sometimes a day, a void or another tare.
+    fn next_weighing(&mut self, entries: &[Entry], batch: Name) -> Act {
+        let has_tare = tare_now(entries, batch).is_some();
+        match self.below(24) {
+            0 | 1 if self.rough => self.correct(entries, batch),
+            2 => {
+                self.day = self.day.saturating_add(1);
+                Act::NewDay { day: self.day }
+            }
+            3 => self.take_back(entries),
+            4..=9 if !has_tare => self.correct(entries, batch),
+            _ => self.on_lane(entries, batch),
+        }
+    }
+
     // A batch that runs is weighed so often as is meant, and then its lanes stop and it ends.
     fn while_running(&mut self, entries: &[Entry], batch: Name) -> Act {
         if self.left > 0 {
             self.left = self.left.saturating_sub(1);
-            let has_tare = self.tare_now(entries, batch).is_some();
-            return match self.below(24) {
-                0 | 1 if self.rough => self.correct(entries, batch),
-                2 => self.new_day(),
-                3 => self.take_back(entries),
-                4..=9 if !has_tare => self.correct(entries, batch),
-                _ => self.on_lane(entries, batch),
-            };
+            return self.next_weighing(entries, batch);
         }
         let lane = lane_with(entries, batch);
         if lane == 0 || self.one_of(8) {
-            Act::EndRun { batch }
-        } else {
-            Act::StopLane {
-                lane,
-                prior: self.prior(entries, lane),
-            }
+            return Act::EndRun { batch };
         }
-    }
-
-    fn new_day(&mut self) -> Act {
-        self.day = self.day.saturating_add(1);
-        Act::NewDay { day: self.day }
+        Act::StopLane {
+            lane,
+            prior: self.prior(entries, lane),
+        }
     }
 
     // A batch that has ended is drawn from, or closed where it is empty.
-    fn when_ended(
-        &mut self,
-        alloc: Global,
-        entries: &[Entry],
-        batch: Name,
-    ) -> Result<Act, NoMemory> {
-        let is_empty = population(alloc, entries, batch)?.is_empty();
-        let is_early = self.one_of(8);
-        if is_empty == is_early {
-            return Ok(Act::Draw {
-                batch,
-                mode: self.mode(),
-                word: u64::from(self.byte()),
-            });
+    fn when_ended(&mut self, batch: Name, is_empty: bool) -> Act {
+        if is_empty != self.one_of(8) {
+            return Act::Close { batch };
         }
-        Ok(Act::Close { batch })
+        Act::Draw {
+            batch,
+            mode: self.mode(),
+            word: self.number(),
+        }
     }
 
     // The contents in mg that a pack of a sample is to have: defective, or as the batch is filled.
@@ -232,7 +220,7 @@ impl Draws {
         }
     }
 
-    // A measurement of a pack.
+    // A measurement of a pack, which is to be defective or not.
     fn measure(
         &mut self,
         entries: &[Entry],
@@ -242,19 +230,18 @@ impl Draws {
         is_low: bool,
     ) -> Act {
         let contents = self.contents(bounds, is_low);
-        let tare = pack_of(entries, pack).and_then(|known| tare_of_pack(entries, &known));
-        let empty = self.quantity(20_000);
-        match mode {
-            Mode::Keep => Act::Measure {
-                pack,
-                gross: contents.saturating_add(tare.unwrap_or(0)),
-                empty: 0,
-            },
-            Mode::Destroy => Act::Measure {
-                pack,
-                gross: contents.saturating_add(empty),
-                empty,
-            },
+        let known = pack_of(entries, pack);
+        let tare = match &known {
+            Some(known) => tare_of_pack(entries, known).unwrap_or(0),
+            None => 0,
+        };
+        let drawn = self.quantity(20_000);
+        let empty = if mode == Mode::Keep { 0 } else { drawn };
+        let around = if mode == Mode::Keep { tare } else { drawn };
+        Act::Measure {
+            pack,
+            gross: contents.saturating_add(around),
+            empty,
         }
     }
 
@@ -266,6 +253,7 @@ impl Draws {
         bounds: &Bounds,
         sample: &Sample,
     ) -> Act {
+        let second = &sample.second;
         if let Some(pack) = first_unmeasured(entries, &sample.first) {
             let is_low = measured_count(entries, &sample.first) < self.low;
             return self.measure(entries, bounds, sample.mode, pack, is_low);
@@ -274,22 +262,15 @@ impl Draws {
         if !is_open(&sample.plan, d1) {
             return Act::Close { batch };
         }
-        let second = sample.second_packs();
-        match first_unmeasured(entries, second) {
-            Some(pack) => {
-                let is_low = measured_count(entries, second) < self.second_low;
-                self.measure(entries, bounds, sample.mode, pack, is_low)
-            }
-            None if sample.second.is_none() && !self.one_of(2) => self.second_draw(batch),
-            None => Act::Close { batch },
+        if let Some(pack) = first_unmeasured(entries, second) {
+            let is_low = measured_count(entries, second) < self.second_low;
+            return self.measure(entries, bounds, sample.mode, pack, is_low);
         }
-    }
-
-    fn second_draw(&mut self, batch: Name) -> Act {
-        Act::DrawSecond {
-            batch,
-            word: u64::from(self.byte()),
+        if sample.has_second || self.one_of(2) {
+            return Act::Close { batch };
         }
+        let word = self.number();
+        Act::DrawSecond { batch, word }
     }
 
     // What comes too early or too late for a sample, or changes what it needs.
@@ -301,37 +282,32 @@ impl Draws {
         sample: &Sample,
     ) -> Act {
         let any = self.row(entries);
+        let word = self.number();
         let place = self.below(20);
         let drawn = sample.first.get(place).copied().unwrap_or(0);
-        let drawn = u32::try_from(drawn).unwrap_or(0);
+        let pack = u32::try_from(drawn).unwrap_or(0);
         match self.below(6) {
-            0 => self.second_draw(batch),
+            0 => Act::DrawSecond { batch, word },
             1 => Act::Close { batch },
             2 => self.measure(entries, bounds, sample.mode, any, false),
             3 => self.correct(entries, batch),
             4 => Act::Measure {
-                pack: drawn,
+                pack,
                 gross: 0,
                 empty: 1,
             },
-            _ => self.measure(entries, bounds, sample.mode, drawn, false),
+            _ => self.measure(entries, bounds, sample.mode, pack, false),
         }
     }
 
     // A batch that was drawn from is measured and closed.
-    fn when_drawn(
-        &mut self,
-        alloc: Global,
-        entries: &[Entry],
-        batch: Name,
-    ) -> Result<Act, NoMemory> {
-        let sample = sample_of(alloc, entries, batch)?;
-        match (bounds_of(entries, batch), &sample) {
+    fn when_drawn(&mut self, entries: &[Entry], batch: Name, sample: &Option<Sample>) -> Act {
+        match (bounds_of(entries, batch), sample) {
             (Some(bounds), Some(sample)) if self.one_of(10) => {
-                Ok(self.odd_step(entries, batch, &bounds, sample))
+                self.odd_step(entries, batch, &bounds, sample)
             }
-            (Some(bounds), Some(sample)) => Ok(self.next_step(entries, batch, &bounds, sample)),
-            _ => Ok(Act::Close { batch }),
+            (Some(bounds), Some(sample)) => self.next_step(entries, batch, &bounds, sample),
+            _ => Act::Close { batch },
         }
     }
 
@@ -344,34 +320,30 @@ impl Draws {
     }
 
     // The act that comes next.
-    fn likely_act(
-        &mut self,
-        alloc: Global,
-        names: &Names,
-        entries: &[Entry],
-    ) -> Result<Act, NoMemory> {
-        let batch = names.batches[self.place % 7];
+    fn likely_act(&mut self, alloc: Global, entries: &[Entry]) -> Result<Act, NoMemory> {
+        let batch = self.names.batches[self.place % 7];
         if newest_day(entries).is_none() {
             return Ok(Act::NewDay { day: self.day });
         }
         match state_of(entries, batch) {
-            None => Ok(self.before_opening(names, entries, batch)),
+            None => Ok(self.before_opening(entries, batch)),
             Some(BatchState::Running) => Ok(self.while_running(entries, batch)),
-            Some(BatchState::Ended) => self.when_ended(alloc, entries, batch),
-            Some(BatchState::Drawn) => self.when_drawn(alloc, entries, batch),
+            Some(BatchState::Ended) => {
+                let is_empty = population(alloc, entries, batch)?.is_empty();
+                Ok(self.when_ended(batch, is_empty))
+            }
+            Some(BatchState::Drawn) => {
+                let sample = sample_of(alloc, entries, batch)?;
+                Ok(self.when_drawn(entries, batch, &sample))
+            }
             Some(BatchState::Closed) => Ok(self.when_closed(entries, batch)),
         }
     }
 
     /// The next ask, for a book as it stands.
-    pub fn ask(
-        &mut self,
-        alloc: Global,
-        names: &Names,
-        plain: &PlainBook,
-    ) -> Result<Ask, NoMemory> {
+    pub fn ask(&mut self, alloc: Global, plain: &PlainBook) -> Result<Ask, NoMemory> {
         let entries = plain.entries();
-        let any = self.any_act(names, entries);
+        let any = self.any_act(entries);
         if entries.is_empty() && self.one_of(2) {
             return Ok(self.by_any_desk(entries, any));
         }
@@ -379,13 +351,9 @@ impl Draws {
             0 => Ok(self.by_any_desk(entries, any)),
             1 => Ok(self.by_good_desk(entries, any)),
             2 | 3 => Ok(self.once_more(entries)),
-            4 => Ok(Ask {
-                desk: 0,
-                request: 0,
-                want: Want::Question(self.any_question(names, entries)),
-            }),
+            4 => Ok(self.any_question(entries)),
             _ => {
-                let act = self.likely_act(alloc, names, entries)?;
+                let act = self.likely_act(alloc, entries)?;
                 Ok(self.by_good_desk(entries, act))
             }
         }

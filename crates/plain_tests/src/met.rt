@@ -1,15 +1,15 @@
 //! What was answered so far, counted.
 
-use crate::taken::Taken;
+use crate::pair::Taken;
 use annex_tables::Mode;
 use book_core::BookError;
 use book_words::{Act, Answered, Ask, Fails, Reply, Verdict, Want};
 use pack_judge::{Cause, Signal};
 
 /// How often each kind of answer came.
-#[derive(Clone, Copy, Debug, PartialEq, Eq)]
+#[derive(Clone, Copy, Debug)]
 pub struct Met {
-    /// By the number of the refusal.
+    /// By the number of the refusal, from 1 on.
     pub refusals: [u32; 36],
     /// Pass, and the rejects but for a full population: held, inadequate, allowance.
     pub signals: [u32; 4],
@@ -25,15 +25,43 @@ pub struct Met {
     pub draws: [u32; 3],
 }
 
+// Counts one at a place; at a place behind the end nothing.
 fn count(counts: &mut [u32], place: usize) {
     if let Some(count) = counts.get_mut(place) {
         *count = count.saturating_add(1);
     }
 }
 
-fn count_if(counts: &mut [u32], place: usize, test: bool) {
-    if test {
-        count(counts, place);
+// A place behind the end of all counts.
+const NOWHERE: usize = 99;
+
+fn place_of_signal(signal: &Signal) -> usize {
+    match signal {
+        Signal::Pass => 0,
+        Signal::Reject(Cause::Held) => 1,
+        Signal::Reject(Cause::Inadequate) => 2,
+        Signal::Reject(Cause::Allowance) => 3,
+        Signal::Reject(Cause::Full) => NOWHERE,
+    }
+}
+
+fn place_of_draw(act: &Act) -> usize {
+    match act {
+        Act::Draw { mode, .. } if *mode == Mode::Keep => 0,
+        Act::Draw { .. } => 1,
+        Act::DrawSecond { .. } => 2,
+        _ => NOWHERE,
+    }
+}
+
+fn place_of_view(reply: &Reply) -> usize {
+    match reply {
+        Reply::SheetIs(_) => 0,
+        Reply::PackIs(_) => 1,
+        Reply::LaneIs(_) => 2,
+        Reply::SampleIs(_) => 3,
+        Reply::SummaryIs(_) => 4,
+        _ => NOWHERE,
     }
 }
 
@@ -51,22 +79,17 @@ impl Met {
         }
     }
 
-    fn note_signal(&mut self, signal: Signal) {
-        match signal {
-            Signal::Pass => count(&mut self.signals, 0),
-            Signal::Reject(Cause::Held) => count(&mut self.signals, 1),
-            Signal::Reject(Cause::Inadequate) => count(&mut self.signals, 2),
-            Signal::Reject(Cause::Allowance) => count(&mut self.signals, 3),
-            Signal::Reject(Cause::Full) => {}
-        }
-    }
-
     fn note_fails(&mut self, fails: &Fails) {
-        count_if(&mut self.fails, 0, fails.contents);
-        count_if(&mut self.fails, 1, fails.mean);
-        count_if(&mut self.fails, 2, fails.average);
-        count_if(&mut self.fails, 3, fails.allowance);
-        count_if(&mut self.fails, 4, fails.inadequate);
+        let parts = [
+            fails.contents,
+            fails.mean,
+            fails.average,
+            fails.allowance,
+            fails.inadequate,
+        ];
+        for (place, part) in parts.iter().enumerate() {
+            count(&mut self.fails, if *part { place } else { NOWHERE });
+        }
     }
 
     fn note_verdict(&mut self, verdict: &Verdict) {
@@ -80,48 +103,24 @@ impl Met {
         }
     }
 
-    fn note_draw(&mut self, act: &Act) {
-        match act {
-            Act::Draw { mode, .. } if *mode == Mode::Keep => count(&mut self.draws, 0),
-            Act::Draw { .. } => count(&mut self.draws, 1),
-            Act::DrawSecond { .. } => count(&mut self.draws, 2),
-            _ => {}
-        }
-    }
-
     // The reply to an act that made a new row.
     fn note_new(&mut self, act: &Act, reply: &Reply) {
-        self.note_draw(act);
+        count(&mut self.draws, place_of_draw(act));
         match reply {
-            Reply::Judged { signal, .. } => self.note_signal(*signal),
+            Reply::Judged { signal, .. } => count(&mut self.signals, place_of_signal(signal)),
             Reply::Closed { verdict, .. } => self.note_verdict(verdict),
             _ => {}
         }
     }
 
-    fn note_repeat(&mut self, reply: &Reply) {
-        match reply {
-            Reply::Closed { .. } => count(&mut self.repeats, 0),
-            _ => count(&mut self.repeats, 1),
-        }
-    }
-
-    fn note_view(&mut self, reply: &Reply) {
-        match reply {
-            Reply::SheetIs(_) => count(&mut self.views, 0),
-            Reply::PackIs(_) => count(&mut self.views, 1),
-            Reply::LaneIs(_) => count(&mut self.views, 2),
-            Reply::SampleIs(_) => count(&mut self.views, 3),
-            Reply::SummaryIs(_) => count(&mut self.views, 4),
-            _ => {}
-        }
-    }
-
     fn note_answered(&mut self, rows: u32, ask: &Ask, answered: &Answered) {
-        match ask.want {
-            Want::Question(_) => self.note_view(&answered.reply),
-            Want::Act(_) if answered.at == rows => self.note_repeat(&answered.reply),
-            Want::Act(act) => self.note_new(&act, &answered.reply),
+        let is_closing = matches!(answered.reply, Reply::Closed { .. });
+        match &ask.want {
+            Want::Question(_) => count(&mut self.views, place_of_view(&answered.reply)),
+            Want::Act(_) if answered.at == rows => {
+                count(&mut self.repeats, if is_closing { 0 } else { 1 });
+            }
+            Want::Act(act) => self.note_new(act, &answered.reply),
         }
     }
 
@@ -134,5 +133,16 @@ impl Met {
             }
             Err(_) => {}
         }
+    }
+
+    /// Whether each kind came.
+    pub fn is_complete(&self) -> bool {
+        !self.refusals[1..].contains(&0)
+            && !self.signals.contains(&0)
+            && !self.verdicts.contains(&0)
+            && !self.fails.contains(&0)
+            && !self.views.contains(&0)
+            && !self.repeats.contains(&0)
+            && !self.draws.contains(&0)
     }
 }

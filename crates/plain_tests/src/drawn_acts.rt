@@ -2,9 +2,9 @@
 
 ghost use Rattle.std.specs.Prelude.{◌<◌};
 
-use crate::entries::{newest_of_desk, rows, unsettled_of};
 use annex_tables::Mode;
 use book_words::{Act, Ask, Entry, Name, Prior, Question, Unit, Want};
+use plain_book::{is_lane_act, newest_of_desk, unsettled_of};
 use std::fmt;
 
 fn named(bytes: &[u8]) -> Result<Name, fmt::Error> {
@@ -47,6 +47,10 @@ const LANES: [u8; 10] = [1, 1, 1, 2, 2, 2, 3, 3, 0, 17];
 
 const PRIORS: [Prior; 4] = [Prior::Nothing, Prior::Opened, Prior::Stayed, Prior::Unknown];
 
+const UNITS: [Unit; 2] = [Unit::Mass, Unit::Volume];
+
+const MODES: [Mode; 3] = [Mode::Destroy, Mode::Keep, Mode::Keep];
+
 /// In mg or microlitres, in each row of the table of errors. The last two are out of range.
 pub const NOMINALS: [i64; 12] = [
     5_000, 50_000, 50_001, 123_456, 250_000, 250_000, 333_333, 750_000, 1_234_567, 10_000_000,
@@ -67,10 +71,17 @@ const DENSITIES: [u32; 6] = [0, 0, 500_000, 2_000_000, 499_999, 2_000_001];
 // The last two aren't numbers of desks.
 const DESKS: [u16; 6] = [0, 0, 101, 164, 100, 165];
 
+// Days from the one round which days are drawn.
+const SHIFTS: [i32; 12] = [0, 0, 0, 0, 0, 0, -1, -1, 1, 1, -2, 2];
+
+// Days out of range.
+const NO_DAYS: [i32; 2] = [-1, 2_932_897];
+
 /// What is drawn from next: a word of the generator of Knuth's MMIX, a day round which days are
 /// drawn, and what is meant for the batch that comes next.
 #[derive(Drop)]
 pub struct Draws {
+    pub names: Names,
     pub word: u64,
     pub day: i32,
     /// The place of the batch among the names.
@@ -91,8 +102,9 @@ pub struct Draws {
 
 impl Draws {
     /// The draws by a word, from 2025-03-02 on, with so many weighings for the first batch.
-    pub fn begin(word: u64, many: u32) -> Draws {
+    pub fn begin(word: u64, many: u32, names: &Names) -> Draws {
         Draws {
+            names: *names,
             word,
             day: 20_149,
             place: 0,
@@ -105,8 +117,8 @@ impl Draws {
         }
     }
 
-    // The next drawn number.
-    fn number(&mut self) -> u64 {
+    /// The next drawn number, of 31 bits.
+    pub fn number(&mut self) -> u64 {
         self.word = self
             .word
             .wrapping_mul(6_364_136_223_846_793_005)
@@ -122,14 +134,9 @@ impl Draws {
         self.number() as usize % count
     }
 
-    /// A number from 0 to 255.
-    pub fn byte(&mut self) -> u8 {
-        (self.number() % 256) as u8
-    }
-
     /// A quantity from 0 on and below `count`.
     pub fn quantity(&mut self, count: i64) -> i64 {
-        let number = (self.number() % 1_000_000_000) as i64;
+        let number = self.number() as i64;
         if count < 1 { 0 } else { number % count }
     }
 
@@ -140,36 +147,24 @@ impl Draws {
         self.below(count) == 0
     }
 
-    pub fn product(&mut self, names: &Names) -> Name {
-        names.products[self.below(4)]
-    }
-
-    pub fn batch(&mut self, names: &Names) -> Name {
-        names.batches[self.below(8)]
+    pub fn unit(&mut self) -> Unit {
+        UNITS[self.below(2)]
     }
 
     pub fn mode(&mut self) -> Mode {
-        if self.one_of(3) {
-            Mode::Destroy
-        } else {
-            Mode::Keep
-        }
+        MODES[self.below(3)]
     }
 
-    fn lane(&mut self) -> u8 {
-        LANES[self.below(10)]
+    fn batch(&mut self) -> Name {
+        self.names.batches[self.below(8)]
     }
 
     // A day up to two days from the one round which days are drawn, or one out of range.
     fn drawn_day(&mut self) -> i32 {
-        match self.below(12) {
-            0 => -1,
-            1 => 2_932_897,
-            2 | 3 => self.day.saturating_sub(1),
-            4 | 5 => self.day.saturating_add(1),
-            6 => self.day.saturating_sub(2),
-            7 => self.day.saturating_add(2),
-            _ => self.day,
+        if self.one_of(7) {
+            NO_DAYS[self.below(2)]
+        } else {
+            self.day.saturating_add(SHIFTS[self.below(12)])
         }
     }
 
@@ -191,123 +186,113 @@ impl Draws {
     }
 
     // Any act of the office on the day, products, tares and batches.
-    fn any_setup(&mut self, names: &Names) -> Act {
+    fn any_setup(&mut self) -> Act {
+        let name = self.names.products[self.below(4)];
+        let day = self.drawn_day();
         match self.below(4) {
-            0 => Act::NewDay {
-                day: self.drawn_day(),
-            },
+            0 => Act::NewDay { day },
             1 => Act::PutProduct {
-                name: self.product(names),
+                name,
                 nominal: NOMINALS[self.below(12)],
-                unit: if self.one_of(2) {
-                    Unit::Mass
-                } else {
-                    Unit::Volume
-                },
+                unit: self.unit(),
             },
             2 => Act::PutTare {
-                product: self.product(names),
-                day: self.drawn_day(),
+                product: name,
+                day,
                 tare: TARES[self.below(8)],
             },
             _ => Act::OpenBatch {
-                batch: self.batch(names),
-                product: self.product(names),
+                batch: self.batch(),
+                product: name,
                 density: DENSITIES[self.below(6)],
             },
         }
     }
 
     // Any act of a lane.
-    fn any_of_lane(&mut self, names: &Names, entries: &[Entry]) -> Act {
-        let lane = self.lane();
+    fn any_of_lane(&mut self, entries: &[Entry]) -> Act {
+        let lane = LANES[self.below(10)];
+        let prior = self.prior(entries, lane);
         match self.below(3) {
             0 => Act::StartLane {
                 lane,
-                batch: self.batch(names),
+                batch: self.batch(),
             },
             1 => Act::Weigh {
                 lane,
                 gross: GROSSES[self.below(8)],
-                prior: self.prior(entries, lane),
+                prior,
             },
-            _ => Act::StopLane {
-                lane,
-                prior: self.prior(entries, lane),
-            },
+            _ => Act::StopLane { lane, prior },
         }
     }
 
     // Any act of the test of a batch.
-    fn any_of_test(&mut self, names: &Names, entries: &[Entry]) -> Act {
-        let batch = self.batch(names);
+    fn any_of_test(&mut self, entries: &[Entry]) -> Act {
+        let batch = self.batch();
+        let pack = self.row(entries);
+        let word = self.number();
         match self.below(6) {
-            0 => Act::Void {
-                pack: self.row(entries),
-            },
+            0 => Act::Void { pack },
             1 => Act::EndRun { batch },
             2 => Act::Draw {
                 batch,
                 mode: self.mode(),
-                word: self.number(),
+                word,
             },
             3 => Act::Measure {
-                pack: self.row(entries),
+                pack,
                 gross: GROSSES[self.below(8)],
                 empty: TARES[self.below(8)],
             },
-            4 => Act::DrawSecond {
-                batch,
-                word: self.number(),
-            },
+            4 => Act::DrawSecond { batch, word },
             _ => Act::Close { batch },
         }
     }
 
     /// Any act.
-    pub fn any_act(&mut self, names: &Names, entries: &[Entry]) -> Act {
+    pub fn any_act(&mut self, entries: &[Entry]) -> Act {
         match self.below(3) {
-            0 => self.any_setup(names),
-            1 => self.any_of_lane(names, entries),
-            _ => self.any_of_test(names, entries),
+            0 => self.any_setup(),
+            1 => self.any_of_lane(entries),
+            _ => self.any_of_test(entries),
         }
     }
 
-    /// Any question.
-    pub fn any_question(&mut self, names: &Names, entries: &[Entry]) -> Question {
-        match self.below(5) {
-            0 => Question::Sheet {
-                batch: self.batch(names),
-            },
+    /// Any question, which nobody's desk asks.
+    pub fn any_question(&mut self, entries: &[Entry]) -> Ask {
+        let batch = self.batch();
+        let question = match self.below(5) {
+            0 => Question::Sheet { batch },
             1 => Question::Pack {
                 pack: self.row(entries),
             },
-            2 => Question::Lane { lane: self.lane() },
-            3 => Question::Sample {
-                batch: self.batch(names),
+            2 => Question::Lane {
+                lane: LANES[self.below(10)],
             },
+            3 => Question::Sample { batch },
             _ => Question::Summary,
+        };
+        Ask {
+            desk: 0,
+            request: 0,
+            want: Want::Question(question),
         }
     }
 
-    // A number round that of the newest request of a desk.
-    fn request(&mut self, entries: &[Entry], desk: u16) -> u32 {
-        let last = newest_of_desk(entries, desk).map_or(0, |row| row.entry.request);
-        match self.below(6) {
-            0 => 0,
-            1 => last,
-            2 => last.saturating_sub(1),
-            3 => last.saturating_add(2),
-            _ => last.saturating_add(1),
-        }
-    }
-
-    /// An act of any desk, with any request.
+    /// An act of any desk, with a request round that of its newest one.
     pub fn by_any_desk(&mut self, entries: &[Entry], act: Act) -> Ask {
         let desk = DESKS[self.below(6)];
+        let last = last_request(entries, desk);
         Ask {
             desk,
-            request: self.request(entries, desk),
+            request: match self.below(6) {
+                0 => 0,
+                1 => last,
+                2 => last.saturating_sub(1),
+                3 => last.saturating_add(2),
+                _ => last.saturating_add(1),
+            },
             want: Want::Act(act),
         }
     }
@@ -315,15 +300,16 @@ impl Draws {
     /// An act as it should be asked: by a desk with its next request, where it isn't a lane's, and
     /// half of the others by none.
     pub fn by_good_desk(&mut self, entries: &[Entry], act: Act) -> Ask {
+        let drawn = DESKS[2 + self.below(2)];
         let desk = if is_lane_act(&act) || self.one_of(2) {
             0
         } else {
-            DESKS[2 + self.below(2)]
+            drawn
         };
-        let last = newest_of_desk(entries, desk).map_or(0, |row| row.entry.request);
+        let next = last_request(entries, desk).saturating_add(1);
         Ask {
             desk,
-            request: if desk == 0 { 0 } else { last.saturating_add(1) },
+            request: if desk == 0 { 0 } else { next },
             want: Want::Act(act),
         }
     }
@@ -331,26 +317,22 @@ impl Draws {
     /// The newest act of a desk once more; one that nobody asked for where there is none.
     pub fn once_more(&mut self, entries: &[Entry]) -> Ask {
         let desk = DESKS[2 + self.below(2)];
-        match newest_of_desk(entries, desk) {
-            Some(row) => Ask {
-                desk,
-                request: row.entry.request,
-                want: Want::Act(row.entry.act),
-            },
-            None => Ask {
-                desk,
-                request: 1,
-                want: Want::Act(Act::Void {
-                    pack: rows(entries),
-                }),
-            },
+        let (request, act) = match newest_of_desk(entries, desk) {
+            Some(row) => (row.entry.request, row.entry.act),
+            None => (1, Act::Void { pack: 1 }),
+        };
+        Ask {
+            desk,
+            request,
+            want: Want::Act(act),
         }
     }
 }
 
-fn is_lane_act(act: &Act) -> bool {
-    matches!(
-        act,
-        Act::StartLane { .. } | Act::Weigh { .. } | Act::StopLane { .. }
-    )
+// The newest request of a desk, 0 where it has none.
+fn last_request(entries: &[Entry], desk: u16) -> u32 {
+    match newest_of_desk(entries, desk) {
+        Some(row) => row.entry.request,
+        None => 0,
+    }
 }
