@@ -35,7 +35,7 @@ const SHORT: Course = Course {
 const LONG: Course = Course {
     asks: 1_200,
     limit: 1_000_000,
-    many: 640,
+    many: 700,
 };
 
 // A batch of more than 100 packs, and then smaller ones.

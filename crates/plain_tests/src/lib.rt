@@ -7,10 +7,10 @@ mod comparison;
 #[cfg(test)]
 mod drawn_acts;
 #[cfg(test)]
-mod large;
-#[cfg(test)]
 mod likely_acts;
 #[cfg(test)]
 mod met;
 #[cfg(test)]
 mod pair;
+#[cfg(test)]
+mod plans;

@@ -48,22 +48,19 @@ fn tare_now(entries: &[Entry], batch: Name) -> Option<i64> {
 }
 
 impl Draws {
-    // The quantity that is meant for a pack of a batch that runs.
+    // The quantity that is meant for a pack of a batch that runs. Where they don't lie round the
+    // limits, a few are just above two errors below the nominal quantity.
     fn aim(&mut self, bounds: &Bounds) -> i64 {
         let near = self.quantity(2_000);
         let far = self.quantity(bounds.nominal);
-        let kind = self.below(8);
-        if self.filling == 2 {
-            bounds.t1.saturating_add(near % 400)
-        } else if !self.rough {
-            bounds.nominal.saturating_add(near)
-        } else {
-            match kind {
-                0 => bounds.t1,
-                1 => bounds.t2,
-                2 | 3 => bounds.t1.saturating_add(near),
-                _ => bounds.nominal.saturating_add(far),
-            }
+        match self.below(32) {
+            0 => bounds.t2.saturating_add(near % 400),
+            _ if self.filling == 2 => bounds.t1.saturating_add(near % 400),
+            _ if !self.rough => bounds.nominal.saturating_add(near),
+            1..=4 => bounds.t1,
+            5..=8 => bounds.t2,
+            9..=16 => bounds.t1.saturating_add(near),
+            _ => bounds.nominal.saturating_add(far),
         }
     }
 
@@ -193,7 +190,7 @@ impl Draws {
 
     // A batch that has ended is drawn from, or closed where it is empty.
     fn when_ended(&mut self, batch: Name, is_empty: bool) -> Act {
-        if is_empty != self.one_of(8) {
+        if is_empty != self.one_of(4) {
             return Act::Close { batch };
         }
         Act::Draw {

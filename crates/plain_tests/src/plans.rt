@@ -1,5 +1,6 @@
-//! The plan of a batch of more than 3 200 packs. The plain book takes over the weighings of the book,
-//! since it would walk too long to judge each of them; every ask behind them is compared.
+//! Batches of the least population of each plan with a second sample. The last takes too many rows
+//! for drawn asks, and the plain book would walk too long to judge each weighing: it takes over
+//! those of the book, and every ask behind them is compared.
 
 ghost use Rattle.std.specs.Prelude.{◌≤◌};
 
@@ -12,8 +13,28 @@ use plain_book::sample_of;
 use std::alloc::Global;
 use std::test::Fail;
 
-// The least population that has the plan.
-const PACKS: u32 = 3_201;
+// A batch: its population, and how many packs of each sample are low. The first sample alone then
+// decides nothing, and both together have just as many as are accepted.
+#[derive(Clone, Copy)]
+struct Lot {
+    packs: u32,
+    lows: u32,
+}
+
+const LOTS: [Lot; 3] = [
+    Lot {
+        packs: 100,
+        lows: 2,
+    },
+    Lot {
+        packs: 501,
+        lows: 3,
+    },
+    Lot {
+        packs: 3_201,
+        lows: 4,
+    },
+];
 
 // The most rows of the books.
 const LIMIT: u32 = 4_000;
@@ -27,9 +48,6 @@ const TARE: i64 = 10_000;
 const FULL: i64 = 260_000;
 
 const LOW: i64 = 250_999;
-
-// How many packs of each sample are low: more than accept the first, and of both just as many.
-const LOWS: u32 = 4;
 
 // 2025-03-02.
 const DAY: i32 = 20_149;
@@ -89,8 +107,8 @@ fn ask_each(pair: &mut Pair, met: &mut Met, acts: &[Act]) -> Result<(), Stop> {
 }
 
 // Weighs so many full packs, of which the book alone judges the signals.
-fn weigh(pair: &mut Pair) -> Result<(), Stop> {
-    for number in 0..PACKS {
+fn weigh(pair: &mut Pair, many: u32) -> Result<(), Stop> {
+    for number in 0..many {
         let prior = if number == 0 {
             Prior::Nothing
         } else {
@@ -105,11 +123,11 @@ fn weigh(pair: &mut Pair) -> Result<(), Stop> {
     Ok(())
 }
 
-// Measures the packs of a sample, of which the first are low.
-fn measure(pair: &mut Pair, met: &mut Met, packs: &[u64]) -> Result<(), Stop> {
+// Measures the packs of a sample, of which so many are low.
+fn measure(pair: &mut Pair, met: &mut Met, packs: &[u64], lows: u32) -> Result<(), Stop> {
     let mut done: u32 = 0;
     for pack in packs {
-        let gross = if done < LOWS { LOW } else { FULL };
+        let gross = if done < lows { LOW } else { FULL };
         let pack = u32::try_from(*pack).unwrap_or(0);
         done = done.saturating_add(1);
         pair.ask(
@@ -131,42 +149,41 @@ fn close(pair: &mut Pair, met: &mut Met, batch: Name) -> Result<(), Stop> {
     pair.ask(met, &asked(Act::Close { batch }))
 }
 
-// The tests of the samples of a batch that was drawn from: the first leaves open what the second
-// decides.
-fn test(alloc: Global, pair: &mut Pair, met: &mut Met, batch: Name) -> Result<(), Stop> {
+// The tests of both samples of a batch that was drawn from, with so many low packs in each.
+fn test(alloc: Global, pair: &mut Pair, met: &mut Met, batch: Name, lows: u32) -> Result<(), Stop> {
     if let Some(sample) = sample_of(alloc, pair.plain().entries(), batch)? {
-        measure(pair, met, &sample.first)?;
+        measure(pair, met, &sample.first, lows)?;
     }
     close(pair, met, batch)?;
     pair.ask(met, &asked(Act::DrawSecond { batch, word: 8 }))?;
     if let Some(sample) = sample_of(alloc, pair.plain().entries(), batch)? {
-        measure(pair, met, &sample.second)?;
+        measure(pair, met, &sample.second, lows)?;
     }
     close(pair, met, batch)?;
     pair.question(met, Question::Sheet { batch })
 }
 
-// Compares two books on such a batch.
-fn compare(alloc: Global, names: &Names, met: &mut Met) -> Result<(), Stop> {
+// Compares two books on a batch.
+fn compare(alloc: Global, names: &Names, lot: &Lot, met: &mut Met) -> Result<(), Stop> {
     let batch = names.batches[0];
     let mut pair = Pair::new(alloc, LIMIT);
     ask_each(&mut pair, met, &opening(names.products[0], batch))?;
-    weigh(&mut pair)?;
+    weigh(&mut pair, lot.packs)?;
     ask_each(&mut pair, met, &ending(batch))?;
-    test(alloc, &mut pair, met, batch)?;
+    test(alloc, &mut pair, met, batch, lot.lows)?;
     pair.close()
 }
 
 #[test]
-fn a_plain_reading_of_the_greatest_plan_gives_the_same_answers(
-    rt: HostRuntime,
-) -> Result<(), Fail> {
+fn a_plain_reading_of_each_plan_gives_the_same_answers(rt: HostRuntime) -> Result<(), Fail> {
     let names = Names::new()?;
     let mut met = Met::nothing();
-    let compared = compare(rt.alloc(), &names, &mut met);
-    assert!(rt; compared.is_ok(), "{compared:?}");
-    assert_eq!(rt; met.draws, [1, 0, 1]);
-    assert_eq!(rt; met.verdicts, [0, 1, 0]);
-    assert_eq!(rt; met.refusals[33], 1);
+    for lot in &LOTS {
+        let compared = compare(rt.alloc(), &names, lot, &mut met);
+        assert!(rt; compared.is_ok(), "{compared:?}");
+    }
+    assert_eq!(rt; met.draws, [3, 0, 3]);
+    assert_eq!(rt; met.refusals[33], 3, "second samples that are needed");
+    assert_eq!(rt; met.verdicts, [0, 3, 0]);
     Ok(())
 }
