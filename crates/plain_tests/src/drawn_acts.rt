@@ -77,6 +77,9 @@ const SHIFTS: [i32; 12] = [0, 0, 0, 0, 0, 0, -1, -1, 1, 1, -2, 2];
 // Days out of range.
 const NO_DAYS: [i32; 2] = [-1, 2_932_897];
 
+// How many numbers may be drawn: those of 31 bits.
+const NUMBERS: u64 = 2_147_483_648;
+
 /// What is drawn from next: a word of the generator of Knuth's MMIX, a day round which days are
 /// drawn, and what is meant for the batch that comes next.
 #[derive(Drop)]
@@ -136,7 +139,7 @@ impl Draws {
 
     /// A quantity from 0 on and below `count`.
     pub fn quantity(&mut self, count: i64) -> i64 {
-        let number = self.number() as i64;
+        let number = (self.number() % NUMBERS) as i64;
         if count < 1 { 0 } else { number % count }
     }
 
