@@ -11,3 +11,4 @@ pub mod Seen
 pub mod Telling
 pub mod Frost
 pub mod Entered
+pub mod OnLanes

@@ -5,7 +5,7 @@ ghost use Rattle.book_words.specs.declared.act.Act.TheVariants as act;
 ghost use Rattle.book_words.specs.declared.refusal.Refusal.TheVariants as refusal;
 ghost use Rattle.book_words.specs.Acts as acts;
 ghost use Rattle.book_words.specs.Tares.{tare_of_product};
-ghost use Rattle.book_words.specs.Readings.{reading_of};
+ghost use Rattle.book_words.specs.Readings.{reading_of, tare_of_reading};
 ghost use Rattle.book_words.specs.Population as population;
 ghost use Rattle.book_words.specs.Piles.{pile_of};
 ghost use Rattle.book_words.specs.Classes.{density_of_batch, limits_of_batch};
@@ -13,10 +13,12 @@ ghost use Rattle.book_words.specs.Refusals as rules;
 ghost use Rattle.book_words.specs.Answers.{IsLegal};
 ghost use Rattle.book_index.specs.Listed as listed;
 ghost use Rattle.book_packs.specs.Densities.{limits_at};
+ghost use Rattle.book_packs.specs.Stand.{limits_told};
 ghost use Rattle.book_state.specs.Told as told;
 
 use crate::state::State;
 use crate::types::{AtWeighing, KnownPack};
+use crate::weighed::lane_tare;
 use annex_tables::Limits;
 use batch_sums::{Pack, Piles, Totals};
 use book_words::{Act, Name, Prior};
@@ -31,6 +33,15 @@ impl State {
     {
         let number = self.index.product_number(product)?;
         self.packs.tare(number, day)
+    }
+
+    /// The tare of the batch that a lane has, on the newest day, in mg. No name is looked for.
+    pub fn lane_tare(&self, lane: u8) -> Option<i64>
+        ensures value { result ≡ tare_of_reading self.now.entries
+            (acts.lane_batch self.now.entries lane) (acts.newest_day self.now.entries) }
+        ensures range { IfSome result (λ tare. (pos 0 ≤ℤ tare) × (tare ≤ℤ MAX_TARE)) }
+    {
+        lane_tare(&self.index, &self.packs, lane)
     }
 
     /// The number of the unsettled reading of a lane.
@@ -115,6 +126,15 @@ impl State {
         Some(self.packs.limits(number))
     }
 
+    /// The limits of the batch that a lane has, in mg. No name is looked for.
+    pub fn lane_limits(&self, lane: u8) -> Option<Limits>
+        ensures { result ≡ option_map (limits_told self.now.entries)
+            (acts.lane_batch self.now.entries lane) }
+    {
+        let batch = self.index.lane_number(lane)?;
+        Some(self.packs.limits(batch))
+    }
+
     /// The totals of a batch. It takes no memory and no walk.
     pub fn totals(&self, batch: &Name) -> Option<Totals>
         ensures value { result ≡ told.totals_of_batch self.now.entries batch.now }
@@ -153,7 +173,8 @@ impl State {
             × (result.nonstandard ≤ result.population) }
     {
         let _ = gross;
-        let Some(number) = self.index.batch_number(batch) else {
+        let _ = batch;
+        let Some(number) = self.index.lane_number(lane) else {
             unreachable!()
         };
         let met = self.packs.totals_at(lane, prior, number);
