@@ -12,7 +12,7 @@ use Rattle.book_words.specs.declared.act.Act.TheVariants.{PutProduct, OpenBatch}
 use Rattle.book_words.specs.declared.act.Entry.{Entry}
 use Rattle.book_words.specs.declared.refusal.Refusal.TheVariants as why
 use Rattle.book_words.specs.Names.{same_name}
-use Rattle.book_words.specs.Acts.{product_given, density_given, unit_put, nominal_of, unit_of, product_of, density_of, lane_batch}
+use Rattle.book_words.specs.Acts.{product_given, density_given, unit_put, nominal_of, unit_of, product_of, density_of}
 use Rattle.book_words.specs.Refusals as rules
 use Rattle.book_words.specs.Refusals.{refused_if, suits_unit}
 use Rattle.book_words.specs.Answers.{IsLegal}
@@ -31,18 +31,9 @@ use Rattle.book_laws.proofs.TareLaws.{IsTared, tared_of, some_is}
 pub never_none : {A : Type 0} (o r : Option A) → is_some o ≡ true → r ≡ o → r ≡ None → ⊥
 never_none o r there same nothing = let wrong : true ≡ false = sym there ∙ ap is_some (sym same ∙ nothing) in cc
 
--- where something is told of an option that is there, it is there
-pub never_unmapped : {A B : Type 0} (f : A → B) (o : Option A) (r : Option B) → is_some o ≡ true → r ≡ option_map f o → r ≡ None → ⊥
-never_unmapped f None r there same nothing = absurd (cc)
-never_unmapped f (Some x) r there same nothing = absurd (cc)
-
 -- the product of a batch has a nominal quantity
 pub nominal_there : (entries : List Entry) (batch product : Name) → IsLegal entries → product_of entries batch ≡ Some product → is_some (nominal_of entries product) ≡ true
 nominal_there entries batch product legal given = (tared_of entries legal).products batch product given
-
--- the batch of a lane has a product
-pub lane_product : (entries : List Entry) (lane : ℕ) (batch : Name) → IsLegal entries → lane_batch entries lane ≡ Some batch → is_some (product_of entries batch) ≡ true
-lane_product entries lane batch legal on = ap is_some ((tared_of entries legal).lanes lane batch on).has.known
 
 -- the density of a batch suits the unit of its product
 abbrev DensitiesSuit : List Entry → Type 0
