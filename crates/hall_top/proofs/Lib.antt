@@ -2,7 +2,10 @@ pub mod ScriptLines
 pub mod RepeatLemmas
 pub mod Acknowledged
 pub mod Answering
+pub mod Carried
 pub mod Keeping
+pub mod SameEntries
+pub mod SlotSteps
 pub mod Held
 pub mod Stopping
 pub mod Summaries
