@@ -17,6 +17,10 @@ pub record HasOldHeader (bytes : List ℕ) : Type 0 where
   pub same : (k : ℕ) → k < OLD_ROW_BYTES → k ≢ MARK
       → slice_index bytes k ≡ slice_index old_title k
 
+-- the bytes begin with the header, or are fewer than it has
+abbrev pub IsNotForeign : List ℕ → Type 0
+IsNotForeign bytes = OLD_ROW_BYTES ≤ length bytes → HasOldHeader bytes
+
 -- the bytes begin with a whole slot whose gate is open
 abbrev pub begins_open : List ℕ → Bool
 begins_open bytes = nat_le OLD_ROW_BYTES (length bytes) && (slice_index bytes 0 == OPEN)

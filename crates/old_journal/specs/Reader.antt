@@ -10,7 +10,7 @@ use Rattle.old_journal.specs.declared.types.Stage.{Stage}
 use Rattle.old_journal.specs.declared.types.Stage.TheVariants as stages
 use Rattle.old_journal.specs.declared.types.OldPiece.{OldPiece}
 use Rattle.old_journal.specs.declared.types.OldPiece.TheVariants.{Part, Header, Foreign, Row, Bad, Over}
-use Rattle.old_journal.specs.OldJournal.{HasOldHeader, begins_open, old_rows, old_title}
+use Rattle.old_journal.specs.OldJournal.{HasOldHeader, IsNotForeign, begins_open, old_rows, old_title}
 
 -- what the next slot is, how many rows there were, and the bytes of the slot that has begun
 pub record OldView : Type 0 where
@@ -84,10 +84,10 @@ pub record SpellsOnly (row : List ℕ) (number : ℕ) (entry : Entry) : Type 0 w
 abbrev pub SpellsNone : List ℕ → ℕ → Type 0
 SpellsNone row number = (entry : Entry) → ¬ Spells old_layout row number entry
 
--- what a piece says of the bytes before it and now: the header is whole, or another's whatever
--- follows, a row has come, or none has
+-- what a piece says of the bytes before it and now: a slot has begun, the header is whole, or
+-- another's whatever follows, a row has come, or none has
 abbrev pub Says : List ℕ → List ℕ → OldPiece → Type 0
-Says taken now Part = old_rows now ≡ old_rows taken
+Says taken now Part = IsNotForeign now × (old_rows now ≡ old_rows taken)
 Says taken now Header = HasOldHeader now × (old_rows now ≡ [])
 Says taken now Foreign = (more : List ℕ) → ¬ HasOldHeader (now ++ more)
 Says taken now (Row number entry) =
