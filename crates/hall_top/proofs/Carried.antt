@@ -9,6 +9,7 @@ use Rattle.row_format.specs.Rows.{CanBeSpelled, Spells}
 use Rattle.old_journal.specs.OldJournal.{old_rows, old_spelled, AreOldRows}
 use Rattle.old_journal.specs.Carrying.{IsLonger, IsCarriedTo, MayCome, IsBadRow}
 use Rattle.old_journal.specs.Reader.{HasNextRow}
+use Rattle.hall_top.specs.Migration.{HasNewRow}
 
 -- ---- rows of entries
 
@@ -152,3 +153,17 @@ module _ (held carried rows : List Entry) (taken now : List ℕ) (number : ℕ) 
     stands = stands;
     bad = bad;
   }
+
+  pub new_row : (entry : Entry) → Spells old_layout row number entry → slice_get rows (length carried) ≡ None → IsLawful rows entry → HasNewRow held now rows
+  new_row entry spells none lawful =
+      let same : number ≡ length carried + 1 = next.next ∙ ap (λ n. n + 1) counted in
+      record {
+        count = length carried;
+        before = carried_to;
+        row = row;
+        stands = stands;
+        entry = entry;
+        spells = subst (λ n. Spells old_layout row n entry) same spells;
+        lacks = get_none rows (length carried) none;
+        lawful = lawful;
+      }

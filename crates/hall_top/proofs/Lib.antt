@@ -14,7 +14,9 @@ pub mod Finishing
 pub mod Printed
 pub mod Explaining
 pub mod Going
+pub mod Migrating
 pub mod Completing
 pub mod Checking
 pub mod Opened
 pub mod RequestOrder
+pub mod RowLimit

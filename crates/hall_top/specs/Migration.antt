@@ -1,12 +1,14 @@
 -- How a journal of version 1 is carried into a book: where a migration stands, and how it ends.
-use Rattle.std.specs.Prelude.{◌≡◌, ◌≢◌, ◌⊎◌, ℕ, ◌*◌, ◌<◌, ◌≤◌, List, [], ◌∷◌, ◌++◌, length, Some, None, Result, MatchResult}
+use Rattle.std.specs.Prelude.{◌≡◌, ◌≢◌, ◌⊎◌, ℕ, ◌+◌, ◌*◌, ◌<◌, ◌≤◌, List, [], ◌∷◌, ◌++◌, length, slice_get, Some, None, Result, MatchResult}
 use Rattle.std.specs.Io.KnownBytes.{Consumes}
 use Rattle.book_words.specs.declared.act.Entry.{Entry}
 use Rattle.disk_core.specs.declared.disk.Disk as disk
 use Rattle.book_words.specs.Answers.{IsLawful, IsLegal}
 use Rattle.book_state.specs.Told.{entry_numbered}
 use Rattle.book_store.specs.Stores.{entries_of, IsSound}
-use Rattle.old_journal.specs.OldJournal.{HasOldHeader, old_rows, AreOldRows}
+use Rattle.row_format.specs.Spelling.{old_layout}
+use Rattle.row_format.specs.Rows.{Spells}
+use Rattle.old_journal.specs.OldJournal.{HasOldHeader, IsNotForeign, old_rows, AreOldRows}
 use Rattle.old_journal.specs.Carrying.{IsLonger, IsMigrated, IsCarriedTo, IsBadRow}
 use Rattle.old_journal.specs.Reader.{OldView, old_after}
 use Rattle.old_journal.specs.declared.types.OldPiece.{OldPiece}
@@ -15,11 +17,12 @@ use Rattle.hall_top.specs.declared.reads.TheConstants.{PIECE}
 use Rattle.hall_top.specs.declared.migrate.TheConstants.{MAX_OLD_READS}
 use Rattle.hall_top.specs.declared.carrying.Migration.{Migration}
 use Rattle.hall_top.specs.declared.stop.Stop.{Stop}
-use Rattle.hall_top.specs.declared.stop.Stop.TheVariants.{Finished, BadLine, ReadFault, WriteFault, DiskFault, NoMemory, Spent}
-use Rattle.hall_top.specs.Texts.{bad_line, read_fault, disk_fault, no_memory, whole}
+use Rattle.hall_top.specs.declared.stop.Stop.TheVariants.{Finished, BadLine, ReadFault, WriteFault, Spent}
+use Rattle.hall_top.specs.Texts.{bad_line, read_fault, whole}
 use Rattle.hall_top.specs.Transcript.{BookState}
-use Rattle.hall_top.specs.Streams.{Stream, IsCalm, HasFailed, WroteAll, IsCutIn, Wrote}
-use Rattle.hall_top.specs.Run.{Call, ReadsWhole, HasGrown}
+use Rattle.hall_top.specs.Streams.{Stream, Devices, IsCalm, HasFailed, WroteAll, IsCutIn, Wrote}
+use Rattle.hall_top.specs.Run.{Call, ReadsWhole, SaysFailed, FailsToKeep}
+use Rattle.hall_top.specs.Reached.{SaysNoMemory}
 
 -- ---- one entry
 
@@ -36,19 +39,12 @@ Refuses rows number entry =
     ((held : Entry) × (entry_numbered rows number ≡ Some held) × (held ≢ entry))
     ⊎ ((entry_numbered rows number ≡ None) × ¬ IsLawful rows entry)
 
--- a line went out that says that the disk failed or that there is no memory, or was cut
-abbrev pub SaysFailed : Stream → Stream → Stop → Type 0
-SaysFailed before now DiskFault = WroteAll before now disk_fault
-SaysFailed before now NoMemory = WroteAll before now no_memory
-SaysFailed before now WriteFault =
-    IsCutIn before now [] disk_fault ⊎ IsCutIn before now [] no_memory
-SaysFailed before now _ = ⊥
-
--- how a migration stops at an entry
+-- how a migration stops at an entry: it is refused, or it was to be added and that failed
 abbrev pub StopsAtEntry : Stream → Stream → List Entry → ℕ → Entry → Stop → Type 0
 StopsAtEntry before now rows number entry BadLine =
     Refuses rows number entry × Wrote before now [] (bad_line number)
-StopsAtEntry before now rows number entry stop = SaysFailed before now stop
+StopsAtEntry before now rows number entry stop =
+    (entry_numbered rows number ≡ None) × IsLawful rows entry × SaysFailed before now stop
 
 -- ---- many rows
 
@@ -65,6 +61,7 @@ migration_state migration =
 -- of the bytes taken all rows were carried into a book that held these entries
 pub record Carried (held : List Entry) (taken : List ℕ) (state : MigrationState) : Type 0 where
   pub reader : state.reader ≡ old_after taken
+  pub header : IsNotForeign taken
   pub carried : List Entry
   pub are : AreOldRows carried (old_rows taken)
   pub counted : state.reader.rows ≡ length carried
@@ -82,12 +79,23 @@ IsBadSlot held judged row rows =
     ((row ≡ 0) × ((more : List ℕ) → ¬ HasOldHeader (judged ++ more)) × (rows ≡ held))
     ⊎ IsBadRow held judged row rows
 
+-- the rows before the last of these bytes were carried, and it spells an entry that was to be added
+pub record HasNewRow (held : List Entry) (judged : List ℕ) (rows : List Entry) : Type 0 where
+  pub count : ℕ
+  pub before : IsCarriedTo held judged count rows
+  pub row : List ℕ
+  pub stands : slice_get (old_rows judged) count ≡ Some row
+  pub entry : Entry
+  pub spells : Spells old_layout row (count + 1) entry
+  pub lacks : length rows ≤ count
+  pub lawful : IsLawful rows entry
+
 -- how a migration stops at the last slot of what it judged
 abbrev pub StopsAtSlot : List Entry → Stream → Stream → List Entry → List ℕ → Stop → Type 0
 StopsAtSlot held before now rows judged BadLine =
     (row : ℕ) × IsBadSlot held judged row rows × Wrote before now [] (bad_line row)
 StopsAtSlot held before now rows judged stop =
-    (count : ℕ) × IsCarriedTo held judged count rows × SaysFailed before now stop
+    HasNewRow held judged rows × SaysFailed before now stop
 
 -- wherever a migration stood, of these bytes it judged some, and stops at the last slot of those
 pub record StopsCarrying (old now : Stream) (before : MigrationState) (rows : List Entry)
@@ -106,6 +114,33 @@ CarrySteps old now before after bytes result =
     MatchResult result (λ _. (now ≡ old) × CarriesOn before after bytes)
     (λ stop. StopsCarrying old now before after.rows bytes stop)
 
+-- ---- many reads
+
+-- a migration that began with these devices took these bytes of its input and carried their rows; it
+-- has written nothing
+pub record CarriedAfter {S : Type 0} (book : BookState) (before now : Devices S) (taken : List ℕ)
+    (state : MigrationState) : Type 0 where
+  pub read : Consumes before.input.bytes now.input.bytes taken
+  pub calm : IsCalm before.input now.input
+  pub quiet : now.output ≡ before.output
+  pub carried : Carried book.entries taken state
+
+-- it took more bytes, at most a piece
+pub record CarriedMore {S : Type 0} (book : BookState) (before now : Devices S) (taken : List ℕ)
+    (state : MigrationState) : Type 0 where
+  pub more : List ℕ
+  pub some : 0 < length more
+  pub few : length more ≤ PIECE
+  pub stands : CarriedAfter book before now (taken ++ more) state
+
+-- it took bytes in so many reads, each at least one and at most a piece
+pub record CarriedReads {S : Type 0} (book : BookState) (before now : Devices S) (reads : ℕ)
+    (state : MigrationState) : Type 0 where
+  pub taken : List ℕ
+  pub least : reads ≤ length taken
+  pub most : length taken ≤ reads * PIECE
+  pub stands : CarriedAfter book before now taken state
+
 -- ---- the end of a migration
 
 -- how a migration ends whose input was read to its end
@@ -116,12 +151,13 @@ EndsMigration held before now rows bytes BadLine =
     ¬ HasOldHeader bytes × (rows ≡ held) × Wrote before now [] (bad_line 0)
 EndsMigration held before now rows bytes WriteFault =
     IsMigrated held bytes rows × (IsCutIn before now [] (whole (length rows))
-    ⊎ (HasGrown (length held) rows × SaysFailed before now WriteFault))
+    ⊎ FailsToKeep (length held) before now rows WriteFault)
 EndsMigration held before now rows bytes stop =
-    IsMigrated held bytes rows × HasGrown (length held) rows × SaysFailed before now stop
+    IsMigrated held bytes rows × FailsToKeep (length held) before now rows stop
 
 -- a migration stops in its input: of the bytes that it took it judged all but less than a piece
-pub record StopsInJournal {S : Type 0} (book : BookState) (call : Call S) (stop : Stop) : Type 0 where
+pub record StopsInJournal {S : Type 0} (book : BookState) (call : Call S)
+    (stop : Stop) : Type 0 where
   pub judged : List ℕ
   pub rest : List ℕ
   pub read : Consumes call.before.input.bytes call.now.input.bytes (judged ++ rest)
@@ -130,7 +166,8 @@ pub record StopsInJournal {S : Type 0} (book : BookState) (call : Call S) (stop 
   pub calm : IsCalm call.before.input call.now.input
 
 -- or at its end
-pub record StopsBehindJournal {S : Type 0} (book : BookState) (call : Call S) (stop : Stop) : Type 0 where
+pub record StopsBehindJournal {S : Type 0} (book : BookState) (call : Call S)
+    (stop : Stop) : Type 0 where
   pub journal : List ℕ
   pub read : ReadsWhole call.before.input call.now.input journal
   pub ends : EndsMigration book.entries call.before.output call.now.output call.rows journal stop
@@ -139,10 +176,12 @@ pub record StopsBehindJournal {S : Type 0} (book : BookState) (call : Call S) (s
 pub record IsUnbegun {S : Type 0} (book : BookState) (call : Call S) (stop : Stop) : Type 0 where
   pub unread : call.now.source ≡ call.before.source
   pub rows : call.rows ≡ book.entries
-  pub says : SaysFailed call.before.output call.now.output stop
+  pub says : SaysNoMemory call.before.output call.now.output stop
 
--- of the bytes taken all rows were carried, and these rows are left
+-- of the bytes taken all rows were carried, and these rows are left; they don't begin with another's
+-- header
 pub record HasCarried (held : List Entry) (taken : List ℕ) (rows : List Entry) : Type 0 where
+  pub header : IsNotForeign taken
   pub carried : List Entry
   pub are : AreOldRows carried (old_rows taken)
   pub longer : IsLonger held carried rows
@@ -162,7 +201,7 @@ pub record IsMigrationSpent {S : Type 0} (book : BookState) (call : Call S) : Ty
   pub least : MAX_OLD_READS ≤ length taken
   pub most : length taken ≤ MAX_OLD_READS * PIECE
   pub carried : HasCarried book.entries taken call.rows
-  pub quiet : WroteAll call.before.output call.now.output []
+  pub quiet : call.now.output ≡ call.before.output
   pub calm : IsCalm call.before.input call.now.input
 
 -- what each way to stop says of a migration

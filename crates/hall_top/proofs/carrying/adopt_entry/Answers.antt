@@ -7,6 +7,8 @@ use Rattle.hall_top.specs.Kept.{CountsStop, Goes}
 use Rattle.hall_top.specs.Streams.{output_at}
 use Rattle.hall_top.specs.Migration.{StopsAtEntry}
 use Rattle.hall_top.proofs.Keeping.{goes_adopted, goes_at_fault, goes_without_memory}
+use Rattle.hall_top.proofs.SlotSteps.{stops_new}
+use Rattle.hall_top.proofs.Stopping.{says_fault, says_want}
 use Rattle.hall_top.proofs.carrying.adopt_entry.Goals as goal
 
 pub returns-in-Ok-clause-goes : goal.returns-in-Ok-clause-goes
@@ -43,3 +45,15 @@ returns-in-Err-NoMemory-clause-goes g c =
     goes_without_memory g.D.Disk (output_at g.K.Sink c.args.output.now) (output_at g.K.Sink c.say_no_memory.new.output) c.say_no_memory.result c.args.store.now c.adopt.new.self
     (goes_adopted g.D.Disk c.args.store.now c.adopt.new.self c.args.entry.now c.adopt.result (Err NoMemory) a.entries a.adopts a.offers a.unlawful a.settled a.images a.hangs a.cause a.sound a.legal a.limit cause)
     c.say_no_memory.ensures
+
+pub returns-in-Err-DiskFault-clause-stops : goal.returns-in-Err-DiskFault-clause-stops
+returns-in-Err-DiskFault-clause-stops g c =
+    let lawful : IsLawful (entries_of c.args.store.now) c.args.entry.now = search rules in
+    stops_new (output_at g.K.Sink c.args.output.now) (output_at g.K.Sink c.say_disk_fault.new.output) (entries_of c.args.store.now) c.args.number c.args.entry.now c.say_disk_fault.result c.requires.behind lawful
+    (says_fault _ _ c.say_disk_fault.result c.say_disk_fault.ensures)
+
+pub returns-in-Err-NoMemory-clause-stops : goal.returns-in-Err-NoMemory-clause-stops
+returns-in-Err-NoMemory-clause-stops g c =
+    let lawful : IsLawful (entries_of c.args.store.now) c.args.entry.now = search rules in
+    stops_new (output_at g.K.Sink c.args.output.now) (output_at g.K.Sink c.say_no_memory.new.output) (entries_of c.args.store.now) c.args.number c.args.entry.now c.say_no_memory.result c.requires.behind lawful
+    (says_want _ _ c.say_no_memory.result c.say_no_memory.ensures)

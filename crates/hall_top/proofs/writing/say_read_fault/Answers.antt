@@ -1,6 +1,6 @@
 use Rattle.hall_top.specs.Texts.{read_fault}
 use Rattle.hall_top.proofs.Printed.{wrote_or_cut}
-use Rattle.hall_top.proofs.reads.say_read_fault.Goals as goal
+use Rattle.hall_top.proofs.writing.say_read_fault.Goals as goal
 
 pub returns : goal.returns
 returns g c = λ before done out.
