@@ -169,8 +169,8 @@ fn check_again(rt: &impl Abort, alloc: Global, bytes: Vec<u8>) -> Result<(), All
     Ok(())
 }
 
-// A migration that a failed call of the disk stopped is run again, over what the disk reads and over
-// what a crash leaves of it.
+// A migration that a failed call of the disk stopped is run again, over what the disk reads and
+// over what a crash leaves of it.
 fn check_call(rt: &impl Abort, alloc: Global, call: u32) -> Result<(), AllocError> {
     let ended = carry_first(alloc, vec![in alloc; call]?)?;
     assert_eq!(rt; ended.status, 6, "call {call}");

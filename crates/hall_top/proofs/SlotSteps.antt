@@ -18,7 +18,7 @@ use Rattle.hall_top.specs.declared.stop.Stop.TheVariants.{Finished, BadLine, Rea
 use Rattle.hall_top.specs.Streams.{Stream}
 use Rattle.hall_top.specs.Run.{SaysFailed}
 use Rattle.hall_top.specs.Migration.{MigrationState, Carried, HasNewRow, CarriesOn, CarriesPiece, StopsAtPiece, StopsAtEntry, StopsAtSlot, StopsCarrying}
-use Rattle.hall_top.proofs.Carried.{are_more, spelled_many, longer_same, longer_more, not_another, not_unlawful, carried_to, bad_row, new_row, get_none, get_inside}
+use Rattle.hall_top.proofs.Carried.{are_more, spelled_many, longer_same, longer_more, not_another, not_unlawful, bad_row, new_row, get_none, get_inside}
 
 -- the entry of the next number
 numbered_next : (rows : List Entry) (k number : ℕ) → number ≡ k + 1 → entry_numbered rows number ≡ slice_get rows k

@@ -116,8 +116,8 @@ CarrySteps old now before after bytes result =
 
 -- ---- many reads
 
--- a migration that began with these devices took these bytes of its input and carried their rows; it
--- has written nothing
+-- a migration that began with these devices took these bytes of its input and carried their rows;
+-- it has written nothing
 pub record CarriedAfter {S : Type 0} (book : BookState) (before now : Devices S) (taken : List ℕ)
     (state : MigrationState) : Type 0 where
   pub read : Consumes before.input.bytes now.input.bytes taken
@@ -178,8 +178,8 @@ pub record IsUnbegun {S : Type 0} (book : BookState) (call : Call S) (stop : Sto
   pub rows : call.rows ≡ book.entries
   pub says : SaysNoMemory call.before.output call.now.output stop
 
--- of the bytes taken all rows were carried, and these rows are left; they don't begin with another's
--- header
+-- of the bytes taken all rows were carried, and these rows are left; the bytes don't begin with
+-- another's header
 pub record HasCarried (held : List Entry) (taken : List ℕ) (rows : List Entry) : Type 0 where
   pub header : IsNotForeign taken
   pub carried : List Entry

@@ -157,12 +157,13 @@ SaysFailed before now WriteFault =
     IsCutIn before now [] disk_fault ⊎ IsCutIn before now [] no_memory
 SaysFailed before now _ = ⊥
 
--- where rows were added, the disk may fail and memory may lack while a snapshot of them is kept, and
--- a line says so
+-- where rows were added, the disk may fail and memory may lack while a snapshot of them is kept,
+-- and a line says so
 abbrev pub FailsToKeep : ℕ → Stream → Stream → List Entry → Stop → Type 0
 FailsToKeep opened before now rows stop = HasGrown opened rows × SaysFailed before now stop
 
--- how a run ends without its summary, all lines answered: the summary is cut, or no snapshot was kept
+-- how a run ends without its summary, all lines answered: the summary is cut, or no snapshot was
+-- kept
 abbrev pub StopsAtSummary : ℕ → Stream → Stream → List Entry → Stop → Type 0
 StopsAtSummary opened before now rows WriteFault =
     IsCutIn before now [] (summary_text (summary rows))

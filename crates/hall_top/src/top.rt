@@ -128,12 +128,13 @@ fn end_with_usage<K: Sink, D>(alloc: Global, disk: D, output: &mut K) -> Ended<D
 /// snapshot of the book is kept; then comes the summary. `check` reads nothing, and says that the
 /// book is whole.
 ///
-/// `migrate` reads a journal of version 1 and carries its rows, up to the first slot that is cut or
-/// whose gate is closed; what follows is read and passed over. A row that the book has is compared
-/// with it, and one that it lacks is adopted as it stands, whatever the limit; a migration that was
-/// stopped is run again. Where rows were added, a snapshot is kept. Then `rows N whole` says how many
-/// rows the book has. Row N is bad where it spells no entry, differs from the book's, or isn't
-/// lawful there; `bad line 0` says that the input isn't such a journal. The rows before are carried.
+/// `migrate` reads a journal of version 1 and carries its rows, up to the first slot that is cut
+/// or whose gate is closed; what follows is read and passed over. A row that the book has is
+/// compared with it, and one that it lacks is adopted as it stands, whatever the limit; a
+/// migration that was stopped is run again. Where rows were added, a snapshot is kept. Then `rows
+/// N whole` says how many rows the book has. Row N is bad where it spells no entry, differs from
+/// the book's, or isn't lawful there; `bad line 0` says that the input isn't such a journal. The
+/// rows before are carried.
 ///
 /// | status | comes | last line |
 /// |---|---|---|
@@ -146,7 +147,7 @@ fn end_with_usage<K: Sink, D>(alloc: Global, disk: D, output: &mut K) -> Ended<D
 /// | 7 | where there is no memory | `no memory` |
 /// | 8 | where the disk isn't a journal | `not a journal at PLACE` |
 /// | 9 | where its rows aren't those of a book | `damaged row N` |
-/// | 12 | where 100 000 000 reads, of `migrate` twice as many, each gave a byte, and no end came | |
+/// | 12 | where 100 000 000 reads (`migrate`: 200 000 000) each gave a byte, and no end came | |
 ///
 /// At each status the rows that the disk held stand first among the rows, and a crash at any moment
 /// leaves them. The end of the input wasn't given before, and nothing is read after it.

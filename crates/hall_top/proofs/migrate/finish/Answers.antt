@@ -1,4 +1,4 @@
-use Rattle.std.proofs.Common.{◌≡◌, ap, sym, subst, Ok, Err, refl}
+use Rattle.std.proofs.Common.{◌≡◌, ap, sym, subst, Err, refl}
 use Rattle.std.specs.Bool.{⊤}
 use Rattle.book_core.specs.View.{BookView}
 use Rattle.book_store.specs.Stores.{entries_of}

@@ -1,4 +1,4 @@
-use Rattle.std.proofs.Common.{Err, ◌≤◌, arith}
+use Rattle.std.proofs.Common.{Err, arith}
 use Rattle.std.specs.Bool.{⊤}
 use Rattle.hall_top.proofs.Going.{stays, unbegun_counts}
 use Rattle.hall_top.proofs.Migrating.{nothing_counted}

@@ -1,7 +1,6 @@
-use Rattle.std.proofs.Common.{◌≡◌, ◌<◌, ◌≤◌, List, ℕ, ◌++◌, length, take, Err, refl, append-nil, length-take, ap, ◌∙◌, subst, arith}
+use Rattle.std.proofs.Common.{◌≡◌, ◌++◌, take, Err, refl, append-nil, ap, ◌∙◌, subst, arith}
 use Rattle.std.specs.Io.KnownBytes.{Consumes}
 use Rattle.std.proofs.KnownBytes.{Consumes-trans}
-use Rattle.hall_top.specs.declared.reads.TheConstants.{PIECE}
 use Rattle.book_store.specs.Stores.{entries_of}
 use Rattle.hall_top.specs.Books.{store_in}
 use Rattle.hall_top.specs.Streams.{devices}
