@@ -7,8 +7,12 @@
 # transaction. Best of three, in turn. A sync takes so long that Python's own time is small beside it.
 #
 # Then a book of 1 000 000 rows, made in a folder whose syncs are quick: `hall check` by the snapshot
-# that the run kept, by the slots alone (the same file cut behind its rows), and `cat` of the file.
-# Best of five; a check is timed whole, reading and replaying. The peak memory is that of the process.
+# that the run kept, by the slots alone (the same file cut behind its rows), opening the same journal
+# without replaying its rows, and `cat` of the file. Best of five, each process whole. What a check
+# takes more than the opening alone is the replay. The peak memory is that of the check.
+#
+# The program that opens a journal alone isn't a crate of the product: it is proved and built in a
+# folder of its own, where the proofs of the crates that it stands on are kept.
 #
 # usage: bench/book.sh FOLDER [QUICK [WEIGHINGS [ROWS]]]      QUICK is /dev/shm if it isn't named
 set -eu
@@ -20,6 +24,97 @@ trap 'rm -rf "$work" "$quick"' EXIT
 # HALL names another program to try.
 if [ -z "${HALL:-}" ]; then "$here/hall" run </dev/null >/dev/null; fi
 program=${HALL:-$here/crates/hall_cli/out/hall_cli}
+
+mkdir "$work/crates"
+cp "$here/HANDLES" "$work/HANDLES"
+for name in hall_limits device_facts hall_units disk_core file_disk book_snapshot book_journal; do
+    cp -r "$here/crates/$name" "$work/crates/$name"
+    grep "^$name:" "$here/crates.txt" >>"$work/crates.txt"
+done
+opener=$work/crates/journal_opening
+mkdir -p "$opener/src"
+cat >"$opener/src/main.rt" <<'RATTLE'
+//! Opens the journal in a file as a book does, without replaying it: all of the snapshot's content
+//! is read, or else the row of each slot. The status is 0 where there are rows and all were read.
+#![tactic(auto)]
+
+ghost use Rattle.std.specs.Prelude.{◌*◌, ◌<◌, IsTrue};
+ghost use Rattle.book_snapshot.specs.Blocks.{IsSnapshotSize};
+
+use book_journal::{BLOCKS_CONTENT, Journal, Kept};
+use book_snapshot::MAX_CONTENT;
+use disk_core::Disk;
+use file_disk::FileDisk;
+use hall_limits::MAX_ROWS;
+use std::env;
+use std::process::ExitCode;
+
+fn holds(kept: Kept, piece: u64) -> bool
+    ensures { IsTrue result → IsSnapshotSize kept.rows kept.bytes × (BLOCKS_CONTENT * piece < kept.bytes) }
+{
+    1 <= kept.rows
+        && kept.rows <= MAX_ROWS
+        && kept.bytes <= MAX_CONTENT
+        && piece < 30_000
+        && BLOCKS_CONTENT as u64 * piece < kept.bytes
+}
+
+// Reads a piece of the snapshot's content, where there is one of that number.
+fn read_piece<D: Disk>(journal: &mut Journal<D>, piece: u64) -> bool {
+    let mut into = [0; BLOCKS_CONTENT];
+    match journal.kept() {
+        Some(kept) if holds(kept, piece) => journal.blocks(piece, &mut into).is_ok(),
+        _ => false,
+    }
+}
+
+// Reads the row of a number, where there is one.
+fn read_row<D: Disk>(journal: &mut Journal<D>, number: u32) -> bool {
+    1 <= number && number <= journal.count() && journal.row(number).is_ok()
+}
+
+fn read_rows<D: Disk>(journal: &mut Journal<D>) -> bool {
+    for number in 1..MAX_ROWS + 1 {
+        if !read_row(journal, number) {
+            return number > 1;
+        }
+    }
+    true
+}
+
+fn read_content<D: Disk>(journal: &mut Journal<D>) -> bool {
+    for piece in 0..30_000 {
+        if !read_piece(journal, piece) {
+            return piece > 0;
+        }
+    }
+    true
+}
+
+fn open<D: Disk + Drop>(disk: D) -> bool {
+    let Ok(mut journal) = Journal::mount(disk) else {
+        return false;
+    };
+    read_content(&mut journal) || read_rows(&mut journal)
+}
+
+// The word: the path of the file.
+fn main(rt: HostRuntime) -> ExitCode {
+    let Ok(args) = env::args(&rt) else {
+        return ExitCode::from(2);
+    };
+    for path in args.skip(1) {
+        if open(FileDisk::open(&rt, path.as_str())) {
+            return ExitCode::from(0);
+        }
+    }
+    ExitCode::from(1)
+}
+RATTLE
+echo 'journal_opening: book_journal book_snapshot disk_core file_disk hall_limits' >>"$work/crates.txt"
+(cd "$opener" && rt run </dev/null) >"$work/log" 2>&1 || true
+opener=$opener/out/journal_opening
+[ -x "$opener" ] || { cat "$work/log" >&2; exit 70; }
 
 # A script of so many rows: one product, and batches of 9 990 weighings one after another.
 script() {
@@ -45,7 +140,8 @@ script() {
 cat >"$work/book.py" <<'PYTHON'
 import os, sqlite3, subprocess, sys, time
 
-program, work, quick, weighings, rows = sys.argv[1:4] + [int(word) for word in sys.argv[4:6]]
+program, opener, work, quick = sys.argv[1:5]
+weighings, rows = [int(word) for word in sys.argv[5:7]]
 SLOT = 96
 
 
@@ -131,13 +227,16 @@ def least(words, answer):
     return min(run[0] for run in runs), max(run[1] for run in runs)
 
 
-# a check of the book, beside reading its file
+# a check of the book, beside opening its journal without replaying it, and beside reading its file
 def compare(book, way):
     whole = f"rows {rows} whole\n"
     check, memory = least([program, "check", "--book", book], whole)
+    alone, _ = least([opener, book], "")
     cat, _ = least(["cat", book], None)
     print(f"{os.path.getsize(book)} bytes {way}: check {1e3 * check:.1f} ms, cat {1e3 * cat:.1f} ms,"
           f" ratio {check / cat:.1f}")
+    print(f"opened without replay {1e3 * alone:.1f} ms, times of cat {alone / cat:.2f};"
+          f" the replay {1e3 * (check - alone):.1f} ms, {1e6 * (check - alone) / rows:.2f} us a row")
     print(f"peak memory of check: {memory} KiB, {1024 * memory / rows:.0f} bytes a row")
 
 
@@ -167,4 +266,4 @@ if [ "$weighings" -gt 9990 ]; then
 fi
 script "$((weighings + 5))" >"$work/few"
 script "$rows" >"$quick/many"
-python3 "$work/book.py" "$program" "$work" "$quick" "$weighings" "$rows"
+python3 "$work/book.py" "$program" "$opener" "$work" "$quick" "$weighings" "$rows"

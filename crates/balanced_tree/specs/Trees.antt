@@ -29,6 +29,17 @@ IsBalanced (Fork' height count p left item right) =
     IsBalanced left × IsBalanced right × (count ≡ length (items left) + 1 + length (items right)) × (height ≡ max (height_of left) (height_of right) + 1)
     × DifferByAtMost 1 (height_of left) (height_of right)
 
+-- the two sides of a tree are balanced, and their heights differ by at most two
+abbrev pub IsSided : {T : Type 0} → Tree T → Type 0
+IsSided Leaf = Unit {0}
+IsSided (Fork' height count p left item right) =
+    IsBalanced left × IsBalanced right × DifferByAtMost 2 (height_of left) (height_of right)
+
+-- the height of the higher side of a tree
+abbrev pub higher_side : {T : Type 0} → Tree T → ℕ
+higher_side Leaf = 0
+higher_side (Fork' height count p left item right) = max (height_of left) (height_of right)
+
 -- an item is the root of a balanced tree, between the trees on its two sides
 pub record IsRootBetween {T : Type 0} (left : Tree T) (item : T) (right tree : Tree T) : Type 0 where
   pub items : items tree ≡ items left ++ item ∷ items right

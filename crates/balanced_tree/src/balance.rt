@@ -1,5 +1,5 @@
 ghost use Rattle.std.specs.Prelude.{◌≡◌, ◌+◌, ◌^◌, ◌<◌, ◌≤◌, [], ◌∷◌, ◌++◌, max, length, IfSome, IfNone};
-ghost use Rattle.balanced_tree.specs.Trees.{items, height_of, IsBalanced, DifferByAtMost, IsRootBetween, IsHeightAfterRebalance};
+ghost use Rattle.balanced_tree.specs.Trees.{items, height_of, IsBalanced, IsSided, higher_side, DifferByAtMost, IsRootBetween, IsHeightAfterRebalance};
 
 use crate::tree::{Node, Tree};
 use std::mem;
@@ -124,4 +124,22 @@ pub fn rebalance<T: Drop>(root: Box<Node<T>>, left: Tree<T>, right: Tree<T>) -> 
     } else {
         fork(root, left, right)
     }
+}
+
+/// Sets a tree right whose sides are balanced.
+pub fn rotate<T: Drop>(tree: &mut Tree<T>)
+    requires sided { IsSided tree.old }
+    requires few { length (items tree.old) < 2 ^ 32 }
+    ensures balanced { IsBalanced tree.new }
+    ensures items { items tree.new ≡ items tree.old }
+    ensures least { higher_side tree.old ≤ height_of tree.new }
+    ensures most { height_of tree.new ≤ higher_side tree.old + 1 }
+{
+    let Tree::Fork { mut root, .. } = mem::replace(tree, Tree::Leaf) else {
+        return;
+    };
+    let node = &mut *root;
+    let left = mem::replace(&mut node.left, Tree::Leaf);
+    let right = mem::replace(&mut node.right, Tree::Leaf);
+    *tree = rebalance(root, left, right);
 }

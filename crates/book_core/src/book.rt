@@ -8,18 +8,16 @@ ghost use Rattle.book_words.specs.Views.{pack_view, summary};
 ghost use Rattle.book_words.specs.Answers.{answer, added, IsLawful, IsLegal};
 ghost use Rattle.book_words.specs.Balance.{MovesOnly};
 ghost use Rattle.book_words.specs.Soundness.{IsSound};
-ghost use Rattle.book_core.specs.Steps.{asked_act, asked_question, step_for, GivesUnlessNoMemory, made_ready, TellsLeast, pending_after, GivesAnswer, GivesLook, MayLackMemory, list_behind, decision, ready_for, is_weighing};
+ghost use Rattle.book_core.specs.Steps.{asked_act, asked_question, step_for, GivesUnlessNoMemory, made_ready, TellsLeast, pending_after, GivesAnswer, GivesLook, MayLackMemory, list_behind, decision, ready_for, is_weighing, HasNoRoom};
 ghost use Rattle.book_state.specs.Told.{entry_numbered};
 
 use crate::pending::Pending;
 use crate::ready::Ready;
 use crate::rows::Rows;
 use crate::types::{BookError, NoMemory, ReplayError, Step};
-use book_rules::{
-    look, recorded_signal, refuse, refuse_desk, repeated_row, reply_again, reply_new, summarize,
-    view_pack,
-};
+use book_rules::{recorded_signal, refuse, refuse_desk, repeated_row, reply_again, reply_new};
 use book_state::{Drawn, State};
+use book_views::{look, summarize, view_pack};
 use book_words::{Act, Answered, Ask, Entry, PackView, Question, Refused, SummaryView, Want};
 use hall_limits::MAX_ROWS;
 use pack_judge::Signal;
@@ -209,14 +207,17 @@ impl Book {
         }
     }
 
-    /// Makes an entry ready as it stands, with whoever brought it, its desk and its signal. `Unlawful`
-    /// comes exactly where it isn't lawful behind the list; the book's limit doesn't bind it. The list
-    /// stays as it is.
+    /// Makes an entry ready as it stands, with whoever brought it, its desk and its signal.
+    /// `Unlawful` comes exactly where it isn't lawful behind the list; the book's limit doesn't bind
+    /// it. Want of memory is answered only for a lawful entry, and for a weighing only where no row
+    /// is spare. The list stays as it is.
     pub fn admit(&mut self, entry: &Entry) -> Result<Ready, ReplayError>
         ensures ok { IfOk result (λ ready. ready
             ≡ record { number = length self.old.entries + 1; entry = entry.now }) }
         ensures lawful { OnOk result (IsLawful self.old.entries entry.now) }
         ensures unlawful { result ≡ Err ReplayError.Unlawful ↔ ¬ IsLawful self.old.entries entry.now }
+        ensures no_memory { result ≡ Err ReplayError.NoMemory →
+            IsLawful self.old.entries entry.now × HasNoRoom self.old entry.now.act }
         ensures pending { self.new.pending ≡ result_ok result }
         ensures entries { self.new.entries ≡ self.old.entries }
         ensures limit { self.new.limit ≡ self.old.limit }
@@ -233,13 +234,16 @@ impl Book {
         }
     }
 
-    /// Enters an entry of a book that is opened again, as it stands. `Unlawful` comes exactly where it
-    /// isn't lawful behind the list; the book's limit doesn't bind it. After an error the list is as it
-    /// was.
+    /// Enters an entry of a book that is opened again, as it stands. `Unlawful` comes exactly where
+    /// it isn't lawful behind the list; the book's limit doesn't bind it. Want of memory is answered
+    /// only for a lawful entry, and for a weighing only where no row is spare. After an error the
+    /// list is as it was.
     pub fn replay(&mut self, entry: Entry) -> Result<(), ReplayError>
         ensures ok { OnOk result (self.new.entries ≡ self.old.entries ++ entry ∷ []) }
         ensures lawful { OnOk result (IsLawful self.old.entries entry) }
         ensures unlawful { result ≡ Err ReplayError.Unlawful ↔ ¬ IsLawful self.old.entries entry }
+        ensures no_memory { result ≡ Err ReplayError.NoMemory →
+            IsLawful self.old.entries entry × HasNoRoom self.old entry.act }
         ensures err { OnErr result (self.new.entries ≡ self.old.entries) }
         ensures limit { self.new.limit ≡ self.old.limit }
         ensures pending { self.new.pending ≡ None }

@@ -1,6 +1,7 @@
 -- What the lanes of an index tell.
 use Rattle.std.proofs.Common.{◌≡◌, ℕ, zero, suc, ◌+◌, Bool, true, false, ◌==◌, cond, List, [], ◌∷◌, map, find, slice_get, Option, Some, None, is_some, option_map, refl, sym, ◌∙◌, ap, subst, arith, if◌then◌else◌}
 use Rattle.std.proofs.lemmas.Bool.{eqb-true, eq-eqb}
+use Rattle.std.proofs.lemmas.Option.{slice_get-map}
 use Rattle.std.specs.List.{range_with_len}
 use Rattle.std.specs.Option.{option_map_or, option_and_then, unwrap_or}
 use Rattle.hall_limits.specs.declared.TheConstants.{MAX_LANE}
@@ -13,12 +14,13 @@ use Rattle.book_words.specs.Acts.{said, batch_opened, lane_batch}
 use Rattle.book_words.specs.Order.{place_of, batch_number}
 use Rattle.book_words.specs.Refusals.{is_closed, lane_running}
 use Rattle.book_words.proofs.NameLemmas.{same_name_is, same_name_itself}
+use Rattle.book_index.specs.declared.types.BatchTerms.{BatchTerms}
 use Rattle.book_index.specs.Known.{Known}
 use Rattle.book_index.specs.Lanes.{has_number, lane_of_number}
-use Rattle.book_index.specs.Listed.{IsIndexOf, lane_batch_number}
+use Rattle.book_index.specs.Listed.{IsIndexOf, terms_of_batch, batch_product_number, lane_batch_number}
 use Rattle.book_index.proofs.SameNames.{in_both, bool_same}
 use Rattle.book_index.proofs.SaidNames.{product_where_opened}
-use Rattle.book_index.proofs.LegalNames.{AreNamed}
+use Rattle.book_index.proofs.LegalNames.{AreNamed, product_numbered}
 
 some_same : {A : Type 0} {x y : A} → Some x ≡ Some y → x ≡ y
 some_same h = cc
@@ -115,3 +117,23 @@ running_none entries named batch h =
 pub closed_told : (o : Option BatchState) → is_closed (Some (unwrap_or o Running)) ≡ is_closed o
 closed_told None = refl
 closed_told (Some state) = refl
+
+itself : (o : Option ℕ) → is_some o ≡ true → Some (unwrap_or o 0) ≡ o
+itself None h = absurd (let clash : false ≡ true = h in cc)
+itself (Some number) h = refl
+
+-- what is kept at the number of a lane's batch has the number of the batch's product
+pub product_on_lane : (entries : List Entry) (known : Known) → IsIndexOf entries known → AreNamed entries → (lane number : ℕ) → lane_batch_number entries lane ≡ Some number
+    → (kept : Option (Name × BatchTerms)) → kept ≡ slice_get known.batches number
+    → option_map (λ (batch : Name × BatchTerms). batch.1.product) kept ≡ option_and_then (batch_product_number entries) (lane_batch entries lane)
+product_on_lane entries known is named lane number at kept told =
+    ap (option_map (λ (batch : Name × BatchTerms). batch.1.product))
+    (told
+    ∙ ap (λ batches. slice_get batches number) is.batches
+    ∙ slice_get-map (λ (name : Name). (name, terms_of_batch entries name)) (said batch_opened entries) number
+    ∙ ap (option_map (λ (name : Name). (name, terms_of_batch entries name))) (lane_is entries lane number at))
+    ∙ either (lane_batch entries lane) refl
+  where
+    either : (o : Option Name) → lane_batch entries lane ≡ o → option_map (λ (batch : Name × BatchTerms). batch.1.product) (option_map (λ (name : Name). (name, terms_of_batch entries name)) o) ≡ option_and_then (batch_product_number entries) o
+    either None on = refl
+    either (Some batch) on = itself (batch_product_number entries batch) (product_numbered entries named batch ∙ named.on_lane lane batch on)

@@ -148,6 +148,25 @@ impl Index {
         }
     }
 
+    /// The number of the batch that a lane has. No name is looked for.
+    pub fn lane_number(&self, lane: u8) -> Option<u32>
+        ensures { (entries : List Entry) → IsIndexOf entries self.now → IsLegal entries
+            → result ≡ lane_batch_number entries lane }
+    {
+        self.held_number(lane)
+    }
+
+    /// The terms of the batch that a lane has. No name is looked for.
+    pub fn lane_terms(&self, lane: u8) -> Option<BatchTerms>
+        ensures product { (entries : List Entry) → IsIndexOf entries self.now → IsLegal entries
+            → option_map (λ terms. terms.product) result
+            ≡ option_and_then (batch_product_number entries) (lane_batch entries lane) }
+    {
+        let number = self.lane_number(lane)?;
+        let (_, terms) = self.batches.get_index(number as usize)?;
+        Some(*terms)
+    }
+
     // The number of the batch that a lane has.
     fn held_number(&self, lane: u8) -> Option<u32>
         ensures on { (entries : List Entry) → IsIndexOf entries self.now

@@ -10,9 +10,9 @@ use Rattle.hall_limits.specs.declared.TheConstants.{MAX_ROWS}
 use Rattle.disk_core.specs.Disk.{overwritten, Only}
 use Rattle.disk_core.specs.Devices.{LeavesOnly}
 use Rattle.disk_core.specs.declared.disk.Disk as disk
-use Rattle.book_snapshot.specs.declared.layout.TheConstants.{ROW_BYTES}
+use Rattle.book_snapshot.specs.declared.layout.TheConstants.{MARK, ROW_BYTES}
 use Rattle.book_snapshot.specs.DenseRows.{AreRows}
-use Rattle.book_journal.specs.declared.layout.TheConstants.{MARK, CLOSED, MAX_SLOTS}
+use Rattle.book_journal.specs.declared.layout.TheConstants.{CLOSED, MAX_SLOTS}
 use Rattle.book_journal.specs.Rows.{Recovers, IsJournalOf, starts_open, rows_of, gate_behind}
 use Rattle.book_journal.specs.Settles.{TornFrom, Settles}
 use Rattle.book_journal.specs.Mounting.{IsSnapshotOf, rows_before, slots_behind, stands_closed, closed_behind}

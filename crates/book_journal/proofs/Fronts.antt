@@ -7,9 +7,9 @@ use Rattle.hall_limits.specs.declared.TheConstants.{MAX_ROWS}
 use Rattle.disk_core.specs.Disk.{overwritten}
 use Rattle.disk_core.specs.declared.disk.Disk as disk
 use Rattle.book_snapshot.specs.declared.types.Kept.{Kept}
-use Rattle.book_snapshot.specs.declared.layout.TheConstants.{ROW_BYTES, OPEN}
+use Rattle.book_snapshot.specs.declared.layout.TheConstants.{MARK, ROW_BYTES, OPEN}
 use Rattle.book_snapshot.specs.DenseRows.{AreRows}
-use Rattle.book_journal.specs.declared.layout.TheConstants.{MARK, CLOSED, NEW_BYTES, MAX_SLOTS}
+use Rattle.book_journal.specs.declared.layout.TheConstants.{CLOSED, NEW_BYTES, MAX_SLOTS}
 use Rattle.book_journal.specs.Rows.{HasHeader, FirstDiffersAt, Recovers, SnapshotAgrees, starts_open, rows_of, gate_behind, mark_of, title}
 use Rattle.book_journal.specs.Journal.{HasGate, StandsAs, IsClosedAs, MarkedAs, HasRows}
 use Rattle.book_journal.specs.Mounting.{new_journal, IsSnapshotOf, rows_before, slots_behind, stands_closed, closed_behind, IsMounted}

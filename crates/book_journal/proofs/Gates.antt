@@ -4,9 +4,8 @@ use Rattle.std.proofs.Common.{◌≡◌, ◌≢◌, ◌⊎◌, inl, inr, ⊎_eli
 use Rattle.std.proofs.lemmas.List.{get_or-drop, drop-drop, drop_more}
 use Rattle.std.proofs.lemmas.Bool.{cases_eq, cases_lt}
 use Rattle.disk_core.specs.Disk.{Torn}
-use Rattle.book_snapshot.specs.declared.layout.TheConstants.{ROW_BYTES, OPEN}
+use Rattle.book_snapshot.specs.declared.layout.TheConstants.{MARK, ROW_BYTES, OPEN}
 use Rattle.book_snapshot.specs.DenseRows.{IsRow, AreRows}
-use Rattle.book_journal.specs.declared.layout.TheConstants.{MARK}
 use Rattle.book_journal.specs.Rows.{HasHeader, Recovers, SnapshotAgrees, starts_open, open_rows, rows_of, gate_behind, row_behind, mark_of}
 use Rattle.book_journal.specs.Journal.{IsClosedAs, IsHungAs, MarkedAs}
 use Rattle.book_journal.proofs.OpenRows.{same_take, open_by, shut_by_gate, shut_by_cut, rows_same, rows_stop, rows_more}

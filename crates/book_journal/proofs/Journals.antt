@@ -6,8 +6,7 @@ use Rattle.device_facts.specs.Known.{TellsAsBefore}
 use Rattle.disk_core.specs.Disk.{WhereTold, Torn}
 use Rattle.disk_core.specs.Devices.{IsUnmoved}
 use Rattle.disk_core.specs.declared.disk.Disk as disk
-use Rattle.book_snapshot.specs.declared.layout.TheConstants.{ROW_BYTES, OPEN}
-use Rattle.book_journal.specs.declared.layout.TheConstants.{MARK}
+use Rattle.book_snapshot.specs.declared.layout.TheConstants.{MARK, ROW_BYTES, OPEN}
 use Rattle.book_journal.specs.Rows.{Recovers, rows_of, gate_behind, row_behind}
 use Rattle.book_journal.specs.Journal.{StandsAs, HasGate, HasRows, RecoversOrHangs, ImagesKeepRows}
 use Rattle.book_journal.specs.Appending.{TouchesSlot}

@@ -5,12 +5,12 @@ use Rattle.std.proofs.lemmas.Bool.{cases_lt}
 use Rattle.disk_core.specs.Disk.{overwritten, Only, Torn}
 use Rattle.disk_core.specs.Devices.{LeavesOnly}
 use Rattle.disk_core.specs.declared.disk.Disk as disk
-use Rattle.book_snapshot.specs.declared.layout.TheConstants.{ROW_BYTES, OPEN, HEAD, TAIL}
+use Rattle.book_snapshot.specs.declared.layout.TheConstants.{MARK, ROW_BYTES, OPEN, HEAD, TAIL}
 use Rattle.book_snapshot.specs.Layout.{snapshot_place, snapshot_end, blocks_for}
 use Rattle.book_snapshot.specs.DenseRows.{content}
 use Rattle.book_snapshot.specs.Blocks.{IsSnapshotSize, EndsWithSnapshot, snapshot, snapshot_content, block_content, content_blocks, end_block}
 use Rattle.book_snapshot.specs.BlockLaws.{length-content_blocks, length-end_block, content_back, blocks_enough, one_size}
-use Rattle.book_journal.specs.declared.layout.TheConstants.{MARK, MARKED}
+use Rattle.book_journal.specs.declared.layout.TheConstants.{MARKED}
 use Rattle.book_journal.specs.Rows.{HasHeader, Recovers, SnapshotAgrees, rows_of, gate_behind, row_behind, mark_of}
 use Rattle.book_journal.specs.Journal.{IsClosedAs, MarkedAs, StandsAs}
 use Rattle.book_journal.specs.Settles.{TornFrom, Settles}

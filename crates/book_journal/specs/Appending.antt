@@ -3,7 +3,8 @@ use Rattle.std.specs.Prelude.{◌≡◌, ◌≢◌, ◌⊎◌, ℕ, ◌+◌, ◌
 use Rattle.disk_core.specs.Disk.{overwritten}
 use Rattle.disk_core.specs.Devices.{LeavesOnly}
 use Rattle.disk_core.specs.declared.disk.Disk as disk
-use Rattle.book_journal.specs.declared.layout.TheConstants.{MARK, CLOSED}
+use Rattle.book_journal.specs.declared.layout.TheConstants.{CLOSED}
+use Rattle.book_snapshot.specs.declared.layout.TheConstants.{MARK}
 use Rattle.book_journal.specs.declared.journal.Journal.{Journal}
 use Rattle.book_journal.specs.Rows.{Recovers, gate_behind}
 use Rattle.book_journal.specs.Journal.{disk_of, HasRows, HangsWith, RecoversOrHangs}

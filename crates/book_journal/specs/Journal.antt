@@ -4,9 +4,8 @@ use Rattle.hall_limits.specs.declared.TheConstants.{MAX_ROWS}
 use Rattle.disk_core.specs.Disk.{WhereTold}
 use Rattle.disk_core.specs.declared.disk.Disk as disk
 use Rattle.book_snapshot.specs.declared.types.Kept.{Kept}
-use Rattle.book_snapshot.specs.declared.layout.TheConstants.{ROW_BYTES, OPEN}
+use Rattle.book_snapshot.specs.declared.layout.TheConstants.{MARK, ROW_BYTES, OPEN}
 use Rattle.book_snapshot.specs.DenseRows.{IsRow, AreRows}
-use Rattle.book_journal.specs.declared.layout.TheConstants.{MARK}
 use Rattle.book_journal.specs.declared.journal.Journal.{Journal}
 use Rattle.book_journal.specs.Rows.{HasHeader, Recovers, SnapshotAgrees, rows_of, gate_behind, row_behind, mark_of}
 

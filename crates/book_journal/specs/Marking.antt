@@ -3,11 +3,11 @@ use Rattle.std.specs.Prelude.{◌≡◌, ℕ, ◌+◌, ◌-◌, List, [], ◌∷
 use Rattle.disk_core.specs.Disk.{Only, overwritten}
 use Rattle.disk_core.specs.Devices.{LeavesOnly}
 use Rattle.disk_core.specs.declared.disk.Disk as disk
-use Rattle.book_snapshot.specs.declared.layout.TheConstants.{ROW_BYTES}
+use Rattle.book_snapshot.specs.declared.layout.TheConstants.{MARK, ROW_BYTES}
 use Rattle.book_snapshot.specs.DenseRows.{content}
 use Rattle.book_snapshot.specs.Layout.{snapshot_end}
 use Rattle.book_snapshot.specs.Blocks.{snapshot, snapshot_content}
-use Rattle.book_journal.specs.declared.layout.TheConstants.{MARK, MARKED}
+use Rattle.book_journal.specs.declared.layout.TheConstants.{MARKED}
 use Rattle.book_journal.specs.declared.journal.Journal.{Journal}
 use Rattle.book_journal.specs.Rows.{FitsSnapshot, Recovers, gate_behind, mark_of}
 use Rattle.book_journal.specs.Journal.{disk_of, HasRows}

@@ -1,9 +1,9 @@
 -- What the bytes of a journal stand for: a header, and slots whose first byte is a gate.
 use Rattle.std.specs.Prelude.{◌≡◌, ◌≢◌, ◌⊎◌, ℕ, zero, suc, ◌+◌, ◌-◌, ◌*◌, ◌<◌, ◌≤◌, Bool, ◌&&◌, ◌==◌, nat_le, if◌then◌else◌, List, [], ◌∷◌, length, take, drop, slice_index}
-use Rattle.book_snapshot.specs.declared.layout.TheConstants.{ROW_BYTES, OPEN}
+use Rattle.book_snapshot.specs.declared.layout.TheConstants.{MARK, ROW_BYTES, OPEN}
 use Rattle.book_snapshot.specs.DenseRows.{content, AreRows}
 use Rattle.book_snapshot.specs.Blocks.{EndsWithSnapshot, snapshot_content}
-use Rattle.book_journal.specs.declared.layout.TheConstants.{MARK, MARKED, NEW_BYTES}
+use Rattle.book_journal.specs.declared.layout.TheConstants.{MARKED, NEW_BYTES}
 
 -- the name that a journal begins with, "AQHBOOK2"
 abbrev pub title : List ℕ

@@ -2,8 +2,8 @@ ghost use Rattle.std.specs.Prelude.{◌≡◌, ◌≢◌, ◌<◌, ℕ, length, 
 ghost use Rattle.book_journal.specs.Rows.{title, FirstDiffersAt};
 ghost use Rattle.book_journal.specs.Mounting.{new_journal};
 
-use crate::layout::{MARK, NEW_BYTES};
-use book_snapshot::ROW_BYTES;
+use crate::layout::NEW_BYTES;
+use book_snapshot::{MARK, ROW_BYTES};
 
 const TITLE: [u8; 8] = *b"AQHBOOK2";
 

@@ -4,10 +4,6 @@ ghost use Rattle.book_journal.specs.Rows.{gate_behind};
 use book_snapshot::ROW_BYTES;
 use hall_limits::MAX_ROWS;
 
-/// The place of the journal's mark, the gate of its snapshot: the one byte of the header that is
-/// passed over where a header is compared.
-pub const MARK: usize = 8;
-
 /// The mark of a journal whose snapshot counts.
 pub const MARKED: u8 = 1;
 

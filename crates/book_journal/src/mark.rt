@@ -1,6 +1,7 @@
 use crate::journal::Journal;
-use crate::layout::{CLOSED, MARK};
+use crate::layout::CLOSED;
 use crate::settle::settle;
+use book_snapshot::MARK;
 use disk_core::{Disk, Failed};
 
 impl<D: Disk> Journal<D> {

@@ -8,10 +8,10 @@ ghost use Rattle.book_journal.specs.Mounting.{IsMounted, IsCauseOf, KeepsFromSyn
 
 use crate::header::difference;
 use crate::journal::Journal;
-use crate::layout::{MARK, MAX_SLOTS, NEW_BYTES};
+use crate::layout::{MAX_SLOTS, NEW_BYTES};
 use crate::scan::{create, scan};
 use crate::types::{Found, JournalFault, JournalRefused};
-use book_snapshot::ROW_BYTES;
+use book_snapshot::{MARK, ROW_BYTES};
 use disk_core::Disk;
 use hall_limits::MAX_ROWS;
 

@@ -1,10 +1,8 @@
 -- The states, the lanes and the draws of the batches of a legal list.
-use Rattle.std.proofs.Common.{◌≡◌, ℕ, zero, suc, ◌+◌, ◌<◌, ◌≤◌, Bool, true, false, not, ◌&&◌, ◌==◌, nat_le, cond, ◌⊎◌, inl, inr, List, [], ◌∷◌, ◌++◌, length, take, slice_get, Option, Some, None, is_some, option_map, refl, sym, ◌∙◌, ap, subst, arith, append-nil, length-append}
+use Rattle.std.proofs.Common.{◌≡◌, ℕ, zero, suc, ◌+◌, ◌<◌, ◌≤◌, Bool, true, false, not, ◌&&◌, ◌==◌, nat_le, cond, ◌⊎◌, inl, inr, List, [], ◌∷◌, ◌++◌, length, Option, Some, None, is_some, option_map, refl, sym, ◌∙◌, ap, subst, arith, append-nil}
 use Rattle.std.proofs.lemmas.Bool.{cases_Bool, cases_eq, and_parts, both_ways, eqb-true, leb-true}
-use Rattle.std.proofs.lemmas.List.{take-append-le}
 use Rattle.std.proofs.lemmas.Option.{same_Some}
-use Rattle.std.proofs.Math.Seq.{take-append_seam}
-use Rattle.std.specs.List.{filter_map, find, list_any, range_with_len, cons_option, last_or}
+use Rattle.std.specs.List.{find, list_any, range_with_len, cons_option, last_or}
 use Rattle.std.specs.Option.{option_or, option_and_then, option_map_or, option_flatten}
 use Rattle.hall_limits.specs.declared.TheConstants.{MAX_LANE}
 use Rattle.annex_tables.specs.declared.types.Mode.{Mode}
@@ -24,71 +22,9 @@ use Rattle.book_words.specs.Refusals.{refused_if, first_refusal, refusals_of}
 use Rattle.book_words.specs.Answers.{IsLawful, IsLegal}
 use Rattle.book_words.proofs.NameLemmas.{same_name_is, same_name_itself}
 use Rattle.book_words.proofs.LastSaid.{last_said-push}
+use Rattle.book_words.proofs.DrawnLemmas.{drawings-push}
 use Rattle.book_laws.proofs.LawfulActs.{IsAllowed, allowed, open_batch_tells, start_lane_tells, end_run_tells, draw_tells, draw_second_tells, close_tells}
 use Rattle.book_laws.proofs.ReadingLaws.{by_entries}
-
--- ---- lists of what stands at places
-
--- two questions to places that agree from one place on, for so many places, find the same
-pub same_at_places : {A : Type 0} (f g : ℕ → Option A) (from many : ℕ) → ((place : ℕ) → from ≤ place → place < from + many → f place ≡ g place)
-    → filter_map f (range_with_len from many) ≡ filter_map g (range_with_len from many)
-same_at_places f g from zero same = refl
-same_at_places {A} f g from (suc many) same =
-    ap (λ (o : Option A). cons_option o (filter_map f (range_with_len (from + 1) many))) (same from (omega arith) (omega arith))
-    ∙ ap (cons_option (g from)) (same_at_places f g (from + 1) many (λ place h k. same place (omega (arith, h)) (omega (arith, k))))
-
-cons_option-append : {A : Type 0} (o : Option A) (some more : List A) → cons_option o (some ++ more) ≡ cons_option o some ++ more
-cons_option-append None some more = refl
-cons_option-append (Some x) some more = refl
-
--- with one more place
-pub one_more_place : {A : Type 0} (f : ℕ → Option A) (from many : ℕ) → filter_map f (range_with_len from (suc many)) ≡ filter_map f (range_with_len from many) ++ cons_option (f (from + many)) []
-one_more_place f from zero = ap (λ n. cons_option (f n) []) (let same : from ≡ from + 0 = omega arith in same)
-one_more_place f from (suc many) =
-    ap (cons_option (f from)) (one_more_place f (from + 1) many)
-    ∙ cons_option-append (f from) (filter_map f (range_with_len (from + 1) many)) (cons_option (f ((from + 1) + many)) [])
-    ∙ ap (λ n. filter_map f (range_with_len from (suc many)) ++ cons_option (f n) []) (let same : (from + 1) + many ≡ from + suc many = omega arith in same)
-
--- the entry at a place, with one entry more
-pub slice_get-push : (entries : List Entry) (entry : Entry) (place : ℕ) → place < length entries → slice_get (entries ++ entry ∷ []) place ≡ slice_get entries place
-slice_get-push [] entry place h = absurd (omega arith)
-slice_get-push (e ∷ es) entry zero h = refl
-slice_get-push (e ∷ es) entry (suc place) h = slice_get-push es entry place (omega arith)
-
--- the last of them
-pub slice_get-last : (entries : List Entry) (entry : Entry) → slice_get (entries ++ entry ∷ []) (length entries) ≡ Some entry
-slice_get-last [] entry = refl
-slice_get-last (x ∷ xs) entry = slice_get-last xs entry
-
--- ---- the draws
-
-draw_at-push : (entries : List Entry) (entry : Entry) (batch : Name) (place : ℕ) → place < length entries
-    → option_and_then (λ (e : Entry). drawing_from batch (take place (entries ++ entry ∷ [])) e.act) (slice_get (entries ++ entry ∷ []) place)
-    ≡ option_and_then (λ (e : Entry). drawing_from batch (take place entries) e.act) (slice_get entries place)
-draw_at-push entries entry batch place h =
-    ap (option_and_then (λ (e : Entry). drawing_from batch (take place (entries ++ entry ∷ [])) e.act)) (slice_get-push entries entry place h)
-    ∙ ap (λ (before : List Entry). option_and_then (λ (e : Entry). drawing_from batch before e.act) (slice_get entries place)) (take-append-le place entries (entry ∷ []) (omega (arith, h)))
-
--- the draws of a batch, with one entry more
-pub drawings-push : (entries : List Entry) (entry : Entry) (batch : Name) → drawings (entries ++ entry ∷ []) batch ≡ drawings entries batch ++ cons_option (drawing_from batch entries entry.act) []
-drawings-push entries entry batch =
-    let more : ℕ → Option Drawing = λ place. option_and_then (λ (e : Entry). drawing_from batch (take place (entries ++ entry ∷ [])) e.act) (slice_get (entries ++ entry ∷ []) place) in
-    let fewer : ℕ → Option Drawing = λ place. option_and_then (λ (e : Entry). drawing_from batch (take place entries) e.act) (slice_get entries place) in
-    ap (λ n. filter_map more (range_with_len 0 n)) (let same : length (entries ++ entry ∷ []) ≡ suc (length entries) = omega (arith, length-append entries (entry ∷ [])) in same)
-    ∙ one_more_place more 0 (length entries)
-    ∙ ap (λ (some : List Drawing). some ++ cons_option (more (0 + length entries)) []) (same_at_places more fewer 0 (length entries) (λ place h k. draw_at-push entries entry batch place (omega (arith, k))))
-    ∙ ap (λ n. drawings entries batch ++ cons_option (more n) []) (let same : 0 + length entries ≡ length entries = omega arith in same)
-    ∙ ap (λ (o : Option Entry). drawings entries batch ++ cons_option (option_and_then (λ (e : Entry). drawing_from batch (take (length entries) (entries ++ entry ∷ [])) e.act) o) []) (slice_get-last entries entry)
-    ∙ ap (λ (before : List Entry). drawings entries batch ++ cons_option (drawing_from batch before entry.act) []) (take-append_seam entries (entry ∷ []))
-
-last_or-append : {A : Type 0} (o : Option A) (xs : List A) (p : Option A) → last_or o (xs ++ cons_option p []) ≡ option_or p (last_or o xs)
-last_or-append o [] None = refl
-last_or-append o [] (Some x) = refl
-last_or-append o (y ∷ ys) p = last_or-append (Some y) ys p
-
--- the draw of a batch, with one entry more: the entry's, or else the one before
-pub drawing_of-push : (entries : List Entry) (entry : Entry) (batch : Name) → drawing_of (entries ++ entry ∷ []) batch ≡ option_or (drawing_from batch entries entry.act) (drawing_of entries batch)
-drawing_of-push entries entry batch = ap (last_or None) (drawings-push entries entry batch) ∙ last_or-append None (drawings entries batch) (drawing_from batch entries entry.act)
 
 -- ---- states
 

@@ -43,12 +43,13 @@ use Rattle.book_words.specs.Refusals.{refused_if, batch_of_pack}
 use Rattle.book_words.specs.Answers.{IsLawful, IsLegal}
 use Rattle.book_words.proofs.NameLemmas.{same_name_is, same_name_itself}
 use Rattle.book_words.proofs.RefusalLemmas.{not_refused}
+use Rattle.book_words.proofs.DrawnLemmas.{drawing_of-push, sample_of-push}
 use Rattle.book_laws.proofs.LawfulActs.{IsAllowed, allowed, allowed_act, not_test, is_absent, void_tells, draw_tells, measure_tells, draw_second_tells, close_tells}
 use Rattle.book_laws.proofs.ReadingLaws.{by_entries, IsOneOf, each_is_one, of_reading, numbers_increase}
-use Rattle.book_laws.proofs.BatchLaws.{orderly, drawing_of-push, is_fixed, draw_state, draw_second_state, close_state}
+use Rattle.book_laws.proofs.BatchLaws.{orderly, is_fixed, draw_state, draw_second_state, close_state}
 use Rattle.book_laws.proofs.UnsettledLaws.{Belongs, each_belongs}
 use Rattle.book_laws.proofs.PopulationLaws.{drawn_from_all, drawn_has}
-use Rattle.book_laws.proofs.MoveLaws.{sample_after, sample_of-push}
+use Rattle.book_laws.proofs.MoveLaws.{sample_after}
 use Rattle.book_laws.proofs.SampleLaws.{first_among, second_among, plan_fits}
 
 -- ---- what is said of the gate

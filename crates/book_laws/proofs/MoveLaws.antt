@@ -31,13 +31,13 @@ use Rattle.book_words.specs.Refusals as rules
 use Rattle.book_words.specs.Refusals.{refused_if}
 use Rattle.book_words.specs.Answers.{IsLawful, IsLegal}
 use Rattle.book_words.proofs.NameLemmas.{same_name_is, same_name_itself}
-use Rattle.book_words.proofs.LastSaid.{last_said-push}
 use Rattle.book_words.proofs.RefusalLemmas.{not_refused}
 use Rattle.book_words.proofs.LegalLemmas.{legal-prefix}
 use Rattle.book_words.proofs.OneMoreEntry.{advance, own_reading, readings-push}
+use Rattle.book_words.proofs.DrawnLemmas.{sample_of-push}
 use Rattle.book_laws.proofs.LawfulActs.{IsAllowed, allowed, not_test, weigh_tells, void_tells, draw_second_tells}
 use Rattle.book_laws.proofs.ReadingLaws.{IsOneOf, each_is_one, of_reading, numbers_increase}
-use Rattle.book_laws.proofs.BatchLaws.{IsOrderly, orderly, drawing_of-push, is_fixed, no_sample, draw_state}
+use Rattle.book_laws.proofs.BatchLaws.{IsOrderly, orderly, is_fixed, no_sample, draw_state}
 use Rattle.book_laws.proofs.UnsettledLaws.{Belongs, each_belongs}
 use Rattle.book_laws.proofs.PopulationLaws.{settled_after, unsampled_on, batch_of, unsettled_is_free, DrawnFromAll, drawn_from_all}
 use Rattle.book_laws.proofs.SampleLaws.{first_among, second_among, counted_if_among}
@@ -49,12 +49,6 @@ abbrev pub sample_after : List Entry → Act → Name → Option Sample
 sample_after entries act batch =
     option_map (λ drawing. sample_by drawing (option_or (second_word batch act) (last_said (second_word batch) entries)))
     (option_or (drawing_from batch entries act) (drawing_of entries batch))
-
--- the samples of a batch, with one entry more
-pub sample_of-push : (entries : List Entry) (entry : Entry) (batch : Name) → sample_of (entries ++ entry ∷ []) batch ≡ sample_after entries entry.act batch
-sample_of-push entries entry batch =
-    ap (λ (word : Option ℕ). option_map (λ (drawing : Drawing). sample_by drawing word) (drawing_of (entries ++ entry ∷ []) batch)) (last_said-push (second_word batch) entries entry)
-    ∙ ap (option_map (λ (drawing : Drawing). sample_by drawing (option_or (second_word batch entry.act) (last_said (second_word batch) entries)))) (drawing_of-push entries entry batch)
 
 -- whether samples, where there are some, hold a pack
 abbrev pub do_hold : Option Sample → ℕ → Bool

@@ -1,12 +1,10 @@
 -- Packs are found by their numbers, and the drawn packs of a batch are packs of it.
-use Rattle.std.proofs.Common.{◌≡◌, ℕ, zero, suc, ◌+◌, ◌<◌, ◌≤◌, Bool, true, false, ◌&&◌, cond, ◌==◌, List, [], ◌∷◌, ◌++◌, length, take, drop, get_or, map, slice_get, inl, inr, ◌⊎◌, Option, Some, None, option_map, refl, sym, ◌∙◌, ap, subst, arith, append_assoc, append-nil, length-append}
+use Rattle.std.proofs.Common.{◌≡◌, ℕ, zero, suc, ◌+◌, ◌<◌, ◌≤◌, Bool, true, false, ◌&&◌, cond, ◌==◌, List, [], ◌∷◌, ◌++◌, length, take, drop, get_or, map, inl, inr, ◌⊎◌, Option, Some, None, option_map, refl, sym, ◌∙◌, ap, subst, arith, append_assoc, append-nil, length-append}
 use Rattle.std.proofs.lemmas.Bool.{and_parts, eq-eqb, ne_eqb}
-use Rattle.std.proofs.lemmas.List.{take-append-le}
-use Rattle.std.proofs.Math.Seq.{take-append_seam}
 use Rattle.std.proofs.lemmas.List.Elements.{All-nil, All-cons, All-head, All-tail, All-append, All-map, All-weaker, All-take, All-drop, All-filter, filter_passes}
 use Rattle.std.proofs.lemmas.List.Folds.{find-append}
-use Rattle.std.specs.List.{All, cons_option, filter_map, find, last_or, range_with_len, remove}
-use Rattle.std.specs.Option.{option_or, option_and_then, option_map_or, unwrap_or}
+use Rattle.std.specs.List.{All, cons_option, find, remove}
+use Rattle.std.specs.Option.{option_or, option_map_or, unwrap_or}
 use Rattle.sample_draw.specs.Draws.{next_word, place_of, drawn, packs_left}
 use Rattle.book_words.specs.declared.name.Name.{Name}
 use Rattle.book_words.specs.declared.act.Act.{Act}
@@ -17,10 +15,11 @@ use Rattle.book_words.specs.Names.{same_name}
 use Rattle.book_words.specs.Acts.{last_said}
 use Rattle.book_words.specs.Readings.{readings, reading_from, reading_of, is_of_batch}
 use Rattle.book_words.specs.Population.{is_counted, population}
-use Rattle.book_words.specs.Samples.{Drawing, Sample, numbers_of, drawing_from, drawings, drawing_of, plan_of_drawing, first_picks, second_picks, second_word, sample_by, sample_of}
+use Rattle.book_words.specs.Samples.{Drawing, Sample, numbers_of, drawing_from, drawing_of, plan_of_drawing, first_picks, second_picks, second_word, sample_by, sample_of}
 use Rattle.book_words.specs.Verdicts.{second_packs}
 use Rattle.book_words.proofs.NameLemmas.{same_name_is}
 use Rattle.book_words.proofs.OneMoreEntry.{advance, own_reading, readings-push}
+use Rattle.book_words.proofs.DrawnLemmas.{drawing_of-push}
 use Rattle.book_laws.proofs.TareLaws.{some_is}
 
 -- ---- a reading by its number
@@ -117,68 +116,6 @@ numbered_behind before (entry ∷ after) numbered = subst AreNumbered (append_as
 -- the readings of every list are numbered
 pub numbered : (entries : List Entry) → AreNumbered entries
 numbered entries = numbered_behind [] entries (record { numbers = All-nil (λ reading. IsNumber [] reading.number); found = All-nil (IsFound []) })
-
--- ---- the draw of a batch, with one more entry
-
-slice_get-push : (entries : List Entry) (entry : Entry) (place : ℕ) → place < length entries → slice_get (entries ++ entry ∷ []) place ≡ slice_get entries place
-slice_get-push [] entry place h = absurd (omega arith)
-slice_get-push (e ∷ es) entry zero h = refl
-slice_get-push (e ∷ es) entry (suc place) h = slice_get-push es entry place (omega arith)
-
-slice_get-last : (entries : List Entry) (entry : Entry) → slice_get (entries ++ entry ∷ []) (length entries) ≡ Some entry
-slice_get-last [] entry = refl
-slice_get-last (e ∷ es) entry = slice_get-last es entry
-
--- what an entry says behind those before it
-abbrev said_at : {A : Type 0} → (List Entry → Entry → Option A) → List Entry → ℕ → Option A
-said_at says entries place = option_and_then (λ (entry : Entry). says (take place entries) entry) (slice_get entries place)
-
-cons_before : {A : Type 0} (o : Option A) (some more : List A) → cons_option o (some ++ more) ≡ cons_option o some ++ more
-cons_before None some more = refl
-cons_before (Some x) some more = refl
-
-range-push : {A : Type 0} (f : ℕ → Option A) (from many : ℕ) → filter_map f (range_with_len from (suc many)) ≡ filter_map f (range_with_len from many) ++ cons_option (f (from + many)) []
-range-push f from zero = ap (λ n. cons_option (f n) []) (let same : from ≡ from + 0 = omega arith in same)
-range-push f from (suc many) =
-    ap (cons_option (f from)) (range-push f (from + 1) many)
-    ∙ cons_before (f from) (filter_map f (range_with_len (from + 1) many)) (cons_option (f ((from + 1) + many)) [])
-    ∙ ap (λ n. filter_map f (range_with_len from (suc many)) ++ cons_option (f n) []) (let same : (from + 1) + many ≡ from + suc many = omega arith in same)
-
-range_agree : {A : Type 0} (f g : ℕ → Option A) (from many : ℕ) → ((k : ℕ) → k < from + many → f k ≡ g k) → filter_map f (range_with_len from many) ≡ filter_map g (range_with_len from many)
-range_agree f g from zero same = refl
-range_agree f g from (suc many) same =
-    ap (λ o. cons_option o (filter_map f (range_with_len (from + 1) many))) (same from (omega arith))
-    ∙ ap (cons_option (g from)) (range_agree f g (from + 1) many (λ k less. same k (omega (arith, less))))
-
-said_at-push : {A : Type 0} (says : List Entry → Entry → Option A) (entries : List Entry) (entry : Entry)
-    → filter_map (said_at says (entries ++ entry ∷ [])) (range_with_len 0 (length (entries ++ entry ∷ []))) ≡ filter_map (said_at says entries) (range_with_len 0 (length entries)) ++ cons_option (says entries entry) []
-said_at-push {A} says entries entry =
-    ap (λ n. filter_map (said_at says (entries ++ entry ∷ [])) (range_with_len 0 n)) (let same : length (entries ++ entry ∷ []) ≡ suc (length entries) = omega (arith, length-append entries (entry ∷ [])) in same)
-    ∙ range-push (said_at says (entries ++ entry ∷ [])) 0 (length entries)
-    ∙ ap (λ (xs : List A). xs ++ cons_option (said_at says (entries ++ entry ∷ []) (0 + length entries)) []) (range_agree (said_at says (entries ++ entry ∷ [])) (said_at says entries) 0 (length entries) earlier)
-    ∙ ap (λ n. filter_map (said_at says entries) (range_with_len 0 (length entries)) ++ cons_option (said_at says (entries ++ entry ∷ []) n) []) (let same : 0 + length entries ≡ length entries = omega arith in same)
-    ∙ ap (λ o. filter_map (said_at says entries) (range_with_len 0 (length entries)) ++ cons_option o []) last
-  where
-    earlier : (k : ℕ) → k < 0 + length entries → said_at says (entries ++ entry ∷ []) k ≡ said_at says entries k
-    earlier k less =
-        ap (option_and_then (λ (e : Entry). says (take k (entries ++ entry ∷ [])) e)) (slice_get-push entries entry k (omega (arith, less)))
-        ∙ ap (λ (before : List Entry). option_and_then (λ (e : Entry). says before e) (slice_get entries k)) (take-append-le k entries (entry ∷ []) (omega (arith, less)))
-
-    last : said_at says (entries ++ entry ∷ []) (length entries) ≡ says entries entry
-    last =
-        ap (option_and_then (λ (e : Entry). says (take (length entries) (entries ++ entry ∷ [])) e)) (slice_get-last entries entry)
-        ∙ ap (λ (before : List Entry). says before entry) (take-append_seam entries (entry ∷ []))
-
-last_of_more : {A : Type 0} (first : Option A) (xs : List A) (o : Option A) → last_or first (xs ++ cons_option o []) ≡ option_or o (last_or first xs)
-last_of_more first [] None = refl
-last_of_more first [] (Some x) = refl
-last_of_more first (x ∷ xs) o = last_of_more (Some x) xs o
-
--- the draw of a batch with one more entry: its own, or else the one before
-pub drawing_of-push : (entries : List Entry) (entry : Entry) (batch : Name) → drawing_of (entries ++ entry ∷ []) batch ≡ option_or (drawing_from batch entries entry.act) (drawing_of entries batch)
-drawing_of-push entries entry batch =
-    ap (last_or None) (said_at-push (λ before (e : Entry). drawing_from batch before e.act) entries entry)
-    ∙ last_of_more None (drawings entries batch) (drawing_from batch entries entry.act)
 
 -- ---- the packs that are drawn
 

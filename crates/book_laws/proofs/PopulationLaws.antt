@@ -33,9 +33,10 @@ use Rattle.book_words.specs.Refusals.{refused_if, batch_of_pack}
 use Rattle.book_words.specs.Answers.{IsLawful, IsLegal}
 use Rattle.book_words.proofs.NameLemmas.{same_name_is}
 use Rattle.book_words.proofs.OneMoreEntry.{advance, own_reading, readings-push, readings_among-push}
+use Rattle.book_words.proofs.DrawnLemmas.{drawing_of-push}
 use Rattle.book_laws.proofs.LawfulActs.{IsAllowed, allowed, weigh_tells, void_tells, close_tells}
 use Rattle.book_laws.proofs.ReadingLaws.{by_entries, IsOneOf, each_is_one}
-use Rattle.book_laws.proofs.BatchLaws.{IsOrderly, orderly, state_of-push, drawing_of-push, drawn_is_fixed, is_fixed, close_state}
+use Rattle.book_laws.proofs.BatchLaws.{IsOrderly, orderly, state_of-push, drawn_is_fixed, is_fixed, close_state}
 use Rattle.book_laws.proofs.UnsettledLaws.{Belongs, each_belongs}
 
 -- ---- where a reading lies before samples are looked at, once an act came

@@ -121,7 +121,8 @@ module _ {A B : Type 0} (Q : B → Type 0) (P : A → Type 0) where
   mapped_has f None there h = tt
   mapped_has f (Some x) there h = h x there
 
-fewer : {A : Type 0} (test : A → Bool) (xs : List A) → length (filter test xs) ≤ length xs
+-- there are no more of some things that meet a test than there are
+pub fewer : {A : Type 0} (test : A → Bool) (xs : List A) → length (filter test xs) ≤ length xs
 fewer test [] = omega arith
 fewer test (x ∷ xs) = either (test x) (fewer test xs)
   where
@@ -138,7 +139,8 @@ all_fit : (entries : List Entry) → AllInRange entries → AllByRecursion IsFit
 all_fit [] all = tt
 all_fit (e ∷ es) all = (all 0 e (omega arith), all_fit es (λ k d inside. all (suc k) d (omega arith)))
 
-within_limits : (least greatest x : ℤ) → is_within least greatest x ≡ true → IsBetween least greatest x
+-- what a test says of a range
+pub within_limits : (least greatest x : ℤ) → is_within least greatest x ≡ true → IsBetween least greatest x
 within_limits least greatest x h = let parts = and_parts (int_le least x) (int_le x greatest) h in (grind (arith, ints), grind (arith, ints))
 
 -- what each fit act says of something has a property, so what the list says has it
@@ -236,12 +238,12 @@ tare_of_reading_fits entries batch day all =
     (λ d. given_has IsFitTare (λ (product : Name). tare_of_product entries product d) (product_of entries name) (λ product. tare_known entries product d all)))
 
 abbrev IsFitMeasured : Measured → Type 0
-IsFitMeasured measured = IsFitGross measured.gross
+IsFitMeasured measured = IsFitGross measured.gross × IsFitTare measured.empty
 
 measured_fits : (pack : ℕ) (act : Act) → is_act_in_range act ≡ true → IfSome (measured_by pack act) IsFitMeasured
 measured_fits pack (Measure number gross empty) h =
     let parts = and_parts (is_within (pos 0) MAX_GROSS gross) (is_within (pos 0) MAX_TARE empty) h in
-    where_has IsFitMeasured (number == pack) (record { gross = gross; empty = empty }) (within_limits (pos 0) MAX_GROSS gross parts.0)
+    where_has IsFitMeasured (number == pack) (record { gross = gross; empty = empty }) (within_limits (pos 0) MAX_GROSS gross parts.0, within_limits (pos 0) MAX_TARE empty parts.1)
 measured_fits pack (NewDay day) h = tt
 measured_fits pack (PutProduct name nominal unit) h = tt
 measured_fits pack (PutTare product day tare) h = tt
@@ -254,6 +256,27 @@ measured_fits pack (EndRun batch) h = tt
 measured_fits pack (Draw batch mode word) h = tt
 measured_fits pack (DrawSecond batch word) h = tt
 measured_fits pack (Close batch) h = tt
+
+-- ---- what a legal list says
+
+legal_fit : (entries : List Entry) → IsLegal entries → AllByRecursion IsFit entries
+legal_fit entries legal = all_fit entries (legal_in_range entries legal)
+
+-- the nominal quantity of a product is one of Annex I
+pub nominal_within : (entries : List Entry) (product : Name) → IsLegal entries → IfSome (nominal_of entries product) (IsBetween MIN_NOMINAL MAX_NOMINAL)
+nominal_within entries product legal = nominal_known entries product (legal_fit entries legal)
+
+-- a tare of a product is 0 to 5 kg
+pub product_tare_within : (entries : List Entry) (product : Name) (day : ℤ) → IsLegal entries → IfSome (tare_of_product entries product day) (IsBetween (pos 0) MAX_TARE)
+product_tare_within entries product day legal = tare_known entries product day (legal_fit entries legal)
+
+-- so is that of a reading
+pub tare_within : (entries : List Entry) (batch : Option Name) (day : Option ℤ) → IsLegal entries → IfSome (tare_of_reading entries batch day) (IsBetween (pos 0) MAX_TARE)
+tare_within entries batch day legal = tare_of_reading_fits entries batch day (legal_fit entries legal)
+
+-- what was measured of a pack: a gross of 0 to 30 kg, and an empty pack of 0 to 5 kg
+pub measured_within : (entries : List Entry) (pack : ℕ) → IsLegal entries → IfSome (measured_of entries pack) (λ measured. IsBetween (pos 0) MAX_GROSS measured.gross × IsBetween (pos 0) MAX_TARE measured.empty)
+measured_within entries pack legal = last_said_has IsFitMeasured (measured_by pack) (measured_fits pack) entries (legal_fit entries legal)
 
 -- ---- the readings
 
@@ -305,7 +328,7 @@ readings_fit : (entries : List Entry) → IsLegal entries → AreFit (readings e
 readings_fit entries legal =
     let rows = legal_few entries legal in
     let less = few_among entries 0 (length entries) in
-    record { few = omega (arith, less, rows); each = among_fit entries 0 (length entries) (all_fit entries (legal_in_range entries legal)) }
+    record { few = omega (arith, less, rows); each = among_fit entries 0 (length entries) (legal_fit entries legal) }
 
 some_fit : (test : Reading → Bool) (some : List Reading) → AreFit some → AreFit (filter test some)
 some_fit test some fit =
@@ -362,7 +385,7 @@ nets_within entries (reading ∷ some) all each =
 
 -- ---- what questions are told
 
-error_within : (quantity : ℕ) → quantity ≤ 10000000 → error_of quantity ≤ 10000000
+error_within : (quantity : ℕ) → quantity ≤ unsigned_abs MAX_NOMINAL → error_of quantity ≤ unsigned_abs MAX_NOMINAL
 error_within quantity h = grind (arith, nat_tests)
 
 -- the error is within the range of nominal quantities
@@ -382,7 +405,7 @@ nominal_of_batch_fits entries batch all =
 sheet_within : (entries : List Entry) (batch product : Name) (nominal : ℤ) (unit : units.Unit) (density : ℕ) (state : states.BatchState) → IsLegal entries → IsFitNominal nominal
     → IsSheetInRange (sheet_record entries batch product nominal unit density state)
 sheet_within entries batch product nominal unit density state legal h =
-    let fit = all_fit entries (legal_in_range entries legal) in
+    let fit = legal_fit entries legal in
     let own = some_fit (is_of_batch batch) (readings entries) (readings_fit entries legal) in
     let some = some_fit (λ reading. is_of_batch batch reading && is_counted reading) (readings entries) (readings_fit entries legal) in
     let nets = nets_within entries (population entries batch) fit some.each in
@@ -401,7 +424,7 @@ sheet_within entries batch product nominal unit density state legal h =
 sheet_of_within : (entries : List Entry) (batch : Name) → IsLegal entries → IfSome (sheet_of entries batch) IsSheetInRange
 sheet_of_within entries batch legal =
     given_has IsSheetInRange (of_product) (product_of entries batch) (λ product.
-    then_has IsFitNominal IsSheetInRange (of_nominal product) (nominal_of entries product) (nominal_known entries product (all_fit entries (legal_in_range entries legal))) (λ nominal h.
+    then_has IsFitNominal IsSheetInRange (of_nominal product) (nominal_of entries product) (nominal_known entries product (legal_fit entries legal)) (λ nominal h.
     given_has IsSheetInRange (of_unit product nominal) (unit_of entries product) (λ unit.
     given_has IsSheetInRange (of_density product nominal unit) (density_of entries batch) (λ density.
     map_has (sheet_record entries batch product nominal unit density) (state_of entries batch) (λ state. sheet_within entries batch product nominal unit density state legal h)))))
@@ -446,7 +469,7 @@ pack_within : (entries : List Entry) (pack : ℕ) → IsLegal entries → IfSome
 pack_within entries pack legal =
     then_has IsFitReading IsPackInRange (view_of_reading entries) (reading_of entries pack)
     (found_has IsFitReading (λ reading. reading.number == pack) (readings entries) (readings_fit entries legal).each)
-    (λ reading h. view_within entries reading (all_fit entries (legal_in_range entries legal)) h)
+    (λ reading h. view_within entries reading (legal_fit entries legal) h)
 
 keeping_within : (n : ℕ) → (keeping_plan n).first + (keeping_plan n).second ≤ MAX_DRAWN
 keeping_within n = grind (arith, nat_tests)
@@ -547,7 +570,7 @@ small_told entries batch Destroy = where_refused _ (why.ModeSmall (length (popul
 measured_told : (entries : List Entry) (pack : ℕ) → AllByRecursion IsFit entries → ToldInRange (rules.measured_already entries pack)
 measured_told entries pack all =
     mapped_has IsFitMeasured IsRefusalInRange (λ measured. why.MeasuredAlready measured.gross) (measured_of entries pack)
-    (last_said_has IsFitMeasured (measured_by pack) (measured_fits pack) entries all) (λ measured h. h)
+    (last_said_has IsFitMeasured (measured_by pack) (measured_fits pack) entries all) (λ measured h. h.0)
 
 needless_told : (entries : List Entry) (batch : Name) → ToldInRange (rules.second_needless entries batch)
 needless_told entries batch =
@@ -666,7 +689,7 @@ refusal_of_told : (limit : ℕ) (entries : List Entry) (ask : Ask) (act : Act) �
 refusal_of_told limit entries ask act legal =
     first_told (desk_refusals entries ask act ++ rules.book_full limit entries ∷ refusals_of entries act)
     (both_told (desk_refusals entries ask act) (rules.book_full limit entries ∷ refusals_of entries act) (desk_each_told entries ask act)
-    (where_refused _ (why.BookFull limit) tt, each_told entries act (all_fit entries (legal_in_range entries legal))))
+    (where_refused _ (why.BookFull limit) tt, each_told entries act (legal_fit entries legal)))
 
 -- ---- each answer and each refusal
 

@@ -32,10 +32,11 @@ use Rattle.book_words.proofs.NameLemmas.{same_name_itself}
 use Rattle.book_words.proofs.RefusalLemmas.{none_of_two}
 use Rattle.book_words.proofs.LegalLemmas.{legal-prefix}
 use Rattle.book_words.proofs.OneMoreEntry.{advance}
+use Rattle.book_words.proofs.DrawnLemmas.{drawing_of-push}
 use Rattle.book_laws.proofs.TareLaws.{tared_of}
 use Rattle.book_laws.proofs.KnownLaws.{IsAllowed, lawful_allowed, IsKnown, silent, state_apart, closed_stays, nominal_of_batch_stays, density_of_batch_stays}
 use Rattle.book_laws.proofs.LaneLaws.{AreLanesRight, lanes_right}
-use Rattle.book_laws.proofs.PackLaws.{IsPick, PicksOwn, picks_own, numbered, none_beyond, reading_of_later, drawing_of-push}
+use Rattle.book_laws.proofs.PackLaws.{IsPick, PicksOwn, picks_own, numbered, none_beyond, reading_of_later}
 use Rattle.book_laws.proofs.ClosedLaws.{Unmoved, all_unmoved, measured_stays, closed_population_stays}
 use Rattle.book_laws.proofs.FrozenLaws.{TareStays, closed_tares_stay}
 

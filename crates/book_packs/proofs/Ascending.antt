@@ -1,19 +1,16 @@
 -- The numbers of readings ascend, and none is above the length of the list.
-use Rattle.std.proofs.Common.{◌≡◌, ℕ, zero, suc, ◌+◌, ◌<◌, ◌≤◌, Bool, true, false, ◌&&◌, cond, List, [], ◌∷◌, length, drop, take, Option, Some, None, IfSome, refl, sym, subst, arith}
-use Rattle.std.specs.List.{AllByRecursion, filter_map, range_with_len, cons_option, slice_get}
-use Rattle.std.specs.Option.{option_and_then}
-use Rattle.pack_judge.specs.declared.types.Signal.{Signal}
-use Rattle.book_words.specs.declared.act.Act.{Act}
-use Rattle.book_words.specs.declared.act.Act.TheVariants.{NewDay, PutProduct, PutTare, OpenBatch, StartLane, Weigh, StopLane, Void, EndRun, Draw, Measure, DrawSecond, Close}
+use Rattle.std.proofs.Common.{◌≡◌, ℕ, zero, suc, ◌+◌, ◌<◌, ◌≤◌, Bool, true, false, ◌&&◌, cond, List, [], ◌∷◌, length, Option, Some, None, IfSome, sym, subst, arith}
+use Rattle.std.specs.List.{AllByRecursion, filter_map, range_with_len, cons_option}
 use Rattle.book_words.specs.declared.act.Entry.{Entry}
 use Rattle.book_words.specs.declared.act.Reading.{Reading}
-use Rattle.book_words.specs.Readings.{reading_from, reading_at, readings}
+use Rattle.book_words.specs.Readings.{reading_at, readings}
 use Rattle.std.specs.List.{filter, slice_index}
 use Rattle.std.specs.List.Sorted.{IsStrictlyIncreasing}
 use Rattle.book_words.specs.declared.name.Name.{Name}
 use Rattle.book_words.specs.Readings.{is_of_batch}
 use Rattle.book_words.specs.Population.{population, is_counted}
 use Rattle.book_words.specs.Samples.{numbers_of}
+use Rattle.book_words.proofs.DrawnPacks.{reading_at-number}
 use Rattle.book_packs.proofs.Lists.{all_then}
 
 -- each number is above the one before it
@@ -21,31 +18,9 @@ abbrev pub Above : ℕ → List Reading → Type 0
 Above low [] = Unit {0}
 Above low (reading ∷ some) = (low < reading.number) × Above reading.number some
 
-number_from : (number : ℕ) (before : List Entry) (act : Act) (signal : Option Signal) (after : List Entry) → IfSome (reading_from number before act signal after) (λ reading. reading.number ≡ number)
-number_from number before (Weigh lane gross prior) signal after = refl
-number_from number before (NewDay day) signal after = tt
-number_from number before (PutProduct name nominal unit) signal after = tt
-number_from number before (PutTare product day tare) signal after = tt
-number_from number before (OpenBatch batch product density) signal after = tt
-number_from number before (StartLane lane batch) signal after = tt
-number_from number before (StopLane lane prior) signal after = tt
-number_from number before (Void pack) signal after = tt
-number_from number before (EndRun batch) signal after = tt
-number_from number before (Draw batch mode word) signal after = tt
-number_from number before (Measure pack gross empty) signal after = tt
-number_from number before (DrawSecond batch word) signal after = tt
-number_from number before (Close batch) signal after = tt
-
-number_at : (entries : List Entry) (place : ℕ) → IfSome (reading_at entries place) (λ reading. reading.number ≡ place + 1)
-number_at entries place = each (slice_get entries place)
-  where
-    each : (o : Option Entry) → IfSome (option_and_then (λ (e : Entry). reading_from (place + 1) (take place entries) e.act e.signal (drop (place + 1) entries)) o) (λ reading. reading.number ≡ place + 1)
-    each None = tt
-    each (Some e) = number_from (place + 1) (take place entries) e.act e.signal (drop (place + 1) entries)
-
 above_from : (entries : List Entry) (from many low : ℕ) → low ≤ from → Above low (filter_map (reading_at entries) (range_with_len from many))
 above_from entries from zero low h = tt
-above_from entries from (suc many) low h = go (reading_at entries from) (number_at entries from) (above_from entries (from + 1) many)
+above_from entries from (suc many) low h = go (reading_at entries from) (reading_at-number entries from) (above_from entries (from + 1) many)
   where
     go : (o : Option Reading) → IfSome o (λ reading. reading.number ≡ from + 1) → ((least : ℕ) → least ≤ from + 1 → Above least (filter_map (reading_at entries) (range_with_len (from + 1) many)))
         → Above low (cons_option o (filter_map (reading_at entries) (range_with_len (from + 1) many)))
@@ -57,7 +32,7 @@ ascending entries = above_from entries 0 (length entries) 0 (omega arith)
 
 within_from : (entries : List Entry) (from many : ℕ) → AllByRecursion (λ reading. reading.number ≤ from + many) (filter_map (reading_at entries) (range_with_len from many))
 within_from entries from zero = tt
-within_from entries from (suc many) = go (reading_at entries from) (number_at entries from) (all_then (λ reading h. omega (arith, h)) _ (within_from entries (from + 1) many))
+within_from entries from (suc many) = go (reading_at entries from) (reading_at-number entries from) (all_then (λ reading h. omega (arith, h)) _ (within_from entries (from + 1) many))
   where
     go : (o : Option Reading) → IfSome o (λ reading. reading.number ≡ from + 1) → AllByRecursion (λ reading. reading.number ≤ from + suc many) (filter_map (reading_at entries) (range_with_len (from + 1) many))
         → AllByRecursion (λ reading. reading.number ≤ from + suc many) (cons_option o (filter_map (reading_at entries) (range_with_len (from + 1) many)))

@@ -21,9 +21,9 @@ use Rattle.book_words.specs.Refusals.{refused_if, day_unset, batch_unknown, batc
 use Rattle.book_words.specs.Answers.{IsLegal}
 use Rattle.book_words.proofs.NameLemmas.{same_name_is}
 use Rattle.book_words.proofs.LastSaid.{last_or-cons, last_said-push}
+use Rattle.book_words.proofs.DrawnLemmas.{drawing_of-push}
 use Rattle.book_packs.proofs.Rules.{Passes, passes, none_of_two, not_none, not_refused, open_batch}
 use Rattle.book_packs.proofs.Numbered.{batch_is_known, batch_keeps}
-use Rattle.book_packs.proofs.Sampling.{drawing_of-push}
 
 -- what a draw draws by
 abbrev pub own_drawing : List Entry → Name → Mode → ℕ → Drawing

@@ -31,6 +31,7 @@ use Rattle.book_words.specs.Refusals.{refused_if, day_unset, batch_unknown, batc
 use Rattle.book_words.specs.declared.act.BatchState.TheVariants as state
 use Rattle.book_words.proofs.NameLemmas.{same_name_is, same_name_itself}
 use Rattle.book_words.proofs.OneMoreEntry.{advance}
+use Rattle.book_words.proofs.DrawnLemmas.{sample_of-push}
 use Rattle.book_packs.specs.Stand.{Standing, IsPacksOf, pack_of}
 use Rattle.book_packs.specs.Settling.{if_counts_for, sampled_one, sampled}
 use Rattle.book_packs.specs.Entering.{IsDraw, picks_by, batch_drawn}
@@ -40,7 +41,7 @@ use Rattle.book_packs.proofs.Known.{Known, known_of, IsWeighed, tare_named}
 use Rattle.book_packs.proofs.Telling.{unsampled, of_batch_tells}
 use Rattle.book_packs.proofs.Ascending.{Above, later, ascending}
 use Rattle.book_packs.proofs.Lone.{number_kept}
-use Rattle.book_packs.proofs.Sampling.{holds, sample_of-push, AtMost, samples_within}
+use Rattle.book_packs.proofs.Sampling.{holds, AtMost, samples_within}
 use Rattle.book_packs.proofs.Staying.{tares_keep, batches_keep, packs-push, pack_kept}
 use Rattle.book_packs.proofs.Drawn.{own_drawing, untouched}
 

@@ -1,9 +1,7 @@
 -- The samples with one more entry, and the numbers of the packs that they hold.
-use Rattle.std.proofs.Common.{◌≡◌, ℕ, zero, suc, ◌+◌, ◌<◌, ◌≤◌, ◌==◌, Bool, true, false, ◌||◌, cond, List, [], ◌∷◌, ◌++◌, length, take, drop, Option, Some, None, IfSome, option_map, refl, sym, ◌∙◌, ap, subst, arith, length-append, append-nil, append_assoc, ◌&&◌}
-use Rattle.std.proofs.lemmas.List.{take-append-le}
-use Rattle.std.proofs.Math.Seq.{take-append_seam}
+use Rattle.std.proofs.Common.{◌≡◌, ℕ, zero, suc, ◌<◌, ◌≤◌, ◌==◌, Bool, true, false, ◌||◌, cond, List, [], ◌∷◌, ◌++◌, length, take, drop, Option, Some, None, IfSome, option_map, refl, sym, ◌∙◌, ap, subst, arith, length-append, append-nil, append_assoc, ◌&&◌}
 use Rattle.std.proofs.lemmas.Bool.Decides.{nat_tests}
-use Rattle.std.specs.List.{AllByRecursion, filter, filter_map, range_with_len, cons_option, slice_get, last_or, remove, slice_index}
+use Rattle.std.specs.List.{AllByRecursion, filter, remove, slice_index}
 use Rattle.std.specs.Option.{option_or, option_and_then, option_map_or}
 use Rattle.sample_draw.specs.Draws.{drawn, packs_left, next_word, place_of}
 use Rattle.book_words.specs.declared.name.Name.{Name}
@@ -15,75 +13,10 @@ use Rattle.book_words.specs.Names.{same_name}
 use Rattle.book_words.specs.Acts.{last_said}
 use Rattle.book_words.specs.Readings.{readings, is_of_batch}
 use Rattle.book_words.specs.Population.{population, is_counted}
-use Rattle.book_words.specs.Samples.{Drawing, Sample, numbers_of, drawing_from, drawings, drawing_of, plan_of_drawing, first_picks, second_picks, second_word, sample_by, sample_of, is_among, holds_pack, is_sampled}
-use Rattle.book_words.proofs.LastSaid.{last_said-push}
+use Rattle.book_words.specs.Samples.{Drawing, Sample, numbers_of, drawing_from, drawing_of, plan_of_drawing, first_picks, second_picks, second_word, sample_by, sample_of, is_among, holds_pack, is_sampled}
+use Rattle.book_words.proofs.DrawnLemmas.{drawing_of-push, sample_of-push}
 use Rattle.book_packs.proofs.Lists.{all-append}
 use Rattle.book_packs.proofs.Ascending.{numbers_within}
-
--- the draw at a place
-abbrev pub drawing_at : List Entry → Name → ℕ → Option Drawing
-drawing_at entries batch place = option_and_then (λ (entry : Entry). drawing_from batch (take place entries) entry.act) (slice_get entries place)
-
-get-push : (entries : List Entry) (entry : Entry) (place : ℕ) → place < length entries → slice_get (entries ++ entry ∷ []) place ≡ slice_get entries place
-get-push [] entry place h = absurd (omega arith)
-get-push (e ∷ es) entry zero h = refl
-get-push (e ∷ es) entry (suc place) h = get-push es entry place (omega arith)
-
-get-last : (es : List Entry) (e : Entry) → slice_get (es ++ e ∷ []) (length es) ≡ Some e
-get-last [] e = refl
-get-last (x ∷ xs) e = get-last xs e
-
-at-push : (entries : List Entry) (entry : Entry) (batch : Name) (place : ℕ) → place < length entries → drawing_at (entries ++ entry ∷ []) batch place ≡ drawing_at entries batch place
-at-push entries entry batch place h =
-    ap (option_and_then (λ (e : Entry). drawing_from batch (take place (entries ++ entry ∷ [])) e.act)) (get-push entries entry place h)
-    ∙ ap (λ (before : List Entry). option_and_then (λ (e : Entry). drawing_from batch before e.act) (slice_get entries place)) (take-append-le place entries (entry ∷ []) (omega arith))
-
-range-within : (f g : ℕ → Option Drawing) (from many : ℕ) → ((place : ℕ) → place < from + many → f place ≡ g place) → filter_map f (range_with_len from many) ≡ filter_map g (range_with_len from many)
-range-within f g from zero h = refl
-range-within f g from (suc many) h =
-    ap (λ o. cons_option o (filter_map f (range_with_len (from + 1) many))) (h from (omega arith))
-    ∙ ap (cons_option (g from)) (range-within f g (from + 1) many (λ place within. h place (omega (arith, within))))
-
-cons-append : (o : Option Drawing) (some more : List Drawing) → cons_option o (some ++ more) ≡ cons_option o some ++ more
-cons-append None some more = refl
-cons-append (Some d) some more = refl
-
-range-more : (f : ℕ → Option Drawing) (from many : ℕ) → filter_map f (range_with_len from (suc many)) ≡ filter_map f (range_with_len from many) ++ cons_option (f (from + many)) []
-range-more f from zero = ap (λ n. cons_option (f n) []) (let same : from ≡ from + 0 = omega arith in same)
-range-more f from (suc many) =
-    ap (cons_option (f from)) (range-more f (from + 1) many)
-    ∙ cons-append (f from) (filter_map f (range_with_len (from + 1) many)) (cons_option (f ((from + 1) + many)) [])
-    ∙ ap (λ n. filter_map f (range_with_len from (suc many)) ++ cons_option (f n) []) (let same : (from + 1) + many ≡ from + suc many = omega arith in same)
-
-at-last : (entries : List Entry) (entry : Entry) (batch : Name) → drawing_at (entries ++ entry ∷ []) batch (length entries) ≡ drawing_from batch entries entry.act
-at-last entries entry batch =
-    ap (option_and_then (λ (e : Entry). drawing_from batch (take (length entries) (entries ++ entry ∷ [])) e.act)) (get-last entries entry)
-    ∙ ap (λ (before : List Entry). drawing_from batch before entry.act) (take-append_seam entries (entry ∷ []))
-
--- the draws with one more entry
-pub drawings-push : (entries : List Entry) (entry : Entry) (batch : Name) → drawings (entries ++ entry ∷ []) batch ≡ drawings entries batch ++ cons_option (drawing_from batch entries entry.act) []
-drawings-push entries entry batch =
-    ap (λ n. filter_map (drawing_at (entries ++ entry ∷ []) batch) (range_with_len 0 n)) (let same : length (entries ++ entry ∷ []) ≡ suc (length entries) = omega (arith, length-append entries (entry ∷ [])) in same)
-    ∙ range-more (drawing_at (entries ++ entry ∷ []) batch) 0 (length entries)
-    ∙ ap (λ some. some ++ cons_option (drawing_at (entries ++ entry ∷ []) batch (0 + length entries)) [])
-    (range-within (drawing_at (entries ++ entry ∷ []) batch) (drawing_at entries batch) 0 (length entries) (λ place within. at-push entries entry batch place (omega (arith, within))))
-    ∙ ap (λ n. drawings entries batch ++ cons_option (drawing_at (entries ++ entry ∷ []) batch n) []) (let same : 0 + length entries ≡ length entries = omega arith in same)
-    ∙ ap (λ o. drawings entries batch ++ cons_option o []) (at-last entries entry batch)
-
-last-more : (o before : Option Drawing) (some : List Drawing) → last_or before (some ++ cons_option o []) ≡ option_or o (last_or before some)
-last-more None before [] = refl
-last-more (Some d) before [] = refl
-last-more o before (d ∷ some) = last-more o (Some d) some
-
-pub drawing_of-push : (entries : List Entry) (entry : Entry) (batch : Name) → drawing_of (entries ++ entry ∷ []) batch ≡ option_or (drawing_from batch entries entry.act) (drawing_of entries batch)
-drawing_of-push entries entry batch = ap (last_or None) (drawings-push entries entry batch) ∙ last-more (drawing_from batch entries entry.act) None (drawings entries batch)
-
--- the samples with one more entry
-pub sample_of-push : (entries : List Entry) (entry : Entry) (batch : Name)
-    → sample_of (entries ++ entry ∷ []) batch ≡ option_map (λ drawing. sample_by drawing (option_or (second_word batch entry.act) (last_said (second_word batch) entries))) (option_or (drawing_from batch entries entry.act) (drawing_of entries batch))
-sample_of-push entries entry batch =
-    ap (λ word. option_map (λ drawing. sample_by drawing word) (drawing_of (entries ++ entry ∷ []) batch)) (last_said-push (second_word batch) entries entry)
-    ∙ ap (option_map (λ drawing. sample_by drawing (option_or (second_word batch entry.act) (last_said (second_word batch) entries)))) (drawing_of-push entries entry batch)
 
 -- whether an act draws a sample
 abbrev pub is_draw : Act → Bool

@@ -5,6 +5,9 @@ ghost use Rattle.book_packs.specs.Densities.{limit_at, limits_at};
 use annex_tables::{Limits, limits};
 use hall_limits::MAX_NOMINAL;
 
+/// The density at which a mass in mg and a volume in microlitres are one number, in mg a litre.
+pub const UNIT_DENSITY: u32 = 1_000_000;
+
 /// The limits in mg of a nominal quantity at a density in mg a litre. A net in mg is below one of
 /// them exactly where a million times it is below the density times the limit that the tables give.
 pub fn limits_by_density(density: u32, nominal: i64) -> Limits
@@ -28,5 +31,5 @@ fn limit_at(density: u32, limit: i64) -> i64
     ensures { result ≡ limit_at density limit }
 {
     let product = u64::from(density) * limit as u64;
-    product.div_ceil(1_000_000) as i64
+    product.div_ceil(u64::from(UNIT_DENSITY)) as i64
 }

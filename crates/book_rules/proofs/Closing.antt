@@ -21,8 +21,8 @@ use Rattle.book_words.specs.Samples.{Drawing, drawing_from, drawing_of, second_w
 use Rattle.book_words.specs.Measures.{Measured, measured_by, measured_of, actual_contents, contents_of_pack, contents_among}
 use Rattle.book_words.specs.Verdicts.{second_packs, verdict_of}
 use Rattle.book_words.proofs.OneMoreEntry.{advance, readings-push}
+use Rattle.book_words.proofs.DrawnLemmas.{drawing_of-push}
 use Rattle.book_laws.proofs.KnownLaws.{silent}
-use Rattle.book_laws.proofs.PackLaws.{drawing_of-push}
 use Rattle.book_laws.proofs.VerdictLaws.{NetAgrees, Agree, same_verdict}
 
 or_none : {A : Type 0} (o : Option A) → option_or o None ≡ o

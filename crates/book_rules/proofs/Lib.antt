@@ -1,12 +1,6 @@
-pub mod Accepting
-pub mod Adding
-pub mod Below
 pub mod Chains
 pub mod Closing
 pub mod Judging
-pub mod Known
-pub mod Packing
 pub mod Repeating
 pub mod Rows
 pub mod SameActs
-pub mod Viewing

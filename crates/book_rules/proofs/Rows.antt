@@ -6,14 +6,12 @@ use Rattle.std.specs.List.{All, cons_option, filter_map, last_or, range_with_len
 use Rattle.book_words.specs.declared.act.Entry.{Entry}
 use Rattle.book_laws.proofs.TareLaws.{some_is}
 use Rattle.book_words.specs.Desks.{Row, rows_of, newest_row}
+use Rattle.book_words.proofs.RowLemmas.{row_at}
 use Rattle.book_state.specs.Told.{entry_numbered}
 
 -- a row is the entry of its number
 abbrev IsRow : List Entry → Row → Type 0
 IsRow entries row = entry_numbered entries row.number ≡ Some row.entry
-
-abbrev row_at : List Entry → ℕ → Option Row
-row_at entries place = option_map (λ entry. record { number = place + 1; entry = entry }) (slice_get entries place)
 
 numbered_at : (entries : List Entry) (place : ℕ) → entry_numbered entries (place + 1) ≡ slice_get entries place
 numbered_at entries place =

@@ -1,4 +1,2 @@
-pub mod Testing
-pub mod Tallies
-pub mod Terms
+pub mod Counted
 pub mod Replying

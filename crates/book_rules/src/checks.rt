@@ -2,13 +2,12 @@ ghost use Rattle.std.specs.Prelude.{◌≡◌, ◌∷◌, [], not};
 ghost use Rattle.std.specs.List.{list_all, list_any};
 ghost use Rattle.book_words.specs.Acts.{same_state};
 ghost use Rattle.book_words.specs.Names.{bytes_of, is_name_byte, is_name_shape};
-ghost use Rattle.book_words.specs.Refusals.{refused_if, is_within, book_full, day_unset, day_back, product_known, product_unknown, name_shape, nominal_range, day_range, batch_known, batch_unknown, batch_state, lane_number, lane_busy, lane_idle, no_tare, gross_range, prior_wrong, lanes_running, tare_range, tare_frozen, suits_unit, density_range};
+ghost use Rattle.book_words.specs.Refusals.{refused_if, is_within, book_full, day_unset, day_back, product_known, product_unknown, name_shape, nominal_range, day_range, batch_known, batch_unknown, batch_state, lane_busy, lane_idle, no_tare, gross_range, prior_wrong, lanes_running, tare_range, tare_frozen, suits_unit, density_range};
 
 use book_state::State;
 use book_words::{Act, BatchState, Name, Prior, Refusal, Unit};
 use hall_limits::{
-    MAX_DAY, MAX_DENSITY, MAX_GROSS, MAX_LANE, MAX_NOMINAL, MAX_TARE, MIN_DENSITY, MIN_NOMINAL,
-    NAME_BYTES,
+    MAX_DAY, MAX_DENSITY, MAX_GROSS, MAX_NOMINAL, MAX_TARE, MIN_DENSITY, MIN_NOMINAL, NAME_BYTES,
 };
 
 /// A refusal where a test holds.
@@ -136,13 +135,6 @@ pub fn batch_state(allowed: &[BatchState], state: &State, batch: &Name) -> Optio
         !is_allowed(now, allowed),
         Refusal::BatchState { state: now },
     )
-}
-
-/// The lane isn't 1 to 16.
-pub fn lane_number(lane: u8) -> Option<Refusal>
-    ensures { result ≡ lane_number lane }
-{
-    refuse_if(!(1 <= lane && lane <= MAX_LANE), Refusal::LaneNumber)
 }
 
 /// The lane has a batch.

@@ -7,8 +7,8 @@ ghost use Rattle.book_words.specs.Signals.{recorded_signal};
 ghost use Rattle.book_words.specs.Answers.{reply_behind, judged_or_done};
 ghost use Rattle.book_rules.specs.Replying.{reply_with};
 
-use crate::verdicts::verdict_of;
 use book_state::State;
+use book_views::verdict_of;
 use book_words::{Act, Ask, Reply};
 use pack_judge::Signal;
 

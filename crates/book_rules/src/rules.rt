@@ -6,6 +6,7 @@ use crate::desks::refuse_request;
 use crate::{checks, samples};
 use annex_tables::Mode;
 use book_state::State;
+use book_views::lane_number;
 use book_words::{Act, Ask, BatchState, Name, Prior, Refusal, Unit};
 use pack_judge::Pile;
 
@@ -59,7 +60,7 @@ fn refuse_start(state: &State, lane: u8, batch: &Name) -> Option<Refusal>
     checks::day_unset(state)
         .or(checks::batch_unknown(state, batch))
         .or(checks::batch_state(&[BatchState::Running], state, batch))
-        .or(checks::lane_number(lane))
+        .or(lane_number(lane))
         .or(checks::lane_busy(state, lane))
         .or(checks::no_tare(state, batch))
 }
@@ -70,7 +71,7 @@ fn refuse_weighing(state: &State, lane: u8, gross: i64, prior: Prior) -> Option<
         (Act.Weigh lane gross prior)) }
 {
     checks::day_unset(state)
-        .or(checks::lane_number(lane))
+        .or(lane_number(lane))
         .or(checks::lane_idle(state, lane))
         .or(checks::gross_range(gross))
         .or(checks::prior_wrong(state, lane, prior))
@@ -81,7 +82,7 @@ fn refuse_stop(state: &State, lane: u8, prior: Prior) -> Option<Refusal>
     ensures { result ≡ first_refusal (refusals_of state.now.entries (Act.StopLane lane prior)) }
 {
     checks::day_unset(state)
-        .or(checks::lane_number(lane))
+        .or(lane_number(lane))
         .or(checks::lane_idle(state, lane))
         .or(checks::prior_wrong(state, lane, prior))
 }

@@ -1,6 +1,6 @@
-ghost use Rattle.std.specs.Prelude.{◌≡◌, ◌≤ℤ◌, None, Some, pos, true, is_some};
+ghost use Rattle.std.specs.Prelude.{◌≡◌, ◌≤ℤ◌, None, Some, pos};
 ghost use Rattle.hall_limits.specs.declared.TheConstants.{MAX_GROSS};
-ghost use Rattle.book_words.specs.Acts.{newest_day, lane_batch, product_of};
+ghost use Rattle.book_words.specs.Acts.{newest_day, lane_batch};
 ghost use Rattle.book_words.specs.Readings.{net_of_gross};
 ghost use Rattle.book_words.specs.Refusals.{refusals_of, first_refusal, prior_wrong};
 ghost use Rattle.book_words.specs.Signals.{recorded_signal, judged_signal};
@@ -9,36 +9,31 @@ use book_state::State;
 use book_words::{Act, Name, Prior};
 use pack_judge::{Signal, signal};
 
-// The net of a gross in a batch on the newest day, in mg.
-fn net_in(state: &State, batch: &Name, gross: i64) -> i64
+// The net of a gross on a lane on the newest day, in mg.
+fn net_on(state: &State, lane: u8, gross: i64) -> i64
     requires least { pos 0 ≤ℤ gross }
     requires greatest { gross ≤ℤ MAX_GROSS }
-    ensures { result ≡ net_of_gross state.now.entries (Some batch.now)
+    ensures { result ≡ net_of_gross state.now.entries (lane_batch state.now.entries lane)
         (newest_day state.now.entries) gross }
 {
-    let tare = match (state.product(batch), state.day()) {
-        (Some(product), Some(day)) => state.tare(&product, day).unwrap_or(0),
-        _ => 0,
-    };
-    gross - tare
+    gross - state.lane_tare(lane).unwrap_or(0)
 }
 
 // The signal of a gross on a lane that has this batch.
 fn judge(state: &State, lane: u8, gross: i64, prior: Prior, batch: &Name) -> Signal
     requires lane { lane_batch state.now.entries lane ≡ Some batch.now }
-    requires known { is_some (product_of state.now.entries batch.now) ≡ true }
     requires free { prior_wrong state.now.entries lane prior ≡ None }
     requires least { pos 0 ≤ℤ gross }
     requires greatest { gross ≤ℤ MAX_GROSS }
     ensures { result ≡ judged_signal state.now.entries (Act.Weigh lane gross prior) gross
         batch.now }
 {
-    let Some(limits) = state.limits(batch) else {
+    let Some(limits) = state.lane_limits(lane) else {
         unreachable!()
     };
     let met = state.met(lane, gross, prior, batch);
     signal(
-        net_in(state, batch, gross),
+        net_on(state, lane, gross),
         &limits,
         met.inadequate > 0,
         met.population,

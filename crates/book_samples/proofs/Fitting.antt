@@ -8,7 +8,7 @@ use Rattle.annex_tables.specs.declared.types.PlanRefusal.TheVariants.{Empty, Sma
 use Rattle.annex_tables.specs.Plans.{plan_of, keeping_plan, plan_of_all, plan_to_500, plan_to_3200, plan_above_3200, plan_of_destruction}
 use Rattle.sample_draw.proofs.Drawing.{length-drawn}
 use Rattle.book_words.specs.Samples.{Drawing, Sample, plan_or_empty, plan_of_drawing, first_picks}
-use Rattle.book_samples.specs.Testing.{IsDrawnBy}
+use Rattle.book_samples.specs.DrawnBy.{IsDrawnBy}
 
 -- the samples of a plan are no more than the packs
 abbrev Fits : ℕ → Plan → Type 0

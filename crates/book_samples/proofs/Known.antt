@@ -21,7 +21,7 @@ use Rattle.book_words.specs.Answers.{IsLegal}
 use Rattle.book_words.proofs.LegalLemmas.{legal_few}
 use Rattle.book_words.proofs.DrawnPacks.{AscendWithin, ascend-most, ascend-increasing, drawing_ascends}
 use Rattle.book_words.proofs.SampleSteps.{sample_is_drawn}
-use Rattle.book_samples.specs.Testing.{IsDrawnBy}
+use Rattle.book_samples.specs.DrawnBy.{IsDrawnBy}
 use Rattle.book_samples.proofs.Fitting.{plan_fits, first_count}
 
 -- what a plan asks for is little: at most 99 packs in each sample, a mean of packs of the first, and

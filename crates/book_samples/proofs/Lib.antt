@@ -1,7 +1,4 @@
 pub mod Keeping
 pub mod Changing
-pub mod Accepting
 pub mod Fitting
 pub mod Known
-pub mod Ranged
-pub mod Suited

@@ -1,4 +1,4 @@
 pub mod Kept
 pub mod Room
 pub mod Changed
-pub mod Testing
+pub mod DrawnBy

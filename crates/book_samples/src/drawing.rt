@@ -2,7 +2,7 @@ ghost use Rattle.std.specs.Prelude.{◌≡◌, ◌+◌, ◌<◌, ◌≤◌, ◌^
 ghost use Rattle.std.specs.List.Sorted.{IsStrictlyIncreasing};
 ghost use Rattle.annex_tables.specs.Plans.{plan_of};
 ghost use Rattle.book_words.specs.Samples as samples;
-ghost use Rattle.book_samples.specs.Testing.{IsDrawnBy};
+ghost use Rattle.book_samples.specs.DrawnBy.{IsDrawnBy};
 
 use crate::types::Sample;
 use annex_tables::{Mode, Plan, plan};

@@ -2,8 +2,7 @@ ghost use Rattle.std.specs.Prelude.{◌≡◌, IfOk, length};
 ghost use Rattle.std.specs.List.Sorted.{IsStrictlyIncreasing};
 
 use super::*;
-use annex_tables::{Mode, plan};
-use book_words::{Fails, Verdict};
+use annex_tables::Mode;
 use sample_draw::{NoMemory, Picks};
 use std::alloc::Global;
 use std::test::Fail;
@@ -88,40 +87,4 @@ fn two_samples_of_a_hundred(rt: HostRuntime) -> Result<(), Fail> {
         None => assert!(rt; false),
     }
     Ok(())
-}
-
-// 241 000 microlitres at 1 040 000 mg a litre weigh 250 640 mg.
-#[test]
-fn contents_at_their_limits(rt: HostRuntime) -> Result<(), Fail> {
-    assert_eq!(rt; defective(&[240_999, 241_000, -1], 1_000_000, 241_000), 2);
-    assert_eq!(rt; defective(&[250_639, 250_640], 1_040_000, 241_000), 1);
-    let plan = plan(100, Mode::Keep)?;
-    for (d1, open) in [(1, false), (2, true), (3, false)] {
-        assert_eq!(rt; is_open(&plan, d1), open);
-    }
-    for (d1, d2, accepted) in [(1, 9, true), (2, 2, true), (2, 3, false), (3, 0, false)] {
-        assert_eq!(rt; contents_accept(&plan, d1, d2), accepted);
-    }
-    Ok(())
-}
-
-// The mean of goods by volume at its edge: 5 000 microlitres at 500 000 mg a litre weigh 2 500 mg.
-#[test]
-fn means_and_verdicts(rt: HostRuntime) {
-    assert!(rt; mean_accepts(&[2_500, 2_500], 5_000, 500_000, 0));
-    assert!(rt; !mean_accepts(&[2_499, 2_499], 5_000, 500_000, 1_000));
-    assert!(rt; mean_accepts(&[], 5_000, 500_000, 0));
-    let none = Fails {
-        contents: false,
-        mean: false,
-        average: false,
-        allowance: false,
-        inadequate: false,
-    };
-    assert_eq!(rt; verdict(none), Verdict::Released);
-    let some = Fails {
-        allowance: true,
-        ..none
-    };
-    assert_eq!(rt; verdict(some), Verdict::Withheld(some));
 }

@@ -9,6 +9,10 @@ pub const ROW_BYTES: usize = 96;
 /// The bytes of a row in a journal of version 1.
 pub const OLD_ROW_BYTES: usize = 64;
 
+/// The place of the mark in a journal's header, the gate of its snapshot: the one byte that is
+/// passed over where a header is compared.
+pub const MARK: usize = 8;
+
 /// The gate of a row that counts.
 pub const OPEN: u8 = 1;
 

@@ -13,8 +13,8 @@ pub use blocks::{content_of_blocks, put_blocks};
 pub use dense::{dense_forms_read_back, squeeze};
 pub use ends::{head_block, read_tail, tail_block};
 pub use layout::{
-    BLOCK_CONTENT, HEAD, MAX_CONTENT, OLD_ROW_BYTES, OPEN, ROW_BYTES, TAIL, blocks_for,
-    snapshot_end, snapshot_place,
+    BLOCK_CONTENT, HEAD, KIND_PLACE, MARK, MAX_CONTENT, NUMBER_PLACE, OLD_ROW_BYTES, OPEN,
+    ROW_BYTES, TAIL, blocks_for, snapshot_end, snapshot_place,
 };
 pub use read::read_one;
 pub use types::{Dense, Kept, Piece};

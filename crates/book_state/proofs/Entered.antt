@@ -25,7 +25,7 @@ use Rattle.book_words.specs.Answers.{IsLegal}
 use Rattle.book_packs.specs.declared.types.Weighing.{Weighing}
 use Rattle.book_packs.specs.Entering.{IsNext, IsWeighing, IsDraw, batch_drawn, picks_by}
 use Rattle.book_samples.specs.Kept.{drawing_at, IsFirstDraw, IsSecondDraw}
-use Rattle.book_samples.specs.Testing.{IsDrawnBy}
+use Rattle.book_samples.specs.DrawnBy.{IsDrawnBy}
 use Rattle.book_samples.proofs.Known.{sample_drawn_by}
 use Rattle.book_index.proofs.SaidNames.{nominal_where_put, product_where_opened}
 use Rattle.book_laws.proofs.LawfulActs.{IsAllowed, allowed_act, put_tare_tells, open_batch_tells, AllowsWeigh, weigh_tells, draw_tells, draw_second_tells}

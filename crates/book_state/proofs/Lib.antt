@@ -1,5 +1,4 @@
 pub mod Parts
-pub mod Within
 pub mod Named
 pub mod Rows
 pub mod Untared
@@ -11,3 +10,4 @@ pub mod Seen
 pub mod Telling
 pub mod Frost
 pub mod Entered
+pub mod OnLanes

@@ -26,22 +26,20 @@ use Rattle.book_words.specs.Population.{population, population_among, is_counted
 use Rattle.book_words.specs.Signals.{class_signal, signal_by_class, judged_signal, population_at, recorded_signal}
 use Rattle.book_words.specs.Answers.{IsLegal}
 use Rattle.book_words.proofs.OneMoreEntry.{advance, own_reading}
-use Rattle.book_state.specs.Told.{totals_told}
+use Rattle.book_packs.specs.Told.{totals_told}
 use Rattle.book_laws.proofs.PackLaws.{batch_is}
+use Rattle.book_laws.proofs.RangeLaws.{fewer}
 use Rattle.book_laws.proofs.ReadingLaws.{by_entries}
 use Rattle.book_laws.proofs.PopulationLaws.{counts_after, population_is, population_at_is, counts_after_gate, counts_after_void}
-
-filter_few : (test : Reading → Bool) (some : List Reading) → length (filter test some) ≤ length some
-filter_few test some = let count = length-filter test some in let few = count_by-le-length test some in omega (arith, count, few)
 
 -- no act but a weighing makes a population longer, before its own pack is looked at
 pub fewer_after : (entries : List Entry) (batch : Name) (act : Act) → length (filter (counts_after batch act) (readings entries)) ≤ length (population entries batch)
 fewer_after entries batch (Weigh lane gross prior) =
-    subst (λ (some : List Reading). length some ≤ length (population entries batch)) (sym (counts_after_gate entries batch lane prior)) (filter_few _ (population entries batch))
+    subst (λ (some : List Reading). length some ≤ length (population entries batch)) (sym (counts_after_gate entries batch lane prior)) (fewer _ (population entries batch))
 fewer_after entries batch (StopLane lane prior) =
-    subst (λ (some : List Reading). length some ≤ length (population entries batch)) (sym (counts_after_gate entries batch lane prior)) (filter_few _ (population entries batch))
+    subst (λ (some : List Reading). length some ≤ length (population entries batch)) (sym (counts_after_gate entries batch lane prior)) (fewer _ (population entries batch))
 fewer_after entries batch (Void pack) =
-    subst (λ (some : List Reading). length some ≤ length (population entries batch)) (sym (counts_after_void entries batch pack)) (filter_few _ (population entries batch))
+    subst (λ (some : List Reading). length some ≤ length (population entries batch)) (sym (counts_after_void entries batch pack)) (fewer _ (population entries batch))
 fewer_after entries batch (NewDay day) = omega arith
 fewer_after entries batch (PutProduct name nominal unit) = omega arith
 fewer_after entries batch (PutTare product day tare) = omega arith

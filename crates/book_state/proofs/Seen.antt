@@ -17,7 +17,7 @@ use Rattle.book_words.specs.Signals.{judged_signal, recorded_signal}
 use Rattle.book_words.specs.Ranges.{IsBetween, is_act_in_range}
 use Rattle.book_words.specs.Answers.{ask_of, IsLegal}
 use Rattle.book_words.proofs.RefusalLemmas.{act_rules, rules_in_range}
-use Rattle.book_samples.proofs.Ranged.{between}
+use Rattle.book_laws.proofs.RangeLaws.{within_limits}
 use Rattle.book_laws.proofs.ReadingLaws.{none_at_zero, none_beyond, reading_of-at}
 use Rattle.book_state.specs.Told.{entry_numbered, lane_weighed}
 
@@ -83,7 +83,7 @@ seen_from number before (Weigh lane gross prior) signal after reading batch is r
     record {
       same = same;
       told = ap is_some (sym same ∙ is ∙ ap (option_map (judged_signal before (Weigh lane gross prior) gross)) named);
-      range = subst (IsBetween (pos 0) MAX_GROSS) (ap (λ (r : Reading). r.gross) own) (between (pos 0) MAX_GROSS gross range);
+      range = subst (IsBetween (pos 0) MAX_GROSS) (ap (λ (r : Reading). r.gross) own) (within_limits (pos 0) MAX_GROSS gross range);
     }
   where
     some_reading : (a b : Reading) → Some a ≡ Some b → a ≡ b

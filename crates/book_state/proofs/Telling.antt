@@ -24,7 +24,7 @@ use Rattle.book_packs.specs.Stand.{pack_of}
 use Rattle.book_packs.specs.Told.{pack_told}
 use Rattle.book_packs.proofs.Known.{IsWeighed, known_of}
 use Rattle.book_index.proofs.LaneLemmas.{name_at_place}
-use Rattle.book_samples.proofs.Ranged.{tare_within}
+use Rattle.book_laws.proofs.RangeLaws.{tare_within}
 use Rattle.book_laws.proofs.ReadingLaws.{of_reading, found_is_one}
 use Rattle.book_laws.proofs.UnsettledLaws.{waits_by_number}
 use Rattle.book_state.specs.declared.types.KnownPack.{KnownPack}

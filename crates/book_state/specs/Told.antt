@@ -1,10 +1,8 @@
--- What is told of a pack, of a batch and of the whole hall.
-use Rattle.std.specs.Prelude.{ℕ, ℤ, pos, ◌-◌, nat_le, if◌then◌else◌, List, length, slice_get, find, Option, Some, None, option_map}
+-- What is told of a pack and of a batch.
+use Rattle.std.specs.Prelude.{ℕ, ℤ, pos, ◌-◌, nat_le, if◌then◌else◌, List, slice_get, find, Option, Some, None, option_map}
 use Rattle.std.specs.Option.{option_and_then, unwrap_or}
 use Rattle.pack_judge.specs.declared.types.Signal.{Signal}
-use Rattle.pack_judge.specs.declared.types.Pile.TheVariants.{Passed, Rejected, Sampled, Voided}
 use Rattle.batch_sums.specs.declared.types.Pack.{Pack}
-use Rattle.batch_sums.specs.declared.types.Piles.{Piles}
 use Rattle.batch_sums.specs.declared.types.Totals.{Totals}
 use Rattle.book_words.specs.declared.name.Name.{Name}
 use Rattle.book_words.specs.declared.act.Act.{Act}
@@ -12,13 +10,11 @@ use Rattle.book_words.specs.declared.act.Act.TheVariants.{Weigh}
 use Rattle.book_words.specs.declared.act.Entry.{Entry}
 use Rattle.book_words.specs.declared.act.Reading.{Reading}
 use Rattle.book_words.specs.Acts.{said, batch_opened, product_of}
-use Rattle.book_words.specs.Readings.{readings, reading_of, tare_of_reading}
-use Rattle.book_words.specs.Population.{readings_of_batch, population, nonstandard_count, inadequate_count, net_sum}
-use Rattle.book_words.specs.Piles.{pile_of, in_pile, tally}
-use Rattle.book_words.specs.Signals.{population_at}
+use Rattle.book_words.specs.Readings.{reading_of, tare_of_reading}
+use Rattle.book_words.specs.Piles.{pile_of}
 use Rattle.book_words.specs.Refusals.{is_frozen}
+use Rattle.book_packs.specs.Told.{totals_told}
 use Rattle.book_state.specs.declared.types.KnownPack.{KnownPack}
-use Rattle.book_state.specs.declared.types.AtWeighing.{AtWeighing}
 
 -- the entry of a number, from 1 on
 abbrev pub entry_numbered : List Entry → ℕ → Option Entry
@@ -76,47 +72,10 @@ known_reading entries reading =
 abbrev pub known_pack : List Entry → ℕ → Option KnownPack
 known_pack entries number = option_and_then (known_reading entries) (reading_of entries number)
 
--- the totals of a batch
-abbrev pub totals_told : List Entry → Name → Totals
-totals_told entries batch =
-    let all = readings_of_batch entries batch in
-    let some = population entries batch in
-    record {
-      passed = tally (in_pile entries Passed all);
-      rejected = tally (in_pile entries Rejected all);
-      sampled = tally (in_pile entries Sampled all);
-      voided = tally (in_pile entries Voided all);
-      population = length some;
-      net = net_sum entries some;
-      nonstandard = nonstandard_count entries batch some;
-      inadequate = inadequate_count entries batch some;
-    }
-
 -- the totals of a batch, where it is one
 abbrev pub totals_of_batch : List Entry → Name → Option Totals
 totals_of_batch entries batch =
     option_map (λ product. totals_told entries batch) (product_of entries batch)
-
--- the piles of the whole hall
-abbrev pub piles_told : List Entry → Piles
-piles_told entries =
-    let all = readings entries in
-    record {
-      passed = tally (in_pile entries Passed all);
-      rejected = tally (in_pile entries Rejected all);
-      sampled = tally (in_pile entries Sampled all);
-      voided = tally (in_pile entries Voided all);
-    }
-
--- what a weighing meets in a batch: the population that the act leaves of the readings before it
-abbrev pub met_at : List Entry → Act → Name → AtWeighing
-met_at entries act batch =
-    let some = population_at entries act batch in
-    record {
-      population = length some;
-      nonstandard = nonstandard_count entries batch some;
-      inadequate = inadequate_count entries batch some;
-    }
 
 -- the first closed batch, in order of opening, of which an act gives a reading another tare
 abbrev pub frozen_batch : List Entry → Act → Option Name

@@ -16,16 +16,13 @@ use crate::drawn::Drawn;
 use crate::weighed::{lane_number, lane_tare, row_weighing};
 use batch_sums::Steps;
 use book_index::Index;
-use book_packs::{Packs, limits_by_density};
+use book_packs::{Packs, UNIT_DENSITY, limits_by_density};
 use book_samples::{Sample, Samples};
 use book_words::{Act, Entry, Name, Unit};
 use sample_draw::Picks;
 use std::marker::Brand;
 use std::sync::ledger::{Blank, Ledger};
 use tare_register::DatedTare;
-
-/// The density at which the masses of goods by mass stay as they are, in mg a litre.
-const UNIT_DENSITY: u32 = 1_000_000;
 
 /// Takes down in the packs what the next entry of a list says. It takes no memory.
 pub fn enter_packs(

@@ -13,6 +13,7 @@ mod state;
 mod types;
 mod weighed;
 
+pub use book_packs::AtWeighing;
 pub use drawn::Drawn;
 pub use state::State;
-pub use types::{AtWeighing, KnownPack, NoMemory};
+pub use types::{KnownPack, NoMemory};

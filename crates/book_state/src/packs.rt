@@ -5,7 +5,7 @@ ghost use Rattle.book_words.specs.declared.act.Act.TheVariants as act;
 ghost use Rattle.book_words.specs.declared.refusal.Refusal.TheVariants as refusal;
 ghost use Rattle.book_words.specs.Acts as acts;
 ghost use Rattle.book_words.specs.Tares.{tare_of_product};
-ghost use Rattle.book_words.specs.Readings.{reading_of};
+ghost use Rattle.book_words.specs.Readings.{reading_of, tare_of_reading};
 ghost use Rattle.book_words.specs.Population as population;
 ghost use Rattle.book_words.specs.Piles.{pile_of};
 ghost use Rattle.book_words.specs.Classes.{density_of_batch, limits_of_batch};
@@ -13,12 +13,16 @@ ghost use Rattle.book_words.specs.Refusals as rules;
 ghost use Rattle.book_words.specs.Answers.{IsLegal};
 ghost use Rattle.book_index.specs.Listed as listed;
 ghost use Rattle.book_packs.specs.Densities.{limits_at};
+ghost use Rattle.book_packs.specs.Stand.{limits_told};
+ghost use Rattle.book_packs.specs.Told.{piles_told, met_at};
 ghost use Rattle.book_state.specs.Told as told;
 
 use crate::state::State;
-use crate::types::{AtWeighing, KnownPack};
+use crate::types::KnownPack;
+use crate::weighed::lane_tare;
 use annex_tables::Limits;
 use batch_sums::{Pack, Piles, Totals};
+use book_packs::AtWeighing;
 use book_words::{Act, Name, Prior};
 use hall_limits::MAX_LANE;
 use pack_judge::Signal;
@@ -31,6 +35,15 @@ impl State {
     {
         let number = self.index.product_number(product)?;
         self.packs.tare(number, day)
+    }
+
+    /// The tare of the batch that a lane has, on the newest day, in mg. No name is looked for.
+    pub fn lane_tare(&self, lane: u8) -> Option<i64>
+        ensures value { result ≡ tare_of_reading self.now.entries
+            (acts.lane_batch self.now.entries lane) (acts.newest_day self.now.entries) }
+        ensures range { IfSome result (λ tare. (pos 0 ≤ℤ tare) × (tare ≤ℤ MAX_TARE)) }
+    {
+        lane_tare(&self.index, &self.packs, lane)
     }
 
     /// The number of the unsettled reading of a lane.
@@ -115,6 +128,15 @@ impl State {
         Some(self.packs.limits(number))
     }
 
+    /// The limits of the batch that a lane has, in mg. No name is looked for.
+    pub fn lane_limits(&self, lane: u8) -> Option<Limits>
+        ensures { result ≡ option_map (limits_told self.now.entries)
+            (acts.lane_batch self.now.entries lane) }
+    {
+        let batch = self.index.lane_number(lane)?;
+        Some(self.packs.limits(batch))
+    }
+
     /// The totals of a batch. It takes no memory and no walk.
     pub fn totals(&self, batch: &Name) -> Option<Totals>
         ensures value { result ≡ told.totals_of_batch self.now.entries batch.now }
@@ -138,7 +160,7 @@ impl State {
 
     /// The tallies of the four piles of the whole hall. It takes no memory and no walk.
     pub fn piles(&self) -> Piles
-        ensures { result ≡ told.piles_told self.now.entries }
+        ensures { result ≡ piles_told self.now.entries }
     {
         self.packs.piles()
     }
@@ -147,21 +169,16 @@ impl State {
     pub fn met(&self, lane: u8, gross: i64, prior: Prior, batch: &Name) -> AtWeighing
         requires lane { acts.lane_batch self.now.entries lane ≡ Some batch.now }
         requires free { rules.prior_wrong self.now.entries lane prior ≡ None }
-        ensures value { result
-            ≡ told.met_at self.now.entries (act.Weigh lane gross prior) batch.now }
+        ensures value { result ≡ met_at self.now.entries (act.Weigh lane gross prior) batch.now }
         ensures few { (result.population ≤ MAX_POPULATION)
             × (result.nonstandard ≤ result.population) }
     {
         let _ = gross;
-        let Some(number) = self.index.batch_number(batch) else {
+        let _ = batch;
+        let Some(number) = self.index.lane_number(lane) else {
             unreachable!()
         };
-        let met = self.packs.totals_at(lane, prior, number);
-        AtWeighing {
-            population: met.population,
-            nonstandard: met.nonstandard,
-            inadequate: met.inadequate,
-        }
+        self.packs.totals_at(lane, prior, number)
     }
 
     /// The first closed batch, in order of opening, of which a tare gives a reading another one.

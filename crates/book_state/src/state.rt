@@ -14,6 +14,9 @@ use book_words::Entry;
 use std::alloc::Global;
 use std::marker::Model;
 
+/// Room is taken for at least so many acts at once, so that most acts find it there.
+const ROOM_AT_ONCE: u32 = 64;
+
 /// The list of accepted commands, and beside it what is kept by name, lane, day, desk, batch and
 /// pack. Every contract speaks of the list alone, which is legal.
 #[derive(Drop)]
@@ -88,7 +91,7 @@ impl State {
         self.entries.get(number as usize - 1).copied()
     }
 
-    /// Makes room for `more` further acts. The entries stay as they are.
+    /// Makes room for `more` further acts, or for some more. The entries stay as they are.
     pub fn reserve(&mut self, more: u32) -> Result<(), NoMemory>
         ensures ok { OnOk result (more ≤ self.new.spare) }
         ensures room { more ≤ self.old.spare → IsOk result }
@@ -98,11 +101,12 @@ impl State {
         if more <= self.spare {
             return Ok(());
         }
-        self.entries.reserve(more as usize)?;
-        self.index.reserve(more)?;
-        self.packs.reserve(more)?;
-        self.samples.reserve(more)?;
-        self.spare = more;
+        let room = more.max(ROOM_AT_ONCE);
+        self.entries.reserve(room as usize)?;
+        self.index.reserve(room)?;
+        self.packs.reserve(room)?;
+        self.samples.reserve(room)?;
+        self.spare = room;
         Ok(())
     }
 

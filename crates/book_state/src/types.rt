@@ -18,14 +18,3 @@ pub struct KnownPack {
     pub signal: Signal,
     pub pile: Pile,
 }
-
-/// What a weighing meets in its batch: the population as the act leaves it, before its own pack.
-#[derive(Clone, Copy, Debug, PartialEq, Eq)]
-pub struct AtWeighing {
-    /// How many packs the population has.
-    pub population: u32,
-    /// How many of them aren't standard.
-    pub nonstandard: u32,
-    /// How many of them are inadequate.
-    pub inadequate: u32,
-}

@@ -18,8 +18,7 @@ pub fn lane_number(index: &Index, lane: u8) -> Option<u32>
     ensures { (entries : List entry.Entry) → IsIndexOf entries index.now → IsLegal entries
         → result ≡ option_and_then (order.batch_number entries) (lane_batch entries lane) }
 {
-    let batch = index.lane(lane)?;
-    index.batch_number(&batch)
+    index.lane_number(lane)
 }
 
 /// The tare in mg of the batch that a lane has, on the newest day.
@@ -28,8 +27,7 @@ pub fn lane_tare(index: &Index, packs: &Packs, lane: u8) -> Option<i64>
         → IsIndexOf entries index.now → IsPacksOf entries packs.now → IsLegal entries
         → result ≡ tare_of_reading entries (lane_batch entries lane) (newest_day entries) }
 {
-    let batch = index.lane(lane)?;
-    let terms = index.batch(&batch)?;
+    let terms = index.lane_terms(lane)?;
     let day = index.day()?;
     packs.tare(terms.product, day)
 }

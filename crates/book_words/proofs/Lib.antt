@@ -8,3 +8,4 @@ pub mod DrawnOnce
 pub mod OpenedOnce
 pub mod SampleSteps
 pub mod DrawnPacks
+pub mod RowLemmas

@@ -9,7 +9,7 @@ use Rattle.clap.specs.Simple.{App, HasMatchesOf, built, is_simple, matches_of, n
 use Rattle.clap.specs.Takes.{built_takes, default_passes, is_valid, settle_passes, takes}
 use Rattle.clap.specs.Walk.{Held, Row, Text, finished, first_of, nothing_held, settled, walk_from}
 use Rattle.command_line.specs.declared.types.Command.{Command}
-use Rattle.command_line.specs.declared.types.Command.TheVariants.{Run, Check}
+use Rattle.command_line.specs.declared.types.Command.TheVariants.{Run, Check, Migrate}
 use Rattle.command_line.specs.Options.{app_for}
 use Rattle.command_line.specs.Taken.{asked}
 use Rattle.command_line.specs.Words.{Item, Wanted, read_items, wanted_by, wanted_with}
@@ -27,6 +27,7 @@ pub takes_words : (command : Command) (words : List Text) (end : Held) → Walks
     → settle_passes (shape_for command).rules (shape_for command).args_override_self end ≡ true → takes (app_for command) words ≡ true
 takes_words Run words end walks settles = built_ok (built (app_for Run)) words end refl walks settles refl (λ rows. refl)
 takes_words Check words end walks settles = built_ok (built (app_for Check)) words end refl walks settles refl (λ rows. refl)
+takes_words Migrate words end walks settles = built_ok (built (app_for Migrate)) words end refl walks settles refl (λ rows. refl)
 
 either : {X : Type 0} (t : Bool) (x : X) → (if t then x else x) ≡ x
 either true x = refl
@@ -36,15 +37,18 @@ either false x = refl
 finished_as : (command : Command) (held : Held) → finished (shape_for command).rules held ≡ (settled (shape_for command).rules held).rows
 finished_as Run held = either _ _ ∙ either _ _
 finished_as Check held = either _ _
+finished_as Migrate held = either _ _
 
 matches_end : (command : Command) (words : List Text) (end : Held) → Walks (shape_for command) (walk_from nothing_held) words end
     → matches_of (app_for command) words ≡ finished (shape_for command).rules end
 matches_end Run words end walks = ap (λ walk. finished (shape_for Run).rules walk.held) walks.ends
 matches_end Check words end walks = ap (λ walk. finished (shape_for Check).rules walk.held) walks.ends
+matches_end Migrate words end walks = ap (λ walk. finished (shape_for Migrate).rules walk.held) walks.ends
 
 pub simple : (command : Command) → is_simple (app_for command) ≡ true
 simple Run = refl
 simple Check = refl
+simple Migrate = refl
 
 -- `clap` takes the words, and its values ask for what is wanted
 pub record ClapReads (command : Command) (words : List Text) (wanted : Wanted) : Type 0 where

@@ -6,7 +6,7 @@ use Rattle.clap.specs.Simple.{Shape, built, filled}
 use Rattle.clap.specs.Walk.{Held, Rule, Row, Text, Walk, walk_from, walked, settled, reacted, used, arg_by_long, arg_by_id, has_row, option}
 use Rattle.clap.specs.Takes.{turn_passes, settle_passes, react_passes, use_passes}
 use Rattle.command_line.specs.declared.types.Command.{Command}
-use Rattle.command_line.specs.declared.types.Command.TheVariants.{Run, Check}
+use Rattle.command_line.specs.declared.types.Command.TheVariants.{Run, Check, Migrate}
 use Rattle.command_line.specs.Words.{stands_alone}
 use Rattle.command_line.specs.Options.{app_for, rule_for}
 
@@ -100,6 +100,7 @@ shape_for command = (built (app_for command)).top
 pub knows_book : (command : Command) → Knows (shape_for command) (codes "book")
 knows_book Run = record { long = refl; id = refl; same = refl }
 knows_book Check = record { long = refl; id = refl; same = refl }
+knows_book Migrate = record { long = refl; id = refl; same = refl }
 
 pub knows_limit : Knows (shape_for Run) (codes "limit")
 knows_limit = record { long = refl; id = refl; same = refl }

@@ -6,7 +6,7 @@ use Rattle.std.proofs.lemmas.Slice.Eq.{bytes_eq-Decides}
 use Rattle.clap.specs.Lexer.{long_of}
 use Rattle.clap.specs.Walk.{Row, Text, has_row}
 use Rattle.command_line.specs.declared.types.Command.{Command}
-use Rattle.command_line.specs.declared.types.Command.TheVariants.{Run, Check}
+use Rattle.command_line.specs.declared.types.Command.TheVariants.{Run, Check, Migrate}
 use Rattle.command_line.specs.Words.{Item, Wanted, is_option}
 use Rattle.command_line.specs.Taken.{wanted_after}
 use Rattle.command_line.proofs.OneWord.{Knows, dashes, knows_book, knows_limit, shape_for}
@@ -78,6 +78,7 @@ book_taken : (command : Command) (book limit : Option Text) (value : Text) (more
     → Takes command book limit (codes "--book") value more wanted
 book_taken Run None limit value more wanted asks = takes_book Run limit value more wanted asks
 book_taken Check None limit value more wanted asks = takes_book Check limit value more wanted asks
+book_taken Migrate None limit value more wanted asks = takes_book Migrate limit value more wanted asks
 book_taken command (Some book) limit value more wanted asks = absurd (never_twice _ wanted asks)
 
 limit_taken : (book limit : Option Text) (value : Text) (more : List Item) (wanted : Wanted)
@@ -126,3 +127,5 @@ taken Run book limit full value more wanted asks =
     go false is one = as_limit book limit full value more wanted one asks
 taken Check book limit full value more wanted asks =
     as_book Check book limit full value more wanted (is_one Check book limit (record { name = full; value = value }) more wanted asks) asks
+taken Migrate book limit full value more wanted asks =
+    as_book Migrate book limit full value more wanted (is_one Migrate book limit (record { name = full; value = value }) more wanted asks) asks

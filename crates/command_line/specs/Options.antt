@@ -4,7 +4,7 @@ use Rattle.clap.specs.Simple.{App, new_app, new_rule, on_top, with_rule}
 use Rattle.clap.specs.Walk.{Rule}
 use Rattle.clap.specs.declared.builder.action.ArgAction.TheVariants.{Set}
 use Rattle.command_line.specs.declared.types.Command.{Command}
-use Rattle.command_line.specs.declared.types.Command.TheVariants.{Run, Check}
+use Rattle.command_line.specs.declared.types.Command.TheVariants.{Run, Check, Migrate}
 
 -- an option with one value
 abbrev pub rule_for : List ℕ → Rule
@@ -20,3 +20,4 @@ book_app = with_rule
 abbrev pub app_for : Command → App
 app_for Run = with_rule book_app (rule_for (codes "limit"))
 app_for Check = book_app
+app_for Migrate = book_app

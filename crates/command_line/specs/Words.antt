@@ -10,7 +10,7 @@ use Rattle.std.specs.Str.{bytes_eq}
 use Rattle.hall_limits.specs.declared.TheConstants.{MAX_ROWS}
 use Rattle.hall_units.specs.Number.{bounded_number}
 use Rattle.command_line.specs.declared.types.Command.{Command}
-use Rattle.command_line.specs.declared.types.Command.TheVariants.{Run, Check}
+use Rattle.command_line.specs.declared.types.Command.TheVariants.{Run, Check, Migrate}
 
 -- the name of an option, with its dashes, and the value given to it
 pub record Item : Type 0 where
@@ -69,6 +69,7 @@ read_items None (word ∷ words) =
 abbrev pub is_option : Command → List ℕ → Bool
 is_option Run name = bytes_eq name (codes "--book") || bytes_eq name (codes "--limit")
 is_option Check name = bytes_eq name (codes "--book")
+is_option Migrate name = bytes_eq name (codes "--book")
 
 -- the values given to an option
 abbrev pub values_of : List ℕ → List Item → List (List ℕ)
@@ -107,7 +108,8 @@ wanted_by command items =
 abbrev pub command_of : List ℕ → Option Command
 command_of word =
     if bytes_eq word (codes "run") then Some Run
-    else if bytes_eq word (codes "check") then Some Check else None
+    else if bytes_eq word (codes "check") then Some Check
+    else if bytes_eq word (codes "migrate") then Some Migrate else None
 
 -- what the words ask for: a command, and then its items
 abbrev pub wanted_of : List (List ℕ) → Option Wanted

@@ -61,6 +61,9 @@ fn read_command(word: &str) -> Option<Command>
     if word == "check" {
         return Some(Command::Check);
     }
+    if word == "migrate" {
+        return Some(Command::Migrate);
+    }
     None
 }
 

@@ -48,7 +48,7 @@ fn options<'a>(alloc: Global, command: Command) -> Result<clap::Command<'a>, All
                 .action(ArgAction::Set);
             Ok(options.arg(limit)?)
         }
-        Command::Check => Ok(options),
+        Command::Check | Command::Migrate => Ok(options),
     }
 }
 

@@ -1,5 +1,5 @@
 use super::*;
-use crate::types::Command::{Check, Run};
+use crate::types::Command::{Check, Migrate, Run};
 use hall_limits::MAX_ROWS;
 use std::alloc::{AllocError, Global};
 use std::test::Fail;
@@ -7,12 +7,14 @@ use std::test::Fail;
 const BOOK: Option<&str> = Some("b.hall");
 
 // Words and what they ask for, written by hand from the grammar, as what follows.
-static ASKED: [(&[&str], Command, Option<&str>, u32); 12] = [
+static ASKED: [(&[&str], Command, Option<&str>, u32); 14] = [
     (&["run"], Run, None, MAX_ROWS),
     (&["check"], Check, None, MAX_ROWS),
+    (&["migrate"], Migrate, None, MAX_ROWS),
     (&["run", "--book", "b.hall"], Run, BOOK, MAX_ROWS),
     (&["run", "--book=b.hall"], Run, BOOK, MAX_ROWS),
     (&["check", "--book", "b.hall"], Check, BOOK, MAX_ROWS),
+    (&["migrate", "--book=b.hall"], Migrate, BOOK, MAX_ROWS),
     (&["run", "--limit", "1"], Run, None, 1),
     (&["run", "--limit=0000007"], Run, None, 7),
     (&["run", "--limit", "1000000"], Run, None, 1_000_000),

@@ -8,6 +8,8 @@ pub enum Command {
     Run,
     /// Says whether a book is whole: `check [--book PATH]`
     Check,
+    /// Carries a journal of version 1 into a book: `migrate [--book PATH]`
+    Migrate,
 }
 
 /// What the words of the command line ask for.

@@ -87,6 +87,13 @@ impl MemoryDisk {
         self.calls.len()
     }
 
+    /// For how many bytes it was asked, by the lengths of the buffers.
+    pub fn asked_bytes(&self) -> u64
+        ensures { result ≡ self.now.asked }
+    {
+        self.asked
+    }
+
     /// What a crash leaves after so many of the calls made: one of the disk's images then.
     pub fn crash(&self, after: u32, keep: Keep) -> Result<Vec<u8>, NoMemory>
         requires { after ≤ length self.now.calls }

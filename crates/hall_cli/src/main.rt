@@ -9,6 +9,7 @@ ghost use Rattle.hall_top.specs.declared.ended.Ended.{Ended};
 ghost use Rattle.hall_top.specs.Run.{call};
 ghost use Rattle.hall_top.specs.Calls.{EndsAs};
 
+use book_snapshot::ROW_BYTES;
 use command_line::{Wants, WantsError, wants};
 use disk_core::{Disk, QuietDisk, Sink, Source, StdSink, StdSource, write_all};
 use file_disk::FileDisk;
@@ -21,7 +22,7 @@ use std::rt::Env;
 
 /// The bytes that a book in memory has room for with each row: the row itself, and as many again for
 /// its snapshot.
-const BYTES_A_ROW: usize = 192;
+const BYTES_A_ROW: usize = 2 * ROW_BYTES;
 
 /// The rows more that its room is for: the header, the closed gates and the ends of the snapshot.
 const ROWS_MORE: usize = 4;

@@ -1,30 +1,11 @@
-use crate::runs::{Ends, compare, ends_of, run_script};
-use disk_core::{MemoryDisk, MemorySink};
-use std::alloc::{AllocError, Global};
-use std::process::Abort;
+use crate::runs::{Ends, changed, run_over};
 use std::test::Fail;
 
-// A script, and what it prints.
-type Play = (&'static [u8], &'static str);
+/// A script, and what it prints.
+pub type Play = (&'static [u8], &'static str);
 
-// Runs a script over a disk of these bytes, and gives those that it then has.
-fn run_on(
-    rt: &impl Abort,
-    alloc: Global,
-    bytes: Vec<u8>,
-    words: &[&str],
-    play: Play,
-    ends: Ends,
-) -> Result<Vec<u8>, AllocError> {
-    let (script, wanted) = play;
-    let mut output = MemorySink::new(alloc, Vec::new(alloc));
-    let disk = MemoryDisk::new(alloc, bytes, Vec::new(alloc));
-    let ended = run_script(alloc, words, script, &mut output, disk)?;
-    compare(rt, alloc, output.bytes(), wanted, (ends_of(&ended), ends))?;
-    Vec::from_slice(alloc, ended.disk.bytes())
-}
-
-const FIVE_ROWS: Play = (
+/// A script of five rows.
+pub const FIVE_ROWS: Play = (
     b"day 2025-03-03\nproduct rice250 250\ntare rice250 2025-03-03 10\nopen A rice250\nstart 1 A\n",
     "\
 1 ok
@@ -84,7 +65,7 @@ fn a_book_is_opened_again(rt: HostRuntime) -> Result<(), Fail> {
     let alloc = rt.alloc();
     let mut bytes = Vec::new(alloc);
     for (words, play, ends, length) in &BOOK {
-        bytes = run_on(&rt, alloc, bytes, words, *play, *ends)?;
+        bytes = run_over(&rt, alloc, bytes, words, *play, *ends)?;
         assert_eq!(rt; bytes.len(), *length);
     }
     Ok(())
@@ -109,7 +90,7 @@ fn stands_at(bytes: &[u8], place: usize, piece: &[u8]) -> bool {
 #[test]
 fn a_snapshot_is_left(rt: HostRuntime) -> Result<(), Fail> {
     let alloc = rt.alloc();
-    let bytes = run_on(&rt, alloc, Vec::new(alloc), &["run"], FIVE_ROWS, (0, 0, 5))?;
+    let bytes = run_over(&rt, alloc, Vec::new(alloc), &["run"], FIVE_ROWS, (0, 0, 5))?;
     for (place, piece) in &SNAPSHOT {
         assert!(rt; stands_at(&bytes, *place, piece));
     }
@@ -135,31 +116,14 @@ const DAMAGED: [(&[(usize, u8)], usize, &str, Ends); 3] = [
     (&[(8, 0), (577, 14)], 586, EMPTY, (0, 5, 5)),
 ];
 
-// The front of some bytes, of which some are changed.
-fn changed(
-    alloc: Global,
-    bytes: &[u8],
-    changes: &[(usize, u8)],
-    length: usize,
-) -> Result<Vec<u8>, AllocError> {
-    let mut all = Vec::from_slice(alloc, bytes)?;
-    for (place, value) in changes {
-        if let Some(byte) = all.get_mut(*place) {
-            *byte = *value;
-        }
-    }
-    all.truncate(length);
-    Ok(all)
-}
-
 #[test]
 fn damaged_disks(rt: HostRuntime) -> Result<(), Fail> {
     let alloc = rt.alloc();
-    let five = run_on(&rt, alloc, Vec::new(alloc), &["run"], FIVE_ROWS, (0, 0, 5))?;
-    let six = run_on(&rt, alloc, five, &["run"], SIXTH_ROW, (0, 5, 6))?;
+    let five = run_over(&rt, alloc, Vec::new(alloc), &["run"], FIVE_ROWS, (0, 0, 5))?;
+    let six = run_over(&rt, alloc, five, &["run"], SIXTH_ROW, (0, 5, 6))?;
     for (changes, length, text, ends) in &DAMAGED {
         let bytes = changed(alloc, &six, changes, *length)?;
-        run_on(&rt, alloc, bytes, &["run"], (b"", text), *ends)?;
+        run_over(&rt, alloc, bytes, &["run"], (b"", text), *ends)?;
     }
     Ok(())
 }

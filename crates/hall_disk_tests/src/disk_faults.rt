@@ -1,6 +1,4 @@
-ghost use Rattle.std.specs.Prelude.{◌≤◌, length};
-
-use crate::runs::{compare, ends_of, run_script};
+use crate::runs::{calls_of, compare, ends_of, run_script};
 use disk_core::{Keep, MemoryDisk, MemorySink};
 use hall_top::Ended;
 use std::alloc::{AllocError, Global};
@@ -25,13 +23,6 @@ fn run_first(
 ) -> Result<Ended<MemoryDisk>, AllocError> {
     let disk = MemoryDisk::new(alloc, Vec::new(alloc), fails);
     run_script(alloc, &["run"], FIRST, output, disk)
-}
-
-// How many calls a disk was asked.
-fn calls_of(disk: &MemoryDisk) -> u32
-    ensures { result ≤ length disk.now.calls }
-{
-    disk.calls_made().min(u32::MAX as usize) as u32
 }
 
 // What is told again over a disk of 0 to 6 rows, up to how many rows there are then: the day's row,

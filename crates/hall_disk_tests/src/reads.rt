@@ -4,10 +4,11 @@ use std::alloc::{AllocError, Global};
 use std::process::Abort;
 use std::test::Fail;
 
-// Gives lines of seven times the same byte, so many bytes a read and in so many reads, and keeps
-// the room of the last buffer.
+// Gives some bytes and then lines of seven times the same byte, so many bytes a read and in so many
+// reads, and keeps the room of the last buffer.
 #[derive(Drop)]
 struct Lines {
+    front: &'static [u8],
     byte: u8,
     piece: usize,
     reads: u32,
@@ -36,11 +37,22 @@ impl Source for Lines {
         let count = piece.min(into.len());
         self.reads = self.reads.saturating_sub(1);
         for i in 0..count {
-            self.place = self.place.wrapping_add(1) % 8;
-            into[i] = if self.place == 0 { b'\n' } else { self.byte };
+            into[i] = self.next();
         }
         self.ended = count == 0 && !into.is_empty();
         Ok(count)
+    }
+}
+
+impl Lines {
+    // The next byte.
+    fn next(&mut self) -> u8 {
+        if let Some((first, rest)) = self.front.split_first() {
+            self.front = rest;
+            return *first;
+        }
+        self.place = self.place.wrapping_add(1) % 8;
+        if self.place == 0 { b'\n' } else { self.byte }
     }
 }
 
@@ -68,23 +80,34 @@ impl Sink for Nowhere {
     }
 }
 
-// A byte, how many a read gives, in how many reads, the status, and how many bytes are printed.
-// Where the reads are spent nothing is, and a summary of an empty list has 160 bytes.
-const READS: [((u8, usize, u32), (u8, u64)); 3] = [
-    ((b' ', 1, 100_000_000), (12, 0)),
-    ((b' ', 1, 99_999_999), (0, 160)),
-    ((b'#', 65_536, 1_600), (0, 160)),
+// The header of a journal of version 1.
+const OLD_HEADER: &[u8] = b"AQHBOOK1\0\0\0\0\0\0\0\0\0\0\0\0\0\0\0\0\0\0\0\0\0\0\0\0\
+\0\0\0\0\0\0\0\0\0\0\0\0\0\0\0\0\0\0\0\0\0\0\0\0\0\0\0\0\0\0\0\0";
+
+// A command, what its input begins with, the byte of the lines behind it, how many bytes a read
+// gives, and in how many reads.
+type Input = (&'static str, &'static [u8], u8, usize, u32);
+
+// The status, and how many bytes are printed. Where the reads are spent nothing is; a summary of an
+// empty list has 160 bytes, and the line of a book without rows 13.
+const READS: [(Input, (u8, u64)); 5] = [
+    (("run", b"", b' ', 1, 100_000_000), (12, 0)),
+    (("run", b"", b' ', 1, 99_999_999), (0, 160)),
+    (("run", b"", b'#', 65_536, 1_600), (0, 160)),
+    (("migrate", OLD_HEADER, b' ', 1, 200_000_000), (12, 0)),
+    (("migrate", OLD_HEADER, b' ', 1, 199_999_999), (0, 13)),
 ];
 
-// Runs a script of so many reads, each of so many times this byte.
+// Does a command whose input comes in so many reads.
 fn check_reads(
     rt: &impl Abort,
     alloc: Global,
-    lines: (u8, usize, u32),
+    input: Input,
     ends: (u8, u64),
 ) -> Result<(), AllocError> {
-    let (byte, piece, reads) = lines;
+    let (command, front, byte, piece, reads) = input;
     let mut input = Lines {
+        front,
         byte,
         piece,
         reads,
@@ -93,18 +116,24 @@ fn check_reads(
         ended: false,
     };
     let mut output = Nowhere { bytes: 0 };
-    let ended = run(alloc, &["run"], &mut input, &mut output, empty_disk(alloc))?;
+    let ended = run(
+        alloc,
+        &[command],
+        &mut input,
+        &mut output,
+        empty_disk(alloc),
+    )?;
     assert_eq!(rt; (ended.status, output.bytes), ends);
     assert!(rt; ended.rows.as_slice().is_empty() && input.room >= 65_536);
     Ok(())
 }
 
-// Reads that each give a byte are spent at 100 000 000; larger ones may give more bytes than that
-// in all.
+// Reads that each give a byte are spent at 100 000 000, those of a migration at 200 000 000; larger
+// ones may give more bytes than that in all.
 #[test]
 fn spent_are_the_reads_and_not_the_bytes(rt: HostRuntime) -> Result<(), Fail> {
-    for (lines, ends) in &READS {
-        check_reads(&rt, rt.alloc(), *lines, *ends)?;
+    for (input, ends) in &READS {
+        check_reads(&rt, rt.alloc(), *input, *ends)?;
     }
     Ok(())
 }

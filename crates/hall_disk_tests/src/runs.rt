@@ -1,4 +1,4 @@
-ghost use Rattle.std.specs.Prelude.{◌≡◌, false};
+ghost use Rattle.std.specs.Prelude.{◌≡◌, ◌≤◌, false, length};
 
 use disk_core::{MemoryDisk, MemorySink, QuietSource, Sink, Source};
 use hall_top::{Ended, hall};
@@ -65,4 +65,46 @@ pub fn compare(
     assert_eq!(rt; printed.as_str(), wanted);
     assert_eq!(rt; ends.0, ends.1);
     Ok(())
+}
+
+/// Runs a script over a disk of these bytes, compares what it prints and how it ends, and gives the
+/// bytes that the disk then has.
+pub fn run_over(
+    rt: &impl Abort,
+    alloc: Global,
+    bytes: Vec<u8>,
+    words: &[&str],
+    play: (&[u8], &str),
+    ends: Ends,
+) -> Result<Vec<u8>, AllocError> {
+    let (script, wanted) = play;
+    let mut output = MemorySink::new(alloc, Vec::new(alloc));
+    let disk = MemoryDisk::new(alloc, bytes, Vec::new(alloc));
+    let ended = run_script(alloc, words, script, &mut output, disk)?;
+    compare(rt, alloc, output.bytes(), wanted, (ends_of(&ended), ends))?;
+    Vec::from_slice(alloc, ended.disk.bytes())
+}
+
+/// The front of some bytes, of which some are changed.
+pub fn changed(
+    alloc: Global,
+    bytes: &[u8],
+    changes: &[(usize, u8)],
+    length: usize,
+) -> Result<Vec<u8>, AllocError> {
+    let mut all = Vec::from_slice(alloc, bytes)?;
+    for (place, value) in changes {
+        if let Some(byte) = all.get_mut(*place) {
+            *byte = *value;
+        }
+    }
+    all.truncate(length);
+    Ok(all)
+}
+
+/// How many calls a disk was asked.
+pub fn calls_of(disk: &MemoryDisk) -> u32
+    ensures { result ≤ length disk.now.calls }
+{
+    disk.calls_made().min(u32::MAX as usize) as u32
 }

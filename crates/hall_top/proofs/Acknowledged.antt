@@ -84,7 +84,7 @@ acknowledges book command =
 pub prefix_on : (a b c : List Entry) → IsPrefixOf a b → IsPrefixOf b c → IsPrefixOf a c
 prefix_on a b c first second = (first.0 ++ second.0, second.1 ∙ ap (λ xs. xs ++ second.0) first.1 ∙ append_assoc a first.0 second.0)
 
-entries_stay : (book : BookState) (commands : List Command) → IsPrefixOf book.entries (after_commands book commands).entries
+pub entries_stay : (book : BookState) (commands : List Command) → IsPrefixOf book.entries (after_commands book commands).entries
 entries_stay book [] = ([], sym (append-nil book.entries))
 entries_stay book (command ∷ commands) =
     prefix_on book.entries (after_command book command).entries _ (cons_option (exchange_at book command).added [], refl) (entries_stay (after_command book command) commands)

@@ -1,5 +1,5 @@
 -- Lemmas on how a run ends.
-use Rattle.std.proofs.Common.{◌≡◌, ℕ, ◌+◌, ◌*◌, ◌<◌, ◌≤◌, false, List, [], ◌∷◌, ◌++◌, length, Option, Some, None, IfSome, Result, Ok, Err, MatchResult, inl, inr, refl, sym, ap, ◌∙◌, append_assoc, append-nil, length-append, subst, arith, lit<}
+use Rattle.std.proofs.Common.{◌≡◌, ℕ, ◌+◌, ◌*◌, ◌<◌, ◌≤◌, false, List, [], ◌∷◌, ◌++◌, length, take, length-take, Option, Some, None, IfSome, Result, Ok, Err, MatchResult, inl, inr, refl, sym, ap, ◌∙◌, append_assoc, append-nil, length-append, subst, arith, lit<}
 use Rattle.std.specs.Io.KnownBytes.{Consumes, Keeps, IsAtEnd}
 use Rattle.std.proofs.KnownBytes.{Consumes-whole, Consumes-nil, Consumes-trans, Consumes-kept}
 use Rattle.device_facts.specs.Count.{Counted}
@@ -119,7 +119,7 @@ stops_at_end book call taken stop stops read end =
       whole = Consumes-whole call.before.input.bytes call.now.input.bytes taken (HasLine stops.lines stops.line) read end (record { more = []; parts = stops.last });
     }
 
-reads_whole : (before now : Stream) (taken : List ℕ) → Consumes before.bytes now.bytes taken → IsAtEnd now.bytes → IsCalm before now → ReadsWhole before now taken
+pub reads_whole : (before now : Stream) (taken : List ℕ) → Consumes before.bytes now.bytes taken → IsAtEnd now.bytes → IsCalm before now → ReadsWhole before now taken
 reads_whole before now taken read end calm =
     record { read = read; at_end = end; all = Consumes-whole before.bytes now.bytes taken (λ left. left ≡ taken) read end refl; calm = calm }
 
@@ -170,6 +170,13 @@ stops_early book call old taken more run stop small after stands read =
       stops = over.here;
       whole = whatever_follows call.before.input.bytes call.now.input.bytes (taken ++ more) (HasLine over.here.lines over.here.line) read follows;
     }
+
+-- a read that gave something took at least a byte, and at most a piece
+pub some_taken : (xs : List ℕ) (n : ℕ) → n ≤ length xs → (n ≡ 0 → ⊥) → 0 < length (take n xs)
+some_taken xs n within more = omega (arith, length-take n xs, more)
+
+pub small_piece : (xs : List ℕ) (n : ℕ) → length xs ≤ PIECE → length (take n xs) ≤ PIECE
+small_piece xs n small = omega (arith, length-take n xs)
 
 -- a piece of the input was taken
 pub explained_after : {T S : Type 0} (book : BookState) (before old now : Devices S) (taken more : List ℕ) (run run' : RunState) (result : Result T Stop)

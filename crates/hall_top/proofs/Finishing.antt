@@ -78,10 +78,10 @@ pub done_but : (book left : BookState) (rows : List Entry) (before old now : Str
 done_but book left rows before old now script opened WriteFault begun whole same stops = inr (ends_early book left rows before old now script opened WriteFault begun whole same stops)
 done_but book left rows before old now script opened DiskFault begun whole same stops = inr (ends_early book left rows before old now script opened DiskFault begun whole same stops)
 done_but book left rows before old now script opened NoMemory begun whole same stops = inr (ends_early book left rows before old now script opened NoMemory begun whole same stops)
-done_but book left rows before old now script opened Finished begun whole same stops = absurd stops
-done_but book left rows before old now script opened BadLine begun whole same stops = absurd stops
-done_but book left rows before old now script opened ReadFault begun whole same stops = absurd stops
-done_but book left rows before old now script opened Spent begun whole same stops = absurd stops
+done_but book left rows before old now script opened Finished begun whole same stops = absurd stops.1
+done_but book left rows before old now script opened BadLine begun whole same stops = absurd stops.1
+done_but book left rows before old now script opened ReadFault begun whole same stops = absurd stops.1
+done_but book left rows before old now script opened Spent begun whole same stops = absurd stops.1
 
 -- a run that stopped in its script has ended so
 pub ends_stopped : (book : BookState) (before now : Stream) (rows : List Entry) (stop : Stop) (script : List ℕ) → StopsInScript book before now rows stop script → EndsScript book before now rows script stop

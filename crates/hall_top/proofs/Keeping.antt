@@ -17,6 +17,9 @@ use Rattle.book_snapshot.specs.Layout.{snapshot_end}
 use Rattle.book_journal.specs.Marking.{HoldsSnapshot}
 use Rattle.book_journal.specs.Mounting.{KeepsFromSync}
 use Rattle.book_store.specs.declared.store.Store.{Store}
+use Rattle.book_store.specs.declared.types.AdoptError.{AdoptError}
+use Rattle.book_store.specs.declared.types.AdoptError.TheVariants as adopt
+use Rattle.book_store.specs.Adopting.{Adopts, list_adopted, CountsAdoptFault}
 use Rattle.book_store.specs.declared.types.RestError.{RestError}
 use Rattle.book_store.specs.declared.types.RestError.TheVariants as rest
 use Rattle.book_store.specs.Images.{HoldsBook}
@@ -49,6 +52,11 @@ asked_begins (Ok answered) entries next (Some entry) is = (entry ∷ [], is)
 asked_begins (Ok answered) entries next None is = same_begins entries next is
 asked_begins (Err why) entries next (Some entry) is = same_begins entries next is
 asked_begins (Err why) entries next None is = same_begins entries next is
+
+-- and what a list begins with behind an entry that is adopted
+pub adopted_begins : (result : Result ℕ AdoptError) (entries next : List Entry) (entry : Entry) → next ≡ list_adopted result entries entry → IsPrefixOf entries next
+adopted_begins (Ok number) entries next entry is = (entry ∷ [], is)
+adopted_begins (Err why) entries next entry is = same_begins entries next is
 
 -- ---- what a crash leaves
 
@@ -233,6 +241,39 @@ module _ {D : Type 0} (g : disk.Ghosts D) where
         limit = ap (λ (b : BookView). b.limit) same;
         begins = same_begins (entries_of old) (entries_of new) entries;
         kept = λ held start kept. kept_rested held start old new entries keeps images (fault_rested start old new result hangs counts kept.fault) kept;
+        cause = cause;
+      }
+
+  -- an entry that is adopted
+  fault_adopted : (start : D) (old new : Store D) (result : Result ℕ AdoptError) → (Hangs new → (result ≡ Err adopt.DiskFault) ⊎ Hangs old) → CountsAdoptFault (g.faults (disk_of old)) (g.faults (disk_of new)) result
+      → HangsAtFault g start old → HangsAtFault g start new
+  fault_adopted start old new (Err adopt.DiskFault) hangs cause fault = fault_now start old new cause fault
+  fault_adopted start old new (Ok number) hangs cause fault = fault_before start old new (λ hung. ⊎_elim (λ is. absurd (cc)) (λ was. was) (hangs hung)) cause fault
+  fault_adopted start old new (Err adopt.NoMemory) hangs cause fault = fault_before start old new (λ hung. ⊎_elim (λ is. absurd (cc)) (λ was. was) (hangs hung)) cause fault
+  fault_adopted start old new (Err adopt.Unlawful) hangs cause fault = fault_before start old new (λ hung. ⊎_elim (λ is. absurd (cc)) (λ was. was) (hangs hung)) cause fault
+
+  kept_adopted : (held : List Entry) (start : D) (entry : Entry) (old new : Store D) (result : Result ℕ AdoptError) → entries_of new ≡ list_adopted result (entries_of old) entry → Adopts (entries_of old) entry result
+      → (IsLawful (entries_of old) entry → HasBook g old → OffersEntry g entry old new) → (result ≡ Err adopt.Unlawful → LeavesDisk g old new) → OnOk result (¬ Hangs new) → ImagesHoldBook g new
+      → HangsAtFault g start new → HasKept g held start old → HasKept g held start new
+  kept_adopted held start entry old new (Ok number) is adopts offers leaves settled images fault kept =
+      kept_offer held start entry old new kept (offers adopts.0 kept.has) (entry ∷ [], is) (λ hangs. absurd (settled hangs)) images fault
+  kept_adopted held start entry old new (Err adopt.Unlawful) is adopts offers leaves settled images fault kept = kept_still held start old new is (leaves refl) images fault kept
+  kept_adopted held start entry old new (Err adopt.DiskFault) is adopts offers leaves settled images fault kept =
+      kept_offer held start entry old new kept (offers adopts kept.has) (same_begins (entries_of old) (entries_of new) is) (λ hangs. is) images fault
+  kept_adopted held start entry old new (Err adopt.NoMemory) is adopts offers leaves settled images fault kept =
+      kept_offer held start entry old new kept (offers adopts kept.has) (same_begins (entries_of old) (entries_of new) is) (λ hangs. is) images fault
+
+  pub goes_adopted : {T : Type 0} (old new : Store D) (entry : Entry) (result : Result ℕ AdoptError) (given : Result T Stop) → entries_of new ≡ list_adopted result (entries_of old) entry → Adopts (entries_of old) entry result
+      → (IsLawful (entries_of old) entry → HasBook g old → OffersEntry g entry old new) → (result ≡ Err adopt.Unlawful → LeavesDisk g old new) → OnOk result (¬ Hangs new) → ImagesHoldBook g new
+      → (Hangs new → (result ≡ Err adopt.DiskFault) ⊎ Hangs old) → CountsAdoptFault (g.faults (disk_of old)) (g.faults (disk_of new)) result
+      → IsSound g new → IsLegal (entries_of new) → limit_of new ≡ limit_of old → CountsStop (g.faults (disk_of old)) (g.faults (disk_of new)) given → Goes g given old new
+  goes_adopted old new entry result given is adopts offers leaves settled images hangs counts sound legal limit cause =
+      record {
+        sound = sound;
+        legal = legal;
+        limit = limit;
+        begins = adopted_begins result (entries_of old) (entries_of new) entry is;
+        kept = λ held start kept. kept_adopted held start entry old new result is adopts offers leaves settled images (fault_adopted start old new result hangs counts kept.fault) kept;
         cause = cause;
       }
 

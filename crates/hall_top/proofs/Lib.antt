@@ -2,7 +2,10 @@ pub mod ScriptLines
 pub mod RepeatLemmas
 pub mod Acknowledged
 pub mod Answering
+pub mod Carried
 pub mod Keeping
+pub mod SameEntries
+pub mod SlotSteps
 pub mod Held
 pub mod Stopping
 pub mod Summaries
@@ -11,7 +14,9 @@ pub mod Finishing
 pub mod Printed
 pub mod Explaining
 pub mod Going
+pub mod Migrating
 pub mod Completing
 pub mod Checking
 pub mod Opened
 pub mod RequestOrder
+pub mod RowLimit

@@ -9,7 +9,7 @@ use Rattle.hall_top.specs.declared.stop.Stop.{Stop}
 use Rattle.hall_top.specs.declared.stop.Stop.TheVariants.{Finished, BadLine, ReadFault, WriteFault, DiskFault, NoMemory, Spent}
 use Rattle.hall_top.specs.Transcript.{BookState, exchange_at, after_command}
 use Rattle.hall_top.specs.Streams.{Stream, IsCutIn}
-use Rattle.hall_top.specs.Run.{MayFindNoMemory, StopsAtLine, HasGrown, StopsAtSummary}
+use Rattle.hall_top.specs.Run.{MayFindNoMemory, StopsAtLine, SaysFailed, FailsToKeep, StopsAtSummary}
 use Rattle.hall_top.specs.Reached.{SaysDiskFault, SaysNoMemory}
 use Rattle.hall_top.proofs.Acknowledged.{are_left}
 
@@ -46,24 +46,34 @@ stops_at_want book left before now number command ReadFault same may says = absu
 stops_at_want book left before now number command DiskFault same may says = absurd says
 stops_at_want book left before now number command Spent same may says = absurd says
 
--- at the end, where the disk fails or memory lacks while a snapshot is kept
-pub ends_at_fault : (opened : ℕ) (before now : Stream) (rows : List Entry) (stop : Stop) → HasGrown opened rows → SaysDiskFault before now stop → StopsAtSummary opened before now rows stop
-ends_at_fault opened before now rows DiskFault grown says = (grown, says)
-ends_at_fault opened before now rows WriteFault grown says = inr (grown, inl says)
-ends_at_fault opened before now rows Finished grown says = absurd says
-ends_at_fault opened before now rows BadLine grown says = absurd says
-ends_at_fault opened before now rows ReadFault grown says = absurd says
-ends_at_fault opened before now rows NoMemory grown says = absurd says
-ends_at_fault opened before now rows Spent grown says = absurd says
+-- a line that says that the disk failed, or that there is no memory, says one of both
+pub says_fault : (before now : Stream) (stop : Stop) → SaysDiskFault before now stop → SaysFailed before now stop
+says_fault before now DiskFault says = says
+says_fault before now WriteFault says = inl says
+says_fault before now Finished says = absurd says
+says_fault before now BadLine says = absurd says
+says_fault before now ReadFault says = absurd says
+says_fault before now NoMemory says = absurd says
+says_fault before now Spent says = absurd says
 
-pub ends_without_memory : (opened : ℕ) (before now : Stream) (rows : List Entry) (stop : Stop) → HasGrown opened rows → SaysNoMemory before now stop → StopsAtSummary opened before now rows stop
-ends_without_memory opened before now rows NoMemory grown says = (grown, says)
-ends_without_memory opened before now rows WriteFault grown says = inr (grown, inr says)
-ends_without_memory opened before now rows Finished grown says = absurd says
-ends_without_memory opened before now rows BadLine grown says = absurd says
-ends_without_memory opened before now rows ReadFault grown says = absurd says
-ends_without_memory opened before now rows DiskFault grown says = absurd says
-ends_without_memory opened before now rows Spent grown says = absurd says
+pub says_want : (before now : Stream) (stop : Stop) → SaysNoMemory before now stop → SaysFailed before now stop
+says_want before now NoMemory says = says
+says_want before now WriteFault says = inr says
+says_want before now Finished says = absurd says
+says_want before now BadLine says = absurd says
+says_want before now ReadFault says = absurd says
+says_want before now DiskFault says = absurd says
+says_want before now Spent says = absurd says
+
+-- a run ends where no snapshot was kept
+pub ends_unkept : (opened : ℕ) (before now : Stream) (rows : List Entry) (stop : Stop) → FailsToKeep opened before now rows stop → StopsAtSummary opened before now rows stop
+ends_unkept opened before now rows DiskFault fails = fails
+ends_unkept opened before now rows NoMemory fails = fails
+ends_unkept opened before now rows WriteFault fails = inr fails
+ends_unkept opened before now rows Finished fails = fails
+ends_unkept opened before now rows BadLine fails = fails
+ends_unkept opened before now rows ReadFault fails = fails
+ends_unkept opened before now rows Spent fails = fails
 
 -- or where the summary is cut
 pub ends_cut : (opened : ℕ) (before now : Stream) (rows : List Entry) (stop : Stop) → (stop ≡ WriteFault) × IsCutIn before now [] (summary_text (summary rows)) → StopsAtSummary opened before now rows stop

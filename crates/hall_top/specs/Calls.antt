@@ -23,9 +23,10 @@ use Rattle.hall_top.specs.Streams.{Stream, WroteAll, IsCutIn, Wrote}
 use Rattle.hall_top.specs.Run.{Call, Explains, IsComplete, status_of}
 use Rattle.hall_top.specs.Kept.{CrashLeaves, HoldsOrOffered, GoesTo}
 use Rattle.hall_top.specs.Books.{stored_book}
+use Rattle.hall_top.specs.Migration.{ExplainsMigration}
 use Rattle.command_line.specs.Words.{Wanted}
 use Rattle.command_line.specs.declared.types.Command.{Command}
-use Rattle.command_line.specs.declared.types.Command.TheVariants.{Run, Check}
+use Rattle.command_line.specs.declared.types.Command.TheVariants.{Run, Check, Migrate}
 
 -- nothing was read, and there are no rows
 pub record NothingDone {S : Type 0} (call : Call S) : Type 0 where
@@ -130,6 +131,7 @@ pub record ExplainsRun {S : Type 0} (book : BookState) (call : Call S) (stop : S
 abbrev pub ExplainsCommand : {S : Type 0} → Command → BookState → Call S → Stop → Type 0
 ExplainsCommand Run book call stop = ExplainsRun book call stop
 ExplainsCommand Check book call stop = ExplainsCheck book call stop
+ExplainsCommand Migrate book call stop = ExplainsMigration book call stop
 
 -- A call with right words: the disk was opened as a book and the command ended in one of its ways, or
 -- it wasn't opened.

@@ -149,18 +149,26 @@ pub record HasTranscript (book : BookState) (before now : Stream) (rows : List E
 abbrev pub HasGrown : ℕ → List Entry → Type 0
 HasGrown opened rows = opened < length rows
 
--- How a run ends without its summary, all lines answered: where rows were added, the disk may fail
--- and memory may lack while a snapshot of them is kept, and a line says so; that line and the summary
--- may be cut.
+-- a line went out that says that the disk failed or that there is no memory, or was cut
+abbrev pub SaysFailed : Stream → Stream → Stop → Type 0
+SaysFailed before now DiskFault = WroteAll before now disk_fault
+SaysFailed before now NoMemory = WroteAll before now no_memory
+SaysFailed before now WriteFault =
+    IsCutIn before now [] disk_fault ⊎ IsCutIn before now [] no_memory
+SaysFailed before now _ = ⊥
+
+-- where rows were added, the disk may fail and memory may lack while a snapshot of them is kept,
+-- and a line says so
+abbrev pub FailsToKeep : ℕ → Stream → Stream → List Entry → Stop → Type 0
+FailsToKeep opened before now rows stop = HasGrown opened rows × SaysFailed before now stop
+
+-- how a run ends without its summary, all lines answered: the summary is cut, or no snapshot was
+-- kept
 abbrev pub StopsAtSummary : ℕ → Stream → Stream → List Entry → Stop → Type 0
-StopsAtSummary opened before now rows DiskFault =
-    HasGrown opened rows × WroteAll before now disk_fault
-StopsAtSummary opened before now rows NoMemory =
-    HasGrown opened rows × WroteAll before now no_memory
 StopsAtSummary opened before now rows WriteFault =
     IsCutIn before now [] (summary_text (summary rows))
-    ⊎ (HasGrown opened rows × (IsCutIn before now [] disk_fault ⊎ IsCutIn before now [] no_memory))
-StopsAtSummary opened before now rows _ = ⊥
+    ⊎ FailsToKeep opened before now rows WriteFault
+StopsAtSummary opened before now rows stop = FailsToKeep opened before now rows stop
 
 -- all lines of a script are good, at some moment all were answered, these rows are left, and then
 -- the run ended without its summary

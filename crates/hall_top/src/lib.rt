@@ -2,9 +2,11 @@
 #![tactic(auto)]
 
 mod asking;
+mod carrying;
 mod check;
 mod composing;
 mod ended;
+mod migrate;
 mod numbered;
 mod open;
 mod reads;

@@ -2,9 +2,8 @@ ghost use Rattle.std.specs.Prelude.{◌≡◌, ◌+◌, ◌<◌, ◌≤◌, List
 ghost use Rattle.book_words.specs.Answers.{IsLegal};
 ghost use Rattle.script_lines.specs.Feed.{feed_after};
 ghost use Rattle.book_store.specs.Stores.{entries_of, IsSound};
-ghost use Rattle.hall_top.specs.Texts.{read_fault};
 ghost use Rattle.hall_top.specs.Transcript.{BookState};
-ghost use Rattle.hall_top.specs.Streams.{Stream, Devices, devices, output_at, WroteAll, Wrote};
+ghost use Rattle.hall_top.specs.Streams.{Devices, devices};
 ghost use Rattle.hall_top.specs.Run.{call, Explains};
 ghost use Rattle.hall_top.specs.Kept.{Goes, GoesTo};
 ghost use Rattle.hall_top.specs.Books.{book_in, store_in, stored_book, opened_at, IsReady};
@@ -13,9 +12,9 @@ ghost use Rattle.hall_top.specs.Runs.{run_state};
 
 use crate::run::Run;
 use crate::stop::Stop;
-use crate::writing::say_no_memory;
+use crate::writing::{say_no_memory, say_read_fault};
 use book_store::Store;
-use disk_core::{Disk, Failed, Sink, Source, write_all};
+use disk_core::{Disk, Failed, Sink, Source};
 use std::alloc::Global;
 
 /// A run makes at most so many reads, each of which gives a byte.
@@ -29,15 +28,6 @@ pub const PIECE: usize = 65_536;
 pub struct RunEnd<D: Disk> {
     pub stop: Stop,
     pub store: Store<D>,
-}
-
-// Says that the input failed.
-fn say_read_fault<K: Sink>(output: &mut K)
-    ensures { (before : Stream) (done : List ℕ)
-        → WroteAll before (output_at K.Sink output.old) done
-        → Wrote before (output_at K.Sink output.new) done read_fault }
-{
-    let _ = write_all(output, b"read fault\n");
 }
 
 // Makes one read, and takes what it gives.

@@ -1,9 +1,9 @@
-/// How a run ended.
+/// How a command ended.
 #[derive(Clone, Copy, Debug, PartialEq, Eq)]
 pub enum Stop {
-    /// The input was read to its end and the summary went out.
+    /// It was done: the summary of a run went out, or how many rows the book has.
     Finished,
-    /// A line is outside the grammar of scripts.
+    /// A line is outside the grammar of scripts, or a row of a journal can't be carried.
     BadLine,
     /// The input failed.
     ReadFault,
@@ -13,7 +13,7 @@ pub enum Stop {
     DiskFault,
     /// There was no memory.
     NoMemory,
-    /// The reads that a run may make were made, and the end wasn't seen.
+    /// The reads that it may make were made, and the end wasn't seen.
     Spent,
 }
 

@@ -14,6 +14,7 @@ ghost use Rattle.hall_top.specs.Calls.{ExplainsCommand, EndsAs, IsDoneOver, IsOp
 
 use crate::check::check_book;
 use crate::ended::Ended;
+use crate::migrate::migrate_journal;
 use crate::open::{end_unopened, no_rows};
 use crate::reads::{RunEnd, run_script};
 use book_store::{MountError, Store, Unmounted};
@@ -43,6 +44,7 @@ fn run_command<S: Source, K: Sink, D: Disk>(
             let stop = check_book(&store, output);
             RunEnd { stop, store }
         }
+        Command::Migrate => migrate_journal(alloc, store, input, output),
     }
 }
 
@@ -126,18 +128,26 @@ fn end_with_usage<K: Sink, D>(alloc: Global, disk: D, output: &mut K) -> Ended<D
 /// snapshot of the book is kept; then comes the summary. `check` reads nothing, and says that the
 /// book is whole.
 ///
+/// `migrate` reads a journal of version 1 and carries its rows, up to the first slot that is cut
+/// or whose gate is closed; what follows is read and passed over. A row that the book has is
+/// compared with it, and one that it lacks is adopted as it stands, whatever the limit; a
+/// migration that was stopped is run again. Where rows were added, a snapshot is kept. Then `rows
+/// N whole` says how many rows the book has. Row N is bad where it spells no entry, differs from
+/// the book's, or isn't lawful there; `bad line 0` says that the input isn't such a journal. The
+/// rows before are carried.
+///
 /// | status | comes | last line |
 /// |---|---|---|
 /// | 0 | where the command was done | |
 /// | 2 | at wrong words, and then nothing is read or opened | `usage: hall COMMAND [OPTIONS]` |
-/// | 3 | at a line outside the grammar | `bad line N` |
+/// | 3 | at a line outside the grammar, or a bad row | `bad line N` |
 /// | 4 | where the input failed | `read fault` |
 /// | 5 | where the output failed | |
 /// | 6 | where the disk failed | `disk fault` |
 /// | 7 | where there is no memory | `no memory` |
 /// | 8 | where the disk isn't a journal | `not a journal at PLACE` |
 /// | 9 | where its rows aren't those of a book | `damaged row N` |
-/// | 12 | where 100 000 000 reads each gave a byte, and no end was seen | |
+/// | 12 | where 100 000 000 reads (`migrate`: 200 000 000) each gave a byte, and no end came | |
 ///
 /// At each status the rows that the disk held stand first among the rows, and a crash at any moment
 /// leaves them. The end of the input wasn't given before, and nothing is read after it.

@@ -1,16 +1,16 @@
-ghost use Rattle.std.specs.Prelude.{◌≡◌, ◌≤◌, [], ◌∷◌, OnOk, IfErr, length, vec_capacity};
+ghost use Rattle.std.specs.Prelude.{◌≡◌, ◌≤◌, ℕ, List, [], ◌∷◌, OnOk, IfErr, length, vec_capacity};
 ghost use Rattle.book_words.specs.Views.{summary};
 ghost use Rattle.book_words.specs.Answers.{IsLegal};
 ghost use Rattle.script_lines.specs.declared.command.Line.TheVariants as line;
 ghost use Rattle.batch_reports.specs.Texts.{summary_text};
 ghost use Rattle.book_store.specs.Stores.{disk_of, book_of, entries_of, IsSound};
 ghost use Rattle.hall_top.specs.declared.stop.Stop.TheVariants as stop;
-ghost use Rattle.hall_top.specs.Texts.{bad_line};
+ghost use Rattle.hall_top.specs.Texts.{bad_line, read_fault};
 ghost use Rattle.hall_top.specs.Books.{stored_book};
 ghost use Rattle.hall_top.specs.Kept.{Goes};
 ghost use Rattle.hall_top.specs.Snapshots.{LeavesSnapshot};
-ghost use Rattle.hall_top.specs.Streams.{output_at, WroteAll, IsCutIn, Wrote};
-ghost use Rattle.hall_top.specs.Run.{HasGrown, StopsAtLine, StopsAtSummary};
+ghost use Rattle.hall_top.specs.Streams.{Stream, output_at, WroteAll, IsCutIn, Wrote};
+ghost use Rattle.hall_top.specs.Run.{FailsToKeep, HasGrown, StopsAtLine};
 ghost use Rattle.hall_top.specs.Reached.{HasAnswered, SaysDiskFault, SaysNoMemory};
 
 use crate::composing::{Unanswered, compose_answer, compose_bad_line, compose_summary};
@@ -87,7 +87,7 @@ pub fn keep_snapshot<D: Disk, K: Sink>(
     requires sound { IsSound D.Disk store.old }
     requires legal { IsLegal (entries_of store.old) }
     ensures quiet { OnOk result (output_at K.Sink output.new ≡ output_at K.Sink output.old) }
-    ensures stops { IfErr result (StopsAtSummary opened (output_at K.Sink output.old)
+    ensures stops { IfErr result (FailsToKeep opened (output_at K.Sink output.old)
         (output_at K.Sink output.new) (entries_of store.old)) }
     ensures book { book_of store.new ≡ book_of store.old }
     ensures goes { Goes D.Disk result store.old store.new }
@@ -119,6 +119,15 @@ pub fn write_summary<K: Sink>(book: &Book, text: &mut Vec<u8>, output: &mut K) -
     compose_summary(book, text);
     write_text(text, output)?;
     Ok(())
+}
+
+/// Says that the input failed.
+pub fn say_read_fault<K: Sink>(output: &mut K)
+    ensures { (before : Stream) (done : List ℕ)
+        → WroteAll before (output_at K.Sink output.old) done
+        → Wrote before (output_at K.Sink output.new) done read_fault }
+{
+    let _ = write_all(output, b"read fault\n");
 }
 
 /// Says that the disk failed.

@@ -151,7 +151,7 @@ number_natural date real = elim (cases_lt 1970 date.year) [
 ]
 
 -- and none with a year of four digits lies behind 9999-12-31
-pub number_within : (date : YearMonthDay) → IsReal date → date.year ≤ 9999 → number date ≤ℤ pos 2_932_896
+pub number_within : (date : YearMonthDay) → IsReal date → date.year ≤ 9999 → number date ≤ℤ MAX_DAY
 unfolding as_date
 number_within date real early = (epoch_day_range (as_date date real early)).1
 

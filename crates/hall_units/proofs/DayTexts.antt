@@ -7,6 +7,7 @@ use Rattle.std.proofs.lemmas.Bool.Decides.{nat_tests}
 use Rattle.std.proofs.lemmas.List.{take_all, take-append-drop, length-take-le, drop-drop, length-drop}
 use Rattle.std.proofs.Math.Seq.{drop-cons}
 use Rattle.hall_units.specs.Number.{is_numeral, bounded_number}
+use Rattle.hall_limits.specs.declared.TheConstants.{MAX_DAY}
 use Rattle.jiff_core.specs.Calendar.{days_in_month, days_from_civil}
 use Rattle.jiff_core.proofs.SignedLemmas.{signed_arith}
 use Rattle.jiff_core.proofs.CalendarLemmas.{days_in_month_bounds}
@@ -68,7 +69,7 @@ pub day_of-day_text : (day : ℤ) → IsDay day → day_of (day_text day) ≡ So
 unfolding day_text
 day_of-day_text day within =
     let natural : day ≡ pos (unsigned_abs day) = natural_day day within.0 in
-    let few : unsigned_abs day ≤ 2_932_896 = omega (arith, signed_arith, within.1, natural) in
+    let few : unsigned_abs day ≤ unsigned_abs MAX_DAY = omega (arith, signed_arith, within.1, natural) in
     let known = date_after-real (unsigned_abs day) few in
     let month_days : days_in_month (pos (date_after (unsigned_abs day)).year) (date_after (unsigned_abs day)).month ≤ 31 = (days_in_month_bounds (pos (date_after (unsigned_abs day)).year) (date_after (unsigned_abs day)).month).0 in
     day_of-date_text (date_after (unsigned_abs day)) known.0 known.1 (omega (arith, known.0.2.1)) ∙ ap Some (known.2 ∙ sym natural)
@@ -173,7 +174,7 @@ day_read y m d day e =
     let read = read_parts (bounded_number 4 9999 y) (bounded_number 2 99 m) (bounded_number 2 99 d) day e in
     let real : IsReal read.0 = real_from_day read.0 read.4 in
     let early : read.0.year ≤ 9999 = bounded_number-within 4 9999 y read.0.year (sym read.1) in
-    (subst (λ z. pos 0 ≤ℤ z) read.5 (number_natural read.0 real), subst (λ z. z ≤ℤ pos 2_932_896) read.5 (number_within read.0 real early))
+    (subst (λ z. pos 0 ≤ℤ z) read.5 (number_natural read.0 real), subst (λ z. z ≤ℤ MAX_DAY) read.5 (number_within read.0 real early))
 
 spelled_by : (text : List ℕ) (day : ℤ) → length text ≡ 10 → get_or text 4 0 ≡ 45 → get_or text 7 0 ≡ 45 →
     day_number (bounded_number 4 9999 (take 4 text)) (bounded_number 2 99 (take 2 (drop 5 text))) (bounded_number 2 99 (take 2 (drop 8 text))) ≡ Some day → text ≡ day_text day

@@ -3,8 +3,7 @@ use Rattle.std.proofs.Common.{◌≡◌, ◌≢◌, inl, inr, ⊎_elim, ℕ, zer
 use Rattle.std.proofs.Math.ListN.{get_or-append}
 use Rattle.std.proofs.lemmas.Bool.{cases_Bool, cases_lt}
 use Rattle.std.proofs.lemmas.Bool.Decides.{nat_tests}
-use Rattle.book_snapshot.specs.declared.layout.TheConstants.{OLD_ROW_BYTES}
-use Rattle.old_journal.specs.declared.types.TheConstants.{MARK}
+use Rattle.book_snapshot.specs.declared.layout.TheConstants.{MARK, OLD_ROW_BYTES}
 use Rattle.old_journal.specs.OldJournal.{HasOldHeader, old_title}
 use Rattle.old_journal.specs.Reader.{header_agrees, is_old_header, old_header}
 

@@ -208,7 +208,7 @@ over_stays taken more old at is =
 begins_on : (taken more : List ℕ) → length (taken ++ more) < OLD_ROW_BYTES → Leaves taken more (begins_view (taken ++ more)) Part
 begins_on taken more cut = record {
   stands = sym (view_begins (taken ++ more) cut);
-  says = no_rows (taken ++ more) (omega (arith, cut)) ∙ sym (no_rows taken (omega (arith, cut, length-append taken more)));
+  says = (λ long. absurd (omega (arith, cut, long)), no_rows (taken ++ more) (omega (arith, cut)) ∙ sym (no_rows taken (omega (arith, cut, length-append taken more))));
 }
 
 rows_go_on : (taken more : List ℕ) → InRows taken → length (behind_rows taken ++ more) < OLD_ROW_BYTES → Leaves taken more (rows_view (length (old_rows taken)) (behind_rows taken ++ more)) Part
@@ -220,7 +220,7 @@ rows_go_on taken more here cut =
     record {
       stands = sym ((rows_at (taken ++ more) long (still_header taken more here.long here.header) (omega (arith, cut, ap length behind))).view
           ∙ ap (λ l. rows_view (length l) (behind_rows (taken ++ more))) same ∙ ap (λ b. rows_view (length (old_rows taken)) b) behind);
-      says = same;
+      says = (λ whole. header_by (taken ++ more) whole (still_header taken more here.long here.header), same);
     }
 
 -- the header is whole

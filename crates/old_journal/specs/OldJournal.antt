@@ -2,8 +2,7 @@
 use Rattle.std.specs.Prelude.{◌≡◌, ◌≢◌, ℕ, zero, suc, ◌+◌, ◌<◌, ◌≤◌, Bool, ◌&&◌, ◌==◌, nat_le, if◌then◌else◌, List, [], ◌∷◌, codes, length, take, drop, slice_index}
 use Rattle.std.specs.List.{AllByRecursion}
 use Rattle.book_words.specs.declared.act.Entry.{Entry}
-use Rattle.book_snapshot.specs.declared.layout.TheConstants.{OLD_ROW_BYTES, OPEN}
-use Rattle.old_journal.specs.declared.types.TheConstants.{MARK}
+use Rattle.book_snapshot.specs.declared.layout.TheConstants.{MARK, OLD_ROW_BYTES, OPEN}
 use Rattle.row_format.specs.Spelling.{old_layout, row_bytes}
 use Rattle.row_format.specs.Rows.{CanBeSpelled}
 
@@ -16,6 +15,10 @@ pub record HasOldHeader (bytes : List ℕ) : Type 0 where
   pub long : OLD_ROW_BYTES ≤ length bytes
   pub same : (k : ℕ) → k < OLD_ROW_BYTES → k ≢ MARK
       → slice_index bytes k ≡ slice_index old_title k
+
+-- the bytes begin with the header, or are fewer than it has
+abbrev pub IsNotForeign : List ℕ → Type 0
+IsNotForeign bytes = OLD_ROW_BYTES ≤ length bytes → HasOldHeader bytes
 
 -- the bytes begin with a whole slot whose gate is open
 abbrev pub begins_open : List ℕ → Bool

@@ -2,15 +2,14 @@
 use Rattle.std.specs.Prelude.{◌≡◌, ℕ, zero, suc, ◌+◌, ◌-◌, ◌<◌, Bool, true, false, ◌&&◌, ◌||◌, ◌==◌, nat_lt, if◌then◌else◌, List, [], ◌∷◌, ◌++◌, length, drop, replicate, slice_index}
 use Rattle.device_facts.specs.Prefix.{IsPrefixOf}
 use Rattle.book_words.specs.declared.act.Entry.{Entry}
-use Rattle.book_snapshot.specs.declared.layout.TheConstants.{OLD_ROW_BYTES}
-use Rattle.old_journal.specs.declared.types.TheConstants.{MARK}
+use Rattle.book_snapshot.specs.declared.layout.TheConstants.{MARK, OLD_ROW_BYTES}
 use Rattle.row_format.specs.Spelling.{old_layout}
 use Rattle.row_format.specs.Rows.{Spells}
 use Rattle.old_journal.specs.declared.types.Stage.{Stage}
 use Rattle.old_journal.specs.declared.types.Stage.TheVariants as stages
 use Rattle.old_journal.specs.declared.types.OldPiece.{OldPiece}
 use Rattle.old_journal.specs.declared.types.OldPiece.TheVariants.{Part, Header, Foreign, Row, Bad, Over}
-use Rattle.old_journal.specs.OldJournal.{HasOldHeader, begins_open, old_rows, old_title}
+use Rattle.old_journal.specs.OldJournal.{HasOldHeader, IsNotForeign, begins_open, old_rows, old_title}
 
 -- what the next slot is, how many rows there were, and the bytes of the slot that has begun
 pub record OldView : Type 0 where
@@ -84,10 +83,10 @@ pub record SpellsOnly (row : List ℕ) (number : ℕ) (entry : Entry) : Type 0 w
 abbrev pub SpellsNone : List ℕ → ℕ → Type 0
 SpellsNone row number = (entry : Entry) → ¬ Spells old_layout row number entry
 
--- what a piece says of the bytes before it and now: the header is whole, or another's whatever
--- follows, a row has come, or none has
+-- what a piece says of the bytes before it and now: a slot has begun, the header is whole, or
+-- another's whatever follows, a row has come, or none has
 abbrev pub Says : List ℕ → List ℕ → OldPiece → Type 0
-Says taken now Part = old_rows now ≡ old_rows taken
+Says taken now Part = IsNotForeign now × (old_rows now ≡ old_rows taken)
 Says taken now Header = HasOldHeader now × (old_rows now ≡ [])
 Says taken now Foreign = (more : List ℕ) → ¬ HasOldHeader (now ++ more)
 Says taken now (Row number entry) =

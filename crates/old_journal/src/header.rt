@@ -1,8 +1,7 @@
 ghost use Rattle.std.specs.Prelude.{◌≡◌};
 ghost use Rattle.old_journal.specs.Reader.{old_header, is_old_header};
 
-use crate::types::MARK;
-use book_snapshot::OLD_ROW_BYTES;
+use book_snapshot::{MARK, OLD_ROW_BYTES};
 
 const TITLE: [u8; 8] = *b"AQHBOOK1";
 

@@ -1,8 +1,5 @@
 use book_words::Entry;
 
-/// The place of the header's mark, which is passed over where a header is compared.
-pub const MARK: usize = 8;
-
 /// What the bytes told that were taken last.
 #[derive(Clone, Copy, Debug, PartialEq, Eq)]
 pub enum OldPiece {

@@ -1,11 +1,10 @@
-use crate::entries::{rows, unsettled_of};
+use crate::entries::{count_of, unsettled_of};
 use crate::rules::{is_desk_wrong, refuse_last, repeated_row};
 use crate::signals::signal_of_last;
-use crate::taken::{Taken, refused, told};
+use crate::taken::{NoMemory, Taken};
 use crate::verdicts::verdict_of;
-use crate::views::{pack_view, tell};
-use book_core::NoMemory;
-use book_words::{Act, Ask, Entry, PackView, Refusal, Reply, Want};
+use crate::views::{Told, pack_view, tell};
+use book_words::{Act, Answered, Ask, Entry, PackView, Refusal, Refused, Reply, Want};
 use pack_judge::Signal;
 use std::alloc::Global;
 
@@ -19,7 +18,7 @@ pub struct PlainBook {
 
 // What the entry that stands last is told.
 fn reply_to_last(alloc: Global, entries: &[Entry]) -> Result<Reply, NoMemory> {
-    let row = rows(entries);
+    let row = count_of(entries.len());
     let Some(last) = entries.last() else {
         return Ok(Reply::Done { row });
     };
@@ -45,27 +44,25 @@ impl PlainBook {
 
     /// Answers an ask of the caller `by`. Only want of memory is an error of this call.
     pub fn take(&mut self, by: u16, ask: &Ask) -> Result<Taken, NoMemory> {
-        match ask.want {
-            Want::Act(act) => self.take_act(by, ask, &act),
-            Want::Question(question) => {
-                let at = rows(&self.entries);
-                match tell(self.alloc, &self.entries, &question)? {
-                    Ok(reply) => Ok(told(at, reply)),
-                    Err(refusal) => Ok(refused(at, refusal)),
-                }
-            }
-        }
+        let told = match ask.want {
+            Want::Act(act) => self.take_act(by, ask, &act)?,
+            Want::Question(question) => tell(self.alloc, &self.entries, &question)?,
+        };
+        let at = count_of(self.entries.len());
+        Ok(match told {
+            Ok(reply) => Ok(Answered { at, reply }),
+            Err(refusal) => Err(Refused { at, refusal }),
+        })
     }
 
     // Answers an act: its desk is wrong, it is a repeat, or it is new.
-    fn take_act(&mut self, by: u16, ask: &Ask, act: &Act) -> Result<Taken, NoMemory> {
-        let at = rows(&self.entries);
+    fn take_act(&mut self, by: u16, ask: &Ask, act: &Act) -> Result<Told, NoMemory> {
         if is_desk_wrong(ask, act) {
-            return Ok(refused(at, Refusal::DeskNumber));
+            return Ok(Err(Refusal::DeskNumber));
         }
         if let Some(row) = repeated_row(&self.entries, ask, act) {
             let until = self.entries.get(..row as usize).unwrap_or(&self.entries);
-            return Ok(told(at, reply_to_last(self.alloc, until)?));
+            return Ok(Ok(reply_to_last(self.alloc, until)?));
         }
         let entry = Entry {
             by,
@@ -78,8 +75,11 @@ impl PlainBook {
         let judged = self.judge_last(ask, act);
         let _ = self.entries.pop();
         match judged? {
-            Err(refusal) => Ok(refused(at, refusal)),
-            Ok(signal) => self.enter(Entry { signal, ..entry }),
+            Err(refusal) => Ok(Err(refusal)),
+            Ok(signal) => {
+                self.entries.push(Entry { signal, ..entry })?;
+                Ok(Ok(reply_to_last(self.alloc, &self.entries)?))
+            }
         }
     }
 
@@ -95,11 +95,10 @@ impl PlainBook {
         }
     }
 
-    // Adds an entry, and answers it.
-    fn enter(&mut self, entry: Entry) -> Result<Taken, NoMemory> {
-        self.entries.push(entry)?;
-        let reply = reply_to_last(self.alloc, &self.entries)?;
-        Ok(told(rows(&self.entries), reply))
+    /// Takes over an entry of another book as it stands, without judging it.
+    pub fn follow(&mut self, entry: &Entry) -> Result<(), NoMemory> {
+        self.entries.push(*entry)?;
+        Ok(())
     }
 
     /// The entries.

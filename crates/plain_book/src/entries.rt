@@ -14,11 +14,6 @@ pub fn count_of(many: usize) -> u32 {
     u32::try_from(many).unwrap_or(u32::MAX)
 }
 
-/// The number of rows.
-pub fn rows(entries: &[Entry]) -> u32 {
-    count_of(entries.len())
-}
-
 /// The day that was set last.
 pub fn newest_day(entries: &[Entry]) -> Option<i32> {
     let mut newest = None;
@@ -130,25 +125,16 @@ pub fn last_start(entries: &[Entry], wanted: u8) -> Option<Name> {
     found
 }
 
-// The number of a weighing that passed.
-fn number_if_passed(place: usize, signal: Option<Signal>) -> Option<u32> {
-    if signal == Some(Signal::Pass) {
-        Some(number_at(place))
-    } else {
-        None
-    }
-}
-
 /// The unsettled pack of a lane: that of its last weighing or stop, where this is a weighing that
 /// passed.
 pub fn unsettled_of(entries: &[Entry], wanted: u8) -> Option<u32> {
     let mut unsettled = None;
     for (place, entry) in entries.iter().enumerate() {
         match entry.act {
-            Act::Weigh { lane, .. } if lane == wanted => unsettled = number_if_passed(
-                place,
-                entry.signal,
-            ),
+            Act::Weigh { lane, .. } if lane == wanted => {
+                let is_passed = entry.signal == Some(Signal::Pass);
+                unsettled = is_passed.then_some(number_at(place));
+            }
             Act::StopLane { lane, .. } if lane == wanted => unsettled = None,
             _ => {}
         }
@@ -156,35 +142,19 @@ pub fn unsettled_of(entries: &[Entry], wanted: u8) -> Option<u32> {
     unsettled
 }
 
-// The greatest day, up to some day, for which a product has a tare.
-fn greatest_tare_day(entries: &[Entry], wanted: Name, until: i32) -> Option<i32> {
-    let mut greatest: Option<i32> = None;
-    for entry in entries {
-        if let Act::PutTare { product, day, .. } = entry.act {
-            if product == wanted && day <= until && greatest.map_or(true, |known| known < day) {
-                greatest = Some(day);
-            }
-        }
-    }
-    greatest
-}
-
-// The tare in mg that was put last for a product and just this day.
-fn last_tare_for(entries: &[Entry], wanted: Name, from: i32) -> Option<i64> {
+/// The tare of a product on a day, in mg: of those for the greatest day up to it, the last.
+pub fn tare_of_product(entries: &[Entry], wanted: Name, until: i32) -> Option<i64> {
+    let mut greatest = i32::MIN;
     let mut found = None;
     for entry in entries {
         if let Act::PutTare { product, day, tare } = entry.act {
-            if product == wanted && day == from {
+            if product == wanted && greatest <= day && day <= until {
+                greatest = day;
                 found = Some(tare);
             }
         }
     }
     found
-}
-
-/// The tare of a product on a day, in mg.
-pub fn tare_of_product(entries: &[Entry], product: Name, day: i32) -> Option<i64> {
-    last_tare_for(entries, product, greatest_tare_day(entries, product, day)?)
 }
 
 /// A row of the list.

@@ -4,7 +4,7 @@ use crate::entries::{
     last_start, newest_day, number_at, opening_of, product_named, tare_of_product,
 };
 use crate::tables::error_of;
-use book_core::NoMemory;
+use crate::taken::NoMemory;
 use book_words::{Act, Entry, Name, Prior, Unit};
 use pack_judge::{Class, Pile, Signal};
 use std::alloc::Global;
@@ -98,17 +98,6 @@ pub fn pack_of(entries: &[Entry], number: u32) -> Option<Pack> {
     pack_at(entries, (number as usize).checked_sub(1)?)
 }
 
-/// The packs among so many of the first entries, as all entries show them.
-pub fn packs_among(alloc: Global, entries: &[Entry], many: usize) -> Result<Vec<Pack>, NoMemory> {
-    let mut packs = Vec::new(alloc);
-    for place in 0..many {
-        if let Some(pack) = pack_at(entries, place) {
-            packs.push(pack)?;
-        }
-    }
-    Ok(packs)
-}
-
 /// The packs among so many of the first entries that count for a batch: those neither rejected nor
 /// voided.
 pub fn population_among(
@@ -148,6 +137,7 @@ pub fn net_of(entries: &[Entry], pack: &Pack, gross: i64) -> i64 {
 #[derive(Clone, Copy)]
 pub struct Bounds {
     pub nominal: i64,
+    pub unit: Unit,
     /// One error below it.
     pub t1: i64,
     /// Two errors below it.
@@ -164,6 +154,7 @@ pub fn bounds_of(entries: &[Entry], batch: Name) -> Option<Bounds> {
     let t1 = product.nominal.wrapping_sub(error);
     Some(Bounds {
         nominal: product.nominal,
+        unit: product.unit,
         t1,
         t2: t1.wrapping_sub(error),
         density: match product.unit {

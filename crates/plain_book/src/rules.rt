@@ -1,20 +1,21 @@
 //! Why an act is refused. Each function tests the rules of its act in the order of their numbers.
 
 use crate::entries::{
-    count_of, lane_batch, newest_day, newest_of_desk, opening_of, product_named, rows, state_of,
+    count_of, lane_batch, newest_day, newest_of_desk, opening_of, product_named, state_of,
     tare_of_product, unsettled_of,
 };
 use crate::measures::{first_unmeasured, measured_of};
 use crate::packs::{Bounds, Pack, bounds_of, pack_at, pack_of, population, tare_of_pack};
 use crate::samples::{Sample, pile_of, sample_of, sample_of_pack};
+use crate::taken::NoMemory;
 use crate::verdicts::{defectives, is_open};
 use annex_tables::Mode;
-use book_core::NoMemory;
 use book_words::{Act, Ask, BatchState, Entry, Name, Prior, Refusal, Unit};
 use pack_judge::Pile;
 use std::alloc::Global;
 
-fn is_lane_act(act: &Act) -> bool {
+/// Whether an act is a lane's.
+pub fn is_lane_act(act: &Act) -> bool {
     matches!(
         act,
         Act::StartLane { .. } | Act::Weigh { .. } | Act::StopLane { .. }
@@ -34,78 +35,63 @@ pub fn is_desk_wrong(ask: &Ask, act: &Act) -> bool {
 /// The row that an ask of a desk repeats: its newest, with the same request and act.
 pub fn repeated_row(entries: &[Entry], ask: &Ask, act: &Act) -> Option<u32> {
     let row = newest_of_desk(entries, ask.desk)?;
-    if ask.request > 0 && row.entry.request == ask.request && row.entry.act == *act {
-        Some(row.number)
-    } else {
-        None
-    }
+    let is_same = row.entry.request == ask.request && row.entry.act == *act;
+    (ask.request > 0 && is_same).then_some(row.number)
 }
 
 // Refusals by the request of a desk.
 fn refuse_request(entries: &[Entry], ask: &Ask) -> Option<Refusal> {
+    let (row, last) = match newest_of_desk(entries, ask.desk) {
+        Some(newest) => (newest.number, newest.entry.request),
+        None => (0, 0),
+    };
     if ask.desk == 0 {
-        return None;
+        None
+    } else if ask.request == 0 || ask.request < last {
+        Some(Refusal::RequestOld { last })
+    } else if ask.request == last {
+        Some(Refusal::RequestReused { row })
+    } else if ask.request > last.saturating_add(1) {
+        Some(Refusal::RequestGap { last })
+    } else {
+        None
     }
-    let newest = newest_of_desk(entries, ask.desk);
-    let last = newest.map_or(0, |row| row.entry.request);
-    if ask.request == 0 || ask.request < last {
-        return Some(Refusal::RequestOld { last });
-    }
-    if let Some(row) = newest {
-        if ask.request == last {
-            return Some(Refusal::RequestReused { row: row.number });
-        }
-    }
-    if ask.request > last.saturating_add(1) {
-        return Some(Refusal::RequestGap { last });
-    }
-    None
+}
+
+// Whether a number is neither below one nor above another.
+fn is_within(number: i64, least: i64, most: i64) -> bool {
+    least <= number && number <= most
 }
 
 fn is_day(day: i32) -> bool {
-    day >= 0 && day <= 2_932_896
+    is_within(i64::from(day), 0, 2_932_896)
 }
 
-fn is_tare(tare: i64) -> bool {
-    tare >= 0 && tare <= 5_000_000
+fn is_tare(mass: i64) -> bool {
+    is_within(mass, 0, 5_000_000)
 }
 
-fn is_gross(gross: i64) -> bool {
-    gross >= 0 && gross <= 30_000_000
+fn is_gross(mass: i64) -> bool {
+    is_within(mass, 0, 30_000_000)
 }
 
-fn is_lane(lane: u8) -> bool {
-    lane >= 1 && lane <= 16
-}
-
-// Whether a byte is a letter or a digit of ASCII.
-fn is_letter_or_digit(byte: u8) -> bool {
-    matches!(byte, b'a'..=b'z' | b'A'..=b'Z' | b'0'..=b'9')
-}
-
-// Whether a name is 1 to 32 letters, digits, `-`, `_` or `.`, the first a letter or digit.
+// Whether a name is letters, digits, `-`, `_` and `.` of ASCII, the first a letter or digit.
 fn has_shape(name: &Name) -> bool {
-    let mut good = false;
-    for (at, byte) in name.as_bytes().iter().enumerate() {
-        if at == 0 {
-            good = is_letter_or_digit(*byte);
-        } else {
-            good = good && (is_letter_or_digit(*byte) || matches!(*byte, b'-' | b'_' | b'.'));
-        }
+    let mut is_good = true;
+    let mut is_first = true;
+    for byte in name.as_bytes() {
+        let is_mark = matches!(*byte, b'-' | b'_' | b'.');
+        is_good = is_good && (byte.is_ascii_alphanumeric() || is_mark && !is_first);
+        is_first = false;
     }
-    good
+    is_good
 }
 
 fn refuse_day(entries: &[Entry], day: i32) -> Option<Refusal> {
-    if let Some(last) = newest_day(entries) {
-        if day < last {
-            return Some(Refusal::DayBack { last });
-        }
-    }
-    if is_day(day) {
-        None
-    } else {
-        Some(Refusal::DayRange)
+    match newest_day(entries) {
+        Some(last) if day < last => Some(Refusal::DayBack { last }),
+        _ if is_day(day) => None,
+        _ => Some(Refusal::DayRange),
     }
 }
 
@@ -114,26 +100,11 @@ fn refuse_product(entries: &[Entry], name: Name, nominal: i64) -> Option<Refusal
         Some(Refusal::ProductKnown)
     } else if !has_shape(&name) {
         Some(Refusal::NameShape)
-    } else if nominal < 5_000 || nominal > 10_000_000 {
+    } else if !is_within(nominal, 5_000, 10_000_000) {
         Some(Refusal::NominalRange)
     } else {
         None
     }
-}
-
-// The first closed batch of a list, by opening, for which a test holds of the list before and after
-// its last entry.
-fn first_frozen(before: &[Entry], after: &[Entry]) -> Option<Name> {
-    for entry in before {
-        if let Act::OpenBatch { batch, .. } = entry.act {
-            if state_of(before, batch) == Some(BatchState::Closed)
-                && is_retared(before, after, batch)
-            {
-                return Some(batch);
-            }
-        }
-    }
-    None
 }
 
 // Whether a pack of a batch has one tare by some entries and another by others.
@@ -150,6 +121,20 @@ fn is_retared(before: &[Entry], after: &[Entry], batch: Name) -> bool {
     false
 }
 
+// The first closed batch, by opening, of which a pack has another tare with one entry more.
+fn first_frozen(before: &[Entry], after: &[Entry]) -> Option<Name> {
+    for entry in before {
+        if let Act::OpenBatch { batch, .. } = entry.act {
+            if state_of(before, batch) == Some(BatchState::Closed)
+                && is_retared(before, after, batch)
+            {
+                return Some(batch);
+            }
+        }
+    }
+    None
+}
+
 fn refuse_tare(
     before: &[Entry],
     after: &[Entry],
@@ -164,14 +149,8 @@ fn refuse_tare(
     } else if !is_tare(tare) {
         Some(Refusal::TareRange)
     } else {
-        first_frozen(before, after).map(|batch| Refusal::TareFrozen { batch })
-    }
-}
-
-fn suits_unit(unit: Unit, density: u32) -> bool {
-    match unit {
-        Unit::Mass => density == 0,
-        Unit::Volume => density >= 500_000 && density <= 2_000_000,
+        let batch = first_frozen(before, after)?;
+        Some(Refusal::TareFrozen { batch })
     }
 }
 
@@ -179,11 +158,16 @@ fn refuse_opening(entries: &[Entry], batch: Name, name: Name, density: u32) -> O
     let Some(product) = product_named(entries, name) else {
         return Some(Refusal::ProductUnknown);
     };
+    let is_dense = density >= 500_000 && density <= 2_000_000;
+    let is_suitable = match product.unit {
+        Unit::Mass => density == 0,
+        Unit::Volume => is_dense,
+    };
     if !has_shape(&batch) {
         Some(Refusal::NameShape)
     } else if opening_of(entries, batch).is_some() {
         Some(Refusal::BatchKnown)
-    } else if !suits_unit(product.unit, density) {
+    } else if !is_suitable {
         Some(Refusal::DensityRange)
     } else {
         None
@@ -209,7 +193,7 @@ fn refuse_start(entries: &[Entry], lane: u8, batch: Name) -> Option<Refusal> {
     if let Some(refusal) = refuse_state(entries, batch, running, running) {
         return Some(refusal);
     }
-    if !is_lane(lane) {
+    if lane < 1 || lane > 16 {
         return Some(Refusal::LaneNumber);
     }
     if let Some(batch) = lane_batch(entries, lane) {
@@ -222,60 +206,20 @@ fn refuse_start(entries: &[Entry], lane: u8, batch: Name) -> Option<Refusal> {
     }
 }
 
-fn refuse_prior(entries: &[Entry], lane: u8, prior: Prior) -> Option<Refusal> {
-    let wanted = unsettled_of(entries, lane).is_some();
-    if wanted == (prior == Prior::Nothing) {
-        Some(Refusal::PriorWrong { wanted })
-    } else {
-        None
-    }
-}
-
+// Refusals of a weighing; and of a stop, which is read as a weighing of nothing.
 fn refuse_weighing(entries: &[Entry], lane: u8, gross: i64, prior: Prior) -> Option<Refusal> {
-    if !is_lane(lane) {
+    let wanted = unsettled_of(entries, lane).is_some();
+    if lane < 1 || lane > 16 {
         Some(Refusal::LaneNumber)
     } else if lane_batch(entries, lane).is_none() {
         Some(Refusal::LaneIdle)
     } else if !is_gross(gross) {
         Some(Refusal::GrossRange)
+    } else if wanted == (prior == Prior::Nothing) {
+        Some(Refusal::PriorWrong { wanted })
     } else {
-        refuse_prior(entries, lane, prior)
+        None
     }
-}
-
-fn refuse_stop(entries: &[Entry], lane: u8, prior: Prior) -> Option<Refusal> {
-    if !is_lane(lane) {
-        Some(Refusal::LaneNumber)
-    } else if lane_batch(entries, lane).is_none() {
-        Some(Refusal::LaneIdle)
-    } else {
-        refuse_prior(entries, lane, prior)
-    }
-}
-
-fn refuse_void(alloc: Global, entries: &[Entry], number: u32) -> Result<Option<Refusal>, NoMemory> {
-    let Some(pack) = pack_of(entries, number) else {
-        return Ok(Some(Refusal::PackUnknown));
-    };
-    if let Some(state) = state_of_pack(entries, &pack) {
-        if state != BatchState::Running && state != BatchState::Ended {
-            return Ok(Some(Refusal::BatchState { state }));
-        }
-    }
-    let sample = sample_of_pack(alloc, entries, &pack)?;
-    let pile = pile_of(&pack, &sample);
-    if pile != Pile::Passed {
-        Ok(Some(Refusal::PackPile { pile }))
-    } else if pack.unsettled {
-        Ok(Some(Refusal::Unsettled { lane: pack.lane }))
-    } else {
-        Ok(None)
-    }
-}
-
-// The state of the batch of a pack.
-fn state_of_pack(entries: &[Entry], pack: &Pack) -> Option<BatchState> {
-    state_of(entries, pack.batch?)
 }
 
 fn refuse_end(entries: &[Entry], batch: Name) -> Option<Refusal> {
@@ -291,23 +235,25 @@ fn refuse_end(entries: &[Entry], batch: Name) -> Option<Refusal> {
     None
 }
 
-fn refuse_draw(
-    alloc: Global,
+// Refusals by the state of the batch of a pack, which has to be one of two.
+fn refuse_state_of_pack(
     entries: &[Entry],
-    batch: Name,
-    mode: Mode,
-) -> Result<Option<Refusal>, NoMemory> {
-    let ended = BatchState::Ended;
-    if let Some(refusal) = refuse_state(entries, batch, ended, ended) {
-        return Ok(Some(refusal));
-    }
-    let n = count_of(population(alloc, entries, batch)?.len());
-    if n == 0 {
-        Ok(Some(Refusal::BatchEmpty))
-    } else if mode == Mode::Destroy && n <= 99 {
-        Ok(Some(Refusal::ModeSmall { n }))
-    } else {
-        Ok(None)
+    pack: &Pack,
+    allowed: BatchState,
+    other: BatchState,
+) -> Option<Refusal> {
+    refuse_state(entries, pack.batch?, allowed, other)
+}
+
+// Refusals of a void, by the samples of the batch of its pack.
+fn refuse_void(entries: &[Entry], pack: &Pack, sample: &Option<Sample>) -> Option<Refusal> {
+    let pile = pile_of(pack, sample);
+    let running = BatchState::Running;
+    match refuse_state_of_pack(entries, pack, running, BatchState::Ended) {
+        Some(refusal) => Some(refusal),
+        None if pile != Pile::Passed => Some(Refusal::PackPile { pile }),
+        None if pack.unsettled => Some(Refusal::Unsettled { lane: pack.lane }),
+        None => None,
     }
 }
 
@@ -319,130 +265,141 @@ fn is_empty_good(sample: &Option<Sample>, empty: i64) -> bool {
     }
 }
 
-// Refusals of a measurement of a pack that is there.
-fn refuse_measure_of(
-    alloc: Global,
+// Refusals of a measurement, by the samples of the batch of its pack.
+fn refuse_measure(
     entries: &[Entry],
     pack: &Pack,
+    sample: &Option<Sample>,
     gross: i64,
     empty: i64,
-) -> Result<Option<Refusal>, NoMemory> {
-    if let Some(state) = state_of_pack(entries, pack) {
-        if state != BatchState::Drawn {
-            return Ok(Some(Refusal::BatchState { state }));
-        }
+) -> Option<Refusal> {
+    let drawn = BatchState::Drawn;
+    if let Some(refusal) = refuse_state_of_pack(entries, pack, drawn, drawn) {
+        return Some(refusal);
     }
-    let sample = sample_of_pack(alloc, entries, pack)?;
-    let pile = pile_of(pack, &sample);
+    let pile = pile_of(pack, sample);
     if !is_gross(gross) {
-        Ok(Some(Refusal::GrossRange))
-    } else if !is_empty_good(&sample, empty) {
-        Ok(Some(Refusal::TareRange))
+        Some(Refusal::GrossRange)
+    } else if !is_empty_good(sample, empty) {
+        Some(Refusal::TareRange)
     } else if pile != Pile::Sampled {
-        Ok(Some(Refusal::PackPile { pile }))
+        Some(Refusal::PackPile { pile })
     } else {
-        let measured = measured_of(entries, u64::from(pack.number));
-        Ok(measured.map(|known| Refusal::MeasuredAlready { value: known.gross }))
+        let value = measured_of(entries, u64::from(pack.number))?.gross;
+        Some(Refusal::MeasuredAlready { value })
     }
 }
 
-fn refuse_measure(
+// Refusals of an act that looks at a pack which isn't there.
+fn refuse_unknown(act: &Act) -> Option<Refusal> {
+    match act {
+        Act::Measure { gross, .. } if !is_gross(*gross) => Some(Refusal::GrossRange),
+        Act::Measure { empty, .. } if !is_tare(*empty) => Some(Refusal::TareRange),
+        _ => Some(Refusal::PackUnknown),
+    }
+}
+
+// Refusals of an act that looks at one pack.
+fn refuse_pack_act(
     alloc: Global,
     entries: &[Entry],
+    act: &Act,
     number: u32,
-    gross: i64,
-    empty: i64,
 ) -> Result<Option<Refusal>, NoMemory> {
-    if let Some(pack) = pack_of(entries, number) {
-        return refuse_measure_of(alloc, entries, &pack, gross, empty);
+    let Some(pack) = pack_of(entries, number) else {
+        return Ok(refuse_unknown(act));
+    };
+    let sample = sample_of_pack(alloc, entries, &pack)?;
+    match *act {
+        Act::Measure { gross, empty, .. } => {
+            Ok(refuse_measure(entries, &pack, &sample, gross, empty))
+        }
+        _ => Ok(refuse_void(entries, &pack, &sample)),
     }
-    if !is_gross(gross) {
-        Ok(Some(Refusal::GrossRange))
-    } else if !is_tare(empty) {
-        Ok(Some(Refusal::TareRange))
-    } else {
-        Ok(Some(Refusal::PackUnknown))
+}
+
+// Refusals of a first draw, by the number of packs in the population.
+fn refuse_draw(entries: &[Entry], batch: Name, mode: Mode, n: u32) -> Option<Refusal> {
+    let ended = BatchState::Ended;
+    match refuse_state(entries, batch, ended, ended) {
+        Some(refusal) => Some(refusal),
+        None if n == 0 => Some(Refusal::BatchEmpty),
+        None if mode == Mode::Destroy && n <= 99 => Some(Refusal::ModeSmall { n }),
+        None => None,
     }
 }
 
 // Refusals of a second draw, by the first one.
-fn refuse_second_by(entries: &[Entry], bounds: &Bounds, sample: &Sample) -> Option<Refusal> {
+fn refuse_second(entries: &[Entry], bounds: &Bounds, sample: &Sample) -> Option<Refusal> {
     let (d1, _) = defectives(entries, bounds, sample);
     let unmeasured = first_unmeasured(entries, &sample.first);
-    let decided = unmeasured.is_none() && !is_open(&sample.plan, d1);
-    if sample.plan.second == 0 || sample.second.is_some() || decided {
+    let is_decided = unmeasured.is_none() && !is_open(&sample.plan, d1);
+    if sample.plan.second == 0 || sample.has_second || is_decided {
         Some(Refusal::SecondNotNeeded { d1 })
     } else {
-        unmeasured.map(|pack| Refusal::Unmeasured { pack })
-    }
-}
-
-fn refuse_second(
-    alloc: Global,
-    entries: &[Entry],
-    batch: Name,
-) -> Result<Option<Refusal>, NoMemory> {
-    let drawn = BatchState::Drawn;
-    if let Some(refusal) = refuse_state(entries, batch, drawn, drawn) {
-        return Ok(Some(refusal));
-    }
-    let sample = sample_of(alloc, entries, batch)?;
-    match (bounds_of(entries, batch), &sample) {
-        (Some(bounds), Some(sample)) => Ok(refuse_second_by(entries, &bounds, sample)),
-        _ => Ok(None),
+        Some(Refusal::Unmeasured { pack: unmeasured? })
     }
 }
 
 // Refusals of a closing, by the samples.
-fn refuse_close_by(entries: &[Entry], bounds: &Bounds, sample: &Sample) -> Option<Refusal> {
+fn refuse_close(entries: &[Entry], bounds: &Bounds, sample: &Sample) -> Option<Refusal> {
     let (d1, _) = defectives(entries, bounds, sample);
-    let open = is_open(&sample.plan, d1);
     if let Some(pack) = first_unmeasured(entries, &sample.first) {
         return Some(Refusal::Unmeasured { pack });
     }
-    if !open {
+    if !is_open(&sample.plan, d1) {
         return None;
     }
-    if sample.second.is_none() {
+    if !sample.has_second {
         return Some(Refusal::SecondNeeded { d1 });
     }
-    first_unmeasured(entries, sample.second_packs()).map(|pack| Refusal::Unmeasured { pack })
+    let pack = first_unmeasured(entries, &sample.second)?;
+    Some(Refusal::Unmeasured { pack })
 }
 
-fn refuse_close(
+// Refusals of a second draw or a closing of a batch.
+fn refuse_sample_act(
     alloc: Global,
     entries: &[Entry],
+    act: &Act,
     batch: Name,
 ) -> Result<Option<Refusal>, NoMemory> {
-    if let Some(refusal) = refuse_state(entries, batch, BatchState::Ended, BatchState::Drawn) {
+    let is_close = matches!(act, Act::Close { .. });
+    let drawn = BatchState::Drawn;
+    let other = if is_close { BatchState::Ended } else { drawn };
+    if let Some(refusal) = refuse_state(entries, batch, drawn, other) {
         return Ok(Some(refusal));
     }
     let sample = sample_of(alloc, entries, batch)?;
     match (bounds_of(entries, batch), &sample) {
-        (Some(bounds), Some(sample)) => Ok(refuse_close_by(entries, &bounds, sample)),
+        (Some(bounds), Some(sample)) if is_close => Ok(refuse_close(entries, &bounds, sample)),
+        (Some(bounds), Some(sample)) => Ok(refuse_second(entries, &bounds, sample)),
         _ if population(alloc, entries, batch)?.is_empty() => Ok(None),
         _ => Ok(Some(Refusal::NotDrawn)),
     }
 }
 
-// Refusals of an act of the office that looks at packs.
-fn refuse_by_packs(
+// Refusals of an act that looks at packs.
+fn refuse_test_act(
     alloc: Global,
     before: &[Entry],
     act: &Act,
 ) -> Result<Option<Refusal>, NoMemory> {
     match *act {
-        Act::Void { pack } => refuse_void(alloc, before, pack),
-        Act::Draw { batch, mode, .. } => refuse_draw(alloc, before, batch, mode),
-        Act::Measure { pack, gross, empty } => refuse_measure(alloc, before, pack, gross, empty),
-        Act::DrawSecond { batch, .. } => refuse_second(alloc, before, batch),
-        Act::Close { batch } => refuse_close(alloc, before, batch),
+        Act::Void { pack } => refuse_pack_act(alloc, before, act, pack),
+        Act::Measure { pack, .. } => refuse_pack_act(alloc, before, act, pack),
+        Act::Draw { batch, mode, .. } => {
+            let n = count_of(population(alloc, before, batch)?.len());
+            Ok(refuse_draw(before, batch, mode, n))
+        }
+        Act::DrawSecond { batch, .. } => refuse_sample_act(alloc, before, act, batch),
+        Act::Close { batch } => refuse_sample_act(alloc, before, act, batch),
         _ => Ok(None),
     }
 }
 
 // Refusals of any other act. `after` is the list with the act.
-fn refuse_by_entries(before: &[Entry], after: &[Entry], act: &Act) -> Option<Refusal> {
+fn refuse_other_act(before: &[Entry], after: &[Entry], act: &Act) -> Option<Refusal> {
     match *act {
         Act::NewDay { day } => refuse_day(before, day),
         Act::PutProduct { name, nominal, .. } => refuse_product(before, name, nominal),
@@ -454,7 +411,7 @@ fn refuse_by_entries(before: &[Entry], after: &[Entry], act: &Act) -> Option<Ref
         } => refuse_opening(before, batch, product, density),
         Act::StartLane { lane, batch } => refuse_start(before, lane, batch),
         Act::Weigh { lane, gross, prior } => refuse_weighing(before, lane, gross, prior),
-        Act::StopLane { lane, prior } => refuse_stop(before, lane, prior),
+        Act::StopLane { lane, prior } => refuse_weighing(before, lane, 0, prior),
         Act::EndRun { batch } => refuse_end(before, batch),
         _ => None,
     }
@@ -473,14 +430,14 @@ pub fn refuse_last(
     if let Some(refusal) = refuse_request(before, ask) {
         return Ok(Some(refusal));
     }
-    if rows(before) >= limit {
+    if before.len() >= limit as usize {
         return Ok(Some(Refusal::BookFull { limit }));
     }
     if newest_day(before).is_none() && !matches!(act, Act::NewDay { .. }) {
         return Ok(Some(Refusal::DayUnset));
     }
-    match refuse_by_entries(before, after, act) {
+    match refuse_other_act(before, after, act) {
         Some(refusal) => Ok(Some(refusal)),
-        None => refuse_by_packs(alloc, before, act),
+        None => refuse_test_act(alloc, before, act),
     }
 }

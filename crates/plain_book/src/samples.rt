@@ -3,8 +3,8 @@
 use crate::entries::count_of;
 use crate::packs::{Pack, population};
 use crate::tables::plan_of;
+use crate::taken::NoMemory;
 use annex_tables::{Mode, Plan};
-use book_core::NoMemory;
 use book_words::{Act, Entry, Name};
 use pack_judge::Pile;
 use std::alloc::Global;
@@ -16,10 +16,10 @@ pub struct Sample {
     pub plan: Plan,
     /// The packs of the first in drawing order.
     pub first: Vec<u64>,
-    /// The packs that the first left, ascending.
-    pub left: Vec<u64>,
-    /// The packs of the second in drawing order, where one was drawn.
-    pub second: Option<Vec<u64>>,
+    /// Whether a second one was drawn.
+    pub has_second: bool,
+    /// The packs of the second in drawing order; none where it wasn't drawn.
+    pub second: Vec<u64>,
 }
 
 /// Takes so many packs out of some by a word: for each the word is stepped, and points to one of
@@ -54,34 +54,22 @@ fn numbers_of(alloc: Global, packs: &[Pack]) -> Result<Vec<u64>, NoMemory> {
     Ok(numbers)
 }
 
-// The first sample of a batch, behind some entries.
-fn first_sample(
-    alloc: Global,
-    before: &[Entry],
-    batch: Name,
+// The draw of the first sample of a batch.
+#[derive(Clone, Copy)]
+struct Drawing {
+    // Its place in the list.
+    place: usize,
     mode: Mode,
     word: u64,
-) -> Result<Sample, NoMemory> {
-    let packs = population(alloc, before, batch)?;
-    let plan = plan_of(count_of(packs.len()), mode);
-    let mut left = numbers_of(alloc, &packs)?;
-    let first = draw(alloc, word, &mut left, plan.first)?;
-    Ok(Sample {
-        mode,
-        plan,
-        first,
-        left,
-        second: None,
-    })
 }
 
-// The place of the draw of the first sample of a batch, with its mode and word.
-fn drawing_of(entries: &[Entry], wanted: Name) -> Option<(usize, Mode, u64)> {
+// The draw of the first sample of a batch.
+fn drawing_of(entries: &[Entry], wanted: Name) -> Option<Drawing> {
     let mut found = None;
     for (place, entry) in entries.iter().enumerate() {
         if let Act::Draw { batch, mode, word } = entry.act {
             if batch == wanted {
-                found = Some((place, mode, word));
+                found = Some(Drawing { place, mode, word });
             }
         }
     }
@@ -107,38 +95,36 @@ pub fn sample_of(
     entries: &[Entry],
     batch: Name,
 ) -> Result<Option<Sample>, NoMemory> {
-    let Some((place, mode, word)) = drawing_of(entries, batch) else {
+    let Some(Drawing { place, mode, word }) = drawing_of(entries, batch) else {
         return Ok(None);
     };
     let before = entries.get(..place).unwrap_or(entries);
-    let mut sample = first_sample(alloc, before, batch, mode, word)?;
-    if let Some(word) = second_word(entries, batch) {
-        let many = sample.plan.second;
-        sample.second = Some(draw(alloc, word, &mut sample.left, many)?);
-    }
-    Ok(Some(sample))
+    let packs = population(alloc, before, batch)?;
+    let plan = plan_of(count_of(packs.len()), mode);
+    let mut left = numbers_of(alloc, &packs)?;
+    let first = draw(alloc, word, &mut left, plan.first)?;
+    let again = second_word(entries, batch);
+    let many = if again.is_some() { plan.second } else { 0 };
+    let second = draw(alloc, again.unwrap_or(0), &mut left, many)?;
+    Ok(Some(Sample {
+        mode,
+        plan,
+        first,
+        has_second: again.is_some(),
+        second,
+    }))
 }
 
-impl Sample {
-    /// The packs of the second sample; none where it wasn't drawn.
-    pub fn second_packs(&self) -> &[u64] {
-        match &self.second {
-            Some(packs) => packs.as_slice(),
-            None => self.left.get(..0).unwrap_or(&[]),
-        }
-    }
-
-    /// Whether a pack was drawn.
-    pub fn holds(&self, number: u32) -> bool {
-        let number = u64::from(number);
-        self.first.contains(&number) || self.second_packs().contains(&number)
-    }
+// Whether a pack was drawn.
+fn is_drawn(sample: &Sample, number: u32) -> bool {
+    let number = u64::from(number);
+    sample.first.contains(&number) || sample.second.contains(&number)
 }
 
 /// The pile of a pack whose batch has this sample.
 pub fn pile_of(pack: &Pack, sample: &Option<Sample>) -> Pile {
     match sample {
-        Some(sample) if pack.pile == Pile::Passed && sample.holds(pack.number) => Pile::Sampled,
+        Some(sample) if pack.pile == Pile::Passed && is_drawn(sample, pack.number) => Pile::Sampled,
         _ => pack.pile,
     }
 }

@@ -3,7 +3,7 @@
 use crate::packs::{
     Bounds, bounds_of, class_of, count_below, net_of, nets_of, pack_at, population_among,
 };
-use book_core::NoMemory;
+use crate::taken::NoMemory;
 use book_words::Entry;
 use pack_judge::{Cause, Class, Signal};
 use std::alloc::Global;

@@ -3,8 +3,8 @@
 use crate::measures::{contents_of, defective_count};
 use crate::packs::{Bounds, bounds_of, count_below, nets_of, population, sum_of};
 use crate::samples::{Sample, sample_of};
+use crate::taken::NoMemory;
 use annex_tables::Plan;
-use book_core::NoMemory;
 use book_words::{Entry, Fails, Name, Verdict};
 use std::alloc::Global;
 
@@ -12,7 +12,7 @@ use std::alloc::Global;
 pub fn defectives(entries: &[Entry], bounds: &Bounds, sample: &Sample) -> (u32, u32) {
     (
         defective_count(entries, bounds, sample.mode, &sample.first),
-        defective_count(entries, bounds, sample.mode, sample.second_packs()),
+        defective_count(entries, bounds, sample.mode, &sample.second),
     )
 }
 
@@ -36,46 +36,44 @@ fn first_contents(
     entries: &[Entry],
     sample: &Sample,
     many: u32,
-) -> Result<Vec<i128>, NoMemory> {
+) -> Result<Vec<i64>, NoMemory> {
     let mut values = Vec::new(alloc);
     for (place, pack) in sample.first.iter().enumerate() {
         if place < many as usize {
             if let Some(contents) = contents_of(entries, sample.mode, *pack) {
-                values.push(i128::from(contents))?;
+                values.push(contents)?;
             }
         }
     }
     Ok(values)
 }
 
-fn sum(values: &[i128]) -> i128 {
-    let mut sum: i128 = 0;
-    for value in values {
-        sum = sum.wrapping_add(*value);
-    }
-    sum
-}
-
 // The spread of some values: the squares of what their number times each of them differs from their
 // sum, added up.
-fn spread(values: &[i128], number: i128) -> i128 {
-    let total = sum(values);
+fn spread(values: &[i64]) -> i128 {
+    let number = values.len() as i128;
+    let total = i128::from(sum_of(values));
     let mut spread: i128 = 0;
     for value in values {
-        let off = number.wrapping_mul(*value).wrapping_sub(total);
+        let off = number.wrapping_mul(i128::from(*value)).wrapping_sub(total);
         spread = spread.wrapping_add(off.wrapping_mul(off));
     }
     spread
 }
 
-// Whether the mean of some values reaches the nominal quantity, or falls short by at most so many
-// thousandths of the standard deviation.
-fn mean_accepted(values: &[i128], bounds: &Bounds, k1000: u32) -> bool {
-    let number = values.len() as i128;
-    let wanted = number
+// What some masses in mg together fall short of the nominal quantity for each, times a million.
+fn shortfall(masses: &[i64], bounds: &Bounds) -> i128 {
+    let wanted = (masses.len() as i128)
         .wrapping_mul(i128::from(bounds.density))
         .wrapping_mul(i128::from(bounds.nominal));
-    let short = wanted.wrapping_sub(sum(values).wrapping_mul(1_000_000));
+    wanted.wrapping_sub(i128::from(sum_of(masses)).wrapping_mul(1_000_000))
+}
+
+// Whether the mean of some masses in mg reaches the nominal quantity, or falls short by at most so
+// many thousandths of the standard deviation.
+fn mean_accepted(masses: &[i64], bounds: &Bounds, k1000: u32) -> bool {
+    let number = masses.len() as i128;
+    let short = shortfall(masses, bounds);
     if short <= 0 {
         return true;
     }
@@ -86,16 +84,8 @@ fn mean_accepted(values: &[i128], bounds: &Bounds, k1000: u32) -> bool {
     let left = number
         .wrapping_sub(1)
         .wrapping_mul(short.wrapping_mul(short));
-    let right = part.wrapping_mul(part).wrapping_mul(spread(values, number));
+    let right = part.wrapping_mul(part).wrapping_mul(spread(masses));
     left <= right.wrapping_mul(1_000_000)
-}
-
-// Whether some packs with these nets hold the nominal quantity on average.
-fn average_accepted(nets: &[i64], bounds: &Bounds) -> bool {
-    let wanted = (nets.len() as i128)
-        .wrapping_mul(i128::from(bounds.density))
-        .wrapping_mul(i128::from(bounds.nominal));
-    i128::from(sum_of(nets)).wrapping_mul(1_000_000) >= wanted
 }
 
 // The parts that fail of a batch with packs of these nets and a sample.
@@ -107,12 +97,12 @@ fn fails_of(
     sample: &Sample,
 ) -> Result<Fails, NoMemory> {
     let (d1, d2) = defectives(entries, bounds, sample);
-    let values = first_contents(alloc, entries, sample, sample.plan.mean_n)?;
+    let contents = first_contents(alloc, entries, sample, sample.plan.mean_n)?;
     let below = count_below(bounds, bounds.t1, nets);
     Ok(Fails {
         contents: !contents_accepted(&sample.plan, d1, d2),
-        mean: !mean_accepted(&values, bounds, sample.plan.k1000),
-        average: !average_accepted(nets, bounds),
+        mean: !mean_accepted(&contents, bounds, sample.plan.k1000),
+        average: shortfall(nets, bounds) > 0,
         allowance: u64::from(below) * 40 > nets.len() as u64,
         inadequate: count_below(bounds, bounds.t2, nets) > 0,
     })

@@ -1,17 +1,15 @@
 //! What the book tells of a batch, a pack, a lane, a sample and the whole hall.
 
-use crate::entries::{
-    Opening, count_of, lane_batch, opening_of, product_named, rows, state_of, unsettled_of,
-};
+use crate::entries::{count_of, lane_batch, opening_of, state_of, unsettled_of};
 use crate::measures::measured_count;
 use crate::packs::{
-    Bounds, Pack, bounds_of, class_of, count_below, net_of, nets_of, pack_of, packs_among,
-    population, sum_of,
+    Bounds, Pack, bounds_of, class_of, count_below, net_of, nets_of, pack_at, pack_of, population,
+    sum_of,
 };
-use crate::samples::{Sample, pile_of, sample_of, sample_of_pack};
+use crate::samples::{pile_of, sample_of, sample_of_pack};
 use crate::tables::error_of;
+use crate::taken::NoMemory;
 use crate::verdicts::{defectives, verdict_of};
-use book_core::NoMemory;
 use book_words::{
     Act, BatchState, Entry, LaneView, Name, PackView, Question, Refusal, Reply, SampleView, Sheet,
     SummaryView, TestView, Verdict,
@@ -39,14 +37,17 @@ fn packs_lying(
     let mut all = Vec::new(alloc);
     let mut sample = None;
     let mut sampled = None;
-    for pack in packs_among(alloc, entries, entries.len())?.iter() {
+    for place in 0..entries.len() {
+        let Some(pack) = pack_at(entries, place) else {
+            continue;
+        };
         if pack.batch != sampled {
-            sample = sample_of_pack(alloc, entries, pack)?;
+            sample = sample_of_pack(alloc, entries, &pack)?;
             sampled = pack.batch;
         }
         if batch.is_none() || pack.batch == batch {
-            let pile = pile_of(pack, &sample);
-            all.push(Lying { pack: *pack, pile })?;
+            let pile = pile_of(&pack, &sample);
+            all.push(Lying { pack, pile })?;
         }
     }
     Ok(all)
@@ -95,15 +96,14 @@ fn test_view(
     let Some(sample) = sample_of(alloc, entries, batch)? else {
         return Ok(None);
     };
-    let second = sample.second_packs();
     let (d1, d2) = defectives(entries, bounds, &sample);
     Ok(Some(TestView {
         mode: sample.mode,
         first: count_of(sample.first.len()),
         measured1: measured_count(entries, &sample.first),
         d1,
-        second: count_of(second.len()),
-        measured2: measured_count(entries, second),
+        second: count_of(sample.second.len()),
+        measured2: measured_count(entries, &sample.second),
         d2,
     }))
 }
@@ -121,15 +121,10 @@ fn verdict_in(
     Ok(Some(verdict_of(alloc, entries, batch)?))
 }
 
-// The sheet of a batch that was opened so.
-fn sheet_of(
-    alloc: Global,
-    entries: &[Entry],
-    batch: Name,
-    opening: Opening,
-) -> Result<Option<Sheet>, NoMemory> {
-    let (Some(product), Some(bounds), Some(state)) = (
-        product_named(entries, opening.product),
+// The sheet of a batch, where it was opened.
+fn sheet_of(alloc: Global, entries: &[Entry], batch: Name) -> Result<Option<Sheet>, NoMemory> {
+    let (Some(opening), Some(bounds), Some(state)) = (
+        opening_of(entries, batch),
         bounds_of(entries, batch),
         state_of(entries, batch),
     ) else {
@@ -142,9 +137,9 @@ fn sheet_of(
     Ok(Some(Sheet {
         batch,
         product: opening.product,
-        nominal: product.nominal,
-        unit: product.unit,
-        tne: error_of(product.nominal),
+        nominal: bounds.nominal,
+        unit: bounds.unit,
+        tne: error_of(bounds.nominal),
         density: opening.density,
         state,
         readings: tallies.readings,
@@ -160,16 +155,6 @@ fn sheet_of(
         test: test_view(alloc, entries, batch, &bounds)?,
         verdict: verdict_in(alloc, entries, batch, state)?,
     }))
-}
-
-fn tell_sheet(alloc: Global, entries: &[Entry], batch: Name) -> Result<Told, NoMemory> {
-    let Some(opening) = opening_of(entries, batch) else {
-        return Ok(Err(Refusal::BatchUnknown));
-    };
-    match sheet_of(alloc, entries, batch, opening)? {
-        Some(sheet) => Ok(Ok(Reply::SheetIs(sheet))),
-        None => Ok(Err(Refusal::BatchUnknown)),
-    }
 }
 
 // What is told of a pack that lies in a pile.
@@ -219,16 +204,13 @@ fn tell_sample(alloc: Global, entries: &[Entry], batch: Name) -> Result<Told, No
     if opening_of(entries, batch).is_none() {
         return Ok(Err(Refusal::BatchUnknown));
     }
-    let Some(Sample { first, second, .. }) = sample_of(alloc, entries, batch)? else {
+    let Some(sample) = sample_of(alloc, entries, batch)? else {
         return Ok(Err(Refusal::NotDrawn));
     };
     Ok(Ok(Reply::SampleIs(SampleView {
         batch,
-        first: Picks::from(first),
-        second: match second {
-            Some(packs) => Picks::from(packs),
-            None => Picks::from(Vec::new(alloc)),
-        },
+        first: Picks::from(sample.first),
+        second: Picks::from(sample.second),
     })))
 }
 
@@ -249,7 +231,7 @@ fn batches_in(entries: &[Entry], state: BatchState) -> u32 {
 pub fn summary(alloc: Global, entries: &[Entry]) -> Result<SummaryView, NoMemory> {
     let tallies = tallies_of(alloc, entries, None)?;
     Ok(SummaryView {
-        rows: rows(entries),
+        rows: count_of(entries.len()),
         readings: tallies.readings,
         passed: tallies.passed,
         rejected: tallies.rejected,
@@ -265,7 +247,10 @@ pub fn summary(alloc: Global, entries: &[Entry]) -> Result<SummaryView, NoMemory
 /// What a question is told.
 pub fn tell(alloc: Global, entries: &[Entry], question: &Question) -> Result<Told, NoMemory> {
     match *question {
-        Question::Sheet { batch } => tell_sheet(alloc, entries, batch),
+        Question::Sheet { batch } => match sheet_of(alloc, entries, batch)? {
+            Some(sheet) => Ok(Ok(Reply::SheetIs(sheet))),
+            None => Ok(Err(Refusal::BatchUnknown)),
+        },
         Question::Pack { pack } => match pack_view(alloc, entries, pack)? {
             Some(view) => Ok(Ok(Reply::PackIs(view))),
             None => Ok(Err(Refusal::PackUnknown)),

@@ -1,9 +1,9 @@
 ghost use Rattle.std.specs.Prelude.{◌≡◌, ◌+◌, ◌≤◌, length};
 ghost use Rattle.row_format.specs.Reading.{kind_at, prior_at, signal_at, mode_at, unit_at};
 
-use crate::places::KIND_PLACE;
 use crate::types::RowFault;
 use annex_tables::Mode;
+use book_snapshot::KIND_PLACE;
 use book_words::{Prior, Unit};
 use pack_judge::{Cause, Signal};
 

@@ -1,9 +1,8 @@
 ghost use Rattle.std.specs.Prelude.{◌≡◌, ◌+◌, ◌-◌, ◌*◌, ◌^◌, ◌<◌, ◌≤◌, false, length, IfOk};
 ghost use Rattle.row_format.specs.Reading.{has_number, can_begin, wrong_from, number_in, zeros_at, name_at, day_at, gross_at, tare_at, nominal_at, density_at, lane_at, gate_at, row_number_at};
 
-use crate::places::NUMBER_PLACE;
 use crate::types::RowFault;
-use book_snapshot::OPEN;
+use book_snapshot::{NUMBER_PLACE, OPEN};
 use book_words::Name;
 use hall_limits::{
     MAX_DAY, MAX_DENSITY, MAX_GROSS, MAX_LANE, MAX_NOMINAL, MAX_TARE, MIN_DENSITY, MIN_NOMINAL,

@@ -1,10 +1,4 @@
-//! Where the fields of every row stand, behind its gate at place 0.
-
-/// The place of the kind.
-pub const KIND_PLACE: usize = 1;
-
-/// The place of the row's number, in four bytes.
-pub const NUMBER_PLACE: usize = 2;
+//! Where the fields of every row stand, behind its gate, kind and number.
 
 /// The place of who brought the entry, in two bytes.
 pub const BY_PLACE: usize = 6;

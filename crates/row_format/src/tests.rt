@@ -2,6 +2,7 @@ use super::*;
 use annex_tables::Mode;
 use book_words::{Act, Entry, Name, Prior, Unit};
 use pack_judge::{Cause, Signal};
+use std::fmt;
 use std::process::Abort;
 use std::test::Fail;
 
@@ -23,14 +24,26 @@ fn put(row: &mut [u8], place: usize, bytes: &[u8]) {
     }
 }
 
+fn named(bytes: &[u8]) -> Result<Name, fmt::Error> {
+    Name::new(bytes).ok_or(fmt::Error)
+}
+
 // An entry that a script brought.
-fn from_script(act: Act, signal: Option<Signal>) -> Entry {
+fn from_script(act: Act) -> Entry {
     Entry {
         by: 0,
         desk: 0,
         request: 0,
         act,
-        signal,
+        signal: None,
+    }
+}
+
+// A weighing that a script brought.
+fn weighed(lane: u8, gross: i64, prior: Prior, signal: Signal) -> Entry {
+    Entry {
+        signal: Some(signal),
+        ..from_script(Act::Weigh { lane, gross, prior })
     }
 }
 
@@ -40,13 +53,15 @@ fn from_desk(act: Act) -> Entry {
         by: 2,
         desk: 101,
         request: 7,
-        act,
-        signal: None,
+        ..from_script(act)
     }
 }
 
+// The number of a row, and its bytes at their places.
+type Row<'a> = (u32, &'a [Piece<'a>]);
+
 // The entry is spelled by these bytes and no others, both ways.
-fn spelled(rt: &impl Abort, number: u32, entry: Entry, pieces: &[Piece]) {
+fn check_row(rt: &impl Abort, number: u32, entry: Entry, pieces: &[Piece]) {
     let row = row_of(pieces);
     let read = read_row(&row, number);
     assert_eq!(rt; read, Ok(entry), "row {number}");
@@ -55,178 +70,161 @@ fn spelled(rt: &impl Abort, number: u32, entry: Entry, pieces: &[Piece]) {
     }
 }
 
-#[test]
-fn rows_of_products_and_batches(rt: HostRuntime) -> Result<(), Fail> {
-    let oil = Name::new(b"oil").ok_or("a name")?;
-    let batch = Name::new(b"B").ok_or("a name")?;
-    let long = Name::new(b"O-2025-03-03_oil.of.1-litre-cans").ok_or("a name")?;
-    spelled(
-        &rt,
-        1,
-        from_script(Act::NewDay { day: 20_150 }, None),
-        &[(0, b"\x01\x01\x01"), (14, b"\xb6\x4e")],
-    );
-    spelled(
-        &rt,
-        2,
+// Each entry is spelled by the bytes of its row.
+fn check_rows(rt: &impl Abort, entries: &[Entry], rows: &[Row]) {
+    assert_eq!(rt; entries.len(), rows.len());
+    for (entry, (number, pieces)) in entries.iter().zip(rows) {
+        check_row(rt, *number, *entry, pieces);
+    }
+}
+
+fn product_entries() -> Result<[Entry; 6], fmt::Error> {
+    let oil = named(b"oil")?;
+    let batch = named(b"B")?;
+    Ok([
+        from_script(Act::NewDay { day: 20_150 }),
         from_desk(Act::PutProduct {
             name: oil,
             nominal: 750_000,
             unit: Unit::Volume,
         }),
-        &[
-            (0, b"\x01\x02\x02\0\0\0\x02\0\x65\0\x07\0\0\0\x03oil"),
-            (47, b"\xb0\x71\x0b"),
-            (55, b"\x01"),
-        ],
-    );
-    spelled(
-        &rt,
-        3,
         from_desk(Act::PutTare {
             product: oil,
             day: 20_150,
             tare: 31_250,
         }),
+        from_script(Act::OpenBatch {
+            batch: named(b"O-2025-03-03_oil.of.1-litre-cans")?,
+            product: oil,
+            density: 916_000,
+        }),
+        from_desk(Act::EndRun { batch }),
+        from_script(Act::Close { batch }),
+    ])
+}
+
+const PRODUCT_ROWS: [Row; 6] = [
+    (1, &[(0, b"\x01\x01\x01"), (14, b"\xb6\x4e")]),
+    (
+        2,
+        &[
+            (0, b"\x01\x02\x02\0\0\0\x02\0\x65\0\x07\0\0\0\x03oil"),
+            (47, b"\xb0\x71\x0b"),
+            (55, b"\x01"),
+        ],
+    ),
+    (
+        3,
         &[
             (0, b"\x01\x03\x03\0\0\0\x02\0\x65\0\x07\0\0\0\x03oil"),
             (47, b"\xb6\x4e\0\0\x12\x7a"),
         ],
-    );
-    spelled(
-        &rt,
+    ),
+    (
         4,
-        from_script(
-            Act::OpenBatch {
-                batch: long,
-                product: oil,
-                density: 916_000,
-            },
-            None,
-        ),
         &[
             (0, b"\x01\x04\x04"),
             (14, b"\x20O-2025-03-03_oil.of.1-litre-cans\x03oil"),
             (80, b"\x20\xfa\x0d"),
         ],
-    );
-    spelled(
-        &rt,
+    ),
+    (
         300,
-        from_desk(Act::EndRun { batch }),
         &[(0, b"\x01\x09\x2c\x01\0\0\x02\0\x65\0\x07\0\0\0\x01B")],
-    );
-    spelled(
-        &rt,
-        1_000_000,
-        from_script(Act::Close { batch }, None),
-        &[(0, b"\x01\x0d\x40\x42\x0f"), (14, b"\x01B")],
-    );
+    ),
+    (1_000_000, &[(0, b"\x01\x0d\x40\x42\x0f"), (14, b"\x01B")]),
+];
+
+#[test]
+fn rows_of_products_and_batches(rt: HostRuntime) -> Result<(), Fail> {
+    check_rows(&rt, &product_entries()?, &PRODUCT_ROWS);
     Ok(())
 }
 
-#[test]
-fn rows_of_lanes_and_samples(rt: HostRuntime) -> Result<(), Fail> {
-    let batch = Name::new(b"B").ok_or("a name")?;
-    spelled(
-        &rt,
-        5,
-        from_script(Act::StartLane { lane: 16, batch }, None),
-        &[(0, b"\x01\x05\x05"), (14, b"\x10\x01B")],
-    );
-    spelled(
-        &rt,
-        6,
-        from_script(
-            Act::Weigh {
-                lane: 1,
-                gross: 251_000,
-                prior: Prior::Nothing,
-            },
-            Some(Signal::Pass),
-        ),
-        &[(0, b"\x01\x06\x06"), (14, b"\x01\x78\xd4\x03")],
-    );
-    spelled(
-        &rt,
-        7,
-        from_script(
-            Act::Weigh {
-                lane: 2,
-                gross: 30_000_000,
-                prior: Prior::Unknown,
-            },
-            Some(Signal::Reject(Cause::Allowance)),
-        ),
-        &[(0, b"\x01\x06\x07"), (14, b"\x02\x80\xc3\xc9\x01\x03\x04")],
-    );
-    spelled(
-        &rt,
-        8,
-        from_script(
-            Act::StopLane {
-                lane: 3,
-                prior: Prior::Stayed,
-            },
-            None,
-        ),
-        &[(0, b"\x01\x07\x08"), (14, b"\x03\x02")],
-    );
-    spelled(
-        &rt,
-        9,
+fn lane_entries() -> Result<[Entry; 5], fmt::Error> {
+    let batch = named(b"B")?;
+    let allowance = Signal::Reject(Cause::Allowance);
+    Ok([
+        from_script(Act::StartLane { lane: 16, batch }),
+        weighed(1, 251_000, Prior::Nothing, Signal::Pass),
+        weighed(2, 30_000_000, Prior::Unknown, allowance),
+        from_script(Act::StopLane {
+            lane: 3,
+            prior: Prior::Stayed,
+        }),
         from_desk(Act::Void { pack: 70_000 }),
+    ])
+}
+
+const LANE_ROWS: [Row; 5] = [
+    (5, &[(0, b"\x01\x05\x05"), (14, b"\x10\x01B")]),
+    (6, &[(0, b"\x01\x06\x06"), (14, b"\x01\x78\xd4\x03")]),
+    (
+        7,
+        &[(0, b"\x01\x06\x07"), (14, b"\x02\x80\xc3\xc9\x01\x03\x04")],
+    ),
+    (8, &[(0, b"\x01\x07\x08"), (14, b"\x03\x02")]),
+    (
+        9,
         &[(0, b"\x01\x08\x09\0\0\0\x02\0\x65\0\x07\0\0\0\x70\x11\x01")],
-    );
-    spelled(
-        &rt,
+    ),
+];
+
+#[test]
+fn rows_of_lanes(rt: HostRuntime) -> Result<(), Fail> {
+    check_rows(&rt, &lane_entries()?, &LANE_ROWS);
+    Ok(())
+}
+
+fn sample_entries() -> Result<[Entry; 3], fmt::Error> {
+    let batch = named(b"B")?;
+    Ok([
+        from_script(Act::Draw {
+            batch,
+            mode: Mode::Destroy,
+            word: 0x0102_0304_0506_0708,
+        }),
+        from_script(Act::Measure {
+            pack: 6,
+            gross: 251_000,
+            empty: 31_250,
+        }),
+        from_script(Act::DrawSecond {
+            batch,
+            word: 0xFFFF_0000_0000_0001,
+        }),
+    ])
+}
+
+const SAMPLE_ROWS: [Row; 3] = [
+    (
         10,
-        from_script(
-            Act::Draw {
-                batch,
-                mode: Mode::Destroy,
-                word: 0x0102_0304_0506_0708,
-            },
-            None,
-        ),
         &[
             (0, b"\x01\x0a\x0a"),
             (14, b"\x01B"),
             (47, b"\x02\x08\x07\x06\x05\x04\x03\x02\x01"),
         ],
-    );
-    spelled(
-        &rt,
+    ),
+    (
         11,
-        from_script(
-            Act::Measure {
-                pack: 6,
-                gross: 251_000,
-                empty: 31_250,
-            },
-            None,
-        ),
         &[
             (0, b"\x01\x0b\x0b"),
             (14, b"\x06\0\0\0\x78\xd4\x03\0\x12\x7a"),
         ],
-    );
-    spelled(
-        &rt,
+    ),
+    (
         12,
-        from_script(
-            Act::DrawSecond {
-                batch,
-                word: 0xFFFF_0000_0000_0001,
-            },
-            None,
-        ),
         &[
             (0, b"\x01\x0c\x0c"),
             (14, b"\x01B"),
             (47, b"\x01\0\0\0\0\0\xff\xff"),
         ],
-    );
+    ),
+];
+
+#[test]
+fn rows_of_samples(rt: HostRuntime) -> Result<(), Fail> {
+    check_rows(&rt, &sample_entries()?, &SAMPLE_ROWS);
     Ok(())
 }
 
@@ -243,32 +241,35 @@ const END: &[u8] = b"\x01\x09\x01\0\0\0\0\0\0\0\0\0\0\0\x01B";
 
 const WEIGHING: &[u8] = b"\x01\x06\x01\0\0\0\0\0\0\0\0\0\0\0\x01\x80\xc3\xc9\x01";
 
+// The first bytes of a row, the place of one that is changed and its new value, and the fault.
+const FAULTS: [(&[u8], usize, u8, usize); 19] = [
+    (DAY, 0, 0, 0),
+    (DAY, 1, 0, 1),
+    (DAY, 1, 14, 1),
+    (DAY, 2, 2, 2),
+    (DAY, 5, 1, 5),
+    (DAY, 16, 0x2d, 16),
+    (DAY, 17, 1, 17),
+    (DAY, 18, 1, 18),
+    (DAY, 95, 1, 95),
+    (END, 14, 0, 14),
+    (END, 14, 33, 14),
+    (END, 16, b'2', 16),
+    (END, 46, 1, 46),
+    (END, 47, 1, 47),
+    (WEIGHING, 14, 0, 14),
+    (WEIGHING, 14, 17, 14),
+    (WEIGHING, 15, 0x81, 18),
+    (WEIGHING, 19, 4, 19),
+    (WEIGHING, 20, 5, 20),
+];
+
 #[test]
 fn broken_rows_have_their_first_fault(rt: HostRuntime) {
-    for (front, place, byte, fault) in [
-        (DAY, 0, 0, 0),
-        (DAY, 1, 0, 1),
-        (DAY, 1, 14, 1),
-        (DAY, 2, 2, 2),
-        (DAY, 5, 1, 5),
-        (DAY, 16, 0x2d, 16),
-        (DAY, 17, 1, 17),
-        (DAY, 18, 1, 18),
-        (DAY, 95, 1, 95),
-        (END, 14, 0, 14),
-        (END, 14, 33, 14),
-        (END, 16, b'2', 16),
-        (END, 46, 1, 46),
-        (END, 47, 1, 47),
-        (WEIGHING, 14, 0, 14),
-        (WEIGHING, 14, 17, 14),
-        (WEIGHING, 15, 0x81, 18),
-        (WEIGHING, 19, 4, 19),
-        (WEIGHING, 20, 5, 20),
-    ] {
+    for (front, place, byte, fault) in &FAULTS {
         assert_eq!(rt;
-            fault_of(front, place, byte),
-            Some(fault),
+            fault_of(front, *place, *byte),
+            Some(*fault),
             "{byte} at {place}"
         );
     }

@@ -1,7 +1,9 @@
 //! Tests of the book on a disk by its public calls, over disks in memory: crashes, calls that fail,
-//! bytes that are changed, and how many calls a disk is asked.
+//! bytes that are changed, entries that are adopted, and how many calls and bytes a disk is asked.
 #![tactic(auto)]
 
+#[cfg(test)]
+mod adopting;
 #[cfg(test)]
 mod books;
 #[cfg(test)]

@@ -56,6 +56,12 @@ pub(crate) const LOOK: Way = Way {
     rests: false,
 };
 
+/// Five rows.
+pub(crate) const FIVE: Way = Way {
+    rows: 5,
+    rests: false,
+};
+
 /// The long run, and its snapshot.
 pub(crate) const WHOLE: Way = Way {
     rows: ROWS,

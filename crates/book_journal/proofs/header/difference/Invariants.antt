@@ -1,5 +1,5 @@
 use Rattle.std.proofs.Common.{◌≡◌, ◌≢◌, ◌<◌, ℕ, get_or}
-use Rattle.book_journal.specs.declared.layout.TheConstants.{MARK}
+use Rattle.book_snapshot.specs.declared.layout.TheConstants.{MARK}
 use Rattle.book_journal.specs.Rows.{title}
 use Rattle.book_journal.proofs.header.difference.Given as goal
 

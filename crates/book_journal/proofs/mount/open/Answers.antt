@@ -1,6 +1,6 @@
 use Rattle.std.proofs.Common.{◌∙◌, ◌≤◌, inr, ℕ, List, length, refl, sym, subst, arith}
-use Rattle.book_snapshot.specs.declared.layout.TheConstants.{ROW_BYTES}
-use Rattle.book_journal.specs.declared.layout.TheConstants.{MARK, NEW_BYTES}
+use Rattle.book_snapshot.specs.declared.layout.TheConstants.{MARK, ROW_BYTES}
+use Rattle.book_journal.specs.declared.layout.TheConstants.{NEW_BYTES}
 use Rattle.book_journal.specs.Rows.{Recovers}
 use Rattle.book_journal.proofs.Ending.{still_recovers}
 use Rattle.book_journal.proofs.Fronts.{front_read, header_read, difference_read, no_header}

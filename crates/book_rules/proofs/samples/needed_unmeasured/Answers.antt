@@ -1,7 +1,7 @@
 use Rattle.std.proofs.Common.{sym, is_none}
 use Rattle.std.proofs.lemmas.List.Folds.{find-append}
 use Rattle.book_words.specs.Measures.{measured_of}
-use Rattle.book_rules.specs.Testing.{counted_packs}
+use Rattle.book_rules.specs.Counted.{counted_packs}
 use Rattle.book_rules.proofs.samples.needed_unmeasured.Goals as goal
 
 pub returns : goal.returns

@@ -2,12 +2,8 @@ use Rattle.std.proofs.Common.{rules, sym, ◌∙◌, ap, ℤ, FitsSigned, w64}
 use Rattle.std.proofs.lemmas.Int.{to_z-of_z}
 use Rattle.book_words.specs.declared.act.Act.TheVariants.{Weigh}
 use Rattle.book_words.specs.Signals.{judged_signal}
-use Rattle.book_rules.proofs.Known.{lane_product}
 use Rattle.book_rules.proofs.Judging.{recorded}
 use Rattle.book_rules.proofs.signals.recorded_signal.Goals as goal
-
-pub judge-requires-clause-known : goal.judge-requires-clause-known
-judge-requires-clause-known c = lane_product c.args.state.now.entries c.in-Weigh.lane c.in_ok-batch.batch c.lane.ensures.legal (sym c.lane.ensures.value ∙ c.in_ok-batch.was)
 
 pub returns : goal.returns
 returns c =

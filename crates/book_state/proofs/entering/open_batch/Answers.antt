@@ -9,7 +9,7 @@ use Rattle.book_words.specs.Classes.{density_by_unit}
 use Rattle.book_words.specs.Ranges.{IsBetween}
 use Rattle.book_index.specs.declared.types.ProductTerms.{ProductTerms}
 use Rattle.book_packs.specs.Densities.{limits_at}
-use Rattle.book_state.proofs.Within.{nominal_within}
+use Rattle.book_laws.proofs.RangeLaws.{nominal_within}
 use Rattle.book_state.proofs.Entered.{there, opened_nominal, opened_product}
 use Rattle.book_state.proofs.entering.open_batch.Goals as goal
 

@@ -1,14 +1,13 @@
-use Rattle.std.proofs.Common.{◌≡◌, ◌<◌, ◌≤◌, List, ℕ, ◌++◌, length, take, Err, refl, append-nil, length-take, ap, ◌∙◌, subst, arith}
+use Rattle.std.proofs.Common.{◌≡◌, ◌++◌, take, Err, refl, append-nil, ap, ◌∙◌, subst, arith}
 use Rattle.std.specs.Io.KnownBytes.{Consumes}
 use Rattle.std.proofs.KnownBytes.{Consumes-trans}
-use Rattle.hall_top.specs.declared.reads.TheConstants.{PIECE}
 use Rattle.book_store.specs.Stores.{entries_of}
 use Rattle.hall_top.specs.Books.{store_in}
 use Rattle.hall_top.specs.Streams.{devices}
 use Rattle.hall_top.specs.Runs.{run_state}
 use Rattle.hall_top.specs.declared.stop.Stop.TheVariants.{ReadFault}
 use Rattle.hall_top.proofs.Going.{goes_as, stays}
-use Rattle.hall_top.proofs.Explaining.{call_from, explained_at_end, explained_after, explained_fault}
+use Rattle.hall_top.proofs.Explaining.{call_from, some_taken, small_piece, explained_at_end, explained_after, explained_fault}
 use Rattle.hall_top.proofs.reads.take_read.Goals as goal
 
 pub returns-in-Ok-eq0-clause-explained : goal.returns-in-Ok-eq0-clause-explained
@@ -19,12 +18,6 @@ returns-in-Ok-eq0-clause-explained g c = λ book before taken stands.
     let end = c.in-Ok-eq0.ensures.bytes.1 c.in-Ok-eq0.field-0-test (omega arith) in
     explained_at_end book (call_from before (devices g.S.Source g.K.Sink c.read.new.self c.finish.new.output) (entries_of (store_in c.finish.new.self.session))) taken c.finish.result
     (c.finish.ensures.ends book before.output taken stands.reached) all end (c.in-Ok-eq0.ensures.cause ∙ stands.calm)
-
-some_taken : (xs : List ℕ) (n : ℕ) → n ≤ length xs → (n ≡ 0 → ⊥) → 0 < length (take n xs)
-some_taken xs n within more = omega (arith, length-take n xs, more)
-
-small_piece : (xs : List ℕ) (n : ℕ) → length xs ≤ PIECE → length (take n xs) ≤ PIECE
-small_piece xs n small = omega (arith, length-take n xs)
 
 pub returns-in-Ok-clause-explained : goal.returns-in-Ok-clause-explained
 returns-in-Ok-clause-explained g c = λ book before taken stands.

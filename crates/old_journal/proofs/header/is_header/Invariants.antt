@@ -1,5 +1,5 @@
 use Rattle.std.proofs.Common.{◌≡◌, ◌≢◌, ◌<◌, ℕ, get_or}
-use Rattle.old_journal.specs.declared.types.TheConstants.{MARK}
+use Rattle.book_snapshot.specs.declared.layout.TheConstants.{MARK}
 use Rattle.old_journal.specs.OldJournal.{old_title}
 use Rattle.old_journal.proofs.header.is_header.Given as goal
 

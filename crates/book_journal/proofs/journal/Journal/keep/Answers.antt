@@ -4,8 +4,8 @@ use Rattle.disk_core.specs.Disk.{Only, overwritten}
 use Rattle.book_snapshot.specs.DenseRows.{content}
 use Rattle.book_snapshot.specs.Layout.{snapshot_end}
 use Rattle.book_snapshot.specs.Blocks.{IsSnapshotSize}
-use Rattle.book_journal.specs.declared.layout.TheConstants.{MARK, MARKED, CLOSED}
-use Rattle.book_snapshot.specs.declared.layout.TheConstants.{ROW_BYTES}
+use Rattle.book_journal.specs.declared.layout.TheConstants.{MARKED, CLOSED}
+use Rattle.book_snapshot.specs.declared.layout.TheConstants.{MARK, ROW_BYTES}
 use Rattle.book_journal.specs.declared.journal.Journal.{Journal}
 use Rattle.book_journal.proofs.Overwritten.{overwritten_size}
 use Rattle.book_journal.specs.Rows.{Recovers, SnapshotAgrees}

@@ -1,5 +1,5 @@
 use Rattle.std.proofs.Common.{◌∙◌, inl, ℕ, List, ap, refl, arith, Some}
-use Rattle.book_journal.specs.declared.layout.TheConstants.{MARK}
+use Rattle.book_snapshot.specs.declared.layout.TheConstants.{MARK}
 use Rattle.book_journal.specs.Appending.{TouchesSlot}
 use Rattle.book_journal.proofs.Calls.{signed, signed_as}
 use Rattle.book_journal.proofs.Journals.{told_on, told_as, gate_torn, touches_torn}

@@ -2,7 +2,7 @@ use Rattle.std.proofs.Common.{◌≡◌, pos, Option, IfSome, Some, None, subst,
 use Rattle.hall_limits.specs.declared.TheConstants.{MAX_GROSS, MAX_TARE}
 use Rattle.book_words.specs.Ranges.{IsBetween}
 use Rattle.book_words.specs.Measures.{Measured, measured_of}
-use Rattle.book_samples.proofs.Ranged.{measured_within}
+use Rattle.book_laws.proofs.RangeLaws.{measured_within}
 use Rattle.book_state.proofs.Parts.{parts_of}
 use Rattle.book_state.proofs.state.State.measured.Goals as goal
 

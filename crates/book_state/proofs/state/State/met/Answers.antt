@@ -1,8 +1,8 @@
 use Rattle.std.proofs.Common.{◌≡◌, ◌∙◌, None, true, false, is_some, nat_le, sym, ap, subst, ◌≤◌}
+use Rattle.std.specs.Option.{option_and_then}
 use Rattle.hall_limits.specs.declared.TheConstants.{MAX_LANE, MAX_POPULATION}
 use Rattle.std.proofs.lemmas.Bool.{and_parts, leb-true}
-use Rattle.book_packs.specs.declared.types.AtWeighing as packs
-use Rattle.book_state.specs.declared.types.AtWeighing as told
+use Rattle.book_packs.specs.declared.types.AtWeighing.{AtWeighing}
 use Rattle.book_words.specs.declared.act.Act.TheVariants.{Weigh}
 use Rattle.book_laws.proofs.BatchLaws.{orderly}
 use Rattle.book_state.proofs.Parts.{parts_of}
@@ -10,43 +10,41 @@ use Rattle.book_state.proofs.Batches.{number_within}
 use Rattle.book_state.proofs.Limited.{met_few}
 use Rattle.book_words.specs.Order.{batch_number}
 use Rattle.book_state.proofs.Named.{lane_has_batch}
+use Rattle.book_state.proofs.OnLanes.{numbered}
 use Rattle.book_state.proofs.state.State.met.Goals as goal
 
 pub unreachable-requires : goal.unreachable-requires
 unreachable-requires c =
     let stand = parts_of c.self.inside c.args.self.now c.self.invariant c.self.view_is in
-    let none : None ≡ batch_number c.args.self.now.entries c.args.batch.now = sym c.in_default.is ∙ c.batch_number.ensures.number c.args.self.now.entries stand.index in
+    let none : None ≡ batch_number c.args.self.now.entries c.args.batch.now = sym c.in_default.is ∙ c.lane_number.ensures c.args.self.now.entries stand.index stand.legal ∙ ap (option_and_then (batch_number c.args.self.now.entries)) c.requires.lane in
     let has = lane_has_batch c.args.self.now.entries c.args.lane c.args.batch.now stand.legal c.requires.lane in
     (let clash : false ≡ true = ap is_some none ∙ has in cc)
 
-pub totals_at-met-requires-clause-least : goal.totals_at-met-requires-clause-least
-totals_at-met-requires-clause-least c =
+pub totals_at-requires-clause-least : goal.totals_at-requires-clause-least
+totals_at-requires-clause-least c =
     let stand = parts_of c.self.inside c.args.self.now c.self.invariant c.self.view_is in
     let parts = and_parts (nat_le 1 c.args.lane) (nat_le c.args.lane MAX_LANE) ((orderly c.args.self.now.entries stand.legal).numbers c.args.lane c.args.batch.now c.requires.lane) in
     leb-true 1 c.args.lane parts.0
 
-pub totals_at-met-requires-clause-greatest : goal.totals_at-met-requires-clause-greatest
-totals_at-met-requires-clause-greatest c =
+pub totals_at-requires-clause-greatest : goal.totals_at-requires-clause-greatest
+totals_at-requires-clause-greatest c =
     let stand = parts_of c.self.inside c.args.self.now c.self.invariant c.self.view_is in
     let parts = and_parts (nat_le 1 c.args.lane) (nat_le c.args.lane MAX_LANE) ((orderly c.args.self.now.entries stand.legal).numbers c.args.lane c.args.batch.now c.requires.lane) in
     leb-true c.args.lane MAX_LANE parts.1
 
-pub totals_at-met-requires-clause-batch : goal.totals_at-met-requires-clause-batch
-totals_at-met-requires-clause-batch c =
+pub totals_at-requires-clause-batch : goal.totals_at-requires-clause-batch
+totals_at-requires-clause-batch c =
     let stand = parts_of c.self.inside c.args.self.now c.self.invariant c.self.view_is in
-    number_within c.args.self.now.entries c.self.inside.packs c.args.batch.now c.in-Some.number stand.packs (c.in-Some.ensures.number c.args.self.now.entries stand.index)
+    number_within c.args.self.now.entries c.self.inside.packs c.args.batch.now c.in-Some.number stand.packs (numbered c.args.self.now.entries c.args.lane c.in-Some.number c.args.batch.now c.requires.lane (c.in-Some.ensures c.args.self.now.entries stand.index stand.legal))
 
 pub returns-clause-value : goal.returns-clause-value
 returns-clause-value c =
     let stand = parts_of c.self.inside c.args.self.now c.self.invariant c.self.view_is in
-    ap as_told (c.totals_at-met.ensures c.args.self.now.entries c.args.batch.now c.args.gross stand.packs stand.legal (sym (c.in-Some.ensures.number c.args.self.now.entries stand.index)))
-  where
-    as_told : packs.AtWeighing → told.AtWeighing
-    as_told met = record { population = met.population; nonstandard = met.nonstandard; inadequate = met.inadequate }
+    c.totals_at.ensures c.args.self.now.entries c.args.batch.now c.args.gross stand.packs stand.legal (sym (numbered c.args.self.now.entries c.args.lane c.in-Some.number c.args.batch.now c.requires.lane (c.in-Some.ensures c.args.self.now.entries stand.index stand.legal)))
 
 pub returns-clause-few : goal.returns-clause-few
 returns-clause-few c =
     let stand = parts_of c.self.inside c.args.self.now c.self.invariant c.self.view_is in
-    let is = c.totals_at-met.ensures c.args.self.now.entries c.args.batch.now c.args.gross stand.packs stand.legal (sym (c.in-Some.ensures.number c.args.self.now.entries stand.index)) in
-    subst (λ (met : packs.AtWeighing). (met.population ≤ MAX_POPULATION) × (met.nonstandard ≤ met.population)) (sym is)
+    let is = c.totals_at.ensures c.args.self.now.entries c.args.batch.now c.args.gross stand.packs stand.legal (sym (numbered c.args.self.now.entries c.args.lane c.in-Some.number c.args.batch.now c.requires.lane (c.in-Some.ensures c.args.self.now.entries stand.index stand.legal))) in
+    subst (λ (met : AtWeighing). (met.population ≤ MAX_POPULATION) × (met.nonstandard ≤ met.population)) (sym is)
     (met_few c.args.self.now.entries (Weigh c.args.lane c.args.gross c.args.prior) c.args.batch.now stand.legal)

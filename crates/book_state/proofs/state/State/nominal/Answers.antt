@@ -3,7 +3,7 @@ use Rattle.hall_limits.specs.declared.TheConstants.{MIN_NOMINAL, MAX_NOMINAL}
 use Rattle.book_words.specs.Acts.{nominal_of}
 use Rattle.book_words.specs.Ranges.{IsBetween}
 use Rattle.book_state.proofs.Parts.{parts_of}
-use Rattle.book_state.proofs.Within.{nominal_within}
+use Rattle.book_laws.proofs.RangeLaws.{nominal_within}
 use Rattle.book_state.proofs.state.State.nominal.Goals as goal
 
 pub returns-clause-range : goal.returns-clause-range

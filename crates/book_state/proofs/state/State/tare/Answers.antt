@@ -3,7 +3,7 @@ use Rattle.std.proofs.lemmas.Int.{to_z-of_z}
 use Rattle.hall_limits.specs.declared.TheConstants.{MAX_TARE}
 use Rattle.book_words.specs.Ranges.{IsBetween}
 use Rattle.book_words.specs.Tares.{tare_of_product}
-use Rattle.book_samples.proofs.Ranged.{product_tare_within}
+use Rattle.book_laws.proofs.RangeLaws.{product_tare_within}
 use Rattle.book_state.proofs.Parts.{parts_of}
 use Rattle.book_state.proofs.Untared.{no_tare_unknown}
 use Rattle.book_state.proofs.state.State.tare.Goals as goal

@@ -1,7 +1,7 @@
 use Rattle.std.proofs.Common.{rules, ◌≡◌, ◌∙◌, None, Some, sym, ap, option_map}
 use Rattle.batch_sums.specs.declared.types.Totals.{Totals}
 use Rattle.book_words.specs.Acts.{product_of}
-use Rattle.book_state.specs.Told.{totals_told}
+use Rattle.book_packs.specs.Told.{totals_told}
 use Rattle.book_state.proofs.Parts.{parts_of}
 use Rattle.book_state.proofs.Batches.{no_batch, is_batch, told_of_batch, number_within}
 use Rattle.book_state.proofs.Limited.{totals_few}

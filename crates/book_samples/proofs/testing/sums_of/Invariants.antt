@@ -1,6 +1,0 @@
-use Rattle.std.proofs.Common.{◌≡◌, take}
-use Rattle.reference_test.specs.Means.{sums_of}
-use Rattle.book_samples.proofs.testing.sums_of.Given as goal
-
-abbrev pub invariant-loop-mass : goal.invariant-loop-mass
-invariant-loop-mass l = l.sums ≡ sums_of (take l.mass-index l.contents)

@@ -1,0 +1,88 @@
+ghost use Rattle.std.specs.Prelude.{◌≡◌, false, Ok, IfOk, IsOk};
+ghost use Rattle.book_words.specs.Refusals.{lane_number};
+ghost use Rattle.book_words.specs.Views as told;
+ghost use Rattle.book_state.specs.Prepared.{is_for_sample};
+
+use crate::views::{summarize, view_lane, view_pack, view_sample, view_sheet};
+use book_state::{NoMemory, State};
+use book_words::{Name, Question, Refusal, Reply};
+use hall_limits::MAX_LANE;
+use std::alloc::Global;
+
+/// The lane isn't 1 to 16.
+pub fn lane_number(lane: u8) -> Option<Refusal>
+    ensures { result ≡ lane_number lane }
+{
+    if 1 <= lane && lane <= MAX_LANE {
+        None
+    } else {
+        Some(Refusal::LaneNumber)
+    }
+}
+
+// What stands of a batch.
+fn tell_sheet(state: &State, batch: &Name) -> Result<Reply, Refusal>
+    ensures { result ≡ told.question_told state.now.entries (Question.Sheet batch.now) }
+{
+    match view_sheet(state, batch) {
+        Some(sheet) => Ok(Reply::SheetIs(sheet)),
+        None => Err(Refusal::BatchUnknown),
+    }
+}
+
+// What stands of a pack.
+fn tell_pack(state: &State, pack: u32) -> Result<Reply, Refusal>
+    ensures { result ≡ told.question_told state.now.entries (Question.Pack pack) }
+{
+    match view_pack(state, pack) {
+        Some(view) => Ok(Reply::PackIs(view)),
+        None => Err(Refusal::PackUnknown),
+    }
+}
+
+// What a lane does.
+fn tell_lane(state: &State, lane: u8) -> Result<Reply, Refusal>
+    ensures { result ≡ told.question_told state.now.entries (Question.Lane lane) }
+{
+    match lane_number(lane) {
+        Some(refusal) => Err(refusal),
+        None => Ok(Reply::LaneIs(view_lane(state, lane))),
+    }
+}
+
+// The packs that were drawn from a batch.
+fn tell_sample(
+    alloc: Global,
+    state: &State,
+    batch: &Name,
+) -> Result<Result<Reply, Refusal>, NoMemory>
+    ensures { IfOk result (λ answer. answer
+        ≡ told.question_told state.now.entries (Question.Sample batch.now)) }
+{
+    if state.product(batch).is_none() {
+        return Ok(Err(Refusal::BatchUnknown));
+    }
+    match view_sample(alloc, state, batch)? {
+        Some(view) => Ok(Ok(Reply::SampleIs(view))),
+        None => Ok(Err(Refusal::NotDrawn)),
+    }
+}
+
+/// What a question is told. Memory is taken for the packs of a sample alone.
+pub fn look(
+    alloc: Global,
+    state: &State,
+    question: &Question,
+) -> Result<Result<Reply, Refusal>, NoMemory>
+    ensures told { IfOk result (λ answer. answer
+        ≡ told.question_told state.now.entries question.now) }
+    ensures sure { is_for_sample question.now ≡ false → IsOk result }
+{
+    match question {
+        Question::Sheet { batch } => Ok(tell_sheet(state, batch)),
+        Question::Pack { pack } => Ok(tell_pack(state, *pack)),
+        Question::Lane { lane } => Ok(tell_lane(state, *lane)),
+        Question::Sample { batch } => tell_sample(alloc, state, batch),
+        Question::Summary => Ok(Ok(Reply::SummaryIs(summarize(state)))),
+    }
+}

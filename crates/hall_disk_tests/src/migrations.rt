@@ -1,0 +1,196 @@
+use crate::books::FIVE_ROWS;
+use crate::runs::{
+    Ends, calls_of, changed, compare, empty_disk, ends_of, run, run_over, run_script,
+};
+use disk_core::{Keep, MemoryDisk, MemorySink, MemorySource};
+use hall_top::Ended;
+use std::alloc::{AllocError, Global};
+use std::process::Abort;
+use std::test::Fail;
+
+const MIGRATE: &[&str] = &["migrate"];
+
+const FIVE: &str = "rows 5 whole\n";
+
+// A journal of version 1: its header, five rows and a closed gate.
+const OLD_BYTES: usize = 385;
+
+// The bytes at their places, written by hand from docs/FORMATS.md; all others are 0. The rows are
+// those of the script of five rows.
+const PIECES: [(usize, &[u8]); 6] = [
+    (0, b"AQHBOOK1"),
+    (64, b"\x01\x01\x01\0\0\0\0\0\0\0\0\0\0\0\xb6\x4e"),
+    (
+        128,
+        b"\x01\x02\x02\0\0\0\0\0\0\0\0\0\0\0\x07rice250\0\0\0\0\0\0\0\0\0\x90\xd0\x03",
+    ),
+    (
+        192,
+        b"\x01\x03\x03\0\0\0\0\0\0\0\0\0\0\0\x07rice250\0\0\0\0\0\0\0\0\0\xb6\x4e\0\0\x10\x27",
+    ),
+    (
+        256,
+        b"\x01\x04\x04\0\0\0\0\0\0\0\0\0\0\0\x01A\0\0\0\0\0\0\0\0\0\0\0\0\0\0\0\x07rice250",
+    ),
+    (320, b"\x01\x05\x05\0\0\0\0\0\0\0\0\0\0\0\x01\x01A"),
+];
+
+fn old_journal(alloc: Global) -> Result<Vec<u8>, AllocError> {
+    let mut journal = vec![in alloc; 0u8; OLD_BYTES]?;
+    for (place, bytes) in &PIECES {
+        for (there, byte) in journal.iter_mut().skip(*place).zip(*bytes) {
+            *there = *byte;
+        }
+    }
+    Ok(journal)
+}
+
+// The rows are carried into an empty disk, which is then as the script leaves it; carried again,
+// they are the same.
+#[test]
+fn a_journal_is_carried_twice(rt: HostRuntime) -> Result<(), Fail> {
+    let alloc = rt.alloc();
+    let journal = old_journal(alloc)?;
+    let script = run_over(&rt, alloc, Vec::new(alloc), &["run"], FIVE_ROWS, (0, 0, 5))?;
+    let once = run_over(
+        &rt,
+        alloc,
+        Vec::new(alloc),
+        MIGRATE,
+        (&journal, FIVE),
+        (0, 0, 5),
+    )?;
+    assert!(rt; once.len() == 1_056 && once.as_slice() == script.as_slice());
+    let again = run_over(&rt, alloc, once, MIGRATE, (&journal, FIVE), (0, 5, 5))?;
+    assert!(rt; again.as_slice() == script.as_slice());
+    Ok(())
+}
+
+// Changed bytes of the journal, how many are kept, what is printed over an empty disk, and how it
+// ends.
+const CHANGED: [(&[(usize, u8)], usize, &str, Ends); 9] = [
+    (&[(7, b'2')], 385, "bad line 0\n", (3, 0, 0)),
+    (&[], 63, "bad line 0\n", (3, 0, 0)),
+    (&[], 0, "bad line 0\n", (3, 0, 0)),
+    (&[], 64, "rows 0 whole\n", (0, 0, 0)),
+    // the mark is passed over
+    (&[(8, 1)], 385, FIVE, (0, 0, 5)),
+    // a slot is cut, or closed
+    (&[], 383, "rows 4 whole\n", (0, 0, 4)),
+    (&[(256, 0), (320, 7)], 385, "rows 3 whole\n", (0, 0, 3)),
+    // a kind that isn't there, and a batch of a product that isn't
+    (&[(193, 14)], 385, "bad line 3\n", (3, 0, 2)),
+    (&[(288, b'x')], 385, "bad line 4\n", (3, 0, 3)),
+];
+
+#[test]
+fn changed_journals(rt: HostRuntime) -> Result<(), Fail> {
+    let alloc = rt.alloc();
+    let journal = old_journal(alloc)?;
+    for (changes, length, text, ends) in &CHANGED {
+        let bytes = changed(alloc, &journal, changes, *length)?;
+        run_over(&rt, alloc, Vec::new(alloc), MIGRATE, (&bytes, text), *ends)?;
+    }
+    Ok(())
+}
+
+const NEXT_DAY: &str = "1 ok\nrows 1\nreadings 0 gross 0.000\n\
+passed 0 gross 0.000\nrejected 0 gross 0.000\nsampled 0 gross 0.000\nvoided 0 gross 0.000\n\
+batches running 0 ended 0 drawn 0 closed 0\n";
+
+// A book whose first row is another day; and a journal of version 1 is no disk of a book.
+#[test]
+fn books_of_other_rows(rt: HostRuntime) -> Result<(), Fail> {
+    let alloc = rt.alloc();
+    let journal = old_journal(alloc)?;
+    let next_day = (b"day 2025-03-04\n".as_slice(), NEXT_DAY);
+    let book = run_over(&rt, alloc, Vec::new(alloc), &["run"], next_day, (0, 0, 1))?;
+    run_over(
+        &rt,
+        alloc,
+        book,
+        MIGRATE,
+        (&journal, "bad line 1\n"),
+        (3, 1, 1),
+    )?;
+    let refused = (b"".as_slice(), "not a journal at 7\n");
+    run_over(&rt, alloc, journal, &["run"], refused, (8, 0, 0))?;
+    Ok(())
+}
+
+// Which read and which write fail, counted from 1, what goes out, the status, and how many rows are
+// left. The first read gives the whole journal, and the next one its end.
+const FAULTS: [(u32, u32, &str, u8, usize); 5] = [
+    (0, 0, FIVE, 0, 5),
+    (1, 0, "read fault\n", 4, 0),
+    (2, 0, "read fault\n", 4, 5),
+    (2, 1, "", 4, 5),
+    (0, 1, "", 5, 5),
+];
+
+// Carries the journal where one read and one write fail.
+fn check_fault(
+    rt: &impl Abort,
+    alloc: Global,
+    fails: (u32, u32),
+    left: (&str, u8, usize),
+) -> Result<(), AllocError> {
+    let (read, write) = fails;
+    let (text, status, rows) = left;
+    let mut input = MemorySource::new(old_journal(alloc)?, vec![in alloc; read]?);
+    let mut output = MemorySink::new(alloc, vec![in alloc; write]?);
+    let ended = run(alloc, MIGRATE, &mut input, &mut output, empty_disk(alloc))?;
+    let wanted = (status, 0, rows);
+    compare(rt, alloc, output.bytes(), text, (ends_of(&ended), wanted))
+}
+
+#[test]
+fn streams_that_fail(rt: HostRuntime) -> Result<(), Fail> {
+    for (read, write, text, status, rows) in &FAULTS {
+        check_fault(&rt, rt.alloc(), (*read, *write), (*text, *status, *rows))?;
+    }
+    Ok(())
+}
+
+// Carries the journal into an empty disk, of which these calls fail.
+fn carry_first(alloc: Global, fails: Vec<u32>) -> Result<Ended<MemoryDisk>, AllocError> {
+    let mut output = MemorySink::new(alloc, Vec::new(alloc));
+    let disk = MemoryDisk::new(alloc, Vec::new(alloc), fails);
+    run_script(alloc, MIGRATE, &old_journal(alloc)?, &mut output, disk)
+}
+
+// Carries the journal again over what a disk was left with.
+fn check_again(rt: &impl Abort, alloc: Global, bytes: Vec<u8>) -> Result<(), AllocError> {
+    let mut output = MemorySink::new(alloc, Vec::new(alloc));
+    let disk = MemoryDisk::new(alloc, bytes, Vec::new(alloc));
+    let ended = run_script(alloc, MIGRATE, &old_journal(alloc)?, &mut output, disk)?;
+    assert!(rt; output.bytes() == FIVE.as_bytes());
+    assert!(rt; ended.status == 0 && ended.rows.as_slice().len() == 5);
+    Ok(())
+}
+
+// A migration that a failed call of the disk stopped is run again, over what the disk reads and
+// over what a crash leaves of it.
+fn check_call(rt: &impl Abort, alloc: Global, call: u32) -> Result<(), AllocError> {
+    let ended = carry_first(alloc, vec![in alloc; call]?)?;
+    assert_eq!(rt; ended.status, 6, "call {call}");
+    check_again(rt, alloc, Vec::from_slice(alloc, ended.disk.bytes())?)?;
+    let calls = calls_of(&ended.disk);
+    for keep in [Keep::Earlier, Keep::Written, Keep::Fill(1)] {
+        check_again(rt, alloc, ended.disk.crash(calls, keep)?)?;
+    }
+    Ok(())
+}
+
+// Each row takes four calls.
+#[test]
+fn each_call_of_the_disk_fails(rt: HostRuntime) -> Result<(), Fail> {
+    let alloc = rt.alloc();
+    let ended = carry_first(alloc, Vec::new(alloc))?;
+    let calls = calls_of(&ended.disk);
+    assert!(rt; ended.status == 0 && calls > 4 * 5);
+    for call in 1..=calls {
+        check_call(&rt, rt.alloc(), call)?;
+    }
+    Ok(())
+}

@@ -1,0 +1,55 @@
+-- The most rows that words ask for.
+use Rattle.std.proofs.Common.{◌≡◌, ℕ, ◌≤◌, ◌&&◌, ◌^◌, ◌-◌, nat_le, Bool, true, false, List, [], ◌∷◌, codes, if◌then◌else◌, Option, Some, None, option_map, option_and_then, refl, subst, arith}
+use Rattle.std.specs.List.{list_all}
+use Rattle.std.proofs.lemmas.Bool.Decides.{nat_tests}
+use Rattle.hall_limits.specs.declared.TheConstants.{MAX_ROWS}
+use Rattle.hall_units.specs.Number.{bounded_number}
+use Rattle.command_line.specs.declared.types.Command.{Command}
+use Rattle.command_line.specs.Words.{Item, Wanted, at_most_one, command_of, in_limits, is_option, limit_in, read_items, values_of, wanted_by, wanted_of, wanted_with}
+
+some_same : {A : Type 0} (x y : A) → Some x ≡ Some y → x ≡ y
+some_same x y same = cc
+
+-- what is found behind a first step is found from what that step found
+then_gives : {A B : Type 0} (P : Type 0) (f : A → Option B) (first : Option A) (found : B) → option_and_then f first ≡ Some found → ((x : A) → f x ≡ Some found → P) → P
+then_gives P f None found is each = absurd cc
+then_gives P f (Some x) found is each = each x is
+
+map_gives : {A B : Type 0} (P : B → Type 0) (f : A → B) (first : Option A) (found : B) → option_map f first ≡ Some found → ((x : A) → first ≡ Some x → P (f x)) → P found
+map_gives P f None found is each = absurd cc
+map_gives P f (Some x) found is each = subst P (some_same (f x) found is) (each x refl)
+
+pub record IsLimit (rows : ℕ) : Type 0 where
+  pub least : 1 ≤ rows
+  pub most : rows ≤ MAX_ROWS
+
+in_bounds : (n rows : ℕ) → in_limits n ≡ Some rows → IsLimit rows
+in_bounds n rows is = go (nat_le 1 n) (nat_le n MAX_ROWS) refl refl is
+  where
+    go : (a b : Bool) → nat_le 1 n ≡ a → nat_le n MAX_ROWS ≡ b → (if (a && b) then Some n else None) ≡ Some rows → IsLimit rows
+    go true true least most here = subst IsLimit (some_same n rows here) (record { least = grind (arith, nat_tests, least); most = grind (arith, nat_tests, most) })
+    go true false least most here = absurd cc
+    go false b least most here = absurd cc
+
+is_limit : (given : Option (List ℕ)) (rows : ℕ) → limit_in given ≡ Some rows → IsLimit rows
+is_limit None rows is = subst IsLimit (some_same MAX_ROWS rows is) (record { least = omega arith; most = omega arith })
+is_limit (Some text) rows is = then_gives (IsLimit rows) in_limits (bounded_number 20 (2 ^ 64 - 1) text) rows is (λ n here. in_bounds n rows here)
+
+by_items : (command : Command) (items : List Item) (wanted : Wanted) → wanted_by command items ≡ Some wanted → IsLimit wanted.limit
+by_items command items wanted is = go (list_all (λ (item : Item). is_option command item.name) items) is
+  where
+    limits : Option (Option (List ℕ))
+    limits = at_most_one (values_of (codes "--limit") items)
+
+    go : (all : Bool) → (if all then option_and_then (λ book. option_and_then (λ limit. wanted_with command book limit) limits) (at_most_one (values_of (codes "--book") items)) else None) ≡ Some wanted → IsLimit wanted.limit
+    go false here = absurd cc
+    go true here =
+        then_gives (IsLimit wanted.limit) (λ book. option_and_then (λ limit. wanted_with command book limit) limits) (at_most_one (values_of (codes "--book") items)) wanted here (λ book there.
+        then_gives (IsLimit wanted.limit) (λ limit. wanted_with command book limit) limits wanted there (λ limit asks.
+        map_gives (λ (w : Wanted). IsLimit w.limit) (λ rows. record { command = command; book = book; limit = rows }) (limit_in limit) wanted asks (λ rows inside. is_limit limit rows inside)))
+
+pub limit_asked : (words : List (List ℕ)) (wanted : Wanted) → wanted_of words ≡ Some wanted → IsLimit wanted.limit
+limit_asked [] wanted is = absurd cc
+limit_asked (word ∷ words) wanted is =
+    then_gives (IsLimit wanted.limit) (λ command. option_and_then (wanted_by command) (read_items None words)) (command_of word) wanted is (λ command here.
+    then_gives (IsLimit wanted.limit) (wanted_by command) (read_items None words) wanted here (λ items there. by_items command items wanted there))

@@ -1,0 +1,47 @@
+use Rattle.std.proofs.Common.{◌∙◌, ◌++◌, [], List, ℕ, Ok, Err, refl, sym, ap, subst, take}
+use Rattle.std.proofs.lemmas.Result.{err_from_is_err_and}
+use Rattle.std.proofs.lemmas.List.{take-append-drop}
+use Rattle.book_store.specs.Stores.{entries_of}
+use Rattle.hall_top.specs.Streams.{output_at}
+use Rattle.hall_top.specs.Migration.{migration_state, StopsCarrying}
+use Rattle.hall_top.proofs.Going.{goes_on, goes_as, goes_with, stays}
+use Rattle.hall_top.proofs.SlotSteps.{stops_behind_step, carries_nothing, over_more}
+use Rattle.hall_top.proofs.carrying.Migration.take_piece.Goals as goal
+
+pub loop-rest-init : goal.loop-rest-init
+loop-rest-init g c = record {
+  over = record { first = []; parts = refl; on = carries_nothing (migration_state c.args.self.now) };
+  quiet = refl;
+  goes = stays g.D.Disk (Ok tt) c.args.self.now.store c.requires.ready.sound c.requires.ready.legal refl;
+  ready = c.requires.ready;
+}
+
+pub returns-in_err-count-clause-steps : goal.returns-in_err-count-clause-steps
+returns-in_err-count-clause-steps g c =
+    let p = err_from_is_err_and c.from_residual.result c.from_residual.ensures.1 in
+    let over = c.loop-rest.invariant.over in
+    let old = output_at g.K.Sink c.args.output.now in
+    let now = output_at g.K.Sink c.take_slot.new.output in
+    let stop = c.in_err-count.field-0.0 in
+    rw (p.1, p.2) (subst (λ (bytes : List ℕ). StopsCarrying old now (migration_state c.args.self.now) (entries_of c.take_slot.new.self.store) bytes stop) (sym over.parts)
+    (stops_behind_step old (output_at g.K.Sink c.loop-rest.output) now (migration_state c.args.self.now) (migration_state c.loop-rest.self) (entries_of c.take_slot.new.self.store) over.first c.loop-rest.rest.now stop c.loop-rest.invariant.quiet over.on c.in_err-count.ensures.stops))
+
+pub returns-in_err-count-clause-goes : goal.returns-in_err-count-clause-goes
+returns-in_err-count-clause-goes g c =
+    let p = err_from_is_err_and c.from_residual.result c.from_residual.ensures.1 in
+    let stop = c.in_err-count.field-0.0 in
+    rw (p.1, p.2) (goes_as g.D.Disk stop c.args.self.now.store c.take_slot.new.self.store
+    (goes_on g.D.Disk tt (Err stop) c.args.self.now.store c.loop-rest.self.store c.take_slot.new.self.store c.loop-rest.invariant.goes c.in_err-count.ensures.goes))
+
+pub loop-rest-preserved : goal.loop-rest-preserved
+loop-rest-preserved g c =
+    let count = c.in_ok-count.count in
+    let rest = c.loop-rest.rest.now in
+    let parts = sym (take-append-drop count rest) ∙ ap (λ (bytes : List ℕ). take count rest ++ bytes) (sym c.split_at.ensures.back) in
+    let goes = goes_on g.D.Disk tt (Ok count) c.args.self.now.store c.loop-rest.self.store c.take_slot.new.self.store c.loop-rest.invariant.goes c.in_ok-count.ensures.goes in
+    record {
+      over = over_more (migration_state c.args.self.now) (migration_state c.loop-rest.self) (migration_state c.take_slot.new.self) c.args.piece.now rest (take count rest) c.split_at.result.1.now c.loop-rest.invariant.over parts c.in_ok-count.ensures.on;
+      quiet = c.in_ok-count.ensures.quiet ∙ c.loop-rest.invariant.quiet;
+      goes = goes_with g.D.Disk (Ok count) (Ok tt) c.args.self.now.store c.take_slot.new.self.store goes goes.cause;
+      ready = c.in_ok-count.ensures.ready;
+    }
