@@ -35,6 +35,9 @@ impl<D: Disk> Journal<D> {
             length bytes ≤ snapshot_end (count_of self.old) (length content.now) →
             OnOk result (WhereTold (D.reads (disk_of self.new))
             (HoldsSnapshot (count_of self.old) content.now))) }
+        ensures holds { OnOk result (WhereTold (D.reads (disk_of self.new)) (λ now.
+            length now ≤ snapshot_end (count_of self.old) (length content.now) →
+            HoldsSnapshot (count_of self.old) content.now now)) }
         ensures count { count_of self.new ≡ count_of self.old }
         ensures kept { kept_of self.new ≡ kept_of self.old }
         ensures calm { ¬ Hangs self.new }

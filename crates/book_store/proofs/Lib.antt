@@ -9,5 +9,4 @@ pub mod Walks
 pub mod Spelled
 pub mod Hanging
 pub mod Decided
-pub mod Adopting
 pub mod Squeezing

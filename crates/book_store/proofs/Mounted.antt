@@ -16,7 +16,7 @@ use Rattle.book_journal.specs.declared.layout.TheConstants.{MAX_SLOTS, NEW_BYTES
 use Rattle.book_journal.specs.declared.journal.Journal.{Journal}
 use Rattle.book_journal.specs.declared.types.JournalFault.{JournalFault}
 use Rattle.book_journal.specs.declared.types.JournalFault.TheVariants as fault
-use Rattle.book_journal.specs.Rows.{FitsSnapshot, FirstDiffersAt, Recovers, gate_behind}
+use Rattle.book_journal.specs.Rows.{HasHeader, FitsSnapshot, FirstDiffersAt, Recovers, gate_behind}
 use Rattle.book_journal.specs.Journal as journals
 use Rattle.book_journal.specs.Mounting as mounting
 use Rattle.book_journal.specs.Opening.{HasMounted, RecoversRows}
@@ -28,10 +28,10 @@ use Rattle.book_store.specs.declared.types.Unmounted.{Unmounted}
 use Rattle.book_store.specs.declared.store.Store.{Store}
 use Rattle.book_store.specs.Causes.{cause_of}
 use Rattle.book_store.specs.Images.{spelled, CanAllBeSpelled, HoldsBook}
-use Rattle.book_store.specs.Listing.{Lists, IsOpenedAs, snapshot_rows}
-use Rattle.book_store.specs.Mounting.{IsCauseOf, IsPassing, KeepsHeld, opening_bytes}
+use Rattle.book_store.specs.Listing.{Lists, IsOpenedAs, IsDamagedAt, snapshot_rows}
+use Rattle.book_store.specs.Mounting.{IsCauseOf, IsPassing, KeepsHeld, ReadsClosed, opening_bytes}
 use Rattle.book_store.specs.Opening.{IsReadable, rows_there, slots_from, StandsAtEnd, Stops, CountsRefusal, Opens, reading_cost}
-use Rattle.book_store.specs.Stores.{disk_of, entries_of, IsSound}
+use Rattle.book_store.specs.Stores.{disk_of, entries_of, opened_of, IsSound}
 use Rattle.book_store.proofs.Exits.{count_kept}
 use Rattle.book_store.proofs.Listed.{recovered_listed, slots_read, snapshot_same, closed_long, counts_first}
 use Rattle.book_store.proofs.Opened.{listed, opened_as, damaged_at, read_same, not_damaged, legal_few, length_spelled}
@@ -64,6 +64,14 @@ cost_within (Some kept) count rows size bytes of fits =
 not_foreign : (bytes : List ℕ) (rows : List (List ℕ)) (place : ℕ) → Recovers bytes rows → NEW_BYTES < length bytes → FirstDiffersAt bytes place → ⊥
 not_foreign bytes rows place (inl is) long differs = no_header bytes place differs is.header
 not_foreign bytes rows place (inr short) long differs = absurd (omega (arith, short.0, long))
+
+-- a disk that lists damage has the header
+lists_damage : (bytes : List ℕ) (row : ℕ) → ¬ HasHeader bytes → IsDamagedAt bytes row → ⊥
+lists_damage bytes row foreign damaged = of damaged.listed
+  where
+    of : Lists bytes damaged.rows → ⊥
+    of (inl lists) = foreign lists.header
+    of (inr none) = absurd (omega (arith, damaged.inside, damaged.number, ap length none.none))
 
 spelled_few : (entries : List Entry) → IsLegal entries → length (spelled entries) ≤ MAX_ROWS
 spelled_few entries legal = omega (arith, length_spelled 1 entries, legal_few entries legal)
@@ -153,6 +161,25 @@ module _ {D : Type 0} (g : disk.Ghosts D) where
   }
   sound journal limit (Err refused) most is opens = tt
 
+  pub counted : (journal : Journal D) (limit : ℕ) (result : Result (Store D) (Unmounted D)) → Opens g journal limit result
+      → IfOk result (λ store. opened_of store ≡ length (entries_of store))
+  counted journal limit (Ok store) opens = opens.opened
+  counted journal limit (Err refused) opens = tt
+
+  still_reads : (kept : Option Kept) (bytes now : List ℕ) (rows size : ℕ) → mounting.IsSnapshotOf bytes kept → ((found : Kept) → kept ≡ Some found → now ≡ bytes)
+      → FitsSnapshot rows size bytes → now ≡ bytes
+  still_reads None bytes now rows size of still fits = absurd (of rows size fits)
+  still_reads (Some kept) bytes now rows size of still fits = still kept refl
+
+  -- where a snapshot fits, nothing is written
+  pub unwritten : (journal : Journal D) (limit : ℕ) (result : Result (Store D) (Unmounted D)) (bytes : List ℕ) (rows size : ℕ) → HasMounted g bytes journal
+      → FitsSnapshot rows size bytes → Opens g journal limit result → IfOk result (λ store. g.reads (disk_of store) ≡ Some bytes)
+  unwritten journal limit (Ok store) bytes rows size (inl finds) fits opens =
+      opens.read.unmoved.reads ∙ finds.reads
+      ∙ ap (λ (l : List ℕ). Some l) (still_reads (journals.kept_of journal) bytes (mounting.closed_behind (journals.count_of journal) bytes) rows size finds.snapshot finds.still fits)
+  unwritten journal limit (Ok store) bytes rows size (inr makes) fits opens = absurd (makes.foreign fits.header)
+  unwritten journal limit (Err refused) bytes rows size mounted fits opens = tt
+
   asked_of : (old : D) (journal : Journal D) (limit : ℕ) (store : Store D) (bytes : List ℕ) (rows size : ℕ) → HasMounted g bytes journal
       → g.asked (journals.disk_of journal) ≤ g.asked old + mounting.opening_cost (journals.kept_of journal) (journals.count_of journal)
       → FitsSnapshot rows size bytes → Opens g journal limit (Ok store) → g.asked (disk_of store) ≤ g.asked old + opening_bytes rows size (journals.count_of journal)
@@ -167,22 +194,31 @@ module _ {D : Type 0} (g : disk.Ghosts D) where
       subst (λ (n : ℕ). g.asked (disk_of store) ≤ g.asked old + opening_bytes rows size n) opens.count (asked_of old journal limit store bytes rows size mounted cost fits opens)
   asked old journal limit (Err refused) bytes rows size mounted cost fits opens = tt
 
+  -- a journal with a damaged row reads what it did, but for the gate behind its rows
+  closed : (journal : Journal D) (bytes : List ℕ) (row : ℕ) (new : D) → IsUnmoved g (journals.disk_of journal) new → HasMounted g bytes journal → IsDamagedAt bytes row → ReadsClosed g bytes new
+  closed journal bytes row new unmoved (inl finds) damaged = (journals.count_of journal, unmoved.reads ∙ finds.reads)
+  closed journal bytes row new unmoved (inr makes) damaged = absurd (lists_damage bytes row makes.foreign damaged)
+
   module _ (old : D) (journal : Journal D) (most : journals.count_of journal ≤ MAX_SLOTS) (mounted : WhereTold (g.reads old) (λ bytes. HasMounted g bytes journal)) where
-    cause_by : (why : MountError) (new : D) → g.faults (journals.disk_of journal) ≡ g.faults old → CountsRefusal (g.faults (journals.disk_of journal)) (g.faults new) why
+    cause_by : (why : MountError) (new : D) → g.faults (journals.disk_of journal) ≡ g.faults old → IsUnmoved g (journals.disk_of journal) new
+        → CountsRefusal (g.faults (journals.disk_of journal)) (g.faults new) why
         → WhereTold (g.reads (journals.disk_of journal)) (λ bytes. IsReadable (journals.kept_of journal) (journals.count_of journal) bytes → Stops (rows_there (journals.kept_of journal) (journals.count_of journal) bytes) why)
         → IsCauseOf g why old new
-    cause_by (NotJournal place) new calm counts stops = absurd counts
-    cause_by (Damaged row) new calm counts stops = (
-      λ bytes told. let is = there bytes journal most (mounted bytes told) in damaged_at bytes _ row is.lists (stops is.now is.told is.readable),
+    cause_by (NotJournal place) new calm unmoved counts stops = absurd counts
+    cause_by (Damaged row) new calm unmoved counts stops = (
+      λ bytes told.
+          let is = there bytes journal most (mounted bytes told) in
+          let damaged = damaged_at bytes _ row is.lists (stops is.now is.told is.readable) in
+          (damaged, closed journal bytes row new unmoved (mounted bytes told) damaged),
       counts ∙ calm,
     )
-    cause_by DiskFault new calm counts stops = subst (λ (n : ℕ). Counted n (g.faults new) 1) calm counts
-    cause_by NoMemory new calm counts stops = counts ∙ calm
+    cause_by DiskFault new calm unmoved counts stops = subst (λ (n : ℕ). Counted n (g.faults new) 1) calm counts
+    cause_by NoMemory new calm unmoved counts stops = counts ∙ calm
 
     pub caused : (limit : ℕ) (result : Result (Store D) (Unmounted D)) → g.faults (journals.disk_of journal) ≡ g.faults old → Opens g journal limit result
         → MatchResult result (λ store. g.faults (disk_of store) ≡ g.faults old) (λ refused. IsCauseOf g refused.why old refused.disk)
     caused limit (Ok store) calm opens = opens.calm ∙ calm
-    caused limit (Err refused) calm opens = cause_by refused.why refused.disk calm opens.counts opens.stops
+    caused limit (Err refused) calm opens = cause_by refused.why refused.disk calm opens.unmoved opens.counts opens.stops
 
     passing_by : (why : MountError) (before now : ℕ) (rows : List (Option (List ℕ))) (entries : List Entry) → CanAllBeSpelled entries → IsLegal entries → rows ≡ listed (spelled entries)
         → CountsRefusal before now why → Stops rows why → IsPassing why
@@ -223,7 +259,7 @@ module _ {D : Type 0} (g : disk.Ghosts D) where
   -- a journal that isn't mounted
   cause_journal : (why : JournalFault) (old new : D) → mounting.IsCauseOf g why old new → IsCauseOf g (cause_of why) old new
   cause_journal fault.Failed old new is = is
-  cause_journal (fault.NotJournal place) old new is = (λ bytes told. let named = is.named bytes told in record { long = named.0; differs = named.1 }, is.calm)
+  cause_journal (fault.NotJournal place) old new is = (λ bytes told. let named = is.named bytes told in record { long = named.0; differs = named.1 }, is.calm, is.unmoved)
 
   pub refused_cause : (why : JournalFault) (error : MountError) (old new : D) → error ≡ cause_of why → mounting.IsCauseOf g why old new → IsCauseOf g error old new
   refused_cause why error old new is caused = subst (λ (e : MountError). IsCauseOf g e old new) (sym is) (cause_journal why old new caused)

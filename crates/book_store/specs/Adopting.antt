@@ -3,15 +3,19 @@ use Rattle.std.specs.Prelude.{◌≡◌, ℕ, ◌+◌, List, [], ◌∷◌, ◌+
 use Rattle.device_facts.specs.Count.{Counted}
 use Rattle.book_words.specs.declared.act.Entry.{Entry}
 use Rattle.book_words.specs.Answers.{IsLawful}
+use Rattle.book_core.specs.View.{BookView}
+use Rattle.book_core.specs.Steps.{HasNoRoom}
 use Rattle.book_store.specs.declared.types.AdoptError.{AdoptError}
 use Rattle.book_store.specs.declared.types.AdoptError.TheVariants.{Unlawful, DiskFault, NoMemory}
 
--- an entry that is adopted is lawful and gets the next number; one that isn't lawful is refused
-abbrev pub Adopts : List Entry → Entry → Result ℕ AdoptError → Type 0
-Adopts entries entry (Ok number) = IsLawful entries entry × (number ≡ length entries + 1)
-Adopts entries entry (Err Unlawful) = ¬ IsLawful entries entry
-Adopts entries entry (Err DiskFault) = IsLawful entries entry
-Adopts entries entry (Err NoMemory) = IsLawful entries entry
+-- an entry that is adopted is lawful and gets the next number; one that isn't lawful is refused; and
+-- there is no memory only for a lawful one, for a weighing only where no row is spare
+abbrev pub Adopts : BookView → Entry → Result ℕ AdoptError → Type 0
+Adopts book entry (Ok number) =
+    IsLawful book.entries entry × (number ≡ length book.entries + 1)
+Adopts book entry (Err Unlawful) = ¬ IsLawful book.entries entry
+Adopts book entry (Err DiskFault) = IsLawful book.entries entry
+Adopts book entry (Err NoMemory) = IsLawful book.entries entry × HasNoRoom book entry.act
 
 -- the list behind it
 abbrev pub list_adopted : Result ℕ AdoptError → List Entry → Entry → List Entry

@@ -1,5 +1,5 @@
 -- What mounting a disk as a store promises.
-use Rattle.std.specs.Prelude.{◌≡◌, ◌⊎◌, ⊤, ℕ, ◌+◌, ◌-◌, ◌*◌, ◌/◌, ◌<◌, List, length, Result, Ok, Err}
+use Rattle.std.specs.Prelude.{◌≡◌, ◌⊎◌, ⊤, ℕ, ◌+◌, ◌-◌, ◌*◌, ◌/◌, ◌<◌, List, length, Some, Result, Ok, Err}
 use Rattle.device_facts.specs.Count.{Counted}
 use Rattle.disk_core.specs.Disk.{WhereTold}
 use Rattle.disk_core.specs.Devices.{IsUnmoved}
@@ -8,7 +8,7 @@ use Rattle.book_words.specs.declared.act.Entry.{Entry}
 use Rattle.book_journal.specs.declared.layout.TheConstants.{NEW_BYTES}
 use Rattle.book_journal.specs.declared.blocks.TheConstants.{BLOCKS_CONTENT}
 use Rattle.book_journal.specs.Rows.{FirstDiffersAt}
-use Rattle.book_journal.specs.Mounting.{KeepsFromSync}
+use Rattle.book_journal.specs.Mounting.{KeepsFromSync, closed_behind}
 use Rattle.book_store.specs.declared.types.MountError.{MountError}
 use Rattle.book_store.specs.declared.types.MountError.TheVariants.{NotJournal, Damaged, DiskFault, NoMemory}
 use Rattle.book_store.specs.declared.types.Unmounted.{Unmounted}
@@ -24,14 +24,18 @@ pub record IsForeignAt (bytes : List ℕ) (place : ℕ) : Type 0 where
   pub long : NEW_BYTES < length bytes
   pub differs : FirstDiffersAt bytes place
 
--- why a disk wasn't mounted, and its count of faults then: it isn't a journal, a row is damaged, it
--- failed, or there was no memory
+-- of these bytes at most the gate behind some rows was closed: the disk reads them so
+abbrev pub ReadsClosed : {D : Type 0} → disk.Ghosts D → List ℕ → D → Type 0
+ReadsClosed disk bytes now = (count : ℕ) × (disk.reads now ≡ Some (closed_behind count bytes))
+
+-- Why a disk wasn't mounted, its count of faults then, and what it reads: it isn't a journal and is
+-- as it was; a row is damaged, and at most a gate was closed; it failed; or there was no memory.
 abbrev pub IsCauseOf : {D : Type 0} → disk.Ghosts D → MountError → D → D → Type 0
 IsCauseOf disk (NotJournal place) old new =
     WhereTold (disk.reads old) (λ bytes. IsForeignAt bytes place)
-    × (disk.faults new ≡ disk.faults old)
+    × (disk.faults new ≡ disk.faults old) × IsUnmoved disk old new
 IsCauseOf disk (Damaged row) old new =
-    WhereTold (disk.reads old) (λ bytes. IsDamagedAt bytes row)
+    WhereTold (disk.reads old) (λ bytes. IsDamagedAt bytes row × ReadsClosed disk bytes new)
     × (disk.faults new ≡ disk.faults old)
 IsCauseOf disk DiskFault old new = Counted (disk.faults old) (disk.faults new) 1
 IsCauseOf disk NoMemory old new = disk.faults new ≡ disk.faults old

@@ -31,6 +31,10 @@ limit_of store = (book_of store).limit
 abbrev pub spare_of : {D : Type 0} → Store D → ℕ
 spare_of store = (book_of store).spare
 
+-- how many rows the disk held as it was mounted
+abbrev pub opened_of : {D : Type 0} → Store D → ℕ
+opened_of store = store.opened
+
 -- a write failed so late that a crash may leave the entry or not
 abbrev pub Hangs : {D : Type 0} → Store D → Type 0
 Hangs store = journals.Hangs store.journal

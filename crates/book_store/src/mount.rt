@@ -16,7 +16,7 @@ pub(crate) const CALL_BYTES: u64 = 4_096;
 pub(crate) const SLOT_BYTES: u64 = 200;
 
 impl<D: Disk> Store<D> {
-    ghost use Rattle.std.specs.Prelude.{◌≡◌, ◌+◌, ◌≤◌, ℕ, List, length, IfOk, IfErr, MatchResult};
+    ghost use Rattle.std.specs.Prelude.{◌≡◌, ◌+◌, ◌≤◌, ℕ, List, Some, length, IfOk, IfErr, MatchResult};
     ghost use Rattle.hall_limits.specs.declared.TheConstants.{MAX_ROWS};
     ghost use Rattle.device_facts.specs.Known.{TellsAsBefore};
     ghost use Rattle.disk_core.specs.Disk.{WhereTold};
@@ -24,7 +24,7 @@ impl<D: Disk> Store<D> {
     ghost use Rattle.book_words.specs.Answers.{IsLegal};
     ghost use Rattle.book_journal.specs.Rows.{FitsSnapshot};
     ghost use Rattle.book_store.specs.Images.{HoldsBook};
-    ghost use Rattle.book_store.specs.Stores.{disk_of, entries_of, limit_of, Hangs, IsSound};
+    ghost use Rattle.book_store.specs.Stores.{disk_of, entries_of, limit_of, opened_of, Hangs, IsSound};
     ghost use Rattle.book_store.specs.Listing.{IsOpenedAs};
     ghost use Rattle.book_store.specs.Mounting.{IsCauseOf, KeepsHeld, opening_bytes};
 
@@ -50,7 +50,13 @@ impl<D: Disk> Store<D> {
             (entries : List Entry) → HoldsBook entries bytes → IsLegal entries →
             KeepsHeld D.Disk disk entries result) }
 
+        // Where a snapshot fits, nothing is written.
+        ensures unwritten { WhereTold (D.reads disk) (λ bytes. (rows size : ℕ) →
+            FitsSnapshot rows size bytes → IfOk result (λ store.
+            D.reads (disk_of store) ≡ Some bytes)) }
+
         ensures limit { IfOk result (λ store. limit_of store ≡ limit) }
+        ensures count { IfOk result (λ store. opened_of store ≡ length (entries_of store)) }
         ensures calm { IfOk result (λ store. ¬ Hangs store) }
         ensures legal { IfOk result (λ store. IsLegal (entries_of store)) }
         ensures sound { IfOk result (λ store. IsSound D.Disk store) }

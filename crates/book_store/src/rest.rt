@@ -19,8 +19,8 @@ impl<D: Disk> Store<D> {
     ghost use Rattle.book_snapshot.specs.Layout.{snapshot_end};
     ghost use Rattle.book_journal.specs.Marking.{HoldsSnapshot};
     ghost use Rattle.book_store.specs.declared.types.RestError.TheVariants as error;
-    ghost use Rattle.book_store.specs.Stores.{disk_of, book_of, entries_of, Hangs, HasBook, KeepsBook, ImagesHoldBook, IsSound};
-    ghost use Rattle.book_store.specs.Resting.{book_content, HasNothingToKeep, CountsRestFault};
+    ghost use Rattle.book_store.specs.Stores.{disk_of, book_of, entries_of, opened_of, Hangs, HasBook, KeepsBook, ImagesHoldBook, IsSound};
+    ghost use Rattle.book_store.specs.Resting.{book_content, HasNothingToKeep, HoldsOwnSnapshot, CountsRestFault};
 
     /// Keeps a snapshot of the book on its disk, which opening then reads in place of the slots, and
     /// says so. Where the book is empty or an entry hangs there is nothing to keep, and the disk isn't
@@ -32,6 +32,7 @@ impl<D: Disk> Store<D> {
         requires sound { IsSound D.Disk self.old }
         ensures idle { (result ≡ Ok false) ↔ HasNothingToKeep self.old }
         ensures book { book_of self.new ≡ book_of self.old }
+        ensures opened { opened_of self.new ≡ opened_of self.old }
         ensures hangs { Hangs self.new ↔ Hangs self.old }
 
         // What a crash leaves, during the call and after it, and what the disk then reads.
@@ -44,6 +45,7 @@ impl<D: Disk> Store<D> {
             ≤ snapshot_end (length (entries_of self.old)) (length (book_content (entries_of self.old)))
             → result ≡ Ok true → WhereTold (D.reads (disk_of self.new))
             (HoldsSnapshot (length (entries_of self.old)) (book_content (entries_of self.old)))) }
+        ensures holds { result ≡ Ok true → HoldsOwnSnapshot D.Disk self.new }
 
         ensures cause { CountsRestFault (D.faults (disk_of self.old)) (D.faults (disk_of self.new))
             result }

@@ -14,7 +14,7 @@ use Rattle.book_words.specs.declared.refusal.Refusal.{Refusal}
 use Rattle.book_words.specs.Signals.{recorded_signal}
 use Rattle.book_words.specs.Desks.{desk_number, request_old, request_reused, request_gap, repeated_row}
 use Rattle.book_words.specs.Refusals.{first_refusal, book_full, refusals_of}
-use Rattle.book_words.specs.Answers.{answer as told_to, reply_behind, accepted, told_again, desk_answer, want_answer, entry_for, entry_unless, want_added}
+use Rattle.book_words.specs.Answers.{answer as told_to, reply_behind, accepted, told_again, desk_answer, want_answer, entry_for, entry_unless, want_added, added}
 use Rattle.script_lines.specs.declared.command.Command.{Command}
 use Rattle.hall_top.specs.Run.{AreLeft}
 use Rattle.hall_top.proofs.RepeatLemmas.{IsToldAgain, repeat_found}
@@ -135,11 +135,18 @@ none_added rows ask (want.Act act) None answer refused stands is = refl
 none_added rows ask (want.Act act) (Some entry) (Err other) refused stands is = absurd stands
 none_added rows ask (want.Act act) (Some entry) (Ok answered) refused stands is = absurd (cc)
 
--- what is refused adds nothing, and so leaves the book as it was
-pub book_refused : (book left : BookState) (command : Command) (ask : Ask) (refused : Refused) → ask ≡ ask_at book.entries command → Err refused ≡ told_to book.limit book.entries ask → left ≡ book → left ≡ after_command book command
-book_refused book left command ask refused asked is same =
+-- what is refused adds nothing
+pub refused_adds : (book : BookState) (command : Command) (ask : Ask) (refused : Refused) → ask ≡ ask_at book.entries command → Err refused ≡ told_to book.limit book.entries ask
+    → added book.limit book.entries script_caller ask ≡ None
+refused_adds book command ask refused asked is =
     let exchange = exchange_at book command in
     let told : exchange.answer ≡ Err refused = ap (told_to book.limit book.entries) (sym asked) ∙ sym is in
-    let none = none_added _ exchange.ask exchange.ask.want exchange.added exchange.answer refused ((acknowledges book command).stands _ ([], sym (append-nil _))) told in
-    let stays : book.entries ++ cons_option exchange.added [] ≡ book.entries = ap (λ (o : Option Entry). book.entries ++ cons_option o []) none ∙ append-nil book.entries in
+    ap (added book.limit book.entries script_caller) asked
+    ∙ none_added _ exchange.ask exchange.ask.want exchange.added exchange.answer refused ((acknowledges book command).stands _ ([], sym (append-nil _))) told
+
+-- and so leaves the book as it was
+pub book_refused : (book left : BookState) (command : Command) (ask : Ask) (refused : Refused) → ask ≡ ask_at book.entries command → Err refused ≡ told_to book.limit book.entries ask → left ≡ book → left ≡ after_command book command
+book_refused book left command ask refused asked is same =
+    let none = ap (added book.limit book.entries script_caller) (sym asked) ∙ refused_adds book command ask refused asked is in
+    let stays : book.entries ++ cons_option (exchange_at book command).added [] ≡ book.entries = ap (λ (o : Option Entry). book.entries ++ cons_option o []) none ∙ append-nil book.entries in
     same ∙ (λ i. record { limit = book.limit; entries = sym stays i })

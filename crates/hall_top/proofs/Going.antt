@@ -1,9 +1,9 @@
 -- Lemmas on what the steps of a run make of its store.
-use Rattle.std.proofs.Common.{◌≡◌, ℕ, List, [], Result, Ok, Err, inl, refl, sym, ◌∙◌, subst, append-nil}
+use Rattle.std.proofs.Common.{◌≡◌, ◌≢◌, ◌≤◌, ℕ, List, [], length, Result, Ok, Err, IfErr, inl, refl, sym, ap, ◌∙◌, subst, arith, append-nil}
 use Rattle.disk_core.specs.declared.disk.Disk as disk
 use Rattle.book_words.specs.Answers.{IsLegal}
 use Rattle.book_store.specs.declared.store.Store.{Store}
-use Rattle.book_store.specs.Stores.{disk_of, entries_of, IsSound}
+use Rattle.book_store.specs.Stores.{disk_of, entries_of, opened_of, IsSound}
 use Rattle.hall_top.specs.declared.stop.Stop.{Stop}
 use Rattle.hall_top.specs.declared.stop.Stop.TheVariants.{Finished, BadLine, ReadFault, WriteFault, DiskFault, NoMemory, Spent}
 use Rattle.script_lines.specs.declared.command.Command.{Command}
@@ -13,31 +13,45 @@ use Rattle.hall_top.specs.Transcript.{BookState}
 use Rattle.hall_top.specs.Streams.{Stream}
 use Rattle.hall_top.specs.Run.{StopsAtLine}
 use Rattle.hall_top.specs.Reached.{SaysNoMemory}
-use Rattle.hall_top.specs.Kept.{CountsStop, Goes}
+use Rattle.hall_top.specs.Kept.{CountsStop, IsUnfailing, Goes}
+use Rattle.hall_top.specs.Snapshots.{LeavesSnapshot}
 use Rattle.hall_top.proofs.Acknowledged.{prefix_on}
+use Rattle.hall_top.proofs.Keeping.{begins_short}
 
 -- a step that goes on, and then another
 pub goes_on : {D T U : Type 0} (g : disk.Ghosts D) (x : T) (result : Result U Stop) (a b c : Store D) → Goes g (Ok x) a b → Goes g result b c → Goes g result a c
 goes_on g x result a b c first second =
+    let longer = begins_short (entries_of b) (entries_of c) second.begins in
     record {
       sound = second.sound;
       legal = second.legal;
       limit = second.limit ∙ first.limit;
+      opened = second.opened ∙ first.opened;
       begins = prefix_on (entries_of a) (entries_of b) (entries_of c) first.begins second.begins;
       kept = λ held start has. second.kept held start (first.kept held start has);
+      fault = λ start before. second.fault start (first.fault start before);
       cause = subst (λ (n : ℕ). CountsStop n (g.faults (disk_of c)) result) first.cause second.cause;
+      still = λ quiet few small.
+          second.still quiet (omega (arith, few, first.opened, begins_short (entries_of a) (entries_of b) first.begins)) small
+          ∙ first.still tt few (λ grown. small (omega (arith, grown, second.opened, longer)));
+      snapshot = second.snapshot;
     }
 
 -- the store is as it was
-pub stays : {D T : Type 0} (g : disk.Ghosts D) (result : Result T Stop) (store : Store D) → IsSound g store → IsLegal (entries_of store) → CountsStop (g.faults (disk_of store)) (g.faults (disk_of store)) result → Goes g result store store
-stays g result store sound legal counts =
+pub stays : {D T : Type 0} (g : disk.Ghosts D) (result : Result T Stop) (store : Store D) → IsSound g store → IsLegal (entries_of store) → CountsStop (g.faults (disk_of store)) (g.faults (disk_of store)) result
+    → (result ≡ Err Finished → LeavesSnapshot g store) → Goes g result store store
+stays g result store sound legal counts snapshot =
     record {
       sound = sound;
       legal = legal;
       limit = refl;
+      opened = refl;
       begins = ([], sym (append-nil (entries_of store)));
       kept = λ held start has. has;
+      fault = λ start before. before;
       cause = counts;
+      still = λ quiet few small. refl;
+      snapshot = snapshot;
     }
 
 counts_as : (T U : Type 0) (before now : ℕ) (stop : Stop) → CountsStop {T = T} before now (Err stop) → CountsStop {T = U} before now (Err stop)
@@ -50,20 +64,27 @@ counts_as T U before now NoMemory counts = counts
 counts_as T U before now Spent counts = counts
 
 -- the same step, by another answer that counts so
-pub goes_with : {D T U : Type 0} (g : disk.Ghosts D) (first : Result T Stop) (result : Result U Stop) (a b : Store D) → Goes g first a b → CountsStop (g.faults (disk_of a)) (g.faults (disk_of b)) result → Goes g result a b
-goes_with g first result a b goes counts =
+pub goes_with : {D T U : Type 0} (g : disk.Ghosts D) (first : Result T Stop) (result : Result U Stop) (a b : Store D) → Goes g first a b → CountsStop (g.faults (disk_of a)) (g.faults (disk_of b)) result
+    → (IfErr result IsUnfailing → IfErr first IsUnfailing) → (result ≡ Err Finished → LeavesSnapshot g b) → Goes g result a b
+goes_with g first result a b goes counts unfailing snapshot =
     record {
       sound = goes.sound;
       legal = goes.legal;
       limit = goes.limit;
+      opened = goes.opened;
       begins = goes.begins;
       kept = goes.kept;
+      fault = goes.fault;
       cause = counts;
+      still = λ quiet few small. goes.still (unfailing quiet) few small;
+      snapshot = snapshot;
     }
 
 -- how a run stops, whatever its steps answer
 pub goes_as : {D T U : Type 0} (g : disk.Ghosts D) (stop : Stop) (a b : Store D) → Goes {T = T} g (Err stop) a b → Goes {T = U} g (Err stop) a b
-goes_as {T = T} {U = U} g stop a b goes = goes_with g (Err stop) (Err stop) a b goes (counts_as T U (g.faults (disk_of a)) (g.faults (disk_of b)) stop goes.cause)
+goes_as {T = T} {U = U} g stop a b goes =
+    goes_with g (Err stop) (Err stop) a b goes (counts_as T U (g.faults (disk_of a)) (g.faults (disk_of b)) stop goes.cause) (λ quiet. quiet)
+    (λ is. let same : stop ≡ Finished = cc (is) in goes.snapshot (ap (λ (s : Stop). Err s) same))
 
 -- the disk isn't touched where a run stops at a bad line
 pub bad_counts : (T : Type 0) (book : BookState) (before now : Stream) (rows : List Entry) (commands : List Command) (number count : ℕ) (stop : Stop) → StopsAtLine book before now rows commands number Bad stop → CountsStop {T = T} count count (Err stop)
@@ -86,5 +107,26 @@ unbegun_counts T before now count DiskFault says = absurd says
 unbegun_counts T before now count Spent says = absurd says
 
 -- the store is as it was, said of a store that is the same
-pub stays_same : {D T : Type 0} (g : disk.Ghosts D) (result : Result T Stop) (a b : Store D) → b ≡ a → IsSound g a → IsLegal (entries_of a) → CountsStop (g.faults (disk_of a)) (g.faults (disk_of a)) result → Goes g result a b
-stays_same g result a b same sound legal counts = subst (λ (s : Store _). Goes g result a s) (sym same) (stays g result a sound legal counts)
+pub stays_same : {D T : Type 0} (g : disk.Ghosts D) (result : Result T Stop) (a b : Store D) → b ≡ a → IsSound g a → IsLegal (entries_of a) → CountsStop (g.faults (disk_of a)) (g.faults (disk_of a)) result
+    → result ≢ Err Finished → Goes g result a b
+stays_same g result a b same sound legal counts unfinished =
+    subst (λ (s : Store _). Goes g result a s) (sym same) (stays g result a sound legal counts (λ finished. absurd (unfinished finished)))
+
+-- a run that stops at a bad line, or without memory to begin with, isn't finished
+pub bad_unfinished : (T : Type 0) (book : BookState) (before now : Stream) (rows : List Entry) (commands : List Command) (number : ℕ) (stop : Stop) → StopsAtLine book before now rows commands number Bad stop → Err {A = T} stop ≢ Err Finished
+bad_unfinished T book before now rows commands number Finished stops is = stops
+bad_unfinished T book before now rows commands number BadLine stops is = absurd (cc)
+bad_unfinished T book before now rows commands number ReadFault stops is = stops
+bad_unfinished T book before now rows commands number WriteFault stops is = stops
+bad_unfinished T book before now rows commands number DiskFault stops is = stops
+bad_unfinished T book before now rows commands number NoMemory stops is = stops
+bad_unfinished T book before now rows commands number Spent stops is = stops
+
+pub unbegun_unfinished : (T : Type 0) (before now : Stream) (stop : Stop) → SaysNoMemory before now stop → Err {A = T} stop ≢ Err Finished
+unbegun_unfinished T before now Finished says is = says
+unbegun_unfinished T before now BadLine says is = says
+unbegun_unfinished T before now ReadFault says is = says
+unbegun_unfinished T before now WriteFault says is = absurd (cc)
+unbegun_unfinished T before now DiskFault says is = says
+unbegun_unfinished T before now NoMemory says is = absurd (cc)
+unbegun_unfinished T before now Spent says is = says

@@ -6,7 +6,6 @@ pub mod Carried
 pub mod Keeping
 pub mod SameEntries
 pub mod SlotSteps
-pub mod Held
 pub mod Stopping
 pub mod Summaries
 pub mod Stepping

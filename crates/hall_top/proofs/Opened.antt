@@ -1,5 +1,5 @@
 -- Lemmas on a command over a disk that was opened as a book.
-use Rattle.std.proofs.Common.{◌≡◌, ◌⊎◌, ℕ, ◌≤◌, List, [], ◌∷◌, ◌++◌, length, take, Err, inl, inr, refl, sym, ap, ◌∙◌, subst, arith, append-nil, length-append}
+use Rattle.std.proofs.Common.{◌≡◌, ◌⊎◌, ℕ, ◌≤◌, List, [], ◌∷◌, ◌++◌, length, take, Some, Err, inl, inr, refl, sym, ap, ◌∙◌, subst, arith, append-nil, length-append}
 use Rattle.std.specs.Bool.{⊤}
 use Rattle.device_facts.specs.Count.{Rose}
 use Rattle.disk_core.specs.Disk.{WhereTold}
@@ -7,19 +7,23 @@ use Rattle.disk_core.specs.Devices.{IsUnmoved}
 use Rattle.disk_core.specs.declared.disk.Disk as disk
 use Rattle.book_words.specs.declared.act.Entry.{Entry}
 use Rattle.book_words.specs.Answers.{IsLegal}
+use Rattle.book_journal.specs.Rows.{FitsSnapshot}
 use Rattle.book_journal.specs.Mounting.{KeepsFromSync}
 use Rattle.book_store.specs.declared.store.Store.{Store}
 use Rattle.book_store.specs.Images.{HoldsBook}
 use Rattle.book_store.specs.Listing.{IsOpenedAs}
 use Rattle.book_store.specs.Mounting.{HasHeld, IsCauseOf, IsPassing}
 use Rattle.book_store.specs.declared.types.Unmounted.{Unmounted}
-use Rattle.book_store.specs.Stores.{disk_of, entries_of, limit_of, Hangs, HoldsOrHangs}
+use Rattle.book_store.specs.Stores.{disk_of, entries_of, limit_of, opened_of, Hangs, HoldsOrHangs}
+use Rattle.book_store.specs.Resting.{HoldsSnapshotOf}
 use Rattle.hall_top.specs.declared.ended.Ended.{Ended}
 use Rattle.hall_top.specs.declared.stop.Stop.{Stop}
 use Rattle.hall_top.specs.declared.stop.Stop.TheVariants.{Finished, BadLine, ReadFault, WriteFault, DiskFault, NoMemory, Spent}
 use Rattle.hall_top.specs.Transcript.{BookState}
 use Rattle.hall_top.specs.Run.{Call}
 use Rattle.hall_top.specs.Kept.{CrashLeaves, HangsAtFault, HasKept, HoldsOrOffered, CountsStop}
+use Rattle.hall_top.specs.Snapshots.{HasNewRows}
+use Rattle.hall_top.proofs.Keeping.{keeps_in}
 use Rattle.hall_top.specs.Calls.{KeepsRows, CountsEnd, IsOpened, IsUnopened, IsDoneOver, SaysWhy}
 
 -- the front of a list that begins with another
@@ -36,27 +40,9 @@ counts_end before now ReadFault counts = counts
 counts_end before now NoMemory counts = counts
 counts_end before now Spent counts = counts
 
--- what each image keeps, where it keeps what another says
-keeps_more : {D : Type 0} (g : disk.Ghosts D) (old new : D) (P Q : List ℕ → Type 0) → ((c : List ℕ) → P c → Q c) → KeepsFromSync g old new P → KeepsFromSync g old new Q
-keeps_more g old new P Q more keeps =
-    record {
-      synced = keeps.synced;
-      after = keeps.after;
-      before = keeps.before;
-      each = λ c s. more c (keeps.each c s);
-      handed_in = λ c s. elim (keeps.handed_in c s) as (λ _. g.image old c ⊎ Q c) [
-        | inl image ↦ inl image
-        | inr p ↦ inr (more c p)
-      ];
-      earlier = λ t c le s. elim (keeps.earlier t c le s) as (λ _. g.since old t c ⊎ Q c) [
-        | inl past ↦ inl past
-        | inr p ↦ inr (more c p)
-      ];
-    }
-
 -- a store that was mounted on a disk that held these entries has kept them
 module _ {D : Type 0} (g : disk.Ghosts D) (counts_now : (d : D) (t : ℕ) (c : List ℕ) → t ≤ g.time d → g.image d c → g.since d t c) (held : List Entry) (start : D) (store : Store D) (calm : ¬ Hangs store)
-    (faults : g.faults (disk_of store) ≡ g.faults start) (has : HasHeld g start held store) where
+    (has : HasHeld g start held store) where
   leaves : (c : List ℕ) → HoldsBook held c → CrashLeaves held (entries_of store) c
   leaves c holds =
       let whole : take (length held) (entries_of store) ≡ held = ap (take (length held)) (has.same ∙ sym (append-nil held)) ∙ front_of held [] in
@@ -73,9 +59,8 @@ module _ {D : Type 0} (g : disk.Ghosts D) (counts_now : (d : D) (t : ℕ) (c : L
         has = has.has;
         begins = ([], has.same ∙ sym (append-nil held));
         hung = λ entry hangs. absurd (calm hangs.row.hangs);
-        moments = keeps_more g start (disk_of store) (HoldsBook held) (CrashLeaves held (entries_of store)) leaves has.moments;
+        moments = keeps_in g start (disk_of store) (HoldsBook held) (CrashLeaves held (entries_of store)) leaves has.moments;
         images = λ c image. inl (subst (λ (es : List Entry). HoldsBook es c) (sym has.same) (has.moments.each c (counts_now (disk_of store) has.moments.synced c has.moments.before image)));
-        fault = inl (calm, faults);
       }
 
 -- at the end each image holds the rows, or the disk failed and an entry that was offered hangs
@@ -87,27 +72,33 @@ end_image g held start last c kept (inr rose) (inr (hung, hangs, holds)) = inr (
 
 -- what is left of a disk that held these entries
 keeps_rows : {D : Type 0} (g : disk.Ghosts D) (held : List Entry) (before : D) (store last : Store D) (ended : Ended D)
-    → HasHeld g before held store → HasKept g held before last → ended.disk ≡ disk_of last → ended.rows ≡ entries_of last → take ended.held ended.rows ≡ entries_of store
+    → HasHeld g before held store → HasKept g held before last → HangsAtFault g before last → ended.disk ≡ disk_of last → ended.rows ≡ entries_of last → take ended.held ended.rows ≡ entries_of store
     → KeepsRows g held before ended
-keeps_rows g held before store last ended has kept disk_left rows front =
+keeps_rows g held before store last ended has kept fault disk_left rows front =
     record {
       same = front ∙ has.same;
       moments = subst (λ (d : _). KeepsFromSync g before d (CrashLeaves held ended.rows)) (sym disk_left)
           (subst (λ (es : List Entry). KeepsFromSync g before (disk_of last) (CrashLeaves held es)) (sym rows) kept.moments);
       end = λ c image.
-          let over = end_image g held before last c kept kept.fault (kept.images c (subst (λ (d : _). g.image d c) disk_left image)) in
+          let over = end_image g held before last c kept fault (kept.images c (subst (λ (d : _). g.image d c) disk_left image)) in
           subst (λ (d : _). HoldsBook ended.rows c ⊎ (Rose (g.faults before) (g.faults d) × HoldsOrOffered ended.rows c)) (sym disk_left)
           (subst (λ (es : List Entry). HoldsBook es c ⊎ (Rose (g.faults before) (g.faults (disk_of last)) × HoldsOrOffered es c)) (sym rows) over);
     }
 
+-- where the disk didn't fail, nothing hangs
+none_hangs : {D : Type 0} (g : disk.Ghosts D) (store last : Store D) → g.faults (disk_of last) ≡ g.faults (disk_of store) → HangsAtFault g (disk_of store) last → ¬ Hangs last
+none_hangs g store last same (inl calm) = calm.0
+none_hangs g store last same (inr rose) = λ hangs. absurd (omega (arith, same, rose))
+
 -- a command that was done over a store that a disk was mounted as
 pub is_opened : {S D : Type 0} (g : disk.Ghosts D) (counts_now : (d : D) (t : ℕ) (c : List ℕ) → t ≤ g.time d → g.image d c → g.since d t c) (limit : ℕ) (Explains : BookState → Call S → Stop → Type 0) (status_of : Stop → ℕ) (before : D) (store : Store D) (ended : Ended D) (call : Call S)
-    → limit_of store ≡ limit → ¬ Hangs store → g.faults (disk_of store) ≡ g.faults before
+    → limit_of store ≡ limit → opened_of store ≡ length (entries_of store) → ¬ Hangs store → g.faults (disk_of store) ≡ g.faults before
     → WhereTold (g.reads before) (λ bytes. IsOpenedAs bytes (entries_of store))
     → WhereTold (g.reads before) (λ bytes. (held : List Entry) → HoldsBook held bytes → IsLegal held → HasHeld g before held store)
+    → WhereTold (g.reads before) (λ bytes. (rows size : ℕ) → FitsSnapshot rows size bytes → g.reads (disk_of store) ≡ Some bytes)
     → IsDoneOver g Explains status_of store ended call
     → IsOpened g limit Explains status_of before ended call
-is_opened g counts_now limit Explains status_of before store ended call limit_is calm faults opened held done =
+is_opened g counts_now limit Explains status_of before store ended call limit_is count calm faults opened held unwritten done =
     let begins = done.goes.begins in
     let front : take ended.held ended.rows ≡ entries_of store =
     ap (λ n. take n ended.rows) done.held ∙ ap (take (length (entries_of store))) (done.rows ∙ begins.1) ∙ front_of (entries_of store) begins.0 in
@@ -122,8 +113,19 @@ is_opened g counts_now limit Explains status_of before store ended call limit_is
           (counts_end (g.faults (disk_of store)) (g.faults (disk_of done.last)) done.stop done.goes.cause));
       kept = λ bytes told rows holds legal.
           let has = held bytes told rows holds legal in
-          let kept = done.goes.kept rows before (kept_so_far g counts_now rows before store calm faults has) in
-          keeps_rows g rows before store done.last ended has kept done.disk_left done.rows front;
+          let kept = done.goes.kept rows before (kept_so_far g counts_now rows before store calm has) in
+          keeps_rows g rows before store done.last ended has kept (done.goes.fault before (inl (calm, faults))) done.disk_left done.rows front;
+      snapshot = λ finished grown.
+          let new : HasNewRows done.last = omega (arith, grown, ap length done.rows, done.goes.opened, count, done.held) in
+          let counts = counts_end (g.faults (disk_of store)) (g.faults (disk_of done.last)) done.stop done.goes.cause in
+          let same = subst (λ (s : Stop). CountsEnd (g.faults (disk_of store)) (g.faults (disk_of done.last)) s) finished counts in
+          let none = none_hangs g store done.last same (done.goes.fault (disk_of store) (inl (calm, refl))) in
+          let holds = done.goes.snapshot (ap (λ (s : Stop). Err s) finished) new none in
+          subst (λ (d : _). HoldsSnapshotOf g ended.rows d) (sym done.disk_left)
+          (subst (λ (es : List Entry). HoldsSnapshotOf g es (disk_of done.last)) (sym done.rows) holds);
+      unwritten = λ unfailing small bytes told rows size fits.
+          let still = done.goes.still unfailing (omega (arith, count)) (λ new. small (omega (arith, new, ap length done.rows, done.goes.opened, count, done.held))) in
+          ap g.reads (done.disk_left ∙ still) ∙ unwritten bytes told rows size fits;
     }
 
 -- a disk that wasn't opened as a book

@@ -1,11 +1,12 @@
 -- What a whole call of the program does: its words, its disk, its command.
-use Rattle.std.specs.Prelude.{◌≡◌, ◌⊎◌, ℕ, ◌≤◌, List, [], length, take}
+use Rattle.std.specs.Prelude.{◌≡◌, ◌⊎◌, ℕ, ◌≤◌, List, [], length, take, Some}
 use Rattle.device_facts.specs.Count.{Counted, Rose}
 use Rattle.disk_core.specs.Disk.{WhereTold}
 use Rattle.disk_core.specs.Devices.{IsUnmoved}
 use Rattle.disk_core.specs.declared.disk.Disk as disk
 use Rattle.book_words.specs.declared.act.Entry.{Entry}
 use Rattle.book_words.specs.Answers.{IsLegal}
+use Rattle.book_journal.specs.Rows.{FitsSnapshot}
 use Rattle.book_journal.specs.Mounting.{KeepsFromSync}
 use Rattle.book_store.specs.declared.types.MountError.{MountError}
 use Rattle.book_store.specs.declared.types.MountError.TheVariants as mount
@@ -14,14 +15,15 @@ use Rattle.book_store.specs.Images.{HoldsBook}
 use Rattle.book_store.specs.Stores.{disk_of, entries_of}
 use Rattle.book_store.specs.Listing.{IsOpenedAs}
 use Rattle.book_store.specs.Mounting.{IsCauseOf, IsPassing}
+use Rattle.book_store.specs.Resting.{HoldsSnapshotOf}
 use Rattle.hall_top.specs.declared.ended.Ended.{Ended}
 use Rattle.hall_top.specs.declared.stop.Stop.{Stop}
 use Rattle.hall_top.specs.declared.stop.Stop.TheVariants.{Finished, WriteFault, DiskFault}
 use Rattle.hall_top.specs.Texts.{usage, disk_fault, no_memory, not_journal, damaged_row, whole}
 use Rattle.hall_top.specs.Transcript.{BookState}
 use Rattle.hall_top.specs.Streams.{Stream, WroteAll, IsCutIn, Wrote}
-use Rattle.hall_top.specs.Run.{Call, Explains, IsComplete, status_of}
-use Rattle.hall_top.specs.Kept.{CrashLeaves, HoldsOrOffered, GoesTo}
+use Rattle.hall_top.specs.Run.{Call, Explains, HasGrown, IsComplete, status_of}
+use Rattle.hall_top.specs.Kept.{CrashLeaves, HoldsOrOffered, IsUnfailing, GoesTo}
 use Rattle.hall_top.specs.Books.{stored_book}
 use Rattle.hall_top.specs.Migration.{ExplainsMigration}
 use Rattle.command_line.specs.Words.{Wanted}
@@ -84,7 +86,9 @@ CountsEnd before now WriteFault = (now ≡ before) ⊎ Counted before now 1
 CountsEnd before now _ = now ≡ before
 
 -- The disk was opened as a book, and the command ended in one of its ways, which has its status. What
--- `Explains` says of that way is the command's own meaning over the book as it was opened.
+-- `Explains` says of that way is the command's own meaning over the book as it was opened. A command
+-- that is done and added rows leaves a snapshot of them all; one that added none, and that no failure
+-- stopped, leaves every byte of a disk with a snapshot.
 pub record IsOpened {S D : Type 0} (disk : disk.Ghosts D) (limit : ℕ)
     (Explains : BookState → Call S → Stop → Type 0) (status_of : Stop → ℕ) (before : D)
     (ended : Ended D) (call : Call S) : Type 0 where
@@ -96,6 +100,11 @@ pub record IsOpened {S D : Type 0} (disk : disk.Ghosts D) (limit : ℕ)
   pub cause : CountsEnd (disk.faults before) (disk.faults ended.disk) stop
   pub kept : WhereTold (disk.reads before) (λ bytes.
       (held : List Entry) → HoldsBook held bytes → IsLegal held → KeepsRows disk held before ended)
+  pub snapshot : stop ≡ Finished → HasGrown ended.held ended.rows
+      → HoldsSnapshotOf disk ended.rows ended.disk
+  pub unwritten : IsUnfailing stop → ¬ HasGrown ended.held ended.rows
+      → WhereTold (disk.reads before) (λ bytes. (rows size : ℕ) → FitsSnapshot rows size bytes
+      → disk.reads ended.disk ≡ Some bytes)
 
 -- the book was found whole: the input wasn't read, the line went out that says so, and the rows are
 -- those that the disk held

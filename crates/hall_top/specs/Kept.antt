@@ -1,5 +1,5 @@
 -- What a run makes of the store that it asks, and what a crash leaves of its disk.
-use Rattle.std.specs.Prelude.{◌≡◌, ◌⊎◌, ⊤, ℕ, ◌≤◌, List, [], ◌∷◌, ◌++◌, length, take, Result, Err}
+use Rattle.std.specs.Prelude.{◌≡◌, ◌⊎◌, ⊤, ℕ, ◌≤◌, List, [], ◌∷◌, ◌++◌, length, take, Result, Err, IfErr}
 use Rattle.device_facts.specs.Count.{Counted, Rose}
 use Rattle.device_facts.specs.Prefix.{IsPrefixOf}
 use Rattle.disk_core.specs.declared.disk.Disk as disk
@@ -8,9 +8,10 @@ use Rattle.book_words.specs.Answers.{IsLawful, IsLegal}
 use Rattle.book_journal.specs.Mounting.{KeepsFromSync}
 use Rattle.book_store.specs.declared.store.Store.{Store}
 use Rattle.book_store.specs.Images.{HoldsBook}
-use Rattle.book_store.specs.Stores.{disk_of, entries_of, limit_of, Hangs, HasBook, HangsWith, HoldsOrHangs, IsSound}
+use Rattle.book_store.specs.Stores.{disk_of, entries_of, limit_of, opened_of, Hangs, HasBook, HangsWith, HoldsOrHangs, IsSound}
 use Rattle.hall_top.specs.declared.stop.Stop.{Stop}
-use Rattle.hall_top.specs.declared.stop.Stop.TheVariants.{WriteFault, DiskFault}
+use Rattle.hall_top.specs.declared.stop.Stop.TheVariants.{Finished, WriteFault, DiskFault, NoMemory}
+use Rattle.hall_top.specs.Snapshots.{HasNewRows, LeavesSnapshot}
 
 -- an image holds these entries, or these and one more that was offered and is lawful behind them
 abbrev pub HoldsOrOffered : List Entry → List ℕ → Type 0
@@ -41,7 +42,6 @@ pub record HasKept {D : Type 0} (disk : disk.Ghosts D) (held : List Entry) (star
   pub hung : (entry : Entry) → HangsWith disk store entry → IsLawful (entries_of store) entry
   pub moments : KeepsFromSync disk start (disk_of store) (CrashLeaves held (entries_of store))
   pub images : (c : List ℕ) → disk.image (disk_of store) c → HoldsOrHangs disk store c
-  pub fault : HangsAtFault disk start store
 
 -- the disk's count behind a step of a run: it stays, but one more is counted where the disk failed,
 -- which perhaps couldn't be written
@@ -50,17 +50,30 @@ CountsStop before now (Err DiskFault) = Counted before now 1
 CountsStop before now (Err WriteFault) = (now ≡ before) ⊎ Counted before now 1
 CountsStop before now _ = now ≡ before
 
+-- neither the output, nor the disk, nor memory failed
+abbrev pub IsUnfailing : Stop → Type 0
+IsUnfailing WriteFault = ⊥
+IsUnfailing DiskFault = ⊥
+IsUnfailing NoMemory = ⊥
+IsUnfailing _ = ⊤
+
 -- What a step of a run makes of the store: its book goes on, a crash leaves what it may, and the
--- disk failed only where that is answered.
+-- disk failed only where that is answered. Where nothing failed and the store has no new rows, the
+-- disk wasn't touched; and a run that is finished leaves a snapshot of the new rows.
 pub record Goes {D T : Type 0} (disk : disk.Ghosts D) (result : Result T Stop)
     (old new : Store D) : Type 0 where
   pub sound : IsSound disk new
   pub legal : IsLegal (entries_of new)
   pub limit : limit_of new ≡ limit_of old
+  pub opened : opened_of new ≡ opened_of old
   pub begins : IsPrefixOf (entries_of old) (entries_of new)
   pub kept : (held : List Entry) (start : D) → HasKept disk held start old
       → HasKept disk held start new
+  pub fault : (start : D) → HangsAtFault disk start old → HangsAtFault disk start new
   pub cause : CountsStop (disk.faults (disk_of old)) (disk.faults (disk_of new)) result
+  pub still : IfErr result IsUnfailing → opened_of old ≤ length (entries_of old) → ¬ HasNewRows new
+      → disk_of new ≡ disk_of old
+  pub snapshot : result ≡ Err Finished → LeavesSnapshot disk new
 
 -- what a whole run that ended so makes of the store
 abbrev pub GoesTo : {D : Type 0} → disk.Ghosts D → Stop → Store D → Store D → Type 0

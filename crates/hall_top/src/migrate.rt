@@ -2,7 +2,7 @@ ghost use Rattle.std.specs.Prelude.{◌≡◌, ◌<◌, ◌≤◌, ℕ, List, []
 ghost use Rattle.hall_top.specs.declared.reads.TheConstants.{PIECE};
 ghost use Rattle.book_words.specs.declared.act.Entry.{Entry};
 ghost use Rattle.book_words.specs.Answers.{IsLegal};
-ghost use Rattle.book_store.specs.Stores.{entries_of, IsSound};
+ghost use Rattle.book_store.specs.Stores.{entries_of, opened_of, IsSound};
 ghost use Rattle.old_journal.specs.Reader.{old_after};
 ghost use Rattle.hall_top.specs.Books.{stored_book};
 ghost use Rattle.hall_top.specs.Kept.{Goes, GoesTo};
@@ -27,9 +27,10 @@ pub const MAX_OLD_READS: u32 = 200_000_000;
 
 // Ends a migration whose input was read to its end: where rows were added, a snapshot is kept, and
 // then a line says how many rows the book has.
-fn finish<K: Sink, D: Disk>(migration: &mut Migration<D>, opened: u32, output: &mut K) -> Stop
+fn finish<K: Sink, D: Disk>(migration: &mut Migration<D>, output: &mut K) -> Stop
     requires ready { IsCarrying D.Disk migration.old }
-    ensures ends { (held : List Entry) (taken : List ℕ) → opened ≡ length held
+    ensures ends { (held : List Entry) (taken : List ℕ)
+        → opened_of migration.old.store ≡ length held
         → Carried held taken (migration_state migration.old)
         → EndsMigration held (output_at K.Sink output.old) (output_at K.Sink output.new)
         (entries_of migration.new.store) taken result }
@@ -38,7 +39,7 @@ fn finish<K: Sink, D: Disk>(migration: &mut Migration<D>, opened: u32, output: &
     if !migration.journal.has_header() {
         return say_bad_row(0, output);
     }
-    match keep_snapshot(&mut migration.store, opened, output) {
+    match keep_snapshot(&mut migration.store, output) {
         Ok(()) => check_book(&migration.store, output),
         Err(stop) => stop,
     }
@@ -47,7 +48,6 @@ fn finish<K: Sink, D: Disk>(migration: &mut Migration<D>, opened: u32, output: &
 // Makes one read, and carries the rows that end in what it gives.
 fn take_read<S: Source, K: Sink, D: Disk>(
     migration: &mut Migration<D>,
-    opened: u32,
     buffer: &mut [u8],
     input: &mut S,
     output: &mut K,
@@ -58,7 +58,7 @@ fn take_read<S: Source, K: Sink, D: Disk>(
     requires ready { IsCarrying D.Disk migration.old }
     ensures unended { OnOk result (S.ended input.new ≡ false) }
     ensures explained { (book : BookState) (before : Devices S) (taken : List ℕ)
-        → opened ≡ length book.entries
+        → opened_of migration.old.store ≡ length book.entries
         → CarriedAfter book before (devices S.Source K.Sink input.old output.old) taken
         (migration_state migration.old)
         → MatchResult result
@@ -73,7 +73,7 @@ fn take_read<S: Source, K: Sink, D: Disk>(
     ensures ready { OnOk result (IsCarrying D.Disk migration.new) }
 {
     match input.read(buffer) {
-        Ok(0) => Err(finish(migration, opened, output)),
+        Ok(0) => Err(finish(migration, output)),
         Ok(count) => migration.take_piece(&buffer[..count], output),
         Err(Failed) => {
             say_read_fault(output);
@@ -93,15 +93,15 @@ fn read_all<S: Source, K: Sink, D: Disk>(
     requires some { 0 < length buffer.old }
     requires small { length buffer.old ≤ PIECE }
     requires begun { migration.old.journal ≡ old_after [] }
+    requires opened { opened_of migration.old.store ≡ length (entries_of migration.old.store) }
     requires ready { IsCarrying D.Disk migration.old }
     ensures explained { ExplainsMigration (stored_book migration.old.store)
         (call S.Source K.Sink input.old output.old input.new output.new
         (entries_of migration.new.store)) result }
     ensures goes { GoesTo D.Disk result migration.old.store migration.new.store }
 {
-    let opened = migration.store.len();
     for _turn in 0..MAX_OLD_READS {
-        if let Err(stop) = take_read(migration, opened, buffer, input, output) {
+        if let Err(stop) = take_read(migration, buffer, input, output) {
             return stop;
         }
     }
@@ -117,6 +117,7 @@ pub fn migrate_journal<S: Source, K: Sink, D: Disk>(
     output: &mut K,
 ) -> RunEnd<D>
     requires unended { S.ended input.old ≡ false }
+    requires opened { opened_of store ≡ length (entries_of store) }
     requires sound { IsSound D.Disk store }
     requires legal { IsLegal (entries_of store) }
     ensures explained { ExplainsMigration (stored_book store)

@@ -1,7 +1,7 @@
 ghost use Rattle.std.specs.Prelude.{◌≡◌, ◌+◌, ◌<◌, ◌≤◌, List, ℕ, [], length, false, OnOk, IfOk, IfErr, MatchResult};
 ghost use Rattle.book_words.specs.Answers.{IsLegal};
 ghost use Rattle.script_lines.specs.Feed.{feed_after};
-ghost use Rattle.book_store.specs.Stores.{entries_of, IsSound};
+ghost use Rattle.book_store.specs.Stores.{entries_of, opened_of, IsSound};
 ghost use Rattle.hall_top.specs.Transcript.{BookState};
 ghost use Rattle.hall_top.specs.Streams.{Devices, devices};
 ghost use Rattle.hall_top.specs.Run.{call, Explains};
@@ -98,8 +98,6 @@ fn begin<D: Disk>(alloc: Global, store: Store<D>) -> Result<(Run<D>, Vec<u8>), S
     requires sound { IsSound D.Disk store }
     requires legal { IsLegal (entries_of store) }
     ensures fed { IfOk result (λ begun. begun.0.feed ≡ feed_after []) }
-    ensures opened { IfOk result (λ begun.
-        opened_at begun.0.session ≡ length (entries_of (store_in begun.0.session))) }
     ensures store { IfOk result (λ begun. store_in begun.0.session ≡ store) }
     ensures ready { IfOk result (λ begun. IsReady D.Disk begun.0.session) }
     ensures room { IfOk result (λ begun. length begun.1.items ≡ PIECE) }
@@ -123,6 +121,7 @@ pub fn run_script<S: Source, K: Sink, D: Disk>(
     output: &mut K,
 ) -> RunEnd<D>
     requires unended { S.ended input.old ≡ false }
+    requires opened { opened_of store ≡ length (entries_of store) }
     requires sound { IsSound D.Disk store }
     requires legal { IsLegal (entries_of store) }
     ensures explained { Explains (stored_book store)

@@ -35,8 +35,6 @@ impl<D: Disk> Run<D> {
         requires sound { IsSound D.Disk store }
         requires legal { IsLegal (entries_of store) }
         ensures fed { IfOk result (λ run. run.feed ≡ feed_after []) }
-        ensures opened { IfOk result (λ run.
-            opened_at run.session ≡ length (entries_of (store_in run.session))) }
         ensures store { IfOk result (λ run. store_in run.session ≡ store) }
         ensures ready { IfOk result (λ run. IsReady D.Disk run.session) }
         ensures back { IfErr result (λ back. back ≡ store) }

@@ -10,7 +10,6 @@ use std::alloc::Global;
 #[derive(Drop)]
 pub struct Session<D: Disk> {
     store: Store<D>,
-    opened: u32,
     text: Vec<u8>,
 }
 
@@ -35,17 +34,11 @@ impl<D: Disk> Session<D> {
         requires sound { IsSound D.Disk store }
         requires legal { IsLegal (entries_of store) }
         ensures store { IfOk result (λ session. store_in session ≡ store) }
-        ensures opened { IfOk result (λ session. opened_at session ≡ length (entries_of store)) }
         ensures ready { IfOk result (IsReady D.Disk) }
         ensures back { IfErr result (λ back. back ≡ store) }
     {
-        let opened = store.len();
         match Vec::with_capacity(alloc, TEXT_ROOM) {
-            Ok(text) => Ok(Session {
-                store,
-                opened,
-                text,
-            }),
+            Ok(text) => Ok(Session { store, text }),
             Err(_) => Err(store),
         }
     }
@@ -109,13 +102,12 @@ impl<D: Disk> Session<D> {
             (entries_of (store_in self.old))) }
         ensures same { entries_of (store_in self.new) ≡ entries_of (store_in self.old) }
         ensures goes { Goes D.Disk result (store_in self.old) (store_in self.new) }
-        ensures snapshot { OnOk result (LeavesSnapshot D.Disk (opened_at self.old)
-            (store_in self.old) (store_in self.new)) }
+        ensures snapshot { OnOk result (LeavesSnapshot D.Disk (store_in self.new)) }
         ensures idle { ¬ HasGrown (opened_at self.old) (entries_of (store_in self.old))
             → disk_of (store_in self.new) ≡ disk_of (store_in self.old) }
         ensures ready { IsReady D.Disk self.new }
     {
-        keep_snapshot(&mut self.store, self.opened, output)?;
+        keep_snapshot(&mut self.store, output)?;
         write_summary(self.store.book(), &mut self.text, output)?;
         Ok(())
     }

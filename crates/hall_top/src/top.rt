@@ -2,7 +2,7 @@ ghost use Rattle.std.specs.Prelude.{◌≡◌, ◌≤◌, ◌⊎◌, ◌↔◌, 
 ghost use Rattle.hall_limits.specs.declared.TheConstants.{MAX_ROWS};
 ghost use Rattle.book_words.specs.Answers.{IsLegal};
 ghost use Rattle.book_words.specs.Soundness.{IsSound as IsSoundBook};
-ghost use Rattle.book_store.specs.Stores.{entries_of, IsSound};
+ghost use Rattle.book_store.specs.Stores.{entries_of, opened_of, IsSound};
 ghost use Rattle.hall_top.specs.Requests.{RequestsOnce};
 ghost use Rattle.hall_top.specs.Run.{call, is_status, status_of};
 ghost use Rattle.hall_top.specs.Kept.{GoesTo};
@@ -31,6 +31,7 @@ fn run_command<S: Source, K: Sink, D: Disk>(
     output: &mut K,
 ) -> RunEnd<D>
     requires unended { S.ended input.old ≡ false }
+    requires opened { opened_of store ≡ length (entries_of store) }
     requires sound { IsSound D.Disk store }
     requires legal { IsLegal (entries_of store) }
     ensures explained { ExplainsCommand command (stored_book store)
@@ -57,6 +58,7 @@ fn do_command<S: Source, K: Sink, D: Disk>(
     output: &mut K,
 ) -> Ended<D>
     requires unended { S.ended input.old ≡ false }
+    requires opened { opened_of store ≡ length (entries_of store) }
     requires sound { IsSound D.Disk store }
     requires legal { IsLegal (entries_of store) }
     ensures done { IsDoneOver D.Disk (ExplainsCommand command) status_of store result

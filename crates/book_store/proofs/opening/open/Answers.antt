@@ -12,6 +12,7 @@ returns-in-Ok g c =
       read = c.read_rows.ensures.read;
       limited = c.read_rows.ensures.grows.limit ∙ ap (λ (b : BookView). b.limit) new;
       legal = c.read_rows.ensures.grows.legal (subst (λ (entries : List Entry). IsLegal entries) (sym (ap (λ (b : BookView). b.entries) new)) none_legal);
+      opened = c.len.ensures;
       count = c.in-Ok.ensures.count;
       calm = c.in-Ok.ensures.cause;
       asked = c.in-Ok.ensures.asked;

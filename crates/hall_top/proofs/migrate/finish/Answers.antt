@@ -1,7 +1,7 @@
 use Rattle.std.proofs.Common.{◌≡◌, ap, sym, subst, Err, refl}
 use Rattle.std.specs.Bool.{⊤}
 use Rattle.book_core.specs.View.{BookView}
-use Rattle.book_store.specs.Stores.{entries_of}
+use Rattle.book_store.specs.Stores.{entries_of, opened_of}
 use Rattle.hall_top.specs.declared.stop.Stop.TheVariants.{BadLine}
 use Rattle.hall_top.specs.Kept.{GoesTo}
 use Rattle.hall_top.specs.Streams.{output_at}
@@ -19,7 +19,7 @@ returns-then-not-has_header-clause-ends g c = λ held taken opened stands.
 pub returns-then-not-has_header-clause-goes : goal.returns-then-not-has_header-clause-goes
 returns-then-not-has_header-clause-goes g c =
     subst (λ s. GoesTo g.D.Disk s c.args.migration.now.store c.args.migration.now.store) (sym c.say_bad_row.ensures.stops)
-    (stays g.D.Disk (Err BadLine) c.args.migration.now.store c.requires.ready.sound c.requires.ready.legal refl)
+    (stays g.D.Disk (Err BadLine) c.args.migration.now.store c.requires.ready.sound c.requires.ready.legal refl (λ is. absurd (cc)))
 
 pub returns-in-Ok-clause-ends : goal.returns-in-Ok-clause-ends
 returns-in-Ok-clause-ends g c = λ held taken opened stands.
@@ -31,12 +31,12 @@ pub returns-in-Ok-clause-goes : goal.returns-in-Ok-clause-goes
 returns-in-Ok-clause-goes g c =
     let first = c.in-Ok.ensures.goes in
     goes_on g.D.Disk tt (Err c.check_book.result) c.args.migration.now.store c.keep_snapshot.new.store c.keep_snapshot.new.store first
-    (stays g.D.Disk (Err c.check_book.result) c.keep_snapshot.new.store first.sound first.legal (whole_counts ⊤ _ _ _ _ c.check_book.result c.check_book.ensures))
+    (stays g.D.Disk (Err c.check_book.result) c.keep_snapshot.new.store first.sound first.legal (whole_counts ⊤ _ _ _ _ c.check_book.result c.check_book.ensures) (λ finished. c.in-Ok.ensures.snapshot))
 
 pub returns-in-Err-clause-ends : goal.returns-in-Err-clause-ends
 returns-in-Err-clause-ends g c = λ held taken opened stands.
     let same : entries_of c.keep_snapshot.new.store ≡ entries_of c.args.migration.now.store = ap (λ (b : BookView). b.entries) c.keep_snapshot.ensures.book in
-    ends_failed held taken (migration_state c.args.migration.now) (entries_of c.keep_snapshot.new.store) c.args.opened (output_at g.K.Sink c.args.output.now) (output_at g.K.Sink c.keep_snapshot.new.output) c.in-Err.stop stands
+    ends_failed held taken (migration_state c.args.migration.now) (entries_of c.keep_snapshot.new.store) (opened_of c.args.migration.now.store) (output_at g.K.Sink c.args.output.now) (output_at g.K.Sink c.keep_snapshot.new.output) c.in-Err.stop stands
     ((c.has_header.ensures taken stands.reader).0 c.if-not-has_header.false) same opened c.in-Err.ensures.stops
 
 pub returns-in-Err-clause-goes : goal.returns-in-Err-clause-goes

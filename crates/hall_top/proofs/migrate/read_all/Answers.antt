@@ -1,4 +1,4 @@
-use Rattle.std.proofs.Common.{[], Ok, Err, refl, arith}
+use Rattle.std.proofs.Common.{[], Ok, Err, refl, ◌∙◌, arith}
 use Rattle.hall_top.specs.Books.{stored_book}
 use Rattle.hall_top.specs.Streams.{devices}
 use Rattle.hall_top.specs.Migration.{migration_state}
@@ -15,7 +15,7 @@ loop-turn-init g c = record {
     most = omega arith;
     stands = migration_begins (stored_book c.args.migration.now.store) (devices g.S.Source g.K.Sink c.args.input.now c.args.output.now) (migration_state c.args.migration.now) c.requires.begun refl;
   };
-  goes = stays g.D.Disk (Ok tt) c.args.migration.now.store c.requires.ready.sound c.requires.ready.legal refl;
+  goes = stays g.D.Disk (Ok tt) c.args.migration.now.store c.requires.ready.sound c.requires.ready.legal refl (λ is. absurd (cc));
   ready = c.requires.ready;
   unended = c.requires.unended;
   room = refl;
@@ -29,7 +29,7 @@ loop-turn-preserved g c =
     let now = devices g.S.Source g.K.Sink c.take_read.new.input c.take_read.new.output in
     record {
       taken = carried_reads_more book before (devices g.S.Source g.K.Sink c.loop-turn.input c.loop-turn.output) now c.loop-turn._turn (migration_state c.loop-turn.migration) (migration_state c.take_read.new.migration) has
-          (c.in_default.ensures.explained book before has.taken c.len-opened.ensures has.stands);
+          (c.in_default.ensures.explained book before has.taken (c.loop-turn.invariant.goes.opened ∙ c.requires.opened) has.stands);
       goes = goes_on g.D.Disk tt (Ok tt) c.args.migration.now.store c.loop-turn.migration.store c.take_read.new.migration.store c.loop-turn.invariant.goes c.in_default.ensures.goes;
       ready = c.in_default.ensures.ready;
       unended = c.in_default.ensures.unended;
@@ -39,7 +39,7 @@ loop-turn-preserved g c =
 pub returns-in-Err-clause-explained : goal.returns-in-Err-clause-explained
 returns-in-Err-clause-explained g c =
     let has = c.loop-turn.invariant.taken in
-    c.in-Err.ensures.explained (stored_book c.args.migration.now.store) (devices g.S.Source g.K.Sink c.args.input.now c.args.output.now) has.taken c.len-opened.ensures has.stands
+    c.in-Err.ensures.explained (stored_book c.args.migration.now.store) (devices g.S.Source g.K.Sink c.args.input.now c.args.output.now) has.taken (c.loop-turn.invariant.goes.opened ∙ c.requires.opened) has.stands
 
 pub returns-clause-explained : goal.returns-clause-explained
 returns-clause-explained g c =
@@ -52,4 +52,4 @@ returns-in-Err-clause-goes g c =
 
 pub returns-clause-goes : goal.returns-clause-goes
 returns-clause-goes g c =
-    goes_with g.D.Disk (Ok tt) (Err Spent) c.args.migration.now.store c.loop-turn.migration.store c.loop-turn.invariant.goes c.loop-turn.invariant.goes.cause
+    goes_with g.D.Disk (Ok tt) (Err Spent) c.args.migration.now.store c.loop-turn.migration.store c.loop-turn.invariant.goes c.loop-turn.invariant.goes.cause (λ quiet. tt) (λ is. absurd (cc))

@@ -36,4 +36,4 @@ pub returns-in-Ok-eq0-clause-goes : goal.returns-in-Ok-eq0-clause-goes
 returns-in-Ok-eq0-clause-goes g c = goes_as g.D.Disk c.finish.result c.args.migration.now.store c.finish.new.migration.store c.finish.ensures.goes
 
 pub returns-in-Err-clause-goes : goal.returns-in-Err-clause-goes
-returns-in-Err-clause-goes g c = stays g.D.Disk (Err ReadFault) c.args.migration.now.store c.requires.ready.sound c.requires.ready.legal refl
+returns-in-Err-clause-goes g c = stays g.D.Disk (Err ReadFault) c.args.migration.now.store c.requires.ready.sound c.requires.ready.legal refl (λ is. absurd (cc))

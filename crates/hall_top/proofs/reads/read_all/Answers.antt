@@ -10,7 +10,7 @@ use Rattle.hall_top.proofs.reads.read_all.Goals as goal
 pub loop-turn-init : goal.loop-turn-init
 loop-turn-init g c = record {
   taken = record { taken = []; least = omega arith; most = omega arith; stands = begins (devices g.S.Source g.K.Sink c.args.input.now c.args.output.now) (run_state c.args.run.now) c.requires.begun c.requires.opened };
-  goes = stays g.D.Disk (Ok tt) (store_in c.args.run.now.session) c.requires.ready.sound c.requires.ready.legal refl;
+  goes = stays g.D.Disk (Ok tt) (store_in c.args.run.now.session) c.requires.ready.sound c.requires.ready.legal refl (λ is. absurd (cc));
   ready = c.requires.ready;
   unended = c.requires.unended;
   room = refl;
@@ -50,4 +50,4 @@ returns-in-Err-clause-goes g c =
 
 pub returns-clause-goes : goal.returns-clause-goes
 returns-clause-goes g c =
-    goes_with g.D.Disk (Ok tt) (Err Spent) (store_in c.args.run.now.session) (store_in c.loop-turn.run.session) c.loop-turn.invariant.goes c.loop-turn.invariant.goes.cause
+    goes_with g.D.Disk (Ok tt) (Err Spent) (store_in c.args.run.now.session) (store_in c.loop-turn.run.session) c.loop-turn.invariant.goes c.loop-turn.invariant.goes.cause (λ quiet. tt) (λ is. absurd (cc))

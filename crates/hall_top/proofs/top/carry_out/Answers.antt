@@ -12,7 +12,7 @@ returns-in-Ok-clause-ends g c =
     let before = devices g.S.Source g.K.Sink c.args.input.now c.args.output.now in
     let now = devices g.S.Source g.K.Sink c.do_command.new.input c.do_command.new.output in
     inl (is_opened g.D.Disk g.met.D.Disk.counts_now c.args.limit (ExplainsCommand c.args.command) status_of c.args.disk c.in-Ok.store c.do_command.result (call_from before now c.do_command.result.rows)
-    c.in-Ok.ensures.limit c.in-Ok.ensures.calm c.in-Ok.ensures.cause c.in-Ok.ensures.opened c.in-Ok.ensures.held c.do_command.ensures.done)
+    c.in-Ok.ensures.limit c.in-Ok.ensures.count c.in-Ok.ensures.calm c.in-Ok.ensures.cause c.in-Ok.ensures.opened c.in-Ok.ensures.held c.in-Ok.ensures.unwritten c.do_command.ensures.done)
 
 pub returns-in-Ok-clause-status : goal.returns-in-Ok-clause-status
 returns-in-Ok-clause-status g c = status_of_stop c.do_command.result.status c.do_command.ensures.done.stop c.do_command.ensures.done.status

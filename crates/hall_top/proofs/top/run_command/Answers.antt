@@ -1,4 +1,4 @@
-use Rattle.std.proofs.Common.{Err, refl}
+use Rattle.std.proofs.Common.{Err, refl, arith}
 use Rattle.std.specs.Bool.{⊤}
 use Rattle.book_store.specs.Stores.{entries_of}
 use Rattle.hall_top.specs.Streams.{devices}
@@ -23,4 +23,4 @@ returns-in-Check-clause-explained g c =
 
 pub returns-in-Check-clause-goes : goal.returns-in-Check-clause-goes
 returns-in-Check-clause-goes g c =
-    stays g.D.Disk (Err c.check_book-stop.result) c.args.store c.requires.sound c.requires.legal (whole_counts ⊤ _ _ _ _ c.check_book-stop.result c.check_book-stop.ensures)
+    stays g.D.Disk (Err c.check_book-stop.result) c.args.store c.requires.sound c.requires.legal (whole_counts ⊤ _ _ _ _ c.check_book-stop.result c.check_book-stop.ensures) (λ finished grown calm. absurd (omega (arith, grown, c.requires.opened)))

@@ -1,5 +1,6 @@
-use Rattle.std.proofs.Common.{◌≡◌, ◌∙◌, ◌≤◌, ℕ, List, length, ap, refl, sym, subst, arith, Some, Bool, true, false, nat_lt, if◌then◌else◌, [], ◌∷◌}
+use Rattle.std.proofs.Common.{◌≡◌, ◌∙◌, ◌≤◌, ℕ, List, length, ap, refl, sym, subst, arith, Option, Some, None, is_some, Bool, true, false, nat_lt, if◌then◌else◌, [], ◌∷◌}
 use Rattle.std.proofs.lemmas.Bool.Decides.{nat_tests}
+use Rattle.device_facts.specs.Known.{TellsAsBefore}
 use Rattle.disk_core.specs.Disk.{Only, overwritten}
 use Rattle.book_snapshot.specs.DenseRows.{content}
 use Rattle.book_snapshot.specs.Layout.{snapshot_end}
@@ -13,7 +14,7 @@ use Rattle.book_journal.specs.Appending.{cleared}
 use Rattle.book_journal.specs.Marking.{with_snapshot, kept_disk, HoldsSnapshot}
 use Rattle.book_journal.proofs.Calls.{synced_has, markable}
 use Rattle.book_journal.proofs.Signs.{laid_agrees, laid_holds}
-use Rattle.book_journal.proofs.Journals.{image_keeps, none_hangs, not_hangs, told_as}
+use Rattle.book_journal.proofs.Journals.{image_keeps, none_hangs, not_hangs, told_as, tells_on}
 use Rattle.book_journal.proofs.Moments.{goes_on, leaves_in, leaves_on}
 use Rattle.book_journal.proofs.journal.Journal.keep.Goals as goal
 
@@ -201,3 +202,37 @@ returns-clause-fits g c b told small now told_now =
     let at_end = subst (λ (n : ℕ). HoldsSnapshot n bytes (overwritten (with_snapshot mid.count bytes clear) MARK (MARKED ∷ []))) c.unmark.ensures.count holds in
     let of_content = subst (λ (l : List ℕ). HoldsSnapshot old.count l (overwritten (with_snapshot mid.count bytes clear) MARK (MARKED ∷ []))) c.as_slice-2.ensures at_end in
     told_as _ (overwritten (with_snapshot mid.count bytes clear) MARK (MARKED ∷ [])) (HoldsSnapshot old.count c.args.content.now) (c.in_ok-mark.ensures.written (with_snapshot mid.count bytes clear) is.0) of_content now told_now
+
+-- a disk that was longer stays so
+pub returns-then-size-snapshot_end-clause-holds : goal.returns-then-size-snapshot_end-clause-holds
+returns-then-size-snapshot_end-clause-holds g c now told_now short =
+    let old = c.args.self.now in
+    let mid = c.unmark.new.self in
+    let content = c.args.content.now in
+    absurd (omega (arith, short, c.if-size-snapshot_end.true, c.in_ok-size.ensures.length now (sym c.len.ensures.reads ∙ told_now), c.snapshot_end.ensures, c.unmark.ensures.count,
+    size_same mid.count (length c.as_slice.result.now) (length content) (ap length c.as_slice.ensures), count_same mid.count old.count (length content) c.unmark.ensures.count))
+
+-- what a device tells was told before
+told_before : (before told : Option (List ℕ)) (now : List ℕ) → TellsAsBefore before told → told ≡ Some now → (bytes : List ℕ) × (before ≡ Some bytes)
+told_before (Some bytes) told now tells is = (bytes, refl)
+told_before None told now tells is = absurd (let clash : true ≡ false = sym (ap is_some is) ∙ tells in cc)
+
+-- and on another the snapshot was laid
+pub returns-clause-holds : goal.returns-clause-holds
+returns-clause-holds g c now told_now short =
+    let old = c.args.self.now in
+    let mid = c.unmark.new.self in
+    let bytes = c.as_slice-2.result.now in
+    let content = c.args.content.now in
+    let laid = tells_on (g.D.Disk.reads c.len.new.self) (g.D.Disk.reads c.lay.new.self.disk) (g.D.Disk.reads c.mark.new.self.disk) c.lay.ensures.tells c.mark.ensures.tells in
+    let looked = ap is_some c.len.ensures.reads in
+    let first = told_before (g.D.Disk.reads old.disk) (g.D.Disk.reads c.mark.new.self.disk) now (laid ∙ looked ∙ c.unmark.ensures.tells) told_now in
+    let b = first.0 in
+    let told = first.1 in
+    let header = (c.requires.sound.gate b told).header in
+    let size = cleared_size old.marked b header.long in
+    let clear = cleared old.marked b in
+    let told_clear = c.in_ok-unmark.ensures.written b told in
+    let same = ap length c.as_slice-2.ensures in
+    let small : length clear ≤ snapshot_end mid.count (length bytes) = omega (arith, c.in_ok-size.ensures.length clear told_clear, c.if-size-snapshot_end.false, c.snapshot_end.ensures, size_same mid.count (length c.as_slice.result.now) (length bytes) (ap length c.as_slice.ensures ∙ sym same)) in
+    returns-clause-fits g c b told (omega (arith, small, size, c.unmark.ensures.count, size_same mid.count (length bytes) (length content) same, count_same mid.count old.count (length content) c.unmark.ensures.count)) now told_now

@@ -1,8 +1,8 @@
-use Rattle.std.proofs.Common.{◌≡◌, refl, ap, subst}
+use Rattle.std.proofs.Common.{◌≡◌, ◌∙◌, Err, refl, ap, subst}
 use Rattle.book_words.specs.declared.act.Entry.{Entry}
+use Rattle.book_core.specs.declared.types.ReplayError.{ReplayError}
 use Rattle.book_core.specs.View.{ReadyEntry}
 use Rattle.book_store.specs.Offers.{OffersEntry}
-use Rattle.book_store.proofs.Adopting.{lawful_at}
 use Rattle.book_store.proofs.Hanging.{images_hold, offers_from, offers_none}
 use Rattle.book_store.proofs.store.Store.adopt.Goals as goal
 
@@ -12,7 +12,7 @@ returns-in-Err-Unlawful-clause-images g c =
 
 pub returns-in-Err-NoMemory-clause-adopts : goal.returns-in-Err-NoMemory-clause-adopts
 returns-in-Err-NoMemory-clause-adopts g c =
-    lawful_at c.args.self.now.book.entries c.args.entry.now c.admit.result _ c.in-Err-NoMemory.is c.in-Err-NoMemory.field-0-is c.admit.ensures.unlawful.1
+    c.admit.ensures.no_memory (c.in-Err-NoMemory.is ∙ ap (λ (e : ReplayError). Err e) c.in-Err-NoMemory.field-0-is)
 
 pub returns-in-Err-NoMemory-clause-offers : goal.returns-in-Err-NoMemory-clause-offers
 returns-in-Err-NoMemory-clause-offers g c lawful has =

@@ -1,4 +1,4 @@
-use Rattle.book_store.proofs.Mounted.{opened, sound, asked, caused, held, refused_cause, refused_held}
+use Rattle.book_store.proofs.Mounted.{opened, sound, counted, unwritten, asked, caused, held, refused_cause, refused_held}
 use Rattle.book_store.proofs.store.Store.mount.Goals as goal
 
 pub returns-in-Ok-clause-opened : goal.returns-in-Ok-clause-opened
@@ -14,6 +14,12 @@ returns-in-Ok-clause-held g c bytes told entries holds legal =
 
 pub returns-in-Ok-clause-sound : goal.returns-in-Ok-clause-sound
 returns-in-Ok-clause-sound g c = sound g.D.Disk c.in-Ok.journal c.args.limit c.open.result c.requires.most c.in-Ok.ensures.sound c.open.ensures
+
+pub returns-in-Ok-clause-count : goal.returns-in-Ok-clause-count
+returns-in-Ok-clause-count g c = counted g.D.Disk c.in-Ok.journal c.args.limit c.open.result c.open.ensures
+
+pub returns-in-Ok-clause-unwritten : goal.returns-in-Ok-clause-unwritten
+returns-in-Ok-clause-unwritten g c bytes told rows size fits = unwritten g.D.Disk c.in-Ok.journal c.args.limit c.open.result bytes rows size (c.in-Ok.ensures.mounted bytes told) fits c.open.ensures
 
 pub returns-in-Ok-clause-asked : goal.returns-in-Ok-clause-asked
 returns-in-Ok-clause-asked g c bytes told rows size fits = asked g.D.Disk c.args.disk c.in-Ok.journal c.args.limit c.open.result bytes rows size (c.in-Ok.ensures.mounted bytes told) c.in-Ok.ensures.asked fits c.open.ensures

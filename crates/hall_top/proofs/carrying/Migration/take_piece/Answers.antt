@@ -12,7 +12,7 @@ pub loop-rest-init : goal.loop-rest-init
 loop-rest-init g c = record {
   over = record { first = []; parts = refl; on = carries_nothing (migration_state c.args.self.now) };
   quiet = refl;
-  goes = stays g.D.Disk (Ok tt) c.args.self.now.store c.requires.ready.sound c.requires.ready.legal refl;
+  goes = stays g.D.Disk (Ok tt) c.args.self.now.store c.requires.ready.sound c.requires.ready.legal refl (λ is. absurd (cc));
   ready = c.requires.ready;
 }
 
@@ -42,6 +42,6 @@ loop-rest-preserved g c =
     record {
       over = over_more (migration_state c.args.self.now) (migration_state c.loop-rest.self) (migration_state c.take_slot.new.self) c.args.piece.now rest (take count rest) c.split_at.result.1.now c.loop-rest.invariant.over parts c.in_ok-count.ensures.on;
       quiet = c.in_ok-count.ensures.quiet ∙ c.loop-rest.invariant.quiet;
-      goes = goes_with g.D.Disk (Ok count) (Ok tt) c.args.self.now.store c.take_slot.new.self.store goes goes.cause;
+      goes = goes_with g.D.Disk (Ok count) (Ok tt) c.args.self.now.store c.take_slot.new.self.store goes goes.cause (λ quiet. tt) (λ is. absurd (cc));
       ready = c.in_ok-count.ensures.ready;
     }
