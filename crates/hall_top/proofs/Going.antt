@@ -31,6 +31,7 @@ goes_on g x result a b c first second =
       kept = λ held start has. second.kept held start (first.kept held start has);
       fault = λ start before. second.fault start (first.fault start before);
       cause = subst (λ (n : ℕ). CountsStop n (g.faults (disk_of c)) result) first.cause second.cause;
+      calm = λ quiet hung. first.calm tt (second.calm quiet hung);
       still = λ quiet few small.
           second.still quiet (omega (arith, few, first.opened, begins_short (entries_of a) (entries_of b) first.begins)) small
           ∙ first.still tt few (λ grown. small (omega (arith, grown, second.opened, longer)));
@@ -50,6 +51,7 @@ stays g result store sound legal counts snapshot =
       kept = λ held start has. has;
       fault = λ start before. before;
       cause = counts;
+      calm = λ quiet hung. hung;
       still = λ quiet few small. refl;
       snapshot = snapshot;
     }
@@ -76,6 +78,7 @@ goes_with g first result a b goes counts unfailing snapshot =
       kept = goes.kept;
       fault = goes.fault;
       cause = counts;
+      calm = λ quiet hung. goes.calm (unfailing quiet) hung;
       still = λ quiet few small. goes.still (unfailing quiet) few small;
       snapshot = snapshot;
     }
@@ -113,20 +116,20 @@ stays_same g result a b same sound legal counts unfinished =
     subst (λ (s : Store _). Goes g result a s) (sym same) (stays g result a sound legal counts (λ finished. absurd (unfinished finished)))
 
 -- a run that stops at a bad line, or without memory to begin with, isn't finished
-pub bad_unfinished : (T : Type 0) (book : BookState) (before now : Stream) (rows : List Entry) (commands : List Command) (number : ℕ) (stop : Stop) → StopsAtLine book before now rows commands number Bad stop → Err {A = T} stop ≢ Err Finished
-bad_unfinished T book before now rows commands number Finished stops is = stops
-bad_unfinished T book before now rows commands number BadLine stops is = absurd (cc)
-bad_unfinished T book before now rows commands number ReadFault stops is = stops
-bad_unfinished T book before now rows commands number WriteFault stops is = stops
-bad_unfinished T book before now rows commands number DiskFault stops is = stops
-bad_unfinished T book before now rows commands number NoMemory stops is = stops
-bad_unfinished T book before now rows commands number Spent stops is = stops
+pub bad_unfinished : (book : BookState) (before now : Stream) (rows : List Entry) (commands : List Command) (number : ℕ) (stop : Stop) → StopsAtLine book before now rows commands number Bad stop → stop ≢ Finished
+bad_unfinished book before now rows commands number Finished stops is = stops
+bad_unfinished book before now rows commands number BadLine stops is = absurd (cc)
+bad_unfinished book before now rows commands number ReadFault stops is = stops
+bad_unfinished book before now rows commands number WriteFault stops is = stops
+bad_unfinished book before now rows commands number DiskFault stops is = stops
+bad_unfinished book before now rows commands number NoMemory stops is = stops
+bad_unfinished book before now rows commands number Spent stops is = stops
 
-pub unbegun_unfinished : (T : Type 0) (before now : Stream) (stop : Stop) → SaysNoMemory before now stop → Err {A = T} stop ≢ Err Finished
-unbegun_unfinished T before now Finished says is = says
-unbegun_unfinished T before now BadLine says is = says
-unbegun_unfinished T before now ReadFault says is = says
-unbegun_unfinished T before now WriteFault says is = absurd (cc)
-unbegun_unfinished T before now DiskFault says is = says
-unbegun_unfinished T before now NoMemory says is = absurd (cc)
-unbegun_unfinished T before now Spent says is = says
+pub unbegun_unfinished : (before now : Stream) (stop : Stop) → SaysNoMemory before now stop → stop ≢ Finished
+unbegun_unfinished before now Finished says is = says
+unbegun_unfinished before now BadLine says is = says
+unbegun_unfinished before now ReadFault says is = says
+unbegun_unfinished before now WriteFault says is = absurd (cc)
+unbegun_unfinished before now DiskFault says is = says
+unbegun_unfinished before now NoMemory says is = absurd (cc)
+unbegun_unfinished before now Spent says is = says

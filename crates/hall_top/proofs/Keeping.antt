@@ -77,6 +77,14 @@ leaves_front held rows next c opened begins holds =
 
 -- ---- what may be told where nothing failed
 
+-- a step that goes on isn't the end of a run
+pub on_unfinished : {T : Type 0} (done : T) → Ok done ≢ Err Finished
+on_unfinished done is = absurd (cc)
+
+-- nor is one that stopped otherwise
+pub stop_unfinished : {T : Type 0} (stop : Stop) (result : Result T Stop) → stop ≢ Finished → result ≡ Err stop → result ≢ Err Finished
+stop_unfinished stop result other is finished = other (let same : stop ≡ Finished = cc (is, finished) in same)
+
 -- an act was answered, or refused, which adds nothing
 abbrev pub IsSettled : Result Answered AskError → Option Entry → Type 0
 IsSettled (Ok answered) offered = Unit {0}
@@ -229,6 +237,12 @@ module _ {D : Type 0} (g : disk.Ghosts D) where
   still_asked old new (Err error.DiskFault) offered settled is offers opened few small = absurd settled
   still_asked old new (Err error.NoMemory) offered settled is offers opened few small = absurd settled
 
+  calm_asked : (old new : Store D) (result : Result Answered AskError) (offered : Option Entry) → IsSettled result offered → (result ≡ Err error.DiskFault) ⊎ Hangs old → Hangs old
+  calm_asked old new (Ok answered) offered settled hangs = ⊎_elim (λ is. absurd (cc)) (λ was. was) hangs
+  calm_asked old new (Err (error.Refused refused)) offered settled hangs = ⊎_elim (λ is. absurd (cc)) (λ was. was) hangs
+  calm_asked old new (Err error.DiskFault) offered settled hangs = absurd settled
+  calm_asked old new (Err error.NoMemory) offered settled hangs = absurd settled
+
   -- an ask
   pub goes_asked : {T : Type 0} (old new : Store D) (result : Result Answered AskError) (given : Result T Stop) (offered : Option Entry) → entries_of new ≡ list_behind result (entries_of old) offered
       → Offers g offered old new → (IsSome offered → OnOk result (¬ Hangs new)) → ImagesHoldBook g new → (Hangs new → (result ≡ Err error.DiskFault) ⊎ Hangs old)
@@ -244,6 +258,7 @@ module _ {D : Type 0} (g : disk.Ghosts D) where
         kept = λ held start kept. kept_asked held start old new result offered is offers settled images kept;
         fault = λ start before. fault_asked start old new result hangs counts before;
         cause = cause;
+        calm = λ quiet hung. calm_asked old new result offered (unfailing quiet) (hangs hung);
         still = λ quiet few small. still_asked old new result offered (unfailing quiet) is offers opened few small;
         snapshot = λ finished. absurd (unfinished finished);
       }
@@ -264,6 +279,7 @@ module _ {D : Type 0} (g : disk.Ghosts D) where
         kept = λ held start kept. kept_rested held start old new entries keeps images kept;
         fault = λ start before. fault_rested start old new result hangs counts before;
         cause = cause;
+        calm = λ quiet hung. hangs hung;
         still = λ quiet few small. absurd (small (omega (arith, grown, opened, ap length entries)));
         snapshot = λ finished. absurd (unfinished finished);
       }
@@ -294,6 +310,12 @@ module _ {D : Type 0} (g : disk.Ghosts D) where
   still_adopted old new entry (Err adopt.DiskFault) settled is leaves opened few small = absurd settled
   still_adopted old new entry (Err adopt.NoMemory) settled is leaves opened few small = absurd settled
 
+  calm_adopted : (old new : Store D) (result : Result ℕ AdoptError) → IsAdopted result → (result ≡ Err adopt.DiskFault) ⊎ Hangs old → Hangs old
+  calm_adopted old new (Ok number) settled hangs = ⊎_elim (λ is. absurd (cc)) (λ was. was) hangs
+  calm_adopted old new (Err adopt.Unlawful) settled hangs = ⊎_elim (λ is. absurd (cc)) (λ was. was) hangs
+  calm_adopted old new (Err adopt.DiskFault) settled hangs = absurd settled
+  calm_adopted old new (Err adopt.NoMemory) settled hangs = absurd settled
+
   pub goes_adopted : {T : Type 0} (old new : Store D) (entry : Entry) (result : Result ℕ AdoptError) (given : Result T Stop) → entries_of new ≡ list_adopted result (entries_of old) entry → Adopts (book_of old) entry result
       → (IsLawful (entries_of old) entry → HasBook g old → OffersEntry g entry old new) → (result ≡ Err adopt.Unlawful → LeavesDisk g old new) → OnOk result (¬ Hangs new) → ImagesHoldBook g new
       → (Hangs new → (result ≡ Err adopt.DiskFault) ⊎ Hangs old) → CountsAdoptFault (g.faults (disk_of old)) (g.faults (disk_of new)) result
@@ -309,6 +331,7 @@ module _ {D : Type 0} (g : disk.Ghosts D) where
         kept = λ held start kept. kept_adopted held start entry old new result is adopts offers leaves settled images kept;
         fault = λ start before. fault_adopted start old new result hangs counts before;
         cause = cause;
+        calm = λ quiet hung. calm_adopted old new result (unfailing quiet) (hangs hung);
         still = λ quiet few small. still_adopted old new entry result (unfailing quiet) is leaves opened few small;
         snapshot = λ finished. absurd (unfinished finished);
       }
@@ -319,6 +342,7 @@ module _ {D : Type 0} (g : disk.Ghosts D) where
   with_cause result stop old new goes cause failing unfinished =
       record {
         sound = goes.sound; legal = goes.legal; limit = goes.limit; opened = goes.opened; begins = goes.begins; kept = goes.kept; fault = goes.fault; cause = cause;
+        calm = λ quiet. absurd (failing quiet);
         still = λ quiet few small. absurd (failing quiet);
         snapshot = λ finished. absurd (unfinished (let same : stop ≡ Finished = cc (finished) in same));
       }

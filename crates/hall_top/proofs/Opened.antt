@@ -21,7 +21,7 @@ use Rattle.hall_top.specs.declared.stop.Stop.{Stop}
 use Rattle.hall_top.specs.declared.stop.Stop.TheVariants.{Finished, BadLine, ReadFault, WriteFault, DiskFault, NoMemory, Spent}
 use Rattle.hall_top.specs.Transcript.{BookState}
 use Rattle.hall_top.specs.Run.{Call}
-use Rattle.hall_top.specs.Kept.{CrashLeaves, HangsAtFault, HasKept, HoldsOrOffered, CountsStop}
+use Rattle.hall_top.specs.Kept.{CrashLeaves, HangsAtFault, HasKept, HoldsOrOffered, CountsStop, IsUnfailing}
 use Rattle.hall_top.specs.Snapshots.{HasNewRows}
 use Rattle.hall_top.proofs.Keeping.{keeps_in}
 use Rattle.hall_top.specs.Calls.{KeepsRows, CountsEnd, IsOpened, IsUnopened, IsDoneOver, SaysWhy}
@@ -85,11 +85,6 @@ keeps_rows g held before store last ended has kept fault disk_left rows front =
           (subst (λ (es : List Entry). HoldsBook es c ⊎ (Rose (g.faults before) (g.faults (disk_of last)) × HoldsOrOffered es c)) (sym rows) over);
     }
 
--- where the disk didn't fail, nothing hangs
-none_hangs : {D : Type 0} (g : disk.Ghosts D) (store last : Store D) → g.faults (disk_of last) ≡ g.faults (disk_of store) → HangsAtFault g (disk_of store) last → ¬ Hangs last
-none_hangs g store last same (inl calm) = calm.0
-none_hangs g store last same (inr rose) = λ hangs. absurd (omega (arith, same, rose))
-
 -- a command that was done over a store that a disk was mounted as
 pub is_opened : {S D : Type 0} (g : disk.Ghosts D) (counts_now : (d : D) (t : ℕ) (c : List ℕ) → t ≤ g.time d → g.image d c → g.since d t c) (limit : ℕ) (Explains : BookState → Call S → Stop → Type 0) (status_of : Stop → ℕ) (before : D) (store : Store D) (ended : Ended D) (call : Call S)
     → limit_of store ≡ limit → opened_of store ≡ length (entries_of store) → ¬ Hangs store → g.faults (disk_of store) ≡ g.faults before
@@ -117,9 +112,7 @@ is_opened g counts_now limit Explains status_of before store ended call limit_is
           keeps_rows g rows before store done.last ended has kept (done.goes.fault before (inl (calm, faults))) done.disk_left done.rows front;
       snapshot = λ finished grown.
           let new : HasNewRows done.last = omega (arith, grown, ap length done.rows, done.goes.opened, count, done.held) in
-          let counts = counts_end (g.faults (disk_of store)) (g.faults (disk_of done.last)) done.stop done.goes.cause in
-          let same = subst (λ (s : Stop). CountsEnd (g.faults (disk_of store)) (g.faults (disk_of done.last)) s) finished counts in
-          let none = none_hangs g store done.last same (done.goes.fault (disk_of store) (inl (calm, refl))) in
+          let none : ¬ Hangs done.last = λ hung. calm (done.goes.calm (subst IsUnfailing (sym finished) tt) hung) in
           let holds = done.goes.snapshot (ap (λ (s : Stop). Err s) finished) new none in
           subst (λ (d : _). HoldsSnapshotOf g ended.rows d) (sym done.disk_left)
           (subst (λ (es : List Entry). HoldsSnapshotOf g es (disk_of done.last)) (sym done.rows) holds);

@@ -58,8 +58,9 @@ IsUnfailing NoMemory = ⊥
 IsUnfailing _ = ⊤
 
 -- What a step of a run makes of the store: its book goes on, a crash leaves what it may, and the
--- disk failed only where that is answered. Where nothing failed and the store has no new rows, the
--- disk wasn't touched; and a run that is finished leaves a snapshot of the new rows.
+-- disk failed only where that is answered. Where nothing failed, nothing hangs that didn't before,
+-- and without new rows the disk wasn't touched; and a run that is finished leaves a snapshot of the
+-- new rows.
 pub record Goes {D T : Type 0} (disk : disk.Ghosts D) (result : Result T Stop)
     (old new : Store D) : Type 0 where
   pub sound : IsSound disk new
@@ -71,6 +72,7 @@ pub record Goes {D T : Type 0} (disk : disk.Ghosts D) (result : Result T Stop)
       → HasKept disk held start new
   pub fault : (start : D) → HangsAtFault disk start old → HangsAtFault disk start new
   pub cause : CountsStop (disk.faults (disk_of old)) (disk.faults (disk_of new)) result
+  pub calm : IfErr result IsUnfailing → Hangs new → Hangs old
   pub still : IfErr result IsUnfailing → opened_of old ≤ length (entries_of old) → ¬ HasNewRows new
       → disk_of new ≡ disk_of old
   pub snapshot : result ≡ Err Finished → LeavesSnapshot disk new

@@ -30,10 +30,6 @@ pub record BookState : Type 0 where
   pub limit : ℕ
   pub entries : List Entry
 
--- a book as it was opened
-abbrev pub opened_book : ℕ → List Entry → BookState
-opened_book limit held = record { limit = limit; entries = held }
-
 -- the number that the entries of a script bear
 abbrev pub script_caller : ℕ
 script_caller = 0

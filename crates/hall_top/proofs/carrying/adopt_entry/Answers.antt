@@ -6,7 +6,7 @@ use Rattle.hall_top.specs.declared.stop.Stop.TheVariants.{BadLine, DiskFault, No
 use Rattle.hall_top.specs.Kept.{CountsStop, Goes}
 use Rattle.hall_top.specs.Streams.{output_at}
 use Rattle.hall_top.specs.Migration.{StopsAtEntry}
-use Rattle.hall_top.proofs.Keeping.{goes_adopted, goes_at_fault, goes_without_memory}
+use Rattle.hall_top.proofs.Keeping.{goes_adopted, goes_at_fault, goes_without_memory, on_unfinished}
 use Rattle.hall_top.proofs.SlotSteps.{stops_new}
 use Rattle.hall_top.proofs.Stopping.{says_fault, says_want}
 use Rattle.hall_top.proofs.carrying.adopt_entry.Goals as goal
@@ -15,7 +15,7 @@ pub returns-in-Ok-clause-goes : goal.returns-in-Ok-clause-goes
 returns-in-Ok-clause-goes g c =
     let a = c.adopt.ensures in
     let cause : g.D.Disk.faults (disk_of c.adopt.new.self) ≡ g.D.Disk.faults (disk_of c.args.store.now) = search rules in
-    goes_adopted g.D.Disk c.args.store.now c.adopt.new.self c.args.entry.now c.adopt.result (Ok tt) a.entries a.adopts a.offers a.unlawful a.settled a.images a.hangs a.cause a.sound a.legal a.limit a.opened cause (λ quiet. rw c.in-Ok.is tt) (λ is. absurd (cc))
+    goes_adopted g.D.Disk c.args.store.now c.adopt.new.self c.args.entry.now c.adopt.result (Ok tt) a.entries a.adopts a.offers a.unlawful a.settled a.images a.hangs a.cause a.sound a.legal a.limit a.opened cause (λ quiet. rw c.in-Ok.is tt) (on_unfinished tt)
 
 pub returns-in-Err-Unlawful-clause-stops : goal.returns-in-Err-Unlawful-clause-stops
 returns-in-Err-Unlawful-clause-stops g c =
@@ -28,7 +28,7 @@ returns-in-Err-Unlawful-clause-goes g c =
     let a = c.adopt.ensures in
     let cause : g.D.Disk.faults (disk_of c.adopt.new.self) ≡ g.D.Disk.faults (disk_of c.args.store.now) = search rules in
     subst (λ s. Goes {T = ⊤} g.D.Disk (Err s) c.args.store.now c.adopt.new.self) (sym c.say_bad_row.ensures.stops)
-    (goes_adopted g.D.Disk c.args.store.now c.adopt.new.self c.args.entry.now c.adopt.result (Err BadLine) a.entries a.adopts a.offers a.unlawful a.settled a.images a.hangs a.cause a.sound a.legal a.limit a.opened cause (λ quiet. rw c.in-Err-Unlawful.is tt) (λ is. absurd (cc)))
+    (goes_adopted g.D.Disk c.args.store.now c.adopt.new.self c.args.entry.now c.adopt.result (Err BadLine) a.entries a.adopts a.offers a.unlawful a.settled a.images a.hangs a.cause a.sound a.legal a.limit a.opened cause (λ quiet. rw (c.in-Err-Unlawful.is, c.in-Err-Unlawful.field-0-is) tt) (λ is. absurd (cc)))
 
 pub returns-in-Err-DiskFault-clause-goes : goal.returns-in-Err-DiskFault-clause-goes
 returns-in-Err-DiskFault-clause-goes g c =

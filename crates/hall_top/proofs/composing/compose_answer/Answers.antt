@@ -6,7 +6,7 @@ use Rattle.hall_top.specs.Books.{stored_book}
 use Rattle.hall_top.specs.Kept.{CountsStop}
 use Rattle.hall_top.specs.Transcript.{script_caller, ask_at}
 use Rattle.hall_top.proofs.Acknowledged.{refused_adds, book_refused}
-use Rattle.hall_top.proofs.Keeping.{goes_asked}
+use Rattle.hall_top.proofs.Keeping.{goes_asked, on_unfinished}
 use Rattle.hall_top.proofs.composing.compose_answer.Goals as goal
 
 pub returns-in-Ok-clause-goes : goal.returns-in-Ok-clause-goes
@@ -14,7 +14,7 @@ returns-in-Ok-clause-goes g c =
     let store = c.args.store.now in
     let asked = c.ask.ensures in
     let cause : g.D.Disk.faults (disk_of c.ask.new.self) ≡ g.D.Disk.faults (disk_of store) = search rules in
-    goes_asked g.D.Disk store c.ask.new.self c.ask.result (Ok tt) (added (limit_of store) (entries_of store) script_caller c.ask_at-ask.result) asked.entries asked.offers asked.settled asked.images asked.hangs asked.cause asked.sound asked.legal asked.limit asked.opened cause (λ quiet. rw c.in-Ok.is tt) (λ is. absurd (cc))
+    goes_asked g.D.Disk store c.ask.new.self c.ask.result (Ok tt) (added (limit_of store) (entries_of store) script_caller c.ask_at-ask.result) asked.entries asked.offers asked.settled asked.images asked.hangs asked.cause asked.sound asked.legal asked.limit asked.opened cause (λ quiet. rw c.in-Ok.is tt) (on_unfinished tt)
 
 pub returns-in-Err-Refused-clause-after : goal.returns-in-Err-Refused-clause-after
 returns-in-Err-Refused-clause-after g c =
@@ -33,7 +33,7 @@ returns-in-Err-Refused-clause-goes g c =
     let ask : c.ask_at-ask.result ≡ ask_at (entries_of store) c.args.command.now = search rules in
     let refused : Err c.in-Err-Refused.refused ≡ answer (limit_of store) (entries_of store) c.ask_at-ask.result = search rules in
     let none = refused_adds (stored_book store) c.args.command.now c.ask_at-ask.result c.in-Err-Refused.refused ask refused in
-    goes_asked g.D.Disk store c.ask.new.self c.ask.result (Ok tt) (added (limit_of store) (entries_of store) script_caller c.ask_at-ask.result) asked.entries asked.offers asked.settled asked.images asked.hangs asked.cause asked.sound asked.legal asked.limit asked.opened cause (λ quiet. rw c.in-Err-Refused.is none) (λ is. absurd (cc))
+    goes_asked g.D.Disk store c.ask.new.self c.ask.result (Ok tt) (added (limit_of store) (entries_of store) script_caller c.ask_at-ask.result) asked.entries asked.offers asked.settled asked.images asked.hangs asked.cause asked.sound asked.legal asked.limit asked.opened cause (λ quiet. rw (c.in-Err-Refused.is, c.in-Err-Refused.field-0-is) none) (on_unfinished tt)
 
 pub returns-in-Err-DiskFault-clause-goes : goal.returns-in-Err-DiskFault-clause-goes
 returns-in-Err-DiskFault-clause-goes g c =

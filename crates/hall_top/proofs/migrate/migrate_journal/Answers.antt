@@ -1,5 +1,6 @@
-use Rattle.std.proofs.Common.{Err, arith}
+use Rattle.std.proofs.Common.{Err, refl, arith}
 use Rattle.std.specs.Bool.{⊤}
+use Rattle.hall_top.proofs.Keeping.{stop_unfinished}
 use Rattle.hall_top.proofs.Going.{stays, unbegun_counts, unbegun_unfinished}
 use Rattle.hall_top.proofs.Migrating.{nothing_counted}
 use Rattle.hall_top.proofs.migrate.migrate_journal.Goals as goal
@@ -7,7 +8,7 @@ use Rattle.hall_top.proofs.migrate.migrate_journal.Goals as goal
 pub returns-in_default-clause-goes : goal.returns-in_default-clause-goes
 returns-in_default-clause-goes g c =
     stays g.D.Disk (Err c.say_no_memory.result) c.args.store c.requires.sound c.requires.legal (unbegun_counts ⊤ _ _ _ c.say_no_memory.result c.say_no_memory.ensures)
-    (λ finished. absurd (unbegun_unfinished ⊤ _ _ c.say_no_memory.result c.say_no_memory.ensures finished))
+    (λ finished. absurd (stop_unfinished {T = ⊤} c.say_no_memory.result (Err c.say_no_memory.result) (unbegun_unfinished _ _ c.say_no_memory.result c.say_no_memory.ensures) refl finished))
 
 pub read_all-stop-requires-clause-ready : goal.read_all-stop-requires-clause-ready
 read_all-stop-requires-clause-ready g c =

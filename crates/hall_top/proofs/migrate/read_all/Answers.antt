@@ -3,6 +3,7 @@ use Rattle.hall_top.specs.Books.{stored_book}
 use Rattle.hall_top.specs.Streams.{devices}
 use Rattle.hall_top.specs.Migration.{migration_state}
 use Rattle.hall_top.specs.declared.stop.Stop.TheVariants.{Spent}
+use Rattle.hall_top.proofs.Keeping.{on_unfinished}
 use Rattle.hall_top.proofs.Going.{goes_on, goes_as, goes_with, stays}
 use Rattle.hall_top.proofs.Migrating.{migration_begins, carried_reads_more, migration_spent}
 use Rattle.hall_top.proofs.migrate.read_all.Goals as goal
@@ -15,7 +16,7 @@ loop-turn-init g c = record {
     most = omega arith;
     stands = migration_begins (stored_book c.args.migration.now.store) (devices g.S.Source g.K.Sink c.args.input.now c.args.output.now) (migration_state c.args.migration.now) c.requires.begun refl;
   };
-  goes = stays g.D.Disk (Ok tt) c.args.migration.now.store c.requires.ready.sound c.requires.ready.legal refl (λ is. absurd (cc));
+  goes = stays g.D.Disk (Ok tt) c.args.migration.now.store c.requires.ready.sound c.requires.ready.legal refl (λ is. absurd (on_unfinished tt is));
   ready = c.requires.ready;
   unended = c.requires.unended;
   room = refl;

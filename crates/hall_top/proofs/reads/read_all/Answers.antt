@@ -3,6 +3,7 @@ use Rattle.hall_top.specs.Books.{book_in, store_in}
 use Rattle.hall_top.specs.Streams.{devices}
 use Rattle.hall_top.specs.Runs.{run_state}
 use Rattle.hall_top.specs.declared.stop.Stop.TheVariants.{Spent}
+use Rattle.hall_top.proofs.Keeping.{on_unfinished}
 use Rattle.hall_top.proofs.Going.{goes_on, goes_as, goes_with, stays}
 use Rattle.hall_top.proofs.Explaining.{begins, lines_few, has_taken_more, explained_spent}
 use Rattle.hall_top.proofs.reads.read_all.Goals as goal
@@ -10,7 +11,7 @@ use Rattle.hall_top.proofs.reads.read_all.Goals as goal
 pub loop-turn-init : goal.loop-turn-init
 loop-turn-init g c = record {
   taken = record { taken = []; least = omega arith; most = omega arith; stands = begins (devices g.S.Source g.K.Sink c.args.input.now c.args.output.now) (run_state c.args.run.now) c.requires.begun c.requires.opened };
-  goes = stays g.D.Disk (Ok tt) (store_in c.args.run.now.session) c.requires.ready.sound c.requires.ready.legal refl (λ is. absurd (cc));
+  goes = stays g.D.Disk (Ok tt) (store_in c.args.run.now.session) c.requires.ready.sound c.requires.ready.legal refl (λ is. absurd (on_unfinished tt is));
   ready = c.requires.ready;
   unended = c.requires.unended;
   room = refl;

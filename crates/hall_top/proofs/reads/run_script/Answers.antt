@@ -6,6 +6,7 @@ use Rattle.hall_top.specs.Streams.{devices}
 use Rattle.hall_top.specs.Run.{Explains}
 use Rattle.hall_top.specs.Kept.{GoesTo}
 use Rattle.hall_top.specs.Books.{stored_book}
+use Rattle.hall_top.proofs.Keeping.{stop_unfinished}
 use Rattle.hall_top.proofs.Going.{stays_same, unbegun_counts, unbegun_unfinished}
 use Rattle.hall_top.proofs.Explaining.{call_from, explained_unbegun}
 use Rattle.hall_top.proofs.reads.run_script.Goals as goal
@@ -30,4 +31,4 @@ returns-in-Err-clause-explained g c =
 
 pub returns-in-Err-clause-goes : goal.returns-in-Err-clause-goes
 returns-in-Err-clause-goes g c =
-    stays_same g.D.Disk (Err c.say_no_memory.result) c.args.store c.in-Err.store c.in-Err.ensures.back c.requires.sound c.requires.legal (unbegun_counts ⊤ _ _ _ c.say_no_memory.result c.say_no_memory.ensures) (unbegun_unfinished ⊤ _ _ c.say_no_memory.result c.say_no_memory.ensures)
+    stays_same g.D.Disk (Err c.say_no_memory.result) c.args.store c.in-Err.store c.in-Err.ensures.back c.requires.sound c.requires.legal (unbegun_counts ⊤ _ _ _ c.say_no_memory.result c.say_no_memory.ensures) (stop_unfinished c.say_no_memory.result _ (unbegun_unfinished _ _ c.say_no_memory.result c.say_no_memory.ensures) refl)

@@ -4,7 +4,7 @@ use Rattle.hall_top.specs.declared.stop.Stop.TheVariants.{DiskFault, NoMemory}
 use Rattle.hall_top.specs.Kept.{CountsStop}
 use Rattle.hall_top.specs.Snapshots.{HasNewRows}
 use Rattle.hall_top.specs.Streams.{output_at}
-use Rattle.hall_top.proofs.Keeping.{goes_rested, goes_at_fault, goes_without_memory, leaves_snapshot}
+use Rattle.hall_top.proofs.Keeping.{goes_rested, goes_at_fault, goes_without_memory, leaves_snapshot, on_unfinished}
 use Rattle.hall_top.proofs.writing.keep_snapshot.Goals as goal
 
 pub returns-in-Ok-clause-goes : goal.returns-in-Ok-clause-goes
@@ -12,7 +12,7 @@ returns-in-Ok-clause-goes g c =
     let r = c.rest.ensures in
     let cause : g.D.Disk.faults (disk_of c.rest.new.self) ≡ g.D.Disk.faults (disk_of c.args.store.now) = search rules in
     let grown : HasNewRows c.args.store.now = search rules in
-    goes_rested g.D.Disk c.args.store.now c.rest.new.self c.rest.result (Ok tt) r.book r.opened grown r.keeps r.images r.hangs.0 r.cause r.sound c.requires.legal cause (λ is. absurd (cc))
+    goes_rested g.D.Disk c.args.store.now c.rest.new.self c.rest.result (Ok tt) r.book r.opened grown r.keeps r.images r.hangs.0 r.cause r.sound c.requires.legal cause (on_unfinished tt)
 
 pub returns-in-Err-DiskFault-clause-goes : goal.returns-in-Err-DiskFault-clause-goes
 returns-in-Err-DiskFault-clause-goes g c =

@@ -4,6 +4,7 @@ use Rattle.std.proofs.lemmas.List.{take-append-drop}
 use Rattle.book_store.specs.Stores.{entries_of}
 use Rattle.hall_top.specs.Streams.{output_at}
 use Rattle.hall_top.specs.Migration.{migration_state, StopsCarrying}
+use Rattle.hall_top.proofs.Keeping.{on_unfinished}
 use Rattle.hall_top.proofs.Going.{goes_on, goes_as, goes_with, stays}
 use Rattle.hall_top.proofs.SlotSteps.{stops_behind_step, carries_nothing, over_more}
 use Rattle.hall_top.proofs.carrying.Migration.take_piece.Goals as goal
@@ -12,7 +13,7 @@ pub loop-rest-init : goal.loop-rest-init
 loop-rest-init g c = record {
   over = record { first = []; parts = refl; on = carries_nothing (migration_state c.args.self.now) };
   quiet = refl;
-  goes = stays g.D.Disk (Ok tt) c.args.self.now.store c.requires.ready.sound c.requires.ready.legal refl (λ is. absurd (cc));
+  goes = stays g.D.Disk (Ok tt) c.args.self.now.store c.requires.ready.sound c.requires.ready.legal refl (λ is. absurd (on_unfinished tt is));
   ready = c.requires.ready;
 }
 
@@ -42,6 +43,6 @@ loop-rest-preserved g c =
     record {
       over = over_more (migration_state c.args.self.now) (migration_state c.loop-rest.self) (migration_state c.take_slot.new.self) c.args.piece.now rest (take count rest) c.split_at.result.1.now c.loop-rest.invariant.over parts c.in_ok-count.ensures.on;
       quiet = c.in_ok-count.ensures.quiet ∙ c.loop-rest.invariant.quiet;
-      goes = goes_with g.D.Disk (Ok count) (Ok tt) c.args.self.now.store c.take_slot.new.self.store goes goes.cause (λ quiet. tt) (λ is. absurd (cc));
+      goes = goes_with g.D.Disk (Ok count) (Ok tt) c.args.self.now.store c.take_slot.new.self.store goes goes.cause (λ quiet. tt) (λ is. absurd (on_unfinished tt is));
       ready = c.in_ok-count.ensures.ready;
     }

@@ -9,6 +9,7 @@ use Rattle.hall_top.specs.Books.{book_in, store_in}
 use Rattle.hall_top.specs.Streams.{output_at}
 use Rattle.hall_top.specs.Run.{StopsAtLine}
 use Rattle.hall_top.proofs.ScriptLines.{line_too_long, line_too_long_last}
+use Rattle.hall_top.proofs.Keeping.{on_unfinished, stop_unfinished}
 use Rattle.hall_top.proofs.Going.{stays, stays_same, bad_counts, bad_unfinished}
 use Rattle.hall_top.proofs.Stepping.{reached_part, stops_anyway}
 use Rattle.hall_top.specs.Runs.{run_state}
@@ -34,9 +35,9 @@ returns-in-Err-clause-steps g c =
     }
 
 pub returns-in-Ok-clause-goes : goal.returns-in-Ok-clause-goes
-returns-in-Ok-clause-goes g c = stays g.D.Disk (Ok tt) (store_in c.args.self.now.session) c.requires.ready.sound c.requires.ready.legal refl (λ is. absurd (cc))
+returns-in-Ok-clause-goes g c = stays g.D.Disk (Ok tt) (store_in c.args.self.now.session) c.requires.ready.sound c.requires.ready.legal refl (λ is. absurd (on_unfinished tt is))
 
 pub returns-in-Err-clause-goes : goal.returns-in-Err-clause-goes
 returns-in-Err-clause-goes g c =
     stays_same g.D.Disk (Err c.report_bad_line.result) (store_in c.args.self.now.session) _ c.report_bad_line.ensures.store c.requires.ready.sound c.requires.ready.legal
-    (bad_counts ⊤ _ _ _ _ _ _ _ c.report_bad_line.result c.report_bad_line.ensures.stops) (bad_unfinished ⊤ _ _ _ _ _ _ c.report_bad_line.result c.report_bad_line.ensures.stops)
+    (bad_counts ⊤ _ _ _ _ _ _ _ c.report_bad_line.result c.report_bad_line.ensures.stops) (stop_unfinished c.report_bad_line.result _ (bad_unfinished _ _ _ _ _ _ c.report_bad_line.result c.report_bad_line.ensures.stops) refl)
