@@ -78,7 +78,8 @@ pub fn plan(n: u32, mode: Mode) -> Result<Plan, PlanRefusal>
 
     // When there is none.
     ensures empty { (result ≡ Err PlanRefusal.Empty) ↔ (n ≡ 0) }
-    ensures small { (result ≡ Err (PlanRefusal.Small n)) ↔ ((mode ≡ Mode.Destroy) × (0 < n) × (n ≤ 99)) }
+    ensures small { (result ≡ Err (PlanRefusal.Small n))
+        ↔ ((mode ≡ Mode.Destroy) × (0 < n) × (n ≤ 99)) }
 
     // What a draw and the mean check ask for.
     ensures drawable { IfOk result (λ plan. plan.first + plan.second ≤ n) }

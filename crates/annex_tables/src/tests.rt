@@ -41,3 +41,10 @@ fn errors_and_limits_of_the_table(rt: HostRuntime) -> Result<(), Fail> {
     }
     Ok(())
 }
+
+#[test]
+fn a_range_in_words(rt: HostRuntime) -> Result<(), Fail> {
+    let text = NominalRange.to_string(rt.alloc())?;
+    assert_eq!(rt; text.as_str(), "the nominal quantity isn't 5 g to 10 kg");
+    Ok(())
+}

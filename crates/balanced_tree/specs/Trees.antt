@@ -22,11 +22,14 @@ count_of (Fork' height count p left item right) = count
 abbrev pub DifferByAtMost : ℕ → ℕ → ℕ → Type 0
 DifferByAtMost by l r = (l ≤ r + by) × (r ≤ l + by)
 
--- the stated height and number are right at every node, and the heights of its two sides differ by at most one
+-- the stated height and number are right at every node, and the heights of its two sides differ by
+-- at most one
 abbrev pub IsBalanced : {T : Type 0} → Tree T → Type 0
 IsBalanced Leaf = Unit {0}
 IsBalanced (Fork' height count p left item right) =
-    IsBalanced left × IsBalanced right × (count ≡ length (items left) + 1 + length (items right)) × (height ≡ max (height_of left) (height_of right) + 1)
+    IsBalanced left × IsBalanced right
+    × (count ≡ length (items left) + 1 + length (items right))
+    × (height ≡ max (height_of left) (height_of right) + 1)
     × DifferByAtMost 1 (height_of left) (height_of right)
 
 -- the two sides of a tree are balanced, and their heights differ by at most two
@@ -41,19 +44,24 @@ higher_side Leaf = 0
 higher_side (Fork' height count p left item right) = max (height_of left) (height_of right)
 
 -- an item is the root of a balanced tree, between the trees on its two sides
-pub record IsRootBetween {T : Type 0} (left : Tree T) (item : T) (right tree : Tree T) : Type 0 where
+pub record IsRootBetween {T : Type 0} (left : Tree T) (item : T) (right tree : Tree T)
+    : Type 0 where
   pub items : items tree ≡ items left ++ item ∷ items right
   pub balanced_left : IsBalanced left
   pub balanced_right : IsBalanced right
   pub height : height_of tree ≡ max (height_of left) (height_of right) + 1
   pub differ : DifferByAtMost 1 (height_of left) (height_of right)
 
--- the height that a node between two balanced trees settles to, where their heights differ by at most two: that of the higher one or one more, and exactly one more where they differ by at most one
+-- the height that a node between two balanced trees settles to, where their heights differ by at
+-- most two: that of the higher one or one more, and exactly one more where they differ by at most
+-- one
 abbrev pub IsHeightAfterRebalance : ℕ → ℕ → ℕ → Type 0
 IsHeightAfterRebalance left right height =
-    (max left right ≤ height) × (height ≤ max left right + 1) × (DifferByAtMost 1 left right → height ≡ max left right + 1)
+    (max left right ≤ height) × (height ≤ max left right + 1)
+    × (DifferByAtMost 1 left right → height ≡ max left right + 1)
 
--- the fewest items of a balanced tree of a height, beside those of the next height: the sides of the smallest such tree are the two smallest before it
+-- the fewest items of a balanced tree of a height, beside those of the next height: the sides of
+-- the smallest such tree are the two smallest before it
 abbrev pub next_fewest : ℕ × ℕ → ℕ × ℕ
 next_fewest fewest = (fewest.1, fewest.0 + 1 + fewest.1)
 

@@ -4,7 +4,7 @@ ghost use Rattle.balanced_tree.specs.Trees.{items, height_of, IsBalanced, IsSide
 use crate::tree::{Node, Tree};
 use std::mem;
 
-// The root of a tree, and the trees on its two sides.
+/// The root of a tree, and the trees on its two sides.
 #[derive(Drop)]
 pub struct Sides<T> {
     pub left: Tree<T>,
@@ -12,10 +12,11 @@ pub struct Sides<T> {
     pub right: Tree<T>,
 }
 
-// Takes the root off a tree, unless the tree is empty.
+/// Takes the root off a tree, unless the tree is empty.
 pub fn open_root<T: Drop>(tree: Tree<T>) -> Option<Sides<T>>
     requires balanced { IsBalanced tree }
-    ensures some { IfSome result (λ sides. IsRootBetween sides.left sides.root.value.item sides.right tree) }
+    ensures some { IfSome result (λ sides.
+        IsRootBetween sides.left sides.root.value.item sides.right tree) }
     ensures empty { IfNone result (items tree ≡ []) }
     ensures flat { IfNone result (height_of tree ≡ 0) }
 {
@@ -28,7 +29,7 @@ pub fn open_root<T: Drop>(tree: Tree<T>) -> Option<Sides<T>>
     Some(Sides { left, root, right })
 }
 
-// The node on top of two trees whose heights differ by at most one.
+/// The node on top of two trees whose heights differ by at most one.
 #[tactic(auto, using(crate::proofs::Heights::lower_than_47, crate::proofs::Heights::count_is))]
 pub fn fork<T: Drop>(mut root: Box<Node<T>>, left: Tree<T>, right: Tree<T>) -> Tree<T>
     requires balanced_left { IsBalanced left }
@@ -105,7 +106,7 @@ fn lean_right<T: Drop>(root: Box<Node<T>>, left: Tree<T>, right: Tree<T>) -> Tre
     )
 }
 
-// The node between two trees whose heights differ by at most two.
+/// The node between two trees whose heights differ by at most two.
 #[tactic(auto, using(crate::proofs::Heights::lower_than_47))]
 pub fn rebalance<T: Drop>(root: Box<Node<T>>, left: Tree<T>, right: Tree<T>) -> Tree<T>
     requires balanced_left { IsBalanced left }

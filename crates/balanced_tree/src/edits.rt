@@ -4,7 +4,8 @@ ghost use Rattle.balanced_tree.specs.Trees.{items, height_of, IsBalanced};
 use crate::balance::{Sides, fork, open_root, rebalance, rotate};
 use crate::tree::{Node, Tree};
 
-/// Puts the item of a node at a place of the list, counted from 0; the items from there on move one place on.
+/// Puts the item of a node at a place of the list, counted from 0; the items from there on move one
+/// place on.
 pub fn insert<T: Drop>(tree: Tree<T>, place: u32, node: Box<Node<T>>) -> Tree<T>
     requires balanced { IsBalanced tree }
     requires within { place ≤ length (items tree) }
@@ -55,8 +56,8 @@ fn put<T: Drop>(tree: &mut Tree<T>, place: u32, node: Box<Node<T>>)
     rotate(tree);
 }
 
-/// Takes the item at a place of the list out, counted from 0: the rest, and the node that holds the item. The items
-/// behind it move one place back.
+/// Takes the item at a place of the list out, counted from 0: the rest, and the node that holds the
+/// item. The items after it move one place back.
 #[tactic(auto, using(crate::proofs::Places::placing))]
 pub fn remove<T: Drop>(tree: Tree<T>, place: u32) -> (Tree<T>, Box<Node<T>>)
     requires balanced { IsBalanced tree }

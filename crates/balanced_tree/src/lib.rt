@@ -1,5 +1,6 @@
-//! A list that is kept in a balanced tree: it takes an item at any place, and gives one back, in the logarithm of its
-//! length. It takes no memory of its own: who inserts hands in a node, and who removes gets one back.
+//! A list that is kept in a balanced tree: it takes an item at any place, and gives one back, in
+//! the logarithm of its length. It takes no memory of its own: who inserts hands in a node, and who
+//! removes gets one back.
 #![tactic(auto)]
 
 mod balance;

@@ -1,7 +1,8 @@
 ghost use Rattle.std.specs.Prelude.{◌≡◌, [], IfSome, IfNone, slice_get};
 ghost use Rattle.balanced_tree.specs.Trees.{items, height_of, count_of, IsBalanced, IsRootBetween};
 
-/// A list of items in order, as a tree of nodes. With each node stand its height and the number of its items.
+/// A list of items in order, as a tree of nodes. With each node stand its height and the number of
+/// its items.
 #[cycle(tree)]
 #[derive(Drop)]
 pub enum Tree<T> {
@@ -18,7 +19,7 @@ pub enum Tree<T> {
     },
 }
 
-/// One item, and what stands before and behind it.
+/// One item, and what stands before and after it.
 #[cycle(tree)]
 #[derive(Drop)]
 pub struct Node<T> {
@@ -26,7 +27,7 @@ pub struct Node<T> {
     pub left: Tree<T>,
     /// The item.
     pub item: T,
-    /// The items behind.
+    /// The items after it.
     pub right: Tree<T>,
 }
 
@@ -47,7 +48,8 @@ impl<T> Tree<T> {
     /// The topmost node, unless there is no item.
     pub fn root(&self) -> Option<&Node<T>>
         requires balanced { IsBalanced self.now }
-        ensures some { IfSome result (λ root. IsRootBetween root.now.left root.now.item root.now.right self.now) }
+        ensures some { IfSome result (λ root.
+            IsRootBetween root.now.left root.now.item root.now.right self.now) }
         ensures empty { IfNone result (items self.now ≡ []) }
     {
         match self {
@@ -78,7 +80,7 @@ impl<T> Tree<T> {
 }
 
 impl<T: Copy> Tree<T> {
-    /// The item at a place of the list, counted from 0; `None` exactly behind the last.
+    /// The item at a place of the list, counted from 0; `None` exactly past the last.
     #[tactic(auto, using(crate::proofs::Places::placing))]
     pub fn get(&self, place: u32) -> Option<T>
         requires balanced { IsBalanced self.now }

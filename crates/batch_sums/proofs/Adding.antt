@@ -11,8 +11,8 @@ use Rattle.pack_judge.specs.declared.types.Pile.TheVariants.{Passed, Rejected, S
 use Rattle.batch_sums.specs.declared.types.Held.{Held}
 use Rattle.batch_sums.specs.Totals.{same_pile, is_counted, net_of, of_batch, in_pile, population, gross_sum, net_sum}
 use Rattle.batch_sums.specs.declared.types.Pack.{Pack}
-use Rattle.batch_sums.specs.Groups.{Face, face_at, threshold}
-use Rattle.batch_sums.specs.Kept.{seen, belongs, count_in, gross_in, tare_in, below_in}
+use Rattle.batch_sums.specs.Groups.{Face, at_least_0, nth_face, threshold}
+use Rattle.batch_sums.specs.Kept.{seen, belongs, added_count, added_gross, added_tare, added_below}
 
 pub sum_by-agree : {X : Type 0} (f g : X → ℕ) (xs : List X) → All (λ x. f x ≡ g x) xs → sum_by f xs ≡ sum_by g xs
 sum_by-agree f g [] all = refl
@@ -35,7 +35,8 @@ sum_by-map f v [] = refl
 sum_by-map f v (x ∷ xs) = sum_by-cons f (v x) (map v xs) ∙ omega (arith, sum_by-map f v xs) ∙ sym (sum_by-cons (λ y. f (v y)) x xs)
 
 module _ (test : Pack → Bool) (pack : Pack) (packs : List Pack) where
-  -- one more pack that may pass two tests: in a length, in a sum of grosses, in a sum of nets, in a count
+  -- one more pack that may pass two tests: in a length, in a sum of grosses, in a sum of nets, in a
+  -- count
   pub length_more : (b : Bool) (count : ℕ) → length (filter test packs) ≡ count → length (filter test (cond b (pack ∷ packs) packs)) ≡ cond (b && test pack) 1 0 + count
   length_more true count is =
       elim (test pack) as (λ c. length (cond c (pack ∷ filter test packs) (filter test packs)) ≡ cond c 1 0 + count) [ true ↦ omega arith | false ↦ omega arith ]
@@ -64,25 +65,25 @@ count_more test other pack packs false low count is rest = omega (arith, rest)
 
 -- a net is below a limit where the gross is below the least one that the limit lets stand
 pub at_threshold : (limit : ℤ) (gross tare : ℕ) → pos gross ≤ℤ MAX_GROSS → pos tare ≤ℤ MAX_TARE → ltb gross (threshold limit tare) ≡ int_lt (pos gross -ℤ pos tare) limit
-at_threshold (pos limit) gross tare light tared = by (ltb 30000000 limit) refl
+at_threshold (pos limit) gross tare light tared = by (ltb (at_least_0 MAX_GROSS) limit) refl
   where
-    by : (high : Bool) → ltb 30000000 limit ≡ high → ltb gross (cond high 30000001 (limit + tare)) ≡ int_lt (pos gross -ℤ pos tare) (pos limit)
+    by : (high : Bool) → ltb (at_least_0 MAX_GROSS) limit ≡ high → ltb gross (cond high (at_least_0 MAX_GROSS + 1) (limit + tare)) ≡ int_lt (pos gross -ℤ pos tare) (pos limit)
     by true is = grind (arith, ints)
     by false is = grind (arith, ints)
 at_threshold (negsuc limit) gross tare light tared = grind (arith, ints)
 
 module _ (some : List Face) (number : ℕ) where
-  pub length_in_pile : (pile : Pile) (held : List Held) → length (in_pile pile (of_batch number (map (seen some) held))) ≡ sum_by (count_in some number pile) held
+  pub length_in_pile : (pile : Pile) (held : List Held) → length (in_pile pile (of_batch number (map (seen some) held))) ≡ sum_by (added_count some number pile) held
   length_in_pile pile [] = refl
   length_in_pile pile (h ∷ held) =
       length_more (λ pack. same_pile pack.pile pile) (seen some h) (of_batch number (map (seen some) held)) (belongs some number h) _ (length_in_pile pile held)
-      ∙ sym (sum_by-cons (count_in some number pile) h held)
+      ∙ sym (sum_by-cons (added_count some number pile) h held)
 
-  pub gross_in_pile : (pile : Pile) (held : List Held) → gross_sum (in_pile pile (of_batch number (map (seen some) held))) ≡ pos (sum_by (gross_in some number pile) held)
+  pub gross_in_pile : (pile : Pile) (held : List Held) → gross_sum (in_pile pile (of_batch number (map (seen some) held))) ≡ pos (sum_by (added_gross some number pile) held)
   gross_in_pile pile [] = refl
   gross_in_pile pile (h ∷ held) =
       gross_more (λ pack. same_pile pack.pile pile) (seen some h) (of_batch number (map (seen some) held)) (belongs some number h) h.gross _ refl (gross_in_pile pile held)
-      ∙ ap pos (sym (sum_by-cons (gross_in some number pile) h held))
+      ∙ ap pos (sym (sum_by-cons (added_gross some number pile) h held))
 
   -- what a pack of the population adds to its number and to its grosses
   abbrev counted_in : Held → ℕ
@@ -100,7 +101,7 @@ module _ (some : List Face) (number : ℕ) where
       length_more (λ pack. is_counted pack.pile) (seen some h) (of_batch number (map (seen some) held)) (belongs some number h) _ (length_members held)
       ∙ sym (sum_by-cons counted_in h held)
 
-  counted_is : (h : Held) → counted_in h ≡ count_in some number Passed h + count_in some number Sampled h
+  counted_is : (h : Held) → counted_in h ≡ added_count some number Passed h + added_count some number Sampled h
   counted_is h = by (belongs some number h) h.pile
     where
       by : (b : Bool) (pile : Pile) → cond (b && is_counted pile) 1 0 ≡ cond (b && same_pile pile Passed) 1 0 + cond (b && same_pile pile Sampled) 1 0
@@ -110,7 +111,7 @@ module _ (some : List Face) (number : ℕ) where
       by true Sampled = omega arith
       by true Voided = omega arith
 
-  weighed_is : (h : Held) → weighed_in h ≡ gross_in some number Passed h + gross_in some number Sampled h
+  weighed_is : (h : Held) → weighed_in h ≡ added_gross some number Passed h + added_gross some number Sampled h
   weighed_is h = by (belongs some number h) h.pile
     where
       by : (b : Bool) (pile : Pile) → cond (b && is_counted pile) h.gross 0 ≡ cond (b && same_pile pile Passed) h.gross 0 + cond (b && same_pile pile Sampled) h.gross 0
@@ -120,39 +121,39 @@ module _ (some : List Face) (number : ℕ) where
       by true Sampled = omega arith
       by true Voided = omega arith
 
-  pub length_population : (held : List Held) → length (members held) ≡ sum_by (count_in some number Passed) held + sum_by (count_in some number Sampled) held
+  pub length_population : (held : List Held) → length (members held) ≡ sum_by (added_count some number Passed) held + sum_by (added_count some number Sampled) held
   length_population held =
-      length_members held ∙ sum_by-same counted_in (λ h. count_in some number Passed h + count_in some number Sampled h) held counted_is
-      ∙ sum_by-plus (count_in some number Passed) (count_in some number Sampled) held
+      length_members held ∙ sum_by-same counted_in (λ h. added_count some number Passed h + added_count some number Sampled h) held counted_is
+      ∙ sum_by-plus (added_count some number Passed) (added_count some number Sampled) held
 
   counted_le : (h : Held) → counted_in h ≤ 1
   counted_le h = elim (belongs some number h && is_counted h.pile) as (λ b. cond b 1 0 ≤ 1) [ true ↦ omega arith | false ↦ omega arith ]
 
-  pub counted_sum : (held : List Held) → sum_by (count_in some number Passed) held + sum_by (count_in some number Sampled) held ≤ length held
+  pub counted_sum : (held : List Held) → sum_by (added_count some number Passed) held + sum_by (added_count some number Sampled) held ≤ length held
   counted_sum [] = omega arith
   counted_sum (h ∷ held) =
       let one = counted_is h in
       let most : counted_in h ≤ 1 = counted_le h in
-      omega (arith, counted_sum held, one, most, sum_by-cons (count_in some number Passed) h held, sum_by-cons (count_in some number Sampled) h held)
+      omega (arith, counted_sum held, one, most, sum_by-cons (added_count some number Passed) h held, sum_by-cons (added_count some number Sampled) h held)
 
-  net_members : (held : List Held) → net_sum (members held) ≡ pos (sum_by weighed_in held) -ℤ pos (sum_by (tare_in some number) held)
+  net_members : (held : List Held) → net_sum (members held) ≡ pos (sum_by weighed_in held) -ℤ pos (sum_by (added_tare some number) held)
   net_members [] = omega (arith, ints)
   net_members (h ∷ held) =
-      net_more (λ pack. is_counted pack.pile) (seen some h) (of_batch number (map (seen some) held)) (belongs some number h) h.gross (face_at some h.group).tare (sum_by weighed_in held) (sum_by (tare_in some number) held) refl refl (net_members held)
-      ∙ (λ i. pos (sym (sum_by-cons weighed_in h held) i) -ℤ pos (sym (sum_by-cons (tare_in some number) h held) i))
+      net_more (λ pack. is_counted pack.pile) (seen some h) (of_batch number (map (seen some) held)) (belongs some number h) h.gross (nth_face some h.group).tare (sum_by weighed_in held) (sum_by (added_tare some number) held) refl refl (net_members held)
+      ∙ (λ i. pos (sym (sum_by-cons weighed_in h held) i) -ℤ pos (sym (sum_by-cons (added_tare some number) h held) i))
 
-  pub net_population : (held : List Held) → net_sum (members held) ≡ pos (sum_by (gross_in some number Passed) held + sum_by (gross_in some number Sampled) held) -ℤ pos (sum_by (tare_in some number) held)
+  pub net_population : (held : List Held) → net_sum (members held) ≡ pos (sum_by (added_gross some number Passed) held + sum_by (added_gross some number Sampled) held) -ℤ pos (sum_by (added_tare some number) held)
   net_population held =
       net_members held
-      ∙ ap (λ n. pos n -ℤ pos (sum_by (tare_in some number) held))
-      (sum_by-same weighed_in (λ h. gross_in some number Passed h + gross_in some number Sampled h) held weighed_is ∙ sum_by-plus (gross_in some number Passed) (gross_in some number Sampled) held)
+      ∙ ap (λ n. pos n -ℤ pos (sum_by (added_tare some number) held))
+      (sum_by-same weighed_in (λ h. added_gross some number Passed h + added_gross some number Sampled h) held weighed_is ∙ sum_by-plus (added_gross some number Passed) (added_gross some number Sampled) held)
 
   -- a limit as a test of grosses: how many of the population have a net below it
-  pub below_population : (limit : ℤ) (held : List Held) → All (λ h. pos h.gross ≤ℤ MAX_GROSS) held → All (λ h. pos (face_at some h.group).tare ≤ℤ MAX_TARE) held
-      → count_by (λ pack. int_lt (net_of pack) limit) (members held) ≡ sum_by (below_in some number limit) held
+  pub below_population : (limit : ℤ) (held : List Held) → All (λ h. pos h.gross ≤ℤ MAX_GROSS) held → All (λ h. pos (nth_face some h.group).tare ≤ℤ MAX_TARE) held
+      → count_by (λ pack. int_lt (net_of pack) limit) (members held) ≡ sum_by (added_below some number limit) held
   below_population limit [] light tared = refl
   below_population limit (h ∷ held) light tared =
-      count_more (λ pack. is_counted pack.pile) (λ pack. int_lt (net_of pack) limit) (seen some h) (of_batch number (map (seen some) held)) (belongs some number h) (ltb h.gross (threshold limit (face_at some h.group).tare)) _
-      (sym (at_threshold limit h.gross (face_at some h.group).tare (All-head (λ g. pos g.gross ≤ℤ MAX_GROSS) h held light) (All-head (λ g. pos (face_at some g.group).tare ≤ℤ MAX_TARE) h held tared)))
-      (below_population limit held (All-tail (λ g. pos g.gross ≤ℤ MAX_GROSS) h held light) (All-tail (λ g. pos (face_at some g.group).tare ≤ℤ MAX_TARE) h held tared))
-      ∙ sym (sum_by-cons (below_in some number limit) h held)
+      count_more (λ pack. is_counted pack.pile) (λ pack. int_lt (net_of pack) limit) (seen some h) (of_batch number (map (seen some) held)) (belongs some number h) (ltb h.gross (threshold limit (nth_face some h.group).tare)) _
+      (sym (at_threshold limit h.gross (nth_face some h.group).tare (All-head (λ g. pos g.gross ≤ℤ MAX_GROSS) h held light) (All-head (λ g. pos (nth_face some g.group).tare ≤ℤ MAX_TARE) h held tared)))
+      (below_population limit held (All-tail (λ g. pos g.gross ≤ℤ MAX_GROSS) h held light) (All-tail (λ g. pos (nth_face some g.group).tare ≤ℤ MAX_TARE) h held tared))
+      ∙ sym (sum_by-cons (added_below some number limit) h held)

@@ -12,7 +12,7 @@ use Rattle.tare_register.specs.declared.types.Span.{Span}
 use Rattle.tare_register.specs.Tares.{covers}
 use Rattle.batch_sums.specs.declared.batch.Batch.{Batch}
 use Rattle.batch_sums.specs.declared.group.Group.{Group}
-use Rattle.batch_sums.specs.Groups.{Face, faces, face_at, rank_at}
+use Rattle.batch_sums.specs.Groups.{Face, faces, nth_face, nth_rank}
 use Rattle.batch_sums.specs.Kept.{Sound, IsIndex, seen, terms_of}
 use Rattle.batch_sums.specs.Changes.{is_concerned, concerned}
 use Rattle.batch_sums.specs.Asked.{chosen_batches, IsLeast}
@@ -27,21 +27,21 @@ flag chosen batch = unwrap_or (slice_get chosen batch) false
 
 -- the batches of some groups, without those that aren't chosen
 abbrev pub chosen_homes : List Bool → List Face → List ℕ → List ℕ
-chosen_homes chosen some places = filter (flag chosen) (map (λ place. (face_at some place).key.batch) places)
+chosen_homes chosen some places = filter (flag chosen) (map (λ place. (nth_face some place).key.batch) places)
 
 -- one group more
 module _ (chosen : List Bool) (some : List Face) (places : List ℕ) (place : ℕ) where
-  pub homes_chosen : flag chosen (face_at some place).key.batch ≡ true → chosen_homes chosen some (places ++ place ∷ []) ≡ chosen_homes chosen some places ++ (face_at some place).key.batch ∷ []
+  pub homes_chosen : flag chosen (nth_face some place).key.batch ≡ true → chosen_homes chosen some (places ++ place ∷ []) ≡ chosen_homes chosen some places ++ (nth_face some place).key.batch ∷ []
   homes_chosen is =
-      ap (filter (flag chosen)) (map-append (λ other. (face_at some other).key.batch) places (place ∷ []))
-      ∙ filter-append (flag chosen) (map (λ other. (face_at some other).key.batch) places) _
-      ∙ ap (λ b. chosen_homes chosen some places ++ cond b ((face_at some place).key.batch ∷ []) []) is
+      ap (filter (flag chosen)) (map-append (λ other. (nth_face some other).key.batch) places (place ∷ []))
+      ∙ filter-append (flag chosen) (map (λ other. (nth_face some other).key.batch) places) _
+      ∙ ap (λ b. chosen_homes chosen some places ++ cond b ((nth_face some place).key.batch ∷ []) []) is
 
-  pub homes_left : flag chosen (face_at some place).key.batch ≡ false → chosen_homes chosen some (places ++ place ∷ []) ≡ chosen_homes chosen some places
+  pub homes_left : flag chosen (nth_face some place).key.batch ≡ false → chosen_homes chosen some (places ++ place ∷ []) ≡ chosen_homes chosen some places
   homes_left is =
-      ap (filter (flag chosen)) (map-append (λ other. (face_at some other).key.batch) places (place ∷ []))
-      ∙ filter-append (flag chosen) (map (λ other. (face_at some other).key.batch) places) _
-      ∙ ap (λ b. chosen_homes chosen some places ++ cond b ((face_at some place).key.batch ∷ []) []) is
+      ap (filter (flag chosen)) (map-append (λ other. (nth_face some other).key.batch) places (place ∷ []))
+      ∙ filter-append (flag chosen) (map (λ other. (nth_face some other).key.batch) places) _
+      ∙ ap (λ b. chosen_homes chosen some places ++ cond b ((nth_face some place).key.batch ∷ []) []) is
       ∙ append-nil (chosen_homes chosen some places)
 
 -- the tests of a list that was filtered or mapped
@@ -96,12 +96,12 @@ any_found p (x ∷ xs) there =
 module _ (batches : List Batch) (groups : List Group) (held : List Held) (sound : Sound batches groups held)
     (used : (place : ℕ) → place < length groups → 0 < count_by (λ pack. eqb pack.group place) held)
     (order : List ℕ) (index : IsIndex (faces groups) order) (product from until first end : ℕ) (low : from < 4294967296) (high : until < 4294967296)
-    (first_is : first ≡ below (rank_at (faces groups)) ((product * 4294967296 + from) * 4294967296 + 0) order)
-    (end_is : end ≡ max first (below (rank_at (faces groups)) ((product * 4294967296 + until) * 4294967296 + 0) order))
+    (first_is : first ≡ below (nth_rank (faces groups)) ((product * 4294967296 + from) * 4294967296 + 0) order)
+    (end_is : end ≡ max first (below (nth_rank (faces groups)) ((product * 4294967296 + until) * 4294967296 + 0) order))
     (span : Span) (days : (day : ℕ) → pos day ≤ℤ MAX_DAY → covers span (pos day) ≡ (leb from day && ltb day until)) (chosen : List Bool) where
   -- whether a group is of a batch that is chosen and has this number
   abbrev is_chosen : ℕ → ℕ → Bool
-  is_chosen number place = flag chosen (face_at (faces groups) place).key.batch && eqb (face_at (faces groups) place).key.batch number
+  is_chosen number place = flag chosen (nth_face (faces groups) place).key.batch && eqb (nth_face (faces groups) place).key.batch number
 
   abbrev told : Held → Bool
   told h = is_concerned (map terms_of batches) product span (seen (faces groups) h)
@@ -137,8 +137,8 @@ module _ (batches : List Batch) (groups : List Group) (held : List Held) (sound 
   concerning number =
       let test : ℕ → Bool = λ other. eqb other number in
       let both : ℕ → Bool = λ other. flag chosen other && eqb other number in
-      any-filter test (flag chosen) (map (λ place. (face_at (faces groups) place).key.batch) (between first end order))
-      ∙ any-map both (λ place. (face_at (faces groups) place).key.batch) (between first end order)
+      any-filter test (flag chosen) (map (λ place. (nth_face (faces groups) place).key.batch) (between first end order))
+      ∙ any-map both (λ place. (nth_face (faces groups) place).key.batch) (between first end order)
       ∙ bool_same _ _ (to_pack number) (to_group number)
       ∙ sym (any-filter test (flag chosen) (map (λ pack. pack.batch) (concerned (map terms_of batches) product span (map (seen (faces groups)) held)))
       ∙ any-map both (λ pack. pack.batch) (concerned (map terms_of batches) product span (map (seen (faces groups)) held))

@@ -13,9 +13,9 @@ use Rattle.batch_sums.specs.declared.group.Group.{Group}
 use Rattle.batch_sums.specs.declared.types.Held.{Held}
 use Rattle.batch_sums.specs.Totals.{is_counted, same_pile}
 use Rattle.batch_sums.specs.Rising.{mass_of, HasMoreIf}
-use Rattle.batch_sums.specs.Groups.{Face, face_of, faces, face_at, threshold, IsJudged}
-use Rattle.batch_sums.specs.Running.{IsEntered, HasRoom, Covers, pile_sum, count_at}
-use Rattle.batch_sums.specs.Kept.{AddsUp, Sound, belongs, is_member, count_in, gross_in, tare_in, below_in}
+use Rattle.batch_sums.specs.Groups.{Face, face_of, faces, nth_face, threshold, IsJudged}
+use Rattle.batch_sums.specs.Running.{IsEntered, HasRoom, Covers, pile_sum, one_if_below}
+use Rattle.batch_sums.specs.Kept.{AddsUp, Sound, belongs, is_member, added_count, added_gross, added_tare, added_below}
 use Rattle.batch_sums.proofs.Joining.{Joins, HasGrosses, adds_up_in, adds_up_out, adds_up_in_other, adds_up_out_other, has_grosses_in, has_grosses_out, has_grosses_in_other, has_grosses_out_other}
 use Rattle.batch_sums.proofs.Sounding.{sound_after, face-found}
 
@@ -43,13 +43,13 @@ pub few_grosses : (place : ℕ) (held : List Held) (grosses : List Gross) → Ha
 few_grosses place held grosses have = omega (arith, have (λ mass. true), count_by-all grosses, count_by-le-length (is_member place (λ mass. true)) held)
 
 module _ (some : List Face) (number : ℕ) (held : List Held) (batch : Batch) (sums : AddsUp some held number batch) where
-  count_le : (pile : Pile) → sum_by (count_in some number pile) held ≤ length held
-  count_le pile = count-le-length (count_in some number pile) held (λ h. one_le (belongs some number h && same_pile h.pile pile))
+  count_le : (pile : Pile) → sum_by (added_count some number pile) held ≤ length held
+  count_le pile = count-le-length (added_count some number pile) held (λ h. one_le (belongs some number h && same_pile h.pile pile))
 
-  below_le : (limit : ℤ) → sum_by (below_in some number limit) held ≤ length held
-  below_le limit = count-le-length (below_in some number limit) held (λ h. by (belongs some number h) (is_counted h.pile) h)
+  below_le : (limit : ℤ) → sum_by (added_below some number limit) held ≤ length held
+  below_le limit = count-le-length (added_below some number limit) held (λ h. by (belongs some number h) (is_counted h.pile) h)
     where
-      by : (b c : Bool) (h : Held) → cond b (count_at h.pile h.gross (threshold limit (face_at some h.group).tare)) 0 ≤ 1
+      by : (b c : Bool) (h : Held) → cond b (one_if_below h.pile h.gross (threshold limit (nth_face some h.group).tare)) 0 ≤ 1
       by true c h = one_le _
       by false c h = omega arith
 
@@ -64,18 +64,18 @@ module _ (some : List Face) (number : ℕ) (held : List Held) (batch : Batch) (s
       }
 
   module _ (less : List Held) (pack : Held) (joins : Joins less pack held) (own : belongs some number pack ≡ true) where
-    pub covered : Covers batch pack.pile pack.gross (face_at some pack.group).tare
+    pub covered : Covers batch pack.pile pack.gross (nth_face some pack.group).tare
     covered =
-        let count : count_in some number pack.pile pack ≡ 1 = rw (own, same_self pack.pile) refl in
-        let gross : gross_in some number pack.pile pack ≡ pack.gross = rw (own, same_self pack.pile) refl in
-        let tare : tare_in some number pack ≡ cond (is_counted pack.pile) (face_at some pack.group).tare 0 = rw own refl in
-        let low : (limit : ℤ) → below_in some number limit pack ≡ count_at pack.pile pack.gross (threshold limit (face_at some pack.group).tare) = λ limit. rw own refl in
+        let count : added_count some number pack.pile pack ≡ 1 = rw (own, same_self pack.pile) refl in
+        let gross : added_gross some number pack.pile pack ≡ pack.gross = rw (own, same_self pack.pile) refl in
+        let tare : added_tare some number pack ≡ cond (is_counted pack.pile) (nth_face some pack.group).tare 0 = rw own refl in
+        let low : (limit : ℤ) → added_below some number limit pack ≡ one_if_below pack.pile pack.gross (threshold limit (nth_face some pack.group).tare) = λ limit. rw own refl in
         record {
-          count = omega (arith, sums.count pack.pile, joins.sum (count_in some number pack.pile), count);
-          gross = omega (arith, sums.gross pack.pile, joins.sum (gross_in some number pack.pile), gross);
-          tares = omega (arith, sums.tares, joins.sum (tare_in some number), tare);
-          nonstandard = omega (arith, sums.nonstandard, joins.sum (below_in some number batch.limits.t1), low batch.limits.t1);
-          inadequate = omega (arith, sums.inadequate, joins.sum (below_in some number batch.limits.t2), low batch.limits.t2);
+          count = omega (arith, sums.count pack.pile, joins.sum (added_count some number pack.pile), count);
+          gross = omega (arith, sums.gross pack.pile, joins.sum (added_gross some number pack.pile), gross);
+          tares = omega (arith, sums.tares, joins.sum (added_tare some number), tare);
+          nonstandard = omega (arith, sums.nonstandard, joins.sum (added_below some number batch.limits.t1), low batch.limits.t1);
+          inadequate = omega (arith, sums.inadequate, joins.sum (added_below some number batch.limits.t2), low batch.limits.t2);
         }
 
 -- a pack of the population has its gross among those of its group
@@ -88,7 +88,7 @@ contained place held less pack grosses joins group have counted =
 module _ (batches : List Batch) (groups : List Group) (less more : List Held) (pack : Held) (joins : Joins less pack more)
     (group after : Group) (batch new : Batch) (at_group : slice_get groups pack.group ≡ Some group) (at_batch : slice_get batches group.key.batch ≡ Some batch)
     (face : face_of after ≡ face_of group) (judged : IsJudged new.limits after) where
-  home : face_at (faces groups) pack.group ≡ face_of group
+  home : nth_face (faces groups) pack.group ≡ face_of group
   home = face-found groups pack.group group at_group
 
   pub own : belongs (faces groups) group.key.batch pack ≡ true

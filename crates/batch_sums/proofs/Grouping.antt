@@ -18,7 +18,8 @@ module _ (test : ℕ → Pack → Bool) (follows : (x : ℕ) (one other : Pack) 
         | inr rest ↦ or_right (test x p) (list_any (test x) packs) (passed_on x one packs own rest)
       ]
 
-  -- things of different groups, each with a pack among some, are no more than the groups of these packs
+  -- things of different groups, each with a pack among some, are no more than the groups of these
+  -- packs
   pub different_groups : (packs : List Pack) (xs : List ℕ) → All (λ x. list_any (test x) packs ≡ true) xs → ((pack : Pack) → count_by (λ x. test x pack) xs ≤ 1) → length xs ≤ group_count packs
   different_groups [] [] all apart = omega arith
   different_groups [] (x ∷ xs) all apart = absurd (true≢false (sym (All-head (λ y. list_any (test y) [] ≡ true) x xs all)))

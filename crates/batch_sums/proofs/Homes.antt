@@ -2,16 +2,16 @@
 use Rattle.std.proofs.Common.{◌≡◌, ℕ, List, [], ◌∷◌, length, map, get_or, set, refl, ap, sym, subst, ◌∙◌, ◌<◌}
 use Rattle.std.proofs.lemmas.List.{map-set, set-get_or, get_or-map}
 use Rattle.batch_sums.specs.declared.types.Held.{Held}
-use Rattle.batch_sums.specs.Groups.{Face, face_at}
+use Rattle.batch_sums.specs.Groups.{Face, nth_face}
 use Rattle.batch_sums.specs.Kept.{seen, IsChained}
 use Rattle.batch_sums.specs.Invariant.{homes_of}
 
-pub homes-seen : (some : List Face) (held : List Held) → homes_of (map (seen some) held) ≡ map (λ h. (face_at some h.group).key.batch) held
+pub homes-seen : (some : List Face) (held : List Held) → homes_of (map (seen some) held) ≡ map (λ h. (nth_face some h.group).key.batch) held
 homes-seen some [] = refl
-homes-seen some (h ∷ held) = ap (λ ns. (face_at some h.group).key.batch ∷ ns) (homes-seen some held)
+homes-seen some (h ∷ held) = ap (λ ns. (nth_face some h.group).key.batch ∷ ns) (homes-seen some held)
 
 -- faces with the same keys show the same batches
-pub homes-keys : (before now : List Face) → ((place : ℕ) → (face_at now place).key ≡ (face_at before place).key) → (held : List Held) → homes_of (map (seen now) held) ≡ homes_of (map (seen before) held)
+pub homes-keys : (before now : List Face) → ((place : ℕ) → (nth_face now place).key ≡ (nth_face before place).key) → (held : List Held) → homes_of (map (seen now) held) ≡ homes_of (map (seen before) held)
 homes-keys before now key [] = refl
 homes-keys before now key (h ∷ held) = λ i. (key h.group i).batch ∷ homes-keys before now key held i
 

@@ -1,4 +1,5 @@
--- One pack more among the packs: what it does to the sums of batches and to the grosses of groups, in both directions.
+-- One pack more among the packs: what it does to the sums of batches and to the grosses of groups,
+-- in both directions.
 use Rattle.std.proofs.Common.{◌≡◌, ℕ, zero, suc, ◌+◌, ◌<◌, Bool, true, false, cond, ◌&&◌, eqb, List, [], ◌∷◌, ◌++◌, length, get_or, set, refl, ap, sym, ◌∙◌, arith}
 use Rattle.std.specs.List.{sum_by, count_by, remove}
 use Rattle.std.proofs.lemmas.List.Sums.{sum_by-set, sum_by-remove, sum_by_push}
@@ -8,9 +9,9 @@ use Rattle.batch_sums.specs.declared.grosses.Gross.{Gross}
 use Rattle.batch_sums.specs.declared.types.Held.{Held}
 use Rattle.batch_sums.specs.Totals.{same_pile, is_counted}
 use Rattle.batch_sums.specs.Rising.{mass_of, HasMoreIf}
-use Rattle.batch_sums.specs.Groups.{Face, face_at, threshold}
-use Rattle.batch_sums.specs.Running.{IsEntered, count_at}
-use Rattle.batch_sums.specs.Kept.{AddsUp, belongs, count_in, gross_in, tare_in, below_in, is_member}
+use Rattle.batch_sums.specs.Groups.{Face, nth_face, threshold}
+use Rattle.batch_sums.specs.Running.{IsEntered, one_if_below}
+use Rattle.batch_sums.specs.Kept.{AddsUp, belongs, added_count, added_gross, added_tare, added_below, is_member}
 
 -- the packs `more` are those of `less` and one besides: whatever is summed
 pub record Joins (less : List Held) (pack : Held) (more : List Held) : Type 0 where
@@ -28,27 +29,27 @@ joins_set held place other new within =
 
 module _ (some : List Face) (number : ℕ) (less more : List Held) (pack : Held) (joins : Joins less pack more) where
   -- the pack is of the batch
-  module _ (own : belongs some number pack ≡ true) (batch after : Batch) (entered : IsEntered batch after pack.pile pack.gross (face_at some pack.group).tare) where
-    count : (pile : Pile) → count_in some number pile pack ≡ cond (same_pile pack.pile pile) 1 0
+  module _ (own : belongs some number pack ≡ true) (batch after : Batch) (entered : IsEntered batch after pack.pile pack.gross (nth_face some pack.group).tare) where
+    count : (pile : Pile) → added_count some number pile pack ≡ cond (same_pile pack.pile pile) 1 0
     count pile = rw own refl
 
-    gross : (pile : Pile) → gross_in some number pile pack ≡ cond (same_pile pack.pile pile) pack.gross 0
+    gross : (pile : Pile) → added_gross some number pile pack ≡ cond (same_pile pack.pile pile) pack.gross 0
     gross pile = rw own refl
 
-    tare : tare_in some number pack ≡ cond (is_counted pack.pile) (face_at some pack.group).tare 0
+    tare : added_tare some number pack ≡ cond (is_counted pack.pile) (nth_face some pack.group).tare 0
     tare = rw own refl
 
-    low : (limit : _) → below_in some number limit pack ≡ count_at pack.pile pack.gross (threshold limit (face_at some pack.group).tare)
+    low : (limit : _) → added_below some number limit pack ≡ one_if_below pack.pile pack.gross (threshold limit (nth_face some pack.group).tare)
     low limit = rw own refl
 
     pub adds_up_in : AddsUp some less number batch → AddsUp some more number after
     adds_up_in sums =
         record {
-          count = λ pile. omega (arith, entered.count pile, sums.count pile, joins.sum (count_in some number pile), count pile);
-          gross = λ pile. omega (arith, entered.gross pile, sums.gross pile, joins.sum (gross_in some number pile), gross pile);
-          tares = omega (arith, entered.tares, sums.tares, joins.sum (tare_in some number), tare);
-          nonstandard = rw entered.limits (omega (arith, entered.nonstandard, sums.nonstandard, joins.sum (below_in some number batch.limits.t1), low batch.limits.t1));
-          inadequate = rw entered.limits (omega (arith, entered.inadequate, sums.inadequate, joins.sum (below_in some number batch.limits.t2), low batch.limits.t2));
+          count = λ pile. omega (arith, entered.count pile, sums.count pile, joins.sum (added_count some number pile), count pile);
+          gross = λ pile. omega (arith, entered.gross pile, sums.gross pile, joins.sum (added_gross some number pile), gross pile);
+          tares = omega (arith, entered.tares, sums.tares, joins.sum (added_tare some number), tare);
+          nonstandard = rw entered.limits (omega (arith, entered.nonstandard, sums.nonstandard, joins.sum (added_below some number batch.limits.t1), low batch.limits.t1));
+          inadequate = rw entered.limits (omega (arith, entered.inadequate, sums.inadequate, joins.sum (added_below some number batch.limits.t2), low batch.limits.t2));
         }
 
     pub adds_up_out : AddsUp some more number after → AddsUp some less number batch
@@ -56,11 +57,11 @@ module _ (some : List Face) (number : ℕ) (less more : List Held) (pack : Held)
         let first = rw entered.limits at sums.nonstandard in
         let second = rw entered.limits at sums.inadequate in
         record {
-          count = λ pile. omega (arith, entered.count pile, sums.count pile, joins.sum (count_in some number pile), count pile);
-          gross = λ pile. omega (arith, entered.gross pile, sums.gross pile, joins.sum (gross_in some number pile), gross pile);
-          tares = omega (arith, entered.tares, sums.tares, joins.sum (tare_in some number), tare);
-          nonstandard = omega (arith, entered.nonstandard, first, joins.sum (below_in some number batch.limits.t1), low batch.limits.t1);
-          inadequate = omega (arith, entered.inadequate, second, joins.sum (below_in some number batch.limits.t2), low batch.limits.t2);
+          count = λ pile. omega (arith, entered.count pile, sums.count pile, joins.sum (added_count some number pile), count pile);
+          gross = λ pile. omega (arith, entered.gross pile, sums.gross pile, joins.sum (added_gross some number pile), gross pile);
+          tares = omega (arith, entered.tares, sums.tares, joins.sum (added_tare some number), tare);
+          nonstandard = omega (arith, entered.nonstandard, first, joins.sum (added_below some number batch.limits.t1), low batch.limits.t1);
+          inadequate = omega (arith, entered.inadequate, second, joins.sum (added_below some number batch.limits.t2), low batch.limits.t2);
         }
 
   -- the pack is of another batch
@@ -68,21 +69,21 @@ module _ (some : List Face) (number : ℕ) (less more : List Held) (pack : Held)
     pub adds_up_in_other : AddsUp some less number batch → AddsUp some more number batch
     adds_up_in_other sums =
         record {
-          count = λ pile. sums.count pile ∙ sym (joins.sum (count_in some number pile) ∙ rw other (omega arith));
-          gross = λ pile. sums.gross pile ∙ sym (joins.sum (gross_in some number pile) ∙ rw other (omega arith));
-          tares = sums.tares ∙ sym (joins.sum (tare_in some number) ∙ rw other (omega arith));
-          nonstandard = sums.nonstandard ∙ sym (joins.sum (below_in some number batch.limits.t1) ∙ rw other (omega arith));
-          inadequate = sums.inadequate ∙ sym (joins.sum (below_in some number batch.limits.t2) ∙ rw other (omega arith));
+          count = λ pile. sums.count pile ∙ sym (joins.sum (added_count some number pile) ∙ rw other (omega arith));
+          gross = λ pile. sums.gross pile ∙ sym (joins.sum (added_gross some number pile) ∙ rw other (omega arith));
+          tares = sums.tares ∙ sym (joins.sum (added_tare some number) ∙ rw other (omega arith));
+          nonstandard = sums.nonstandard ∙ sym (joins.sum (added_below some number batch.limits.t1) ∙ rw other (omega arith));
+          inadequate = sums.inadequate ∙ sym (joins.sum (added_below some number batch.limits.t2) ∙ rw other (omega arith));
         }
 
     pub adds_up_out_other : AddsUp some more number batch → AddsUp some less number batch
     adds_up_out_other sums =
         record {
-          count = λ pile. sums.count pile ∙ joins.sum (count_in some number pile) ∙ rw other (omega arith);
-          gross = λ pile. sums.gross pile ∙ joins.sum (gross_in some number pile) ∙ rw other (omega arith);
-          tares = sums.tares ∙ joins.sum (tare_in some number) ∙ rw other (omega arith);
-          nonstandard = sums.nonstandard ∙ joins.sum (below_in some number batch.limits.t1) ∙ rw other (omega arith);
-          inadequate = sums.inadequate ∙ joins.sum (below_in some number batch.limits.t2) ∙ rw other (omega arith);
+          count = λ pile. sums.count pile ∙ joins.sum (added_count some number pile) ∙ rw other (omega arith);
+          gross = λ pile. sums.gross pile ∙ joins.sum (added_gross some number pile) ∙ rw other (omega arith);
+          tares = sums.tares ∙ joins.sum (added_tare some number) ∙ rw other (omega arith);
+          nonstandard = sums.nonstandard ∙ joins.sum (added_below some number batch.limits.t1) ∙ rw other (omega arith);
+          inadequate = sums.inadequate ∙ joins.sum (added_below some number batch.limits.t2) ∙ rw other (omega arith);
         }
 
 -- the grosses of a group are those of its packs in the population

@@ -11,7 +11,7 @@ use Rattle.balanced_tree.specs.Trees.{items, IsBalanced}
 use Rattle.balanced_tree.specs.declared.tree.Tree.{Tree}
 use Rattle.batch_sums.specs.declared.sums.BatchSums.TheInside.{Inside}
 use Rattle.batch_sums.specs.declared.types.Held.{Held}
-use Rattle.batch_sums.specs.Groups.{Face, face_of, faces, face_at, rank_of, rank_at}
+use Rattle.batch_sums.specs.Groups.{Face, face_of, faces, nth_face, rank_of, nth_rank}
 use Rattle.batch_sums.specs.Kept.{IsIndex, seen}
 use Rattle.batch_sums.specs.Invariant.{IsKept, inside, outside, homes_of, befores_of}
 use Rattle.batch_sums.proofs.Adding.{sum_by-same}
@@ -20,14 +20,14 @@ use Rattle.batch_sums.proofs.Opening.{IsRising-agree}
 use Rattle.batch_sums.proofs.Underway.{IsUnderway, face_by-key}
 
 -- an order is of keys alone
-index_by : (before now : List Face) (order : List ℕ) → length now ≡ length before → ((place : ℕ) → (face_at now place).key ≡ (face_at before place).key) → IsIndex before order → IsIndex now order
+index_by : (before now : List Face) (order : List ℕ) → length now ≡ length before → ((place : ℕ) → (nth_face now place).key ≡ (nth_face before place).key) → IsIndex before order → IsIndex now order
 index_by before now order long key index =
-    let rank : (place : ℕ) → rank_at before place ≡ rank_at now place = λ place. ap rank_of (sym (key place)) in
+    let rank : (place : ℕ) → nth_rank before place ≡ nth_rank now place = λ place. ap rank_of (sym (key place)) in
     record {
-      rising = IsRising-agree (rank_at before) (rank_at now) order (λ k d within. rank (get_or order k d)) index.rising;
+      rising = IsRising-agree (nth_rank before) (nth_rank now) order (λ k d within. rank (get_or order k d)) index.rising;
       within = All-weaker (λ p. p < length before) (λ p. p < length now) (λ p less. omega (arith, less, long)) order index.within;
       once = λ place within. index.once place (omega (arith, within, long));
-      distinct = λ value. subst (λ n. n ≤ 1) (sum_by-same (λ p. cond (eqb (rank_at before p) value) 1 0) (λ p. cond (eqb (rank_at now p) value) 1 0) order (λ p. ap (λ r. cond (eqb r value) 1 0) (rank p))) (index.distinct value);
+      distinct = λ value. subst (λ n. n ≤ 1) (sum_by-same (λ p. cond (eqb (nth_rank before p) value) 1 0) (λ p. cond (eqb (nth_rank now p) value) 1 0) order (λ p. ap (λ r. cond (eqb r value) 1 0) (rank p))) (index.distinct value);
       keys = λ place within.
           let old = index.keys place (omega (arith, within, long)) in
           record {
@@ -44,8 +44,8 @@ kept_after before now visited tare start steps under kept =
     let packs : now.packs.items ≡ before.packs.items = ap (λ (v : Vec Held Global). v.items) under.packs in
     let groups : length now.groups.items ≡ length before.groups.items = omega (arith, under.groups_long, now.groups.ok.0, before.groups.ok.0) in
     let long : length (faces now.groups.items) ≡ length (faces before.groups.items) = omega (arith, groups, length-map now.groups.items face_of, length-map before.groups.items face_of) in
-    let key : (place : ℕ) → (face_at (faces now.groups.items) place).key ≡ (face_at (faces before.groups.items) place).key =
-    λ place. ap (λ (f : Face). f.key) (under.face place) ∙ face_by-key visited tare place (face_at (faces before.groups.items) place) in
+    let key : (place : ℕ) → (nth_face (faces now.groups.items) place).key ≡ (nth_face (faces before.groups.items) place).key =
+    λ place. ap (λ (f : Face). f.key) (under.face place) ∙ face_by-key visited tare place (nth_face (faces before.groups.items) place) in
     let keys : now.numbers.keys ≡ before.numbers.keys = ap (λ s. s.keys) under.numbers in
     let free : spare now.numbers ≡ spare before.numbers = ap spare under.numbers in
     let packs_long : vec_len now.packs ≡ vec_len before.packs = ap (λ (v : Vec Held Global). vec_len v) under.packs in

@@ -15,7 +15,7 @@ use Rattle.batch_sums.specs.declared.group.Group.{Group}
 use Rattle.batch_sums.specs.declared.types.Held.{Held}
 use Rattle.batch_sums.specs.Totals.{is_counted}
 use Rattle.batch_sums.specs.Rising.{mass_of, HasMoreIf}
-use Rattle.batch_sums.specs.Groups.{Face, face_of, faces, face_at, IsJudged}
+use Rattle.batch_sums.specs.Groups.{Face, face_of, faces, nth_face, IsJudged}
 use Rattle.batch_sums.specs.Running.{IsEntered, IsBounded, HasRoom, Covers, pile_sum}
 use Rattle.batch_sums.specs.Kept.{AddsUp, Sound, IsGroup, seen, belongs}
 use Rattle.batch_sums.specs.Changes.{moved}
@@ -73,7 +73,7 @@ module _ (batches : List Batch) (groups : List Group) (held : List Held) (sound 
       pub judged_before : IsJudged batch.limits group
       judged_before = subst (λ (b : Batch). IsJudged b.limits group) limits_same kept_group.judged
 
-      tare_is : (face_at (faces groups) h.group).tare ≡ group.tare
+      tare_is : (nth_face (faces groups) h.group).tare ≡ group.tare
       tare_is = ap (λ (f : Face). f.tare) (face-found groups h.group group at_group)
 
       own_pack : belongs (faces groups) group.key.batch h ≡ true

@@ -12,7 +12,7 @@ use Rattle.pack_judge.specs.declared.types.Pile.{Pile}
 use Rattle.balanced_tree.specs.declared.tree.Tree.{Tree}
 use Rattle.balanced_tree.specs.Trees.{items}
 use Rattle.batch_sums.specs.Totals.{is_counted}
-use Rattle.batch_sums.specs.Groups.{Face, faces, face_at}
+use Rattle.batch_sums.specs.Groups.{Face, faces, nth_face}
 use Rattle.batch_sums.specs.Kept.{Sound, IsIndex, seen}
 use Rattle.batch_sums.specs.Changes.{is_added}
 use Rattle.batch_sums.specs.Invariant.{IsSettled, inside, outside, reaches_of, homes_of}
@@ -61,7 +61,7 @@ module _ (held : List Held) (place : ℕ) (h : Held) (to : Pile) (read : h ≡ g
         chained = chained_as _ _ _ _ _ _ reaches
             (ap (λ fs. homes_of (map (seen fs) (set held place (in_pile h to)))) face
             ∙ homes-seen (faces groups) (set held place (in_pile h to))
-            ∙ map-set_unseen (λ p. (face_at (faces groups) p.group).key.batch) held place h (in_pile h to) read within refl
+            ∙ map-set_unseen (λ p. (nth_face (faces groups) p.group).key.batch) held place h (in_pile h to) read within refl
             ∙ sym (homes-seen (faces groups) held))
             (map-set_unseen (λ p. p.before) held place h (in_pile h to) read within refl)
             settled.chained;

@@ -13,9 +13,9 @@ use Rattle.batch_sums.specs.declared.group.Group.{Group}
 use Rattle.batch_sums.specs.declared.types.Held.{Held}
 use Rattle.batch_sums.specs.Totals.{is_counted, same_pile}
 use Rattle.batch_sums.specs.Rising.{mass_of}
-use Rattle.batch_sums.specs.Groups.{Face, face_of, faces, face_at, threshold}
-use Rattle.batch_sums.specs.Running.{pile_sum, count_at}
-use Rattle.batch_sums.specs.Kept.{AddsUp, Sound, IsGroup, seen, is_member, count_in, gross_in, tare_in, below_in}
+use Rattle.batch_sums.specs.Groups.{Face, face_of, faces, nth_face, threshold}
+use Rattle.batch_sums.specs.Running.{pile_sum, one_if_below}
+use Rattle.batch_sums.specs.Kept.{AddsUp, Sound, IsGroup, seen, is_member, added_count, added_gross, added_tare, added_below}
 use Rattle.batch_sums.proofs.Adding.{sum_by-agree}
 use Rattle.batch_sums.proofs.Opening.{face-old}
 use Rattle.batch_sums.proofs.Sounding.{face-found}
@@ -46,22 +46,22 @@ get-append_cases (z ∷ xs) y x (suc place) is =
 
 -- sums of packs whose groups are there stay where a group comes behind the others
 module _ (some : List Face) (face : Face) (held : List Held) (there : All (λ h. h.group < length some) held) where
-  same : (k : ℕ) (d : Held) → k < length held → face_at (some ++ face ∷ []) (get_or held k d).group ≡ face_at some (get_or held k d).group
+  same : (k : ℕ) (d : Held) → k < length held → nth_face (some ++ face ∷ []) (get_or held k d).group ≡ nth_face some (get_or held k d).group
   same k d within = face-old some face (get_or held k d).group (there k d within)
 
   pub adds_up_more : (number : ℕ) (batch : Batch) → AddsUp some held number batch → AddsUp (some ++ face ∷ []) held number batch
   adds_up_more number batch sums =
       record {
-        count = λ pile. sums.count pile ∙ sum_by-agree (count_in some number pile) (count_in (some ++ face ∷ []) number pile) held
+        count = λ pile. sums.count pile ∙ sum_by-agree (added_count some number pile) (added_count (some ++ face ∷ []) number pile) held
             (λ k d within. ap (λ (f : Face). cond (eqb f.key.batch number && same_pile (get_or held k d).pile pile) 1 0) (sym (same k d within)));
-        gross = λ pile. sums.gross pile ∙ sum_by-agree (gross_in some number pile) (gross_in (some ++ face ∷ []) number pile) held
+        gross = λ pile. sums.gross pile ∙ sum_by-agree (added_gross some number pile) (added_gross (some ++ face ∷ []) number pile) held
             (λ k d within. ap (λ (f : Face). cond (eqb f.key.batch number && same_pile (get_or held k d).pile pile) (get_or held k d).gross 0) (sym (same k d within)));
-        tares = sums.tares ∙ sum_by-agree (tare_in some number) (tare_in (some ++ face ∷ []) number) held
+        tares = sums.tares ∙ sum_by-agree (added_tare some number) (added_tare (some ++ face ∷ []) number) held
             (λ k d within. ap (λ (f : Face). cond (eqb f.key.batch number && is_counted (get_or held k d).pile) f.tare 0) (sym (same k d within)));
-        nonstandard = sums.nonstandard ∙ sum_by-agree (below_in some number batch.limits.t1) (below_in (some ++ face ∷ []) number batch.limits.t1) held
-            (λ k d within. ap (λ (f : Face). cond (eqb f.key.batch number) (count_at (get_or held k d).pile (get_or held k d).gross (threshold batch.limits.t1 f.tare)) 0) (sym (same k d within)));
-        inadequate = sums.inadequate ∙ sum_by-agree (below_in some number batch.limits.t2) (below_in (some ++ face ∷ []) number batch.limits.t2) held
-            (λ k d within. ap (λ (f : Face). cond (eqb f.key.batch number) (count_at (get_or held k d).pile (get_or held k d).gross (threshold batch.limits.t2 f.tare)) 0) (sym (same k d within)));
+        nonstandard = sums.nonstandard ∙ sum_by-agree (added_below some number batch.limits.t1) (added_below (some ++ face ∷ []) number batch.limits.t1) held
+            (λ k d within. ap (λ (f : Face). cond (eqb f.key.batch number) (one_if_below (get_or held k d).pile (get_or held k d).gross (threshold batch.limits.t1 f.tare)) 0) (sym (same k d within)));
+        inadequate = sums.inadequate ∙ sum_by-agree (added_below some number batch.limits.t2) (added_below (some ++ face ∷ []) number batch.limits.t2) held
+            (λ k d within. ap (λ (f : Face). cond (eqb f.key.batch number) (one_if_below (get_or held k d).pile (get_or held k d).gross (threshold batch.limits.t2 f.tare)) 0) (sym (same k d within)));
       }
 
   pub seen_more : map (seen (some ++ face ∷ [])) held ≡ map (seen some) held
@@ -118,19 +118,19 @@ module _ (batches : List Batch) (groups : List Group) (held : List Held) (sound 
       }
 
   -- a batch without packs comes behind the others
-  none_of : (f : Held → ℕ) → ((h : Held) → (face_at (faces groups) h.group).key.batch < length batches → f h ≡ 0) → sum_by f held ≡ 0
+  none_of : (f : Held → ℕ) → ((h : Held) → (nth_face (faces groups) h.group).key.batch < length batches → f h ≡ 0) → sum_by f held ≡ 0
   none_of f none = sum_by-agree f (λ h. 0) held (λ k d within. none (get_or held k d) (Rattle.batch_sums.proofs.Sounding.homed batches groups held sound k d within)) ∙ zeros held
 
   pub sound_batch : (batch : Batch) → ((pile : _) → pile_sum batch pile ≡ record { count = 0; gross = 0 }) → batch.tares ≡ 0 → batch.nonstandard ≡ 0 → batch.inadequate ≡ 0 → Sound (batches ++ batch ∷ []) groups held
   sound_batch batch piles tares nonstandard inadequate =
-      let apart : (h : Held) → (face_at (faces groups) h.group).key.batch < length batches → eqb (face_at (faces groups) h.group).key.batch (length batches) ≡ false = λ h less. ne_eqb _ _ (λ same. omega (arith, less, same)) in
+      let apart : (h : Held) → (nth_face (faces groups) h.group).key.batch < length batches → eqb (nth_face (faces groups) h.group).key.batch (length batches) ≡ false = λ h less. ne_eqb _ _ (λ same. omega (arith, less, same)) in
       let own : AddsUp (faces groups) held (length batches) batch =
       record {
-        count = λ pile. ap (λ s. s.count) (piles pile) ∙ sym (none_of (count_in (faces groups) (length batches) pile) (λ h less. ap (λ b. cond (b && same_pile h.pile pile) 1 0) (apart h less)));
-        gross = λ pile. ap (λ s. s.gross) (piles pile) ∙ sym (none_of (gross_in (faces groups) (length batches) pile) (λ h less. ap (λ b. cond (b && same_pile h.pile pile) h.gross 0) (apart h less)));
-        tares = tares ∙ sym (none_of (tare_in (faces groups) (length batches)) (λ h less. ap (λ b. cond (b && is_counted h.pile) (face_at (faces groups) h.group).tare 0) (apart h less)));
-        nonstandard = nonstandard ∙ sym (none_of (below_in (faces groups) (length batches) batch.limits.t1) (λ h less. ap (λ b. cond b (count_at h.pile h.gross (threshold batch.limits.t1 (face_at (faces groups) h.group).tare)) 0) (apart h less)));
-        inadequate = inadequate ∙ sym (none_of (below_in (faces groups) (length batches) batch.limits.t2) (λ h less. ap (λ b. cond b (count_at h.pile h.gross (threshold batch.limits.t2 (face_at (faces groups) h.group).tare)) 0) (apart h less)));
+        count = λ pile. ap (λ s. s.count) (piles pile) ∙ sym (none_of (added_count (faces groups) (length batches) pile) (λ h less. ap (λ b. cond (b && same_pile h.pile pile) 1 0) (apart h less)));
+        gross = λ pile. ap (λ s. s.gross) (piles pile) ∙ sym (none_of (added_gross (faces groups) (length batches) pile) (λ h less. ap (λ b. cond (b && same_pile h.pile pile) h.gross 0) (apart h less)));
+        tares = tares ∙ sym (none_of (added_tare (faces groups) (length batches)) (λ h less. ap (λ b. cond (b && is_counted h.pile) (nth_face (faces groups) h.group).tare 0) (apart h less)));
+        nonstandard = nonstandard ∙ sym (none_of (added_below (faces groups) (length batches) batch.limits.t1) (λ h less. ap (λ b. cond b (one_if_below h.pile h.gross (threshold batch.limits.t1 (nth_face (faces groups) h.group).tare)) 0) (apart h less)));
+        inadequate = inadequate ∙ sym (none_of (added_below (faces groups) (length batches) batch.limits.t2) (λ h less. ap (λ b. cond b (one_if_below h.pile h.gross (threshold batch.limits.t2 (nth_face (faces groups) h.group).tare)) 0) (apart h less)));
       } in
       record {
         group = λ place other at.

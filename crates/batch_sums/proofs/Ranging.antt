@@ -1,4 +1,5 @@
--- Which groups stand between two places of the order: those of a product whose day is one of some days.
+-- Which groups stand between two places of the order: those of a product whose day is one of some
+-- days.
 use Rattle.std.proofs.Common.{◌≡◌, ℕ, zero, suc, ◌+◌, ◌*◌, ◌<◌, ◌≤◌, Bool, true, false, cond, ◌||◌, eqb, ltb, max, ◌⊎◌, inl, inr, List, [], ◌∷◌, ◌++◌, length, take, drop, refl, ap, sym, subst, ◌∙◌, arith, true≢false}
 use Rattle.std.specs.List.{sum_by, count_by, list_any, between}
 use Rattle.std.proofs.lemmas.Bool.{cases_lt, cases_eq, eq-eqb, ne_eqb, lt-ltb, ltb-true}
@@ -6,7 +7,7 @@ use Rattle.std.proofs.lemmas.List.Sums.{sum_by-cons, sum_by-append, sum_by-take-
 use Rattle.std.proofs.lemmas.List.Edits.{split_between}
 use Rattle.std.proofs.lemmas.Int.{ints}
 use Rattle.batch_sums.specs.Rising.{AtLeast, IsRising}
-use Rattle.batch_sums.specs.Groups.{Face, rank_of, rank_at}
+use Rattle.batch_sums.specs.Groups.{Face, rank_of, nth_rank}
 use Rattle.batch_sums.specs.Kept.{IsIndex, IsKey}
 use Rattle.batch_sums.proofs.Rising.{below, below-yes, below_none, AtLeast-lower}
 
@@ -90,7 +91,7 @@ bool_same false true f g = g refl
 bool_same false false f g = refl
 
 module _ (some : List Face) (order : List ℕ) (index : IsIndex some order) (low high : ℕ) (first end : ℕ)
-    (first_is : first ≡ below (rank_at some) low order) (end_is : end ≡ max first (below (rank_at some) high order)) where
+    (first_is : first ≡ below (nth_rank some) low order) (end_is : end ≡ max first (below (nth_rank some) high order)) where
   -- the counts of an item before, between and behind
   parts : (place : ℕ) → count_by (λ other. eqb other place) (take first order) + (count_by (λ other. eqb other place) (between first end order) + count_by (λ other. eqb other place) (drop end order)) ≡ count_by (λ other. eqb other place) order
   parts place =
@@ -98,35 +99,35 @@ module _ (some : List Face) (order : List ℕ) (index : IsIndex some order) (low
       let f : ℕ → ℕ = λ other. cond (eqb other place) 1 0 in
       sym (ap (sum_by f) split ∙ sum_by-append f (take first order) (between first end order ++ drop end order) ∙ ap (λ n. sum_by f (take first order) + n) (sum_by-append f (between first end order) (drop end order)))
 
-  before : Under (rank_at some) low (take first order)
-  before = subst (λ n. Under (rank_at some) low (take n order)) (sym first_is) (under_take (rank_at some) low order index.rising)
+  before : Under (nth_rank some) low (take first order)
+  before = subst (λ n. Under (nth_rank some) low (take n order)) (sym first_is) (under_take (nth_rank some) low order index.rising)
 
-  from_first : AtLeast (rank_at some) low (drop first order)
-  from_first = subst (λ n. AtLeast (rank_at some) low (drop n order)) (sym first_is) (least_drop (rank_at some) low order index.rising)
+  from_first : AtLeast (nth_rank some) low (drop first order)
+  from_first = subst (λ n. AtLeast (nth_rank some) low (drop n order)) (sym first_is) (least_drop (nth_rank some) low order index.rising)
 
   -- an item between the two places has a rank between the two limits
-  pub between_ranks : (place : ℕ) → 0 < count_by (λ other. eqb other place) (between first end order) → (low ≤ rank_at some place) × (rank_at some place < high)
+  pub between_ranks : (place : ℕ) → 0 < count_by (λ other. eqb other place) (between first end order) → (low ≤ nth_rank some place) × (nth_rank some place < high)
   between_ranks place there =
-      elim (cases_lt (rank_at some place) low) [
+      elim (cases_lt (nth_rank some place) low) [
         | inl less ↦
-            let none = least_none (rank_at some) low place (drop first order) from_first less in
+            let none = least_none (nth_rank some) low place (drop first order) from_first less in
             let whole = sum_by-take-drop (λ other. cond (eqb other place) 1 0) order first in
             absurd (omega (arith, there, parts place, none, whole))
         | inr not_less ↦ (
           not_less,
-          elim (cases_lt (rank_at some place) high) [
+          elim (cases_lt (nth_rank some place) high) [
             | inl under ↦ under
             | inr not_under ↦
-                let bound : below (rank_at some) low order ≤ below (rank_at some) high order ⊎ (high < low) =
-                elim (cases_lt high low) [ inl h ↦ inr h | inr h ↦ inl (below-monotone (rank_at some) low high order h) ] in
+                let bound : below (nth_rank some) low order ≤ below (nth_rank some) high order ⊎ (high < low) =
+                elim (cases_lt high low) [ inl h ↦ inr h | inr h ↦ inl (below-monotone (nth_rank some) low high order h) ] in
                 elim bound [
                   | inl rises ↦
-                      let same : end ≡ below (rank_at some) high order = omega (arith, end_is, first_is, rises) in
-                      let none = subst (λ n. count_by (λ other. eqb other place) (take n order) ≡ 0) (sym same) (under_none (rank_at some) high place (take (below (rank_at some) high order) order) (under_take (rank_at some) high order index.rising) not_under) in
+                      let same : end ≡ below (nth_rank some) high order = omega (arith, end_is, first_is, rises) in
+                      let none = subst (λ n. count_by (λ other. eqb other place) (take n order) ≡ 0) (sym same) (under_none (nth_rank some) high place (take (below (nth_rank some) high order) order) (under_take (nth_rank some) high order index.rising) not_under) in
                       let whole = sum_by-take-drop (λ other. cond (eqb other place) 1 0) order end in
                       absurd (omega (arith, there, parts place, none, whole))
                   | inr falls ↦
-                      let fewer = below-monotone (rank_at some) high low order (omega (arith, falls)) in
+                      let fewer = below-monotone (nth_rank some) high low order (omega (arith, falls)) in
                       let same : end ≡ first = omega (arith, end_is, first_is, fewer) in
                       let none : count_by (λ other. eqb other place) (between first end order) ≡ 0 = ap (λ n. count_by (λ other. eqb other place) (between first n order)) same ∙ ap (count_by (λ other. eqb other place)) (Rattle.std.proofs.lemmas.List.Edits.between_none order first) in
                       absurd (omega (arith, there, none))
@@ -136,12 +137,12 @@ module _ (some : List Face) (order : List ℕ) (index : IsIndex some order) (low
       ]
 
   -- and each with such a rank stands there
-  pub ranks_between : (place : ℕ) → place < length some → low ≤ rank_at some place → rank_at some place < high → 0 < count_by (λ other. eqb other place) (between first end order)
+  pub ranks_between : (place : ℕ) → place < length some → low ≤ nth_rank some place → nth_rank some place < high → 0 < count_by (λ other. eqb other place) (between first end order)
   ranks_between place within above under =
-      let rises = below-monotone (rank_at some) low high order (omega (arith, above, under)) in
-      let same : end ≡ below (rank_at some) high order = omega (arith, end_is, first_is, rises) in
-      let none_before = under_none (rank_at some) low place (take first order) before above in
-      let none_behind = subst (λ n. count_by (λ other. eqb other place) (drop n order) ≡ 0) (sym same) (least_none (rank_at some) high place (drop (below (rank_at some) high order) order) (least_drop (rank_at some) high order index.rising) under) in
+      let rises = below-monotone (nth_rank some) low high order (omega (arith, above, under)) in
+      let same : end ≡ below (nth_rank some) high order = omega (arith, end_is, first_is, rises) in
+      let none_before = under_none (nth_rank some) low place (take first order) before above in
+      let none_behind = subst (λ n. count_by (λ other. eqb other place) (drop n order) ≡ 0) (sym same) (least_none (nth_rank some) high place (drop (below (nth_rank some) high order) order) (least_drop (nth_rank some) high order index.rising) under) in
       omega (arith, parts place, none_before, none_behind, index.once place within)
 
 -- a rank within the days of a product

@@ -20,7 +20,7 @@ use Rattle.batch_sums.specs.declared.types.Pack.{Pack}
 use Rattle.batch_sums.specs.Rising.{HasMoreIf}
 use Rattle.batch_sums.specs.Running.{IsEntered, HasRoom}
 use Rattle.batch_sums.specs.Invariant.{IsSettled, reaches_of, homes_of, befores_of}
-use Rattle.batch_sums.specs.Groups.{Face, face_of, faces, face_at, IsJudged}
+use Rattle.batch_sums.specs.Groups.{Face, face_of, faces, nth_face, IsJudged}
 use Rattle.batch_sums.specs.Kept.{Sound, IsGroup, IsIndex, IsOpened, HasKey, IsChained, seen}
 use Rattle.pack_judge.specs.declared.types.Pile.{Pile}
 use Rattle.batch_sums.proofs.Chaining.{chained_put}
@@ -65,7 +65,7 @@ module _ (batches : List Batch) (groups : List Group) (held : List Held) (sound 
   tare_of place group at own =
       let found = exists_by place held (used place (slice_get_within groups place group at)) in
       let h : Held = get_or held found.0 (record { number = 0; group = 0; before = 0; gross = 0; pile = Rattle.pack_judge.specs.declared.types.Pile.TheVariants.Passed }) in
-      let face : face_at (faces groups) h.group ≡ face_of group = ap (face_at (faces groups)) (found.2 _) ∙ face-found groups place group at in
+      let face : nth_face (faces groups) h.group ≡ face_of group = ap (nth_face (faces groups)) (found.2 _) ∙ face-found groups place group at in
       let told = unmap (λ pack. pack.batch ≡ key.batch → pack.day ≡ pos key.day → pack.tare ≡ pos tare) (faces groups) held same_tare found.0 (record { number = 0; group = 0; before = 0; gross = 0; pile = Rattle.pack_judge.specs.declared.types.Pile.TheVariants.Passed }) found.1
       (ap (λ (f : Face). f.key.batch) face ∙ ap (λ k. k.batch) own) (ap (λ (f : Face). pos f.key.day) face ∙ ap (λ k. pos k.day) own) in
       let both : pos group.tare ≡ pos tare = sym (ap (λ (f : Face). pos f.tare) face) ∙ told in
@@ -187,7 +187,7 @@ module _ (batches : List Batch) (groups : List Group) (held : List Held) (after 
 
     pub packs_put : map (seen (faces (set after place next))) (held ++ h ∷ []) ≡ map (seen (faces groups)) held ++ record { number = h.number; batch = key.batch; day = pos key.day; gross = pos h.gross; tare = pos tare; pile = h.pile } ∷ []
     packs_put =
-        let face : face_at (faces after) h.group ≡ record { key = key; tare = tare } = ap (face_at (faces after)) own ∙ face-found after place group at_here ∙ face_here in
+        let face : nth_face (faces after) h.group ≡ record { key = key; tare = tare } = ap (nth_face (faces after)) own ∙ face-found after place group at_here ∙ face_here in
         ap (λ fs. map (seen fs) (held ++ h ∷ [])) faces_put ∙ map-append (seen (faces after)) held (h ∷ [])
         ∙ (λ i. ready.same i ++ record { number = h.number; batch = (face i).key.batch; day = pos (face i).key.day; gross = pos h.gross; tare = pos (face i).tare; pile = h.pile } ∷ [])
 

@@ -11,7 +11,7 @@ use Rattle.batch_sums.specs.declared.batch.Batch.{Batch}
 use Rattle.batch_sums.specs.declared.grosses.Gross.{Gross}
 use Rattle.batch_sums.specs.declared.group.Group.{Group}
 use Rattle.batch_sums.specs.declared.types.Held.{Held}
-use Rattle.batch_sums.specs.Groups.{Face, face_of, faces, face_at, IsJudged}
+use Rattle.batch_sums.specs.Groups.{Face, face_of, faces, nth_face, IsJudged}
 use Rattle.batch_sums.specs.Kept.{AddsUp, Sound, IsGroup}
 use Rattle.batch_sums.proofs.Faces.{face-at}
 use Rattle.batch_sums.proofs.Joining.{HasGrosses}
@@ -35,7 +35,7 @@ set_same [] i x is = refl
 set_same (y ∷ xs) zero x is = ap (λ z. z ∷ xs) (sym (same_Some y x is))
 set_same (y ∷ xs) (suc i) x is = ap (λ zs. y ∷ zs) (set_same xs i x is)
 
-pub face-found : (groups : List Group) (place : ℕ) (group : Group) → slice_get groups place ≡ Some group → face_at (faces groups) place ≡ face_of group
+pub face-found : (groups : List Group) (place : ℕ) (group : Group) → slice_get groups place ≡ Some group → nth_face (faces groups) place ≡ face_of group
 face-found groups place group is =
     face-at groups place group (slice_get_within groups place group is) ∙ ap face_of (Rattle.std.proofs.lemmas.Option.get_or_from_slice_get groups place group group is)
 
@@ -51,10 +51,10 @@ All-remove P xs i all = All-append P _ _ (All-take P i xs all) (All-drop P (suc 
 
 module _ (batches : List Batch) (groups : List Group) (held : List Held) (sound : Sound batches groups held) where
   -- the batch of each pack is there
-  pub homed : All (λ h. (face_at (faces groups) h.group).key.batch < length batches) held
+  pub homed : All (λ h. (nth_face (faces groups) h.group).key.batch < length batches) held
   homed k d within = at (get_or held k d).group (sound.grouped k d within)
     where
-      at : (place : ℕ) → place < length groups → (face_at (faces groups) place).key.batch < length batches
+      at : (place : ℕ) → place < length groups → (nth_face (faces groups) place).key.batch < length batches
       at place there =
           elim (slice_get_cases groups place).1 [
             | inl found ↦

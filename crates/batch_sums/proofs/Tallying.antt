@@ -10,8 +10,8 @@ use Rattle.pack_judge.specs.declared.types.Pile.TheVariants.{Passed, Rejected, S
 use Rattle.batch_sums.specs.declared.batch.PileSums.{PileSums}
 use Rattle.batch_sums.specs.declared.types.Held.{Held}
 use Rattle.batch_sums.specs.Totals.{same_pile, in_pile, gross_sum}
-use Rattle.batch_sums.specs.Groups.{Face}
-use Rattle.batch_sums.specs.Running.{sum_in, tallies_of, CountsOneMore, WeighsMore}
+use Rattle.batch_sums.specs.Groups.{Face, at_least_0}
+use Rattle.batch_sums.specs.Running.{sum_in, shown_tallies, CountsOneMore, WeighsMore}
 use Rattle.batch_sums.specs.Kept.{seen, IsTallied}
 use Rattle.batch_sums.specs.Asked.{piles_of}
 use Rattle.batch_sums.proofs.Adding.{length_more, gross_more}
@@ -37,7 +37,7 @@ module _ (some : List Face) (pile : Pile) where
       gross_more (λ pack. same_pile pack.pile pile) (seen some h) (map (seen some) held) true h.gross _ refl (gross_lying held) ∙ ap pos (sym (sum_by-cons (weighed pile) h held))
 
 module _ (sums : PileSums) (held : List Held) (tallied : IsTallied sums held) where
-  pub told_piles : (some : List Face) → piles_of (map (seen some) held) ≡ tallies_of sums
+  pub told_piles : (some : List Face) → piles_of (map (seen some) held) ≡ shown_tallies sums
   told_piles some =
       cc (
         length_lying some Passed held,
@@ -63,10 +63,10 @@ module _ (sums : PileSums) (held : List Held) (tallied : IsTallied sums held) wh
 
   pub light_lying : All (λ h. pos h.gross ≤ℤ MAX_GROSS) held → length held < 4294967296 → (pile : Pile) → (sum_in sums pile).gross < 4611686018427387904
   light_lying light few pile =
-      let most = sum_by-le (weighed pile) 30000000 held (λ k d within. cond_le (same_pile (get_or held k d).pile pile) (get_or held k d).gross (omega (arith, ints, light k d within))) in
+      let most = sum_by-le (weighed pile) (at_least_0 MAX_GROSS) held (λ k d within. cond_le (same_pile (get_or held k d).pile pile) (get_or held k d).gross (omega (arith, ints, light k d within))) in
       omega (arith, tallied.gross pile, most, few)
     where
-      cond_le : (b : Bool) (n : ℕ) → n ≤ 30000000 → cond b n 0 ≤ 30000000
+      cond_le : (b : Bool) (n : ℕ) → n ≤ at_least_0 MAX_GROSS → cond b n 0 ≤ at_least_0 MAX_GROSS
       cond_le true n less = less
       cond_le false n less = omega arith
 

@@ -11,22 +11,22 @@ use Rattle.pack_judge.specs.declared.types.Pile.TheVariants.{Passed, Rejected, S
 use Rattle.batch_sums.specs.declared.batch.Batch.{Batch}
 use Rattle.batch_sums.specs.declared.group.Group.{Group}
 use Rattle.batch_sums.specs.declared.types.Held.{Held}
-use Rattle.batch_sums.specs.Totals.{is_counted, same_pile, of_batch, totals_among}
-use Rattle.batch_sums.specs.Groups.{Face, face_of, faces, face_at}
+use Rattle.batch_sums.specs.Totals.{is_counted, same_pile, of_batch, pack_totals}
+use Rattle.batch_sums.specs.Groups.{Face, at_least_0, face_of, faces, nth_face}
 use Rattle.batch_sums.specs.Running.{IsBounded, shown}
-use Rattle.batch_sums.specs.Kept.{AddsUp, Sound, seen, belongs, gross_in, tare_in}
+use Rattle.batch_sums.specs.Kept.{AddsUp, Sound, seen, belongs, added_gross, added_tare}
 use Rattle.batch_sums.proofs.Faces.{face-at}
 use Rattle.batch_sums.proofs.Adding.{length_in_pile, gross_in_pile, length_population, net_population, below_population, counted_sum}
 
 -- the group of a pack is there, and it has the face that is seen
 module _ (batches : List Batch) (groups : List Group) (held : List Held) (sound : Sound batches groups held) where
-  pub tared : All (λ h. pos (face_at (faces groups) h.group).tare ≤ℤ MAX_TARE) held
+  pub tared : All (λ h. pos (nth_face (faces groups) h.group).tare ≤ℤ MAX_TARE) held
   tared k d within =
       let place = (get_or held k d).group in
       let there : place < length groups = sound.grouped k d within in
       at (get_or held k d).group there
     where
-      at : (place : ℕ) → place < length groups → pos (face_at (faces groups) place).tare ≤ℤ MAX_TARE
+      at : (place : ℕ) → place < length groups → pos (nth_face (faces groups) place).tare ≤ℤ MAX_TARE
       at place there =
           elim (slice_get_cases groups place).1 [
             | inl found ↦ subst (λ (face : Face). pos face.tare ≤ℤ MAX_TARE) (sym (face-at groups place found.0 there ∙ ap face_of found.3)) (sound.group place found.0 found.2).tare
@@ -38,12 +38,12 @@ cond_le true n m less = less
 cond_le false n m less = omega arith
 
 module _ (some : List Face) (number : ℕ) (batch : Batch) (held : List Held) (sums : AddsUp some held number batch) (light : All (λ h. pos h.gross ≤ℤ MAX_GROSS) held)
-    (taxed : All (λ h. pos (face_at some h.group).tare ≤ℤ MAX_TARE) held) where
-  pub gross_bound : (pile : Pile) → sum_by (gross_in some number pile) held ≤ length held * 30000000
-  gross_bound pile = sum_by-le (gross_in some number pile) 30000000 held (λ k d within. cond_le (belongs some number (get_or held k d) && same_pile (get_or held k d).pile pile) (get_or held k d).gross 30000000 (omega (arith, ints, light k d within)))
+    (taxed : All (λ h. pos (nth_face some h.group).tare ≤ℤ MAX_TARE) held) where
+  pub gross_bound : (pile : Pile) → sum_by (added_gross some number pile) held ≤ length held * at_least_0 MAX_GROSS
+  gross_bound pile = sum_by-le (added_gross some number pile) (at_least_0 MAX_GROSS) held (λ k d within. cond_le (belongs some number (get_or held k d) && same_pile (get_or held k d).pile pile) (get_or held k d).gross (at_least_0 MAX_GROSS) (omega (arith, ints, light k d within)))
 
-  pub tare_bound : sum_by (tare_in some number) held ≤ length held * 5000000
-  tare_bound = sum_by-le (tare_in some number) 5000000 held (λ k d within. cond_le (belongs some number (get_or held k d) && is_counted (get_or held k d).pile) (face_at some (get_or held k d).group).tare 5000000 (omega (arith, ints, taxed k d within)))
+  pub tare_bound : sum_by (added_tare some number) held ≤ length held * at_least_0 MAX_TARE
+  tare_bound = sum_by-le (added_tare some number) (at_least_0 MAX_TARE) held (λ k d within. cond_le (belongs some number (get_or held k d) && is_counted (get_or held k d).pile) (nth_face some (get_or held k d).group).tare (at_least_0 MAX_TARE) (omega (arith, ints, taxed k d within)))
 
   pub bounded : length held < 4294967296 → IsBounded batch
   bounded few =
@@ -56,7 +56,7 @@ module _ (some : List Face) (number : ℕ) (batch : Batch) (held : List Held) (s
         count = omega (arith, sums.count Passed, sums.count Sampled, counted_sum some number held);
       }
 
-  pub told : totals_among batch.limits (of_batch number (map (seen some) held)) ≡ shown batch
+  pub told : pack_totals batch.limits (of_batch number (map (seen some) held)) ≡ shown batch
   told =
       cc (
         length_in_pile some number Passed held,

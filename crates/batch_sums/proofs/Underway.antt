@@ -12,14 +12,14 @@ use Rattle.std.proofs.lemmas.List.{map-set}
 use Rattle.std.proofs.lemmas.List.Folds.{list_any-append}
 use Rattle.std.proofs.lemmas.List.Sums.{sum_by-le-sum_by}
 use Rattle.std.proofs.lemmas.Option.{slice_get_read, slice_get_within, slice_get-map}
-use Rattle.hall_limits.specs.declared.TheConstants.{MAX_TARE}
+use Rattle.hall_limits.specs.declared.TheConstants.{MAX_POPULATION, MAX_TARE}
 use Rattle.batch_sums.specs.declared.sums.BatchSums.TheInside.{Inside}
 use Rattle.batch_sums.specs.declared.batch.Batch.{Batch}
 use Rattle.batch_sums.specs.declared.group.Group.{Group}
 use Rattle.batch_sums.specs.declared.types.Held.{Held}
 use Rattle.batch_sums.specs.Totals.{is_counted}
 use Rattle.batch_sums.specs.declared.types.Pack.{Pack}
-use Rattle.batch_sums.specs.Groups.{Face, face_of, faces, face_at, IsJudged}
+use Rattle.batch_sums.specs.Groups.{Face, face_of, faces, nth_face, IsJudged}
 use Rattle.batch_sums.specs.Running.{HasShare, IsCorrected}
 use Rattle.batch_sums.specs.Kept.{Sound, IsGroup, is_member, seen, terms_of}
 use Rattle.batch_sums.specs.Changes.{HasFewPerGroup, group_population}
@@ -50,7 +50,7 @@ pub record IsUnderway (before now : Inside) (visited : List ℕ) (tare start ste
   pub reaches : reaches_of now.batches.items ≡ reaches_of before.batches.items
   pub terms : map terms_of now.batches.items ≡ map terms_of before.batches.items
   pub sound : Sound now.batches.items now.groups.items now.packs.items
-  pub face : (place : ℕ) → face_at (faces now.groups.items) place ≡ face_by visited tare place (face_at (faces before.groups.items) place)
+  pub face : (place : ℕ) → nth_face (faces now.groups.items) place ≡ face_by visited tare place (nth_face (faces before.groups.items) place)
   pub cost : HasFewPerGroup (map (seen (faces before.groups.items)) before.packs.items) → steps ≤ start + 36 * length visited
 
 pub face_by-key : (visited : List ℕ) (tare place : ℕ) (face : Face) → (face_by visited tare place face).key ≡ face.key
@@ -76,9 +76,9 @@ none_more group place visited differs =
     by false = refl
 
 -- a group has no more grosses than its batch and day have packs in the population
-population_of : (some : List Face) (place : ℕ) (held : List Held) → count_by (is_member place (λ mass. true)) held ≤ group_population (face_at some place).key.batch (pos (face_at some place).key.day) (map (seen some) held)
+population_of : (some : List Face) (place : ℕ) (held : List Held) → count_by (is_member place (λ mass. true)) held ≤ group_population (nth_face some place).key.batch (pos (nth_face some place).key.day) (map (seen some) held)
 population_of some place held =
-    let test : Pack → Bool = λ pack. ((pack.batch == (face_at some place).key.batch) && int_eq pack.day (pos (face_at some place).key.day)) && is_counted pack.pile in
+    let test : Pack → Bool = λ pack. ((pack.batch == (nth_face some place).key.batch) && int_eq pack.day (pos (nth_face some place).key.day)) && is_counted pack.pile in
     subst (λ n. count_by (is_member place (λ mass. true)) held ≤ n) (sym (sum_by-map (λ pack. cond (test pack) 1 0) (seen some) held))
     (sum_by-le-sum_by (λ h. cond (is_member place (λ mass. true) h) 1 0) (λ h. cond (test (seen some h)) 1 0) held (λ h. by h))
   where
@@ -89,14 +89,14 @@ population_of some place held =
     nothing_le : (b : Bool) → 0 ≤ cond b 1 0
     nothing_le b = omega arith
 
-    by : (h : Held) → cond ((eqb h.group place && is_counted h.pile) && true) 1 0 ≤ cond ((eqb (face_at some h.group).key.batch (face_at some place).key.batch && int_eq (pos (face_at some h.group).key.day) (pos (face_at some place).key.day)) && is_counted h.pile) 1 0
+    by : (h : Held) → cond ((eqb h.group place && is_counted h.pile) && true) 1 0 ≤ cond ((eqb (nth_face some h.group).key.batch (nth_face some place).key.batch && int_eq (pos (nth_face some h.group).key.day) (pos (nth_face some place).key.day)) && is_counted h.pile) 1 0
     by h =
         elim (cases_eq h.group place) [
           | inl same ↦
               let mine : cond ((eqb h.group place && is_counted h.pile) && true) (suc zero) zero ≡ cond ((true && is_counted h.pile) && true) (suc zero) zero = ap (λ b. cond ((b && is_counted h.pile) && true) (suc zero) zero) (eq-eqb h.group place same) in
-              let batch : eqb (face_at some h.group).key.batch (face_at some place).key.batch ≡ true = eq-eqb _ _ (ap (λ n. (face_at some n).key.batch) same) in
-              let day : int_eq (pos (face_at some h.group).key.day) (pos (face_at some place).key.day) ≡ true = subst (λ n. int_eq (pos (face_at some h.group).key.day) (pos (face_at some n).key.day) ≡ true) same (int_same (pos (face_at some h.group).key.day)) in
-              let its : cond ((eqb (face_at some h.group).key.batch (face_at some place).key.batch && int_eq (pos (face_at some h.group).key.day) (pos (face_at some place).key.day)) && is_counted h.pile) (suc zero) zero ≡ cond (is_counted h.pile) (suc zero) zero =
+              let batch : eqb (nth_face some h.group).key.batch (nth_face some place).key.batch ≡ true = eq-eqb _ _ (ap (λ n. (nth_face some n).key.batch) same) in
+              let day : int_eq (pos (nth_face some h.group).key.day) (pos (nth_face some place).key.day) ≡ true = subst (λ n. int_eq (pos (nth_face some h.group).key.day) (pos (nth_face some n).key.day) ≡ true) same (int_same (pos (nth_face some h.group).key.day)) in
+              let its : cond ((eqb (nth_face some h.group).key.batch (nth_face some place).key.batch && int_eq (pos (nth_face some h.group).key.day) (pos (nth_face some place).key.day)) && is_counted h.pile) (suc zero) zero ≡ cond (is_counted h.pile) (suc zero) zero =
               λ i. cond ((batch i && day i) && is_counted h.pile) (suc zero) zero in
               omega (arith, mine, its, le_any (is_counted h.pile))
           | inr differs ↦
@@ -115,8 +115,8 @@ module _ (before now : Inside) (visited : List ℕ) (tare start steps more : ℕ
   pub home_there : group.key.batch < length now.batches.items
   home_there = slice_get_within now.batches.items group.key.batch kept.batch kept.is
 
-  key_is : group.key ≡ (face_at (faces before.groups.items) place).key
-  key_is = ap (λ (f : Face). f.key) (sym (face-found now.groups.items place group at_group) ∙ under.face place) ∙ face_by-key visited tare place (face_at (faces before.groups.items) place)
+  key_is : group.key ≡ (nth_face (faces before.groups.items) place).key
+  key_is = ap (λ (f : Face). f.key) (sym (face-found now.groups.items place group at_group) ∙ under.face place) ∙ face_by-key visited tare place (nth_face (faces before.groups.items) place)
 
   module _ (batch : Batch) (read_batch : batch ≡ get_or now.batches.items group.key.batch batch) where
     pub at_batch : slice_get now.batches.items group.key.batch ≡ Some batch
@@ -126,24 +126,24 @@ module _ (before now : Inside) (visited : List ℕ) (tare start steps more : ℕ
     has_share = share now.batches.items now.groups.items now.packs.items under.sound place group at_group batch at_batch
 
     module _ (after : Group) (new : Batch) (light : pos tare ≤ℤ MAX_TARE) (face : face_of after ≡ record { key = group.key; tare = tare }) (grosses : after.grosses ≡ group.grosses) (judged : IsJudged batch.limits after) (changes : IsCorrected batch new group after) (reach : new.reach ≡ batch.reach)
-        (cost : length group.grosses ≤ 10000 → more ≤ steps + 36) where
+        (cost : length group.grosses ≤ MAX_POPULATION → more ≤ steps + 36) where
       key_after : after.key ≡ group.key
       key_after = ap (λ (f : Face). f.key) face
 
       terms_new : terms_of new ≡ terms_of batch
       terms_new = λ i. record { product = changes.product i; limits = changes.limits i }
 
-      face_after : (other : ℕ) → face_at (faces (set now.groups.items place after)) other ≡ face_by (visited ++ place ∷ []) tare other (face_at (faces before.groups.items) other)
+      face_after : (other : ℕ) → nth_face (faces (set now.groups.items place after)) other ≡ face_by (visited ++ place ∷ []) tare other (nth_face (faces before.groups.items) other)
       face_after other =
           elim (cases_eq other place) [
             | inl same ↦
-                subst (λ n. face_at (faces (set now.groups.items place after)) n ≡ face_by (visited ++ place ∷ []) tare n (face_at (faces before.groups.items) n)) (sym same)
+                subst (λ n. nth_face (faces (set now.groups.items place after)) n ≡ face_by (visited ++ place ∷ []) tare n (nth_face (faces before.groups.items) n)) (sym same)
                 (face-same now.groups.items place group after at_group key_after ∙ face
                 ∙ (λ i. record { key = key_is i; tare = tare })
-                ∙ sym (ap (λ b. cond b (record { key = (face_at (faces before.groups.items) place).key; tare = tare }) (face_at (faces before.groups.items) place)) (one_of place visited)))
+                ∙ sym (ap (λ b. cond b (record { key = (nth_face (faces before.groups.items) place).key; tare = tare }) (nth_face (faces before.groups.items) place)) (one_of place visited)))
             | inr differs ↦
                 face-other now.groups.items place group after at_group key_after other differs ∙ under.face other
-                ∙ sym (ap (λ b. cond b (record { key = (face_at (faces before.groups.items) other).key; tare = tare }) (face_at (faces before.groups.items) other)) (none_more place other visited differs))
+                ∙ sym (ap (λ b. cond b (record { key = (nth_face (faces before.groups.items) other).key; tare = tare }) (nth_face (faces before.groups.items) other)) (none_more place other visited differs))
           ]
 
       pub underway_more : IsUnderway before (record now { batches = with_item now.batches group.key.batch new; groups = with_item now.groups place after }) (visited ++ place ∷ []) tare start more
@@ -170,8 +170,8 @@ module _ (before now : Inside) (visited : List ℕ) (tare start steps more : ℕ
                 let most = population_of (faces before.groups.items) place before.packs.items in
                 let count = members now.batches.items now.groups.items now.packs.items under.sound place group at_group batch at_batch in
                 let same : count_by (is_member place (λ mass. true)) now.packs.items ≡ count_by (is_member place (λ mass. true)) before.packs.items = ap (λ (v : Vec Held Global). count_by (is_member place (λ mass. true)) v.items) under.packs in
-                let limit = few (face_at (faces before.groups.items) place).key.batch (pos (face_at (faces before.groups.items) place).key.day) in
-                let small : length group.grosses ≤ 10000 = omega (arith, ints, most, count, same, limit) in
+                let limit = few (nth_face (faces before.groups.items) place).key.batch (pos (nth_face (faces before.groups.items) place).key.day) in
+                let small : length group.grosses ≤ MAX_POPULATION = omega (arith, ints, most, count, same, limit) in
                 omega (arith, cost small, under.cost few, length-append visited (place ∷ []));
           }
 

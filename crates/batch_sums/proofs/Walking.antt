@@ -14,7 +14,8 @@ use Rattle.batch_sums.proofs.Chaining.{reach-le, reach-take, reach-at, of_batch-
 abbrev pub numbers_in : ℕ → List Pack → List ℕ
 numbers_in batch packs = numbers_of (population (of_batch batch packs))
 
--- a walk has come down to the packs that reach so far, and has the numbers behind them in the other order
+-- a walk has come down to the packs that reach so far, and has the numbers behind them in the other
+-- order
 pub record IsWalked (batch : ℕ) (packs : List Pack) (reach : ℕ) (numbers : List ℕ) : Type 0 where
   pub within : reach ≤ length packs
   pub reached : reach_of batch (take reach (homes_of packs)) ≡ reach

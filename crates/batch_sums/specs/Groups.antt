@@ -17,14 +17,20 @@ abbrev pub at_least_0 : ℤ → ℕ
 at_least_0 (pos mass) = mass
 at_least_0 (negsuc _) = 0
 
--- the least gross whose net isn't below a limit, among those that a pack may have; one more where there is none
+-- the least gross whose net isn't below a limit, among those that a pack may have; one more where
+-- there is none
 abbrev pub threshold : ℤ → ℕ → ℕ
-threshold limit tare = if int_lt MAX_GROSS limit then at_least_0 MAX_GROSS + 1 else at_least_0 (limit +ℤ pos tare)
+threshold limit tare =
+    if int_lt MAX_GROSS limit
+    then at_least_0 MAX_GROSS + 1
+    else at_least_0 (limit +ℤ pos tare)
 
 -- a group knows how many of its grosses have a net below each limit
 pub record IsJudged (limits : Limits) (group : Group) : Type 0 where
-  pub nonstandard : group.nonstandard ≡ count_by (λ gross. nat_lt (mass_of gross) (threshold limits.t1 group.tare)) group.grosses
-  pub inadequate : group.inadequate ≡ count_by (λ gross. nat_lt (mass_of gross) (threshold limits.t2 group.tare)) group.grosses
+  pub nonstandard : group.nonstandard
+      ≡ count_by (λ gross. nat_lt (mass_of gross) (threshold limits.t1 group.tare)) group.grosses
+  pub inadequate : group.inadequate
+      ≡ count_by (λ gross. nat_lt (mass_of gross) (threshold limits.t2 group.tare)) group.grosses
 
 -- what all packs of a group share: its key and its tare
 pub record Face : Type 0 where
@@ -42,19 +48,21 @@ abbrev pub no_face : Face
 no_face = record { key = record { product = 0; day = 0; batch = 0 }; tare = 0 }
 
 -- the face of the group at a place
-abbrev pub face_at : List Face → ℕ → Face
-face_at some group = slice_index_or some group no_face
+abbrev pub nth_face : List Face → ℕ → Face
+nth_face some group = slice_index_or some group no_face
 
 -- where the group at a place stands in the order of keys
-abbrev pub rank_at : List Face → ℕ → ℕ
-rank_at some group = rank_of (face_at some group).key
+abbrev pub nth_rank : List Face → ℕ → ℕ
+nth_rank some group = rank_of (nth_face some group).key
 
 -- how many groups of an order stand before those of a product on a day
-abbrev pub count_before : List Face → List ℕ → ℕ → ℕ → ℕ
-count_before some order product day =
-    count_by (λ group. nat_lt (rank_at some group) (rank_of (record { product = product; day = day; batch = 0 }))) order
+abbrev pub groups_before : List Face → List ℕ → ℕ → ℕ → ℕ
+groups_before some order product day =
+    count_by (λ group. nat_lt (nth_rank some group)
+    (rank_of (record { product = product; day = day; batch = 0 }))) order
 
 -- where in an order the groups of a product on some days stand
-pub record IsStretch (some : List Face) (order : List ℕ) (product : ℕ) (days : Days) (stretch : Stretch) : Type 0 where
-  pub first : stretch.first ≡ count_before some order product days.from
-  pub end : stretch.end ≡ max stretch.first (count_before some order product days.until)
+pub record IsStretch (some : List Face) (order : List ℕ) (product : ℕ) (days : Days)
+    (stretch : Stretch) : Type 0 where
+  pub first : stretch.first ≡ groups_before some order product days.from
+  pub end : stretch.end ≡ max stretch.first (groups_before some order product days.until)

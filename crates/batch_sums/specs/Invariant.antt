@@ -33,7 +33,8 @@ homes_of packs = map (λ pack. pack.batch) packs
 abbrev pub befores_of : List Held → List ℕ
 befores_of held = map (λ pack. pack.before) held
 
--- there is room for as many packs and batches more as are spare; a pack outside a population keeps a node for it, and each node that is in use has a place to come back to
+-- there is room for as many packs and batches more as are spare; a pack outside a population keeps
+-- a node for it, and each node that is in use has a place to come back to
 pub record IsRoomy (held : List Held) (sums : Inside) : Type 0 where
   pub batches : vec_len sums.batches + sums.spare ≤ vec_capacity sums.batches
   pub groups : vec_len sums.groups + sums.spare ≤ vec_capacity sums.groups
@@ -46,7 +47,8 @@ pub record IsRoomy (held : List Held) (sums : Inside) : Type 0 where
   pub few_packs : vec_len sums.packs + sums.spare < 2 ^ 32
 
 -- the lists fit together
-pub record IsSettled (batches : List Batch) (groups : List Group) (order : Tree ℕ) (held : List Held) (numbers : List ℕ) : Type 0 where
+pub record IsSettled (batches : List Batch) (groups : List Group) (order : Tree ℕ)
+    (held : List Held) (numbers : List ℕ) : Type 0 where
   pub sound : Sound batches groups held
   pub balanced : IsBalanced order
   pub index : IsIndex (faces groups) (items order)
@@ -54,10 +56,12 @@ pub record IsSettled (batches : List Batch) (groups : List Group) (order : Tree 
   pub small : length groups ≤ length held
   pub apart : (number : ℕ) → count_by (λ pack. pack.number == number) held ≤ 1
   pub numbered : numbers ≡ map (λ pack. pack.number) held
-  pub chained : IsChained (reaches_of batches) (homes_of (map (seen (faces groups)) held)) (befores_of held)
+  pub chained : IsChained (reaches_of batches) (homes_of (map (seen (faces groups)) held))
+      (befores_of held)
 
 pub record IsKept (sums : Inside) : Type 0 where
-  pub settled : IsSettled sums.batches.items sums.groups.items sums.order sums.packs.items sums.numbers.keys
+  pub settled : IsSettled sums.batches.items sums.groups.items sums.order
+      sums.packs.items sums.numbers.keys
   pub room : IsRoomy sums.packs.items sums
   pub tallied : IsTallied sums.piles sums.packs.items
 

@@ -13,18 +13,20 @@ use Rattle.batch_sums.specs.Rising.{IsRising, mass_of}
 use Rattle.batch_sums.specs.Totals.{Terms, same_pile, is_counted, totals_of}
 use Rattle.batch_sums.specs.declared.types.Pack.{Pack}
 use Rattle.batch_sums.specs.declared.types.Totals.{Totals}
-use Rattle.batch_sums.specs.Groups.{Face, face_of, face_at, faces, rank_at, threshold, IsJudged}
-use Rattle.batch_sums.specs.Running.{sum_in, pile_sum, count_at}
+use Rattle.batch_sums.specs.Groups.{Face, face_of, nth_face, faces, nth_rank, threshold, IsJudged}
+use Rattle.batch_sums.specs.Running.{sum_in, pile_sum, one_if_below}
 
--- what contracts see: the batches and the packs in the order in which they were added, and how many more are sure to find room
+-- what contracts see: the batches and the packs in the order in which they were added, and how many
+-- more are sure to find room
 pub record Sums : Type 0 where
   pub batches : List Terms
   pub packs : List Pack
   pub spare : ℕ
 
 -- the totals of a batch that was added
-abbrev pub totals_in : Sums → ℕ → Option Totals
-totals_in sums batch = option_map (λ terms. totals_of terms.limits sums.packs batch) (slice_get sums.batches batch)
+abbrev pub kept_totals : Sums → ℕ → Option Totals
+kept_totals sums batch =
+    option_map (λ terms. totals_of terms.limits sums.packs batch) (slice_get sums.batches batch)
 
 -- the limits of a batch that was added
 abbrev pub kept_limits : Sums → ℕ → Option Limits
@@ -38,71 +40,91 @@ abbrev pub seen : List Face → Held → Pack
 seen some held =
     record {
       number = held.number;
-      batch = (face_at some held.group).key.batch;
-      day = pos (face_at some held.group).key.day;
+      batch = (nth_face some held.group).key.batch;
+      day = pos (nth_face some held.group).key.day;
       gross = pos held.gross;
-      tare = pos (face_at some held.group).tare;
+      tare = pos (nth_face some held.group).tare;
       pile = held.pile;
     }
 
 abbrev pub belongs : List Face → ℕ → Held → Bool
-belongs some number held = (face_at some held.group).key.batch == number
+belongs some number held = (nth_face some held.group).key.batch == number
 
 -- the number of a pack, where it counts for the population
 abbrev pub counted_number : Held → List ℕ
 counted_number pack = if is_counted pack.pile then pack.number ∷ [] else []
 
--- what one pack adds to the sums of a batch: to the count and the gross of a pile, to the tares of the population, and to those below a limit
-abbrev pub count_in : List Face → ℕ → Pile → Held → ℕ
-count_in some number pile held = if belongs some number held && same_pile held.pile pile then 1 else 0
+-- what one pack adds to the sums of a batch: to the count and the gross of a pile, to the tares of
+-- the population, and to those below a limit
+abbrev pub added_count : List Face → ℕ → Pile → Held → ℕ
+added_count some number pile held =
+    if belongs some number held && same_pile held.pile pile then 1 else 0
 
-abbrev pub gross_in : List Face → ℕ → Pile → Held → ℕ
-gross_in some number pile held = if belongs some number held && same_pile held.pile pile then held.gross else 0
+abbrev pub added_gross : List Face → ℕ → Pile → Held → ℕ
+added_gross some number pile held =
+    if belongs some number held && same_pile held.pile pile then held.gross else 0
 
-abbrev pub tare_in : List Face → ℕ → Held → ℕ
-tare_in some number held = if belongs some number held && is_counted held.pile then (face_at some held.group).tare else 0
+abbrev pub added_tare : List Face → ℕ → Held → ℕ
+added_tare some number held =
+    if belongs some number held && is_counted held.pile
+    then (nth_face some held.group).tare
+    else 0
 
-abbrev pub below_in : List Face → ℕ → ℤ → Held → ℕ
-below_in some number limit held =
-    if belongs some number held then count_at held.pile held.gross (threshold limit (face_at some held.group).tare) else 0
+abbrev pub added_below : List Face → ℕ → ℤ → Held → ℕ
+added_below some number limit held =
+    if belongs some number held
+    then one_if_below held.pile held.gross (threshold limit (nth_face some held.group).tare)
+    else 0
 
 -- the sums of a batch are those of its packs
 pub record AddsUp (some : List Face) (held : List Held) (number : ℕ) (batch : Batch) : Type 0 where
-  pub count : (pile : Pile) → (pile_sum batch pile).count ≡ sum_by (count_in some number pile) held
-  pub gross : (pile : Pile) → (pile_sum batch pile).gross ≡ sum_by (gross_in some number pile) held
-  pub tares : batch.tares ≡ sum_by (tare_in some number) held
-  pub nonstandard : batch.nonstandard ≡ sum_by (below_in some number batch.limits.t1) held
-  pub inadequate : batch.inadequate ≡ sum_by (below_in some number batch.limits.t2) held
+  pub count : (pile : Pile) → (pile_sum batch pile).count
+      ≡ sum_by (added_count some number pile) held
+  pub gross : (pile : Pile) → (pile_sum batch pile).gross
+      ≡ sum_by (added_gross some number pile) held
+  pub tares : batch.tares ≡ sum_by (added_tare some number) held
+  pub nonstandard : batch.nonstandard ≡ sum_by (added_below some number batch.limits.t1) held
+  pub inadequate : batch.inadequate ≡ sum_by (added_below some number batch.limits.t2) held
 
 -- whether a pack is one of a group's that counts for the population, and passes a test of its gross
 abbrev pub is_member : ℕ → (ℕ → Bool) → Held → Bool
 is_member place test held = ((held.group == place) && is_counted held.pile) && test held.gross
 
--- a group is of a batch that is there, by whose limits its packs are judged, and has the grosses of its packs
-pub record IsGroup (batches : List Batch) (held : List Held) (place : ℕ) (group : Group) : Type 0 where
+-- a group is of a batch that is there, by whose limits its packs are judged, and has the grosses of
+-- its packs
+pub record IsGroup (batches : List Batch) (held : List Held) (place : ℕ) (group : Group)
+    : Type 0 where
   pub batch : Batch
   pub is : slice_get batches group.key.batch ≡ Some batch
   pub product : batch.product ≡ group.key.product
   pub judged : IsJudged batch.limits group
   pub tare : pos group.tare ≤ℤ MAX_TARE
-  pub grosses : (test : ℕ → Bool) → count_by (λ gross. test (mass_of gross)) group.grosses ≡ count_by (is_member place test) held
+  pub grosses : (test : ℕ → Bool)
+      → count_by (λ gross. test (mass_of gross)) group.grosses
+      ≡ count_by (is_member place test) held
 
 -- sums by pile are those of some packs
 pub record IsTallied (sums : PileSums) (held : List Held) : Type 0 where
-  pub count : (pile : Pile) → (sum_in sums pile).count ≡ count_by (λ pack. same_pile pack.pile pile) held
-  pub gross : (pile : Pile) → (sum_in sums pile).gross ≡ sum_by (λ pack. if same_pile pack.pile pile then pack.gross else 0) held
+  pub count : (pile : Pile) → (sum_in sums pile).count
+      ≡ count_by (λ pack. same_pile pack.pile pile) held
+  pub gross : (pile : Pile) → (sum_in sums pile).gross
+      ≡ sum_by (λ pack. if same_pile pack.pile pile then pack.gross else 0) held
 
--- how many of the batches that packs have there are up to the last that is this one; 0 where none is
+-- how many of the batches that packs have there are up to the last that is this one; 0 where none
+-- is
 abbrev pub reach_of : ℕ → List ℕ → ℕ
 reach_of batch [] = 0
 reach_of batch (home ∷ homes) =
     if home == batch || nat_lt 0 (reach_of batch homes) then reach_of batch homes + 1 else 0
 
--- the packs of each batch are chained: the batch tells how far they reach, and each pack how far those before it did
+-- the packs of each batch are chained: the batch tells how far they reach, and each pack how far
+-- those before it did
 pub record IsChained (reaches homes befores : List ℕ) : Type 0 where
   pub within : All (λ home. home < length reaches) homes
-  pub newest : (batch : ℕ) → batch < length reaches → slice_index reaches batch ≡ reach_of batch homes
-  pub before : (place : ℕ) → place < length homes → slice_index befores place ≡ reach_of (slice_index homes place) (take place homes)
+  pub newest : (batch : ℕ) → batch < length reaches
+      → slice_index reaches batch ≡ reach_of batch homes
+  pub before : (place : ℕ) → place < length homes
+      → slice_index befores place ≡ reach_of (slice_index homes place) (take place homes)
 
 -- a key's numbers are within their ranges
 pub record IsKey (face : Face) : Type 0 where
@@ -111,24 +133,27 @@ pub record IsKey (face : Face) : Type 0 where
 
 -- batches, groups and packs fit together
 pub record Sound (batches : List Batch) (groups : List Group) (held : List Held) : Type 0 where
-  pub group : (place : ℕ) (group : Group) → slice_get groups place ≡ Some group → IsGroup batches held place group
-  pub batch : (number : ℕ) (batch : Batch) → slice_get batches number ≡ Some batch → AddsUp (faces groups) held number batch
+  pub group : (place : ℕ) (group : Group) → slice_get groups place ≡ Some group
+      → IsGroup batches held place group
+  pub batch : (number : ℕ) (batch : Batch) → slice_get batches number ≡ Some batch
+      → AddsUp (faces groups) held number batch
   pub grouped : All (λ pack. pack.group < length groups) held
   pub light : All (λ pack. pos pack.gross ≤ℤ MAX_GROSS) held
   pub few : length held < 2 ^ 32
 
 -- the order has each group once, by rising keys that are all different
 pub record IsIndex (some : List Face) (order : List ℕ) : Type 0 where
-  pub rising : IsRising (rank_at some) order
+  pub rising : IsRising (nth_rank some) order
   pub within : All (λ place. place < length some) order
   pub once : (place : ℕ) → place < length some → count_by (λ other. other == place) order ≡ 1
-  pub distinct : (rank : ℕ) → count_by (λ place. rank_at some place == rank) order ≤ 1
-  pub keys : (place : ℕ) → place < length some → IsKey (face_at some place)
+  pub distinct : (rank : ℕ) → count_by (λ place. nth_rank some place == rank) order ≤ 1
+  pub keys : (place : ℕ) → place < length some → IsKey (nth_face some place)
   pub long : length order ≡ length some
 
 -- the group at a place has a key
 abbrev pub HasKey : List Group → ℕ → Key → Type 0
-HasKey groups place key = (group : Group) × (slice_get groups place ≡ Some group) × (group.key ≡ key)
+HasKey groups place key =
+    (group : Group) × (slice_get groups place ≡ Some group) × (group.key ≡ key)
 
 -- a group without packs was put behind the others
 pub record IsOpened (old new : List Group) (place : ℕ) (key : Key) (tare : ℕ) : Type 0 where

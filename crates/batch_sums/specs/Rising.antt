@@ -18,9 +18,11 @@ mass_of gross = gross.mass
 -- the grosses `more` are those of `less` and one besides: whatever is counted
 abbrev pub HasOneMore : ℕ → List Gross → List Gross → Type 0
 HasOneMore mass less more =
-    (test : ℕ → Bool) → count_by (λ gross. test (mass_of gross)) more ≡ count_by (λ gross. test (mass_of gross)) less + (if test mass then 1 else 0)
+    (test : ℕ → Bool) → count_by (λ gross. test (mass_of gross)) more
+    ≡ count_by (λ gross. test (mass_of gross)) less + (if test mass then 1 else 0)
 
 -- the grosses `more` are those of `less`, and one besides where it counts
 abbrev pub HasMoreIf : Bool → ℕ → List Gross → List Gross → Type 0
 HasMoreIf counts mass less more =
-    (test : ℕ → Bool) → count_by (λ gross. test (mass_of gross)) more ≡ count_by (λ gross. test (mass_of gross)) less + (if counts && test mass then 1 else 0)
+    (test : ℕ → Bool) → count_by (λ gross. test (mass_of gross)) more
+    ≡ count_by (λ gross. test (mass_of gross)) less + (if counts && test mass then 1 else 0)

@@ -26,24 +26,30 @@ pile_sum batch pile = sum_in batch.piles pile
 -- a pile counts one pack more, and no other does
 abbrev pub CountsOneMore : PileSums → PileSums → Pile → Type 0
 CountsOneMore before after pile =
-    (other : Pile) → (sum_in after other).count ≡ (sum_in before other).count + (if same_pile pile other then 1 else 0)
+    (other : Pile) → (sum_in after other).count
+    ≡ (sum_in before other).count + (if same_pile pile other then 1 else 0)
 
 -- the grosses of a pile are more by a mass, and those of no other
 abbrev pub WeighsMore : PileSums → PileSums → Pile → ℕ → Type 0
 WeighsMore before after pile mass =
-    (other : Pile) → (sum_in after other).gross ≡ (sum_in before other).gross + (if same_pile pile other then mass else 0)
+    (other : Pile) → (sum_in after other).gross
+    ≡ (sum_in before other).gross + (if same_pile pile other then mass else 0)
 
 -- 1 for a pack that counts for the population and is below a least gross
-abbrev pub count_at : Pile → ℕ → ℕ → ℕ
-count_at pile gross least = if is_counted pile && nat_lt gross least then 1 else 0
+abbrev pub one_if_below : Pile → ℕ → ℕ → ℕ
+one_if_below pile gross least = if is_counted pile && nat_lt gross least then 1 else 0
 
 -- the batch `after` has the packs of `before` and one more
 pub record IsEntered (before after : Batch) (pile : Pile) (mass tare : ℕ) : Type 0 where
-  pub count : (other : Pile) → (pile_sum after other).count ≡ (pile_sum before other).count + (if same_pile pile other then 1 else 0)
-  pub gross : (other : Pile) → (pile_sum after other).gross ≡ (pile_sum before other).gross + (if same_pile pile other then mass else 0)
+  pub count : (other : Pile) → (pile_sum after other).count
+      ≡ (pile_sum before other).count + (if same_pile pile other then 1 else 0)
+  pub gross : (other : Pile) → (pile_sum after other).gross
+      ≡ (pile_sum before other).gross + (if same_pile pile other then mass else 0)
   pub tares : after.tares ≡ before.tares + (if is_counted pile then tare else 0)
-  pub nonstandard : after.nonstandard ≡ before.nonstandard + count_at pile mass (threshold before.limits.t1 tare)
-  pub inadequate : after.inadequate ≡ before.inadequate + count_at pile mass (threshold before.limits.t2 tare)
+  pub nonstandard : after.nonstandard
+      ≡ before.nonstandard + one_if_below pile mass (threshold before.limits.t1 tare)
+  pub inadequate : after.inadequate
+      ≡ before.inadequate + one_if_below pile mass (threshold before.limits.t2 tare)
   pub product : after.product ≡ before.product
   pub limits : after.limits ≡ before.limits
 
@@ -60,10 +66,11 @@ pub record Covers (batch : Batch) (pile : Pile) (mass tare : ℕ) : Type 0 where
   pub count : 0 < (pile_sum batch pile).count
   pub gross : mass ≤ (pile_sum batch pile).gross
   pub tares : (if is_counted pile then tare else 0) ≤ batch.tares
-  pub nonstandard : count_at pile mass (threshold batch.limits.t1 tare) ≤ batch.nonstandard
-  pub inadequate : count_at pile mass (threshold batch.limits.t2 tare) ≤ batch.inadequate
+  pub nonstandard : one_if_below pile mass (threshold batch.limits.t1 tare) ≤ batch.nonstandard
+  pub inadequate : one_if_below pile mass (threshold batch.limits.t2 tare) ≤ batch.inadequate
 
--- a group's packs are among those that the sums are of, and there is room for any other share of theirs
+-- a group's packs are among those that the sums are of, and there is room for any other share of
+-- theirs
 pub record HasShare (batch : Batch) (group : Group) : Type 0 where
   pub tares : length group.grosses * group.tare ≤ batch.tares
   pub nonstandard : group.nonstandard ≤ batch.nonstandard
@@ -76,7 +83,8 @@ pub record HasShare (batch : Batch) (group : Group) : Type 0 where
 -- the sums of a batch after one of its groups was judged anew
 pub record IsCorrected (before after : Batch) (old new : Group) : Type 0 where
   pub piles : (pile : Pile) → pile_sum after pile ≡ pile_sum before pile
-  pub tares : after.tares + length old.grosses * old.tare ≡ before.tares + length new.grosses * new.tare
+  pub tares : after.tares + length old.grosses * old.tare
+      ≡ before.tares + length new.grosses * new.tare
   pub nonstandard : after.nonstandard + old.nonstandard ≡ before.nonstandard + new.nonstandard
   pub inadequate : after.inadequate + old.inadequate ≡ before.inadequate + new.inadequate
   pub product : after.product ≡ before.product
@@ -91,27 +99,27 @@ pub record IsBounded (batch : Batch) : Type 0 where
   pub tares : batch.tares < 2 ^ 61
   pub count : batch.piles.passed.count + batch.piles.sampled.count < 2 ^ 32
 
-abbrev pub tally_of : PileSum → Tally
-tally_of sum = record { count = sum.count; gross = pos sum.gross }
+abbrev pub shown_tally : PileSum → Tally
+shown_tally sum = record { count = sum.count; gross = pos sum.gross }
 
 -- the sums of each pile as tallies
-abbrev pub tallies_of : PileSums → Piles
-tallies_of sums =
+abbrev pub shown_tallies : PileSums → Piles
+shown_tallies sums =
     record {
-      passed = tally_of sums.passed;
-      rejected = tally_of sums.rejected;
-      sampled = tally_of sums.sampled;
-      voided = tally_of sums.voided;
+      passed = shown_tally sums.passed;
+      rejected = shown_tally sums.rejected;
+      sampled = shown_tally sums.sampled;
+      voided = shown_tally sums.voided;
     }
 
 -- the sums of a batch as totals
 abbrev pub shown : Batch → Totals
 shown batch =
     record {
-      passed = tally_of batch.piles.passed;
-      rejected = tally_of batch.piles.rejected;
-      sampled = tally_of batch.piles.sampled;
-      voided = tally_of batch.piles.voided;
+      passed = shown_tally batch.piles.passed;
+      rejected = shown_tally batch.piles.rejected;
+      sampled = shown_tally batch.piles.sampled;
+      voided = shown_tally batch.piles.voided;
       population = batch.piles.passed.count + batch.piles.sampled.count;
       net = pos (batch.piles.passed.gross + batch.piles.sampled.gross) -ℤ pos batch.tares;
       nonstandard = batch.nonstandard;

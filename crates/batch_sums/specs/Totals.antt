@@ -1,4 +1,5 @@
--- Packs as a caller sees them, and the totals of a batch: filters and sums over the packs that were added. All masses are mg.
+-- Packs as a caller sees them, and the totals of a batch: filters and sums over the packs that were
+-- added. All masses are mg.
 use Rattle.std.specs.Prelude.{ℕ, ℤ, pos, ◌+ℤ◌, ◌-ℤ◌, Bool, true, false, ◌==◌, List, [], ◌∷◌, length, filter, count_by, int_lt}
 use Rattle.annex_tables.specs.declared.types.Limits.{Limits}
 use Rattle.pack_judge.specs.declared.types.Pile.{Pile}
@@ -58,8 +59,8 @@ abbrev pub count_below : ℤ → List Pack → ℕ
 count_below limit packs = count_by (λ pack. int_lt (net_of pack) limit) packs
 
 -- the totals of some packs by two limits
-abbrev pub totals_among : Limits → List Pack → Totals
-totals_among limits packs =
+abbrev pub pack_totals : Limits → List Pack → Totals
+pack_totals limits packs =
     record {
       passed = tally (in_pile Passed packs);
       rejected = tally (in_pile Rejected packs);
@@ -73,4 +74,4 @@ totals_among limits packs =
 
 -- the totals of a batch
 abbrev pub totals_of : Limits → List Pack → ℕ → Totals
-totals_of limits packs batch = totals_among limits (of_batch batch packs)
+totals_of limits packs batch = pack_totals limits (of_batch batch packs)

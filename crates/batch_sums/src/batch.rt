@@ -1,6 +1,6 @@
 ghost use Rattle.std.specs.Prelude.{◌-◌, ◌^◌, ◌≡◌, pos, length, ◌+◌, ◌<◌, ◌≤◌, ◌≤ℤ◌};
 ghost use Rattle.batch_sums.specs.Totals.{is_counted};
-ghost use Rattle.batch_sums.specs.Running.{sum_in, pile_sum, CountsOneMore, WeighsMore, tallies_of, IsEntered, HasRoom, Covers, HasShare, IsCorrected, IsBounded, shown};
+ghost use Rattle.batch_sums.specs.Running.{sum_in, pile_sum, CountsOneMore, WeighsMore, shown_tallies, IsEntered, HasRoom, Covers, HasShare, IsCorrected, IsBounded, shown};
 ghost use Rattle.batch_sums.specs.Groups.{IsJudged, face_of};
 ghost use Rattle.pack_judge.specs.declared.types.Pile.{Pile};
 
@@ -33,7 +33,8 @@ pub struct PileSums {
 pub struct Batch {
     pub product: u32,
     pub limits: Limits,
-    // How many packs of all batches there were when its newest one had been added: 0 where it has none.
+    // How many packs of all batches there were when its newest one had been added: 0 where it has
+    // none.
     pub reach: u32,
     pub piles: PileSums,
     // The sum of the tares of the population.
@@ -133,7 +134,7 @@ impl PileSums {
     /// The tallies of the packs, a pile each.
     pub fn tallies(&self) -> Piles
         requires { (pile : Pile) → (sum_in self.now pile).gross < 2 ^ 63 }
-        ensures { result ≡ tallies_of self.now }
+        ensures { result ≡ shown_tallies self.now }
     {
         Piles {
             passed: self.passed.tally(),

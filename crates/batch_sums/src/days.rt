@@ -15,7 +15,8 @@ pub struct Days {
 /// The days of a span that packs may have.
 pub fn days_of(span: &Span) -> Days
     ensures small { (result.from < 2 ^ 32) × (result.until < 2 ^ 32) }
-    ensures covers { (day : ℕ) → pos day ≤ℤ MAX_DAY → covers span.now (pos day) ≡ (nat_le result.from day && nat_lt day result.until) }
+    ensures covers { (day : ℕ) → pos day ≤ℤ MAX_DAY → covers span.now (pos day)
+        ≡ (nat_le result.from day && nat_lt day result.until) }
 {
     let until = match span.until {
         None => MAX_DAY as u32 + 1,
@@ -27,10 +28,11 @@ pub fn days_of(span: &Span) -> Days
     }
 }
 
-// A day as one that packs may have, or the one behind them all.
+// A day as one that packs may have, or the one after them all.
 fn within_days(day: i32) -> u32
     ensures from { (other : ℕ) → pos other ≤ℤ MAX_DAY → nat_le result other ≡ le_z day (pos other) }
-    ensures until { (other : ℕ) → pos other ≤ℤ MAX_DAY → nat_lt other result ≡ lt_z (pos other) day }
+    ensures until { (other : ℕ) → pos other ≤ℤ MAX_DAY
+        → nat_lt other result ≡ lt_z (pos other) day }
 {
     if day < 0 {
         return 0;

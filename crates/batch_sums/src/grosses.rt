@@ -32,7 +32,8 @@ impl Model for Grosses {
 
     ghost view = { λ g. items g.tree };
 
-    ghost invariant = { λ g. IsBalanced g.tree × IsRising mass_of (items g.tree) × (length (items g.tree) < 2 ^ 32) };
+    ghost invariant = { λ g.
+        IsBalanced g.tree × IsRising mass_of (items g.tree) × (length (items g.tree) < 2 ^ 32) };
 }
 
 impl Grosses {
@@ -66,7 +67,7 @@ impl Grosses {
         ensures value { result ≡ count_by (λ gross. nat_lt (mass_of gross) limit) self.now }
         ensures cost { length self.now ≤ MAX_POPULATION → steps.new ≤ steps.old + 18 }
     {
-        count_in(&self.tree, limit, steps)
+        count_lighter(&self.tree, limit, steps)
     }
 
     // Where a gross stands, or would stand.
@@ -106,7 +107,7 @@ impl Grosses {
 
 // How many grosses of a tree are below a limit: one step a level.
 #[tactic(auto, using(crate::proofs::Descents::descending))]
-fn count_in<L: Ledger>(tree: &Tree<Gross>, limit: u32, steps: &mut Steps<L>) -> u32
+fn count_lighter<L: Ledger>(tree: &Tree<Gross>, limit: u32, steps: &mut Steps<L>) -> u32
     requires balanced { IsBalanced tree.now }
     requires rising { IsRising mass_of (items tree.now) }
     requires few { length (items tree.now) < 2 ^ 32 }
@@ -117,8 +118,8 @@ fn count_in<L: Ledger>(tree: &Tree<Gross>, limit: u32, steps: &mut Steps<L>) -> 
         return 0;
     };
     if Grosses::less(root, limit, steps) {
-        root.left.count() + 1 + count_in(&root.right, limit, steps)
+        root.left.count() + 1 + count_lighter(&root.right, limit, steps)
     } else {
-        count_in(&root.left, limit, steps)
+        count_lighter(&root.left, limit, steps)
     }
 }

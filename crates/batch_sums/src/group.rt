@@ -12,7 +12,8 @@ use hall_limits::{MAX_GROSS, MAX_POPULATION, MAX_TARE};
 use pack_judge::Pile;
 use std::sync::ledger::Ledger;
 
-/// What a group is found by. The groups of a product stand together, those of a day within it, and in these the batches.
+/// What a group is found by. The groups of a product stand together, those of a day within it, and
+/// in these the batches.
 #[derive(Clone, Copy)]
 pub struct Key {
     pub product: u32,
@@ -59,7 +60,8 @@ pub struct Group {
     pub inadequate: u32,
 }
 
-// The least gross in mg whose net isn't below a limit in mg, among those that a pack may have; one more where there is none.
+// The least gross in mg whose net isn't below a limit in mg, among those that a pack may have; one
+// more where there is none.
 fn least_gross(limit: i64, tare: u32) -> u32
     requires { pos tare ≤ℤ MAX_TARE }
     ensures { result ≡ threshold limit tare }
@@ -150,7 +152,8 @@ impl Group {
         node
     }
 
-    /// A pack of this pile and gross in mg comes into the group. It takes a spare node where it counts for the population.
+    /// A pack of this pile and gross in mg comes into the group. It takes a spare node where it
+    /// counts for the population.
     pub fn enter(
         &mut self,
         limits: &Limits,
@@ -176,8 +179,8 @@ impl Group {
         }
     }
 
-    /// A pack of this pile and gross in mg goes out of the group. Its node becomes a spare one where it counted for the
-    /// population.
+    /// A pack of this pile and gross in mg goes out of the group. Its node becomes a spare one
+    /// where it counted for the population.
     pub fn leave(
         &mut self,
         limits: &Limits,
@@ -186,7 +189,8 @@ impl Group {
         nodes: &mut Vec<Box<Node<Gross>>>,
     )
         requires tare { pos self.old.tare ≤ℤ MAX_TARE }
-        requires contained { is_counted pile ≡ true → 0 < count_by (λ other. mass_of other == gross) self.old.grosses }
+        requires contained { is_counted pile ≡ true
+            → 0 < count_by (λ other. mass_of other == gross) self.old.grosses }
         requires judged { IsJudged limits.now self.old }
         requires room { is_counted pile ≡ true → vec_len nodes.old < vec_capacity nodes.old }
         ensures judged { IsJudged limits.now self.new }

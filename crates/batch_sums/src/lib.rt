@@ -1,6 +1,6 @@
-//! The totals of each batch, kept running: packs are added and move between piles, and a corrected tare of a
-//! product is worked in by the limits of each group of packs, without a walk over the packs. All masses are
-//! whole milligrams.
+//! The totals of each batch, kept running: packs are added and move between piles, and a corrected
+//! tare of a product is worked in by the limits of each group of packs, without a walk over the
+//! packs. All masses are whole milligrams.
 #![tactic(auto)]
 
 mod batch;

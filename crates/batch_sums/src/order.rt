@@ -3,20 +3,23 @@ ghost use Rattle.batch_sums.specs.Kept.{IsIndex, IsKey, HasKey, IsOpened};
 ghost use Rattle.std.specs.List.{All};
 ghost use Rattle.balanced_tree.specs.Trees.{items, height_of, IsBalanced};
 ghost use Rattle.batch_sums.specs.Rising.{IsRising};
-ghost use Rattle.batch_sums.specs.Groups.{rank_of, rank_at, faces, IsStretch};
+ghost use Rattle.batch_sums.specs.Groups.{rank_of, nth_rank, faces, IsStretch};
 
 use crate::days::Days;
 use crate::group::{Group, Key};
 use balanced_tree::{Node, Tree, insert};
 use std::mem;
 
-/// How many groups stand before a key, in the order of keys: where the group of that key stands, or would stand.
+/// How many groups stand before a key, in the order of keys: where the group of that key stands, or
+/// would stand.
 pub fn place_of(order: &Tree<u32>, groups: &[Group], key: &Key) -> u32
     requires balanced { IsBalanced order.now }
-    requires rising { IsRising (rank_at (faces groups.now)) (items order.now) }
+    requires rising { IsRising (nth_rank (faces groups.now)) (items order.now) }
     requires within { All (λ group. group < length groups.now) (items order.now) }
     requires few { length (items order.now) < 2 ^ 32 }
-    ensures { result ≡ count_by (λ group. nat_lt (rank_at (faces groups.now) group) (rank_of key.now)) (items order.now) }
+    ensures { result ≡ count_by
+        (λ group. nat_lt (nth_rank (faces groups.now) group) (rank_of key.now))
+        (items order.now) }
 {
     let Some(root) = order.root() else {
         return 0;
@@ -28,7 +31,8 @@ pub fn place_of(order: &Tree<u32>, groups: &[Group], key: &Key) -> u32
     }
 }
 
-/// The places of the order at which the groups of a product on some days stand: from the first on, before the end.
+/// The places of the order at which the groups of a product on some days stand: from the first on,
+/// before the end.
 #[derive(Clone, Copy)]
 pub struct Stretch {
     pub first: u32,
@@ -38,7 +42,7 @@ pub struct Stretch {
 /// Where the groups of a product on some days stand in the order of keys.
 pub fn stretch_of(order: &Tree<u32>, groups: &[Group], product: u32, days: Days) -> Stretch
     requires balanced { IsBalanced order.now }
-    requires rising { IsRising (rank_at (faces groups.now)) (items order.now) }
+    requires rising { IsRising (nth_rank (faces groups.now)) (items order.now) }
     requires within { All (λ group. group < length groups.now) (items order.now) }
     requires few { length (items order.now) < 2 ^ 32 }
     ensures { IsStretch (faces groups.now) (items order.now) product days result }
@@ -66,7 +70,9 @@ fn find(order: &Tree<u32>, groups: &[Group], key: &Key) -> Option<u32>
     requires index { IsIndex (faces groups.now) (items order.now) }
     requires few { length groups.now < 2 ^ 32 }
     ensures some { IfSome result (λ group. HasKey groups.now group key.now) }
-    ensures none { IfNone result (count_by (λ group. rank_at (faces groups.now) group == rank_of key.now) (items order.now) ≡ 0) }
+    ensures none { IfNone result (count_by
+        (λ group. nth_rank (faces groups.now) group == rank_of key.now)
+        (items order.now) ≡ 0) }
 {
     let place = place_of(order, groups, key);
     let Some(group) = order.get(place) else {
@@ -93,7 +99,9 @@ fn open_group(
     requires few { vec_len groups.old + 1 < 2 ^ 32 }
     requires spare { 0 < vec_len spare.old }
     requires key { IsKey (record { key = key; tare = tare }) }
-    requires absent { count_by (λ group. rank_at (faces groups.old.items) group == rank_of key) (items order.old) ≡ 0 }
+    requires absent { count_by
+        (λ group. nth_rank (faces groups.old.items) group == rank_of key)
+        (items order.old) ≡ 0 }
     ensures balanced { IsBalanced order.new }
     ensures index { IsIndex (faces groups.new.items) (items order.new) }
     ensures opened { IsOpened groups.old.items groups.new.items result key tare }
@@ -129,7 +137,8 @@ pub fn find_or_open(
     requires key { IsKey (record { key = key; tare = tare }) }
     ensures balanced { IsBalanced order.new }
     ensures index { IsIndex (faces groups.new.items) (items order.new) }
-    ensures group { ((groups.new.items ≡ groups.old.items) × HasKey groups.old.items result key) ⊎ IsOpened groups.old.items groups.new.items result key tare }
+    ensures group { ((groups.new.items ≡ groups.old.items) × HasKey groups.old.items result key)
+        ⊎ IsOpened groups.old.items groups.new.items result key tare }
     ensures capacity { vec_capacity groups.old ≤ vec_capacity groups.new }
     ensures nodes { vec_len spare.old ≤ vec_len spare.new + 1 }
 {

@@ -36,8 +36,8 @@ pub fn reserve_places(
     Ok(())
 }
 
-/// Adds so many nodes to the spare ones for grosses, with places for those of so many packs to come back to, and makes
-/// those for groups at least `spare`.
+/// Adds so many nodes to the spare ones for grosses, with places for those of so many packs to come
+/// back to, and makes those for groups at least `spare`.
 pub fn reserve_nodes(
     gross_nodes: &mut Vec<Box<Node<Gross>>>,
     order_nodes: &mut Vec<Box<Node<u32>>>,
@@ -50,7 +50,9 @@ pub fn reserve_nodes(
     ensures ok_order { OnOk result (spare ≤ vec_len order_nodes.new) }
     ensures gross { vec_len gross_nodes.old ≤ vec_len gross_nodes.new }
     ensures order { vec_len order_nodes.old ≤ vec_len order_nodes.new }
-    ensures back { (used : ℕ) → used ≤ packs → vec_len gross_nodes.old + used ≤ vec_capacity gross_nodes.old → vec_len gross_nodes.new + used ≤ vec_capacity gross_nodes.new }
+    ensures back { (used : ℕ) → used ≤ packs
+        → vec_len gross_nodes.old + used ≤ vec_capacity gross_nodes.old
+        → vec_len gross_nodes.new + used ≤ vec_capacity gross_nodes.new }
 {
     let alloc = *gross_nodes.allocator();
     gross_nodes.reserve(packs + more as usize)?;

@@ -3,8 +3,8 @@ ghost use Rattle.std.specs.Prelude.{◌≡◌, ◌+◌, ◌<◌};
 use std::marker::Model;
 use std::sync::ledger::{Blank, Book, Ledger, Share};
 
-/// The most steps that a corrected tare takes in a group of at most `MAX_POPULATION` packs: a balanced tree of
-/// so many has 18 levels, and each of the two limits goes down once.
+/// The most steps that a corrected tare takes in a group of at most `MAX_POPULATION` packs: a
+/// balanced tree of so many has 18 levels, and each of the two limits goes down once.
 pub const STEPS_PER_GROUP: u64 = 40;
 
 /// How many times a gross was looked at. It takes no bytes, and only `tick` changes it, by one.

@@ -1,5 +1,5 @@
 ghost use Rattle.std.specs.Prelude.{◌≡◌, ℕ, List, pos, find, map, ◌==◌, ◌*◌, Some, IsTrue, true, false, ◌≤ℤ◌, ◌+◌, ◌<◌, ◌≤◌, [], ◌∷◌, ◌++◌, length, IsOk, IfOk, OnOk, OnErr, if◌then◌else◌};
-ghost use Rattle.batch_sums.specs.Kept.{totals_in, kept_limits, counted_number};
+ghost use Rattle.batch_sums.specs.Kept.{kept_totals, kept_limits, counted_number};
 ghost use Rattle.batch_sums.specs.Totals.{is_counted, population, of_batch};
 ghost use Rattle.batch_sums.specs.Asked.{numbers_of, piles_of, concerned_in, chosen_batches, IsLeast, IsLeastWith};
 ghost use Rattle.batch_sums.specs.Changes.{is_added, moved, corrected, concerned, group_count, IsUpTo, IsTareOf, HasFewPerGroup};
@@ -34,8 +34,8 @@ pub struct BatchSums {
     numbers: IndexSet<u32>,
     // The sums of the packs of all batches.
     piles: PileSums,
-    // Spare nodes: one for each pack that doesn't count for a population, and for each place that is reserved; and one for
-    // the group that each reserved place may open.
+    // Spare nodes: one for each pack that doesn't count for a population, and for each place that
+    // is reserved; and one for the group that each reserved place may open.
     gross_nodes: Vec<Box<Node<Gross>>>,
     order_nodes: Vec<Box<Node<u32>>>,
     // How many packs and batches more are sure to find room.
@@ -52,7 +52,11 @@ impl Model for BatchSums {
     ghost use Rattle.batch_sums.specs.Kept.{seen, terms_of};
     ghost use Rattle.batch_sums.specs.Invariant.{IsKept};
 
-    ghost view = { λ s. record { batches = map terms_of s.batches.items; packs = map (seen (faces s.groups.items)) s.packs.items; spare = s.spare } };
+    ghost view = { λ s. record {
+      batches = map terms_of s.batches.items;
+      packs = map (seen (faces s.groups.items)) s.packs.items;
+      spare = s.spare;
+    } };
 
     ghost invariant = { IsKept };
 }
@@ -76,13 +80,16 @@ impl BatchSums {
         }
     }
 
-    /// Adds a batch of a product. The limits are in mg: a net below `t1` is non-standard, one below `t2` inadequate;
-    /// equality with a limit is not below it. For goods by volume the caller hands in limits in mg that are rounded up
-    /// for their density. The result is the number of the batch: the first is 0.
+    /// Adds a batch of a product. The limits are in mg: a net below `t1` is non-standard, one below
+    /// `t2` inadequate; equality with a limit is not below it. For goods by volume the caller hands
+    /// in limits in mg that are rounded up for their density. The result is the number of the
+    /// batch: the first is 0.
     ///
     /// It is refused only for want of memory, and never while a place is reserved.
     pub fn add_batch(&mut self, product: u32, limits: Limits) -> Result<u32, NoMemory>
-        ensures ok { IfOk result (λ batch. (batch ≡ length self.old.batches) × (self.new.batches ≡ self.old.batches ++ record { product = product; limits = limits } ∷ [])) }
+        ensures ok { IfOk result (λ batch. (batch ≡ length self.old.batches)
+            × (self.new.batches
+            ≡ self.old.batches ++ record { product = product; limits = limits } ∷ [])) }
         ensures err { OnErr result (self.new.batches ≡ self.old.batches) }
         ensures packs { self.new.packs ≡ self.old.packs }
         ensures room { 0 < self.old.spare → IsOk result }
@@ -130,8 +137,8 @@ impl BatchSums {
         Ok(())
     }
 
-    /// Adds a pack of a batch, with its number, its day since 1970-01-01, its gross and the tare of its batch and day in mg,
-    /// and the pile that it lies in.
+    /// Adds a pack of a batch, with its number, its day since 1970-01-01, its gross and the tare of
+    /// its batch and day in mg, and the pile that it lies in.
     ///
     /// It is refused only for want of memory, and never while a place is reserved.
     pub fn add(
@@ -149,7 +156,15 @@ impl BatchSums {
         requires gross { IsUpTo MAX_GROSS gross }
         requires tare { IsUpTo MAX_TARE tare }
         requires same_tare { IsTareOf batch day tare self.old.packs }
-        ensures ok { OnOk result (self.new.packs ≡ self.old.packs ++ record { number = pack; batch = batch; day = day; gross = gross; tare = tare; pile = pile } ∷ []) }
+        ensures ok { OnOk result (self.new.packs ≡ self.old.packs
+            ++ record {
+              number = pack;
+              batch = batch;
+              day = day;
+              gross = gross;
+              tare = tare;
+              pile = pile;
+            } ∷ []) }
         ensures err { OnErr result (self.new.packs ≡ self.old.packs) }
         ensures batches { self.new.batches ≡ self.old.batches }
         ensures room { 0 < self.old.spare → IsOk result }
@@ -169,7 +184,15 @@ impl BatchSums {
         requires gross { pos gross ≤ℤ MAX_GROSS }
         requires tare { pos tare ≤ℤ MAX_TARE }
         requires same_tare { IsTareOf batch (pos day) (pos tare) self.old.packs }
-        ensures packs { self.new.packs ≡ self.old.packs ++ record { number = pack; batch = batch; day = pos day; gross = pos gross; tare = pos tare; pile = pile } ∷ [] }
+        ensures packs { self.new.packs ≡ self.old.packs
+            ++ record {
+              number = pack;
+              batch = batch;
+              day = pos day;
+              gross = pos gross;
+              tare = pos tare;
+              pile = pile;
+            } ∷ [] }
         ensures batches { self.new.batches ≡ self.old.batches }
         ensures spare { self.new.spare + 1 ≡ self.old.spare }
     {
@@ -230,15 +253,18 @@ impl BatchSums {
         self.packs[place] = Held { pile: to, ..held };
     }
 
-    /// The packs of a product on the days of a span have this tare in mg from now on. It takes no memory, and for each
-    /// group of these packs, those of one batch and day, at most 40 steps where no group has more than 10 000 packs in its
-    /// population.
+    /// The packs of a product on the days of a span have this tare in mg from now on. It takes no
+    /// memory, and for each group of these packs, those of one batch and day, at most 40 steps
+    /// where no group has more than 10 000 packs in its population.
     pub fn rejudge<L: Ledger>(&mut self, product: u32, span: Span, tare: i64, steps: &mut Steps<L>)
         requires tare { IsUpTo MAX_TARE tare }
-        ensures packs { self.new.packs ≡ corrected self.old.batches product span tare self.old.packs }
+        ensures packs { self.new.packs
+            ≡ corrected self.old.batches product span tare self.old.packs }
         ensures batches { self.new.batches ≡ self.old.batches }
         ensures spare { self.new.spare ≡ self.old.spare }
-        ensures cost { HasFewPerGroup self.old.packs → steps.new ≤ steps.old + STEPS_PER_GROUP * group_count (concerned self.old.batches product span self.old.packs) }
+        ensures cost { HasFewPerGroup self.old.packs → steps.new ≤ steps.old
+            + STEPS_PER_GROUP
+            * group_count (concerned self.old.batches product span self.old.packs) }
     {
         let Stretch { first, end } = stretch_of(&self.order, &self.groups, product, days_of(&span));
         let tare = tare as u32;
@@ -255,7 +281,7 @@ impl BatchSums {
     /// The totals of a batch over the packs that were added. It takes no memory and no walk.
     pub fn totals(&self, batch: u32) -> Totals
         requires { batch < length self.now.batches }
-        ensures { totals_in self.now batch ≡ Some result }
+        ensures { kept_totals self.now batch ≡ Some result }
     {
         let batch = &self.batches[batch as usize];
         batch.totals()
@@ -269,7 +295,8 @@ impl BatchSums {
         self.batches[batch as usize].limits
     }
 
-    /// The pack that was added with this number, as it now is, and `None` where none was. It takes no memory and no walk.
+    /// The pack that was added with this number, as it now is, and `None` where none was. It takes
+    /// no memory and no walk.
     pub fn pack(&self, number: u32) -> Option<Pack>
         ensures { result ≡ find (λ pack. pack.number == number) self.now.packs }
     {
@@ -286,11 +313,13 @@ impl BatchSums {
         })
     }
 
-    /// The numbers of the packs of a batch that count for its population, in the order in which they were added. It takes
-    /// memory for the result alone, and walks over the packs of the batch alone.
+    /// The numbers of the packs of a batch that count for its population, in the order in which
+    /// they were added. It takes memory for the result alone, and walks over the packs of the batch
+    /// alone.
     pub fn population(&self, alloc: Global, batch: u32) -> Result<Vec<u64>, NoMemory>
         requires { batch < length self.now.batches }
-        ensures { IfOk result (λ v. v.items ≡ numbers_of (population (of_batch batch self.now.packs))) }
+        ensures { IfOk result (λ v.
+            v.items ≡ numbers_of (population (of_batch batch self.now.packs))) }
     {
         let batch = &self.batches[batch as usize];
         let mut numbers = Vec::with_capacity(alloc, batch.population() as usize)?;
@@ -304,12 +333,14 @@ impl BatchSums {
         Ok(numbers)
     }
 
-    /// The least number of a batch of a product that is chosen and has a pack on a day of a span, whatever its pile, and
-    /// `None` where no batch is so; `chosen` has a flag for each batch. It takes no memory, and walks over the groups of
-    /// the product in the span, those of one batch and day.
+    /// The least number of a batch of a product that is chosen and has a pack on a day of a span,
+    /// whatever its pile, and `None` where no batch is so; `chosen` has a flag for each batch. It
+    /// takes no memory, and walks over the groups of the product in the span, those of one batch
+    /// and day.
     pub fn first_concerned(&self, product: u32, span: &Span, chosen: &[bool]) -> Option<u32>
         requires { length chosen.now ≡ length self.now.batches }
-        ensures { IsLeast (chosen_batches chosen.now (concerned_in self.now product span.now)) result }
+        ensures { IsLeast
+            (chosen_batches chosen.now (concerned_in self.now product span.now)) result }
     {
         let Stretch { first, end } = stretch_of(&self.order, &self.groups, product, days_of(span));
         let mut least = None;
@@ -323,7 +354,8 @@ impl BatchSums {
         least
     }
 
-    /// The tallies of the packs of all batches together, a pile each. It takes no memory and no walk.
+    /// The tallies of the packs of all batches together, a pile each. It takes no memory and no
+    /// walk.
     pub fn piles(&self) -> Piles
         ensures { result ≡ piles_of self.now.packs }
     {
@@ -331,7 +363,7 @@ impl BatchSums {
     }
 }
 
-// Puts the number of a pack behind others where it counts for the population.
+// Puts the number of a pack after others where it counts for the population.
 fn note(numbers: &mut Vec<u64>, held: &Held) -> Result<(), NoMemory>
     ensures { OnOk result (numbers.new.items ≡ numbers.old.items ++ counted_number held.now) }
 {

@@ -55,14 +55,16 @@ pub struct Piles {
     pub voided: Tally,
 }
 
-// A pack as it is kept. What it shares with the other packs of its batch and day stands in its group.
+// A pack as it is kept. What it shares with the other packs of its batch and day stands in its
+// group.
 #[derive(Clone, Copy)]
 pub struct Held {
     // The number that the pack was added with.
     pub number: u32,
     // The place of its group.
     pub group: u32,
-    // How many packs there were when the one before it in its batch had been added: 0 for the first.
+    // How many packs there were when the one before it in its batch had been added: 0 for the
+    // first.
     pub before: u32,
     // In mg.
     pub gross: u32,

@@ -6,7 +6,7 @@ use Rattle.std.proofs.lemmas.Bool.{eq-eqb}
 use Rattle.std.proofs.lemmas.Int.{ints}
 use Rattle.std.proofs.lemmas.List.Elements.{All-nil, All-head, All-tail, All-push}
 use Rattle.std.proofs.lemmas.List.Sums.{count_by-le-length}
-use Rattle.hall_limits.specs.declared.TheConstants.{MAX_POPULATION}
+use Rattle.hall_limits.specs.declared.TheConstants.{MAX_DAY, MAX_POPULATION, MAX_TARE}
 use Rattle.batch_sums.specs.Totals.{Terms, is_counted}
 use Rattle.batch_sums.specs.declared.types.Pack.{Pack}
 use Rattle.batch_sums.specs.Kept.{Sums}
@@ -15,7 +15,7 @@ use Rattle.batch_sums_tests.specs.Halls.{Fits, IsKept}
 use Rattle.batch_sums_tests.specs.Rows.{IsOneGroup, IsFilled}
 use Rattle.batch_sums_tests.proofs.Keeping.{kept_added}
 
-pub filled_none : (sums : Sums) (batch : ℕ) (day tare : ℤ) → sums.packs ≡ [] → pos 0 ≤ℤ day → day ≤ℤ pos 2932896 → pos 0 ≤ℤ tare → tare ≤ℤ pos 5000000 → IsFilled sums.batches batch 0 day tare sums
+pub filled_none : (sums : Sums) (batch : ℕ) (day tare : ℤ) → sums.packs ≡ [] → pos 0 ≤ℤ day → day ≤ℤ MAX_DAY → pos 0 ≤ℤ tare → tare ≤ℤ MAX_TARE → IsFilled sums.batches batch 0 day tare sums
 filled_none sums batch day tare empty least most light heavy =
     record {
       same = refl;

@@ -20,8 +20,8 @@ struct PlainBatch {
     limits: Limits,
 }
 
-/// Sums, and beside them a plain list of the same packs. All packs of a day have the same tare when they are added, and
-/// a correction ends the day.
+/// Sums, and beside them a plain list of the same packs. All packs of a day have the same tare when
+/// they are added, and a correction ends the day.
 #[derive(Drop)]
 pub struct Hall {
     sums: BatchSums,
@@ -42,7 +42,9 @@ impl Model for Hall {
 
     ghost view = { λ h. h.sums };
 
-    ghost invariant = { λ h. (length h.sums.batches ≡ length h.batches.items) × IsKept h.next h.day h.tare h.sums.packs };
+    ghost invariant = { λ h.
+        (length h.sums.batches ≡ length h.batches.items)
+        × IsKept h.next h.day h.tare h.sums.packs };
 }
 
 impl Hall {
@@ -104,7 +106,8 @@ impl Hall {
         self.sums.shift(pack, to);
     }
 
-    /// Corrects the tare of a product in a span, if it can be, and ends the day; the packs of the next have this tare.
+    /// Corrects the tare of a product in a span, if it can be, and ends the day; the packs of the
+    /// next have this tare.
     pub fn correct(&mut self, product: u32, span: Span, tare: i64) {
         self.correct_counted::<Brand>(product, span, tare, Blank::new(1));
     }
@@ -155,7 +158,8 @@ impl Hall {
         Ok(Some(self.sums.population(alloc, batch)?))
     }
 
-    /// The first of the chosen batches that has a pack of a product in a span, if there is a flag for each batch.
+    /// The first of the chosen batches that has a pack of a product in a span, if there is a flag
+    /// for each batch.
     pub fn first_concerned(&self, product: u32, span: &Span, chosen: &[bool]) -> Option<u32> {
         if chosen.len() != self.batches.len() {
             return None;

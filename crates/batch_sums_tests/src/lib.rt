@@ -1,4 +1,5 @@
-//! Tests of the public calls of `batch_sums`, beside a plain list of the same packs. All masses are in mg.
+//! Tests of the public calls of `batch_sums`, beside a plain list of the same packs. All masses are
+//! in mg.
 #![tactic(auto)]
 
 mod hall;

@@ -27,8 +27,8 @@ fn add_packs(sums: &mut BatchSums, batch: u32) -> Result<(), NoMemory>
     Ok(())
 }
 
-// Adds a batch of 10 000 packs of one day at 260 g to sums that have no packs, and corrects their tare from 10 g to 20 g.
-// It takes the steps of one group.
+// Adds a batch of 10 000 packs of one day at 260 g to sums that have no packs, and corrects their
+// tare from 10 g to 20 g. It takes the steps of one group.
 fn correct_full_batch<L: Ledger>(
     sums: &mut BatchSums,
     limits: Limits,
@@ -48,7 +48,8 @@ fn correct_full_batch<L: Ledger>(
     Ok(batch)
 }
 
-/// The totals of 10 000 packs of one batch and day at 260 g after their tare was corrected from 10 g to 20 g.
+/// The totals of 10 000 packs of one batch and day at 260 g after their tare was corrected from 10
+/// g to 20 g.
 pub fn corrected_totals<L: Ledger>(
     alloc: Global,
     limits: Limits,

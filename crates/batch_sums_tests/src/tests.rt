@@ -73,8 +73,8 @@ fn a_net_equal_to_a_limit_is_not_below_it(rt: HostRuntime) -> Result<(), Fail> {
     Ok(())
 }
 
-// Three batches of two products, and packs of two days. At the end of the first the tare of product 1 was corrected, and
-// that of product 2 was not; at the end three packs went to another pile.
+// Three batches of two products, and packs of two days. At the end of the first the tare of product
+// 1 was corrected, and that of product 2 was not; at the end three packs went to another pile.
 fn two_days(alloc: Global) -> Result<Hall, NoMemory> {
     let mut hall = Hall::new(alloc, 10_000);
     for product in [1, 2, 1] {
@@ -234,7 +234,7 @@ fn drawn_pile(draws: &mut Pcg32) -> Pile {
     PILES[draws.next_word() as usize % 4]
 }
 
-// A span of days up to today, behind it, or round it.
+// A span of days up to today, after it, or round it.
 fn drawn_span(today: i32, draws: &mut Pcg32) -> Span {
     let from = today.saturating_sub((draws.next_word() % 8) as i32);
     let days = (draws.next_word() % 6) as i32;

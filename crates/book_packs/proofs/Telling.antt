@@ -13,7 +13,7 @@ use Rattle.book_words.specs.declared.act.Prior.TheVariants.{Nothing, Opened, Sta
 use Rattle.batch_sums.specs.declared.types.Pack.{Pack}
 use Rattle.batch_sums.specs.Totals as sums
 use Rattle.batch_sums.specs.Asked as asked
-use Rattle.batch_sums.specs.Kept.{Sums, totals_in}
+use Rattle.batch_sums.specs.Kept.{Sums, kept_totals}
 use Rattle.book_words.specs.declared.name.Name.{Name}
 use Rattle.book_words.specs.declared.act.Entry.{Entry}
 use Rattle.book_words.specs.declared.act.Reading.{Reading}
@@ -128,7 +128,7 @@ module _ (entries : List Entry) where
       (λ i reading. counted_among entries reading i)
       ∙ ap (map (pack_of entries)) (filter-filter is_counted (is_of_batch name) (readings entries))
 
-  totals_of_readings : (name : Name) → sums.totals_among (terms_of_batch entries name).limits (map (pack_of entries) (readings_of_batch entries name)) ≡ totals_told entries name
+  totals_of_readings : (name : Name) → sums.pack_totals (terms_of_batch entries name).limits (map (pack_of entries) (readings_of_batch entries name)) ≡ totals_told entries name
   totals_of_readings name i =
       record {
         passed = tally_in_pile Passed (readings_of_batch entries name) i;
@@ -149,11 +149,11 @@ module _ (entries : List Entry) where
 
   pub totals_are : (kept : Sums) (name : Name) (number : ℕ) → kept.batches ≡ opened_terms entries → kept.packs ≡ packs_in entries
       → batch_number entries name ≡ Some number → AllByRecursion (IsWeighed entries) (readings entries)
-      → totals_in kept number ≡ Some (totals_told entries name)
+      → kept_totals kept number ≡ Some (totals_told entries name)
   totals_are kept name number batches packs is weighed =
       ap (λ o. option_map (λ (terms : sums.Terms). sums.totals_of terms.limits kept.packs number) o) (ap (λ some. slice_get some number) batches ∙ terms_at name number is)
       ∙ ap (λ some. Some (sums.totals_of (terms_of_batch entries name).limits some number)) packs
-      ∙ ap (λ some. Some (sums.totals_among (terms_of_batch entries name).limits some)) (of_batch_is name number is weighed)
+      ∙ ap (λ some. Some (sums.pack_totals (terms_of_batch entries name).limits some)) (of_batch_is name number is weighed)
       ∙ ap Some (totals_of_readings name)
 
   pub piles_are : asked.piles_of (packs_in entries) ≡ piles_told entries

@@ -12,7 +12,7 @@ use Rattle.command_line.specs.declared.types.Command.{Command}
 use Rattle.command_line.specs.declared.types.Command.TheVariants.{Run, Check, Migrate}
 use Rattle.command_line.specs.Options.{app_for}
 use Rattle.command_line.specs.Taken.{asked}
-use Rattle.command_line.specs.Words.{Item, Wanted, read_items, wanted_by, wanted_with}
+use Rattle.command_line.specs.Words.{Item, Wanted, read_items, wanted_items, wanted_values}
 use Rattle.command_line.proofs.OneWord.{shape_for}
 use Rattle.command_line.proofs.Rows.{says_first}
 use Rattle.command_line.proofs.Walking.{Reads, Walks, both, reads_each}
@@ -53,7 +53,7 @@ simple Migrate = refl
 -- `clap` takes the words, and its values ask for what is wanted
 pub record ClapReads (command : Command) (words : List Text) (wanted : Wanted) : Type 0 where
   pub takes : takes (app_for command) words ≡ true
-  pub asks : wanted_with command (first_of (codes "book") (matches_of (app_for command) words))
+  pub asks : wanted_values command (first_of (codes "book") (matches_of (app_for command) words))
       (first_of (codes "limit") (matches_of (app_for command) words)) ≡ Some wanted
 
 reads_as : (command : Command) (words : List Text) (wanted : Wanted) → Reads command nothing_held words wanted → ClapReads command words wanted
@@ -65,7 +65,7 @@ reads_as command words wanted reads =
     }
 
 from_items : (command : Command) (words : List Text) (wanted : Wanted) (left : Option (List Item)) → read_items None words ≡ left
-    → option_and_then (wanted_by command) left ≡ Some wanted → ClapReads command words wanted
+    → option_and_then (wanted_items command) left ≡ Some wanted → ClapReads command words wanted
 from_items command words wanted None reads asks = cc
 from_items command words wanted (Some items) reads asks =
     reads_as command words wanted
@@ -77,7 +77,7 @@ clap_reads command words wanted asks = from_items command words wanted (read_ite
 -- the same over a command that was built as told, and the matches that a parse gave
 pub matches_ask : (command : Command) (words : List Text) (app : App) (matches : ArgMatches) → app ≡ app_for command
     → HasMatchesOf app words matches → (wanted : Wanted) → asked command words ≡ Some wanted
-    → wanted_with command (first_value (found_of matches) (codes "book")) (first_value (found_of matches) (codes "limit")) ≡ Some wanted
+    → wanted_values command (first_value (found_of matches) (codes "book")) (first_value (found_of matches) (codes "limit")) ≡ Some wanted
 matches_ask command words app matches told has wanted asks =
     let has_rows = (subst (λ (a : App). HasMatchesOf a words matches) told has (simple command)).0 in
     rw (first_value-rows (found_of matches) (codes "book"), first_value-rows (found_of matches) (codes "limit"), has_rows)

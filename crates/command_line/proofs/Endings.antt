@@ -2,10 +2,10 @@
 use Rattle.std.proofs.Common.{◌≡◌, ℕ, List, [], ◌∷◌, Option, Some, None, length, arith, refl}
 use Rattle.std.specs.Option.{option_and_then}
 use Rattle.command_line.specs.declared.types.Command.{Command}
-use Rattle.command_line.specs.Words.{read_items, wanted_with}
-use Rattle.command_line.specs.Taken.{wanted_after}
+use Rattle.command_line.specs.Words.{read_items, wanted_values}
+use Rattle.command_line.specs.Taken.{wanted_rest}
 
-pub settled_wanted : (command : Command) (book limit : Option (List ℕ)) → wanted_after command book limit [] ≡ wanted_with command book limit
+pub settled_wanted : (command : Command) (book limit : Option (List ℕ)) → wanted_rest command book limit [] ≡ wanted_values command book limit
 settled_wanted command None None = refl
 settled_wanted command None (Some limit) = refl
 settled_wanted command (Some book) None = refl
@@ -16,6 +16,6 @@ empty [] none = refl
 empty (word ∷ words) none = absurd (omega arith)
 
 pub nothing_left : (command : Command) (book limit : Option (List ℕ)) (words : List (List ℕ)) → words ≡ []
-    → option_and_then (wanted_after command book limit) (read_items None words) ≡ wanted_with command book limit
+    → option_and_then (wanted_rest command book limit) (read_items None words) ≡ wanted_values command book limit
 unfolding read_items
 nothing_left command book limit words none = rw none (settled_wanted command book limit)

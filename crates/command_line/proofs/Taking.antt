@@ -8,7 +8,7 @@ use Rattle.clap.specs.Walk.{Row, Text, has_row}
 use Rattle.command_line.specs.declared.types.Command.{Command}
 use Rattle.command_line.specs.declared.types.Command.TheVariants.{Run, Check, Migrate}
 use Rattle.command_line.specs.Words.{Item, Wanted, is_option}
-use Rattle.command_line.specs.Taken.{wanted_after}
+use Rattle.command_line.specs.Taken.{wanted_rest}
 use Rattle.command_line.proofs.OneWord.{Knows, dashes, knows_book, knows_limit, shape_for}
 use Rattle.command_line.proofs.Rows.{Says, row_for, says_fresh, says_now, says_still}
 
@@ -22,7 +22,7 @@ pub record Takes (command : Command) (book limit : Option Text) (full value : Te
   pub attached_plain : bytes_eq (full ++ 61 ∷ value) dashes ≡ false
   pub next_book : Option Text
   pub next_limit : Option Text
-  pub left : wanted_after command next_book next_limit more ≡ Some wanted
+  pub left : wanted_rest command next_book next_limit more ≡ Some wanted
   pub fresh : (rows : List Row) → Says rows (codes "book") book → Says rows (codes "limit") limit → has_row name rows ≡ false
   pub book_said : (rows : List Row) → Says rows (codes "book") book → Says rows (codes "limit") limit
       → Says (rows ++ row_for name value ∷ []) (codes "book") next_book
@@ -30,7 +30,7 @@ pub record Takes (command : Command) (book limit : Option Text) (full value : Te
       → Says (rows ++ row_for name value ∷ []) (codes "limit") next_limit
 
 takes_book : (command : Command) (limit : Option Text) (value : Text) (more : List Item) (wanted : Wanted)
-    → wanted_after command (Some value) limit more ≡ Some wanted → Takes command None limit (codes "--book") value more wanted
+    → wanted_rest command (Some value) limit more ≡ Some wanted → Takes command None limit (codes "--book") value more wanted
 takes_book command limit value more wanted left = record {
   name = codes "book";
   knows = knows_book command;
@@ -47,7 +47,7 @@ takes_book command limit value more wanted left = record {
 }
 
 takes_limit : (book : Option Text) (value : Text) (more : List Item) (wanted : Wanted)
-    → wanted_after Run book (Some value) more ≡ Some wanted → Takes Run book None (codes "--limit") value more wanted
+    → wanted_rest Run book (Some value) more ≡ Some wanted → Takes Run book None (codes "--limit") value more wanted
 takes_limit book value more wanted left = record {
   name = codes "limit";
   knows = knows_limit;
@@ -74,7 +74,7 @@ never_twice true y bad = cc
 never_twice false y bad = cc
 
 book_taken : (command : Command) (book limit : Option Text) (value : Text) (more : List Item) (wanted : Wanted)
-    → wanted_after command book limit (record { name = codes "--book"; value = value } ∷ more) ≡ Some wanted
+    → wanted_rest command book limit (record { name = codes "--book"; value = value } ∷ more) ≡ Some wanted
     → Takes command book limit (codes "--book") value more wanted
 book_taken Run None limit value more wanted asks = takes_book Run limit value more wanted asks
 book_taken Check None limit value more wanted asks = takes_book Check limit value more wanted asks
@@ -82,13 +82,13 @@ book_taken Migrate None limit value more wanted asks = takes_book Migrate limit 
 book_taken command (Some book) limit value more wanted asks = absurd (never_twice _ wanted asks)
 
 limit_taken : (book limit : Option Text) (value : Text) (more : List Item) (wanted : Wanted)
-    → wanted_after Run book limit (record { name = codes "--limit"; value = value } ∷ more) ≡ Some wanted
+    → wanted_rest Run book limit (record { name = codes "--limit"; value = value } ∷ more) ≡ Some wanted
     → Takes Run book limit (codes "--limit") value more wanted
 limit_taken book None value more wanted asks = takes_limit book value more wanted asks
 limit_taken book (Some limit) value more wanted asks = absurd (never _ _ wanted asks)
 
 is_one : (command : Command) (book limit : Option Text) (item : Item) (more : List Item) (wanted : Wanted)
-    → wanted_after command book limit (item ∷ more) ≡ Some wanted → is_option command item.name ≡ true
+    → wanted_rest command book limit (item ∷ more) ≡ Some wanted → is_option command item.name ≡ true
 is_one command book limit item more wanted asks = go (is_option command item.name) refl
   where
     go : (t : Bool) → is_option command item.name ≡ t → is_option command item.name ≡ true
@@ -97,26 +97,26 @@ is_one command book limit item more wanted asks = go (is_option command item.nam
 
 as_book : (command : Command) (book limit : Option Text) (full value : Text) (more : List Item) (wanted : Wanted)
     → bytes_eq full (codes "--book") ≡ true
-    → wanted_after command book limit (record { name = full; value = value } ∷ more) ≡ Some wanted
+    → wanted_rest command book limit (record { name = full; value = value } ∷ more) ≡ Some wanted
     → Takes command book limit full value more wanted
 as_book command book limit full value more wanted is asks =
     let same : full ≡ codes "--book" = (bytes_eq-Decides full (codes "--book")).0 is in
     subst (λ (text : Text). Takes command book limit text value more wanted) (sym same)
     (book_taken command book limit value more wanted
-    (subst (λ (text : Text). wanted_after command book limit (record { name = text; value = value } ∷ more) ≡ Some wanted) same asks))
+    (subst (λ (text : Text). wanted_rest command book limit (record { name = text; value = value } ∷ more) ≡ Some wanted) same asks))
 
 as_limit : (book limit : Option Text) (full value : Text) (more : List Item) (wanted : Wanted)
     → bytes_eq full (codes "--limit") ≡ true
-    → wanted_after Run book limit (record { name = full; value = value } ∷ more) ≡ Some wanted
+    → wanted_rest Run book limit (record { name = full; value = value } ∷ more) ≡ Some wanted
     → Takes Run book limit full value more wanted
 as_limit book limit full value more wanted is asks =
     let same : full ≡ codes "--limit" = (bytes_eq-Decides full (codes "--limit")).0 is in
     subst (λ (text : Text). Takes Run book limit text value more wanted) (sym same)
     (limit_taken book limit value more wanted
-    (subst (λ (text : Text). wanted_after Run book limit (record { name = text; value = value } ∷ more) ≡ Some wanted) same asks))
+    (subst (λ (text : Text). wanted_rest Run book limit (record { name = text; value = value } ∷ more) ≡ Some wanted) same asks))
 
 pub taken : (command : Command) (book limit : Option Text) (full value : Text) (more : List Item) (wanted : Wanted)
-    → wanted_after command book limit (record { name = full; value = value } ∷ more) ≡ Some wanted
+    → wanted_rest command book limit (record { name = full; value = value } ∷ more) ≡ Some wanted
     → Takes command book limit full value more wanted
 taken Run book limit full value more wanted asks =
     go (bytes_eq full (codes "--book")) refl (is_one Run book limit (record { name = full; value = value }) more wanted asks)

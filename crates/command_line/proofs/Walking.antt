@@ -5,8 +5,8 @@ use Rattle.clap.specs.Simple.{Shape}
 use Rattle.clap.specs.Walk.{Held, Text, Walk, has_row, reacted, settled, walk_from, walked}
 use Rattle.clap.specs.Takes.{settle_passes, turn_passes, walk_passes}
 use Rattle.command_line.specs.declared.types.Command.{Command}
-use Rattle.command_line.specs.Words.{Item, Wanted, read_items, stands_alone, wanted_with}
-use Rattle.command_line.specs.Taken.{wanted_after}
+use Rattle.command_line.specs.Words.{Item, Wanted, read_items, stands_alone, wanted_values}
+use Rattle.command_line.specs.Taken.{wanted_rest}
 use Rattle.command_line.proofs.Endings.{settled_wanted}
 use Rattle.command_line.proofs.OneWord.{attached_passes, attached_walk, built_rule, given, given_rows, given_settles, named_passes, named_walk, plain_word, shape_for, use_ok, value_passes, value_walk, waits}
 use Rattle.command_line.proofs.Opening.{Opened, opened}
@@ -90,20 +90,20 @@ pub record Reads (command : Command) (held : Held) (words : List Text) (wanted :
   pub settles : settle_passes (shape_for command).rules (shape_for command).args_override_self end ≡ true
   pub book : Option Text
   pub limit : Option Text
-  pub asks : wanted_with command book limit ≡ Some wanted
+  pub asks : wanted_values command book limit ≡ Some wanted
   pub book_said : Says (settled (shape_for command).rules end).rows (codes "book") book
   pub limit_said : Says (settled (shape_for command).rules end).rows (codes "limit") limit
 
 abbrev pub ReadsEach : Command → ℕ → Type 0
 ReadsEach command most = (words : List Text) → length words ≤ most → (held : Held) (book limit : Option Text) (items : List Item) (wanted : Wanted)
-    → read_items None words ≡ Some items → wanted_after command book limit items ≡ Some wanted
+    → read_items None words ≡ Some items → wanted_rest command book limit items ≡ Some wanted
     → settle_passes (shape_for command).rules (shape_for command).args_override_self held ≡ true
     → Says (settled (shape_for command).rules held).rows (codes "book") book
     → Says (settled (shape_for command).rules held).rows (codes "limit") limit
     → Reads command held words wanted
 
 reads_none : (command : Command) (held : Held) (book limit : Option Text) (items : List Item) (wanted : Wanted)
-    → read_items None [] ≡ Some items → wanted_after command book limit items ≡ Some wanted
+    → read_items None [] ≡ Some items → wanted_rest command book limit items ≡ Some wanted
     → settle_passes (shape_for command).rules (shape_for command).args_override_self held ≡ true
     → Says (settled (shape_for command).rules held).rows (codes "book") book
     → Says (settled (shape_for command).rules held).rows (codes "limit") limit
@@ -123,14 +123,14 @@ reads_none command held book limit (item ∷ items) wanted reads asks settles bo
 
 reads_item : (command : Command) (most : ℕ) → ReadsEach command most
     → (word : Text) (words : List Text) → length (word ∷ words) ≤ suc most → (held : Held) (book limit : Option Text) (items : List Item) (wanted : Wanted)
-    → Opened word words items → wanted_after command book limit items ≡ Some wanted
+    → Opened word words items → wanted_rest command book limit items ≡ Some wanted
     → settle_passes (shape_for command).rules (shape_for command).args_override_self held ≡ true
     → Says (settled (shape_for command).rules held).rows (codes "book") book
     → Says (settled (shape_for command).rules held).rows (codes "limit") limit
     → Reads command held (word ∷ words) wanted
 reads_item command most reads_rest word words low held book limit items wanted o asks settles book_said limit_said =
     let rows = (settled (shape_for command).rules held).rows in
-    let takes = taken command book limit o.name o.value o.more wanted (subst (λ list. wanted_after command book limit list ≡ Some wanted) o.is asks) in
+    let takes = taken command book limit o.name o.value o.more wanted (subst (λ list. wanted_rest command book limit list ≡ Some wanted) o.is asks) in
     let fresh = takes.fresh rows book_said limit_said in
     let step = behind_item command book limit o.name o.value o.more wanted takes held settles fresh word words o.rest o.form in
     let fewer : length o.rest ≤ most = elim o.form [

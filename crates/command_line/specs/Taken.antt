@@ -8,7 +8,7 @@ use Rattle.command_line.specs.declared.items.Item as items
 use Rattle.command_line.specs.declared.types.Wants.{Wants}
 use Rattle.command_line.specs.declared.settings.Settings.{Settings}
 use Rattle.command_line.specs.Words.{Item, Wanted, is_option, values_of, at_most_one}
-use Rattle.command_line.specs.Words.{read_items, wanted_by, wanted_with}
+use Rattle.command_line.specs.Words.{read_items, wanted_items, wanted_values}
 
 -- the bytes of a text that may be there
 abbrev pub bytes_in : Option (Bor (List ℕ)) → Option (List ℕ)
@@ -18,29 +18,29 @@ bytes_in = option_map (λ text. text.now)
 abbrev pub item_of : items.Item → Item
 item_of item = record { name = item.name.now; value = item.value.now }
 
--- a value taken before, and the values behind it
+-- a value taken before, and the values after it
 abbrev pub and_before : Option (List ℕ) → List (List ℕ) → List (List ℕ)
 and_before None values = values
 and_before (Some value) values = value ∷ values
 
 -- what a command asks for by values of its options taken before, and by these items
-abbrev pub wanted_after : Command → Option (List ℕ) → Option (List ℕ) → List Item → Option Wanted
-wanted_after command book limit items =
+abbrev pub wanted_rest : Command → Option (List ℕ) → Option (List ℕ) → List Item → Option Wanted
+wanted_rest command book limit items =
     if list_all (λ item. is_option command item.name) items
     then option_and_then (λ only_book. option_and_then
-    (λ only_limit. wanted_with command only_book only_limit)
+    (λ only_limit. wanted_values command only_book only_limit)
     (at_most_one (and_before limit (values_of (codes "--limit") items))))
     (at_most_one (and_before book (values_of (codes "--book") items)))
     else None
 
--- the same of settings
-abbrev pub wanted_behind : Command → Settings → List Item → Option Wanted
-wanted_behind command settings items =
-    wanted_after command (bytes_in settings.book) (bytes_in settings.limit) items
+-- the same with the values of settings taken before
+abbrev pub wanted_settings : Command → Settings → List Item → Option Wanted
+wanted_settings command settings items =
+    wanted_rest command (bytes_in settings.book) (bytes_in settings.limit) items
 
--- what a command asks for by the words behind it
+-- what a command asks for by the words after it
 abbrev pub asked : Command → List (List ℕ) → Option Wanted
-asked command words = option_and_then (wanted_by command) (read_items None words)
+asked command words = option_and_then (wanted_items command) (read_items None words)
 
 -- what is answered
 abbrev pub seen : Wants → Wanted

@@ -91,15 +91,15 @@ limit_in None = Some MAX_ROWS
 limit_in (Some text) = option_and_then in_limits (bounded_number 20 (2 ^ 64 - 1) text)
 
 -- what a command and at most one value of each option ask for
-abbrev pub wanted_with : Command → Option (List ℕ) → Option (List ℕ) → Option Wanted
-wanted_with command book limit =
+abbrev pub wanted_values : Command → Option (List ℕ) → Option (List ℕ) → Option Wanted
+wanted_values command book limit =
     option_map (λ rows. record { command = command; book = book; limit = rows }) (limit_in limit)
 
 -- what a command and its items ask for: each is an option of the command, and none comes twice
-abbrev pub wanted_by : Command → List Item → Option Wanted
-wanted_by command items =
+abbrev pub wanted_items : Command → List Item → Option Wanted
+wanted_items command items =
     if list_all (λ item. is_option command item.name) items
-    then option_and_then (λ book. option_and_then (λ limit. wanted_with command book limit)
+    then option_and_then (λ book. option_and_then (λ limit. wanted_values command book limit)
     (at_most_one (values_of (codes "--limit") items)))
     (at_most_one (values_of (codes "--book") items))
     else None
@@ -115,4 +115,4 @@ command_of word =
 abbrev pub wanted_of : List (List ℕ) → Option Wanted
 wanted_of [] = None
 wanted_of (word ∷ words) = option_and_then (λ command.
-    option_and_then (wanted_by command) (read_items None words)) (command_of word)
+    option_and_then (wanted_items command) (read_items None words)) (command_of word)

@@ -37,7 +37,7 @@ pub fn wants(alloc: Global, words: &[String]) -> Result<Wants, WantsError>
     })
 }
 
-// The command and the words behind it, where all of them are in the grammar.
+// The command and the words after it, where all of them are in the grammar.
 fn read_words<'a>(words: &'a [String]) -> Option<(Command, &'a [String])>
     ensures { MatchOption result (wanted_of (bytes_of words.now) ≡ None)
         (λ found. (wanted_of (bytes_of words.now) ≡ asked found.0 (bytes_of found.1.now))

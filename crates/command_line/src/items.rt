@@ -8,7 +8,7 @@ pub struct Item<'a> {
     pub value: &'a str,
 }
 
-/// The item that begins with a word, and the words behind it.
+/// The item that begins with a word, and the words after it.
 #[tactic(auto, unfolding(crate::specs::Words::read_items))]
 pub fn first_item<'a>(word: &'a str, words: &'a [String]) -> Option<(Item<'a>, &'a [String])>
     ensures found { MatchOption result

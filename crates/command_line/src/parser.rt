@@ -3,7 +3,7 @@ ghost use Rattle.clap.specs.Words.{app_of, first_value, found_of, kind_of};
 ghost use Rattle.command_line.specs.declared.types.WantsError.TheVariants.{NoMemory};
 ghost use Rattle.command_line.specs.Options.{app_for};
 ghost use Rattle.command_line.specs.Taken.{asked};
-ghost use Rattle.command_line.specs.Words.{bytes_of, Wanted, wanted_with};
+ghost use Rattle.command_line.specs.Words.{bytes_of, Wanted, wanted_values};
 
 use crate::types::{Command, WantsError};
 use clap::error::ErrorKind;
@@ -19,7 +19,7 @@ pub fn parse<'a>(
 ) -> Result<ArgMatches<'a>, WantsError>
     ensures { (wanted : Wanted) → asked command (bytes_of words.now) ≡ Some wanted
         → MatchResult result
-        (λ matches. wanted_with command (first_value (found_of matches) (codes "book"))
+        (λ matches. wanted_values command (first_value (found_of matches) (codes "book"))
         (first_value (found_of matches) (codes "limit")) ≡ Some wanted)
         (λ why. why ≡ NoMemory) }
 {

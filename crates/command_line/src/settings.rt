@@ -1,6 +1,6 @@
 ghost use Rattle.std.specs.Prelude.{◌≡◌, ◌∷◌, List, MatchOption, None, is_some};
-ghost use Rattle.command_line.specs.Words.{bytes_of, Item as Given, limit_in, wanted_with};
-ghost use Rattle.command_line.specs.Taken.{asked, bytes_in, item_of, wanted_behind};
+ghost use Rattle.command_line.specs.Words.{bytes_of, Item as Given, limit_in, wanted_values};
+ghost use Rattle.command_line.specs.Taken.{asked, bytes_in, item_of, wanted_settings};
 
 use crate::items::{Item, first_item};
 use crate::types::Command;
@@ -14,7 +14,7 @@ struct Settings<'a> {
     limit: Option<&'a str>,
 }
 
-/// Whether the words behind a command are in its grammar.
+/// Whether the words after a command are in its grammar.
 pub fn is_asked(command: Command, words: &[String]) -> bool
     ensures { result ≡ is_some (asked command (bytes_of words.now)) }
 {
@@ -28,17 +28,17 @@ pub fn is_asked(command: Command, words: &[String]) -> bool
 fn read_settings<'a>(command: Command, words: &'a [String]) -> Option<Settings<'a>>
     ensures { MatchOption result (asked command (bytes_of words.now) ≡ None)
         (λ settings. asked command (bytes_of words.now)
-        ≡ wanted_with command (bytes_in settings.book) (bytes_in settings.limit)) }
+        ≡ wanted_values command (bytes_in settings.book) (bytes_in settings.limit)) }
 {
     let mut settings = Settings {
         book: None,
         limit: None,
     };
     let mut rest = words;
-    while let Some((word, behind)) = rest.split_first() {
-        let (item, behind) = first_item(word.as_str(), behind)?;
+    while let Some((word, after)) = rest.split_first() {
+        let (item, after) = first_item(word.as_str(), after)?;
         settings = with_item(command, settings, item)?;
-        rest = behind;
+        rest = after;
     }
     Some(settings)
 }
@@ -46,9 +46,9 @@ fn read_settings<'a>(command: Command, words: &'a [String]) -> Option<Settings<'
 // The settings with one more item, where it is an option of the command that has no value yet.
 fn with_item<'a>(command: Command, settings: Settings<'a>, item: Item<'a>) -> Option<Settings<'a>>
     ensures { (items : List Given) → MatchOption result
-        (wanted_behind command settings.entry (item_of item.entry ∷ items) ≡ None)
-        (λ more. wanted_behind command settings.entry (item_of item.entry ∷ items)
-        ≡ wanted_behind command more items) }
+        (wanted_settings command settings.entry (item_of item.entry ∷ items) ≡ None)
+        (λ more. wanted_settings command settings.entry (item_of item.entry ∷ items)
+        ≡ wanted_settings command more items) }
 {
     if item.name == "--book" && settings.book.is_none() {
         return Some(Settings {

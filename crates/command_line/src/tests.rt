@@ -74,6 +74,15 @@ fn words_of_the_grammar(rt: HostRuntime) -> Result<(), Fail> {
 }
 
 #[test]
+fn errors_in_words(rt: HostRuntime) -> Result<(), Fail> {
+    let usage = WantsError::Usage.to_string(rt.alloc())?;
+    assert_eq!(rt; usage.as_str(), "these words are no command of hall");
+    let memory = WantsError::NoMemory.to_string(rt.alloc())?;
+    assert_eq!(rt; memory.as_str(), "no memory for the words");
+    Ok(())
+}
+
+#[test]
 fn other_words(rt: HostRuntime) -> Result<(), Fail> {
     for words in &REFUSED {
         let words = words_of(rt.alloc(), words)?;

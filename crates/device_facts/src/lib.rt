@@ -1,5 +1,5 @@
-//! Facts about devices that every crate above cites: how faults are counted, what a device tells of
-//! its bytes, and what its calls leave as it was.
+//! Facts about devices that every crate above cites: how faults are counted, what is known of a
+//! device's bytes, and what its calls leave as it was.
 #![tactic(auto)]
 
 mod count;

@@ -12,7 +12,8 @@ overwritten old place bytes = take place old ++ bytes ++ drop (place + length by
 -- After a write of so many bytes that may have been cut short, the old bytes outside of its range
 -- are as they were. What is longer than before is no longer than `most`.
 pub record Torn (place count most : ℕ) (old new : List ℕ) : Type 0 where
-  pub outside : (k : ℕ) → k < length old → (k < place) ⊎ (place + count ≤ k) → slice_index new k ≡ slice_index old k
+  pub outside : (k : ℕ) → k < length old → (k < place) ⊎ (place + count ≤ k)
+      → slice_index new k ≡ slice_index old k
   pub no_shorter : length old ≤ length new
   pub no_longer : length new ≤ max (length old) most
 

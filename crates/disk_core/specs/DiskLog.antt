@@ -33,7 +33,8 @@ IsLeftAfter [] now left c = left c
 IsLeftAfter (Looked ∷ calls) now left c = IsLeftAfter calls now left c
 IsLeftAfter (Wrote place bytes ∷ calls) now left c =
     let next = overwritten now place bytes.items in
-    IsLeftAfter calls next (λ e. (d : List ℕ) × left d × Torn place (length bytes.items) (length next) d e) c
+    IsLeftAfter calls next
+    (λ e. (d : List ℕ) × left d × Torn place (length bytes.items) (length next) d e) c
 IsLeftAfter (Synced ∷ calls) now left c = IsLeftAfter calls now (λ e. e ≡ now) c
 
 -- what a crash may leave of a disk that was this at first, after these calls
@@ -48,14 +49,16 @@ WasImage first calls t c = (k : ℕ) × (t ≤ k) × (k ≤ length calls) × IsI
 abbrev pub pending_write : Keep → List ℕ → ℕ → List ℕ → List ℕ
 pending_write Earlier image place bytes = image
 pending_write Written image place bytes = overwritten image place bytes
-pending_write (Fill byte) image place bytes = overwritten image place (replicate (length bytes) byte)
+pending_write (Fill byte) image place bytes =
+    overwritten image place (replicate (length bytes) byte)
 
 -- what a crash leaves after these calls, where before them this was read and a crash left that
 abbrev pub kept_after : Keep → List DiskCall → List ℕ → List ℕ → List ℕ
 kept_after keep [] now image = image
 kept_after keep (Looked ∷ calls) now image = kept_after keep calls now image
 kept_after keep (Wrote place bytes ∷ calls) now image =
-    kept_after keep calls (overwritten now place bytes.items) (pending_write keep image place bytes.items)
+    kept_after keep calls (overwritten now place bytes.items)
+    (pending_write keep image place bytes.items)
 kept_after keep (Synced ∷ calls) now image = kept_after keep calls now now
 
 -- what the disk reads
@@ -74,7 +77,8 @@ fails_next log = list_any (λ n. n == next_call (length log.calls)) log.fails
 -- time went on, and a crash since then may have left what it might have before or what it may leave
 -- now
 abbrev pub GoesOn : DiskLog → DiskLog → Type 0
-GoesOn old new = Elapses (length old.calls) (length new.calls) (WasImage old.first old.calls) (WasImage new.first new.calls) (IsImage new.first new.calls)
+GoesOn old new = Elapses (length old.calls) (length new.calls)
+    (WasImage old.first old.calls) (WasImage new.first new.calls) (IsImage new.first new.calls)
 
 -- a call that wrote these bytes at this place
 abbrev pub IsWrite : ℕ → List ℕ → DiskCall → Type 0
@@ -83,7 +87,8 @@ IsWrite place bytes _ = ⊥
 
 -- one call more is remembered, and nothing else changed
 abbrev pub Remembers : (DiskCall → Type 0) → DiskLog → DiskLog → Type 0
-Remembers Is old new = (call : DiskCall) × Is call × (new ≡ record old { calls = old.calls ++ call ∷ [] })
+Remembers Is old new =
+    (call : DiskCall) × Is call × (new ≡ record old { calls = old.calls ++ call ∷ [] })
 
 -- the log with one fault more
 abbrev pub faulted : DiskLog → DiskLog
@@ -91,7 +96,8 @@ faulted log = record log { faults = counted log.faults 1 }
 
 -- How a call ends: a listed call fails; another one fails only for want of memory, and then nothing
 -- is remembered of it. A call that is done is remembered as one, and one that failed as another.
-pub record Makes {T E : Type 0} (Done Failed : DiskCall → Type 0) (result : Result T E) (old new : DiskLog) : Type 0 where
+pub record Makes {T E : Type 0} (Done Failed : DiskCall → Type 0) (result : Result T E)
+    (old new : DiskLog) : Type 0 where
   pub listed : IsTrue (fails_next old) → IsErr result
   pub ok : OnOk result (Remembers Done old new)
   pub err : OnErr result (Remembers Failed (faulted old) new ⊎ (new ≡ faulted old))

@@ -33,9 +33,10 @@ pub trait Disk {
     /// For how many bytes it was asked, by the lengths of the buffers.
     ghost asked: { Self → ℕ };
 
-    /// Tells its length in bytes.
+    /// Answers its length in bytes.
     fn len(&mut self) -> Result<u64, Failed>
-        ensures length { WhereTold (reads self.old) (λ bytes. IfOk result (λ count. count ≡ length bytes)) }
+        ensures length { WhereTold (reads self.old) (λ bytes. IfOk result (λ count.
+            count ≡ length bytes)) }
         ensures reads { reads self.new ≡ reads self.old }
         ensures images { AddsNoImage (image self.old) (image self.new) }
         ensures time { Elapses (time self.old) (time self.new)
@@ -43,8 +44,8 @@ pub trait Disk {
         ensures cause { CountsFault (faults self.old) (faults self.new) result }
         ensures asked { asked self.new ≡ asked self.old };
 
-    /// Reads the bytes from a place on into the front of a buffer, as many as there are and as it
-    /// has room for, and tells how many they are.
+    /// Reads the bytes from a place on into the beginning of a buffer, as many as there are and as
+    /// it has room for, and answers how many they are.
     fn read_at(&mut self, place: u64, into: &mut [u8]) -> Result<usize, Failed>
         ensures bound { IfOk result (λ count. count ≤ length into.new) }
         ensures count { WhereTold (reads self.old) (λ bytes. IfOk result (λ count.
@@ -64,7 +65,8 @@ pub trait Disk {
         requires within { WhereTold (reads self.old) (λ there. place ≤ length there) }
         requires end { place + length bytes.now < DISK_END }
         ensures writes { WhereTold (reads self.old) (λ there.
-            Writes place bytes.now result there (reads self.new) (image self.old) (image self.new)) }
+            Writes place bytes.now result there (reads self.new)
+            (image self.old) (image self.new)) }
         ensures tells { TellsAsBefore (reads self.old) (reads self.new) }
         ensures time { Elapses (time self.old) (time self.new)
             (since self.old) (since self.new) (image self.new) }
@@ -73,7 +75,8 @@ pub trait Disk {
 
     /// Makes all that was written stable: after an Ok a crash leaves what the disk reads.
     fn sync(&mut self) -> Result<(), Failed>
-        ensures stable { WhereTold (reads self.old) (λ bytes. OnOk result (Only bytes (image self.new))) }
+        ensures stable { WhereTold (reads self.old) (λ bytes.
+            OnOk result (Only bytes (image self.new))) }
         ensures reads { reads self.new ≡ reads self.old }
         ensures images { AddsNoImage (image self.old) (image self.new) }
         ensures time { Elapses (time self.old) (time self.new)
@@ -85,7 +88,8 @@ pub trait Disk {
     ghost reads_image: { (disk : Self) → WhereTold (reads disk) (image disk) };
 
     /// This moment is one of those since an earlier time.
-    ghost counts_now: { (disk : Self) (t : ℕ) (c : List ℕ) → t ≤ time disk → image disk c → since disk t c };
+    ghost counts_now: { (disk : Self) (t : ℕ) (c : List ℕ)
+        → t ≤ time disk → image disk c → since disk t c };
 
     /// Since this time there is no moment but this one.
     ghost only_now: { (disk : Self) (c : List ℕ) → since disk (time disk) c → image disk c };

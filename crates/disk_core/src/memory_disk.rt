@@ -13,7 +13,7 @@ use std::alloc::Global;
 use std::marker::Model;
 
 /// A disk in memory, of which the calls with the numbers in a list fail, counted from 1. A growth
-/// that memory refuses is a failed call too. It remembers its calls, and so tells what a crash
+/// that memory refuses is a failed call too. It remembers its calls, and so knows what a crash
 /// after each of them may leave. A write that fails has written its bytes nevertheless.
 #[derive(Drop)]
 pub struct MemoryDisk {
@@ -41,7 +41,8 @@ impl Model for MemoryDisk {
       asked = d.asked;
     } };
 
-    ghost invariant = { λ d. content d.first.items d.written ≡ read_after d.calls.items d.first.items };
+    ghost invariant = { λ d.
+        content d.first.items d.written ≡ read_after d.calls.items d.first.items };
 }
 
 impl MemoryDisk {
@@ -98,7 +99,8 @@ impl MemoryDisk {
     pub fn crash(&self, after: u32, keep: Keep) -> Result<Vec<u8>, NoMemory>
         requires { after ≤ length self.now.calls }
         ensures kept { IfOk result (λ bytes.
-            bytes.items ≡ kept_after keep (take after self.now.calls) self.now.first self.now.first) }
+            bytes.items
+            ≡ kept_after keep (take after self.now.calls) self.now.first self.now.first) }
         ensures image { IfOk result (λ bytes.
             IsImage self.now.first (take after self.now.calls) bytes.items) }
     {
@@ -120,7 +122,8 @@ fn write_over(
     bytes: &[u8],
 ) -> Result<(), NoMemory>
     ensures ok { OnOk result
-        (content first.now written.new ≡ overwritten (content first.now written.old) place bytes.now) }
+        (content first.now written.new
+        ≡ overwritten (content first.now written.old) place bytes.now) }
     ensures err { OnErr result (content first.now written.new ≡ content first.now written.old) }
 {
     match written {
@@ -206,7 +209,8 @@ impl MemoryDisk {
     // Remembers a call that writes nothing.
     fn remember(&mut self, call: DiskCall) -> Result<(), NoMemory>
         requires { (bytes : List ℕ) → read_after (call ∷ []) bytes ≡ bytes }
-        ensures ok { OnOk result (self.new ≡ record self.old { calls = self.old.calls ++ call ∷ [] }) }
+        ensures ok { OnOk result
+            (self.new ≡ record self.old { calls = self.old.calls ++ call ∷ [] }) }
         ensures err { OnErr result (self.new ≡ self.old) }
     {
         self.calls.push(call)?;
@@ -305,7 +309,8 @@ impl Disk for MemoryDisk {
     fn write_at(&mut self, place: u64, bytes: &[u8]) -> Result<(), Failed>
         requires within { place ≤ length (stored self.old) }
         requires end { place + length bytes.now < DISK_END }
-        ensures made { Makes (IsWrite place bytes.now) (IsWrite place bytes.now) result self.old self.new }
+        ensures made { Makes (IsWrite place bytes.now) (IsWrite place bytes.now) result
+            self.old self.new }
     {
         let listed = self.is_listed();
         if self.store(place, bytes).is_err() || listed {

@@ -37,7 +37,8 @@ impl MemorySink {
     /// A sink that holds nothing and has failed nowhere yet; its calls with these numbers will
     /// fail. The number of a call stands still at the greatest `u32`.
     pub fn new(alloc: Global, fails: Vec<u32>) -> Self
-        ensures { result ≡ record { held = []; room = 0; calls = 0; fails = fails.items; faults = 0 } }
+        ensures { result
+            ≡ record { held = []; room = 0; calls = 0; fails = fails.items; faults = 0 } }
     {
         MemorySink {
             bytes: Vec::new(alloc),

@@ -22,7 +22,11 @@ impl Model for QuietDisk {
 
     ghost Value = { Room };
 
-    ghost view = { λ d. record { bytes = d.bytes.items; capacity = d.capacity; faults = d.faults } };
+    ghost view = { λ d. record {
+      bytes = d.bytes.items;
+      capacity = d.capacity;
+      faults = d.faults;
+    } };
 
     ghost invariant = { λ d. (vec_len d.bytes ≤ d.capacity) × (d.capacity ≤ vec_capacity d.bytes) };
 }
@@ -99,7 +103,8 @@ impl Disk for QuietDisk {
     fn write_at(&mut self, place: u64, bytes: &[u8]) -> Result<(), Failed>
         requires { place + length bytes.now < DISK_END }
         ensures full { IsErr result ↔ (self.old.capacity < place + length bytes.now) }
-        ensures written { OnOk result (self.new.bytes ≡ overwritten self.old.bytes place bytes.now) }
+        ensures written { OnOk result
+            (self.new.bytes ≡ overwritten self.old.bytes place bytes.now) }
         ensures kept { IsErr result → self.new.bytes ≡ self.old.bytes }
         ensures capacity { self.new.capacity ≡ self.old.capacity }
         ensures cause { CountsFault self.old.faults self.new.faults result }

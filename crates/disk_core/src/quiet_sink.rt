@@ -69,7 +69,8 @@ impl Sink for QuietSink {
         ensures tells { TellsAsBefore (Some self.old.held) (Some self.new.held) }
         ensures cause { CountsFault self.old.faults self.new.faults result }
         ensures rest { self.new.capacity ≡ self.old.capacity }
-        ensures full { IsErr result ↔ ((length self.old.held ≡ self.old.capacity) × (0 < length bytes.now)) }
+        ensures full { IsErr result
+            ↔ ((length self.old.held ≡ self.old.capacity) × (0 < length bytes.now)) }
     {
         let room = self.capacity - self.bytes.len();
         let count = bytes.len().min(room);

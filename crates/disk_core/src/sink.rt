@@ -18,7 +18,7 @@ pub trait Sink {
     /// failed.
     ghost keeps_rest: { Self → Self → Type 0 };
 
-    /// Takes a front of the bytes and tells how many they are: at least one, where there is one.
+    /// Takes a prefix of the bytes and answers how many they are: at least one, where there is one.
     /// `Failed` takes nothing and raises the count of faults by one.
     fn write(&mut self, bytes: &[u8]) -> Result<usize, Failed>
         ensures bound { IfOk result (λ count. count ≤ length bytes.now) }

@@ -22,9 +22,9 @@ pub trait Source {
     /// given, and how often it failed.
     ghost keeps_rest: { Self → Self → Type 0 };
 
-    /// Reads the next bytes, in order, into the front of a buffer, and tells how many they are. For
-    /// a buffer that isn't empty, 0 is the end, and after it nothing more is read. `Failed` takes
-    /// nothing and raises the count of faults by one.
+    /// Reads the next bytes, in order, into the beginning of a buffer, and answers how many they
+    /// are. For a buffer that isn't empty, 0 is the end, and after it nothing more is read.
+    /// `Failed` takes nothing and raises the count of faults by one.
     fn read(&mut self, into: &mut [u8]) -> Result<usize, Failed>
         requires { ended self.old ≡ false }
         ensures bound { IfOk result (λ count. count ≤ length into.new) }
@@ -38,8 +38,8 @@ pub trait Source {
     ghost frame: { IsFrame keeps_rest };
 }
 
-/// Copies the front of some bytes into the front of a buffer, as many as both have, and tells how
-/// many.
+/// Copies the first of some bytes into the beginning of a buffer, as many as both have, and answers
+/// how many.
 pub(crate) fn fill_front(into: &mut [u8], from: &[u8]) -> usize
     ensures count { result ≡ min (length into.old) (length from.now) }
     ensures bytes { take result into.new ≡ take result from.now }

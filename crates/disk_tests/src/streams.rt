@@ -6,7 +6,7 @@ use std::io;
 use std::io::{ErrorKind, Read, Write};
 use std::test::Fail;
 
-// Reads on, but not behind the end.
+// Reads on, but not past the end.
 fn read_listed(source: &mut MemorySource, into: &mut [u8]) -> Result<usize, Failed> {
     if source.has_ended() {
         return Err(Failed);

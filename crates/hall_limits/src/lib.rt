@@ -28,13 +28,15 @@ pub const MAX_POPULATION: u32 = 10_000;
 /// The greatest number of a lane; the least is 1. More lanes than a hall of this kind has.
 pub const MAX_LANE: u8 = 16;
 
-/// The greatest number of a door of the office; the least is 1. As many as lanes.
+/// The greatest number of a door of the office; the least is 1. As many as lanes: a hall needs no
+/// more than one for each.
 pub const MAX_DOOR: u8 = 16;
 
 /// The least number of a desk: numbers below it are those of lanes and doors.
 pub const MIN_DESK: u16 = 101;
 
-/// The greatest number of a desk: there are 64.
+/// The greatest number of a desk. 64 desks are more than a hall of this kind has, and few enough
+/// for the book to keep the newest row of each at hand.
 pub const MAX_DESK: u16 = 164;
 
 /// The most bytes of a name: room for an article number and a date, in a row of 96 bytes.

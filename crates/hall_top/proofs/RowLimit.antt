@@ -5,7 +5,7 @@ use Rattle.std.proofs.lemmas.Bool.Decides.{nat_tests}
 use Rattle.hall_limits.specs.declared.TheConstants.{MAX_ROWS}
 use Rattle.hall_units.specs.Number.{bounded_number}
 use Rattle.command_line.specs.declared.types.Command.{Command}
-use Rattle.command_line.specs.Words.{Item, Wanted, at_most_one, command_of, in_limits, is_option, limit_in, read_items, values_of, wanted_by, wanted_of, wanted_with}
+use Rattle.command_line.specs.Words.{Item, Wanted, at_most_one, command_of, in_limits, is_option, limit_in, read_items, values_of, wanted_items, wanted_of, wanted_values}
 
 some_same : {A : Type 0} (x y : A) → Some x ≡ Some y → x ≡ y
 some_same x y same = cc
@@ -35,21 +35,21 @@ is_limit : (given : Option (List ℕ)) (rows : ℕ) → limit_in given ≡ Some 
 is_limit None rows is = subst IsLimit (some_same MAX_ROWS rows is) (record { least = omega arith; most = omega arith })
 is_limit (Some text) rows is = then_gives (IsLimit rows) in_limits (bounded_number 20 (2 ^ 64 - 1) text) rows is (λ n here. in_bounds n rows here)
 
-by_items : (command : Command) (items : List Item) (wanted : Wanted) → wanted_by command items ≡ Some wanted → IsLimit wanted.limit
+by_items : (command : Command) (items : List Item) (wanted : Wanted) → wanted_items command items ≡ Some wanted → IsLimit wanted.limit
 by_items command items wanted is = go (list_all (λ (item : Item). is_option command item.name) items) is
   where
     limits : Option (Option (List ℕ))
     limits = at_most_one (values_of (codes "--limit") items)
 
-    go : (all : Bool) → (if all then option_and_then (λ book. option_and_then (λ limit. wanted_with command book limit) limits) (at_most_one (values_of (codes "--book") items)) else None) ≡ Some wanted → IsLimit wanted.limit
+    go : (all : Bool) → (if all then option_and_then (λ book. option_and_then (λ limit. wanted_values command book limit) limits) (at_most_one (values_of (codes "--book") items)) else None) ≡ Some wanted → IsLimit wanted.limit
     go false here = absurd cc
     go true here =
-        then_gives (IsLimit wanted.limit) (λ book. option_and_then (λ limit. wanted_with command book limit) limits) (at_most_one (values_of (codes "--book") items)) wanted here (λ book there.
-        then_gives (IsLimit wanted.limit) (λ limit. wanted_with command book limit) limits wanted there (λ limit asks.
+        then_gives (IsLimit wanted.limit) (λ book. option_and_then (λ limit. wanted_values command book limit) limits) (at_most_one (values_of (codes "--book") items)) wanted here (λ book there.
+        then_gives (IsLimit wanted.limit) (λ limit. wanted_values command book limit) limits wanted there (λ limit asks.
         map_gives (λ (w : Wanted). IsLimit w.limit) (λ rows. record { command = command; book = book; limit = rows }) (limit_in limit) wanted asks (λ rows inside. is_limit limit rows inside)))
 
 pub limit_asked : (words : List (List ℕ)) (wanted : Wanted) → wanted_of words ≡ Some wanted → IsLimit wanted.limit
 limit_asked [] wanted is = absurd cc
 limit_asked (word ∷ words) wanted is =
-    then_gives (IsLimit wanted.limit) (λ command. option_and_then (wanted_by command) (read_items None words)) (command_of word) wanted is (λ command here.
-    then_gives (IsLimit wanted.limit) (wanted_by command) (read_items None words) wanted here (λ items there. by_items command items wanted there))
+    then_gives (IsLimit wanted.limit) (λ command. option_and_then (wanted_items command) (read_items None words)) (command_of word) wanted is (λ command here.
+    then_gives (IsLimit wanted.limit) (wanted_items command) (read_items None words) wanted here (λ items there. by_items command items wanted there))

@@ -8,14 +8,17 @@ use Rattle.jiff.specs.Words.{date_text as jiff_text}
 
 -- the calendar has this day, and it isn't before 1970-01-01
 abbrev pub is_day : ℕ → ℕ → ℕ → Bool
-is_day year month day = nat_le 1970 year && nat_le 1 month && nat_le month 12 && nat_le 1 day && nat_le day (days_in_month (pos year) month)
+is_day year month day =
+    nat_le 1970 year && nat_le 1 month && nat_le month 12
+    && nat_le 1 day && nat_le day (days_in_month (pos year) month)
 
 -- the day number of a year, month and day of the month, counted from 1970-01-01
 abbrev pub day_number : Option ℕ → Option ℕ → Option ℕ → Option ℤ
-day_number (Some year) (Some month) (Some day) = if is_day year month day then Some (days_from_civil (pos year) month day) else None
+day_number (Some year) (Some month) (Some day) =
+    if is_day year month day then Some (days_from_civil (pos year) month day) else None
 day_number _ _ _ = None
 
--- ten bytes, with hyphens behind the year and the month
+-- ten bytes, with hyphens after the year and the month
 abbrev pub is_date_form : List ℕ → Bool
 is_date_form text = (length text == 10) && (slice_index text 4 == 45) && (slice_index text 7 == 45)
 
@@ -23,7 +26,10 @@ is_date_form text = (length text == 10) && (slice_index text 4 == 45) && (slice_
 unfoldable pub day_of : List ℕ → Option ℤ
 day_of text =
     if is_date_form text
-    then day_number (bounded_number 4 9999 (slice_range text 0 4)) (bounded_number 2 99 (slice_range text 5 7)) (bounded_number 2 99 (slice_range text 8 10))
+    then day_number
+    (bounded_number 4 9999 (slice_range text 0 4))
+    (bounded_number 2 99 (slice_range text 5 7))
+    (bounded_number 2 99 (slice_range text 8 10))
     else None
 
 -- the days of which texts are read and printed, from 1970-01-01 to 9999-12-31
@@ -40,8 +46,11 @@ pub record YearMonthDay : Type 0 where
 -- January
 abbrev pub next_date : YearMonthDay → YearMonthDay
 next_date date =
-    if nat_lt date.day (days_in_month (pos date.year) date.month) then record date { day = date.day + 1 }
-    else (if nat_lt date.month 12 then record date { month = date.month + 1; day = 1 } else record { year = date.year + 1; month = 1; day = 1 })
+    if nat_lt date.day (days_in_month (pos date.year) date.month)
+    then record date { day = date.day + 1 }
+    else (if nat_lt date.month 12
+    then record date { month = date.month + 1; day = 1 }
+    else record { year = date.year + 1; month = 1; day = 1 })
 
 -- the date so many days after 1970-01-01, counted on from date to date
 unfoldable pub date_after : ℕ → YearMonthDay

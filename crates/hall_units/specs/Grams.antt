@@ -12,7 +12,9 @@ numeral_of most text = if is_numeral most text then Some (digits_value 10 text) 
 abbrev pub places_of : List ℕ → Option ℕ
 places_of [] = Some 0
 places_of (byte ∷ digits) =
-    if (byte == 46) && is_numeral 3 digits then Some (digits_value 10 digits * 10 ^ (3 - length digits)) else None
+    if (byte == 46) && is_numeral 3 digits
+    then Some (digits_value 10 digits * 10 ^ (3 - length digits))
+    else None
 
 -- the digits with which a text begins
 abbrev pub leading_digits : List ℕ → List ℕ
@@ -39,13 +41,14 @@ IsReadMass mg = (pos 0 ≤ℤ mg) × (mg <ℤ pos 100_000_000_000)
 
 -- a text begins some spelling of grams
 abbrev pub BeginsGrams : List ℕ → Type 0
-BeginsGrams front = (more : List ℕ) × IsSome (milligrams_of (front ++ more))
+BeginsGrams prefix = (more : List ℕ) × IsSome (milligrams_of (prefix ++ more))
 
--- so many bytes are the longest front of a text that begins some spelling of grams
+-- so many bytes are the longest prefix of a text that begins some spelling of grams
 pub record IsSpelledTo (text : List ℕ) (place : ℕ) : Type 0 where
   pub within : place ≤ length text
   pub begins : BeginsGrams (take place text)
-  pub longest : (longer : ℕ) → place < longer → longer ≤ length text → ¬ BeginsGrams (take longer text)
+  pub longest : (longer : ℕ) → place < longer → longer ≤ length text
+      → ¬ BeginsGrams (take longer text)
 
 -- a minus sign where the mass is negative
 abbrev pub sign_text : ℤ → List ℕ
@@ -59,4 +62,6 @@ three_digits n = (48 + n / 100) ∷ (48 + n / 10 % 10) ∷ (48 + n % 10) ∷ []
 -- how a mass in milligrams is printed: a minus sign where it is negative, the whole grams, a point
 -- and three digits
 unfoldable pub gram_text : ℤ → List ℕ
-gram_text mg = sign_text mg ++ decimal (unsigned_abs mg / 1000) ++ 46 ∷ three_digits (unsigned_abs mg % 1000)
+gram_text mg =
+    sign_text mg ++ decimal (unsigned_abs mg / 1000)
+    ++ 46 ∷ three_digits (unsigned_abs mg % 1000)

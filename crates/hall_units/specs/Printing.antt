@@ -6,7 +6,8 @@ use Rattle.std.specs.declared.vec.Vec.{Vec}
 
 -- a text of at most so many bytes is appended: where there is room for that many it takes no
 -- memory, and where memory is refused nothing changes
-pub record Prints (old new : Vec ℕ Global) (result : Result (Unit {0}) AllocError) (text : List ℕ) (most : ℕ) : Type 0 where
+pub record Prints (old new : Vec ℕ Global) (result : Result (Unit {0}) AllocError)
+    (text : List ℕ) (most : ℕ) : Type 0 where
   pub appended : OnOk result (new.items ≡ old.items ++ text)
   pub refused : OnErr result (new.items ≡ old.items)
   pub longest : OnOk result (vec_len new ≤ vec_len old + most)

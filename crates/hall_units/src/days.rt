@@ -32,7 +32,7 @@ pub fn read_day(text: &[u8]) -> Result<i32, DayText>
     read_date(text).ok_or(DayText)
 }
 
-// Whether the text has ten bytes, and hyphens behind the year and the month.
+// Whether the text has ten bytes, and hyphens after the year and the month.
 fn has_date_form(text: &[u8]) -> bool
     ensures { result ≡ is_date_form text.now }
 {
@@ -42,7 +42,10 @@ fn has_date_form(text: &[u8]) -> bool
 // The day number of the date whose year, month and day stand in ten bytes.
 fn read_date(text: &[u8]) -> Option<i32>
     requires { length text.now ≡ 10 }
-    ensures { result ≡ day_number (bounded_number 4 9999 (slice_range text.now 0 4)) (bounded_number 2 99 (slice_range text.now 5 7)) (bounded_number 2 99 (slice_range text.now 8 10)) }
+    ensures { result ≡ day_number
+        (bounded_number 4 9999 (slice_range text.now 0 4))
+        (bounded_number 2 99 (slice_range text.now 5 7))
+        (bounded_number 2 99 (slice_range text.now 8 10)) }
 {
     let year = read_bounded(4, 9_999, &text[0..4])?;
     let month = read_bounded(2, 99, &text[5..7])?;
@@ -55,7 +58,8 @@ fn number_of_date(year: u64, month: u64, day: u64) -> Option<i32>
     requires year { year ≤ 9999 }
     requires month { month ≤ 99 }
     requires day { day ≤ 99 }
-    ensures { result ≡ (if is_day year month day then Some (days_from_civil (pos year) month day) else None) }
+    ensures { result
+        ≡ (if is_day year month day then Some (days_from_civil (pos year) month day) else None) }
 {
     if year < FIRST_YEAR {
         return None;

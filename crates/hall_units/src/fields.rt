@@ -34,7 +34,8 @@ pub fn get_u64(bytes: &[u8], place: usize) -> u64
 /// Writes a number into the two bytes from `place` on, its little end first. The other bytes stay.
 pub fn put_u16(bytes: &mut [u8], place: usize, value: u16)
     requires { place + 2 ≤ length bytes.old }
-    ensures { bytes.new ≡ take place bytes.old ++ to_le_bytes w16 value ++ drop (place + 2) bytes.old }
+    ensures { bytes.new
+        ≡ take place bytes.old ++ to_le_bytes w16 value ++ drop (place + 2) bytes.old }
 {
     bytes[place..place + 2].copy_from_slice(&value.to_le_bytes());
 }
@@ -42,7 +43,8 @@ pub fn put_u16(bytes: &mut [u8], place: usize, value: u16)
 /// Writes a number into the four bytes from `place` on, its little end first. The other bytes stay.
 pub fn put_u32(bytes: &mut [u8], place: usize, value: u32)
     requires { place + 4 ≤ length bytes.old }
-    ensures { bytes.new ≡ take place bytes.old ++ to_le_bytes w32 value ++ drop (place + 4) bytes.old }
+    ensures { bytes.new
+        ≡ take place bytes.old ++ to_le_bytes w32 value ++ drop (place + 4) bytes.old }
 {
     bytes[place..place + 4].copy_from_slice(&value.to_le_bytes());
 }
@@ -51,7 +53,8 @@ pub fn put_u32(bytes: &mut [u8], place: usize, value: u32)
 /// stay.
 pub fn put_u64(bytes: &mut [u8], place: usize, value: u64)
     requires { place + 8 ≤ length bytes.old }
-    ensures { bytes.new ≡ take place bytes.old ++ to_le_bytes w64 value ++ drop (place + 8) bytes.old }
+    ensures { bytes.new
+        ≡ take place bytes.old ++ to_le_bytes w64 value ++ drop (place + 8) bytes.old }
 {
     bytes[place..place + 8].copy_from_slice(&value.to_le_bytes());
 }

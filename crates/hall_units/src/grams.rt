@@ -13,7 +13,7 @@ use crate::types::{GramText, NoMemory};
 // The greatest number of digits before the point that is read.
 const GRAM_DIGITS: usize = 8;
 
-// The greatest number of digits behind the point: a milligram is the least mass.
+// The greatest number of digits after the point: a milligram is the least mass.
 const GRAM_PLACES: usize = 3;
 
 // The number of whole grams that 8 digits reach.
@@ -28,7 +28,7 @@ pub const MAX_GRAM_TEXT: usize = MAX_DECIMAL + 5;
 /// Reads a mass in grams: 1 to 8 digits, then nothing or a point and 1 to 3 digits. Answers it in
 /// milligrams.
 ///
-/// A text that isn't so spelled is refused, with the length of its longest front that begins some
+/// A text that isn't so spelled is refused, with the length of its longest prefix that begins some
 /// spelling.
 pub fn read_grams(text: &[u8]) -> Result<i64, GramText>
     ensures value { result_ok result ≡ milligrams_of text.now }
@@ -45,7 +45,7 @@ pub fn read_grams(text: &[u8]) -> Result<i64, GramText>
     }
 }
 
-// The mass of the whole grams and of what stands behind them.
+// The mass of the whole grams and of what stands after them.
 fn read_mass(whole: &[u8], behind: &[u8]) -> Option<i64>
     ensures value { result ≡ mass_of (numeral_of 8 whole.now) (places_of behind.now) }
     ensures range { IfSome result IsReadMass }
@@ -71,7 +71,7 @@ fn read_whole(digits: &[u8]) -> Option<u64>
     read_bounded(GRAM_DIGITS, MAX_WHOLE_GRAMS, digits)
 }
 
-// The milligrams behind the whole grams.
+// The milligrams after the whole grams.
 fn read_places(behind: &[u8]) -> Option<u64>
     ensures value { result ≡ places_of behind.now }
     ensures bound { IfSome result (λ places. places < 1_000) }
@@ -91,7 +91,7 @@ fn read_places(behind: &[u8]) -> Option<u64>
     })
 }
 
-// The length of the longest front that begins some spelling, of a text that begins with so many
+// The length of the longest prefix that begins some spelling, of a text that begins with so many
 // digits.
 fn spelled_length(text: &[u8], whole: usize) -> usize
     requires { whole ≡ prefix_len is_ascii_digit text.now }

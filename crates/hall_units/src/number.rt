@@ -29,8 +29,7 @@ fn value_of_digits(text: &[u8]) -> u128
 }
 
 /// The number that 1 to `most` decimal digits spell, leading zeros among them, where it is at most
-/// `limit`;
-/// `None` exactly for every other text. `most` is at most `MAX_DIGITS`.
+/// `limit`. `None` exactly for every other text. `most` is at most `MAX_DIGITS`.
 pub fn read_bounded(most: usize, limit: u64, text: &[u8]) -> Option<u64>
     requires { most ≤ MAX_DIGITS }
     ensures { result ≡ bounded_number most limit text.now }

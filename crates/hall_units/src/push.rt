@@ -31,7 +31,8 @@ pub fn make_room(to: &mut Vec<u8>, count: usize) -> Result<(), NoMemory>
     ensures items { to.new.items ≡ to.old.items }
     ensures room { OnOk result (vec_len to.new + count ≤ vec_capacity to.new) }
     ensures enough { vec_len to.old + count ≤ vec_capacity to.old → IsOk result }
-    ensures kept { vec_len to.old + count ≤ vec_capacity to.old → vec_capacity to.new ≡ vec_capacity to.old }
+    ensures kept { vec_len to.old + count ≤ vec_capacity to.old
+        → vec_capacity to.new ≡ vec_capacity to.old }
     ensures grows { vec_capacity to.old ≤ vec_capacity to.new }
 {
     if to.capacity() - to.len() < count {

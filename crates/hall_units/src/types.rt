@@ -6,7 +6,7 @@ pub type NoMemory = AllocError;
 /// A text that doesn't spell a mass in grams.
 #[derive(Clone, Copy, Debug, PartialEq, Eq)]
 pub struct GramText {
-    /// The length of the longest front of the text that begins some spelling.
+    /// The length of the longest prefix of the text that begins some spelling.
     pub place: usize,
 }
 

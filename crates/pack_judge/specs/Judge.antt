@@ -20,5 +20,6 @@ signal_of net limits held population nonstandard =
     if held then Reject cause.Held else
     (if population == MAX_POPULATION then Reject cause.Full else
     (if int_lt net limits.t2 then Reject cause.Inadequate else
-    (if (int_lt net limits.t1 && nat_lt population (40 * nonstandard)) then Reject cause.Allowance else
+    (if (int_lt net limits.t1 && nat_lt population (40 * nonstandard))
+    then Reject cause.Allowance else
     Pass)))

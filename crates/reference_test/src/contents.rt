@@ -9,7 +9,8 @@ use annex_tables::Plan;
 /// `t1`. The second sample counts only where the first doesn't decide.
 pub fn contents_check(plan: &Plan, d1: u32, d2: Option<u32>) -> Contents
     ensures value { result ≡ contents_of plan.now d1 d2 }
-    ensures second { (result ≡ Contents.Second) ↔ ((plan.now.c1 < d1) × (d1 < plan.now.r1) × IsNone d2) }
+    ensures second { (result ≡ Contents.Second)
+        ↔ ((plan.now.c1 < d1) × (d1 < plan.now.r1) × IsNone d2) }
 {
     if d1 <= plan.c1 {
         return Contents::Accept;

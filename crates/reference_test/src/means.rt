@@ -13,7 +13,8 @@ pub fn mean_check(sums: &Sums, nominal: i64, k1000: u32) -> bool
     requires some { 0 < sums.now.number }
     requires in_range { IsNominal nominal }
     requires part { k1000 ≤ 1000 }
-    ensures { (values : List ℤ) → sums.now ≡ sums_of values → IsTrue result ↔ MeanAccepts values nominal k1000 }
+    ensures { (values : List ℤ) → sums.now ≡ sums_of values
+        → IsTrue result ↔ MeanAccepts values nominal k1000 }
 {
     if sums.shortfall(nominal) <= 0 {
         return true;
@@ -29,7 +30,8 @@ pub fn mean_check(sums: &Sums, nominal: i64, k1000: u32) -> bool
 fn falls_short_within(sums: &Sums, nominal: i64, k1000: u32) -> bool
     requires in_range { IsNominal nominal }
     requires part { k1000 ≤ 1000 }
-    ensures { (values : List ℤ) → sums.now ≡ sums_of values → IsTrue result ↔ FallsShortWithin values nominal k1000 }
+    ensures { (values : List ℤ) → sums.now ≡ sums_of values
+        → IsTrue result ↔ FallsShortWithin values nominal k1000 }
 {
     let shortfall = sums.shortfall(nominal);
     let part = i128::from(k1000);

@@ -30,11 +30,19 @@ impl Model for Sums {
 
     ghost Value = { PowerSums };
 
-    ghost view = { λ sums. record { number = sums.number; sum_of_values = sums.values; sum_of_squares = sums.squares } };
+    ghost view = { λ sums. record {
+      number = sums.number;
+      sum_of_values = sums.values;
+      sum_of_squares = sums.squares;
+    } };
 
     ghost invariant = { λ sums. AreBounded sums.number sums.values sums.squares };
 
-    ghost inverse = { λ sums. record { number = sums.number; values = sums.sum_of_values; squares = sums.sum_of_squares } };
+    ghost inverse = { λ sums. record {
+      number = sums.number;
+      values = sums.sum_of_values;
+      squares = sums.sum_of_squares;
+    } };
 }
 
 impl Sums {
@@ -62,7 +70,8 @@ impl Sums {
         requires room { self.old.number < 100 }
         requires least { neg_ℤ MAX_TARE ≤ℤ x }
         requires greatest { x ≤ℤ MAX_GROSS }
-        ensures added { (values : List ℤ) → self.old ≡ sums_of values → self.new ≡ sums_of (values ++ x ∷ []) }
+        ensures added { (values : List ℤ)
+            → self.old ≡ sums_of values → self.new ≡ sums_of (values ++ x ∷ []) }
         ensures counted { self.new.number ≡ self.old.number + 1 }
     {
         self.number += 1;

@@ -1,4 +1,5 @@
--- Where an order is cut: what one entry tells of those before it and behind it, and an entry put at the cut.
+-- Where an order is cut: what one entry tells of those before it and behind it, and an entry put at
+-- the cut.
 use Rattle.std.proofs.Common.{◌≡◌, ℕ, zero, suc, ◌<◌, true, false, not, List, [], ◌∷◌, ◌++◌, length, get_or, take, drop, refl, sym, subst, inl, inr, arith}
 use Rattle.std.proofs.lemmas.Int.{ints}
 use Rattle.std.proofs.lemmas.Bool.{cases_Bool, and_parts, and_from, not-true, both_ways}

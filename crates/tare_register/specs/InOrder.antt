@@ -1,5 +1,5 @@
--- The order in which the register looks entries up: by product, in it by day, and those of one product and day as they
--- were put.
+-- The order in which the register looks entries up: by product, in it by day, and those of one
+-- product and day as they were put.
 use Rattle.std.specs.Prelude.{◌≡◌, ℕ, ℤ, pos, IsTrue, not, ◌-◌, min, ◌<◌, ◌≤◌, Bool, ◌&&◌, ◌||◌, ◌==◌, List, [], ◌∷◌, map, length, take, drop, nat_lt, int_le, slice_index_or, vec_len, vec_capacity}
 use Rattle.std.specs.List.{All, list_all}
 use Rattle.std.specs.declared.vec.Vec.{Vec}
@@ -12,11 +12,12 @@ use Rattle.tare_register.specs.Tares.{tares_of, deciding_tare, next_day, entry_o
 abbrev pub key_of : ProductTare → ProductDay
 key_of entry = record { product = entry.product; day = entry.dated.day }
 
--- whether an entry is up to a product and day: it is for a product of a smaller number, or for that product and dated by
--- that day
+-- whether an entry is up to a product and day: it is for a product of a smaller number, or for that
+-- product and dated by that day
 abbrev pub is_up_to : ProductDay → ProductTare → Bool
 is_up_to key entry =
-    nat_lt entry.product key.product || ((entry.product == key.product) && int_le entry.dated.day key.day)
+    nat_lt entry.product key.product
+    || ((entry.product == key.product) && int_le entry.dated.day key.day)
 
 -- whether each of some entries is
 abbrev pub all_up_to : ProductDay → List ProductTare → Bool
@@ -41,7 +42,8 @@ pub record IsCut (key : ProductDay) (count : ℕ) (entries : List ProductTare) :
   pub before : IsTrue (all_up_to key (take count entries))
   pub behind : IsTrue (none_up_to key (drop count entries))
 
--- two lists of entries say the same: for each product and day the same tare decides, and the same day comes next
+-- two lists of entries say the same: for each product and day the same tare decides, and the same
+-- day comes next
 pub record SaysSame (some others : List ProductTare) : Type 0 where
   pub deciding : (product : ℕ) (day : ℤ) →
       deciding_tare (tares_of some product) day ≡ deciding_tare (tares_of others product) day

@@ -5,8 +5,8 @@ ghost use Rattle.tare_register.specs.Tares.{deciding_tare, next_day, tares_of};
 use crate::order::count_up_to;
 use crate::types::{DatedTare, ProductDay, ProductTare};
 
-/// The tare that decides on a day for a product: that of the last entry up to that day, if it is for
-/// the product.
+/// The tare that decides on a day for a product: that of the last entry up to that day, if it is
+/// for the product.
 pub fn find_deciding(
     entries: &[ProductTare],
     places: &[usize],
@@ -27,7 +27,7 @@ pub fn find_deciding(
     }
 }
 
-/// The first day after that day for which the product has an entry: that of the first entry behind
+/// The first day after that day for which the product has an entry: that of the first entry after
 /// those up to that day, if it is for the product.
 pub fn find_next_day(entries: &[ProductTare], places: &[usize], key: &ProductDay) -> Option<i32>
     requires index { IsIndex entries.now places.now }

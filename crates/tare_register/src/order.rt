@@ -40,7 +40,7 @@ fn key_of(entry: &ProductTare) -> ProductDay
     }
 }
 
-/// Puts an entry behind the others, and its place into their order. There is room for both.
+/// Puts an entry after the others, and its place into their order. There is room for both.
 pub fn enter(entries: &mut Vec<ProductTare>, places: &mut Vec<usize>, entry: &ProductTare)
     requires index { IsIndex entries.old.items places.old.items }
     requires room { 0 < spare_of entries.old places.old }

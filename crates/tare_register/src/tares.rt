@@ -10,10 +10,10 @@ use std::marker::Model;
 /// The tares of all products, in the order in which they were put.
 ///
 /// A contract sees the list of entries, and beside it the number of places that are reserved for
-/// more. `at` and `span` take as many steps as the logarithm of the number of entries. So does `put`,
-/// which then moves 8 bytes for each entry of a product of a greater number, and for each of its own
-/// product and a later day, in one block: 80 kilobytes at most where 10 000 entries are held. An
-/// entry takes 32 bytes.
+/// more. `at` and `span` take as many steps as the logarithm of the number of entries. So does
+/// `put`, which then moves 8 bytes for each entry of a product of a greater number, and for each of
+/// its own product and a later day, in one block: 80 kilobytes at most where 10 000 entries are
+/// held. An entry takes 32 bytes.
 #[derive(Drop)]
 pub struct Tares {
     entries: Vec<ProductTare>,
@@ -44,12 +44,13 @@ impl Tares {
         }
     }
 
-    /// Puts a tare behind the others: `tare` milligrams for `product` from `day` on, a day since
+    /// Puts a tare after the others: `tare` milligrams for `product` from `day` on, a day since
     /// 1970-01-01.
     ///
     /// It is refused only for want of memory, and never while a place is reserved.
     pub fn put(&mut self, product: u32, day: i32, tare: i64) -> Result<(), NoMemory>
-        ensures ok { OnOk result (self.new.entries ≡ self.old.entries ++ entry_of product day tare ∷ []) }
+        ensures ok { OnOk result
+            (self.new.entries ≡ self.old.entries ++ entry_of product day tare ∷ []) }
         ensures err { OnErr result (self.new.entries ≡ self.old.entries) }
         ensures room { 0 < self.old.spare → IsOk result }
         ensures spare { self.old.spare ≤ self.new.spare + 1 }
@@ -137,55 +138,60 @@ mod tests {
         Ok(())
     }
 
+    // Tares of three products, in an order that isn't that of their days.
+    const PUT: [(u32, i32, i64); 10] = [
+        (7, 20, 200),
+        (7, 0, 100),
+        (9, 5, 900),
+        (7, 40, 400),
+        (7, 20, 250),
+        (7, 30, 300),
+        (7, 20, 225),
+        (7, i32::MIN, 1),
+        (7, i32::MAX, 2),
+        (u32::MAX, 20, 3),
+    ];
+
+    // What a product then weighs on a day.
+    const DECIDED: [(u32, i32, Option<i64>); 15] = [
+        (7, i32::MIN, Some(1)),
+        (7, -1, Some(1)),
+        (7, 0, Some(100)),
+        (7, 19, Some(100)),
+        (7, 20, Some(225)),
+        (7, 29, Some(225)),
+        (7, 30, Some(300)),
+        (7, 40, Some(400)),
+        (7, i32::MAX, Some(2)),
+        (8, 20, None),
+        (9, 4, None),
+        (9, i32::MAX, Some(900)),
+        (0, i32::MAX, None),
+        (u32::MAX, 19, None),
+        (u32::MAX, 20, Some(3)),
+    ];
+
+    // The next day for which a product then has an entry.
+    const NEXT_DAYS: [(u32, i32, Option<i32>); 5] = [
+        (7, -1, Some(0)),
+        (7, 20, Some(30)),
+        (7, 21, Some(30)),
+        (7, 40, Some(i32::MAX)),
+        (8, 20, None),
+    ];
+
     #[test]
     fn tares_are_put_in_any_order_of_days(rt: HostRuntime) -> Result<(), Fail> {
         let mut tares = Tares::new(rt.alloc());
-        tares.put(7, 20, 200)?;
-        tares.put(7, 0, 100)?;
-        tares.put(9, 5, 900)?;
-        tares.put(7, 40, 400)?;
-        tares.put(7, 20, 250)?;
-        tares.put(7, 30, 300)?;
-        tares.put(7, 20, 225)?;
-        tares.put(7, i32::MIN, 1)?;
-        tares.put(7, i32::MAX, 2)?;
-        tares.put(u32::MAX, 20, 3)?;
-        let cases = [
-            (7, i32::MIN, Some(1)),
-            (7, -1, Some(1)),
-            (7, 0, Some(100)),
-            (7, 19, Some(100)),
-            (7, 20, Some(225)),
-            (7, 29, Some(225)),
-            (7, 30, Some(300)),
-            (7, 40, Some(400)),
-            (7, i32::MAX, Some(2)),
-            (8, 20, None),
-            (9, 4, None),
-            (9, i32::MAX, Some(900)),
-            (0, i32::MAX, None),
-            (u32::MAX, 19, None),
-            (u32::MAX, 20, Some(3)),
-        ];
-        for (product, day, tare) in cases {
+        for (product, day, tare) in PUT {
+            tares.put(product, day, tare)?;
+        }
+        for (product, day, tare) in DECIDED {
             assert_eq!(rt; tares.at(product, day), tare, "product {product} on {day}");
         }
-        let spans = [
-            (-1, Some(0)),
-            (20, Some(30)),
-            (21, Some(30)),
-            (40, Some(i32::MAX)),
-        ];
-        for (from, until) in spans {
-            assert_eq!(rt; tares.span(7, from), Span { from, until });
+        for (product, from, until) in NEXT_DAYS {
+            assert_eq!(rt; tares.span(product, from), Span { from, until });
         }
-        assert_eq!(rt;
-            tares.span(8, 20),
-            Span {
-                from: 20,
-                until: None
-            }
-        );
         Ok(())
     }
 

@@ -17,7 +17,7 @@ impl DatedTare {
     ghost use Rattle.std.specs.Prelude.{◌≡◌};
     ghost use Rattle.tare_register.specs.Tares.{decides};
 
-    /// Whether this tare, put behind others, decides on a day: it is dated by that day, and
+    /// Whether this tare, put after others, decides on a day: it is dated by that day, and
     /// `known`, the one that decided so far, has no greater day.
     pub fn decides(&self, day: i32, known: Option<DatedTare>) -> bool
         ensures { result ≡ decides self.now day known }

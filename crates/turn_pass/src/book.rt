@@ -67,7 +67,7 @@ impl<E: Copy, L: Ledger, M: Ledger> BookSeat<E, L, M> {
         }
     }
 
-    // Takes in each pass and closes the table, as `Turn::close` says.
+    /// Takes in each pass and closes the table, as `Turn::close` says.
     pub(crate) fn end(self, board: Board<E>, passes: Vec<PassSeat<E, L, M>>) -> (u32, u64)
         requires words { board.shared.table_id.words ≡ 1 }
         requires slots { board.shared.table_id.slots ≡ 0 }

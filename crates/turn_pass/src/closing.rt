@@ -1,4 +1,4 @@
-//! The end of a session: the passes come back, and the word tells its last count.
+//! The end of a session: the passes come back, and the word gives its last count.
 ghost use Rattle.std.specs.Prelude.{◌≡◌, ◌≢◌, ◌+◌, ◌<◌, ◌^◌, ◌∷◌, [], All, AllPairs, length, map};
 ghost use Rattle.std.specs.List.{sum_by};
 ghost use Rattle.turn_pass.specs.declared.rule.Role.TheVariants.{Book};
@@ -19,6 +19,7 @@ pub(crate) struct Closing<E, L: Ledger, M: Ledger> {
 }
 
 impl<E: Copy, L: Ledger, M: Ledger> Closing<E, L, M> {
+    /// Ends each of the passes.
     pub(crate) fn gather(&mut self, board: &Board<E>, mut passes: Vec<PassSeat<E, L, M>>)
         requires book { IsOf board.now.shared.table_id self.old.place }
         requires role { self.old.place.me.0.role ≡ Book }
@@ -38,7 +39,7 @@ impl<E: Copy, L: Ledger, M: Ledger> Closing<E, L, M> {
     }
 }
 
-// What the word has at last, and what the rule says of the book seat's view then.
+/// What the word has at last, and what the rule says of the book seat's view then.
 pub(crate) fn last_count<E>(board: Board<E>, place: Place<E>) -> u32
     requires of { IsOf board.shared.table_id place }
     requires book { place.me.0.role ≡ Book }

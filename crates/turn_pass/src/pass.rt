@@ -81,7 +81,7 @@ impl<E: Copy, L: Ledger, M: Ledger> PassSeat<E, L, M> {
         }
     }
 
-    // The pass is joined to the book seat, and its parts to the seat's own.
+    /// The pass is joined to the book seat, and its parts to the seat's own.
     pub(crate) fn end(self, board: &Board<E>, closing: &mut Closing<E, L, M>)
         requires book { IsOf board.now.shared.table_id closing.old.place }
         requires role { closing.old.place.me.0.role ≡ Book }

@@ -1,4 +1,4 @@
-//! The rule of the one word, and what its steps tell.
+//! The rule of the one word, and what its steps show.
 use crate::entries::{Appended, Known, Own};
 use atomic_table::{Join, Play, Seat, Split, Table, TableRule};
 use std::alloc::Global;
@@ -20,13 +20,14 @@ pub struct View<E> {
     pub known: Known<E>,
     /// The numbers of all passes: the book seat's alone.
     pub bys: LinkedList<u16>,
-    /// What was joined last. The next load or append tells that it is part of what the seat has
+    /// What was joined last. The next load or append shows that it is part of what the seat has
     /// seen.
     pub heard: LinkedList<Known<E>>,
     /// What each pass knew that has ended: the book seat's alone.
     pub ended: LinkedList<Known<E>>,
 }
 
+/// The law that the word and the seats keep.
 pub struct Law;
 
 impl<E> TableRule<(), View<E>, u32> for Law {
@@ -37,8 +38,10 @@ impl<E> TableRule<(), View<E>, u32> for Law {
     ghost first = { first_view };
 }
 
+/// The table of the one word.
 pub type Board<E> = Table<(), View<E>, u32, Law, Global>;
 
+/// A seat at the table, and what it knows.
 pub type Place<E> = Seat<(), View<E>>;
 
 /// What one step is about. The word tells none of it, so each call picks it.

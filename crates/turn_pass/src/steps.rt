@@ -13,6 +13,7 @@ use crate::rule::{
 use atomic_table::Table;
 use std::alloc::{AllocError, Global};
 
+/// A table of one word that holds the number of rows before the session, and the book seat.
 pub(crate) fn open<E>(alloc: Global, history: u32) -> Result<(Board<E>, Place<E>), AllocError>
     ensures of { IfOk result (λ r. IsOf r.0.shared.table_id r.1) }
     ensures view { IfOk result (λ r. r.1.me.0 ≡ first_view history) }
@@ -21,6 +22,7 @@ pub(crate) fn open<E>(alloc: Global, history: u32) -> Result<(Board<E>, Place<E>
     Ok(Table::of_words(alloc, &[u64::from(history)], &history)?)
 }
 
+/// A pass of a new number, made by the book seat.
 pub(crate) fn pass<E, N: About<E>>(board: &Board<E>, place: &mut Place<E>, by: u16) -> Place<E>
     requires of { IsOf board.now.shared.table_id place.old }
     requires book { place.old.me.0.role ≡ Book }
@@ -32,6 +34,7 @@ pub(crate) fn pass<E, N: About<E>>(board: &Board<E>, place: &mut Place<E>, by: u
     board.shared.split_seat::<MakePass<N>>(place)
 }
 
+/// A note of what a seat has seen.
 pub(crate) fn note<E>(board: &Board<E>, place: &mut Place<E>) -> Place<E>
     requires of { IsOf board.now.shared.table_id place.old }
     requires role { place.old.me.0.role ≢ Spent }
@@ -41,6 +44,7 @@ pub(crate) fn note<E>(board: &Board<E>, place: &mut Place<E>) -> Place<E>
     board.shared.split_seat::<MakeNote>(place)
 }
 
+/// The book seat takes in a note of what a pass has seen.
 pub(crate) fn hear<E>(board: &Board<E>, place: &mut Place<E>, note: Place<E>)
     requires of { IsOf board.now.shared.table_id place.old }
     requires note { IsOf board.now.shared.table_id note }
@@ -50,6 +54,7 @@ pub(crate) fn hear<E>(board: &Board<E>, place: &mut Place<E>, note: Place<E>)
     board.shared.join_seat::<HearPass>(place, note)
 }
 
+/// A pass takes in a note of the book seat.
 pub(crate) fn meet<E>(board: &Board<E>, place: &mut Place<E>, note: Place<E>)
     requires of { IsOf board.now.shared.table_id place.old }
     requires note { IsOf board.now.shared.table_id note }
@@ -59,6 +64,7 @@ pub(crate) fn meet<E>(board: &Board<E>, place: &mut Place<E>, note: Place<E>)
     board.shared.join_seat::<MeetNote>(place, note)
 }
 
+/// The book seat takes in a pass that ends.
 pub(crate) fn end<E>(board: &Board<E>, place: &mut Place<E>, pass: Place<E>)
     requires of { IsOf board.now.shared.table_id place.old }
     requires pass { IsOf board.now.shared.table_id pass }
@@ -68,6 +74,7 @@ pub(crate) fn end<E>(board: &Board<E>, place: &mut Place<E>, pass: Place<E>)
     board.shared.join_seat::<EndPass>(place, pass)
 }
 
+/// Loads the word, which shows that what the seat has seen agrees with what was joined to it.
 pub(crate) fn look<E>(board: &Board<E>, place: &mut Place<E>)
     requires of { IsOf board.now.shared.table_id place.old }
     requires role { place.old.me.0.role ≢ Spent }
@@ -77,7 +84,7 @@ pub(crate) fn look<E>(board: &Board<E>, place: &mut Place<E>)
     board.shared.load::<LookAgain>(place, 0);
 }
 
-// The one `fetch_add`. It answers the number of rows that there were.
+/// Appends an entry by the one `fetch_add`. It answers the number of rows that there were.
 pub(crate) fn append<E: Copy, N: About<E>>(
     board: &Board<E>,
     place: &mut Place<E>,
@@ -96,6 +103,7 @@ pub(crate) fn append<E: Copy, N: About<E>>(
     board.shared.fetch_add::<AppendEntry<N>>(place, 0, 1)
 }
 
+/// A pass makes the entry at a number one of its own.
 pub(crate) fn see<E: Copy, N: About<E>>(board: &Board<E>, place: &mut Place<E>, row: u32, entry: E)
     requires of { IsOf board.now.shared.table_id place.old }
     requires pass { place.old.me.0.role ≡ Pass }

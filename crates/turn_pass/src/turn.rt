@@ -36,7 +36,7 @@ impl<E, L: Ledger, M: Ledger> Model for Turn<E, L, M> {
 }
 
 impl<E: Copy, L: Ledger, M: Ledger> Turn<E, L, M> {
-    /// Begins a session behind `history` rows. Each blank opens one of the two ledgers: `rows`
+    /// Begins a session after `history` rows. Each blank opens one of the two ledgers: `rows`
     /// counts accepted rows, `faults` answered faults. A blank has one part for the book seat and
     /// one for each pass that will be made. This is the only call that takes memory.
     pub fn begin(

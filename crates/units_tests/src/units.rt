@@ -1,12 +1,12 @@
 use hall_units::{
-    DayText, GramText, get_u16, get_u32, get_u64, print_day, print_grams, push_decimal, put_u16,
-    put_u32, put_u64, read_bounded, read_day, read_grams, read_number,
+    DayText, GramText, get_u16, get_u32, get_u64, print_day, print_grams, push_count, push_decimal,
+    push_number, put_u16, put_u32, put_u64, read_bounded, read_day, read_grams, read_number,
 };
 use std::test::Fail;
 
 #[test]
-fn texts_are_read(rt: HostRuntime) {
-    let grams = [
+fn grams_are_read(rt: HostRuntime) {
+    for (text, mg) in [
         ("0.5", Ok(500)),
         ("251", Ok(251_000)),
         ("00000251.05", Ok(251_050)),
@@ -18,11 +18,14 @@ fn texts_are_read(rt: HostRuntime) {
         ("-1", Err(GramText { place: 0 })),
         ("123456789", Err(GramText { place: 8 })),
         ("251 ", Err(GramText { place: 3 })),
-    ];
-    for (text, mg) in grams {
+    ] {
         assert_eq!(rt; read_grams(text.as_bytes()), mg, "{text}");
     }
-    let days = [
+}
+
+#[test]
+fn days_are_read(rt: HostRuntime) {
+    for (text, day) in [
         ("1970-01-01", Ok(0)),
         ("2025-03-03", Ok(20_150)),
         ("2024-02-29", Ok(19_782)),
@@ -32,19 +35,21 @@ fn texts_are_read(rt: HostRuntime) {
         ("2025-3-03", Err(DayText)),
         ("2025/03/03", Err(DayText)),
         ("2025-03-03 ", Err(DayText)),
-    ];
-    for (text, day) in days {
+    ] {
         assert_eq!(rt; read_day(text.as_bytes()), day, "{text}");
     }
-    let numbers = [
+}
+
+#[test]
+fn numbers_are_read(rt: HostRuntime) {
+    for (text, number) in [
         ("007", Some(7)),
         ("18446744073709551615", Some(u64::MAX)),
         ("18446744073709551616", None),
         ("000000000000000000001", None),
         ("", None),
         ("+1", None),
-    ];
-    for (text, number) in numbers {
+    ] {
         assert_eq!(rt; read_number(text.as_bytes()), number, "{text}");
     }
 }
@@ -63,6 +68,40 @@ fn grams_and_days_are_printed(rt: HostRuntime) -> Result<(), Fail> {
         text.as_slice(),
         b"-1.500 251.000 1000000000000.000 2025-03-03".as_slice()
     );
+    Ok(())
+}
+
+#[test]
+fn days_are_printed_without_room(rt: HostRuntime) -> Result<(), Fail> {
+    let mut first = Vec::new(rt.alloc());
+    print_day(0, &mut first)?;
+    assert_eq!(rt; first.as_slice(), b"1970-01-01".as_slice());
+    let mut leap = Vec::new(rt.alloc());
+    print_day(19_782, &mut leap)?;
+    assert_eq!(rt; leap.as_slice(), b"2024-02-29".as_slice());
+    let mut last = Vec::new(rt.alloc());
+    print_day(2_932_896, &mut last)?;
+    assert_eq!(rt; last.as_slice(), b"9999-12-31".as_slice());
+    Ok(())
+}
+
+#[test]
+fn counts_and_numbers_are_printed_without_room(rt: HostRuntime) -> Result<(), Fail> {
+    let alloc = rt.alloc();
+    for (count, wanted) in [(0, "0"), (10_000, "10000"), (u32::MAX, "4294967295")] {
+        let mut text = Vec::new(alloc);
+        push_count(&mut text, count)?;
+        assert_eq!(rt; text.as_slice(), wanted.as_bytes(), "{count}");
+    }
+    for (number, wanted) in [
+        (0, "0"),
+        (4_294_967_296, "4294967296"),
+        (u64::MAX, "18446744073709551615"),
+    ] {
+        let mut text = Vec::new(alloc);
+        push_number(&mut text, number)?;
+        assert_eq!(rt; text.as_slice(), wanted.as_bytes(), "{number}");
+    }
     Ok(())
 }
 

@@ -2,7 +2,7 @@ use Rattle.std.proofs.Common.{◌≡◌, [], ◌∷◌, ◌++◌, length, ap, �
 use Rattle.std.proofs.lemmas.List.{length-map, map-append}
 use Rattle.balanced_tree.specs.Trees.{items}
 use Rattle.batch_sums.specs.declared.group.Group.{Group}
-use Rattle.batch_sums.specs.Groups.{Face, face_of, faces, rank_at, rank_of}
+use Rattle.batch_sums.specs.Groups.{Face, face_of, faces, nth_rank, rank_of}
 use Rattle.batch_sums.proofs.Rising.{below}
 use Rattle.batch_sums.proofs.Opening.{index_made}
 use Rattle.batch_sums.proofs.order.open_group.Goals as goal
@@ -16,6 +16,6 @@ returns-clause-index c =
     let pushed : c.push.new.self.items ≡ old ++ c.new.result ∷ [] = c.in-Ok.ensures.items in
     let more = ap faces pushed ∙ map-append face_of old (c.new.result ∷ []) ∙ ap (λ f. faces old ++ f ∷ []) own in
     let made = rw c.replace.ensures.value at c.insert.ensures.items in
-    let at = c.place_of-place.ensures ∙ ap (λ (gs : List Group). below (rank_at (faces gs)) (rank_of c.args.key) order) c.deref.ensures.value in
+    let at = c.place_of-place.ensures ∙ ap (λ (gs : List Group). below (nth_rank (faces gs)) (rank_of c.args.key) order) c.deref.ensures.value in
     let group : c.len-group.result ≡ length (faces old) = omega (arith, c.len-group.ensures, length-map old face_of, c.args.groups.now.ok.0) in
     index_made (faces old) (faces c.push.new.self.items) face order (items c.insert.result) c.place_of-place.result c.len-group.result more made at group c.requires.index c.requires.absent c.requires.key

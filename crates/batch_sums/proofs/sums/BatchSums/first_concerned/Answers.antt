@@ -6,7 +6,7 @@ use Rattle.std.proofs.lemmas.List.Edits.{between_more}
 use Rattle.std.proofs.lemmas.Option.{slice_get_read, slice_get_within, slice_get-get_or, none-some, get_or_from_slice_get, unwrap_or-slice_get}
 use Rattle.balanced_tree.specs.Trees.{items}
 use Rattle.batch_sums.specs.declared.group.Group.{Group}
-use Rattle.batch_sums.specs.Groups.{Face, face_of, faces, face_at, rank_at}
+use Rattle.batch_sums.specs.Groups.{Face, face_of, faces, nth_face, nth_rank}
 use Rattle.batch_sums.specs.Kept.{Sums, terms_of}
 use Rattle.batch_sums.specs.Asked.{IsLeast}
 use Rattle.batch_sums.proofs.Concerning.{flag, chosen_homes, homes_chosen, homes_left, least_same, concerning}
@@ -20,11 +20,11 @@ unreachable-requires c =
     let sums = c.self.inside in
     let gs = sums.groups.items in
     let order = items sums.order in
-    let first_is : c.stretch_of-first.result.first ≡ below (rank_at (faces gs)) ((c.args.product * 4294967296 + c.days_of.result.from) * 4294967296 + 0) order =
-    c.stretch_of-first.ensures.first ∙ ap (λ (some : List Group). below (rank_at (faces some)) ((c.args.product * 4294967296 + c.days_of.result.from) * 4294967296 + 0) order) c.deref.ensures.value in
-    let end_is : c.stretch_of-first.result.end ≡ max c.stretch_of-first.result.first (below (rank_at (faces gs)) ((c.args.product * 4294967296 + c.days_of.result.until) * 4294967296 + 0) order) =
-    c.stretch_of-first.ensures.end ∙ ap (λ (some : List Group). max c.stretch_of-first.result.first (below (rank_at (faces some)) ((c.args.product * 4294967296 + c.days_of.result.until) * 4294967296 + 0) order)) c.deref.ensures.value in
-    let inside : c.loop-position.position < length order = omega (arith, c.loop-position-test.true, end_is, first_is, below-le-length (rank_at (faces gs)) ((c.args.product * 4294967296 + c.days_of.result.from) * 4294967296 + 0) order, below-le-length (rank_at (faces gs)) ((c.args.product * 4294967296 + c.days_of.result.until) * 4294967296 + 0) order) in
+    let first_is : c.stretch_of-first.result.first ≡ below (nth_rank (faces gs)) ((c.args.product * 4294967296 + c.days_of.result.from) * 4294967296 + 0) order =
+    c.stretch_of-first.ensures.first ∙ ap (λ (some : List Group). below (nth_rank (faces some)) ((c.args.product * 4294967296 + c.days_of.result.from) * 4294967296 + 0) order) c.deref.ensures.value in
+    let end_is : c.stretch_of-first.result.end ≡ max c.stretch_of-first.result.first (below (nth_rank (faces gs)) ((c.args.product * 4294967296 + c.days_of.result.until) * 4294967296 + 0) order) =
+    c.stretch_of-first.ensures.end ∙ ap (λ (some : List Group). max c.stretch_of-first.result.first (below (nth_rank (faces some)) ((c.args.product * 4294967296 + c.days_of.result.until) * 4294967296 + 0) order)) c.deref.ensures.value in
+    let inside : c.loop-position.position < length order = omega (arith, c.loop-position-test.true, end_is, first_is, below-le-length (nth_rank (faces gs)) ((c.args.product * 4294967296 + c.days_of.result.from) * 4294967296 + 0) order, below-le-length (nth_rank (faces gs)) ((c.args.product * 4294967296 + c.days_of.result.until) * 4294967296 + 0) order) in
     none-some _ (sym c.in_default.is ∙ c.get.ensures ∙ slice_get-get_or order c.loop-position.position 0 inside)
 
 pub index-requires : goal.index-requires
@@ -68,8 +68,8 @@ loop-position-preserved c =
     let fs = faces gs in
     let chosen = c.args.chosen.now in
     let before = between c.stretch_of-first.result.first c.loop-position.position order in
-    let batch : (face_at fs c.in-Some.group).key.batch ≡ c.index.result.now.key.batch = ap (λ (f : Face). f.key.batch) (face-found gs c.in-Some.group c.index.result.now at) in
-    let flagged : flag chosen (face_at fs c.in-Some.group).key.batch ≡ get_or chosen c.index.result.now.key.batch false = ap (flag chosen) batch ∙ unwrap_or-slice_get chosen c.index.result.now.key.batch false in
+    let batch : (nth_face fs c.in-Some.group).key.batch ≡ c.index.result.now.key.batch = ap (λ (f : Face). f.key.batch) (face-found gs c.in-Some.group c.index.result.now at) in
+    let flagged : flag chosen (nth_face fs c.in-Some.group).key.batch ≡ get_or chosen c.index.result.now.key.batch false = ap (flag chosen) batch ∙ unwrap_or-slice_get chosen c.index.result.now.key.batch false in
     elim (cases_Bool (get_or chosen c.index.result.now.key.batch false)) [
       | inl is ↦
           let homes = ap (chosen_homes chosen fs) more ∙ homes_chosen chosen fs before c.in-Some.group (flagged ∙ is) ∙ ap (λ n. chosen_homes chosen fs before ++ n ∷ []) batch in
@@ -86,10 +86,10 @@ returns c =
     let settled = c.self.invariant.settled in
     let gs = sums.groups.items in
     let order = items sums.order in
-    let first_is : c.stretch_of-first.result.first ≡ below (rank_at (faces gs)) ((c.args.product * 4294967296 + c.days_of.result.from) * 4294967296 + 0) order =
-    c.stretch_of-first.ensures.first ∙ ap (λ (some : List Group). below (rank_at (faces some)) ((c.args.product * 4294967296 + c.days_of.result.from) * 4294967296 + 0) order) c.deref.ensures.value in
-    let end_is : c.stretch_of-first.result.end ≡ max c.stretch_of-first.result.first (below (rank_at (faces gs)) ((c.args.product * 4294967296 + c.days_of.result.until) * 4294967296 + 0) order) =
-    c.stretch_of-first.ensures.end ∙ ap (λ (some : List Group). max c.stretch_of-first.result.first (below (rank_at (faces some)) ((c.args.product * 4294967296 + c.days_of.result.until) * 4294967296 + 0) order)) c.deref.ensures.value in
+    let first_is : c.stretch_of-first.result.first ≡ below (nth_rank (faces gs)) ((c.args.product * 4294967296 + c.days_of.result.from) * 4294967296 + 0) order =
+    c.stretch_of-first.ensures.first ∙ ap (λ (some : List Group). below (nth_rank (faces some)) ((c.args.product * 4294967296 + c.days_of.result.from) * 4294967296 + 0) order) c.deref.ensures.value in
+    let end_is : c.stretch_of-first.result.end ≡ max c.stretch_of-first.result.first (below (nth_rank (faces gs)) ((c.args.product * 4294967296 + c.days_of.result.until) * 4294967296 + 0) order) =
+    c.stretch_of-first.ensures.end ∙ ap (λ (some : List Group). max c.stretch_of-first.result.first (below (nth_rank (faces some)) ((c.args.product * 4294967296 + c.days_of.result.until) * 4294967296 + 0) order)) c.deref.ensures.value in
     let at : c.loop-position.position ≡ c.stretch_of-first.result.end = omega (arith, c.loop-position-test.false, c.loop-position.auto, end_is) in
     let fs = faces gs in
     rw (← c.self.view_is) (least_same (chosen_homes c.args.chosen.now fs (between c.stretch_of-first.result.first c.stretch_of-first.result.end order)) _ c.loop-position.least

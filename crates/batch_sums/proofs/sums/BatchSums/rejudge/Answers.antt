@@ -9,7 +9,7 @@ use Rattle.balanced_tree.specs.Trees.{items}
 use Rattle.balanced_tree.specs.declared.tree.Tree.{Tree}
 use Rattle.batch_sums.specs.declared.group.Group.{Group}
 use Rattle.batch_sums.specs.declared.types.Held.{Held}
-use Rattle.batch_sums.specs.Groups.{face_of, faces, rank_at}
+use Rattle.batch_sums.specs.Groups.{face_of, faces, nth_rank}
 use Rattle.batch_sums.specs.Kept.{Sums}
 use Rattle.batch_sums.specs.Changes.{concerned, group_count, HasFewPerGroup}
 use Rattle.batch_sums.proofs.Rising.{below, below-le-length}
@@ -37,11 +37,11 @@ unreachable-requires g c =
     let under = c.loop-place.invariant in
     let low = c.days_of.ensures.small.0 in
     let high = c.days_of.ensures.small.1 in
-    let first_is : c.stretch_of-first.result.first ≡ below (rank_at (faces gs)) ((c.args.product * 4294967296 + c.days_of.result.from) * 4294967296 + 0) order =
-    c.stretch_of-first.ensures.first ∙ ap (λ (some : List Group). below (rank_at (faces some)) ((c.args.product * 4294967296 + c.days_of.result.from) * 4294967296 + 0) order) c.deref.ensures.value in
-    let end_is : c.stretch_of-first.result.end ≡ max c.stretch_of-first.result.first (below (rank_at (faces gs)) ((c.args.product * 4294967296 + c.days_of.result.until) * 4294967296 + 0) order) =
-    c.stretch_of-first.ensures.end ∙ ap (λ (some : List Group). max c.stretch_of-first.result.first (below (rank_at (faces some)) ((c.args.product * 4294967296 + c.days_of.result.until) * 4294967296 + 0) order)) c.deref.ensures.value in
-    let inside : c.loop-place.place < length order = omega (arith, c.loop-place-test.true, end_is, first_is, below-le-length (rank_at (faces gs)) ((c.args.product * 4294967296 + c.days_of.result.from) * 4294967296 + 0) order, below-le-length (rank_at (faces gs)) ((c.args.product * 4294967296 + c.days_of.result.until) * 4294967296 + 0) order) in
+    let first_is : c.stretch_of-first.result.first ≡ below (nth_rank (faces gs)) ((c.args.product * 4294967296 + c.days_of.result.from) * 4294967296 + 0) order =
+    c.stretch_of-first.ensures.first ∙ ap (λ (some : List Group). below (nth_rank (faces some)) ((c.args.product * 4294967296 + c.days_of.result.from) * 4294967296 + 0) order) c.deref.ensures.value in
+    let end_is : c.stretch_of-first.result.end ≡ max c.stretch_of-first.result.first (below (nth_rank (faces gs)) ((c.args.product * 4294967296 + c.days_of.result.until) * 4294967296 + 0) order) =
+    c.stretch_of-first.ensures.end ∙ ap (λ (some : List Group). max c.stretch_of-first.result.first (below (nth_rank (faces some)) ((c.args.product * 4294967296 + c.days_of.result.until) * 4294967296 + 0) order)) c.deref.ensures.value in
+    let inside : c.loop-place.place < length order = omega (arith, c.loop-place-test.true, end_is, first_is, below-le-length (nth_rank (faces gs)) ((c.args.product * 4294967296 + c.days_of.result.from) * 4294967296 + 0) order, below-le-length (nth_rank (faces gs)) ((c.args.product * 4294967296 + c.days_of.result.until) * 4294967296 + 0) order) in
     none-some _ (sym c.in_default.is ∙ c.get.ensures ∙ ap (λ (t : Tree ℕ). slice_get (items t) c.loop-place.place) under.order ∙ slice_get-get_or order c.loop-place.place 0 inside)
 
 pub index_mut-group-requires : goal.index_mut-group-requires
@@ -108,14 +108,14 @@ returns-clause-packs g c =
     let under = c.loop-place.invariant in
     let low = c.days_of.ensures.small.0 in
     let high = c.days_of.ensures.small.1 in
-    let first_is : c.stretch_of-first.result.first ≡ below (rank_at (faces gs)) ((c.args.product * 4294967296 + c.days_of.result.from) * 4294967296 + 0) order =
-    c.stretch_of-first.ensures.first ∙ ap (λ (some : List Group). below (rank_at (faces some)) ((c.args.product * 4294967296 + c.days_of.result.from) * 4294967296 + 0) order) c.deref.ensures.value in
-    let end_is : c.stretch_of-first.result.end ≡ max c.stretch_of-first.result.first (below (rank_at (faces gs)) ((c.args.product * 4294967296 + c.days_of.result.until) * 4294967296 + 0) order) =
-    c.stretch_of-first.ensures.end ∙ ap (λ (some : List Group). max c.stretch_of-first.result.first (below (rank_at (faces some)) ((c.args.product * 4294967296 + c.days_of.result.until) * 4294967296 + 0) order)) c.deref.ensures.value in
+    let first_is : c.stretch_of-first.result.first ≡ below (nth_rank (faces gs)) ((c.args.product * 4294967296 + c.days_of.result.from) * 4294967296 + 0) order =
+    c.stretch_of-first.ensures.first ∙ ap (λ (some : List Group). below (nth_rank (faces some)) ((c.args.product * 4294967296 + c.days_of.result.from) * 4294967296 + 0) order) c.deref.ensures.value in
+    let end_is : c.stretch_of-first.result.end ≡ max c.stretch_of-first.result.first (below (nth_rank (faces gs)) ((c.args.product * 4294967296 + c.days_of.result.until) * 4294967296 + 0) order) =
+    c.stretch_of-first.ensures.end ∙ ap (λ (some : List Group). max c.stretch_of-first.result.first (below (nth_rank (faces some)) ((c.args.product * 4294967296 + c.days_of.result.until) * 4294967296 + 0) order)) c.deref.ensures.value in
     let at : c.loop-place.place ≡ c.stretch_of-first.result.end = omega (arith, c.loop-place-test.false, c.loop-place.auto, end_is) in
     let fits : FitsSigned w64 c.args.tare = c.ranges.tare in
     let mass : pos (Rattle.std.proofs.Math.IntN.nat_abs (to_z w64 (of_z w64 c.args.tare))) ≡ c.args.tare = grind (arith, ints, c.requires.tare) in
-    let same = subst (λ place. (other : ℕ) → Rattle.batch_sums.specs.Groups.face_at (faces c.loop-place.self-inside.groups.items) other ≡ Rattle.batch_sums.proofs.Underway.face_by (between c.stretch_of-first.result.first place order) (Rattle.std.proofs.Math.IntN.nat_abs (to_z w64 (of_z w64 c.args.tare))) other (Rattle.batch_sums.specs.Groups.face_at (faces gs) other)) at under.face in
+    let same = subst (λ place. (other : ℕ) → Rattle.batch_sums.specs.Groups.nth_face (faces c.loop-place.self-inside.groups.items) other ≡ Rattle.batch_sums.proofs.Underway.face_by (between c.stretch_of-first.result.first place order) (Rattle.std.proofs.Math.IntN.nat_abs (to_z w64 (of_z w64 c.args.tare))) other (Rattle.batch_sums.specs.Groups.nth_face (faces gs) other)) at under.face in
     rw (← c.self.view_is) (ap (λ (v : Rattle.std.proofs.Common.Vec Held Rattle.std.specs.declared.alloc.Global.Global). map (Rattle.batch_sums.specs.Kept.seen (faces c.loop-place.self-inside.groups.items)) v.items) under.packs
     ∙ packs_corrected sums.batches.items gs sums.packs.items settled.sound settled.used order settled.index c.args.product c.days_of.result.from c.days_of.result.until c.stretch_of-first.result.first c.stretch_of-first.result.end low high first_is end_is c.args.span c.days_of.ensures.covers (Rattle.std.proofs.Math.IntN.nat_abs (to_z w64 (of_z w64 c.args.tare))) c.args.tare (faces c.loop-place.self-inside.groups.items) mass same)
 
@@ -128,10 +128,10 @@ returns-clause-cost g c =
     let under = c.loop-place.invariant in
     let low = c.days_of.ensures.small.0 in
     let high = c.days_of.ensures.small.1 in
-    let first_is : c.stretch_of-first.result.first ≡ below (rank_at (faces gs)) ((c.args.product * 4294967296 + c.days_of.result.from) * 4294967296 + 0) order =
-    c.stretch_of-first.ensures.first ∙ ap (λ (some : List Group). below (rank_at (faces some)) ((c.args.product * 4294967296 + c.days_of.result.from) * 4294967296 + 0) order) c.deref.ensures.value in
-    let end_is : c.stretch_of-first.result.end ≡ max c.stretch_of-first.result.first (below (rank_at (faces gs)) ((c.args.product * 4294967296 + c.days_of.result.until) * 4294967296 + 0) order) =
-    c.stretch_of-first.ensures.end ∙ ap (λ (some : List Group). max c.stretch_of-first.result.first (below (rank_at (faces some)) ((c.args.product * 4294967296 + c.days_of.result.until) * 4294967296 + 0) order)) c.deref.ensures.value in
+    let first_is : c.stretch_of-first.result.first ≡ below (nth_rank (faces gs)) ((c.args.product * 4294967296 + c.days_of.result.from) * 4294967296 + 0) order =
+    c.stretch_of-first.ensures.first ∙ ap (λ (some : List Group). below (nth_rank (faces some)) ((c.args.product * 4294967296 + c.days_of.result.from) * 4294967296 + 0) order) c.deref.ensures.value in
+    let end_is : c.stretch_of-first.result.end ≡ max c.stretch_of-first.result.first (below (nth_rank (faces gs)) ((c.args.product * 4294967296 + c.days_of.result.until) * 4294967296 + 0) order) =
+    c.stretch_of-first.ensures.end ∙ ap (λ (some : List Group). max c.stretch_of-first.result.first (below (nth_rank (faces some)) ((c.args.product * 4294967296 + c.days_of.result.until) * 4294967296 + 0) order)) c.deref.ensures.value in
     let at : c.loop-place.place ≡ c.stretch_of-first.result.end = omega (arith, c.loop-place-test.false, c.loop-place.auto, end_is) in
     λ few.
     let fewer = subst HasFewPerGroup (ap (λ (s : Sums). s.packs) (sym c.self.view_is)) few in

@@ -1,5 +1,6 @@
-use Rattle.std.proofs.Common.{◌≡◌, length, map, ap, ◌∙◌, refl, arith, w64, lit<}
+use Rattle.std.proofs.Common.{◌≡◌, length, map, ap, ◌∙◌, refl, arith, unsigned_abs, w64, lit<}
 use Rattle.std.proofs.lemmas.Int.{ints}
+use Rattle.hall_limits.specs.declared.TheConstants.{MAX_GROSS}
 use Rattle.reference_test.specs.Means.{PowerSums, total, square}
 use Rattle.reference_test.proofs.Computed.{computes_read, computes_product, computes_sum}
 use Rattle.reference_test.proofs.Deviations.{sums_of-push}
@@ -11,7 +12,7 @@ returns-clause-added c values is =
     let number : c.self.inside.number ≡ length values = ap (λ (s : PowerSums). s.number) before in
     let sum : c.self.inside.values ≡ total values = ap (λ (s : PowerSums). s.sum_of_values) before in
     let squares : c.self.inside.squares ≡ total (map square values) = ap (λ (s : PowerSums). s.sum_of_squares) before in
-    let x = computes_read w64 c.args.x c.args.x 30000000 (lit< tt) refl (omega (arith, ints)) in
+    let x = computes_read w64 c.args.x c.args.x (unsigned_abs MAX_GROSS) (lit< tt) refl (omega (arith, ints)) in
     let s = computes_read w64 c.self.inside.values (total values) 3000000000 (lit< tt) sum (rw (← sum) (omega arith)) in
     let q = computes_read w64 c.self.inside.squares (total (map square values)) 90000000000000000 (lit< tt) squares (rw (← squares) (omega arith)) in
     sums_of-push values c.args.x _ _ _ (omega arith)

@@ -1,7 +1,7 @@
-use Rattle.std.proofs.Common.{◌≡◌, ℕ, ◌≤◌, ℤ, pos, ◌-ℤ◌, ◌*ℤ◌, ap, ◌∙◌, refl, arith, lit<, w64}
+use Rattle.std.proofs.Common.{◌≡◌, ℕ, ◌≤◌, ℤ, pos, ◌-ℤ◌, ◌*ℤ◌, ap, ◌∙◌, refl, arith, lit<, unsigned_abs, w64}
 use Rattle.std.proofs.lemmas.Int.{ints}
 use Rattle.std.specs.Int.{w128}
-use Rattle.hall_limits.specs.declared.TheConstants.{MAX_DENSITY}
+use Rattle.hall_limits.specs.declared.TheConstants.{MAX_DENSITY, MAX_NOMINAL}
 use Rattle.annex_tables.specs.Errors.{IsNominal}
 use Rattle.reference_test.specs.Means.{PowerSums}
 use Rattle.reference_test.proofs.Computed.{again, Computes, computes_read, computes_again, computes_product, computes_difference, computes_literal, fits-product, fits-difference}
@@ -12,11 +12,11 @@ weight : (number density : ℕ) (from from-2 : ℤ) → from ≡ pos number → 
     → Computes (again w128 (again w128 from *ℤ again w128 from-2)) (pos number *ℤ pos density) 200000000
 weight number density from from-2 is few is-2 most =
     computes_product w128 (lit< tt) (computes_read w128 from (pos number) 100 (lit< tt) is (omega (arith, ints)))
-    (computes_read w128 from-2 (pos density) 2000000 (lit< tt) is-2 (omega (arith, ints)))
+    (computes_read w128 from-2 (pos density) MAX_DENSITY (lit< tt) is-2 (omega (arith, ints)))
 
 -- the nominal quantity
-nominal : (n from-3 : ℤ) → from-3 ≡ again w64 n → IsNominal n → Computes (again w128 from-3) n 10000000
-nominal n from-3 is range = computes_again w128 from-3 (lit< tt) is (computes_read w64 n n 10000000 (lit< tt) refl (omega (arith, ints, range.0, range.1)))
+nominal : (n from-3 : ℤ) → from-3 ≡ again w64 n → IsNominal n → Computes (again w128 from-3) n (unsigned_abs MAX_NOMINAL)
+nominal n from-3 is range = computes_again w128 from-3 (lit< tt) is (computes_read w64 n n (unsigned_abs MAX_NOMINAL) (lit< tt) refl (omega (arith, ints, range.0, range.1)))
 
 -- what is computed, and that it is at most 5 000 000 000 000 000 away from 0
 whole : (c : goal.After-from-4) → Computes (again w128 (again w128 (again w128 (again w128 c.from.result *ℤ again w128 c.from-2.result) *ℤ again w128 c.from-3.result) -ℤ again w128 (pos 1000000 *ℤ again w128 c.from-4.result)))
