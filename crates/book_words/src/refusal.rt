@@ -16,7 +16,7 @@ pub enum Refusal {
     DeskNumber,
     /// The desk's request is 0, or before its last one.
     RequestOld { last: u32 },
-    /// The desk's last request, which was taken down in this row, was another act.
+    /// The desk's last request, which was recorded in this row, was another act.
     RequestReused { row: u32 },
     /// The desk's request isn't the one after its last one.
     RequestGap { last: u32 },
