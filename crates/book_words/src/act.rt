@@ -28,7 +28,7 @@ pub enum BatchState {
     Closed,
 }
 
-/// How the nominal quantity of a product is told (Directive 76/211/EEC, Article 1).
+/// How the nominal quantity of a product is given (Directive 76/211/EEC, Article 1).
 #[derive(Clone, Copy, Debug, PartialEq, Eq)]
 pub enum Unit {
     /// By mass, in mg.
@@ -113,7 +113,7 @@ pub enum Act {
     },
 }
 
-/// What the book is asked to tell.
+/// A question to the book.
 #[derive(Clone, Copy, Debug, PartialEq, Eq)]
 pub enum Question {
     /// The state of a batch: its piles, its test, its verdict.
@@ -133,7 +133,7 @@ pub enum Question {
 pub enum Want {
     /// Something to take down.
     Act(Act),
-    /// Something to tell.
+    /// A question.
     Question(Question),
 }
 
