@@ -31,7 +31,7 @@ pub fn answer_text(answered: &Answered, to: &mut Vec<u8>) -> Result<(), NoMemory
     Ok(())
 }
 
-// Appends what is told where nothing stands against it.
+// Appends the reply to an ask that isn't refused.
 fn push_reply(to: &mut Vec<u8>, reply: &Reply)
     requires room { HasRoom to.old TEXT_ROOM }
     requires range { IsReplyInRange reply.now }

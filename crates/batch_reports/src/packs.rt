@@ -18,7 +18,7 @@ const MAX_FOUND: usize = 3 * MAX_WORD;
 /// The most bytes of the line of a pack.
 pub const MAX_PACK_TEXT: usize = MAX_MASSES + MAX_FOUND + 1;
 
-/// Appends what stands of a pack, in a line.
+/// Appends the state of a pack, in a line.
 #[tactic(auto, unfolding(crate::specs::Texts::pack_text))]
 pub fn push_pack(to: &mut Vec<u8>, view: &PackView)
     requires room { HasRoom to.old MAX_PACK_TEXT }

@@ -39,13 +39,13 @@ const MAX_TEST: usize = MAX_FIRST + MAX_COUNTS;
 /// The most bytes of the line of the verdict: a label, its words and the LF.
 const MAX_VERDICT_LINE: usize = MAX_LABEL + MAX_VERDICT + 1;
 
-/// The most bytes of what is told of a batch's packs.
+/// The most bytes of the lines on a batch's packs.
 const MAX_PILES: usize = MAX_TALLIES + MAX_POPULATION_LINE + MAX_HELD;
 
 /// The most bytes of a sheet.
 pub const MAX_SHEET: usize = MAX_GOODS + MAX_STATE + MAX_PILES + MAX_TEST + MAX_VERDICT_LINE;
 
-/// Appends what stands of a batch, in nine lines, and those of its test and of its verdict.
+/// Appends the state of a batch, in nine lines, and the lines of its test and of its verdict.
 pub fn push_sheet(to: &mut Vec<u8>, sheet: &Sheet)
     requires room { HasRoom to.old MAX_SHEET }
     requires range { IsSheetInRange sheet.now }

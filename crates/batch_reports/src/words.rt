@@ -71,7 +71,7 @@ pub fn mode_word(mode: Mode) -> &'static [u8]
     }
 }
 
-/// What stands behind a quantity: nothing by mass, `ml` by volume.
+/// What follows a quantity: nothing by mass, `ml` by volume.
 pub fn unit_word(unit: Unit) -> &'static [u8]
     ensures text { result.now ≡ unit_text unit }
     ensures short { length result.now ≤ MAX_WORDS }

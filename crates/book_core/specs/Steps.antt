@@ -33,23 +33,29 @@ asked_question question = record { desk = 0; request = 0; want = want.Question q
 
 -- the entry that an act will be, with its row
 abbrev pub ready_for : List Entry → ℕ → Ask → Act → ReadyEntry
-ready_for entries by ask act = record { number = length entries + 1; entry = entry_for entries by ask act }
+ready_for entries by ask act =
+    record { number = length entries + 1; entry = entry_for entries by ask act }
 
 -- a repeat is told again, any other act that isn't refused is new
-abbrev pub decision_unless : List Entry → Act → Option ℕ → Option Refusal → Result (Option Answered) BookError
+abbrev pub decision_unless :
+    List Entry → Act → Option ℕ → Option Refusal → Result (Option Answered) BookError
 decision_unless entries act (Some row) refusal = Ok (Some (told_again entries row act))
 decision_unless entries act None (Some refusal) = Err (error.Refused (refused_at entries refusal))
 decision_unless entries act None None = Ok None
 
 -- a wrong desk is refused before anything else is looked at
-abbrev pub decision_by : List Entry → Act → Option Refusal → Option ℕ → Option Refusal → Result (Option Answered) BookError
-decision_by entries act (Some by_desk) row by_rule = Err (error.Refused (refused_at entries by_desk))
+abbrev pub decision_by :
+    List Entry → Act → Option Refusal → Option ℕ → Option Refusal
+    → Result (Option Answered) BookError
+decision_by entries act (Some by_desk) row by_rule =
+    Err (error.Refused (refused_at entries by_desk))
 decision_by entries act None row by_rule = decision_unless entries act row by_rule
 
 -- whether an act is refused, and what it is told where it is a repeat
 abbrev pub decision : ℕ → List Entry → Ask → Act → Result (Option Answered) BookError
 decision limit entries ask act =
-    decision_by entries act (desk_number ask act) (repeated_row entries ask act) (refusal_of limit entries ask act)
+    decision_by entries act (desk_number ask act) (repeated_row entries ask act)
+    (refusal_of limit entries ask act)
 
 -- a refused act is answered its refusal, a repeat is known, and any other act is ready
 abbrev pub step_by : ReadyEntry → Result (Option Answered) BookError → Result Step BookError
@@ -79,8 +85,10 @@ HasNoRoom book act = is_weighing act ≡ true → book.spare ≡ 0
 
 -- a call gives what is wanted; only in place of a new step may it answer that there is no memory,
 -- and for a weighing only where no row is spare
-abbrev pub GivesUnlessNoMemory : BookView → Act → Result Step BookError → Result Step BookError → Type 0
-GivesUnlessNoMemory book act (Err error.NoMemory) wanted = IsSome (made_ready wanted) × HasNoRoom book act
+abbrev pub GivesUnlessNoMemory :
+    BookView → Act → Result Step BookError → Result Step BookError → Type 0
+GivesUnlessNoMemory book act (Err error.NoMemory) wanted =
+    IsSome (made_ready wanted) × HasNoRoom book act
 GivesUnlessNoMemory book act given wanted = given ≡ wanted
 
 -- a refusal that is answered has the least number of all that hold

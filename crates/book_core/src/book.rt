@@ -43,7 +43,12 @@ impl Model for Book {
 
     ghost use Rattle.book_core.specs.Holding.{ready_in, IsKept};
 
-    ghost view = { λ b. record { entries = b.state.entries; limit = b.limit; pending = ready_in b.pending; spare = b.state.spare } };
+    ghost view = { λ b. record {
+      entries = b.state.entries;
+      limit = b.limit;
+      pending = ready_in b.pending;
+      spare = b.state.spare;
+    } };
 
     ghost invariant = { λ b. IsKept b.state b.limit b.pending };
 }
@@ -70,17 +75,19 @@ impl Book {
         }
     }
 
-    /// Answers an ask of the caller `by`: an act is made ready and entered, or is a repeat and told
-    /// again what it was told, or is refused; and a question is looked up.
+    /// Answers an ask of the caller `by`: an act is made ready and entered, or is a repeat and gets
+    /// the same answer again, or is refused; and a question is looked up.
     ///
     /// Of several refusals that hold, the one with the least number is answered, with the length of
-    /// the list. Only where the ask would have added an entry, or asks for a sample, may there be no
-    /// memory instead, and for a weighing only where no row is spare; the list then stays as it is.
+    /// the list. Only where the ask would have added an entry, or asks for a sample, may there be
+    /// no memory instead, and for a weighing only where no row is spare; the list then stays as it
+    /// is.
     pub fn ask(&mut self, by: u16, ask: &Ask) -> Result<Answered, BookError>
         ensures answer { GivesAnswer (MayLackMemory self.old by ask.now ask.now.want) result
             (answer self.old.limit self.old.entries ask.now) }
         ensures entries { self.new.entries
-            ≡ list_behind result self.old.entries (added self.old.limit self.old.entries by ask.now) }
+            ≡ list_behind result self.old.entries
+            (added self.old.limit self.old.entries by ask.now) }
         ensures limit { self.new.limit ≡ self.old.limit }
         ensures pending { self.new.pending ≡ pending_after self.old.pending ask.now.want }
         ensures spare { self.old.spare + length self.old.entries
@@ -97,8 +104,8 @@ impl Book {
         }
     }
 
-    /// Makes an act ready: it is refused, or it repeats the newest act of its desk, or room is taken
-    /// for it and its entry is made. The list stays as it is.
+    /// Makes an act ready: it is refused, or it repeats the newest act of its desk, or room is
+    /// taken for it and its entry is made. The list stays as it is.
     ///
     /// Of several refusals that hold, the one with the least number is answered, with the length of
     /// the list. Want of memory is answered only for a lawful act, and for a weighing only where no
@@ -171,8 +178,8 @@ impl Book {
         }
     }
 
-    // Takes room for a lawful entry, draws what its act draws, and keeps it ready to be entered. The
-    // list stays as it is.
+    // Takes room for a lawful entry, draws what its act draws, and keeps it ready to be entered.
+    // The list stays as it is.
     fn hold(&mut self, entry: &Entry) -> Result<Ready, NoMemory>
         requires lawful { IsLawful self.old.entries entry.now }
         requires empty { self.old.pending ≡ None }
@@ -208,14 +215,15 @@ impl Book {
     }
 
     /// Makes an entry ready as it stands, with whoever brought it, its desk and its signal.
-    /// `Unlawful` comes exactly where it isn't lawful behind the list; the book's limit doesn't bind
-    /// it. Want of memory is answered only for a lawful entry, and for a weighing only where no row
-    /// is spare. The list stays as it is.
+    /// `Unlawful` comes exactly where it isn't lawful after the list; the book's limit doesn't
+    /// bind it. Lack of memory is answered only for a lawful entry, and for a weighing only where
+    /// no row is spare. The list stays as it is.
     pub fn admit(&mut self, entry: &Entry) -> Result<Ready, ReplayError>
         ensures ok { IfOk result (λ ready. ready
             ≡ record { number = length self.old.entries + 1; entry = entry.now }) }
         ensures lawful { OnOk result (IsLawful self.old.entries entry.now) }
-        ensures unlawful { result ≡ Err ReplayError.Unlawful ↔ ¬ IsLawful self.old.entries entry.now }
+        ensures unlawful { result ≡ Err ReplayError.Unlawful
+            ↔ ¬ IsLawful self.old.entries entry.now }
         ensures no_memory { result ≡ Err ReplayError.NoMemory →
             IsLawful self.old.entries entry.now × HasNoRoom self.old entry.now.act }
         ensures pending { self.new.pending ≡ result_ok result }
@@ -235,9 +243,9 @@ impl Book {
     }
 
     /// Enters an entry of a book that is opened again, as it stands. `Unlawful` comes exactly where
-    /// it isn't lawful behind the list; the book's limit doesn't bind it. Want of memory is answered
-    /// only for a lawful entry, and for a weighing only where no row is spare. After an error the
-    /// list is as it was.
+    /// it isn't lawful after the list; the book's limit doesn't bind it. Lack of memory is
+    /// answered only for a lawful entry, and for a weighing only where no row is spare. After an
+    /// error the list is as it was.
     pub fn replay(&mut self, entry: Entry) -> Result<(), ReplayError>
         ensures ok { OnOk result (self.new.entries ≡ self.old.entries ++ entry ∷ []) }
         ensures lawful { OnOk result (IsLawful self.old.entries entry) }
@@ -256,8 +264,8 @@ impl Book {
         Ok(())
     }
 
-    /// Enters what was made ready last, and answers it, whatever the book's limit is. It can't fail,
-    /// and takes no memory.
+    /// Enters what was made ready last, and answers it, whatever the book's limit is. It can't
+    /// fail, and takes no memory.
     pub fn enter(&mut self, ready: Ready) -> Answered
         requires { self.old.pending ≡ Some ready }
         ensures entries { self.new.entries ≡ self.old.entries ++ ready.entry ∷ [] }
@@ -318,8 +326,8 @@ impl Book {
     /// The number of the unsettled pack of a lane: it passed, and no weighing or stop of the lane
     /// came after it.
     ///
-    /// Where a lane has one, its next weighing or stop has to say what the gate did, and else it
-    /// may not.
+    /// Where a lane has one, its next weighing or stop must say what the gate did. Where it has
+    /// none, they must not.
     pub fn unsettled(&self, lane: u8) -> Option<u32>
         ensures { result
             ≡ option_map (λ reading. reading.number) (unsettled_reading self.now.entries lane) }
@@ -334,7 +342,7 @@ impl Book {
         self.state.len()
     }
 
-    /// What stands of the pack with a number; `None` exactly where there is no such pack.
+    /// The state of the pack with a number; `None` exactly where there is no such pack.
     pub fn pack(&self, number: u32) -> Option<PackView>
         ensures view { result ≡ pack_view self.now.entries number }
         ensures there { is_none result ≡ is_none (reading_of self.now.entries number) }

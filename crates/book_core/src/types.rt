@@ -26,7 +26,7 @@ pub enum BookError {
 /// Why an entry isn't taken as it stands.
 #[derive(Clone, Copy, Debug, PartialEq, Eq)]
 pub enum ReplayError {
-    /// It isn't lawful behind the list.
+    /// It isn't lawful after the list.
     Unlawful,
     /// Memory was refused.
     NoMemory,

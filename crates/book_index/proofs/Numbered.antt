@@ -48,7 +48,7 @@ pub lane_outside : (lane : ℕ) (batch : Option ℕ) (known : Known) → length 
 lane_outside lane batch known long off = λ i. record known { lanes = sym (numbered_outside 1 lane batch known.lanes out) i }
   where
     out : 1 ≤ lane → lane < 1 + length known.lanes → ⊥
-    out least most = let most : lane < 1 + 16 = omega (arith, most, long) in grind (arith, nat_tests)
+    out least most = let most : lane < 1 + MAX_LANE = omega (arith, most, long) in grind (arith, nat_tests)
 
 -- the lane of a number stands at its place
 pub lane_inside : (lane : ℕ) (batch : Option ℕ) (known : Known) → length known.lanes ≡ MAX_LANE → is_lane lane ≡ true → record known { lanes = set known.lanes (lane - 1) batch } ≡ with_lane lane batch known
@@ -57,7 +57,7 @@ lane_inside lane batch known long one = λ i. record known { lanes = numbered_in
     least : 1 ≤ lane
     least = grind (arith, nat_tests)
 
-    up_to : lane ≤ 16
+    up_to : lane ≤ MAX_LANE
     up_to = grind (arith, nat_tests)
 
     most : lane < 1 + length known.lanes
@@ -68,7 +68,7 @@ pub desk_outside : (desk row : ℕ) (known : Known) → length known.desks ≡ M
 desk_outside desk row known long off = λ i. record known { desks = sym (numbered_outside MIN_DESK desk (Some row) known.desks out) i }
   where
     out : MIN_DESK ≤ desk → desk < MIN_DESK + length known.desks → ⊥
-    out least most = let most : desk < 165 = omega (arith, most, long) in grind (arith, nat_tests)
+    out least most = let most : desk < MAX_DESK + 1 = omega (arith, most, long) in grind (arith, nat_tests)
 
 -- the desk of a number stands at its place
 pub desk_inside : (desk row : ℕ) (known : Known) → length known.desks ≡ MAX_DESK - MIN_DESK + 1 → is_desk desk ≡ true → record known { desks = set known.desks (desk - MIN_DESK) (Some row) } ≡ with_row desk row known
@@ -77,7 +77,7 @@ desk_inside desk row known long one = λ i. record known { desks = numbered_insi
     least : MIN_DESK ≤ desk
     least = grind (arith, nat_tests)
 
-    up_to : desk ≤ 164
+    up_to : desk ≤ MAX_DESK
     up_to = grind (arith, nat_tests)
 
     most : desk < MIN_DESK + length known.desks

@@ -52,14 +52,14 @@ known_behind entries entry next = known_of entries next.legal
 rules_behind : (entries : List Entry) (entry : Entry) → IsNext entries entry → Passes entries entry.act
 rules_behind entries entry next = passes entries entry next.lawful
 
-lane_bounds : (lane : ℕ) → nat_le 1 lane && nat_le lane MAX_LANE ≡ true → (1 ≤ lane) × (lane ≤ 16)
+lane_bounds : (lane : ℕ) → nat_le 1 lane && nat_le lane MAX_LANE ≡ true → (1 ≤ lane) × (lane ≤ MAX_LANE)
 lane_bounds lane h = let parts = and_parts (nat_le 1 lane) (nat_le lane MAX_LANE) h in (grind (arith, nat_tests), grind (arith, nat_tests))
 
-pub weigh_bounds : (entries : List Entry) (entry : Entry) (weighing : Weighing) → IsWeighing entries entry weighing → (1 ≤ weighing.lane) × (weighing.lane ≤ 16)
+pub weigh_bounds : (entries : List Entry) (entry : Entry) (weighing : Weighing) → IsWeighing entries entry weighing → (1 ≤ weighing.lane) × (weighing.lane ≤ MAX_LANE)
 weigh_bounds entries entry weighing is =
     lane_bounds weighing.lane (weigh entries weighing.lane weighing.gross weighing.prior (subst (Passes entries) is.act (rules_behind entries entry is.next))).number
 
-pub stop_bounds : (entries : List Entry) (entry : Entry) (lane : ℕ) (prior : Prior) → IsStop entries entry lane prior → (1 ≤ lane) × (lane ≤ 16)
+pub stop_bounds : (entries : List Entry) (entry : Entry) (lane : ℕ) (prior : Prior) → IsStop entries entry lane prior → (1 ≤ lane) × (lane ≤ MAX_LANE)
 stop_bounds entries entry lane prior is = lane_bounds lane (stop_lane entries lane prior (subst (Passes entries) is.act (rules_behind entries entry is.next)))
 
 apart : (a b : ℕ) → ((a < b) ⊎ (b < a)) → (a == b) ≡ false
@@ -70,10 +70,10 @@ elsewhere : (entry : Entry) (lane : ℕ) (prior : Prior) (other : ℕ) → IsLan
 elsewhere entry lane prior other is h = ap is_none (is.told other ∙ ap (λ b. cond b (Some prior) None) (apart lane other h))
 
 -- the unsettled readings behind an act of a lane
-unsettled_set : (entries : List Entry) (entry : Entry) (lane : ℕ) (prior : Prior) (x : Option ℕ) → IsLaneAct entry lane prior → 1 ≤ lane → lane ≤ 16 → unsettled_number (entries ++ entry ∷ []) lane ≡ x
+unsettled_set : (entries : List Entry) (entry : Entry) (lane : ℕ) (prior : Prior) (x : Option ℕ) → IsLaneAct entry lane prior → 1 ≤ lane → lane ≤ MAX_LANE → unsettled_number (entries ++ entry ∷ []) lane ≡ x
     → slice_set (unsettled_in entries) (lane - 1) x ≡ unsettled_in (entries ++ entry ∷ [])
 unsettled_set entries entry lane prior x is least greatest own =
-    range_set (unsettled_number entries) (unsettled_number (entries ++ entry ∷ [])) x 1 16 (lane - 1) (omega arith)
+    range_set (unsettled_number entries) (unsettled_number (entries ++ entry ∷ [])) x 1 MAX_LANE (lane - 1) (omega arith)
     (ap (unsettled_number (entries ++ entry ∷ [])) (let same : 1 + (lane - 1) ≡ lane = omega arith in same) ∙ own)
     (λ n less. sym (number_kept entries entry n (elsewhere entry lane prior n is (inr (omega (arith, less, least))))))
     (λ n more. sym (number_kept entries entry n (elsewhere entry lane prior n is (inl (omega (arith, more, least))))))
@@ -294,7 +294,7 @@ void-push entries entry pack old new is stands tares batches packs unsettled =
           ∙ sym (packs-push entries entry known rules
           ∙ ap (λ a. map (λ reading. pack_of (entries ++ entry ∷ []) (advance entry.act reading)) (readings entries) ++ map (pack_of (entries ++ entry ∷ [])) (cons_option (reading_from (length entries + 1) entries a entry.signal []) [])) is.act
           ∙ append-nil _);
-      unsettled = unsettled ∙ stands.unsettled ∙ ap (λ (f : ℕ → Option ℕ). map f (range_with_len 1 16)) (λ i lane. sym (number_kept entries entry lane (ap (λ a. is_none (prior_told lane a)) is.act)) i);
+      unsettled = unsettled ∙ stands.unsettled ∙ ap (λ (f : ℕ → Option ℕ). map f (range_with_len 1 MAX_LANE)) (λ i lane. sym (number_kept entries entry lane (ap (λ a. is_none (prior_told lane a)) is.act)) i);
     }
   where
     pile : (reading : Reading) → pile_of (entries ++ entry ∷ []) (advance entry.act reading) ≡ cond (reading.number == pack) Voided (pile_of entries reading)

@@ -6,6 +6,7 @@ use Rattle.std.proofs.lemmas.Bool.{cases_Bool, eqb-true}
 use Rattle.std.proofs.lemmas.Bool.Decides.{nat_tests}
 use Rattle.std.proofs.lemmas.List.Elements.{All-from_recursion}
 use Rattle.annex_tables.specs.declared.types.Mode.{Mode}
+use Rattle.hall_limits.specs.declared.TheConstants.{MAX_LANE}
 use Rattle.pack_judge.specs.declared.types.Pile.{Pile}
 use Rattle.pack_judge.specs.declared.types.Pile.TheVariants.{Passed, Rejected, Sampled, Voided}
 use Rattle.pack_judge.specs.declared.types.Signal.{Signal}
@@ -400,7 +401,7 @@ module _ (entries : List Entry) (entry : Entry) (batch : ℕ) (picks : List ℕ)
             ∙ sym (packs-push entries entry known rules
             ∙ ap (λ o. map (λ reading. pack_of (entries ++ entry ∷ []) (advance entry.act reading)) (readings entries) ++ map (pack_of (entries ++ entry ∷ [])) (cons_option o [])) (act.own (length entries + 1) entries entry.signal)
             ∙ append-nil _);
-        unsettled = unsettled ∙ stands.unsettled ∙ ap (λ (f : ℕ → Option ℕ). map f (range_with_len 1 16)) (λ i lane. sym (number_kept entries entry lane (ap is_none (act.told lane))) i);
+        unsettled = unsettled ∙ stands.unsettled ∙ ap (λ (f : ℕ → Option ℕ). map f (range_with_len 1 MAX_LANE)) (λ i lane. sym (number_kept entries entry lane (ap is_none (act.told lane))) i);
       }
 
   -- the numbers that are drawn are small

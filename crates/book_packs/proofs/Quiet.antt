@@ -6,7 +6,7 @@ use Rattle.std.specs.Option.{option_or, option_and_then, unwrap_or}
 use Rattle.std.proofs.lemmas.Bool.Decides.{nat_tests}
 use Rattle.std.proofs.lemmas.List.{append-nil}
 use Rattle.annex_tables.specs.declared.types.Limits.{Limits}
-use Rattle.hall_limits.specs.declared.TheConstants.{MAX_TARE}
+use Rattle.hall_limits.specs.declared.TheConstants.{MAX_TARE, MAX_LANE}
 use Rattle.pack_judge.specs.declared.types.Pile.{Pile}
 use Rattle.pack_judge.specs.declared.types.Signal.{Signal}
 use Rattle.tare_register.specs.declared.types.Span.{Span}
@@ -95,7 +95,7 @@ module _ (entries : List Entry) (entry : Entry) (still : IsStill entry.act) wher
       ∙ ap (λ o. pile_with_sample (settled_pile reading.voided reading.signal o) (is_sampled entries reading)) (or_none reading.next_prior)
 
   pub unsettled_still : unsettled_in (entries ++ entry ∷ []) ≡ unsettled_in entries
-  unsettled_still = ap (λ (f : ℕ → Option ℕ). map f (range_with_len 1 16)) (λ i lane. number_kept entries entry lane (ap is_none (still.told lane)) i)
+  unsettled_still = ap (λ (f : ℕ → Option ℕ). map f (range_with_len 1 MAX_LANE)) (λ i lane. number_kept entries entry lane (ap is_none (still.told lane)) i)
 
   module _ (known : Known entries) (rules : Passes entries entry.act) where
     pub packs_still : packs_in (entries ++ entry ∷ []) ≡ map (λ reading. pack_of (entries ++ entry ∷ []) (advance entry.act reading)) (readings entries)

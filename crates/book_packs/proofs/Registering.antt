@@ -2,6 +2,7 @@
 use Rattle.std.proofs.Common.{◌≡◌, ℕ, zero, suc, ℤ, ◌+◌, ◌-◌, ◌<◌, ◌≤◌, ◌==◌, true, false, cond, List, [], ◌∷◌, map, Option, Some, None, option_map, refl, sym, ◌∙◌, ap, arith, inl, inr}
 use Rattle.std.specs.List.{filter, cons_option, range_with_len, slice_index_or}
 use Rattle.std.proofs.lemmas.Bool.{cases_Bool}
+use Rattle.hall_limits.specs.declared.TheConstants.{MAX_LANE}
 use Rattle.tare_register.specs.declared.types.DatedTare.{DatedTare}
 use Rattle.tare_register.specs.declared.types.ProductTare.{ProductTare}
 use Rattle.tare_register.specs.Tares.{tares_of, entry_of, tare_of, tare_by_rule}
@@ -60,6 +61,6 @@ range_at f d from (suc many) zero h = ap f (let same : from ≡ from + 0 = omega
 range_at f d from (suc many) (suc k) h = range_at f d (from + 1) many k (omega arith) ∙ ap f (let same : (from + 1) + k ≡ from + suc k = omega arith in same)
 
 -- the unsettled reading of a lane stands at its place
-pub lane_at : (entries : List Entry) (lane : ℕ) → 1 ≤ lane → lane ≤ 16 → slice_index_or (unsettled_in entries) (lane - 1) None ≡ unsettled_number entries lane
+pub lane_at : (entries : List Entry) (lane : ℕ) → 1 ≤ lane → lane ≤ MAX_LANE → slice_index_or (unsettled_in entries) (lane - 1) None ≡ unsettled_number entries lane
 lane_at entries lane least greatest =
-    range_at (unsettled_number entries) None 1 16 (lane - 1) (omega arith) ∙ ap (unsettled_number entries) (let same : 1 + (lane - 1) ≡ lane = omega arith in same)
+    range_at (unsettled_number entries) None 1 MAX_LANE (lane - 1) (omega arith) ∙ ap (unsettled_number entries) (let same : 1 + (lane - 1) ≡ lane = omega arith in same)

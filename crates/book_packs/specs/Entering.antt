@@ -38,7 +38,8 @@ pub record IsWeighing (entries : List Entry) (entry : Entry) (weighing : Weighin
   pub signal : entry.signal ≡ Some weighing.signal
   pub number : weighing.number ≡ length entries + 1
   pub batch :
-      option_and_then (batch_number entries) (last_batch entries weighing.lane) ≡ Some weighing.batch
+      option_and_then (batch_number entries) (last_batch entries weighing.lane)
+      ≡ Some weighing.batch
   pub day : newest_day entries ≡ Some weighing.day
   pub tare : weighing.tare ≡ tare_at entries weighing.lane
 

@@ -30,7 +30,7 @@ use tare_register::Tares;
 pub const LANES: usize = MAX_LANE as usize;
 
 /// The tares, the packs with their piles and running sums, and the unsettled readings, of a list of
-/// entries that is kept elsewhere. Products and batches are told by their numbers: their places in
+/// entries that is kept elsewhere. Products and batches are given by their numbers: their places in
 /// the order in which they were entered, from 0.
 #[derive(Drop)]
 pub struct Packs {
@@ -41,6 +41,7 @@ pub struct Packs {
 
 impl Model for Packs {
     ghost use Rattle.std.specs.Prelude.{length, ◌≡◌, min};
+    ghost use Rattle.hall_limits.specs.declared.TheConstants.{MAX_LANE};
     ghost use Rattle.book_packs.specs.Stand.{Standing};
 
     ghost Value = { Standing };
@@ -53,7 +54,7 @@ impl Model for Packs {
       spare = min p.tares.spare p.sums.spare;
     } };
 
-    ghost invariant = { λ p. length p.unsettled ≡ 16 };
+    ghost invariant = { λ p. length p.unsettled ≡ MAX_LANE };
 }
 
 impl Packs {
@@ -99,7 +100,8 @@ impl Packs {
     pub fn totals(&self, batch: u32) -> Totals
         requires { batch < length self.now.batches }
         ensures { (entries : List Entry) (name : Name) → IsPacksOf entries self.now
-            → IsLegal entries → batch_number entries name ≡ Some batch → result ≡ totals_told entries name }
+            → IsLegal entries → batch_number entries name ≡ Some batch
+            → result ≡ totals_told entries name }
     {
         self.sums.totals(batch)
     }
@@ -113,7 +115,7 @@ impl Packs {
         self.sums.limits(batch)
     }
 
-    /// What a weighing of a lane meets in a batch: the population as the act leaves it, by what it
+    /// What a weighing of a lane finds in a batch: the population as the act leaves it, by what it
     /// says of the gate at the lane's unsettled reading, before its own pack. It takes no memory
     /// and no walk.
     pub fn totals_at(&self, lane: u8, prior: Prior, batch: u32) -> AtWeighing
@@ -137,7 +139,8 @@ impl Packs {
     pub fn frozen(&self, product: u32, day: i32, tare: i64, closed: &[bool]) -> Option<u32>
         requires { length closed.now ≡ length self.now.batches }
         ensures { (entries : List Entry) (name : Name) → IsPacksOf entries self.now
-            → IsLegal entries → product_number entries name ≡ Some product → closed.now ≡ closed_in entries
+            → IsLegal entries → product_number entries name ≡ Some product
+            → closed.now ≡ closed_in entries
             → result ≡ frozen_told entries (PutTare name day tare) }
     {
         let span = self.tares.span(product, day);

@@ -5,7 +5,7 @@ use std::alloc::AllocError;
 /// Memory was refused.
 pub type NoMemory = AllocError;
 
-/// What a weighing meets in its batch: the population as the act leaves it, before its own pack.
+/// What a weighing finds in its batch: the population as the act leaves it, before its own pack.
 #[derive(Clone, Copy, Debug, PartialEq, Eq)]
 pub struct AtWeighing {
     /// How many packs the population has.
@@ -16,7 +16,7 @@ pub struct AtWeighing {
     pub inadequate: u32,
 }
 
-/// A pack that is weighed on a lane. Its batch is told by its number, masses are in mg.
+/// A pack that is weighed on a lane. Its batch is given by its number, masses are in mg.
 #[derive(Clone, Copy, Debug, PartialEq, Eq)]
 pub struct Weighing {
     /// The lane, 1 to 16.

@@ -1,5 +1,5 @@
-//! The rules of the batch book: why an act is refused, the signal that it gets, and what it and a
-//! repeat of it are told. All masses are whole milligrams.
+//! The rules of the batch book: why an act is refused, the signal that it gets, and the replies to
+//! it and to a repeat of it. All masses are whole milligrams.
 #![tactic(auto)]
 
 mod checks;

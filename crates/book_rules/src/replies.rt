@@ -12,7 +12,7 @@ use book_views::verdict_of;
 use book_words::{Act, Ask, Reply};
 use pack_judge::Signal;
 
-// A weighing is told its row and its signal, any other act its row.
+// A weighing is answered by its row and its signal, any other act by its row.
 fn tell_row(row: u32, signal: Option<Signal>) -> Reply
     ensures { result ≡ judged_or_done row signal }
 {
@@ -22,7 +22,8 @@ fn tell_row(row: u32, signal: Option<Signal>) -> Reply
     }
 }
 
-// A closing of a batch that is there is told the verdict, any other act its row and its signal.
+// A closing of a batch that is there is answered by the verdict, any other act by its row and its
+// signal.
 fn tell_act(state: &State, row: u32, act: &Act, signal: Option<Signal>) -> Reply
     requires known { (batch : names.Name) → act.now ≡ Act.Close batch
         → is_some (product_of state.now.entries batch) ≡ true }
@@ -37,7 +38,7 @@ fn tell_act(state: &State, row: u32, act: &Act, signal: Option<Signal>) -> Reply
     }
 }
 
-/// What a new act is told that no rule refuses, with the signal that it gets.
+/// The reply to a new act that no rule refuses, with the signal that it gets.
 pub fn reply_new(state: &State, act: &Act, signal: Option<Signal>) -> Reply
     requires free { first_refusal (refusals_of state.now.entries act.now) ≡ None }
     requires signal { signal ≡ recorded_signal state.now.entries act.now }
@@ -46,7 +47,7 @@ pub fn reply_new(state: &State, act: &Act, signal: Option<Signal>) -> Reply
     tell_act(state, state.len() + 1, act, signal)
 }
 
-/// What a repeat is told: what its row was told, however long ago that was.
+/// The reply to a repeat: that of its row, however long ago that was.
 pub fn reply_again(state: &State, ask: &Ask, row: u32, act: &Act) -> Reply
     requires { repeated_row state.now.entries ask.now act.now ≡ Some row }
     ensures { result ≡ reply_behind (take (row - 1) state.now.entries) act.now }

@@ -8,7 +8,8 @@ use Rattle.book_snapshot.specs.Layout.{blocks_for, snapshot_place, snapshot_end}
 -- a head or tail block: how many rows, how many bytes of content, and zeros
 abbrev pub end_block : ℕ → ℕ → ℕ → List ℕ
 end_block kind rows bytes =
-    0 ∷ kind ∷ (to_le_bytes w32 rows ++ to_le_bytes w64 bytes) ++ replicate (ROW_BYTES - ZEROS_PLACE) 0
+    0 ∷ kind ∷ (to_le_bytes w32 rows ++ to_le_bytes w64 bytes)
+    ++ replicate (ROW_BYTES - ZEROS_PLACE) 0
 
 -- a block of content, filled up with zeros
 abbrev pub content_block : List ℕ → List ℕ

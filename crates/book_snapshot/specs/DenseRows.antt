@@ -1,5 +1,5 @@
--- The dense form of a row: its length, and the row without its gate, its number and the zeros at its
--- end.
+-- The dense form of a row: its length, and the row without its gate, its number and the zeros at
+-- its end.
 use Rattle.std.specs.Prelude.{◌≡◌, ◌≢◌, ◌⊎◌, ℕ, ◌+◌, ◌-◌, List, [], ◌∷◌, ◌++◌, length, drop, replicate, slice_index, slice_range, ◌&&◌, ◌==◌, if◌then◌else◌}
 use Rattle.std.specs.Int.{w32, to_le_bytes}
 use Rattle.std.specs.List.{flat_map}

@@ -22,7 +22,7 @@ pub const KIND_PLACE: usize = 1;
 /// The place of a row's number, four bytes with the little end first.
 pub const NUMBER_PLACE: usize = 2;
 
-/// The place behind a row's number, from which on the dense form has its bytes.
+/// The place after a row's number, from which on the dense form has its bytes.
 pub const FIELDS_PLACE: usize = 6;
 
 /// The bytes of a row that its dense form leaves out: the gate and the number.
@@ -50,7 +50,7 @@ pub const ROWS_PLACE: usize = 2;
 /// end first.
 pub const LENGTH_PLACE: usize = 6;
 
-/// The place behind these numbers, from which on the block has zeros.
+/// The place after these numbers, from which on the block has zeros.
 pub const ZEROS_PLACE: usize = 14;
 
 /// The slots before a snapshot: the header, the rows, and the slot with the closed gate.

@@ -6,9 +6,9 @@ use crate::layout::{FIELDS_PLACE, KIND_PLACE, LEFT_OUT, NUMBER_PLACE, OPEN};
 use crate::types::Piece;
 use hall_units::put_u32;
 
-/// Reads the dense form at the front of these bytes, as the row with this number and an open gate.
-/// `More` comes where the form goes on behind them, also where there are none, `Fault` where none
-/// begins with them. It takes no memory.
+/// Reads the dense form at the beginning of these bytes, as the row with this number and an open
+/// gate. `More` comes where the form goes on behind them, also where there are none, `Fault` where
+/// none begins with them. It takes no memory.
 pub fn read_one<const Z: usize>(bytes: &[u8], number: u32) -> Piece<Z>
     requires { IsRowSize Z }
     ensures row { IfRow result (IsReadAs Z number bytes.now) }

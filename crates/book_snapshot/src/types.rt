@@ -1,7 +1,7 @@
 use std::alloc::Global;
 use std::marker::Model;
 
-/// The dense forms of rows, one behind the other.
+/// The dense forms of rows, one after the other.
 #[derive(Drop)]
 pub struct Dense {
     pub(crate) bytes: Vec<u8>,
@@ -35,12 +35,12 @@ impl Dense {
     }
 }
 
-/// What stands at the front of dense forms, for rows of `Z` bytes.
+/// What stands at the beginning of dense forms, for rows of `Z` bytes.
 #[derive(Clone, Copy, Debug, PartialEq, Eq)]
 pub enum Piece<const Z: usize> {
     /// A row, and how many bytes its dense form takes.
     Row { row: [u8; Z], taken: usize },
-    /// The front of a dense form, which goes on behind these bytes.
+    /// The beginning of a dense form, which goes on after these bytes.
     More,
     /// No dense form begins with these bytes.
     Fault,

@@ -24,7 +24,7 @@ use std::marker::Brand;
 use std::sync::ledger::{Blank, Ledger};
 use tare_register::DatedTare;
 
-/// Takes down in the packs what the next entry of a list says. It takes no memory.
+/// Records in the packs what the next entry of a list says. It takes no memory.
 pub fn enter_packs(
     packs: &mut Packs,
     index: &Index,

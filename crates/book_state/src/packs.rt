@@ -165,7 +165,7 @@ impl State {
         self.packs.piles()
     }
 
-    /// What a weighing of a lane meets in its batch, once the prior has said what the gate did.
+    /// What a weighing of a lane finds in its batch, once the prior has said what the gate did.
     pub fn met(&self, lane: u8, gross: i64, prior: Prior, batch: &Name) -> AtWeighing
         requires lane { acts.lane_batch self.now.entries lane ≡ Some batch.now }
         requires free { rules.prior_wrong self.now.entries lane prior ≡ None }

@@ -1,4 +1,4 @@
-//! What is told of a batch book as it stands: the contents of packs, verdicts, sheets and the other
+//! What a batch book says as it stands: the contents of packs, verdicts, sheets and the other
 //! views, and the answers to questions. All masses are whole milligrams.
 #![tactic(auto)]
 

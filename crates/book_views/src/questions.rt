@@ -68,7 +68,7 @@ fn tell_sample(
     }
 }
 
-/// What a question is told. Memory is taken for the packs of a sample alone.
+/// The answer to a question. Memory is taken for the packs of a sample alone.
 pub fn look(
     alloc: Global,
     state: &State,

@@ -162,7 +162,7 @@ fn class_in(state: &State, batch: &Name, net: i64) -> Class
     class(net, &limits)
 }
 
-/// What is told of the pack of a number; `None` exactly where there is no such pack.
+/// The view of the pack with a number; `None` exactly where there is no such pack.
 pub fn view_pack(state: &State, number: u32) -> Option<PackView>
     ensures view { result ≡ told.pack_view state.now.entries number }
     ensures there { is_none result ≡ is_none (reading_of state.now.entries number) }
@@ -184,7 +184,7 @@ pub fn view_pack(state: &State, number: u32) -> Option<PackView>
     })
 }
 
-/// What is told of a lane: its batch, and its unsettled reading.
+/// The view of a lane: its batch, and its unsettled reading.
 pub fn view_lane(state: &State, lane: u8) -> LaneView
     ensures { result ≡ told.lane_view state.now.entries lane }
 {

@@ -31,7 +31,8 @@ day_set _ = None
 
 -- the nominal quantity that an act puts for a product
 abbrev pub nominal_put : Name → Act → Option ℤ
-nominal_put product (PutProduct name nominal unit) = if same_name name product then Some nominal else None
+nominal_put product (PutProduct name nominal unit) =
+    if same_name name product then Some nominal else None
 nominal_put product _ = None
 
 -- the unit that an act puts for a product
@@ -46,17 +47,20 @@ batch_opened _ = None
 
 -- the product of a batch, in the act that opens it
 abbrev pub product_given : Name → Act → Option Name
-product_given batch (OpenBatch name product density) = if same_name name batch then Some product else None
+product_given batch (OpenBatch name product density) =
+    if same_name name batch then Some product else None
 product_given batch _ = None
 
 -- the density of a batch, in the act that opens it
 abbrev pub density_given : Name → Act → Option ℕ
-density_given batch (OpenBatch name product density) = if same_name name batch then Some density else None
+density_given batch (OpenBatch name product density) =
+    if same_name name batch then Some density else None
 density_given batch _ = None
 
 -- the state of a batch from an act on
 abbrev pub state_set : Name → Act → Option BatchState
-state_set batch (OpenBatch name product density) = if same_name name batch then Some Running else None
+state_set batch (OpenBatch name product density) =
+    if same_name name batch then Some Running else None
 state_set batch (EndRun name) = if same_name name batch then Some Ended else None
 state_set batch (Draw name mode word) = if same_name name batch then Some Drawn else None
 state_set batch (Close name) = if same_name name batch then Some Closed else None

@@ -28,7 +28,8 @@ judged_or_done row None = Done row
 -- what an accepted act is told behind some entries: its row; with it a weighing its signal, and a
 -- closing the verdict over the list that it makes
 abbrev pub reply_behind : List Entry → Act → Reply
-reply_behind entries (Close batch) = Closed (length entries + 1) (verdict_of (with_act entries (Close batch)) batch)
+reply_behind entries (Close batch) =
+    Closed (length entries + 1) (verdict_of (with_act entries (Close batch)) batch)
 reply_behind entries act = judged_or_done (length entries + 1) (recorded_signal entries act)
 
 -- an accepted act is the next row
@@ -37,7 +38,8 @@ accepted entries act = record { at = length entries + 1; reply = reply_behind en
 
 -- a repeat is told again what its row was told
 abbrev pub told_again : List Entry → ℕ → Act → Answered
-told_again entries row act = record { at = length entries; reply = reply_behind (take (row - 1) entries) act }
+told_again entries row act =
+    record { at = length entries; reply = reply_behind (take (row - 1) entries) act }
 
 -- a refusal speaks of the whole list
 abbrev pub refused_at : List Entry → Refusal → Refused
@@ -54,14 +56,16 @@ repeat_answer entries act (Some row) refusal = Ok (told_again entries row act)
 repeat_answer entries act None refusal = new_answer entries act refusal
 
 -- a wrong desk is refused before anything else is looked at
-abbrev pub desk_answer : List Entry → Act → Option Refusal → Option ℕ → Option Refusal → Result Answered Refused
+abbrev pub desk_answer :
+    List Entry → Act → Option Refusal → Option ℕ → Option Refusal → Result Answered Refused
 desk_answer entries act (Some by_desk) row by_rule = Err (refused_at entries by_desk)
 desk_answer entries act None row by_rule = repeat_answer entries act row by_rule
 
 -- an act is answered by its desk, by the row that it repeats, and by the refusals
 abbrev pub act_answer : ℕ → List Entry → Ask → Act → Result Answered Refused
 act_answer limit entries ask act =
-    desk_answer entries act (desk_number ask act) (repeated_row entries ask act) (refusal_of limit entries ask act)
+    desk_answer entries act (desk_number ask act) (repeated_row entries ask act)
+    (refusal_of limit entries ask act)
 
 -- what a question is told speaks of the whole list
 abbrev pub question_answer : List Entry → Result Reply Refusal → Result Answered Refused
@@ -71,7 +75,8 @@ question_answer entries (Err refusal) = Err (refused_at entries refusal)
 -- what is wanted is answered over the list as it stands
 abbrev pub want_answer : ℕ → List Entry → Ask → Want → Result Answered Refused
 want_answer limit entries ask (want.Act act) = act_answer limit entries ask act
-want_answer limit entries ask (want.Question question) = question_answer entries (question_told entries question)
+want_answer limit entries ask (want.Question question) =
+    question_answer entries (question_told entries question)
 
 -- the answer to whatever is asked of a book of so many rows at most, over the list as it stands
 abbrev pub answer : ℕ → List Entry → Ask → Result Answered Refused
@@ -96,7 +101,8 @@ entry_unless _ _ entry = None
 -- the entry that what is wanted adds
 abbrev pub want_added : ℕ → List Entry → ℕ → Ask → Want → Option Entry
 want_added limit entries by ask (want.Act act) =
-    entry_unless (repeated_row entries ask act) (refusal_of limit entries ask act) (entry_for entries by ask act)
+    entry_unless (repeated_row entries ask act) (refusal_of limit entries ask act)
+    (entry_for entries by ask act)
 want_added limit entries by ask (want.Question question) = None
 
 -- the entry that an ask adds to the list, if any: that of an act that is new and accepted

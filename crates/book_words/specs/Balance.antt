@@ -78,7 +78,8 @@ own_pile entry _ = []
 -- a reading stays in its pile, or lay among the passed
 abbrev pub leaves_passed : List Entry → Act → Reading → Bool
 leaves_passed entries act reading =
-    same_pile (pile_after entries act reading) (pile_of entries reading) || same_pile (pile_of entries reading) Passed
+    same_pile (pile_after entries act reading) (pile_of entries reading)
+    || same_pile (pile_of entries reading) Passed
 
 -- an entry moves the packs so, and no others, and each that moves lay among the passed
 pub record MovesOnly (entries : List Entry) (entry : Entry) : Type 0 where

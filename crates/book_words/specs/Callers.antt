@@ -10,9 +10,9 @@ use Rattle.book_words.specs.declared.caller.AskError.TheVariants as error
 use Rattle.book_words.specs.Desks.{Row}
 use Rattle.book_words.specs.Answers.{answer, added, IsLegal}
 
--- what is known of a caller: the list that it has seen, its own entries with their numbers, how many
--- faults of the disk it was answered, the most rows of the book, and the number that its entries
--- bear
+-- what is known of a caller: the list that it has seen, its own entries with their numbers, how
+-- many faults of the disk it was answered, the most rows of the book, and the number that its
+-- entries bear
 pub record Known : Type 0 where
   pub seen : List Entry
   pub mine : List Row
@@ -27,18 +27,20 @@ FAULTS_END = 2 ^ 64 - 1
 -- the row of the entry that an ask adds behind a list, if any
 abbrev pub row_added : ℕ → List Entry → ℕ → Ask → Option Row
 row_added limit entries by ask =
-    option_map (λ entry. record { number = length entries + 1; entry = entry }) (added limit entries by ask)
+    option_map (λ entry. record { number = length entries + 1; entry = entry })
+    (added limit entries by ask)
 
 -- an answer to an ask is right in what the caller has then seen: it is the book's answer over the
--- entries before it, which begin with what the caller had seen; behind them comes the entry that the
--- ask adds, if any, which is the caller's own from now on
+-- entries before it, which begin with what the caller had seen; behind them comes the entry that
+-- the ask adds, if any, which is the caller's own from now on
 pub record IsRight (was now : Known) (ask : Ask) (given : Result Answered Refused) : Type 0 where
   pub unseen : List Entry
   pub after : List Entry
   pub parts : now.seen
       ≡ (was.seen ++ unseen) ++ cons_option (added was.limit (was.seen ++ unseen) was.by ask) after
   pub answered : answer was.limit (was.seen ++ unseen) ask ≡ given
-  pub mine : now.mine ≡ was.mine ++ cons_option (row_added was.limit (was.seen ++ unseen) was.by ask) []
+  pub mine :
+      now.mine ≡ was.mine ++ cons_option (row_added was.limit (was.seen ++ unseen) was.by ask) []
 
 -- an ask that isn't answered: the caller may have seen more, and has no entry more of its own
 pub record IsUnanswered (was now : Known) : Type 0 where

@@ -1,6 +1,6 @@
--- What a mass is by the limits of a batch. Limits are in mg for goods by mass and in microlitres for
--- goods by volume, densities in mg a litre; so a million times a mass is compared with a density
--- times a limit.
+-- What a mass is by the limits of a batch. Limits are in mg for goods by mass and in microlitres
+-- for goods by volume, densities in mg a litre; so a million times a mass is compared with a
+-- density times a limit.
 use Rattle.std.specs.Prelude.{ℕ, ℤ, pos, ◌*ℤ◌, Bool, List, int_lt, if◌then◌else◌, Option, Some, None}
 use Rattle.std.specs.Option.{option_and_then, unwrap_or}
 use Rattle.annex_tables.specs.declared.types.Limits.{Limits}
@@ -21,8 +21,8 @@ UNIT_DENSITY = 1000000
 abbrev pub is_below : ℕ → ℤ → ℤ → Bool
 is_below density limit mass = int_lt (pos UNIT_DENSITY *ℤ mass) (pos density *ℤ limit)
 
--- at a density, inadequate below two errors under the nominal quantity, non-standard below one, else
--- standard
+-- at a density, inadequate below two errors under the nominal quantity, non-standard below one,
+-- else standard
 abbrev pub class_by_density : ℕ → Limits → ℤ → Class
 class_by_density density limits net =
     if is_below density limits.t2 net then Inadequate else

@@ -25,7 +25,9 @@ pub record Row : Type 0 where
 -- the entries of the list, each with its number
 abbrev pub rows_of : List Entry → List Row
 rows_of entries =
-    filter_map (λ place. option_map (λ entry. record { number = place + 1; entry = entry }) (slice_get entries place))
+    filter_map
+    (λ place. option_map (λ entry. record { number = place + 1; entry = entry })
+    (slice_get entries place))
     (range_with_len 0 (length entries))
 
 -- the newest row of a desk
@@ -87,7 +89,8 @@ is_desk desk = nat_le MIN_DESK desk && nat_le desk MAX_DESK
 
 -- an ask of no desk has no request; one of a desk has the number of a desk and no act of a lane
 abbrev pub is_desk_right : Ask → Act → Bool
-is_desk_right ask act = if ask.desk == 0 then ask.request == 0 else (is_desk ask.desk && not (is_lane_act act))
+is_desk_right ask act =
+    if ask.desk == 0 then ask.request == 0 else (is_desk ask.desk && not (is_lane_act act))
 
 -- whether a row holds the request and the act of an ask
 abbrev pub is_row_of : Ask → Act → Row → Bool
@@ -98,11 +101,12 @@ is_row_of ask act row = (row.entry.request == ask.request) && same_act row.entry
 abbrev pub repeated_row : List Entry → Ask → Act → Option ℕ
 repeated_row entries ask act =
     if nat_lt 0 ask.request
-    then option_and_then (λ row. if is_row_of ask act row then Some row.number else None) (newest_row entries ask.desk)
+    then option_and_then (λ row. if is_row_of ask act row then Some row.number else None)
+    (newest_row entries ask.desk)
     else None
 
--- 1: the number isn't that of a desk, an act of a lane comes from a desk, or a request comes without
--- a desk
+-- 1: the number isn't that of a desk, an act of a lane comes from a desk, or a request comes
+-- without a desk
 abbrev pub desk_number : Ask → Act → Option Refusal
 desk_number ask act = if is_desk_right ask act then None else Some DeskNumber
 
@@ -110,7 +114,8 @@ desk_number ask act = if is_desk_right ask act then None else Some DeskNumber
 abbrev pub request_old : List Entry → Ask → Option Refusal
 request_old entries ask =
     let last = last_request entries ask.desk in
-    if (not (ask.desk == 0) && ((ask.request == 0) || nat_lt ask.request last)) then Some (RequestOld last) else None
+    if (not (ask.desk == 0) && ((ask.request == 0) || nat_lt ask.request last))
+    then Some (RequestOld last) else None
 
 -- 3: the newest request of the desk has this number, and another act
 abbrev pub request_reused : List Entry → Ask → Act → Option Refusal

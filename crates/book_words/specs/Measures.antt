@@ -39,7 +39,8 @@ first_unmeasured entries packs = find (λ pack. is_none (measured_of entries pac
 -- the actual contents of a measured pack: where packs are kept, by the tare of its own product and
 -- day as it now is; where they are destroyed, by the empty pack
 abbrev pub actual_contents : List Entry → Mode → Reading → Measured → ℤ
-actual_contents entries Keep reading measured = net_of_gross entries reading.batch reading.day measured.gross
+actual_contents entries Keep reading measured =
+    net_of_gross entries reading.batch reading.day measured.gross
 actual_contents entries Destroy reading measured = measured.gross -ℤ measured.empty
 
 -- the actual contents of a pack, where it was measured
@@ -53,8 +54,8 @@ contents_of_pack entries mode pack =
 abbrev pub contents_among : List Entry → Mode → List ℕ → List ℤ
 contents_among entries mode packs = filter_map (contents_of_pack entries mode) packs
 
--- how many of some packs of a batch are defective: measured, with contents below one error under the
--- nominal quantity
+-- how many of some packs of a batch are defective: measured, with contents below one error under
+-- the nominal quantity
 abbrev pub defective_count : List Entry → Name → Mode → List ℕ → ℕ
 defective_count entries batch mode packs =
     count_by (is_below (density_of_batch entries batch) (limits_of_batch entries batch).t1)

@@ -10,4 +10,5 @@ is_name_length count = nat_le 1 count && nat_le count NAME_BYTES
 -- a name has 1 to 32 bytes, and the places behind them hold 0
 abbrev pub is_padded : ℕ → List ℕ → Bool
 is_padded count places =
-    is_name_length count && (length places == NAME_BYTES) && list_all (λ byte. byte == 0) (drop count places)
+    is_name_length count && (length places == NAME_BYTES)
+    && list_all (λ byte. byte == 0) (drop count places)

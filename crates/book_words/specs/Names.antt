@@ -16,7 +16,8 @@ abbrev pub places_for : List ℕ → List ℕ
 places_for bytes = bytes ++ replicate (NAME_BYTES - length bytes) 0
 
 -- the name of 1 to 32 bytes
-abbrev pub name_with : (bytes : List ℕ) → IsTrue (is_padded (length bytes) (places_for bytes)) → Name
+abbrev pub name_with :
+    (bytes : List ℕ) → IsTrue (is_padded (length bytes) (places_for bytes)) → Name
 name_with bytes padded = record { len = length bytes; places = places_for bytes; padded = padded }
 
 -- the name of some bytes where a test says that they are 1 to 32

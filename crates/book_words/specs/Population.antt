@@ -12,10 +12,10 @@ use Rattle.book_words.specs.declared.act.Reading.{Reading}
 use Rattle.book_words.specs.Readings.{readings, is_of_batch, net_of_reading}
 use Rattle.book_words.specs.Classes.{is_below, density_of_batch, limits_of_batch}
 
--- where a reading lies, by whether it was taken back, by its signal, and by what the lane's next act
--- says: one that was taken back is voided, and so is a passed one where nobody knows what the gate
--- did; one that was signalled a reject is rejected, and so is a passed one where the gate stayed
--- shut; any other lies among the passed
+-- where a reading lies, by whether it was taken back, by its signal, and by what the lane's next
+-- act says: one that was taken back is voided, and so is a passed one where nobody knows what the
+-- gate did; one that was signalled a reject is rejected, and so is a passed one where the gate
+-- stayed shut; any other lies among the passed
 abbrev pub settled_pile : Bool → Option Signal → Option Prior → Pile
 settled_pile true signal next_prior = Voided
 settled_pile false (Some Pass) (Some Unknown) = Voided
@@ -47,7 +47,8 @@ is_unsettled reading = is_pass reading.signal && is_none reading.next_prior
 -- the unsettled reading of a lane, where it has one
 abbrev pub unsettled_reading : List Entry → ℕ → Option Reading
 unsettled_reading entries lane =
-    slice_get (filter (λ reading. (reading.lane == lane) && is_unsettled reading) (readings entries)) 0
+    slice_get
+    (filter (λ reading. (reading.lane == lane) && is_unsettled reading) (readings entries)) 0
 
 -- the readings of a batch
 abbrev pub readings_of_batch : List Entry → Name → List Reading
@@ -60,7 +61,8 @@ is_counted reading = same_pile (unsampled_pile reading) Passed
 
 -- those of some readings that count for a batch
 abbrev pub population_among : Name → List Reading → List Reading
-population_among batch readings = filter (λ reading. is_of_batch batch reading && is_counted reading) readings
+population_among batch readings =
+    filter (λ reading. is_of_batch batch reading && is_counted reading) readings
 
 -- the population of a batch
 abbrev pub population : List Entry → Name → List Reading
@@ -69,15 +71,19 @@ population entries batch = population_among batch (readings entries)
 -- how many of some readings have a net below a limit, at the density of their batch
 abbrev pub count_below : List Entry → Name → ℤ → List Reading → ℕ
 count_below entries batch limit some =
-    count_by (λ reading. is_below (density_of_batch entries batch) limit (net_of_reading entries reading)) some
+    count_by
+    (λ reading. is_below (density_of_batch entries batch) limit (net_of_reading entries reading))
+    some
 
 -- how many of some readings of a batch aren't standard: non-standard or inadequate
 abbrev pub nonstandard_count : List Entry → Name → List Reading → ℕ
-nonstandard_count entries batch some = count_below entries batch (limits_of_batch entries batch).t1 some
+nonstandard_count entries batch some =
+    count_below entries batch (limits_of_batch entries batch).t1 some
 
 -- how many of some readings of a batch are inadequate
 abbrev pub inadequate_count : List Entry → Name → List Reading → ℕ
-inadequate_count entries batch some = count_below entries batch (limits_of_batch entries batch).t2 some
+inadequate_count entries batch some =
+    count_below entries batch (limits_of_batch entries batch).t2 some
 
 -- a batch is held where a pack of its population is inadequate
 abbrev pub is_held : List Entry → Name → List Reading → Bool

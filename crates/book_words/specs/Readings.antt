@@ -66,7 +66,8 @@ tare_of_reading entries batch day =
 
 -- a gross less the tare of its batch and day; where there is no such tare, the gross alone
 abbrev pub net_of_gross : List Entry → Option Name → Option ℤ → ℤ → ℤ
-net_of_gross entries batch day gross = gross -ℤ unwrap_or (tare_of_reading entries batch day) (pos 0)
+net_of_gross entries batch day gross =
+    gross -ℤ unwrap_or (tare_of_reading entries batch day) (pos 0)
 
 -- the net of a reading, by the tares of the whole list as it now is
 abbrev pub net_of_reading : List Entry → Reading → ℤ

@@ -1,5 +1,5 @@
--- Why an act isn't accepted. The numbers are those of the refusals, and of all that hold the first
--- is told. A condition on a thing that isn't there doesn't hold.
+-- Why an act isn't accepted. The numbers are those of the refusals; of all that hold, the first is
+-- answered. A condition about a missing product, batch or lane counts as false.
 use Rattle.std.specs.Prelude.{ℕ, ℤ, pos, Bool, true, false, not, ◌&&◌, ◌||◌, ◌==◌, List, [], ◌∷◌, ◌++◌, length, find, nat_le, nat_lt, int_lt, int_le, if◌then◌else◌, Option, Some, None, is_some, is_none, option_map}
 use Rattle.std.specs.List.{list_any, range_with_len}
 use Rattle.std.specs.Option.{option_and_then, option_map_or, option_or}
@@ -91,7 +91,8 @@ batch_unknown entries name = refused_if (is_none (product_of entries name)) Batc
 -- 15: the state of the batch isn't one of those that the act allows
 abbrev pub batch_state : List states.BatchState → List Entry → Name → Option Refusal
 batch_state allowed entries batch =
-    option_and_then (λ state. refused_if (not (list_any (same_state state) allowed)) (BatchState state))
+    option_and_then
+    (λ state. refused_if (not (list_any (same_state state) allowed)) (BatchState state))
     (state_of entries batch)
 
 -- the batch of a pack, where there is a pack of that number
@@ -100,7 +101,8 @@ batch_of_pack entries pack = option_and_then (λ reading. reading.batch) (readin
 
 -- 15, of a pack: the state of its batch isn't one of those that the act allows
 abbrev pub pack_state : List states.BatchState → List Entry → ℕ → Option Refusal
-pack_state allowed entries pack = option_and_then (batch_state allowed entries) (batch_of_pack entries pack)
+pack_state allowed entries pack =
+    option_and_then (batch_state allowed entries) (batch_of_pack entries pack)
 
 -- 16: the lane isn't 1 to 16
 abbrev pub lane_number : ℕ → Option Refusal
@@ -160,12 +162,14 @@ sample_of_pack entries pack = option_and_then (sample_of entries) (batch_of_pack
 
 -- whether a pack is kept in the test of its batch
 abbrev pub is_pack_kept : List Entry → ℕ → Bool
-is_pack_kept entries pack = option_map_or (λ sample. is_kept_whole sample.mode) (sample_of_pack entries pack) false
+is_pack_kept entries pack =
+    option_map_or (λ sample. is_kept_whole sample.mode) (sample_of_pack entries pack) false
 
 -- 23, of an empty pack: its mass isn't 0 to 5 kg, or isn't 0 where packs are kept
 abbrev pub empty_range : List Entry → ℕ → ℤ → Option Refusal
 empty_range entries pack empty =
-    refused_if (not (is_within (pos 0) MAX_TARE empty) || (is_pack_kept entries pack && not (same_number empty (pos 0))))
+    refused_if (not (is_within (pos 0) MAX_TARE empty)
+    || (is_pack_kept entries pack && not (same_number empty (pos 0))))
     TareRange
 
 -- 24: no reading has that number
@@ -176,13 +180,15 @@ pack_unknown entries pack = refused_if (is_none (reading_of entries pack)) PackU
 abbrev pub pack_pile : piles.Pile → List Entry → ℕ → Option Refusal
 pack_pile wanted entries pack =
     option_and_then
-    (λ reading. refused_if (not (same_pile (pile_of entries reading) wanted)) (PackPile (pile_of entries reading)))
+    (λ reading. refused_if (not (same_pile (pile_of entries reading) wanted))
+    (PackPile (pile_of entries reading)))
     (reading_of entries pack)
 
 -- 26: the pack is the unsettled reading of its lane
 abbrev pub unsettled : List Entry → ℕ → Option Refusal
 unsettled entries pack =
-    option_and_then (λ reading. refused_if (is_unsettled reading) (Unsettled reading.lane)) (reading_of entries pack)
+    option_and_then (λ reading. refused_if (is_unsettled reading) (Unsettled reading.lane))
+    (reading_of entries pack)
 
 -- 27: the batch has no pack in its population
 abbrev pub batch_empty : List Entry → Name → Option Refusal
@@ -192,7 +198,8 @@ batch_empty entries batch = refused_if (length (population entries batch) == 0) 
 abbrev pub mode_small : List Entry → Name → Mode → Option Refusal
 mode_small entries batch Keep = None
 mode_small entries batch Destroy =
-    let n = length (population entries batch) in refused_if (nat_le 1 n && nat_le n 99) (ModeSmall n)
+    let n = length (population entries batch) in
+    refused_if (nat_le 1 n && nat_le n 99) (ModeSmall n)
 
 -- whether a batch has ended and no more
 abbrev pub is_ended : Option states.BatchState → Bool
@@ -202,7 +209,8 @@ is_ended _ = false
 -- 29, of a closing: the batch has ended and has packs, and no sample of it was drawn
 abbrev pub not_drawn : List Entry → Name → Option Refusal
 not_drawn entries batch =
-    refused_if (is_ended (state_of entries batch) && nat_lt 0 (length (population entries batch))) NotDrawn
+    refused_if (is_ended (state_of entries batch) && nat_lt 0 (length (population entries batch)))
+    NotDrawn
 
 -- 30: the pack was measured
 abbrev pub measured_already : List Entry → ℕ → Option Refusal
@@ -241,13 +249,15 @@ first_wanting entries batch =
 abbrev pub needed_packs : List Entry → Name → Sample → List ℕ
 needed_packs entries batch sample =
     sample.first
-    ++ (if is_open sample.plan (first_defective entries batch sample) then second_packs sample else [])
+    ++ (if is_open sample.plan (first_defective entries batch sample)
+    then second_packs sample else [])
 
 -- 32, of a closing: a needed pack isn't measured
 abbrev pub needed_wanting : List Entry → Name → Option Refusal
 needed_wanting entries batch =
     option_and_then
-    (λ sample. option_map (λ pack. Unmeasured pack) (first_unmeasured entries (needed_packs entries batch sample)))
+    (λ sample. option_map (λ pack. Unmeasured pack)
+    (first_unmeasured entries (needed_packs entries batch sample)))
     (sample_of entries batch)
 
 -- a second sample is wanted where the first is measured and leaves it open, and none was drawn
@@ -284,12 +294,14 @@ is_closed _ = false
 -- whether a batch is closed, and an act gives one of its readings another tare
 abbrev pub is_frozen : List Entry → Act → Name → Bool
 is_frozen entries act batch =
-    is_closed (state_of entries batch) && list_any (changes_tare entries act) (readings_of_batch entries batch)
+    is_closed (state_of entries batch)
+    && list_any (changes_tare entries act) (readings_of_batch entries batch)
 
 -- 34: a reading of a closed batch would get another tare; the first such batch in order of opening
 abbrev pub tare_frozen : List Entry → Act → Option Refusal
 tare_frozen entries act =
-    option_map (λ batch. TareFrozen batch) (find (is_frozen entries act) (said batch_opened entries))
+    option_map (λ batch. TareFrozen batch)
+    (find (is_frozen entries act) (said batch_opened entries))
 
 -- whether a density suits a unit: none for goods by mass, 500 to 2000 g a litre by volume
 abbrev pub suits_unit : units.Unit → ℕ → Bool
@@ -299,7 +311,8 @@ suits_unit Volume density = nat_le MIN_DENSITY density && nat_le density MAX_DEN
 -- 35: the density doesn't suit the product
 abbrev pub density_range : List Entry → Name → ℕ → Option Refusal
 density_range entries product density =
-    option_and_then (λ unit. refused_if (not (suits_unit unit density)) DensityRange) (unit_of entries product)
+    option_and_then (λ unit. refused_if (not (suits_unit unit density)) DensityRange)
+    (unit_of entries product)
 
 -- the refusals that an act may meet by the rules, in the order of their numbers
 abbrev pub refusals_of : List Entry → Act → List (Option Refusal)
@@ -349,9 +362,11 @@ desk_refusals entries ask act =
 
 -- the refusal that the rules give an act, however many rows the list may have
 abbrev pub refusal_by_rule : List Entry → Ask → Act → Option Refusal
-refusal_by_rule entries ask act = first_refusal (desk_refusals entries ask act ++ refusals_of entries act)
+refusal_by_rule entries ask act =
+    first_refusal (desk_refusals entries ask act ++ refusals_of entries act)
 
 -- the refusal of an act in a book of so many rows
 abbrev pub refusal_of : ℕ → List Entry → Ask → Act → Option Refusal
 refusal_of limit entries ask act =
-    first_refusal (desk_refusals entries ask act ++ book_full limit entries ∷ refusals_of entries act)
+    first_refusal
+    (desk_refusals entries ask act ++ book_full limit entries ∷ refusals_of entries act)

@@ -16,8 +16,8 @@ use Rattle.book_words.specs.Names.{same_name}
 use Rattle.book_words.specs.Acts.{last_said}
 use Rattle.book_words.specs.Population.{population}
 
--- what the first sample of a batch is drawn by: the mode and the word of the act, and the numbers of
--- the packs of the population before it
+-- what the first sample of a batch is drawn by: the mode and the word of the act, and the numbers
+-- of the packs of the population before it
 pub record Drawing : Type 0 where
   pub mode : Mode
   pub word : ℕ
@@ -47,7 +47,8 @@ drawing_from batch before _ = None
 abbrev pub drawings : List Entry → Name → List Drawing
 drawings entries batch =
     filter_map
-    (λ place. option_and_then (λ entry. drawing_from batch (take place entries) entry.act) (slice_get entries place))
+    (λ place. option_and_then (λ entry. drawing_from batch (take place entries) entry.act)
+    (slice_get entries place))
     (range_with_len 0 (length entries))
 
 -- the draw of the first sample of a batch, where there was one
@@ -91,7 +92,8 @@ sample_by drawing word =
 -- the samples of a batch, where one was drawn
 abbrev pub sample_of : List Entry → Name → Option Sample
 sample_of entries batch =
-    option_map (λ drawing. sample_by drawing (last_said (second_word batch) entries)) (drawing_of entries batch)
+    option_map (λ drawing. sample_by drawing (last_said (second_word batch) entries))
+    (drawing_of entries batch)
 
 -- whether a pack is among some
 abbrev pub is_among : ℕ → List ℕ → Bool
@@ -99,7 +101,8 @@ is_among pack packs = list_any (λ each. each == pack) packs
 
 -- whether the samples hold a pack
 abbrev pub holds_pack : Sample → ℕ → Bool
-holds_pack sample pack = is_among pack sample.first || option_map_or (is_among pack) sample.second false
+holds_pack sample pack =
+    is_among pack sample.first || option_map_or (is_among pack) sample.second false
 
 -- whether a sample of its batch holds a reading
 abbrev pub is_sampled : List Entry → Reading → Bool

@@ -32,12 +32,14 @@ signal_by_class class held population nonstandard =
 
 -- an act at the end of the list, before anybody has judged it: it has no signal yet
 abbrev pub with_act : List Entry → Act → List Entry
-with_act entries act = entries ++ record { by = 0; desk = 0; request = 0; act = act; signal = None } ∷ []
+with_act entries act =
+    entries ++ record { by = 0; desk = 0; request = 0; act = act; signal = None } ∷ []
 
 -- the population of a batch at an act: over the readings before it, in the piles that the act
 -- leaves; so what a weighing says of the gate counts, and its own reading doesn't
 abbrev pub population_at : List Entry → Act → Name → List Reading
-population_at entries act batch = population_among batch (readings_among (length entries) (with_act entries act))
+population_at entries act batch =
+    population_among batch (readings_among (length entries) (with_act entries act))
 
 -- the signal of a gross in a batch: by its class, and by the population at the act
 abbrev pub judged_signal : List Entry → Act → ℤ → Name → Signal

@@ -27,7 +27,8 @@ first_defective entries batch sample = defective_count entries batch sample.mode
 
 -- how many packs of the second sample of a batch are defective
 abbrev pub second_defective : List Entry → Name → Sample → ℕ
-second_defective entries batch sample = defective_count entries batch sample.mode (second_packs sample)
+second_defective entries batch sample =
+    defective_count entries batch sample.mode (second_packs sample)
 
 -- the first sample leaves it open: more defective packs than are accepted, fewer than are rejected
 abbrev pub is_open : Plan → ℕ → Bool
@@ -64,12 +65,14 @@ mean_check_accepts entries batch sample =
 -- quantity asks for
 abbrev pub average_accepts : List Entry → Name → List Reading → Bool
 average_accepts entries batch some =
-    int_le (pos (length some) *ℤ pos (density_of_batch entries batch) *ℤ nominal_of_batch entries batch)
+    int_le
+    (pos (length some) *ℤ pos (density_of_batch entries batch) *ℤ nominal_of_batch entries batch)
     (pos UNIT_DENSITY *ℤ net_sum entries some)
 
 -- the packers' part, allowance: at most one in forty packs isn't standard
 abbrev pub allowance_accepts : List Entry → Name → List Reading → Bool
-allowance_accepts entries batch some = nat_le (40 * nonstandard_count entries batch some) (length some)
+allowance_accepts entries batch some =
+    nat_le (40 * nonstandard_count entries batch some) (length some)
 
 -- the packers' part, inadequate: no pack is inadequate
 abbrev pub no_inadequate : List Entry → Name → List Reading → Bool
@@ -89,7 +92,8 @@ fails_of entries batch some sample =
 
 -- whether a part fails
 abbrev pub any_fails : Fails → Bool
-any_fails fails = fails.contents || fails.mean || fails.average || fails.allowance || fails.inadequate
+any_fails fails =
+    fails.contents || fails.mean || fails.average || fails.allowance || fails.inadequate
 
 -- the verdict by the parts that fail
 abbrev pub verdict_by_fails : Fails → Verdict

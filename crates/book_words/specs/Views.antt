@@ -84,7 +84,8 @@ sheet_of entries batch =
     (λ product. option_and_then
     (λ nominal. option_and_then
     (λ unit. option_and_then
-    (λ density. option_map (sheet_record entries batch product nominal unit density) (state_of entries batch))
+    (λ density. option_map (sheet_record entries batch product nominal unit density)
+    (state_of entries batch))
     (density_of entries batch))
     (unit_of entries product))
     (nominal_of entries product))
@@ -133,7 +134,8 @@ lane_view entries lane =
 -- what is told of the samples of a batch, where one was drawn
 abbrev pub sample_view : List Entry → Name → Option SampleView
 sample_view entries batch =
-    option_map (λ sample. record { batch = batch; first = sample.first; second = second_packs sample })
+    option_map
+    (λ sample. record { batch = batch; first = sample.first; second = second_packs sample })
     (samples.sample_of entries batch)
 
 -- how many batches are in a state

@@ -28,7 +28,7 @@ pub enum BatchState {
     Closed,
 }
 
-/// How the nominal quantity of a product is told (Directive 76/211/EEC, Article 1).
+/// How the nominal quantity of a product is given (Directive 76/211/EEC, Article 1).
 #[derive(Clone, Copy, Debug, PartialEq, Eq)]
 pub enum Unit {
     /// By mass, in mg.
@@ -113,12 +113,12 @@ pub enum Act {
     },
 }
 
-/// What the book is asked to tell.
+/// A question to the book.
 #[derive(Clone, Copy, Debug, PartialEq, Eq)]
 pub enum Question {
-    /// What stands of a batch: its piles, its test, its verdict.
+    /// The state of a batch: its piles, its test, its verdict.
     Sheet { batch: Name },
-    /// What stands of the pack with this number.
+    /// The state of the pack with this number.
     Pack { pack: u32 },
     /// What a lane does.
     Lane { lane: u8 },
@@ -133,7 +133,7 @@ pub enum Question {
 pub enum Want {
     /// Something to take down.
     Act(Act),
-    /// Something to tell.
+    /// A question.
     Question(Question),
 }
 
@@ -157,7 +157,7 @@ pub struct Entry {
     pub desk: u16,
     /// The number of that desk's request, or 0.
     pub request: u32,
-    /// What was taken down.
+    /// What was recorded.
     pub act: Act,
     /// The signal of a weighing; none for any other act.
     pub signal: Option<Signal>,
@@ -179,6 +179,6 @@ pub struct Reading {
     pub batch: Option<Name>,
     /// What the lane's next act says of the gate, where there is such an act.
     pub next_prior: Option<Prior>,
-    /// Whether an act behind it takes it back.
+    /// Whether a later act takes it back.
     pub voided: bool,
 }

@@ -19,15 +19,16 @@ pub enum AskError {
 /// Somebody who asks the book: a script, the worker of a lane, or a door of the office.
 pub trait Caller {
     /// What is known of it: the list that it has seen, its own entries among them, how many faults
-    /// of the disk it was answered, the most rows of the book, and the number that its entries bear.
+    /// of the disk it was answered, the most rows of the book, and the number that its entries
+    /// bear.
     ghost known: { Self → Known };
 
     /// It goes on from one state to another by these asks, one after another.
     ghost later: { Self → Self → List Asked → Type 0 };
 
-    /// Asks the book. The answer is the book's to a list that the caller has then seen, which begins
-    /// with what it had seen before and is legal. Its own entries grow by that of a new act alone,
-    /// and its faults by one at a `DiskFault` alone.
+    /// Asks the book. The answer is the book's to a list that the caller has then seen, which
+    /// begins with what it had seen before and is legal. Its own entries grow by that of a new act
+    /// alone, and its faults by one at a `DiskFault` alone.
     fn ask(&mut self, ask: &Ask) -> Result<Answered, AskError>
         ensures asked { IsAsked (known self.old) (known self.new) ask.now result }
         ensures later { later self.old self.new (ask.now ∷ []) };

@@ -5,7 +5,7 @@ use hall_limits::NAME_BYTES;
 
 /// The name of a product or a batch: 1 to 32 bytes.
 ///
-/// The places behind its bytes hold 0, so that two names are equal exactly where their bytes are.
+/// The places after its bytes hold 0, so that two names are equal exactly where their bytes are.
 #[derive(Clone, Copy, Debug, PartialEq, Eq, Hash)]
 pub struct Name {
     len: u8,

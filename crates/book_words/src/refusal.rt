@@ -8,7 +8,8 @@ use pack_judge::Pile;
 /// The most bytes of the name of a refusal.
 pub const MAX_REFUSAL_NAME: usize = 15;
 
-/// Why something that is asked isn't done. Of all that hold, the one with the least number is told.
+/// Why something that is asked isn't done. Of all that hold, the answer is the one with the least
+/// number.
 #[derive(Clone, Copy, Debug, PartialEq, Eq)]
 pub enum Refusal {
     /// The desk isn't 0 or 101 to 164; or it is 0 and the request isn't; or a lane's act has a
@@ -16,7 +17,7 @@ pub enum Refusal {
     DeskNumber,
     /// The desk's request is 0, or before its last one.
     RequestOld { last: u32 },
-    /// The desk's last request, which was taken down in this row, was another act.
+    /// The desk's last request, which was recorded in this row, was another act.
     RequestReused { row: u32 },
     /// The desk's request isn't the one after its last one.
     RequestGap { last: u32 },

@@ -5,15 +5,15 @@ use pack_judge::Signal;
 /// The answer to an ask that isn't refused.
 #[derive(Debug, PartialEq, Eq, Drop)]
 pub enum Reply {
-    /// The act is taken down in this row.
+    /// The act is recorded in this row.
     Done { row: u32 },
-    /// The weighing is taken down in this row, and gets this signal.
+    /// The weighing is recorded in this row, and gets this signal.
     Judged { row: u32, signal: Signal },
     /// The batch is closed in this row, with this verdict.
     Closed { row: u32, verdict: Verdict },
-    /// What stands of a batch.
+    /// The state of a batch.
     SheetIs(Sheet),
-    /// What stands of a pack.
+    /// The state of a pack.
     PackIs(PackView),
     /// What a lane does.
     LaneIs(LaneView),

@@ -46,7 +46,7 @@ pub struct TestView {
     pub d2: u32,
 }
 
-/// What stands of a batch. The nominal quantity and its tolerable negative error are in mg or
+/// The state of a batch. The nominal quantity and its tolerable negative error are in mg or
 /// microlitres, by the unit; the density is in mg a litre, and 0 for a batch by mass; all else is
 /// in mg.
 #[derive(Clone, Copy, Debug, PartialEq, Eq)]
@@ -79,7 +79,7 @@ pub struct Sheet {
     pub verdict: Option<Verdict>,
 }
 
-/// What stands of a pack. Masses are in mg.
+/// The state of a pack. Masses are in mg.
 #[derive(Clone, Copy, Debug, PartialEq, Eq)]
 pub struct PackView {
     /// The number of the pack: the row of its weighing.

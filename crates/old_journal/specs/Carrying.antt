@@ -7,8 +7,8 @@ use Rattle.row_format.specs.Spelling.{old_layout}
 use Rattle.row_format.specs.Rows.{Spells}
 use Rattle.old_journal.specs.OldJournal.{HasOldHeader, old_rows, AreOldRows}
 
--- of a book and of what was carried into it one is the beginning of the other, and the longer one is
--- left
+-- of a book and of what was carried into it one is the beginning of the other, and the longer one
+-- is left
 abbrev pub IsLonger : List Entry → List Entry → List Entry → Type 0
 IsLonger held carried rows =
     (IsPrefixOf carried held × (rows ≡ held)) ⊎ (IsPrefixOf held carried × (rows ≡ carried))

@@ -8,7 +8,7 @@ use crate::types::{OldPiece, Stage};
 use book_snapshot::{OLD_ROW_BYTES, OPEN};
 use row_format::read_old_row;
 
-/// Bytes behind those that a slot has: up to its end, or all.
+/// Bytes after those that a slot has: up to its end, or all.
 pub fn fill(slot: &mut [u8; OLD_ROW_BYTES], filled: usize, bytes: &[u8]) -> usize
     requires { filled ≤ OLD_ROW_BYTES }
     ensures size { length slot.new ≡ OLD_ROW_BYTES }
@@ -23,7 +23,7 @@ pub fn fill(slot: &mut [u8; OLD_ROW_BYTES], filled: usize, bytes: &[u8]) -> usiz
     count
 }
 
-// What a whole slot tells that may be a row with this number.
+// What a whole slot says that may be a row with this number.
 fn row_in(slot: &[u8; OLD_ROW_BYTES], number: u32) -> OldPiece
     ensures { SlotSays slot.now number result }
 {
@@ -36,7 +36,7 @@ fn row_in(slot: &[u8; OLD_ROW_BYTES], number: u32) -> OldPiece
     }
 }
 
-// What a whole slot tells that may be the header.
+// What a whole slot says that may be the header.
 fn header_in(slot: &[u8; OLD_ROW_BYTES]) -> OldPiece
     ensures { HeaderSays slot.now result }
 {
@@ -47,7 +47,7 @@ fn header_in(slot: &[u8; OLD_ROW_BYTES]) -> OldPiece
     }
 }
 
-/// What a whole slot tells behind so many rows, and where slots still count.
+/// What a whole slot says after so many rows, and where slots still count.
 pub fn piece_in(stage: Stage, rows: u32, slot: &[u8; OLD_ROW_BYTES]) -> OldPiece
     requires rows { rows < u32.MAX }
     requires counts { (stage ≡ stages.Header) ⊎ (stage ≡ stages.Rows) }
@@ -61,7 +61,7 @@ pub fn piece_in(stage: Stage, rows: u32, slot: &[u8; OLD_ROW_BYTES]) -> OldPiece
     }
 }
 
-/// What the next slot is behind a piece.
+/// What the next slot is after a piece.
 pub fn stage_behind(stage: Stage, piece: &OldPiece) -> Stage
     ensures { result ≡ stage_behind stage piece.now }
 {

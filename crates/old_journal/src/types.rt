@@ -1,6 +1,6 @@
 use book_words::Entry;
 
-/// What the bytes told that were taken last.
+/// What the bytes said that were taken last.
 #[derive(Clone, Copy, Debug, PartialEq, Eq)]
 pub enum OldPiece {
     /// Some bytes of a slot.
@@ -26,6 +26,6 @@ pub enum Stage {
     Rows,
     /// Passed over, since the header is another's.
     Foreign,
-    /// Passed over, since it stands behind a closed gate.
+    /// Passed over, since it stands after a closed gate.
     Over,
 }

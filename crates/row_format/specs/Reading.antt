@@ -182,9 +182,9 @@ number_of_kind kinds.Close = 13
 
 abbrev pub all_kinds : List Kind
 all_kinds =
-    kinds.NewDay ∷ kinds.PutProduct ∷ kinds.PutTare ∷ kinds.OpenBatch ∷ kinds.StartLane ∷ kinds.Weigh
-    ∷ kinds.StopLane ∷ kinds.Void ∷ kinds.EndRun ∷ kinds.Draw ∷ kinds.Measure ∷ kinds.DrawSecond
-    ∷ kinds.Close ∷ []
+    kinds.NewDay ∷ kinds.PutProduct ∷ kinds.PutTare ∷ kinds.OpenBatch ∷ kinds.StartLane
+    ∷ kinds.Weigh ∷ kinds.StopLane ∷ kinds.Void ∷ kinds.EndRun ∷ kinds.Draw ∷ kinds.Measure
+    ∷ kinds.DrawSecond ∷ kinds.Close ∷ []
 
 -- the codes at a place
 unfoldable pub kind_at : Reader Kind
@@ -228,7 +228,8 @@ new_day_at = behind 4 day_at λ day. ended (told_of (NewDay day) None)
 
 abbrev pub put_product_at : ℕ → Reader Told
 put_product_at width =
-    behind (1 + width) (name_at width) λ name. behind 8 nominal_at λ nominal. behind 1 unit_at λ unit.
+    behind (1 + width) (name_at width) λ name. behind 8 nominal_at λ nominal.
+    behind 1 unit_at λ unit.
     ended (told_of (PutProduct name nominal unit) None)
 
 abbrev pub put_tare_at : ℕ → Reader Told

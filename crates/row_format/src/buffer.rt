@@ -3,7 +3,7 @@ use book_words::Name;
 use hall_limits::NAME_BYTES;
 use std::marker::Model;
 
-/// The first bytes of a row, to which fields are added. Zeros stand behind them.
+/// The first bytes of a row, to which fields are added. Zeros follow them.
 pub struct RowBuffer {
     bytes: [u8; ROW_BYTES],
     place: usize,

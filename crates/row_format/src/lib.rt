@@ -1,5 +1,5 @@
-//! The rows of a journal in bytes: an entry has one spelling for each number, and no bytes spell two
-//! entries.
+//! The rows of a journal in bytes: an entry has one spelling for each number, and no bytes spell
+//! two entries.
 #![tactic(auto)]
 
 mod acts;

@@ -1,4 +1,4 @@
-//! Where the fields of every row stand, behind its gate, kind and number.
+//! Where the fields of every row stand, after its gate, kind and number.
 
 /// The place of who brought the entry, in two bytes.
 pub const BY_PLACE: usize = 6;

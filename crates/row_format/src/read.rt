@@ -15,7 +15,7 @@ use hall_limits::NAME_BYTES;
 use hall_units::{get_u16, get_u32};
 
 /// The entry that a row with this number spells. A fault tells the first place whose byte no such
-/// row has behind the bytes before it. It takes no memory.
+/// row has after the bytes before it. It takes no memory.
 pub fn read_row(bytes: &[u8; ROW_BYTES], number: u32) -> Result<Entry, RowFault>
     ensures row { IfOk result (Spells new_layout bytes.now number) }
     ensures back { (entry : Entry) → Spells new_layout bytes.now number entry → result ≡ Ok entry }

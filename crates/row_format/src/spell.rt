@@ -32,7 +32,7 @@ pub(crate) fn kind_of(act: &Act) -> u8
     }
 }
 
-/// Adds the fields of an act behind the head of its row.
+/// Adds the fields of an act after the head of its row.
 pub(crate) fn push_fields(row: &mut RowBuffer, act: &Act, signal: &Option<Signal>)
     requires head { length row.old ≡ HEAD_BYTES }
     requires allowed { IsActAllowed NAME_BYTES act.now }

@@ -7,7 +7,7 @@ pub const OLD_NAME_BYTES: usize = 16;
 /// The bytes spell no entry for their number.
 #[derive(Clone, Copy, Debug, PartialEq, Eq, Hash)]
 pub struct RowFault {
-    /// The first place whose byte no spelling has behind the bytes before it.
+    /// The first place whose byte no spelling has after the bytes before it.
     pub place: usize,
 }
 

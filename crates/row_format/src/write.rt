@@ -8,7 +8,7 @@ use book_snapshot::{OPEN, ROW_BYTES};
 use book_words::Entry;
 use hall_limits::NAME_BYTES;
 
-/// The row of an entry with its number, its gate open. What is lawful behind some list may stand in
+/// The row of an entry with its number, its gate open. What is lawful after some list may stand in
 /// a row.
 pub fn write_row(entry: &Entry, number: u32) -> [u8; ROW_BYTES]
     requires { IsAllowed NAME_BYTES entry.now }
@@ -24,7 +24,7 @@ pub fn write_row(entry: &Entry, number: u32) -> [u8; ROW_BYTES]
     row.into_row()
 }
 
-/// A law of the rules: an entry that is lawful behind some list may stand in a row.
+/// A law of the rules: an entry that is lawful after some list may stand in a row.
 pub fn lawful_entries_are_allowed()
     ensures { IsAllowedWhereLawful }
 {}

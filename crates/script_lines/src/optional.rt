@@ -7,10 +7,10 @@ use crate::words::optional_word;
 use book_words::{Prior, Unit};
 use hall_units::read_grams;
 
-/// The density where none is told, in mg a litre.
+/// The density where none is given, in mg a litre.
 const NO_DENSITY: u32 = 0;
 
-/// How a nominal quantity is told: by volume where the last word is `ml`, by mass without a word.
+/// How a nominal quantity is given: by volume where the last word is `ml`, by mass without a word.
 pub fn unit_said(rest: &[u8]) -> Option<Unit>
     ensures { result ≡ unit_said (words_of rest.now) }
 {

@@ -8,8 +8,8 @@ use Rattle.book_index.proofs.index.Index.desk_row.Goals as goal
 
 pub returns-clause-row : goal.returns-clause-row
 returns-clause-row c entries is desk =
-    let least : 101 ≤ c.args.desk = grind (arith, nat_tests) in
-    let most : c.args.desk < 165 = grind (arith, nat_tests) in
-    ap (λ (known : Known). get_or known.desks (c.args.desk - 101) None) c.self.view_is
-    ∙ ap (λ desks. get_or desks (c.args.desk - 101) None) is.desks
+    let least : MIN_DESK ≤ c.args.desk = grind (arith, nat_tests) in
+    let most : c.args.desk < MAX_DESK + 1 = grind (arith, nat_tests) in
+    ap (λ (known : Known). get_or known.desks (c.args.desk - MIN_DESK) None) c.self.view_is
+    ∙ ap (λ desks. get_or desks (c.args.desk - MIN_DESK) None) is.desks
     ∙ of_number (newest_row_number entries) None MIN_DESK (MAX_DESK - MIN_DESK + 1) c.args.desk least most
