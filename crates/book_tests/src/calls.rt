@@ -1,5 +1,6 @@
 use crate::begun::{
-    Line, MARCH_3, draw, is_answered, line_of, named, pass, setup, stop, take, take_all, weigh,
+    Line, MARCH_3, draw, is_answered, line_of, named, pass, setup, stop, take, take_all, take_from,
+    weigh,
 };
 use annex_tables::Mode;
 use book_core::{Book, BookError, Step};
@@ -211,10 +212,30 @@ fn is_right(book: &mut Book, acts: &[Act], batch: Name, product: Name) -> bool {
     is_sample(book, batch, &[7, 6]) && are_told(book, batch, product)
 }
 
+// Whether an act of the desk 101, at its request 1, is known to stand in the row 11.
+fn is_known(book: &mut Book, act: &Act, at: u32) -> bool {
+    match book.ready(2, 101, 1, act) {
+        Ok(Step::Known(answered)) => {
+            answered.at == at && answered.reply == Reply::Done { row: 11 }
+        }
+        _ => false,
+    }
+}
+
+// Whether the desk's act in the row 11 is told again what it was told, behind another act too. A
+// repeat adds no row.
+fn is_told_again(book: &mut Book) -> bool {
+    let day = Act::NewDay { day: MARCH_3 };
+    take_from(book, 101, 1, &day);
+    let once = is_known(book, &day, 11);
+    take(book, &day);
+    once && is_known(book, &day, 12)
+}
+
 // Asks a new book so, and tells how many rows it gives back. No other function owns a book.
 fn rows_given_back(alloc: Global, acts: &[Act], batch: Name, product: Name) -> (bool, usize) {
     let mut book = Book::new(alloc, 100);
-    let right = is_right(&mut book, acts, batch, product);
+    let right = is_right(&mut book, acts, batch, product) && is_told_again(&mut book);
     (right, book.rows().as_slice().len())
 }
 
@@ -224,6 +245,6 @@ fn each_call_of_a_book(rt: HostRuntime) -> Result<(), Fail> {
     let batch = named(b"A".as_slice())?;
     let (right, rows) = rows_given_back(rt.alloc(), &setup()?, batch, rice);
     assert!(rt; right);
-    assert_eq!(rt; rows, 10);
+    assert_eq!(rt; rows, 12);
     Ok(())
 }

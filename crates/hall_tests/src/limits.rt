@@ -46,8 +46,28 @@ voided 0 gross 0.000
 batches running 1 ended 0 drawn 0 closed 0
 ";
 
+// In a book of two rows at most: two refusals of a desk or a request that hold at once.
+const TWO: &str = "\
+@101 1 day 2025-03-03 => 1 ok
+# an act of a lane under the number of another act; a number that is no desk's, and a gap
+@101 1 weigh 1 251.000 none => refused 1 DeskNumber at 1
+@100 2 day 2025-03-03 => refused 1 DeskNumber at 1
+day 2025-03-04 => 2 ok
+# in a full book
+@100 1 day 2025-03-04 => refused 1 DeskNumber at 2
+@101 0 day 2025-03-04 => refused 2 RequestOld 1 at 2
+rows 2
+readings 0 gross 0.000
+passed 0 gross 0.000
+rejected 0 gross 0.000
+sampled 0 gross 0.000
+voided 0 gross 0.000
+batches running 0 ended 0 drawn 0 closed 0
+";
+
 // The words, what comes first, the day, and how many rows it leaves.
-const FULL_BOOKS: [(&[&str], &str, &str, usize); 2] = [
+const FULL_BOOKS: [(&[&str], &str, &str, usize); 3] = [
+    (&["run", "--limit", "2"], "", TWO, 2),
     (&["run", "--limit", "5"], SETUP, FIVE, 5),
     (&["run", "--limit", "7"], "", SEVEN, 7),
 ];

@@ -87,9 +87,78 @@ batches running 1 ended 0 drawn 0 closed 0
 ",
 )];
 
+// From nothing: of refusals that hold at once the least number is told. Pairs that stand in other
+// tables aren't here.
+const AT_ONCE: [Day; 1] = [(
+    17,
+    "\
+# no day is set, and something else is wrong
+product .x 4.999 => refused 6 DayUnset at 0
+open .A rice250 => refused 6 DayUnset at 0
+tare rice250 2025-03-03 5000.001 => refused 6 DayUnset at 0
+weigh 1 30000.001 => refused 6 DayUnset at 0
+weigh 1 251.000 opened => refused 6 DayUnset at 0
+stop 1 opened => refused 6 DayUnset at 0
+void 1 => refused 6 DayUnset at 0
+end A => refused 6 DayUnset at 0
+draw A keep 0 => refused 6 DayUnset at 0
+measure 1 30000.001 5000.001 => refused 6 DayUnset at 0
+second A 0 => refused 6 DayUnset at 0
+close A => refused 6 DayUnset at 0
+day 2025-03-03 => 1 ok
+# tares, and batches that are opened
+tare rice250 2025-03-03 5000.001 => refused 9 ProductUnknown at 1
+open .A rice250 => refused 9 ProductUnknown at 1
+product rice250 250 => 2 ok
+open .A rice250 1 => refused 10 NameShape at 2
+open A rice250 => 3 ok
+open A rice => refused 9 ProductUnknown at 3
+tare rice250 2025-03-03 10 => 4 ok
+product oats 500 => 5 ok
+open B oats => 6 ok
+# lanes, those of a batch that has ended too
+start 1 A => 7 ok
+start 1 C => refused 14 BatchUnknown at 7
+start 1 B => refused 17 LaneBusy A at 7
+weigh 17 251.000 opened => refused 16 LaneNumber at 7
+weigh 2 251.000 opened => refused 18 LaneIdle at 7
+weigh 1 30000.001 opened => refused 20 GrossRange at 7
+weigh 1 251.000 => 8 pass
+weigh 1 260.000 => 9 pass
+# nobody knows what the gate did at the last pack: it is voided
+stop 1 unknown => 10 ok
+pack 9 => pack 9 batch A lane 1 gross 260.000 net 250.000 standard pass voided
+end B => 11 ok
+start 17 B => refused 15 BatchState ended at 11
+start 2 A => 12 ok
+start 2 B => refused 15 BatchState ended at 12
+# samples and measurements
+measure 8 30000.001 => refused 15 BatchState running at 12
+measure 8 251.000 5000.001 => refused 15 BatchState running at 12
+draw A destroy 0 => refused 15 BatchState running at 12
+stop 2 => 13 ok
+end A => 14 ok
+draw A keep 0 => 15 ok
+measure 9 30000.001 => refused 20 GrossRange at 15
+measure 8 251.000 => 16 ok
+measure 8 30000.001 => refused 20 GrossRange at 16
+measure 8 251.000 0.001 => refused 23 TareRange at 16
+close A => 17 withheld mean average
+second A 0 => refused 15 BatchState closed at 17
+rows 17
+readings 2 gross 511.000
+passed 0 gross 0.000
+rejected 0 gross 0.000
+sampled 1 gross 251.000
+voided 1 gross 260.000
+batches running 0 ended 1 drawn 0 closed 1
+",
+)];
+
 #[test]
 fn refusals(rt: HostRuntime) -> Result<(), Fail> {
     check_days(&rt, rt.alloc(), "", &REFUSALS)?;
     check_days(&rt, rt.alloc(), SETUP, &UNKNOWN)?;
+    check_days(&rt, rt.alloc(), "", &AT_ONCE)?;
     Ok(())
 }

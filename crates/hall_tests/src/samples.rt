@@ -205,6 +205,48 @@ fn a_tare_before_and_after_the_closing(rt: HostRuntime) -> Result<(), Fail> {
     Ok(())
 }
 
+// Five packs of the second sample are measured, and each is defective. At a tare of 9 g the two of
+// the first sample are standard: the second sample isn't looked at any more.
+const IGNORED: &str = "\
+second A 1 => 139 ok
+measure 96 200.000 => 140 ok
+measure 15 200.000 => 141 ok
+measure 86 200.000 => 142 ok
+measure 45 200.000 => 143 ok
+measure 44 200.000 => 144 ok
+close A => refused 32 Unmeasured 90 at 144
+tare rice250 2025-03-03 9 => 145 ok
+close A => 146 released
+sheet A => batch A product rice250 nominal 250.000 tne 9.000
+state closed
+readings 100 gross 26000.000
+passed 40 gross 10400.000
+rejected 0 gross 0.000
+sampled 60 gross 15600.000
+voided 0 gross 0.000
+population 100 net 25100.000 nonstandard 0 inadequate 0
+held no
+test keep first 30 measured 30 defective 0
+second 30 measured 5 defective 5
+verdict released
+rows 146
+readings 100 gross 26000.000
+passed 40 gross 10400.000
+rejected 0 gross 0.000
+sampled 60 gross 15600.000
+voided 0 gross 0.000
+batches running 0 ended 0 drawn 0 closed 1
+";
+
+#[test]
+fn a_second_sample_that_is_no_longer_needed(rt: HostRuntime) -> Result<(), Fail> {
+    let light = ["250.000", "250.000"];
+    let mut play = first_sample(rt.alloc(), KEPT, &FIRST, &light, "260.000")?;
+    play.say_lines(IGNORED)?;
+    play.check(&rt, rt.alloc(), &["run"], 146)?;
+    Ok(())
+}
+
 // Of twenty destroyed packs ten have the first contents and ten the second: a mean of 249.344 g is
 // enough with this spread, and 249.343 g isn't.
 const CONTENTS: [([&str; 10], &str, &str); 3] = [

@@ -3,7 +3,7 @@ use std::test::Fail;
 
 // After the setup, batches of few packs. Where a sample is drawn it is all of them, and they are
 // kept.
-const SMALL: [Day; 4] = [
+const SMALL: [Day; 6] = [
     // what each state of a batch refuses, and which refusal is told where several hold
     (
         18,
@@ -151,7 +151,7 @@ voided 0 gross 0.000
 batches running 0 ended 0 drawn 0 closed 1
 ",
     ),
-    // a tare may not change a net of a closed batch; the batch that was opened first is told
+    // a tare may not change a net of a closed batch, and may change those of other days
     (
         25,
         "\
@@ -184,6 +184,56 @@ tare rice250 2025-03-04 12 => refused 34 TareFrozen B at 25
 tare rice250 2025-03-03 5000.001 => refused 23 TareRange at 25
 tare rice 2025-03-03 10 => refused 9 ProductUnknown at 25
 rows 25
+readings 2 gross 520.000
+passed 0 gross 0.000
+rejected 0 gross 0.000
+sampled 2 gross 520.000
+voided 0 gross 0.000
+batches running 0 ended 0 drawn 0 closed 2
+",
+    ),
+    // nor the net of a voided pack of such a batch
+    (
+        11,
+        "\
+weigh 1 260.000 => 6 pass
+stop 1 => 7 ok
+void 6 => 8 ok
+end A => 9 ok
+close A => 10 empty
+tare rice250 2025-03-03 12 => refused 34 TareFrozen A at 10
+tare rice250 2025-03-03 10 => 11 ok
+rows 11
+readings 1 gross 260.000
+passed 0 gross 0.000
+rejected 0 gross 0.000
+sampled 0 gross 0.000
+voided 1 gross 260.000
+batches running 0 ended 0 drawn 0 closed 1
+",
+    ),
+    // of two closed batches whose nets it would change, the one that was opened first is told; here
+    // it is closed last, and its pack is weighed last
+    (
+        19,
+        "\
+open B rice250 => 6 ok
+start 2 B => 7 ok
+weigh 2 260.000 => 8 pass
+weigh 1 260.000 => 9 pass
+stop 2 => 10 ok
+stop 1 => 11 ok
+end B => 12 ok
+draw B keep 0 => 13 ok
+measure 8 260.000 => 14 ok
+close B => 15 released
+tare rice250 2025-03-03 12 => refused 34 TareFrozen B at 15
+end A => 16 ok
+draw A keep 0 => 17 ok
+measure 9 260.000 => 18 ok
+close A => 19 released
+tare rice250 2025-03-03 12 => refused 34 TareFrozen A at 19
+rows 19
 readings 2 gross 520.000
 passed 0 gross 0.000
 rejected 0 gross 0.000
