@@ -5,7 +5,7 @@ use pack_judge::{Cause, Signal};
 use std::alloc::Global;
 use std::test::Fail;
 
-// A small day: five rows of the hall, the row 6 of a desk, and a weighing.
+// A small day: five rows of the hall, a sixth that a desk asked for, and a weighing.
 fn take_day(book: &mut Book, acts: &[Act]) {
     take_all(book, acts);
     take_from(book, 101, 1, &Act::NewDay { day: MARCH_3 });

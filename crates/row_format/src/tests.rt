@@ -12,10 +12,21 @@ type Piece<'a> = (usize, &'a [u8]);
 // The row with these bytes at their places, and zeros elsewhere.
 fn row_of(pieces: &[Piece]) -> [u8; ROW_BYTES] {
     let mut row = [0; ROW_BYTES];
-    for (place, bytes) in pieces {
-        put(&mut row, *place, bytes);
-    }
+    put_all(&mut row, pieces);
     row
+}
+
+// The same of version 1.
+fn old_row_of(pieces: &[Piece]) -> [u8; OLD_ROW_BYTES] {
+    let mut row = [0; OLD_ROW_BYTES];
+    put_all(&mut row, pieces);
+    row
+}
+
+fn put_all(row: &mut [u8], pieces: &[Piece]) {
+    for (place, bytes) in pieces {
+        put(row, *place, bytes);
+    }
 }
 
 fn put(row: &mut [u8], place: usize, bytes: &[u8]) {
@@ -273,4 +284,169 @@ fn broken_rows_have_their_first_fault(rt: HostRuntime) {
             "{byte} at {place}"
         );
     }
+}
+
+fn old_entries() -> Result<[Entry; 7], fmt::Error> {
+    let oil = named(b"oil")?;
+    let batch = named(b"B")?;
+    let allowance = Signal::Reject(Cause::Allowance);
+    Ok([
+        from_desk(Act::PutProduct {
+            name: oil,
+            nominal: 750_000,
+            unit: Unit::Volume,
+        }),
+        from_desk(Act::PutTare {
+            product: oil,
+            day: 20_150,
+            tare: 31_250,
+        }),
+        from_script(Act::OpenBatch {
+            batch: named(b"O-2025-03-03_oil")?,
+            product: oil,
+            density: 916_000,
+        }),
+        weighed(2, 30_000_000, Prior::Unknown, allowance),
+        from_desk(Act::Draw {
+            batch,
+            mode: Mode::Destroy,
+            word: 0x0102_0304_0506_0708,
+        }),
+        from_desk(Act::Measure {
+            pack: 6,
+            gross: 251_000,
+            empty: 31_250,
+        }),
+        from_script(Act::DrawSecond {
+            batch,
+            word: 0xFFFF_0000_0000_0001,
+        }),
+    ])
+}
+
+// Names have at most 16 bytes, so that what stands behind them is 16 or 32 places earlier.
+const OLD_ROWS: [Row; 7] = [
+    (
+        2,
+        &[
+            (0, b"\x01\x02\x02\0\0\0\x02\0\x65\0\x07\0\0\0\x03oil"),
+            (31, b"\xb0\x71\x0b"),
+            (39, b"\x01"),
+        ],
+    ),
+    (
+        3,
+        &[
+            (0, b"\x01\x03\x03\0\0\0\x02\0\x65\0\x07\0\0\0\x03oil"),
+            (31, b"\xb6\x4e\0\0\x12\x7a"),
+        ],
+    ),
+    (
+        4,
+        &[
+            (0, b"\x01\x04\x04"),
+            (14, b"\x10O-2025-03-03_oil\x03oil"),
+            (48, b"\x20\xfa\x0d"),
+        ],
+    ),
+    (
+        7,
+        &[(0, b"\x01\x06\x07"), (14, b"\x02\x80\xc3\xc9\x01\x03\x04")],
+    ),
+    (
+        10,
+        &[
+            (0, b"\x01\x0a\x0a\0\0\0\x02\0\x65\0\x07\0\0\0\x01B"),
+            (31, b"\x02\x08\x07\x06\x05\x04\x03\x02\x01"),
+        ],
+    ),
+    (
+        300,
+        &[
+            (0, b"\x01\x0b\x2c\x01\0\0\x02\0\x65\0\x07\0\0\0"),
+            (14, b"\x06\0\0\0\x78\xd4\x03\0\x12\x7a"),
+        ],
+    ),
+    (
+        1_000_000,
+        &[
+            (0, b"\x01\x0c\x40\x42\x0f"),
+            (14, b"\x01B"),
+            (31, b"\x01\0\0\0\0\0\xff\xff"),
+        ],
+    ),
+];
+
+#[test]
+fn rows_of_version_1(rt: HostRuntime) -> Result<(), Fail> {
+    let entries = old_entries()?;
+    assert_eq!(rt; entries.len(), OLD_ROWS.len());
+    for (entry, (number, pieces)) in entries.iter().zip(&OLD_ROWS) {
+        let read = read_old_row(&old_row_of(pieces), *number);
+        assert_eq!(rt; read, Ok(*entry), "row {number}");
+    }
+    Ok(())
+}
+
+// The fault of row 2 of version 1 with these pieces where one byte is another.
+fn old_fault_of(pieces: &[Piece], place: usize, byte: u8) -> Option<usize> {
+    let mut row = old_row_of(pieces);
+    put(&mut row, place, &[byte]);
+    read_old_row(&row, 2).err().map(|fault| fault.place)
+}
+
+// A product by volume, and a batch with a density of 916 grams a litre.
+const PRODUCT: &[Piece] = &[
+    (0, b"\x01\x02\x02"),
+    (14, b"\x03oil"),
+    (31, b"\xb0\x71\x0b"),
+    (39, b"\x01"),
+];
+
+const BATCH: &[Piece] = &[
+    (0, b"\x01\x04\x02"),
+    (14, b"\x01B"),
+    (31, b"\x03oil"),
+    (48, b"\x20\xfa\x0d"),
+];
+
+// The pieces of a row of version 1, the place of a byte that is changed and its new value, and the
+// fault.
+const OLD_FAULTS: [(&[Piece], usize, u8, usize); 9] = [
+    (PRODUCT, 2, 3, 2),
+    (PRODUCT, 14, 17, 14),
+    (PRODUCT, 30, 1, 30),
+    (PRODUCT, 38, 1, 38),
+    (PRODUCT, 39, 2, 39),
+    (PRODUCT, 63, 1, 63),
+    (BATCH, 47, b'x', 47),
+    (BATCH, 51, 1, 51),
+    (BATCH, 52, 1, 52),
+];
+
+#[test]
+fn broken_rows_of_version_1_have_their_first_fault(rt: HostRuntime) {
+    for (pieces, place, byte, fault) in &OLD_FAULTS {
+        assert_eq!(rt;
+            old_fault_of(pieces, *place, *byte),
+            Some(*fault),
+            "{byte} at {place}"
+        );
+    }
+}
+
+// What a user reads of a row that spells nothing: at which place its first wrong byte stands.
+const TEXTS: [(usize, &str); 3] = [
+    (0, "no row has its byte at place 0"),
+    (14, "no row has its byte at place 14"),
+    (95, "no row has its byte at place 95"),
+];
+
+#[test]
+fn a_fault_names_its_place(rt: HostRuntime) -> Result<(), Fail> {
+    for (place, wanted) in &TEXTS {
+        let text = format!(in rt.alloc(); "{}", RowFault { place: *place })?;
+        assert_eq!(rt; text.as_str(), *wanted);
+    }
+    Ok(())
 }

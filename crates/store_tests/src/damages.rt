@@ -119,19 +119,23 @@ fn changed(alloc: Global, bytes: &[u8], place: usize, more: u8) -> Result<Vec<u8
     Ok(all)
 }
 
-// How a disk is opened of which the byte at a place is so much more.
+// How a disk is opened of which the byte at a place is so much more, and whether it is left as it
+// was.
 fn open_changed(
     alloc: Global,
     bytes: &[u8],
     change: (usize, u8),
     entries: &[Entry],
-) -> Result<Kind, AllocError> {
+) -> Result<(Kind, bool), AllocError> {
     let (place, more) = change;
-    let used = use_bytes(alloc, changed(alloc, bytes, place, more)?, entries, LOOK);
-    Ok(kind_of(used.seen, place))
+    let changed = changed(alloc, bytes, place, more)?;
+    let used = use_bytes(alloc, Vec::from_slice(alloc, &changed)?, entries, LOOK);
+    let left = used.disk.bytes() == changed.as_slice();
+    Ok((kind_of(used.seen, place), left))
 }
 
-// Changes each byte of a range.
+// Changes each byte of a range. The gate behind the rows stands closed in each such disk, so that
+// none is written to.
 fn check_range(
     rt: &impl Abort,
     alloc: Global,
@@ -143,12 +147,12 @@ fn check_range(
     for place in from..end {
         assert_eq!(rt;
             open_changed(alloc, bytes, (place, 1), entries)?,
-            one,
+            (one, true),
             "place {place}"
         );
         assert_eq!(rt;
             open_changed(alloc, bytes, (place, 128), entries)?,
-            high,
+            (high, true),
             "place {place}"
         );
     }

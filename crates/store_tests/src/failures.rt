@@ -1,5 +1,5 @@
-use crate::books::{ROWS, long_run};
-use crate::stores::{CALLS, KEEPS, LOOK, WHOLE, calls_of, image, use_again, use_bytes};
+use crate::books::long_run;
+use crate::stores::{CALLS, KEEPS, LOOK, WHOLE, Way, calls_of, image, use_again, use_bytes};
 use book_words::Entry;
 use disk_core::MemoryDisk;
 use std::alloc::{AllocError, Global};
@@ -15,11 +15,12 @@ fn check_left(
     alloc: Global,
     disk: &MemoryDisk,
     entries: &[Entry],
+    rows: u32,
 ) -> Result<(), AllocError> {
     let calls = calls_of(disk);
     for keep in KEEPS {
         let seen = use_bytes(alloc, image(disk, calls, keep)?, entries, LOOK).seen;
-        assert!(rt; seen.right && seen.held == ROWS);
+        assert!(rt; seen.right && seen.held == rows);
     }
     Ok(())
 }
@@ -29,17 +30,17 @@ fn check_left(
 fn check_run(
     rt: &impl Abort,
     alloc: Global,
-    fails: Vec<u32>,
-    faults: u32,
+    fails: &[u32],
     entries: &[Entry],
+    way: Way,
 ) -> Result<MemoryDisk, AllocError> {
-    let disk = MemoryDisk::new(alloc, Vec::new(alloc), fails);
-    let used = use_again(alloc, disk, entries, WHOLE);
+    let disk = MemoryDisk::new(alloc, Vec::new(alloc), Vec::from_slice(alloc, fails)?);
+    let used = use_again(alloc, disk, entries, way);
     assert!(rt; used.seen.right && used.seen.held == 0);
-    assert_eq!(rt; used.seen.faults, faults);
+    assert_eq!(rt; used.seen.faults as usize, fails.len());
     let read = Vec::from_slice(alloc, used.disk.bytes())?;
     let seen = use_bytes(alloc, read, entries, LOOK).seen;
-    assert!(rt; seen.right && seen.held == ROWS);
+    assert!(rt; seen.right && seen.held == way.rows);
     Ok(used.disk)
 }
 
@@ -48,8 +49,8 @@ fn each_call_fails(rt: HostRuntime) -> Result<(), Fail> {
     let alloc = rt.alloc();
     let entries = long_run()?;
     for call in 1..=CALLS {
-        let disk = check_run(&rt, alloc, vec![in alloc; call]?, 1, &entries)?;
-        check_left(&rt, alloc, &disk, &entries)?;
+        let disk = check_run(&rt, alloc, &[call], &entries, WHOLE)?;
+        check_left(&rt, alloc, &disk, &entries, WHOLE.rows)?;
     }
     Ok(())
 }
@@ -66,7 +67,7 @@ fn check_pairs(
     let mut second = first.saturating_add(1);
     for _turn in 0..last {
         if second <= last {
-            check_run(rt, alloc, vec![in alloc; first, second]?, 2, entries)?;
+            check_run(rt, alloc, &[first, second], entries, WHOLE)?;
         }
         second = second.saturating_add(STEP);
     }
@@ -79,6 +80,39 @@ fn each_call_and_a_later_one_fail(rt: HostRuntime) -> Result<(), Fail> {
     let entries = long_run()?;
     for first in 1..=CALLS {
         check_pairs(&rt, rt.alloc(), first, &entries)?;
+    }
+    Ok(())
+}
+
+// Five rows of the hall, the first request of a desk, and their snapshot.
+const SHORT: Way = Way {
+    rows: 6,
+    rests: true,
+};
+
+// How many calls the short run makes over an empty disk.
+const SHORT_CALLS: u32 = 4 + 4 * 6 + 7;
+
+// One call and each later one of the short run fail, and then each kind of crash.
+fn check_all_pairs(
+    rt: &impl Abort,
+    alloc: Global,
+    first: u32,
+    entries: &[Entry],
+) -> Result<(), AllocError> {
+    for second in first.saturating_add(1)..SHORT_CALLS + 2 {
+        let disk = check_run(rt, alloc, &[first, second], entries, SHORT)?;
+        check_left(rt, alloc, &disk, entries, SHORT.rows)?;
+    }
+    Ok(())
+}
+
+#[test]
+fn each_two_calls_of_a_short_run_fail(rt: HostRuntime) -> Result<(), Fail> {
+    let all = long_run()?;
+    let entries = [all[0], all[1], all[2], all[3], all[4], all[9]];
+    for first in 1..=SHORT_CALLS {
+        check_all_pairs(&rt, rt.alloc(), first, &entries)?;
     }
     Ok(())
 }

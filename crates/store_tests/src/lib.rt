@@ -1,5 +1,6 @@
 //! Tests of the book on a disk by its public calls, over disks in memory: crashes, calls that fail,
-//! bytes that are changed, entries that are adopted, and how many calls and bytes a disk is asked.
+//! bytes that are changed, entries that are adopted, how many calls and bytes a disk is asked, and the
+//! texts of its errors.
 #![tactic(auto)]
 
 #[cfg(test)]
@@ -14,5 +15,7 @@ mod damages;
 mod failures;
 #[cfg(test)]
 mod stores;
+#[cfg(test)]
+mod texts;
 #[cfg(test)]
 mod worked;

@@ -66,21 +66,71 @@ fn ask_on(
     }
 }
 
-// Mounting makes four calls and each act four, so that the 28th is the second sync of the sixth
-// act.
+const PASSED: Told = Told::Row(6, Some(Signal::Pass));
+
+// Which calls fail, and what the sixth act and another in its place are told, and whether an entry
+// hangs then. Mounting makes four calls and each act four, so that the calls 25 to 28 are those of
+// the sixth act. Where it hangs, the next two close its gate.
+const HANGING: [(&[u32], Lines); 10] = [
+    (&[25], [(Told::DiskFault, false), (PASSED, false)]),
+    (&[26], [(Told::DiskFault, false), (PASSED, false)]),
+    (&[27], [(Told::DiskFault, true), (PASSED, false)]),
+    (&[28], [(Told::DiskFault, true), (PASSED, false)]),
+    (
+        &[28, 29],
+        [(Told::DiskFault, true), (Told::DiskFault, true)],
+    ),
+    (
+        &[28, 30],
+        [(Told::DiskFault, true), (Told::DiskFault, true)],
+    ),
+    (
+        &[28, 31],
+        [(Told::DiskFault, true), (Told::DiskFault, false)],
+    ),
+    (
+        &[28, 32],
+        [(Told::DiskFault, true), (Told::DiskFault, false)],
+    ),
+    (
+        &[28, 33],
+        [(Told::DiskFault, true), (Told::DiskFault, true)],
+    ),
+    (
+        &[28, 34],
+        [(Told::DiskFault, true), (Told::DiskFault, true)],
+    ),
+];
+
+// Asks two acts behind five rows of a disk of which these calls fail. Where the second one passed,
+// the disk then has it as row 6.
+fn check_hanging(
+    rt: &impl Abort,
+    alloc: Global,
+    fails: &[u32],
+    entries: &[Entry; 20],
+    wanted: Lines,
+) -> Result<(), AllocError> {
+    let mut entries = *entries;
+    let second = weighed(255_000, Prior::Nothing, Signal::Pass);
+    let disk = MemoryDisk::new(alloc, Vec::new(alloc), Vec::from_slice(alloc, fails)?);
+    let (lines, disk) = ask_on(alloc, disk, &entries, &entries[5], &second);
+    assert_eq!(rt; lines, Some(wanted));
+    if wanted[1].0 == PASSED {
+        entries[5] = second;
+        let bytes = Vec::from_slice(alloc, disk.bytes())?;
+        let seen = use_bytes(alloc, bytes, &entries, LOOK).seen;
+        assert!(rt; seen.right && seen.held == 6);
+    }
+    Ok(())
+}
+
 #[test]
 fn another_act_behind_one_that_hangs(rt: HostRuntime) -> Result<(), Fail> {
-    let alloc = rt.alloc();
-    let mut entries = long_run()?;
-    let second = weighed(255_000, Prior::Nothing, Signal::Pass);
-    let disk = MemoryDisk::new(alloc, Vec::new(alloc), vec![in alloc; 28]?);
-    let (lines, disk) = ask_on(alloc, disk, &entries, &entries[5], &second);
-    let passed = Told::Row(6, Some(Signal::Pass));
-    assert_eq!(rt; lines, Some([(Told::DiskFault, true), (passed, false)]));
-    entries[5] = second;
-    let bytes = Vec::from_slice(alloc, disk.bytes())?;
-    let seen = use_bytes(alloc, bytes, &entries, LOOK).seen;
-    assert!(rt; seen.right && seen.held == 6);
+    let entries = long_run()?;
+    for (fails, lines) in &HANGING {
+        check_hanging(&rt, rt.alloc(), fails, &entries, *lines)?;
+    }
     Ok(())
 }
 
@@ -113,6 +163,18 @@ fn the_calls_of_a_weighing(rt: HostRuntime) -> Result<(), Fail> {
         calls_for(alloc, &kept, &entries, SIX)?,
         mounted.saturating_add(6)
     );
+    Ok(())
+}
+
+// The mark says that the disk ends with a snapshot, which a weighing behind it makes untrue.
+#[test]
+fn the_mark_is_cleared_by_a_weighing(rt: HostRuntime) -> Result<(), Fail> {
+    let alloc = rt.alloc();
+    let entries = long_run()?;
+    let kept = bytes_of(alloc, &entries, FIVE_KEPT)?;
+    assert_eq!(rt; kept.get(8).copied(), Some(1));
+    let used = use_bytes(alloc, kept, &entries, SIX);
+    assert_eq!(rt; used.disk.bytes().get(8).copied(), Some(0));
     Ok(())
 }
 
@@ -161,5 +223,32 @@ fn many_rows_are_mounted_by_few_calls(rt: HostRuntime) -> Result<(), Fail> {
     assert!(rt; by_snapshot.disk.asked_bytes() <= 16_384);
     let by_slots = mount_many(&rt, alloc, &entries, MANY)?;
     assert!(rt; 63_648 <= by_slots.disk.asked_bytes());
+    Ok(())
+}
+
+// Takes room for all rows behind five, and tells whether they are then answered.
+fn reserve_and_go<D: Disk>(store: TestStore<D>, entries: &[Entry]) -> (bool, D) {
+    let mut store = store;
+    let right = store.go(entries, FIVE).right
+        && store.store.reserve(658).is_ok()
+        && store.go(entries, MANY).right;
+    let (disk, _) = store.store.close();
+    (right, disk)
+}
+
+// Room for as many weighings as a book of 663 rows has.
+#[test]
+fn there_is_room_for_what_is_reserved(rt: HostRuntime) -> Result<(), Fail> {
+    let alloc = rt.alloc();
+    let entries = many_entries(alloc, &long_run()?)?;
+    let disk = MemoryDisk::new(alloc, Vec::new(alloc), Vec::new(alloc));
+    match Store::mount(alloc, disk, 663) {
+        Ok(store) => {
+            let (right, disk) = reserve_and_go(TestStore { store, faults: 0 }, &entries);
+            assert!(rt; right);
+            assert_eq!(rt; calls_of(&disk), 4 + 4 * 663);
+        }
+        Err(_) => assert!(rt; false),
+    }
     Ok(())
 }
