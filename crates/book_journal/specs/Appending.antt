@@ -57,4 +57,5 @@ pub record PutsRow {D T E : Type 0} (disk : disk.Ghosts D) (row : List ℕ) (res
   pub done : OnOk result (HasRows disk new (rows ++ row ∷ []))
   pub failed : OnErr result (HasRows disk new rows)
   pub hung : (hung : List ℕ) → HangsWith disk new hung → hung ≡ row
-  pub moments : LeavesOnly disk (disk_of old) (disk_of new) (λ c. Recovers c rows ⊎ Recovers c (rows ++ row ∷ []))
+  pub moments : LeavesOnly disk (disk_of old) (disk_of new)
+      (λ c. Recovers c rows ⊎ Recovers c (rows ++ row ∷ []))

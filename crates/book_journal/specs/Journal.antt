@@ -25,17 +25,14 @@ kept_of journal = journal.kept
 abbrev pub Hangs : {D : Type 0} → Journal D → Type 0
 Hangs journal = IsTrue journal.hanging
 
--- its mark may be set: it was found so, or a write of it was tried since
-abbrev pub IsMarked : {D : Type 0} → Journal D → Type 0
-IsMarked journal = IsTrue journal.marked
-
 -- an image has the rows that are read, and a closed gate behind them
 pub record IsClosedAs (count : ℕ) (bytes image : List ℕ) : Type 0 where
   pub long : gate_behind count < length image
   pub same : (k : ℕ) → k < gate_behind count → k ≢ MARK → slice_index image k ≡ slice_index bytes k
   pub gate : slice_index image (gate_behind count) ≢ OPEN
 
--- an image has the rows that are read, the bytes of one more behind any gate, and then a closed gate
+-- an image has the rows that are read, the bytes of one more behind any gate, and then a closed
+-- gate
 pub record IsHungAs (count : ℕ) (bytes image : List ℕ) : Type 0 where
   pub long : gate_behind (count + 1) < length image
   pub same : (k : ℕ) → k < gate_behind (count + 1) → k ≢ gate_behind count → k ≢ MARK
@@ -95,9 +92,11 @@ pub record HangsWith {D : Type 0} (disk : disk.Ghosts D) (journal : Journal D)
   pub stands : row_behind journal.count bytes ≡ row
 
 -- an image recovers these rows, or these and the one that hangs
-abbrev pub RecoversOrHangs : {D : Type 0} → disk.Ghosts D → Journal D → List (List ℕ) → List ℕ → Type 0
+abbrev pub RecoversOrHangs : {D : Type 0} → disk.Ghosts D → Journal D → List (List ℕ)
+    → List ℕ → Type 0
 RecoversOrHangs disk journal rows c =
-    Recovers c rows ⊎ ((hung : List ℕ) × HangsWith disk journal hung × Recovers c (rows ++ hung ∷ []))
+    Recovers c rows
+    ⊎ ((hung : List ℕ) × HangsWith disk journal hung × Recovers c (rows ++ hung ∷ []))
 
 -- every image recovers the journal's rows, or these and the one that hangs
 abbrev pub ImagesKeepRows : {D : Type 0} → disk.Ghosts D → Journal D → Type 0

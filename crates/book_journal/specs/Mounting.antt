@@ -46,8 +46,8 @@ closed_behind count bytes =
     else overwritten bytes (gate_behind count) (CLOSED ∷ [])
 
 -- A disk with the header: the snapshot that fits it, how many rows it has, whether its mark is set;
--- the gate behind the rows is closed, and a crash leaves what is read. Where a snapshot fits nothing
--- is written.
+-- the gate behind the rows is closed, and a crash leaves what is read. Where a snapshot fits
+-- nothing is written.
 pub record FindsJournal {D : Type 0} (disk : disk.Ghosts D) (bytes : List ℕ)
     (kept : Option Kept) (count : ℕ) (marked : Bool) (new : D) : Type 0 where
   pub header : HasHeader bytes
@@ -85,10 +85,11 @@ pub record KeepsFromSync {D : Type 0} (disk : disk.Ghosts D) (old new : D)
   pub earlier : (t : ℕ) (c : List ℕ) → t ≤ disk.time old → disk.since new t c
       → disk.since old t c ⊎ P c
 
--- A disk that isn't a journal is longer than a new one, and named by its first byte that differs. It
--- is as it was, no fault was counted, and few bytes were asked for.
+-- A disk that isn't a journal is longer than a new one, and named by its first byte that differs.
+-- It is as it was, no fault was counted, and few bytes were asked for.
 pub record IsForeign {D : Type 0} (disk : disk.Ghosts D) (place : ℕ) (old new : D) : Type 0 where
-  pub named : WhereTold (disk.reads old) (λ bytes. (NEW_BYTES < length bytes) × FirstDiffersAt bytes place)
+  pub named : WhereTold (disk.reads old) (λ bytes.
+      (NEW_BYTES < length bytes) × FirstDiffersAt bytes place)
   pub unmoved : IsUnmoved disk old new
   pub calm : disk.faults new ≡ disk.faults old
   pub asked : disk.asked new ≤ disk.asked old + OPENING_BYTES

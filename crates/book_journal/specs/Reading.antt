@@ -10,7 +10,8 @@ HasContentFrom from None = ⊥
 HasContentFrom from (Some kept) =
     IsSnapshotSize kept.rows kept.bytes × (BLOCKS_CONTENT * from < kept.bytes)
 
--- as long as the snapshot stands, these are its content bytes from there on, a piece or what is left
+-- as long as the snapshot stands, these are its content bytes from there on, a piece or what is
+-- left
 abbrev pub ReadsContent : {E : Type 0} → Option Kept → List ℕ → ℕ → Result ℕ E → List ℕ → Type 0
 ReadsContent None bytes from result into = ⊥
 ReadsContent (Some kept) bytes from result into = EndsWithSnapshot kept.rows kept.bytes bytes

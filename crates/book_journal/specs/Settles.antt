@@ -7,8 +7,8 @@ use Rattle.disk_core.specs.declared.disk.Disk as disk
 abbrev pub TornFrom : (List ℕ → Type 0) → ℕ → ℕ → ℕ → List ℕ → Type 0
 TornFrom image place count most c = (d : List ℕ) × image d × Torn place count most d c
 
--- A write and a sync: at an Ok the bytes stand in each image; at a failure, as in the meantime, each
--- is an image from before with the range torn.
+-- A write and a sync: at an Ok the bytes stand in each image; at a failure, as in the meantime,
+-- each is an image from before with the range torn.
 pub record Settles {D T E : Type 0} (disk : disk.Ghosts D) (place : ℕ) (bytes : List ℕ)
     (result : Result T E) (there : List ℕ) (old new : D) : Type 0 where
   pub now : List ℕ

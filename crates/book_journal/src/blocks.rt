@@ -36,7 +36,8 @@ impl<D: Disk> Journal<D> {
         ensures cause { CountsFault (D.faults (disk_of self.old)) (D.faults (disk_of self.new))
             result }
         ensures asked_more { D.asked (disk_of self.old) ≤ D.asked (disk_of self.new) }
-        ensures asked_most { D.asked (disk_of self.new) ≤ D.asked (disk_of self.old) + BLOCKS_BYTES }
+        ensures asked_most { D.asked (disk_of self.new)
+            ≤ D.asked (disk_of self.old) + BLOCKS_BYTES }
     {
         let Some(kept) = self.kept else { return Ok(0) };
         let left = kept.bytes - BLOCKS_CONTENT as u64 * from;

@@ -31,7 +31,8 @@ fn open<D: Disk>(disk: &mut D) -> Result<Found, JournalFault>
     ensures moments { WhereTold (D.reads disk.old) (λ bytes. Only bytes (D.image disk.old) →
         (rows : List (List ℕ)) → Recovers bytes rows → length rows ≤ MAX_ROWS →
         LeavesOnly D.Disk disk.old disk.new (λ c. Recovers c rows)) }
-    ensures full { IfOk result (λ found. MAX_ROWS < found.count → IsUnmoved D.Disk disk.old disk.new) }
+    ensures full { IfOk result (λ found.
+        MAX_ROWS < found.count → IsUnmoved D.Disk disk.old disk.new) }
     ensures tells { TellsAsBefore (D.reads disk.old) (D.reads disk.new) }
     ensures cause { MatchResult result (λ _. D.faults disk.new ≡ D.faults disk.old)
         (λ why. IsCauseOf D.Disk why disk.old disk.new) }
@@ -69,7 +70,8 @@ fn start<D: Disk>(disk: &mut D) -> Result<Found, JournalFault>
         (rows : List (List ℕ)) → Recovers bytes rows → length rows ≤ MAX_ROWS →
         KeepsFromSync D.Disk disk.old disk.new (λ c. Recovers c rows)
         ⊎ (IsErr result × IsUnmoved D.Disk disk.old disk.new)) }
-    ensures full { IfOk result (λ found. MAX_ROWS < found.count → IsUnmoved D.Disk disk.old disk.new) }
+    ensures full { IfOk result (λ found.
+        MAX_ROWS < found.count → IsUnmoved D.Disk disk.old disk.new) }
     ensures tells { TellsAsBefore (D.reads disk.old) (D.reads disk.new) }
     ensures cause { MatchResult result (λ _. D.faults disk.new ≡ D.faults disk.old)
         (λ why. IsCauseOf D.Disk why disk.old disk.new) }
@@ -93,7 +95,8 @@ impl<D: Disk> Journal<D> {
     /// perhaps more.
     pub fn mount(disk: D) -> Result<Journal<D>, JournalRefused<D>>
         // What it finds on the disk, and what the disk reads then.
-        ensures mounted { WhereTold (D.reads disk) (λ bytes. IfOk result (HasMounted D.Disk bytes)) }
+        ensures mounted { WhereTold (D.reads disk) (λ bytes.
+            IfOk result (HasMounted D.Disk bytes)) }
         ensures most { IfOk result (λ journal. count_of journal ≤ MAX_SLOTS) }
         ensures sized { IfOk result (λ journal. IsSized (kept_of journal)) }
         ensures calm { IfOk result (λ journal. ¬ Hangs journal) }
@@ -105,7 +108,8 @@ impl<D: Disk> Journal<D> {
         ensures rows { WhereTold (D.reads disk) (λ bytes.
             (rows : List (List ℕ)) → Recovers bytes rows → length rows ≤ MAX_ROWS →
             KeepsRecovered D.Disk disk result rows) }
-        ensures sound { IfOk result (λ journal. count_of journal ≤ MAX_ROWS → IsSound D.Disk journal) }
+        ensures sound { IfOk result (λ journal.
+            count_of journal ≤ MAX_ROWS → IsSound D.Disk journal) }
 
         // It refuses a disk that isn't a journal, and otherwise only where the disk failed.
         ensures cause { MatchResult result (λ journal. D.faults (disk_of journal) ≡ D.faults disk)

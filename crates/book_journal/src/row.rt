@@ -10,8 +10,8 @@ impl<D: Disk> Journal<D> {
     ghost use Rattle.book_journal.specs.Rows.{gate_behind};
     ghost use Rattle.book_journal.specs.Journal.{disk_of, count_of, IsSound, HasRows};
 
-    /// Reads the row of a number, counted from 1: the bytes of its slot. Failed comes only where the
-    /// disk failed.
+    /// Reads the row of a number, counted from 1: the bytes of its slot. Failed comes only where
+    /// the disk failed.
     pub fn row(&mut self, number: u32) -> Result<[u8; ROW_BYTES], Failed>
         requires first { 1 ≤ number }
         requires last { number ≤ count_of self.old }

@@ -40,11 +40,13 @@ pub(crate) fn scan<D: Disk>(disk: &mut D, size: u64, mark: u8) -> Result<Found, 
     ensures most { IfOk result (λ found. found.count ≤ MAX_SLOTS) }
     ensures sized { IfOk result (λ found. IsSized found.kept) }
     ensures finds { WhereTold (D.reads disk.old) (λ bytes. Only bytes (D.image disk.old) →
-        IfOk result (λ found. FindsJournal D.Disk bytes found.kept found.count found.marked disk.new)) }
+        IfOk result (λ found.
+        FindsJournal D.Disk bytes found.kept found.count found.marked disk.new)) }
     ensures moments { WhereTold (D.reads disk.old) (λ bytes. Only bytes (D.image disk.old) →
         (rows : List (List ℕ)) → Recovers bytes rows → length rows ≤ MAX_ROWS →
         LeavesOnly D.Disk disk.old disk.new (λ c. Recovers c rows)) }
-    ensures full { IfOk result (λ found. MAX_ROWS < found.count → IsUnmoved D.Disk disk.old disk.new) }
+    ensures full { IfOk result (λ found.
+        MAX_ROWS < found.count → IsUnmoved D.Disk disk.old disk.new) }
     ensures tells { TellsAsBefore (D.reads disk.old) (D.reads disk.new) }
     ensures cause { CountsFault (D.faults disk.old) (D.faults disk.new) result }
     ensures asked { IfOk result (λ found.

@@ -75,10 +75,12 @@ fn has_head<D: Disk>(disk: &mut D, kept: Kept) -> Result<bool, Failed>
     requires { IsSnapshotSize kept.rows kept.bytes }
     ensures yes { WhereTold (D.reads disk.old) (λ bytes.
         snapshot_place kept.rows + ROW_BYTES ≤ length bytes → IfOk result (λ has. IsTrue has →
-        take ROW_BYTES (drop (snapshot_place kept.rows) bytes) ≡ end_block HEAD kept.rows kept.bytes)) }
+        take ROW_BYTES (drop (snapshot_place kept.rows) bytes)
+        ≡ end_block HEAD kept.rows kept.bytes)) }
     ensures no { WhereTold (D.reads disk.old) (λ bytes.
         snapshot_place kept.rows + ROW_BYTES ≤ length bytes → IfOk result (λ has. has ≡ false →
-        take ROW_BYTES (drop (snapshot_place kept.rows) bytes) ≢ end_block HEAD kept.rows kept.bytes)) }
+        take ROW_BYTES (drop (snapshot_place kept.rows) bytes)
+        ≢ end_block HEAD kept.rows kept.bytes)) }
     ensures unmoved { IsUnmoved D.Disk disk.old disk.new }
     ensures cause { CountsFault (D.faults disk.old) (D.faults disk.new) result }
     ensures asked { D.asked disk.new ≤ D.asked disk.old + ROW_BYTES }

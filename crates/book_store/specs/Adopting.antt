@@ -8,8 +8,8 @@ use Rattle.book_core.specs.Steps.{HasNoRoom}
 use Rattle.book_store.specs.declared.types.AdoptError.{AdoptError}
 use Rattle.book_store.specs.declared.types.AdoptError.TheVariants.{Unlawful, DiskFault, NoMemory}
 
--- an entry that is adopted is lawful and gets the next number; one that isn't lawful is refused; and
--- there is no memory only for a lawful one, for a weighing only where no row is spare
+-- an entry that is adopted is lawful and gets the next number; one that isn't lawful is refused;
+-- and there is no memory only for a lawful one, for a weighing only where no row is spare
 abbrev pub Adopts : BookView → Entry → Result ℕ AdoptError → Type 0
 Adopts book entry (Ok number) =
     IsLawful book.entries entry × (number ≡ length book.entries + 1)

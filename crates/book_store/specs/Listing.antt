@@ -87,8 +87,8 @@ pub record IsOpenedAs (bytes : List ℕ) (entries : List Entry) : Type 0 where
   pub listed : Lists bytes rows
   pub are : AreRowsOf entries rows
 
--- Of the rows that the disk lists this is the first that is damaged: those before it are the rows of
--- a book, and it spells no entry that is lawful behind them.
+-- Of the rows that the disk lists this is the first that is damaged: those before it are the rows
+-- of a book, and it spells no entry that is lawful behind them.
 pub record IsDamagedAt (bytes : List ℕ) (row : ℕ) : Type 0 where
   pub rows : List (Option (List ℕ))
   pub listed : Lists bytes rows

@@ -66,8 +66,8 @@ KeepsHeld disk old entries (Err refused) = IsPassing refused.why
 abbrev pub calls_for : ℕ → ℕ
 calls_for bytes = (bytes + (BLOCKS_CONTENT - 1)) / BLOCKS_CONTENT
 
--- For how many bytes a disk is asked at most where a snapshot of so many rows and bytes fits it: for
--- its content in pieces, and for each slot behind it.
+-- For how many bytes a disk is asked at most where a snapshot of so many rows and bytes fits it:
+-- for its content in pieces, and for each slot behind it.
 abbrev pub opening_bytes : ℕ → ℕ → ℕ → ℕ
 opening_bytes rows bytes count =
     OPENING_BYTES + CALL_BYTES * calls_for bytes + SLOT_BYTES * (count - rows)

@@ -86,7 +86,8 @@ CountsReading before now _ = now ≡ before
 pub record OnlyRead {D : Type 0} (disk : disk.Ghosts D) (old new : Journal D) : Type 0 where
   pub same : new ≡ record old { disk = journals.disk_of new }
   pub unmoved : IsUnmoved disk (journals.disk_of old) (journals.disk_of new)
-  pub rows : (rows : List (List ℕ)) → journals.HasRows disk old rows → journals.HasRows disk new rows
+  pub rows : (rows : List (List ℕ)) → journals.HasRows disk old rows
+      → journals.HasRows disk new rows
   pub sound : journals.IsSound disk old → journals.IsSound disk new
 
 -- the bytes of the slot of this number
@@ -96,7 +97,8 @@ slot_row number bytes = take ROW_BYTES (drop (ROW_BYTES * number) bytes)
 -- those of so many slots from this number on
 unfoldable pub slots_from : ℕ → ℕ → List ℕ → List (Option (List ℕ))
 slots_from zero number bytes = []
-slots_from (suc left) number bytes = Some (slot_row number bytes) ∷ slots_from left (number + 1) bytes
+slots_from (suc left) number bytes =
+    Some (slot_row number bytes) ∷ slots_from left (number + 1) bytes
 
 -- the snapshot stands at the end of these bytes, if there is one
 abbrev pub StandsAtEnd : Option Kept → List ℕ → Type 0
@@ -155,6 +157,7 @@ pub record Refused {D : Type 0} (disk : disk.Ghosts D) (journal : Journal D)
       → Stops (rows_there (journals.kept_of journal) (journals.count_of journal) bytes) refused.why)
 
 -- what opening a journal makes of it
-abbrev pub Opens : {D : Type 0} → disk.Ghosts D → Journal D → ℕ → Result (Store D) (Unmounted D) → Type 0
+abbrev pub Opens : {D : Type 0} → disk.Ghosts D → Journal D → ℕ
+    → Result (Store D) (Unmounted D) → Type 0
 Opens disk journal limit (Ok store) = Opened disk journal limit store
 Opens disk journal limit (Err refused) = Refused disk journal refused

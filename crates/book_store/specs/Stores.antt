@@ -54,8 +54,8 @@ pub record HasBook {D : Type 0} (disk : disk.Ghosts D) (store : Store D) : Type 
   pub can : CanAllBeSpelled (entries_of store)
   pub hung : Hangs store → (entry : Entry) × HangsWith disk store entry
 
--- The journal has as many rows as the book, and a gate behind them; the book is legal, and its limit
--- is one that a book may have. So it is on every disk.
+-- The journal has as many rows as the book, and a gate behind them; the book is legal, and its
+-- limit is one that a book may have. So it is on every disk.
 pub record IsSound {D : Type 0} (disk : disk.Ghosts D) (store : Store D) : Type 0 where
   pub journal : journals.IsSound disk store.journal
   pub count : journals.count_of store.journal ≡ length (entries_of store)

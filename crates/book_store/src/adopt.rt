@@ -15,13 +15,14 @@ impl<D: Disk> Store<D> {
 
     /// Appends an entry of another book as it stands, with whoever brought it, its desk and its
     /// signal, and tells its number. It is written down and stable before it is in the book.
-    /// `Unlawful` comes exactly where it isn't lawful behind the list; the book's limit doesn't bind
-    /// it. Want of memory is answered only for a lawful entry, and for a weighing only where no row is
-    /// spare.
+    /// `Unlawful` comes exactly where it isn't lawful behind the list; the book's limit doesn't
+    /// bind it. Want of memory is answered only for a lawful entry, and for a weighing only where
+    /// no row is spare.
     pub fn adopt(&mut self, entry: &Entry) -> Result<u32, AdoptError>
         requires sound { IsSound D.Disk self.old }
         ensures adopts { Adopts (book_of self.old) entry.now result }
-        ensures entries { entries_of self.new ≡ list_adopted result (entries_of self.old) entry.now }
+        ensures entries { entries_of self.new
+            ≡ list_adopted result (entries_of self.old) entry.now }
         ensures legal { IsLegal (entries_of self.new) }
 
         // What a crash leaves, during the call and after it.

@@ -11,13 +11,13 @@ impl<D: Disk> Store<D> {
     ghost use Rattle.book_store.specs.Stores.{disk_of, book_of, entries_of, limit_of, spare_of, opened_of, Hangs, ImagesHoldBook, IsSound};
     ghost use Rattle.book_store.specs.Offers.{Offers, GivesAnswer, list_behind, CountsDiskFault};
 
-    /// Answers an ask of the caller `by` as the book does. An act that is new and accepted is written
-    /// down and stable before it is in the book; from then on each crash leaves it. A question, a
-    /// repeat and a refused act touch no disk.
+    /// Answers an ask of the caller `by` as the book does. An act that is new and accepted is
+    /// written down and stable before it is in the book; from then on each crash leaves it. A
+    /// question, a repeat and a refused act touch no disk.
     ///
     /// After `DiskFault` and after `NoMemory` the book is as it was, and after the latter the disk
-    /// too. After `DiskFault` a crash may leave the entry that was offered or not; the next act that
-    /// is written down settles that first.
+    /// too. After `DiskFault` a crash may leave the entry that was offered or not; the next act
+    /// that is written down settles that first.
     pub fn ask(&mut self, by: u16, ask: &Ask) -> Result<Answered, AskError>
         requires sound { IsSound D.Disk self.old }
         ensures answer { GivesAnswer (book_of self.old) by ask.now

@@ -21,7 +21,8 @@ impl<D: Disk> Store<D> {
         requires number { ready.number ≡ length (entries_of self.old) + 1 }
         requires lawful { IsLawful (entries_of self.old) ready.entry }
         requires sound { IsSound D.Disk self.old }
-        ensures answer { IfOk result (λ answered. Ok answered ≡ answer MAX_ROWS (entries_of self.old)
+        ensures answer { IfOk result (λ answered.
+            Ok answered ≡ answer MAX_ROWS (entries_of self.old)
             (asked_act ready.entry.desk ready.entry.request ready.entry.act)) }
         ensures entries { MatchResult result
             (λ _. entries_of self.new ≡ entries_of self.old ++ ready.entry ∷ [])

@@ -1,5 +1,5 @@
-//! The book on a disk: an entry is written down and stable before it is in the book, and a disk that
-//! is opened again gives the book that it holds.
+//! The book on a disk: an entry is written down and stable before it is in the book, and a disk
+//! that is opened again gives the book that it holds.
 #![tactic(auto)]
 
 mod adopt;

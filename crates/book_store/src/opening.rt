@@ -36,7 +36,8 @@ fn read_rows<D: Disk>(
     requires sized { IsSized (kept_of journal.old) }
     ensures reads { WhereTold (D.reads (disk_of journal.old)) (λ bytes.
         IsReadable (kept_of journal.old) (count_of journal.old) bytes → ReadsOn
-        (rows_there (kept_of journal.old) (count_of journal.old) bytes) book.new.entries [] result) }
+        (rows_there (kept_of journal.old) (count_of journal.old) bytes)
+        book.new.entries [] result) }
     ensures count { OnOk result (count_of journal.old ≡ length book.new.entries) }
     ensures grows { Grows book.old book.new }
     ensures read { OnlyRead D.Disk journal.old journal.new }

@@ -22,12 +22,12 @@ impl<D: Disk> Store<D> {
     ghost use Rattle.book_store.specs.Stores.{disk_of, book_of, entries_of, opened_of, Hangs, HasBook, KeepsBook, ImagesHoldBook, IsSound};
     ghost use Rattle.book_store.specs.Resting.{book_content, HasNothingToKeep, HoldsOwnSnapshot, CountsRestFault};
 
-    /// Keeps a snapshot of the book on its disk, which opening then reads in place of the slots, and
-    /// says so. Where the book is empty or an entry hangs there is nothing to keep, and the disk isn't
-    /// touched. The book stays as it is, and a crash at any moment leaves it.
+    /// Keeps a snapshot of the book on its disk, which opening then reads in place of the slots,
+    /// and says so. Where the book is empty or an entry hangs there is nothing to keep, and the
+    /// disk isn't touched. The book stays as it is, and a crash at any moment leaves it.
     ///
-    /// A disk that is longer than the snapshot's end is left without one, since its last bytes aren't
-    /// the book's.
+    /// A disk that is longer than the snapshot's end is left without one, since its last bytes
+    /// aren't the book's.
     pub fn rest(&mut self) -> Result<bool, RestError>
         requires sound { IsSound D.Disk self.old }
         ensures idle { (result ≡ Ok false) ↔ HasNothingToKeep self.old }
@@ -41,8 +41,8 @@ impl<D: Disk> Store<D> {
         ensures untouched { result ≡ Ok false → disk_of self.new ≡ disk_of self.old }
         ensures no_memory { result ≡ Err error.NoMemory → disk_of self.new ≡ disk_of self.old }
         ensures fits { WhereTold (D.reads (disk_of self.old)) (λ bytes.
-            length bytes
-            ≤ snapshot_end (length (entries_of self.old)) (length (book_content (entries_of self.old)))
+            length bytes ≤ snapshot_end (length (entries_of self.old))
+            (length (book_content (entries_of self.old)))
             → result ≡ Ok true → WhereTold (D.reads (disk_of self.new))
             (HoldsSnapshot (length (entries_of self.old)) (book_content (entries_of self.old)))) }
         ensures holds { result ≡ Ok true → HoldsOwnSnapshot D.Disk self.new }

@@ -7,7 +7,8 @@ pub enum MountError {
     /// The disk has more than 97 bytes and isn't a journal: the byte at this place is the first
     /// that differs from a journal's header, byte 8 being passed over.
     NotJournal { place: u64 },
-    /// The row of this number is the first that has no spelling, or isn't lawful behind those before.
+    /// The row of this number is the first that has no spelling, or isn't lawful behind those
+    /// before.
     Damaged { row: u32 },
     /// The disk failed.
     DiskFault,

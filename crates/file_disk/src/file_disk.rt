@@ -30,8 +30,8 @@ impl FileDisk {
 
     /// Opens the file at this path and makes it where it isn't there. The file stays locked for as
     /// long as the disk is there, so no other hall uses it. Where the file is empty, its folder is
-    /// synced, so that a crash leaves its name. A file that can't be opened, made, locked or synced,
-    /// or that is no regular file, gives a disk that isn't open. Nothing is cut off a file.
+    /// synced, so that a crash leaves its name. A file that can't be opened, made, locked or
+    /// synced, or that is no regular file, gives a disk that isn't open. Nothing is cut off a file.
     pub fn open<R: Files<File = File> + Alloc>(rt: &R, path: &str) -> Self
         ensures { result.faults ≡ 0 }
     {

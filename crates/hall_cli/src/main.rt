@@ -20,8 +20,8 @@ use std::env;
 use std::process::ExitCode;
 use std::rt::Env;
 
-/// The bytes that a book in memory has room for with each row: the row itself, and as many again for
-/// its snapshot.
+/// The bytes that a book in memory has room for with each row: the row itself, and as many again
+/// for its snapshot.
 const BYTES_A_ROW: usize = 2 * ROW_BYTES;
 
 /// The rows more that its room is for: the header, the closed gates and the ends of the snapshot.
@@ -40,8 +40,8 @@ fn words(rt: &(impl Env + AllocGlobal)) -> Vec<String> {
     kept.unwrap_or(Vec::new(rt.alloc()))
 }
 
-/// Does what the words say over a disk. The exit status is that of the call, and what it says of the
-/// streams and the disk is true for some rows.
+/// Does what the words say over a disk. The exit status is that of the call, and what it says of
+/// the streams and the disk is true for some rows.
 fn run<S: Source, K: Sink, D: Disk + Drop>(
     alloc: Global,
     words: &[String],

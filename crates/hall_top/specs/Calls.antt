@@ -54,8 +54,8 @@ SaysWhy why before now status =
     (WroteAll before now (line_of why) × (status ≡ status_for why))
     ⊎ (IsCutIn before now [] (line_of why) × (status ≡ 5))
 
--- The disk wasn't opened as a book: nothing was read, and one line says why. A disk that holds a book
--- is then as it was, or a crash leaves the book.
+-- The disk wasn't opened as a book: nothing was read, and one line says why. A disk that holds a
+-- book is then as it was, or a crash leaves the book.
 pub record IsUnopened {S D : Type 0} (disk : disk.Ghosts D) (before : D) (ended : Ended D)
     (call : Call S) : Type 0 where
   pub why : MountError
@@ -67,9 +67,9 @@ pub record IsUnopened {S D : Type 0} (disk : disk.Ghosts D) (before : D) (ended 
       (held : List Entry) → HoldsBook held bytes → IsLegal held → IsPassing why
       × (KeepsFromSync disk before ended.disk (HoldsBook held) ⊎ IsUnmoved disk before ended.disk))
 
--- what is left of a disk that held a book: its rows begin with those; each crash from the first sync
--- on leaves what it may; and at the end one leaves the rows, or, only where the disk failed, the rows
--- and one more that was offered
+-- what is left of a disk that held a book: its rows begin with those; each crash from the first
+-- sync on leaves what it may; and at the end one leaves the rows, or, only where the disk failed,
+-- the rows and one more that was offered
 pub record KeepsRows {D : Type 0} (disk : disk.Ghosts D) (held : List Entry) (before : D)
     (ended : Ended D) : Type 0 where
   pub same : take ended.held ended.rows ≡ held
@@ -85,18 +85,20 @@ CountsEnd before now DiskFault = Counted before now 1
 CountsEnd before now WriteFault = (now ≡ before) ⊎ Counted before now 1
 CountsEnd before now _ = now ≡ before
 
--- The disk was opened as a book, and the command ended in one of its ways, which has its status. What
--- `Explains` says of that way is the command's own meaning over the book as it was opened. A command
--- that is done and added rows leaves a snapshot of them all; one that added none, and that no failure
--- stopped, leaves every byte of a disk with a snapshot.
+-- The disk was opened as a book, and the command ended in one of its ways, which has its status.
+-- What `Explains` says of that way is the command's own meaning over the book as it was opened. A
+-- command that is done and added rows leaves a snapshot of them all; one that added none, and that
+-- no failure stopped, leaves every byte of a disk with a snapshot.
 pub record IsOpened {S D : Type 0} (disk : disk.Ghosts D) (limit : ℕ)
     (Explains : BookState → Call S → Stop → Type 0) (status_of : Stop → ℕ) (before : D)
     (ended : Ended D) (call : Call S) : Type 0 where
   pub few : ended.held ≤ length ended.rows
-  pub opened : WhereTold (disk.reads before) (λ bytes. IsOpenedAs bytes (take ended.held ended.rows))
+  pub opened : WhereTold (disk.reads before) (λ bytes.
+      IsOpenedAs bytes (take ended.held ended.rows))
   pub stop : Stop
   pub status : ended.status ≡ status_of stop
-  pub explained : Explains (record { limit = limit; entries = take ended.held ended.rows }) call stop
+  pub explained :
+      Explains (record { limit = limit; entries = take ended.held ended.rows }) call stop
   pub cause : CountsEnd (disk.faults before) (disk.faults ended.disk) stop
   pub kept : WhereTold (disk.reads before) (λ bytes.
       (held : List Entry) → HoldsBook held bytes → IsLegal held → KeepsRows disk held before ended)
@@ -142,8 +144,8 @@ ExplainsCommand Run book call stop = ExplainsRun book call stop
 ExplainsCommand Check book call stop = ExplainsCheck book call stop
 ExplainsCommand Migrate book call stop = ExplainsMigration book call stop
 
--- A call with right words: the disk was opened as a book and the command ended in one of its ways, or
--- it wasn't opened.
+-- A call with right words: the disk was opened as a book and the command ended in one of its ways,
+-- or it wasn't opened.
 abbrev pub EndsAs : {S D : Type 0} → disk.Ghosts D → Wanted → D → Ended D → Call S → Type 0
 EndsAs disk wanted before ended call =
     IsOpened disk wanted.limit (ExplainsCommand wanted.command) status_of before ended call

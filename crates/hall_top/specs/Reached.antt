@@ -15,8 +15,8 @@ use Rattle.hall_top.specs.Transcript.{BookState, after_commands, answers, ended_
 use Rattle.hall_top.specs.Streams.{Stream, Devices, IsCalm, WroteAll, IsCutIn}
 use Rattle.hall_top.specs.Run.{StopsInScript, HasLine, HasTranscript, EndsEarly}
 
--- a run at one moment: its book, how many rows that had as it was opened, how many lines have ended,
--- and the line that has begun
+-- a run at one moment: its book, how many rows that had as it was opened, how many lines have
+-- ended, and the line that has begun
 pub record RunState : Type 0 where
   pub book : BookState
   pub opened : ℕ
@@ -95,7 +95,8 @@ StopsOrEnds book before now rows stop script =
 abbrev pub EndsScript : BookState → Stream → Stream → List Entry → List ℕ → Stop → Type 0
 EndsScript book before now rows script Finished = HasTranscript book before now rows script
 EndsScript book before now rows script BadLine = StopsInScript book before now rows BadLine script
-EndsScript book before now rows script WriteFault = StopsOrEnds book before now rows WriteFault script
+EndsScript book before now rows script WriteFault =
+    StopsOrEnds book before now rows WriteFault script
 EndsScript book before now rows script DiskFault = StopsOrEnds book before now rows DiskFault script
 EndsScript book before now rows script NoMemory = StopsOrEnds book before now rows NoMemory script
 EndsScript book before now rows script _ = ⊥

@@ -71,8 +71,8 @@ pub record FindsDiskFault (book : BookState) (rows : List Entry) (commands : Lis
   pub rows_left : AreLeft book commands rows
 
 -- how a run stops at the line of a number, after these commands: at a bad line, in a failed write,
--- where the disk fails at a command, or where there is no memory for it; no other line stops it, and
--- none in another way
+-- where the disk fails at a command, or where there is no memory for it; no other line stops it,
+-- and none in another way
 abbrev pub StopsAtLine : BookState → Stream → Stream → List Entry → List Command → ℕ → Line
     → Stop → Type 0
 StopsAtLine book before now rows commands number Bad BadLine =
@@ -232,8 +232,8 @@ pub record IsWriteFault {S : Type 0} (book : BookState) (call : Call S) : Type 0
   pub cause : HasFailed call.before.output call.now.output
   pub calm : IsCalm call.before.input call.now.input
 
--- status 6: the disk failed, at a command or at the end; the commands before are answered, then comes
--- one line, and nothing else failed
+-- status 6: the disk failed, at a command or at the end; the commands before are answered, then
+-- comes one line, and nothing else failed
 pub record IsDiskFault {S : Type 0} (book : BookState) (call : Call S) : Type 0 where
   pub stops : StopsInInput book call DiskFault ⊎ StopsAtEnd book call DiskFault
   pub calm : IsCalm call.before.input call.now.input

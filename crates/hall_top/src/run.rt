@@ -29,8 +29,8 @@ impl<D: Disk> Run<D> {
     ghost use Rattle.hall_top.specs.Runs.{run_state};
     ghost use Rattle.hall_top.specs.Reached.{Reached, Steps, IsWholeSoFar, EndsScript};
 
-    /// A run over a store that was given nothing, with room for all that it keeps but the entries of
-    /// its book; or the store where there is no memory for it.
+    /// A run over a store that was given nothing, with room for all that it keeps but the entries
+    /// of its book; or the store where there is no memory for it.
     pub fn new(alloc: Global, store: Store<D>) -> Result<Run<D>, Store<D>>
         requires sound { IsSound D.Disk store }
         requires legal { IsLegal (entries_of store) }
@@ -118,7 +118,8 @@ impl<D: Disk> Run<D> {
             → Reached book before (output_at K.Sink output.old) taken (run_state self.old)
             → EndsScript book before (output_at K.Sink output.new)
             (entries_of (store_in self.new.session)) taken result }
-        ensures goes { GoesTo D.Disk result (store_in self.old.session) (store_in self.new.session) }
+        ensures goes { GoesTo D.Disk result
+            (store_in self.old.session) (store_in self.new.session) }
         ensures ready { IsReady D.Disk self.new.session }
     {
         match self.finish_line(output) {
@@ -154,10 +155,12 @@ impl<D: Disk> Run<D> {
         requires ready { IsReady D.Disk self.old.session }
         ensures ends { (book : BookState) (before : Stream) (taken : List ℕ)
             → opened_at self.old.session ≡ length book.entries
-            → IsWholeSoFar book before (output_at K.Sink output.old) taken (book_in self.old.session)
+            → IsWholeSoFar book before (output_at K.Sink output.old) taken
+            (book_in self.old.session)
             → EndsScript book before (output_at K.Sink output.new)
             (entries_of (store_in self.new.session)) taken result }
-        ensures goes { GoesTo D.Disk result (store_in self.old.session) (store_in self.new.session) }
+        ensures goes { GoesTo D.Disk result
+            (store_in self.old.session) (store_in self.new.session) }
         ensures ready { IsReady D.Disk self.new.session }
     {
         match self.session.finish(output) {

@@ -91,12 +91,13 @@ impl<D: Disk> Session<D> {
         write_bad_line(number, &mut self.text, output)
     }
 
-    /// Ends a run whose script was read and answered to its end: where rows were added, a snapshot of
-    /// the book is kept first; then comes the summary of the list as it stands.
+    /// Ends a run whose script was read and answered to its end: where rows were added, a snapshot
+    /// of the book is kept first; then comes the summary of the list as it stands.
     pub fn finish<K: Sink>(&mut self, output: &mut K) -> Result<(), Stop>
         requires ready { IsReady D.Disk self.old }
         ensures wrote { OnOk result (WroteAll (output_at K.Sink output.old)
-            (output_at K.Sink output.new) (summary_text (summary (entries_of (store_in self.old))))) }
+            (output_at K.Sink output.new)
+            (summary_text (summary (entries_of (store_in self.old))))) }
         ensures stops { IfErr result (StopsAtSummary (opened_at self.old)
             (output_at K.Sink output.old) (output_at K.Sink output.new)
             (entries_of (store_in self.old))) }
