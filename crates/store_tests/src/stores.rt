@@ -184,7 +184,8 @@ impl<D: Disk> TestStore<D> {
             && self.repeats_last(entries)
             && self.take_to(entries, way.rows)
             && self.has_front(entries)
-            && self.keep(way.rests);
+            && self.keep(way.rests)
+            && self.store.opened() == held;
         Seen {
             held,
             right,
