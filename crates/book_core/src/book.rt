@@ -15,7 +15,7 @@ use crate::pending::Pending;
 use crate::ready::Ready;
 use crate::rows::Rows;
 use crate::types::{BookError, NoMemory, ReplayError, Step};
-use book_rules::{recorded_signal, refuse, refuse_desk, repeated_row, reply_again, reply_new};
+use book_rules::{recorded_signal, refuse, desk_number, repeated_row, reply_again, reply_new};
 use book_state::{Drawn, State};
 use book_views::{look, summarize, view_pack};
 use book_words::{Act, Answered, Ask, Entry, PackView, Question, Refused, SummaryView, Want};
@@ -165,7 +165,7 @@ impl Book {
         ensures { result ≡ decision limit self.now.entries ask.now act.now }
     {
         let at = self.state.len();
-        if let Some(refusal) = refuse_desk(ask, act) {
+        if let Some(refusal) = desk_number(ask, act) {
             return Err(BookError::Refused(Refused { at, refusal }));
         }
         if let Some(row) = repeated_row(&self.state, ask, act) {
