@@ -19,7 +19,7 @@ use Rattle.book_core.specs.declared.types.Step.TheVariants.{New, Known}
 use Rattle.book_core.specs.declared.types.BookError.{BookError}
 use Rattle.book_core.specs.declared.types.BookError.TheVariants as error
 use Rattle.book_core.specs.View.{ReadyEntry, BookView}
-use Rattle.book_core.specs.Steps.{asked_act, ready_for, step_by, step_for, decision_by, decision, GivesUnlessNoMemory, HasNoRoom, MayLackMemory, handed_on, GivesAnswer, TellsLeast, list_behind}
+use Rattle.book_core.specs.Steps.{asked_act, numbered_entry, decided_step, step_for, desk_decision, decision, GivesUnlessNoMemory, HasNoRoom, MayLackMemory, handed_on, GivesAnswer, TellsLeast, list_behind}
 use Rattle.book_core.proofs.Decided.{answered_by, answer_is, never_lacks, least_told, lawful_answer}
 
 -- the entry that a decision adds
@@ -32,7 +32,7 @@ unless_refused None refusal entry = refl
 unless_refused (Some row) refusal entry = refl
 
 added_parts : (limit by : ℕ) (entries : List Entry) (ask : Ask) (act : Act) (entry : Entry) (d : Option Refusal) (row : Option ℕ) (f : Option Refusal)
-    → desk_number ask act ≡ d → refusal_of limit entries ask act ≡ f → entry_unless row f entry ≡ added_by entry (decision_by entries act d row f)
+    → desk_number ask act ≡ d → refusal_of limit entries ask act ≡ f → entry_unless row f entry ≡ added_by entry (desk_decision entries act d row f)
 added_parts limit by entries ask act entry (Some x) row f desk rule =
     let told : refusal_of limit entries ask act ≡ Some x =
     ap (λ o. option_or o (first_refusal (request_old entries ask ∷ request_reused entries ask act ∷ request_gap entries ask ∷ book_full limit entries ∷ refusals_of entries act))) desk in
@@ -69,7 +69,7 @@ not_so : false ≡ true → ⊥
 not_so h = cc
 
 error_by : (book : BookView) (act : Act) (ready : ReadyEntry) (entry : Entry) (new : Answered) (d : Result (Option Answered) BookError) (e : BookError)
-    → GivesUnlessNoMemory book act (Err e) (step_by ready d) → ErrorSays (IsSome (added_by entry d) × HasNoRoom book act) new e d
+    → GivesUnlessNoMemory book act (Err e) (decided_step ready d) → ErrorSays (IsSome (added_by entry d) × HasNoRoom book act) new e d
 error_by book act ready entry new (Ok None) error.NoMemory h = (refl, h.1)
 error_by book act ready entry new (Ok None) (error.Refused refused) h = absurd (cc)
 error_by book act ready entry new (Ok (Some known)) error.NoMemory h = absurd (not_so h.0)
@@ -88,16 +88,16 @@ pub error_answer : (book : BookView) (by : ℕ) (ask : Ask) (act : Act) (step : 
     → GivesAnswer (MayLackMemory book by ask ask.want) (Err e) (answer book.limit book.entries ask)
 error_answer book by ask act step e wants is exact =
     let d = decision book.limit book.entries ask act in
-    let ready = ready_for book.entries by (asked_act ask.desk ask.request act) act in
+    let ready = numbered_entry book.entries by (asked_act ask.desk ask.request act) act in
     let entry = entry_for book.entries by ask act in
-    let given = subst (λ (s : Result Step BookError). GivesUnlessNoMemory book act s (step_by ready d)) is exact in
+    let given = subst (λ (s : Result Step BookError). GivesUnlessNoMemory book act s (decided_step ready d)) is exact in
     let says = error_by book act ready entry (accepted book.entries act) d e given in
     let may = subst (λ (o : Option Entry). ErrorSays (IsSome o × HasNoRoom book act) (accepted book.entries act) e d) (sym (added_is book.limit by book.entries ask act wants)) says in
     gives_error (MayLackMemory book by ask ask.want) (accepted book.entries act) e (answer book.limit book.entries ask) d (told_is book.limit book.entries ask act wants)
     (subst (λ (w : Want). ErrorSays (MayLackMemory book by ask w) (accepted book.entries act) e d) (sym wants) may)
 
 error_list_by : (book : BookView) (act : Act) (entries : List Entry) (ready : ReadyEntry) (entry : Entry) (d : Result (Option Answered) BookError) (e : BookError)
-    → GivesUnlessNoMemory book act (Err e) (step_by ready d) → entries ≡ list_behind (Err e) entries (added_by entry d)
+    → GivesUnlessNoMemory book act (Err e) (decided_step ready d) → entries ≡ list_behind (Err e) entries (added_by entry d)
 error_list_by book act entries ready entry (Ok None) error.NoMemory h = refl
 error_list_by book act entries ready entry (Ok None) (error.Refused refused) h = absurd (cc)
 error_list_by book act entries ready entry (Ok (Some known)) error.NoMemory h = refl
@@ -111,8 +111,8 @@ pub error_list : (book : BookView) (by : ℕ) (ask : Ask) (act : Act) (step : Re
     → book.entries ≡ list_behind (Err e) book.entries (added book.limit book.entries by ask)
 error_list book by ask act step e wants is exact =
     let d = decision book.limit book.entries ask act in
-    let ready = ready_for book.entries by (asked_act ask.desk ask.request act) act in
-    let given = subst (λ (s : Result Step BookError). GivesUnlessNoMemory book act s (step_by ready d)) is exact in
+    let ready = numbered_entry book.entries by (asked_act ask.desk ask.request act) act in
+    let given = subst (λ (s : Result Step BookError). GivesUnlessNoMemory book act s (decided_step ready d)) is exact in
     error_list_by book act book.entries ready (entry_for book.entries by ask act) d e given
     ∙ ap (λ (o : Option Entry). list_behind (Err e) book.entries o) (sym (added_is book.limit by book.entries ask act wants))
 
@@ -122,7 +122,7 @@ new_step r = Ok (New r)
 new_injective : (a b : ReadyEntry) → new_step a ≡ new_step b → a ≡ b
 new_injective a b h = cc
 
-new_by : (book : BookView) (act : Act) (ready given : ReadyEntry) (d : Result (Option Answered) BookError) → GivesUnlessNoMemory book act (Ok (New given)) (step_by ready d) → (d ≡ Ok None) × (given ≡ ready)
+new_by : (book : BookView) (act : Act) (ready given : ReadyEntry) (d : Result (Option Answered) BookError) → GivesUnlessNoMemory book act (Ok (New given)) (decided_step ready d) → (d ≡ Ok None) × (given ≡ ready)
 new_by book act ready given (Ok None) h = (refl, new_injective given ready h)
 new_by book act ready given (Ok (Some known)) h = absurd (cc)
 new_by book act ready given (Err other) h = absurd (cc)
@@ -130,17 +130,17 @@ new_by book act ready given (Err other) h = absurd (cc)
 -- what is ready is the entry of the act, which is decided to be new
 pub ready_is : (book : BookView) (by : ℕ) (ask : Ask) (act : Act) (step : Result Step BookError) (new : Step) (given : ReadyEntry) → step ≡ Ok new → new ≡ New given
     → GivesUnlessNoMemory book act step (step_for book by ask.desk ask.request act)
-    → (decision book.limit book.entries ask act ≡ Ok None) × (given ≡ ready_for book.entries by ask act)
+    → (decision book.limit book.entries ask act ≡ Ok None) × (given ≡ numbered_entry book.entries by ask act)
 ready_is book by ask act step new given is is_new exact =
     let d = decision book.limit book.entries ask act in
-    let ready = ready_for book.entries by (asked_act ask.desk ask.request act) act in
+    let ready = numbered_entry book.entries by (asked_act ask.desk ask.request act) act in
     let whole : step ≡ Ok (New given) = is ∙ ap (λ (s : Step). Ok s) is_new in
-    new_by book act ready given d (subst (λ (s : Result Step BookError). GivesUnlessNoMemory book act s (step_by ready d)) whole exact)
+    new_by book act ready given d (subst (λ (s : Result Step BookError). GivesUnlessNoMemory book act s (decided_step ready d)) whole exact)
 
 -- what was entered is answered as the ask: what a book of the most rows answers a lawful entry, this
 -- book answers too
 pub new_answer : (book : BookView) (by : ℕ) (entries : List Entry) (ask : Ask) (act : Act) (given : ReadyEntry) (answered : Answered) → ask.want ≡ want.Act act
-    → (decision book.limit book.entries ask act ≡ Ok None) × (given ≡ ready_for book.entries by ask act) → entries ≡ book.entries → IsLawful entries given.entry
+    → (decision book.limit book.entries ask act ≡ Ok None) × (given ≡ numbered_entry book.entries by ask act) → entries ≡ book.entries → IsLawful entries given.entry
     → Ok answered ≡ answer MAX_ROWS entries (asked_act given.entry.desk given.entry.request given.entry.act)
     → Ok answered ≡ handed_on (answer book.limit book.entries ask)
 new_answer book by entries ask act given answered wants is same lawful told =
@@ -152,7 +152,7 @@ new_answer book by entries ask act given answered wants is same lawful told =
 
 -- and its entry is the one that the ask adds
 pub new_list : (book : BookView) (by : ℕ) (list : List Entry) (ask : Ask) (act : Act) (given : ReadyEntry) → ask.want ≡ want.Act act
-    → (decision book.limit book.entries ask act ≡ Ok None) × (given ≡ ready_for book.entries by ask act) → list ≡ book.entries ++ given.entry ∷ []
+    → (decision book.limit book.entries ask act ≡ Ok None) × (given ≡ numbered_entry book.entries by ask act) → list ≡ book.entries ++ given.entry ∷ []
     → list ≡ book.entries ++ cons_option (added book.limit book.entries by ask) []
 new_list book by list ask act given wants is entered =
     entered ∙ ap (λ (r : ReadyEntry). book.entries ++ r.entry ∷ []) is.1
@@ -160,7 +160,7 @@ new_list book by list ask act given wants is entered =
     ∙ ap (λ (o : Option Entry). book.entries ++ cons_option o []) (sym (added_is book.limit by book.entries ask act wants))
 
 known_by : (book : BookView) (act : Act) (ready : ReadyEntry) (answered : Answered) (d : Result (Option Answered) BookError)
-    → GivesUnlessNoMemory book act (Ok (Known answered)) (step_by ready d) → d ≡ Ok (Some answered)
+    → GivesUnlessNoMemory book act (Ok (Known answered)) (decided_step ready d) → d ≡ Ok (Some answered)
 known_by book act ready answered (Ok None) h = absurd (cc)
 known_by book act ready answered (Ok (Some known)) h = ap (λ (a : Answered). Ok (Some a)) (sym (same answered known h))
   where
@@ -173,9 +173,9 @@ pub known_is : (book : BookView) (by : ℕ) (ask : Ask) (act : Act) (step : Resu
     → GivesUnlessNoMemory book act step (step_for book by ask.desk ask.request act) → decision book.limit book.entries ask act ≡ Ok (Some answered)
 known_is book by ask act step known answered is is_known exact =
     let d = decision book.limit book.entries ask act in
-    let ready = ready_for book.entries by (asked_act ask.desk ask.request act) act in
+    let ready = numbered_entry book.entries by (asked_act ask.desk ask.request act) act in
     let whole : step ≡ Ok (Known answered) = is ∙ ap (λ (s : Step). Ok s) is_known in
-    known_by book act ready answered d (subst (λ (s : Result Step BookError). GivesUnlessNoMemory book act s (step_by ready d)) whole exact)
+    known_by book act ready answered d (subst (λ (s : Result Step BookError). GivesUnlessNoMemory book act s (decided_step ready d)) whole exact)
 
 -- a repeat is answered so
 pub known_answer : (book : BookView) (ask : Ask) (act : Act) (answered : Answered) → ask.want ≡ want.Act act → decision book.limit book.entries ask act ≡ Ok (Some answered)
@@ -197,7 +197,7 @@ pub error_gives : (book : BookView) (by desk request : ℕ) (act : Act) (e : Boo
     → GivesUnlessNoMemory book act (Err e) (step_for book by desk request act)
 error_gives book by desk request act error.NoMemory is = absurd (never_lacks book.limit book.entries (asked_act desk request act) act (sym is))
 error_gives book by desk request act (error.Refused refused) is =
-    ap (step_by (ready_for book.entries by (asked_act desk request act) act)) is
+    ap (decided_step (numbered_entry book.entries by (asked_act desk request act) act)) is
 
 -- and has the least number of all that hold
 pub error_least : (book : BookView) (desk request : ℕ) (act : Act) (e : BookError)

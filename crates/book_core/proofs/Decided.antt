@@ -18,7 +18,7 @@ use Rattle.book_words.specs.Answers.{refused_at, accepted, desk_answer, act_answ
 use Rattle.book_words.proofs.RefusalLemmas.{none_of_two, none_of_parts, least_refusal}
 use Rattle.book_core.specs.declared.types.BookError.{BookError}
 use Rattle.book_core.specs.declared.types.BookError.TheVariants as error
-use Rattle.book_core.specs.Steps.{decision_by, decision, handed_on}
+use Rattle.book_core.specs.Steps.{desk_decision, decision, handed_on}
 
 -- an act that is neither refused nor known
 pub record IsFree (limit : ℕ) (entries : List Entry) (ask : Ask) (act : Act) : Type 0 where
@@ -27,7 +27,7 @@ pub record IsFree (limit : ℕ) (entries : List Entry) (ask : Ask) (act : Act) :
   pub free : refusal_of limit entries ask act ≡ None
 
 nothing : (entries : List Entry) (act : Act) (by_desk : Option Refusal) (row : Option ℕ) (by_rule : Option Refusal)
-    → decision_by entries act by_desk row by_rule ≡ Ok None → (by_desk ≡ None) × (row ≡ None) × (by_rule ≡ None)
+    → desk_decision entries act by_desk row by_rule ≡ Ok None → (by_desk ≡ None) × (row ≡ None) × (by_rule ≡ None)
 nothing entries act (Some d) row by_rule h = absurd (cc)
 nothing entries act None (Some row) by_rule h = absurd (cc)
 nothing entries act None None (Some f) h = absurd (cc)
@@ -40,7 +40,7 @@ is_free limit entries ask act h =
 
 -- such an act is decided to be new
 pub free_decides : (limit : ℕ) (entries : List Entry) (ask : Ask) (act : Act) → IsFree limit entries ask act → decision limit entries ask act ≡ Ok None
-free_decides limit entries ask act free = λ i. decision_by entries act (free.desk i) (free.new i) (free.free i)
+free_decides limit entries ask act free = λ i. desk_decision entries act (free.desk i) (free.new i) (free.free i)
 
 -- there is room in the book for it
 pub has_room : (limit : ℕ) (entries : List Entry) (ask : Ask) (act : Act) → refusal_of limit entries ask act ≡ None → length entries < limit
@@ -118,7 +118,7 @@ same_refusal entries refusal refused h = ap (λ (r : Refused). r.refusal) h
 
 least_by : (limit : ℕ) (entries : List Entry) (ask : Ask) (act : Act) (refused : Refused) (by_desk : Option Refusal) (row : Option ℕ) (by_rule : Option Refusal)
     → desk_number ask act ≡ by_desk → refusal_of limit entries ask act ≡ by_rule
-    → decision_by entries act by_desk row by_rule ≡ Err (error.Refused refused)
+    → desk_decision entries act by_desk row by_rule ≡ Err (error.Refused refused)
     → EachFrom (refusal_number refused.refusal) (desk_refusals entries ask act ++ book_full limit entries ∷ refusals_of entries act)
 least_by limit entries ask act refused (Some d) row by_rule desk rule h =
     let told : refusal_of limit entries ask act ≡ Some d =
@@ -140,7 +140,7 @@ least_told limit entries ask act refused h =
 pub never_lacks : (limit : ℕ) (entries : List Entry) (ask : Ask) (act : Act) → decision limit entries ask act ≡ Err error.NoMemory → ⊥
 never_lacks limit entries ask act h = by_parts (desk_number ask act) (repeated_row entries ask act) (refusal_of limit entries ask act) h
   where
-    by_parts : (d : Option Refusal) (row : Option ℕ) (f : Option Refusal) → decision_by entries act d row f ≡ Err error.NoMemory → ⊥
+    by_parts : (d : Option Refusal) (row : Option ℕ) (f : Option Refusal) → desk_decision entries act d row f ≡ Err error.NoMemory → ⊥
     by_parts (Some d) row f h = cc
     by_parts None (Some row) f h = cc
     by_parts None None (Some f) h = cc
@@ -153,7 +153,7 @@ answered_by new (Ok (Some known)) = Ok known
 answered_by new (Ok None) = Ok new
 
 answer_parts : (entries : List Entry) (act : Act) (d : Option Refusal) (row : Option ℕ) (f : Option Refusal)
-    → handed_on (desk_answer entries act d row f) ≡ answered_by (accepted entries act) (decision_by entries act d row f)
+    → handed_on (desk_answer entries act d row f) ≡ answered_by (accepted entries act) (desk_decision entries act d row f)
 answer_parts entries act (Some d) row f = refl
 answer_parts entries act None (Some row) f = refl
 answer_parts entries act None None (Some f) = refl

@@ -14,7 +14,7 @@ use Rattle.book_core.specs.declared.pending.Pending.{Pending}
 use Rattle.book_core.specs.View.{ReadyEntry}
 use Rattle.book_core.specs.Steps.{asked_act, decision}
 use Rattle.book_core.specs.Keeping.{IsReadyIn}
-use Rattle.book_core.specs.Holding.{ready_in, IsKept}
+use Rattle.book_core.specs.Holding.{pending_entry, IsKept}
 use Rattle.book_core.proofs.Decided.{is_free, has_room, all_rules, lawful_answer}
 
 -- what is ready over a list is ready over the same list with at least as much room
@@ -40,10 +40,10 @@ some_is : {A : Type 0} {a b : A} → Some a ≡ Some b → a ≡ b
 some_is h = cc
 
 -- what is held is what was made ready
-pub held_is : (state : StateView) (limit : ℕ) (pending : Option Pending) (held : Pending) (ready : ReadyEntry) → IsKept state limit pending → pending ≡ Some held → ready_in pending ≡ Some ready
+pub held_is : (state : StateView) (limit : ℕ) (pending : Option Pending) (held : Pending) (ready : ReadyEntry) → IsKept state limit pending → pending ≡ Some held → pending_entry pending ≡ Some ready
     → IsReadyIn state ready held.drawn
 held_is state limit pending held ready kept is told =
-    subst (λ (r : ReadyEntry). IsReadyIn state r held.drawn) (some_is (sym (ap ready_in is) ∙ told)) (kept.ready held is)
+    subst (λ (r : ReadyEntry). IsReadyIn state r held.drawn) (some_is (sym (ap pending_entry is) ∙ told)) (kept.ready held is)
 
 -- a book with one lawful entry more, and nothing ready
 pub entered : (new : StateView) (entries : List Entry) (entry : Entry) (limit : ℕ) (pending : Option Pending) → new.entries ≡ entries ++ entry ∷ [] → pending ≡ None

@@ -8,8 +8,8 @@ use Rattle.book_core.specs.View.{ReadyEntry}
 use Rattle.book_core.specs.Keeping.{IsReadyIn}
 
 -- the entry that is ready
-abbrev pub ready_in : Option Pending → Option ReadyEntry
-ready_in pending = option_map (λ held. held.ready) pending
+abbrev pub pending_entry : Option Pending → Option ReadyEntry
+pending_entry pending = option_map (λ held. held.ready) pending
 
 -- its list is legal, the limit is one that a book may have, and what was made ready is so still
 pub record IsKept (state : StateView) (limit : ℕ) (pending : Option Pending) : Type 0 where

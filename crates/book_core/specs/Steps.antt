@@ -32,42 +32,42 @@ abbrev pub asked_question : Question → Ask
 asked_question question = record { desk = 0; request = 0; want = want.Question question }
 
 -- the entry that an act will be, with its row
-abbrev pub ready_for : List Entry → ℕ → Ask → Act → ReadyEntry
-ready_for entries by ask act =
+abbrev pub numbered_entry : List Entry → ℕ → Ask → Act → ReadyEntry
+numbered_entry entries by ask act =
     record { number = length entries + 1; entry = entry_for entries by ask act }
 
 -- a repeat is told again, any other act that isn't refused is new
-abbrev pub decision_unless :
+abbrev pub repeat_decision :
     List Entry → Act → Option ℕ → Option Refusal → Result (Option Answered) BookError
-decision_unless entries act (Some row) refusal = Ok (Some (told_again entries row act))
-decision_unless entries act None (Some refusal) = Err (error.Refused (refused_at entries refusal))
-decision_unless entries act None None = Ok None
+repeat_decision entries act (Some row) refusal = Ok (Some (told_again entries row act))
+repeat_decision entries act None (Some refusal) = Err (error.Refused (refused_at entries refusal))
+repeat_decision entries act None None = Ok None
 
 -- a wrong desk is refused before anything else is looked at
-abbrev pub decision_by :
+abbrev pub desk_decision :
     List Entry → Act → Option Refusal → Option ℕ → Option Refusal
     → Result (Option Answered) BookError
-decision_by entries act (Some by_desk) row by_rule =
+desk_decision entries act (Some by_desk) row by_rule =
     Err (error.Refused (refused_at entries by_desk))
-decision_by entries act None row by_rule = decision_unless entries act row by_rule
+desk_decision entries act None row by_rule = repeat_decision entries act row by_rule
 
 -- whether an act is refused, and what it is told where it is a repeat
 abbrev pub decision : ℕ → List Entry → Ask → Act → Result (Option Answered) BookError
 decision limit entries ask act =
-    decision_by entries act (desk_number ask act) (repeated_row entries ask act)
+    desk_decision entries act (desk_number ask act) (repeated_row entries ask act)
     (refusal_of limit entries ask act)
 
 -- a refused act is answered its refusal, a repeat is known, and any other act is ready
-abbrev pub step_by : ReadyEntry → Result (Option Answered) BookError → Result Step BookError
-step_by ready (Err refused) = Err refused
-step_by ready (Ok (Some answered)) = Ok (Known answered)
-step_by ready (Ok None) = Ok (New ready)
+abbrev pub decided_step : ReadyEntry → Result (Option Answered) BookError → Result Step BookError
+decided_step ready (Err refused) = Err refused
+decided_step ready (Ok (Some answered)) = Ok (Known answered)
+decided_step ready (Ok None) = Ok (New ready)
 
 -- what making an act ready gives
 abbrev pub step_for : BookView → ℕ → ℕ → ℕ → Act → Result Step BookError
 step_for book by desk request act =
     let ask = asked_act desk request act in
-    step_by (ready_for book.entries by ask act) (decision book.limit book.entries ask act)
+    decided_step (numbered_entry book.entries by ask act) (decision book.limit book.entries ask act)
 
 -- what a step has made ready
 abbrev pub made_ready : Result Step BookError → Option ReadyEntry

@@ -8,14 +8,14 @@ ghost use Rattle.book_words.specs.Views.{pack_view, summary};
 ghost use Rattle.book_words.specs.Answers.{answer, added, IsLawful, IsLegal};
 ghost use Rattle.book_words.specs.Balance.{MovesOnly};
 ghost use Rattle.book_words.specs.Soundness.{IsSound};
-ghost use Rattle.book_core.specs.Steps.{asked_act, asked_question, step_for, GivesUnlessNoMemory, made_ready, TellsLeast, pending_after, GivesAnswer, GivesLook, MayLackMemory, list_behind, decision, ready_for, is_weighing, HasNoRoom};
+ghost use Rattle.book_core.specs.Steps.{asked_act, asked_question, step_for, GivesUnlessNoMemory, made_ready, TellsLeast, pending_after, GivesAnswer, GivesLook, MayLackMemory, list_behind, decision, numbered_entry, is_weighing, HasNoRoom};
 ghost use Rattle.book_state.specs.Told.{entry_numbered};
 
 use crate::pending::Pending;
 use crate::ready::Ready;
 use crate::rows::Rows;
 use crate::types::{BookError, NoMemory, ReplayError, Step};
-use book_rules::{recorded_signal, refuse, refuse_desk, repeated_row, reply_again, reply_new};
+use book_rules::{desk_number, recorded_signal, refuse, repeated_row, reply_again, reply_new};
 use book_state::{Drawn, State};
 use book_views::{look, summarize, view_pack};
 use book_words::{Act, Answered, Ask, Entry, PackView, Question, Refused, SummaryView, Want};
@@ -41,12 +41,12 @@ impl Model for Book {
 
     ghost Value = { BookView };
 
-    ghost use Rattle.book_core.specs.Holding.{ready_in, IsKept};
+    ghost use Rattle.book_core.specs.Holding.{pending_entry, IsKept};
 
     ghost view = { λ b. record {
       entries = b.state.entries;
       limit = b.limit;
-      pending = ready_in b.pending;
+      pending = pending_entry b.pending;
       spare = b.state.spare;
     } };
 
@@ -140,7 +140,7 @@ impl Book {
             act.now ≡ Ok None }
         requires empty { self.old.pending ≡ None }
         ensures gives { GivesUnlessNoMemory self.old act.now result (Ok (Step.New
-            (ready_for self.old.entries by (asked_act desk request act.now) act.now))) }
+            (numbered_entry self.old.entries by (asked_act desk request act.now) act.now))) }
         ensures pending { self.new.pending ≡ made_ready result }
         ensures entries { self.new.entries ≡ self.old.entries }
         ensures limit { self.new.limit ≡ self.old.limit }
@@ -165,7 +165,7 @@ impl Book {
         ensures { result ≡ decision limit self.now.entries ask.now act.now }
     {
         let at = self.state.len();
-        if let Some(refusal) = refuse_desk(ask, act) {
+        if let Some(refusal) = desk_number(ask, act) {
             return Err(BookError::Refused(Refused { at, refusal }));
         }
         if let Some(row) = repeated_row(&self.state, ask, act) {

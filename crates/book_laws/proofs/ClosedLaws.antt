@@ -14,7 +14,7 @@ use Rattle.book_words.specs.declared.act.Entry.{Entry}
 use Rattle.book_words.specs.declared.act.Reading.{Reading}
 use Rattle.book_words.specs.Names.{same_name}
 use Rattle.book_words.specs.Acts.{prior_told, is_void_of, state_of, same_state, last_batch, lane_batch}
-use Rattle.book_words.specs.Readings.{readings, reading_from, reading_of, is_of_batch}
+use Rattle.book_words.specs.Readings.{readings, weighed_reading, reading_of, is_of_batch}
 use Rattle.book_words.specs.Population.{is_counted, readings_of_batch, population}
 use Rattle.book_words.specs.Measures.{measured_by, measured_of}
 use Rattle.book_words.specs.Refusals as rules
@@ -96,7 +96,7 @@ all_unmoved entries act batch right h closed k d less of_batch =
     unmoved entries act batch right h closed reading (right.waiting k d less) ((numbered entries).found k d less) (batch_is batch reading.batch of_batch)
 
 own_apart : (entries : List Entry) (entry : Entry) (act : Act) (batch : Name) → AreLanesRight entries → IsAllowed entries act → state_of entries batch ≡ Some Closed
-    → All (λ reading. is_of_batch batch reading ≡ false) (cons_option (reading_from (length entries + 1) entries act entry.signal []) [])
+    → All (λ reading. is_of_batch batch reading ≡ false) (cons_option (weighed_reading (length entries + 1) entries act entry.signal []) [])
 own_apart entries entry (Weigh lane gross prior) batch right h closed =
     let a = none_of_two (rules.day_unset entries) _ h in
     let b = none_of_two (rules.lane_number lane) _ a.1 in

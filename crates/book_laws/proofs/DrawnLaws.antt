@@ -195,9 +195,9 @@ draws_second entries batch word legal h = each (drawing_of entries batch) refl (
         let tells = draw_second_tells entries batch word h in
         let sample : Sample = sample_by drawing (last_said (second_word batch) entries) in
         let has : sample_of entries batch ≡ Some sample = ap (option_map (λ (d : Drawing). sample_by d (last_said (second_word batch) entries))) is in
-        let needed : rules.is_second_needless entries batch sample ≡ false =
-        not_test (rules.is_second_needless entries batch sample) (why.SecondNotNeeded (first_defective entries batch sample))
-        (sym (ap (option_and_then (λ (s : Sample). refused_if (rules.is_second_needless entries batch s) (why.SecondNotNeeded (first_defective entries batch s)))) has) ∙ tells.needed) in
+        let needed : rules.is_second_not_needed entries batch sample ≡ false =
+        not_test (rules.is_second_not_needed entries batch sample) (why.SecondNotNeeded (first_defective entries batch sample))
+        (sym (ap (option_and_then (λ (s : Sample). refused_if (rules.is_second_not_needed entries batch s) (why.SecondNotNeeded (first_defective entries batch s)))) has) ∙ tells.needed) in
         let parts = or_parts _ _ needed in
         let firsts = or_parts (sample.plan.second == 0) (is_some sample.second) parts.0 in
         let none : last_said (second_word batch) entries ≡ None = no_word (second_picks drawing) (last_said (second_word batch) entries) firsts.1 in
@@ -221,7 +221,7 @@ pub record Closes (entries : List Entry) (batch : Name) : Type 0 where
   pub state : (state_of entries batch ≡ Some Ended) ⊎ (state_of entries batch ≡ Some Drawn)
   pub drawn : (population entries batch ≡ []) ⊎ (is_some (sample_of entries batch) ≡ true)
   pub measured : (sample : Sample) → sample_of entries batch ≡ Some sample → first_unmeasured entries (rules.needed_packs entries batch sample) ≡ None
-  pub whole : (sample : Sample) → sample_of entries batch ≡ Some sample → rules.is_second_wanted entries batch sample ≡ false
+  pub whole : (sample : Sample) → sample_of entries batch ≡ Some sample → rules.is_second_needed entries batch sample ≡ false
 
 mapped_some : {A B : Type 0} (f : A → B) (o : Option A) → is_some o ≡ true → is_some (option_map f o) ≡ true
 mapped_some f None h = absurd (cc)
@@ -245,8 +245,8 @@ closes entries batch legal h =
           no_pack (first_unmeasured entries (rules.needed_packs entries batch sample))
           (sym (ap (option_and_then (λ (s : Sample). option_map (λ pack. why.Unmeasured pack) (first_unmeasured entries (rules.needed_packs entries batch s)))) is) ∙ (close_tells entries batch h).measured);
       whole = λ sample is.
-          not_test (rules.is_second_wanted entries batch sample) (why.SecondNeeded (first_defective entries batch sample))
-          (sym (ap (option_and_then (λ (s : Sample). refused_if (rules.is_second_wanted entries batch s) (why.SecondNeeded (first_defective entries batch s)))) is) ∙ (close_tells entries batch h).whole);
+          not_test (rules.is_second_needed entries batch sample) (why.SecondNeeded (first_defective entries batch sample))
+          (sym (ap (option_and_then (λ (s : Sample). refused_if (rules.is_second_needed entries batch s) (why.SecondNeeded (first_defective entries batch s)))) is) ∙ (close_tells entries batch h).whole);
     }
 
 -- a sample comes from a draw, which drew from the population as it still is

@@ -18,7 +18,7 @@ use Rattle.book_words.specs.declared.act.Reading.{Reading}
 use Rattle.book_words.specs.declared.refusal.Refusal.TheVariants as why
 use Rattle.book_words.specs.Names.{same_name}
 use Rattle.book_words.specs.Acts.{last_said, product_given, state_set, lane_used, prior_told, product_of, state_of, same_state, last_batch, lane_batch}
-use Rattle.book_words.specs.Readings.{readings, reading_from}
+use Rattle.book_words.specs.Readings.{readings, weighed_reading}
 use Rattle.book_words.specs.Refusals as rules
 use Rattle.book_words.specs.Refusals.{refused_if}
 use Rattle.book_words.specs.Answers.{IsLegal}
@@ -214,7 +214,7 @@ waits_on entries entry h reading before batch of_batch none =
     ap (λ (o : Option (Option Name)). option_flatten o) (silent (lane_used reading.lane) entries entry (lane_stays entries entry.act reading.lane batch h on parts.1)) ∙ on
 
 own_waits : (entries : List Entry) (entry : Entry) (act : Act) → entry.act ≡ act → IsAllowed entries entry.act
-    → All (IsOfLane (entries ++ entry ∷ [])) (cons_option (reading_from (length entries + 1) entries act entry.signal []) [])
+    → All (IsOfLane (entries ++ entry ∷ [])) (cons_option (weighed_reading (length entries + 1) entries act entry.signal []) [])
 own_waits entries entry (Weigh lane gross prior) is h = All-cons (IsOfLane (entries ++ entry ∷ [])) _ [] (λ batch last none. own batch last) (All-nil (IsOfLane (entries ++ entry ∷ [])))
   where
     started : (o : Option Name) → lane_batch entries lane ≡ o → is_some o ≡ true → (batch : Name) → last_batch entries lane ≡ Some batch → lane_batch entries lane ≡ Some batch

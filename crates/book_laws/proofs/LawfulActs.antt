@@ -284,7 +284,7 @@ pub record AllowsDrawSecond (entries : List Entry) (batch : Name) : Type 0 where
   pub day : is_some (newest_day entries) ≡ true
   pub known : is_some (product_of entries batch) ≡ true
   pub state : rules.batch_state (Drawn ∷ []) entries batch ≡ None
-  pub needed : rules.second_needless entries batch ≡ None
+  pub needed : rules.second_not_needed entries batch ≡ None
   pub measured : rules.first_wanting entries batch ≡ None
 
 -- what an allowed second draw tells
@@ -293,7 +293,7 @@ draw_second_tells entries batch word h =
     let a = none_of_two (rules.day_unset entries) _ h in
     let b = none_of_two (rules.batch_unknown entries batch) _ a.1 in
     let c = none_of_two (rules.batch_state (Drawn ∷ []) entries batch) _ b.1 in
-    let d = none_of_two (rules.second_needless entries batch) _ c.1 in
+    let d = none_of_two (rules.second_not_needed entries batch) _ c.1 in
     let e = none_of_two (rules.first_wanting entries batch) None d.1 in
     record { day = is_there (newest_day entries) _ a.0; known = is_there (product_of entries batch) _ b.0; state = c.0; needed = d.0; measured = e.0 }
 
@@ -305,7 +305,7 @@ pub record AllowsClose (entries : List Entry) (batch : Name) : Type 0 where
   pub state : rules.batch_state (Ended ∷ Drawn ∷ []) entries batch ≡ None
   pub drawn : (rules.is_ended (state_of entries batch) && nat_lt 0 (length (population entries batch))) ≡ false
   pub measured : rules.needed_wanting entries batch ≡ None
-  pub whole : rules.second_wanted entries batch ≡ None
+  pub whole : rules.second_needed entries batch ≡ None
 
 -- what an allowed closing tells
 pub close_tells : (entries : List Entry) (batch : Name) → IsAllowed entries (Close batch) → AllowsClose entries batch
@@ -315,5 +315,5 @@ close_tells entries batch h =
     let c = none_of_two (rules.batch_state (Ended ∷ Drawn ∷ []) entries batch) _ b.1 in
     let d = none_of_two (rules.not_drawn entries batch) _ c.1 in
     let e = none_of_two (rules.needed_wanting entries batch) _ d.1 in
-    let f = none_of_two (rules.second_wanted entries batch) None e.1 in
+    let f = none_of_two (rules.second_needed entries batch) None e.1 in
     record { day = is_there (newest_day entries) _ a.0; known = is_there (product_of entries batch) _ b.0; state = c.0; drawn = not_test _ _ d.0; measured = e.0; whole = f.0 }

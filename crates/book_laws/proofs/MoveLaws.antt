@@ -21,12 +21,12 @@ use Rattle.book_words.specs.declared.act.Reading.{Reading}
 use Rattle.book_words.specs.declared.refusal.Refusal.TheVariants as why
 use Rattle.book_words.specs.Names.{same_name}
 use Rattle.book_words.specs.Acts.{last_said, state_of, newest_day, last_batch, lane_batch}
-use Rattle.book_words.specs.Readings.{reading_from, readings, reading_of, is_of_batch}
+use Rattle.book_words.specs.Readings.{weighed_reading, readings, reading_of, is_of_batch}
 use Rattle.book_words.specs.Population.{settled_pile, unsampled_pile, same_pile, is_pass, is_unsettled, is_counted, readings_of_batch, population}
 use Rattle.book_words.specs.Samples.{Drawing, Sample, numbers_of, drawing_from, drawing_of, first_picks, second_picks, second_word, sample_by, sample_of, is_among, holds_pack, is_sampled}
 use Rattle.book_words.specs.Piles.{pile_with_sample, pile_of, in_pile, gross_sum, tally}
 use Rattle.book_words.specs.Verdicts.{first_defective}
-use Rattle.book_words.specs.Balance.{AddUp, IsBalanced, pile_by_gate, packs_drawn, moved_pile, pile_after, own_pile, leaves_passed, MovesOnly, EachMoves}
+use Rattle.book_words.specs.Balance.{AddUp, IsBalanced, pile_by_gate, packs_drawn, moved_pile, next_pile, own_pile, leaves_passed, MovesOnly, EachMoves}
 use Rattle.book_words.specs.Refusals as rules
 use Rattle.book_words.specs.Refusals.{refused_if}
 use Rattle.book_words.specs.Answers.{IsLawful, IsLegal}
@@ -176,9 +176,9 @@ no_second_yet : (entries : List Entry) (batch : Name) (word : ℕ) (drawing : Dr
 no_second_yet entries batch word drawing h is =
     let sample : Sample = sample_by drawing (last_said (second_word batch) entries) in
     let there : sample_of entries batch ≡ Some sample = ap (option_map (λ (d : Drawing). sample_by d (last_said (second_word batch) entries))) is in
-    let needed : rules.is_second_needless entries batch sample ≡ false =
-    not_test (rules.is_second_needless entries batch sample) (why.SecondNotNeeded (first_defective entries batch sample))
-    (sym (ap (option_and_then (λ (s : Sample). refused_if (rules.is_second_needless entries batch s) (why.SecondNotNeeded (first_defective entries batch s)))) there) ∙ (draw_second_tells entries batch word h).needed) in
+    let needed : rules.is_second_not_needed entries batch sample ≡ false =
+    not_test (rules.is_second_not_needed entries batch sample) (why.SecondNotNeeded (first_defective entries batch sample))
+    (sym (ap (option_and_then (λ (s : Sample). refused_if (rules.is_second_not_needed entries batch s) (why.SecondNotNeeded (first_defective entries batch s)))) there) ∙ (draw_second_tells entries batch word h).needed) in
     no_word (second_picks drawing) (last_said (second_word batch) entries) (or_parts _ _ (or_parts _ _ needed).0).1
 
 -- a reading that a second draw takes is of its batch, and lies among the passed
@@ -349,7 +349,7 @@ act_moves entries (Close name) reading good h all one has = record { pile = refl
 
 -- a reading of a legal list lies, behind a lawful entry, in the pile to which the entry's act moves it
 pub moved : (entries : List Entry) (entry : Entry) (reading : Reading) → IsLegal entries → IsLawful entries entry → IsOneOf entries reading → Belongs entries reading
-    → pile_of (entries ++ entry ∷ []) (advance entry.act reading) ≡ pile_after entries entry.act reading
+    → pile_of (entries ++ entry ∷ []) (advance entry.act reading) ≡ next_pile entries entry.act reading
 moved entries entry reading legal lawful one has =
     pile_now entries entry reading has
     ∙ (act_moves entries entry.act reading (orderly entries legal) (allowed entries entry lawful) (drawn_from_all entries legal) one has).pile
@@ -364,7 +364,7 @@ moved_from entries entry reading legal lawful one has =
 
 -- so each reading does
 pub each_moved : (entries : List Entry) (entry : Entry) → IsLegal entries → IsLawful entries entry
-    → All (λ (reading : Reading). pile_of (entries ++ entry ∷ []) (advance entry.act reading) ≡ pile_after entries entry.act reading) (readings entries)
+    → All (λ (reading : Reading). pile_of (entries ++ entry ∷ []) (advance entry.act reading) ≡ next_pile entries entry.act reading) (readings entries)
 each_moved entries entry legal lawful k d inside =
     moved entries entry _ legal lawful (each_is_one entries k d inside) (each_belongs entries legal k d inside)
 
@@ -384,7 +384,7 @@ settled_alone signal sampled free = ap (pile_with_sample (settled_pile false sig
 
 -- an entry's own reading lies by its signal
 pub own_pile_is : (entries : List Entry) (entry : Entry) (act : Act) → entry.act ≡ act → IsOrderly entries → IsAllowed entries act
-    → map (pile_of (entries ++ entry ∷ [])) (cons_option (reading_from (length entries + 1) entries act entry.signal []) []) ≡ own_pile entry act
+    → map (pile_of (entries ++ entry ∷ [])) (cons_option (weighed_reading (length entries + 1) entries act entry.signal []) []) ≡ own_pile entry act
 own_pile_is entries entry (Weigh lane gross prior) is good h =
     each (lane_batch entries lane) refl (weigh_tells entries lane gross prior h).runs
   where
@@ -420,8 +420,8 @@ moves_only entries entry legal lawful =
           ap (map (pile_of (entries ++ entry ∷ []))) (readings-push entries entry)
           ∙ map-append (pile_of (entries ++ entry ∷ [])) (map (advance entry.act) (readings entries)) (cons_option (own_reading entries entry) [])
           ∙ ap (λ (ps : List Pile). ps ++ map (pile_of (entries ++ entry ∷ [])) (cons_option (own_reading entries entry) []))
-          (map_agree (pile_of (entries ++ entry ∷ [])) (pile_after entries entry.act) (advance entry.act) (readings entries) (each_moved entries entry legal lawful))
-          ∙ ap (λ (ps : List Pile). map (pile_after entries entry.act) (readings entries) ++ ps) (own_pile_is entries entry entry.act refl (orderly entries legal) (allowed entries entry lawful));
+          (map_agree (pile_of (entries ++ entry ∷ [])) (next_pile entries entry.act) (advance entry.act) (readings entries) (each_moved entries entry legal lawful))
+          ∙ ap (λ (ps : List Pile). map (next_pile entries entry.act) (readings entries) ++ ps) (own_pile_is entries entry entry.act refl (orderly entries legal) (allowed entries entry lawful));
       from = all_pass (leaves_passed entries entry.act) (readings entries)
           (λ k d inside. moved_from entries entry _ legal lawful (each_is_one entries k d inside) (each_belongs entries legal k d inside));
     }
@@ -490,31 +490,31 @@ readings_of_batch-push entries entry batch =
 -- those of some readings that lie in a pile, once an act came: those that it leaves there or moves
 -- there
 pub in_pile-advanced : (entries : List Entry) (entry : Entry) (pile : Pile) (some : List Reading)
-    → All (λ (reading : Reading). pile_of (entries ++ entry ∷ []) (advance entry.act reading) ≡ pile_after entries entry.act reading) some
-    → in_pile (entries ++ entry ∷ []) pile (map (advance entry.act) some) ≡ map (advance entry.act) (filter (λ (r : Reading). same_pile (pile_after entries entry.act r) pile) some)
+    → All (λ (reading : Reading). pile_of (entries ++ entry ∷ []) (advance entry.act reading) ≡ next_pile entries entry.act reading) some
+    → in_pile (entries ++ entry ∷ []) pile (map (advance entry.act) some) ≡ map (advance entry.act) (filter (λ (r : Reading). same_pile (next_pile entries entry.act r) pile) some)
 in_pile-advanced entries entry pile [] all = refl
 in_pile-advanced entries entry pile (r ∷ rs) all =
-    let P : Reading → Type 0 = λ r. pile_of (entries ++ entry ∷ []) (advance entry.act r) ≡ pile_after entries entry.act r in
+    let P : Reading → Type 0 = λ r. pile_of (entries ++ entry ∷ []) (advance entry.act r) ≡ next_pile entries entry.act r in
     ap (λ (p : Pile). cond (same_pile p pile) (advance entry.act r ∷ in_pile (entries ++ entry ∷ []) pile (map (advance entry.act) rs)) (in_pile (entries ++ entry ∷ []) pile (map (advance entry.act) rs))) (All-head P r rs all)
-    ∙ ap (λ (some : List Reading). cond (same_pile (pile_after entries entry.act r) pile) (advance entry.act r ∷ some) some) (in_pile-advanced entries entry pile rs (All-tail P r rs all))
-    ∙ either (same_pile (pile_after entries entry.act r) pile)
+    ∙ ap (λ (some : List Reading). cond (same_pile (next_pile entries entry.act r) pile) (advance entry.act r ∷ some) some) (in_pile-advanced entries entry pile rs (All-tail P r rs all))
+    ∙ either (same_pile (next_pile entries entry.act r) pile)
   where
-    either : (b : Bool) → cond b (advance entry.act r ∷ map (advance entry.act) (filter (λ (q : Reading). same_pile (pile_after entries entry.act q) pile) rs)) (map (advance entry.act) (filter (λ (q : Reading). same_pile (pile_after entries entry.act q) pile) rs))
-        ≡ map (advance entry.act) (cond b (r ∷ filter (λ (q : Reading). same_pile (pile_after entries entry.act q) pile) rs) (filter (λ (q : Reading). same_pile (pile_after entries entry.act q) pile) rs))
+    either : (b : Bool) → cond b (advance entry.act r ∷ map (advance entry.act) (filter (λ (q : Reading). same_pile (next_pile entries entry.act q) pile) rs)) (map (advance entry.act) (filter (λ (q : Reading). same_pile (next_pile entries entry.act q) pile) rs))
+        ≡ map (advance entry.act) (cond b (r ∷ filter (λ (q : Reading). same_pile (next_pile entries entry.act q) pile) rs) (filter (λ (q : Reading). same_pile (next_pile entries entry.act q) pile) rs))
     either true = refl
     either false = refl
 
 -- the reading of a number lies, behind a lawful entry, in the pile to which the entry's act moves it
 pub moved_number : (entries : List Entry) (entry : Entry) (number : ℕ) (reading : Reading) → IsLegal entries → IsLawful entries entry → reading_of entries number ≡ Some reading
-    → pile_of (entries ++ entry ∷ []) (advance entry.act reading) ≡ pile_after entries entry.act reading
+    → pile_of (entries ++ entry ∷ []) (advance entry.act reading) ≡ next_pile entries entry.act reading
 moved_number entries entry number reading legal lawful found =
-    (of_reading (λ (r : Reading). pile_of (entries ++ entry ∷ []) (advance entry.act r) ≡ pile_after entries entry.act r) entries number reading (each_moved entries entry legal lawful) found).1
+    (of_reading (λ (r : Reading). pile_of (entries ++ entry ∷ []) (advance entry.act r) ≡ next_pile entries entry.act r) entries number reading (each_moved entries entry legal lawful) found).1
 
 -- what lies in a pile, with one entry more: what the act leaves there or moves there, and the entry's
 -- own reading where it lies there
 pub in_pile-push : (entries : List Entry) (entry : Entry) (pile : Pile) → IsLegal entries → IsLawful entries entry
     → in_pile (entries ++ entry ∷ []) pile (readings (entries ++ entry ∷ []))
-    ≡ map (advance entry.act) (filter (λ (r : Reading). same_pile (pile_after entries entry.act r) pile) (readings entries))
+    ≡ map (advance entry.act) (filter (λ (r : Reading). same_pile (next_pile entries entry.act r) pile) (readings entries))
     ++ in_pile (entries ++ entry ∷ []) pile (cons_option (own_reading entries entry) [])
 in_pile-push entries entry pile legal lawful =
     ap (in_pile (entries ++ entry ∷ []) pile) (readings-push entries entry)
@@ -525,11 +525,11 @@ in_pile-push entries entry pile legal lawful =
 -- the same of the readings of a batch
 pub in_batch_pile-push : (entries : List Entry) (entry : Entry) (pile : Pile) (batch : Name) → IsLegal entries → IsLawful entries entry
     → in_pile (entries ++ entry ∷ []) pile (readings_of_batch (entries ++ entry ∷ []) batch)
-    ≡ map (advance entry.act) (filter (λ (r : Reading). same_pile (pile_after entries entry.act r) pile) (readings_of_batch entries batch))
+    ≡ map (advance entry.act) (filter (λ (r : Reading). same_pile (next_pile entries entry.act r) pile) (readings_of_batch entries batch))
     ++ in_pile (entries ++ entry ∷ []) pile (filter (is_of_batch batch) (cons_option (own_reading entries entry) []))
 in_batch_pile-push entries entry pile batch legal lawful =
     ap (in_pile (entries ++ entry ∷ []) pile) (readings_of_batch-push entries entry batch)
     ∙ filter-append (λ (r : Reading). same_pile (pile_of (entries ++ entry ∷ []) r) pile) (map (advance entry.act) (readings_of_batch entries batch)) (filter (is_of_batch batch) (cons_option (own_reading entries entry) []))
     ∙ ap (λ (some : List Reading). some ++ in_pile (entries ++ entry ∷ []) pile (filter (is_of_batch batch) (cons_option (own_reading entries entry) [])))
     (in_pile-advanced entries entry pile (readings_of_batch entries batch)
-    (All-filter (is_of_batch batch) (λ (r : Reading). pile_of (entries ++ entry ∷ []) (advance entry.act r) ≡ pile_after entries entry.act r) (readings entries) (each_moved entries entry legal lawful)))
+    (All-filter (is_of_batch batch) (λ (r : Reading). pile_of (entries ++ entry ∷ []) (advance entry.act r) ≡ next_pile entries entry.act r) (readings entries) (each_moved entries entry legal lawful)))

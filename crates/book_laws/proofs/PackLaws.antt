@@ -13,7 +13,7 @@ use Rattle.book_words.specs.declared.act.Entry.{Entry}
 use Rattle.book_words.specs.declared.act.Reading.{Reading}
 use Rattle.book_words.specs.Names.{same_name}
 use Rattle.book_words.specs.Acts.{last_said}
-use Rattle.book_words.specs.Readings.{readings, reading_from, reading_of, is_of_batch}
+use Rattle.book_words.specs.Readings.{readings, weighed_reading, reading_of, is_of_batch}
 use Rattle.book_words.specs.Population.{is_counted, population}
 use Rattle.book_words.specs.Samples.{Drawing, Sample, numbers_of, drawing_from, drawing_of, plan_of_drawing, first_picks, second_picks, second_word, sample_by, sample_of}
 use Rattle.book_words.specs.Verdicts.{second_packs}
@@ -92,20 +92,20 @@ numbered-push entries entry numbered =
           (own_found entry.act refl));
     }
   where
-    own_number : (act : Act) → All (λ (r : Reading). IsNumber (entries ++ entry ∷ []) r.number) (cons_option (reading_from (length entries + 1) entries act entry.signal []) [])
+    own_number : (act : Act) → All (λ (r : Reading). IsNumber (entries ++ entry ∷ []) r.number) (cons_option (weighed_reading (length entries + 1) entries act entry.signal []) [])
     own_number (Weigh lane gross prior) =
         let longer : length (entries ++ entry ∷ []) ≡ length entries + 1 = length-append entries (entry ∷ []) in
         All-cons (λ (r : Reading). IsNumber (entries ++ entry ∷ []) r.number) _ [] (omega arith, omega (arith, longer)) (All-nil (λ (r : Reading). IsNumber (entries ++ entry ∷ []) r.number))
     own_number act = All-nil (λ (r : Reading). IsNumber (entries ++ entry ∷ []) r.number)
 
-    own_found : (act : Act) → entry.act ≡ act → All (IsFound (entries ++ entry ∷ [])) (cons_option (reading_from (length entries + 1) entries act entry.signal []) [])
+    own_found : (act : Act) → entry.act ≡ act → All (IsFound (entries ++ entry ∷ [])) (cons_option (weighed_reading (length entries + 1) entries act entry.signal []) [])
     own_found (Weigh lane gross prior) is =
         All-cons (IsFound (entries ++ entry ∷ [])) _ []
         (reading_of-push entries entry (length entries + 1)
         ∙ ap (λ o. option_or (option_map (advance entry.act) o) (find (λ (r : Reading). r.number == length entries + 1) (cons_option (own_reading entries entry) [])))
         (none_beyond entries (length entries + 1) numbered (inr (omega arith)))
-        ∙ ap (λ (a : Act). find (λ (r : Reading). r.number == length entries + 1) (cons_option (reading_from (length entries + 1) entries a entry.signal []) [])) is
-        ∙ ap (λ b. cond b (reading_from (length entries + 1) entries (Weigh lane gross prior) entry.signal []) None) (eq-eqb (length entries + 1) (length entries + 1) refl))
+        ∙ ap (λ (a : Act). find (λ (r : Reading). r.number == length entries + 1) (cons_option (weighed_reading (length entries + 1) entries a entry.signal []) [])) is
+        ∙ ap (λ b. cond b (weighed_reading (length entries + 1) entries (Weigh lane gross prior) entry.signal []) None) (eq-eqb (length entries + 1) (length entries + 1) refl))
         (All-nil (IsFound (entries ++ entry ∷ [])))
     own_found act is = All-nil (IsFound (entries ++ entry ∷ []))
 

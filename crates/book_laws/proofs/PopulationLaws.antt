@@ -22,17 +22,17 @@ use Rattle.book_words.specs.declared.act.Reading.{Reading}
 use Rattle.book_words.specs.declared.refusal.Refusal.TheVariants as why
 use Rattle.book_words.specs.Names.{same_name}
 use Rattle.book_words.specs.Acts.{state_set, same_state, state_of, last_batch, lane_batch}
-use Rattle.book_words.specs.Readings.{reading_from, readings, reading_of, is_of_batch}
-use Rattle.book_words.specs.Population.{settled_pile, unsampled_pile, same_pile, is_pass, is_unsettled, is_counted, readings_of_batch, population_among, population}
+use Rattle.book_words.specs.Readings.{weighed_reading, readings, reading_of, is_of_batch}
+use Rattle.book_words.specs.Population.{settled_pile, unsampled_pile, same_pile, is_pass, is_unsettled, is_counted, readings_of_batch, counted_readings, population}
 use Rattle.book_words.specs.Samples.{Drawing, numbers_of, drawing_from, drawing_of, is_sampled}
 use Rattle.book_words.specs.Piles.{pile_with_sample, pile_of}
-use Rattle.book_words.specs.Signals.{population_at}
+use Rattle.book_words.specs.Signals.{judging_population}
 use Rattle.book_words.specs.Balance.{pile_by_gate}
 use Rattle.book_words.specs.Refusals as rules
 use Rattle.book_words.specs.Refusals.{refused_if, batch_of_pack}
 use Rattle.book_words.specs.Answers.{IsLawful, IsLegal}
 use Rattle.book_words.proofs.NameLemmas.{same_name_is}
-use Rattle.book_words.proofs.OneMoreEntry.{advance, own_reading, readings-push, readings_among-push}
+use Rattle.book_words.proofs.OneMoreEntry.{advance, own_reading, readings-push, first_readings-push}
 use Rattle.book_words.proofs.DrawnLemmas.{drawing_of-push}
 use Rattle.book_laws.proofs.LawfulActs.{IsAllowed, allowed, weigh_tells, void_tells, close_tells}
 use Rattle.book_laws.proofs.ReadingLaws.{by_entries, IsOneOf, each_is_one}
@@ -131,17 +131,17 @@ abbrev pub counts_after : Name → Act → Reading → Bool
 counts_after batch act reading = is_of_batch batch reading && same_pile (settled_after act reading (unsampled_pile reading)) Passed
 
 numbers_advanced : (batch : Name) (act : Act) (some : List Reading) → All (λ (r : Reading). is_unsettled r ≡ true → r.voided ≡ false) some
-    → numbers_of (population_among batch (map (advance act) some)) ≡ numbers_of (filter (counts_after batch act) some)
+    → numbers_of (counted_readings batch (map (advance act) some)) ≡ numbers_of (filter (counts_after batch act) some)
 numbers_advanced batch act [] all = refl
 numbers_advanced batch act (r ∷ rs) all =
     let P : Reading → Type 0 = λ r. is_unsettled r ≡ true → r.voided ≡ false in
     let here : (is_of_batch batch (advance act r) && is_counted (advance act r)) ≡ counts_after batch act r =
     ap (λ (pile : Pile). is_of_batch batch r && same_pile pile Passed) (unsampled_on act r (All-head P r rs all)) in
-    ap (λ b. numbers_of (cond b (advance act r ∷ population_among batch (map (advance act) rs)) (population_among batch (map (advance act) rs)))) here
+    ap (λ b. numbers_of (cond b (advance act r ∷ counted_readings batch (map (advance act) rs)) (counted_readings batch (map (advance act) rs)))) here
     ∙ either (counts_after batch act r) (numbers_advanced batch act rs (All-tail P r rs all))
   where
-    either : (b : Bool) → numbers_of (population_among batch (map (advance act) rs)) ≡ numbers_of (filter (counts_after batch act) rs)
-        → numbers_of (cond b (advance act r ∷ population_among batch (map (advance act) rs)) (population_among batch (map (advance act) rs)))
+    either : (b : Bool) → numbers_of (counted_readings batch (map (advance act) rs)) ≡ numbers_of (filter (counts_after batch act) rs)
+        → numbers_of (cond b (advance act r ∷ counted_readings batch (map (advance act) rs)) (counted_readings batch (map (advance act) rs)))
         ≡ numbers_of (cond b (r ∷ filter (counts_after batch act) rs) (filter (counts_after batch act) rs))
     either true h = ap (λ ns. r.number ∷ ns) h
     either false h = h
@@ -150,12 +150,12 @@ numbers_advanced batch act (r ∷ rs) all =
 -- the entry's own reading where it counts
 pub population-push : (entries : List Entry) (entry : Entry) (batch : Name) → IsLegal entries
     → numbers_of (population (entries ++ entry ∷ []) batch)
-    ≡ numbers_of (filter (counts_after batch entry.act) (readings entries)) ++ numbers_of (population_among batch (cons_option (own_reading entries entry) []))
+    ≡ numbers_of (filter (counts_after batch entry.act) (readings entries)) ++ numbers_of (counted_readings batch (cons_option (own_reading entries entry) []))
 population-push entries entry batch legal =
-    ap (λ (some : List Reading). numbers_of (population_among batch some)) (readings-push entries entry)
+    ap (λ (some : List Reading). numbers_of (counted_readings batch some)) (readings-push entries entry)
     ∙ ap numbers_of (filter-append (λ (r : Reading). is_of_batch batch r && is_counted r) (map (advance entry.act) (readings entries)) (cons_option (own_reading entries entry) []))
-    ∙ map-append (λ (r : Reading). r.number) (population_among batch (map (advance entry.act) (readings entries))) (population_among batch (cons_option (own_reading entries entry) []))
-    ∙ ap (λ ns. ns ++ numbers_of (population_among batch (cons_option (own_reading entries entry) [])))
+    ∙ map-append (λ (r : Reading). r.number) (counted_readings batch (map (advance entry.act) (readings entries))) (counted_readings batch (cons_option (own_reading entries entry) []))
+    ∙ ap (λ ns. ns ++ numbers_of (counted_readings batch (cons_option (own_reading entries entry) [])))
     (numbers_advanced batch entry.act (readings entries)
     (All-weaker (Belongs entries) (λ (r : Reading). is_unsettled r ≡ true → r.voided ≡ false) (λ r has. has.kept) (readings entries) (each_belongs entries legal)))
 
@@ -224,7 +224,7 @@ settled_fixed entries (Close name) reading batch good h one has fixed of_it = re
 
 -- no pack is weighed of it
 own_not_fixed : (entries : List Entry) (act : Act) (signal : Option Signal) (batch : Name) → IsOrderly entries → IsAllowed entries act → is_fixed (state_of entries batch) ≡ true
-    → population_among batch (cons_option (reading_from (length entries + 1) entries act signal []) []) ≡ []
+    → counted_readings batch (cons_option (weighed_reading (length entries + 1) entries act signal []) []) ≡ []
 own_not_fixed entries (Weigh lane gross prior) signal batch good h fixed =
     each (lane_batch entries lane) refl (weigh_tells entries lane gross prior h).runs
   where
@@ -238,7 +238,7 @@ own_not_fixed entries (Weigh lane gross prior) signal batch good h fixed =
     none false c x is = refl
     none true c x is = absurd (cc)
 
-    each : (o : Option Name) → lane_batch entries lane ≡ o → is_some o ≡ true → population_among batch (cons_option (reading_from (length entries + 1) entries (Weigh lane gross prior) signal []) []) ≡ []
+    each : (o : Option Name) → lane_batch entries lane ≡ o → is_some o ≡ true → counted_readings batch (cons_option (weighed_reading (length entries + 1) entries (Weigh lane gross prior) signal []) []) ≡ []
     each None on there = absurd (cc)
     each (Some other) on there =
         none test _ _ (elim (cases_Bool test) [
@@ -290,7 +290,7 @@ some_of_two (Some y) p x h = inl h
 -- a draw takes the population before it, and leaves it as it is
 draw_packs : (entries : List Entry) (act : Act) (signal : Option Signal) (batch : Name) (drawing : Drawing) → drawing_from batch entries act ≡ Some drawing
     → (drawing.packs ≡ numbers_of (population entries batch))
-    × (numbers_of (filter (counts_after batch act) (readings entries)) ++ numbers_of (population_among batch (cons_option (reading_from (length entries + 1) entries act signal []) [])) ≡ numbers_of (population entries batch))
+    × (numbers_of (filter (counts_after batch act) (readings entries)) ++ numbers_of (counted_readings batch (cons_option (weighed_reading (length entries + 1) entries act signal []) [])) ≡ numbers_of (population entries batch))
 draw_packs entries (Draw name mode word) signal batch drawing h = (either (same_name name batch) h, append-nil (numbers_of (population entries batch)))
   where
     either : (b : Bool) → cond {A = Option Drawing} b (Some (record { mode = mode; word = word; packs = numbers_of (population entries batch) })) None ≡ Some drawing → drawing.packs ≡ numbers_of (population entries batch)
@@ -342,7 +342,7 @@ filter_mapped test change (r ∷ rs) =
 
 -- some readings that count behind an act are those that the act leaves to count, each as it is then
 pub population_advanced : (entries : List Entry) (act : Act) (batch : Name) → IsLegal entries
-    → population_among batch (map (advance act) (readings entries)) ≡ map (advance act) (filter (counts_after batch act) (readings entries))
+    → counted_readings batch (map (advance act) (readings entries)) ≡ map (advance act) (filter (counts_after batch act) (readings entries))
 population_advanced entries act batch legal =
     filter_mapped (λ (r : Reading). is_of_batch batch r && is_counted r) (advance act) (readings entries)
     ∙ ap (map (advance act)) (filter_agree_on (λ (r : Reading). is_of_batch batch r && is_counted (advance act r)) (counts_after batch act) (readings entries)
@@ -352,17 +352,17 @@ population_advanced entries act batch legal =
 -- the population with one entry more, as a list of readings
 pub population_is : (entries : List Entry) (entry : Entry) (batch : Name) → IsLegal entries
     → population (entries ++ entry ∷ []) batch
-    ≡ map (advance entry.act) (filter (counts_after batch entry.act) (readings entries)) ++ population_among batch (cons_option (own_reading entries entry) [])
+    ≡ map (advance entry.act) (filter (counts_after batch entry.act) (readings entries)) ++ counted_readings batch (cons_option (own_reading entries entry) [])
 population_is entries entry batch legal =
-    ap (population_among batch) (readings-push entries entry)
+    ap (counted_readings batch) (readings-push entries entry)
     ∙ filter-append (λ (r : Reading). is_of_batch batch r && is_counted r) (map (advance entry.act) (readings entries)) (cons_option (own_reading entries entry) [])
-    ∙ ap (λ (some : List Reading). some ++ population_among batch (cons_option (own_reading entries entry) [])) (population_advanced entries entry.act batch legal)
+    ∙ ap (λ (some : List Reading). some ++ counted_readings batch (cons_option (own_reading entries entry) [])) (population_advanced entries entry.act batch legal)
 
 -- the population at an act, which judges the act's own pack, is that of the readings before it
 pub population_at_is : (entries : List Entry) (act : Act) (batch : Name) → IsLegal entries
-    → population_at entries act batch ≡ map (advance act) (filter (counts_after batch act) (readings entries))
+    → judging_population entries act batch ≡ map (advance act) (filter (counts_after batch act) (readings entries))
 population_at_is entries act batch legal =
-    ap (population_among batch) (readings_among-push entries (record { by = 0; desk = 0; request = 0; act = act; signal = None })) ∙ population_advanced entries act batch legal
+    ap (counted_readings batch) (first_readings-push entries (record { by = 0; desk = 0; request = 0; act = act; signal = None })) ∙ population_advanced entries act batch legal
 
 -- the acts by which packs come and go: weighings, stops and voids
 abbrev pub moves_population : Act → Bool
@@ -372,7 +372,7 @@ moves_population (Void pack) = true
 moves_population act = false
 
 quiet : (entries : List Entry) (act : Act) (signal : Option Signal) (batch : Name) → moves_population act ≡ false
-    → filter (counts_after batch act) (readings entries) ++ population_among batch (cons_option (reading_from (length entries + 1) entries act signal []) []) ≡ population entries batch
+    → filter (counts_after batch act) (readings entries) ++ counted_readings batch (cons_option (weighed_reading (length entries + 1) entries act signal []) []) ≡ population entries batch
 quiet entries (Weigh lane gross prior) signal batch h = absurd (cc)
 quiet entries (StopLane lane prior) signal batch h = absurd (cc)
 quiet entries (Void pack) signal batch h = absurd (cc)
@@ -392,7 +392,7 @@ pub quiet_population : (entries : List Entry) (entry : Entry) (batch : Name) →
     → numbers_of (population (entries ++ entry ∷ []) batch) ≡ numbers_of (population entries batch)
 quiet_population entries entry batch legal h =
     population-push entries entry batch legal
-    ∙ sym (map-append (λ (r : Reading). r.number) (filter (counts_after batch entry.act) (readings entries)) (population_among batch (cons_option (own_reading entries entry) [])))
+    ∙ sym (map-append (λ (r : Reading). r.number) (filter (counts_after batch entry.act) (readings entries)) (counted_readings batch (cons_option (own_reading entries entry) [])))
     ∙ ap numbers_of (quiet entries entry.act entry.signal batch h)
 
 -- ---- the population lies among the passed and the sampled

@@ -44,7 +44,7 @@ use Rattle.book_words.specs.declared.refusal.Refusal.TheVariants as why
 use Rattle.book_words.specs.Acts.{said, last_said, day_set, newest_day, nominal_put, nominal_of, unit_of, product_of, density_of, state_of, same_state, lane_batch}
 use Rattle.book_words.specs.Names.{same_name}
 use Rattle.book_words.specs.Tares.{tare_put, tares_put, tare_of_product}
-use Rattle.book_words.specs.Readings.{readings, reading_from, reading_at, reading_of, tare_of_batch, tare_of_reading, net_of_reading, is_of_batch}
+use Rattle.book_words.specs.Readings.{readings, weighed_reading, placed_reading, reading_of, tare_of_batch, tare_of_reading, net_of_reading, is_of_batch}
 use Rattle.book_words.specs.Classes.{nominal_of_batch}
 use Rattle.book_words.specs.Population.{is_counted, same_pile, is_unsettled, readings_of_batch, population, net_sum}
 use Rattle.book_words.specs.Samples as samples
@@ -285,7 +285,7 @@ abbrev IsFitReading : Reading → Type 0
 IsFitReading reading = IsFitGross reading.gross × IfSome reading.day IsFitDay
 
 reading_fits : (number : ℕ) (before : List Entry) (act : Act) (signal : Option Signal) (after : List Entry) → AllByRecursion IsFit before → is_act_in_range act ≡ true
-    → IfSome (reading_from number before act signal after) IsFitReading
+    → IfSome (weighed_reading number before act signal after) IsFitReading
 reading_fits number before (Weigh lane gross prior) signal after all h = (within_limits (pos 0) MAX_GROSS gross h, newest_fits before all)
 reading_fits number before (NewDay day) signal after all h = tt
 reading_fits number before (PutProduct name nominal unit) signal after all h = tt
@@ -300,22 +300,22 @@ reading_fits number before (Measure pack gross empty) signal after all h = tt
 reading_fits number before (DrawSecond batch word) signal after all h = tt
 reading_fits number before (Close batch) signal after all h = tt
 
-reading_at_fits : (entries : List Entry) (place : ℕ) → AllByRecursion IsFit entries → IfSome (reading_at entries place) IsFitReading
+reading_at_fits : (entries : List Entry) (place : ℕ) → AllByRecursion IsFit entries → IfSome (placed_reading entries place) IsFitReading
 reading_at_fits entries place all =
-    then_has IsFit IsFitReading (λ (entry : Entry). reading_from (place + 1) (take place entries) entry.act entry.signal (drop (place + 1) entries)) (slice_get entries place)
+    then_has IsFit IsFitReading (λ (entry : Entry). weighed_reading (place + 1) (take place entries) entry.act entry.signal (drop (place + 1) entries)) (slice_get entries place)
     (got_has IsFit entries place all)
     (λ entry h. reading_fits (place + 1) (take place entries) entry.act entry.signal (drop (place + 1) entries) (taken_have IsFit place entries all) h)
 
-among_fit : (entries : List Entry) (from count : ℕ) → AllByRecursion IsFit entries → AllByRecursion IsFitReading (filter_map (reading_at entries) (range_with_len from count))
+among_fit : (entries : List Entry) (from count : ℕ) → AllByRecursion IsFit entries → AllByRecursion IsFitReading (filter_map (placed_reading entries) (range_with_len from count))
 among_fit entries from zero all = tt
-among_fit entries from (suc count) all = with_first IsFitReading (reading_at entries from) _ (reading_at_fits entries from all) (among_fit entries (from + 1) count all)
+among_fit entries from (suc count) all = with_first IsFitReading (placed_reading entries from) _ (reading_at_fits entries from all) (among_fit entries (from + 1) count all)
 
-few_among : (entries : List Entry) (from count : ℕ) → length (filter_map (reading_at entries) (range_with_len from count)) ≤ count
+few_among : (entries : List Entry) (from count : ℕ) → length (filter_map (placed_reading entries) (range_with_len from count)) ≤ count
 few_among entries from zero = omega arith
-few_among entries from (suc count) = one_more (reading_at entries from) (few_among entries (from + 1) count)
+few_among entries from (suc count) = one_more (placed_reading entries from) (few_among entries (from + 1) count)
   where
-    one_more : (o : Option Reading) → length (filter_map (reading_at entries) (range_with_len (from + 1) count)) ≤ count
-        → length (cons_option o (filter_map (reading_at entries) (range_with_len (from + 1) count))) ≤ suc count
+    one_more : (o : Option Reading) → length (filter_map (placed_reading entries) (range_with_len (from + 1) count)) ≤ count
+        → length (cons_option o (filter_map (placed_reading entries) (range_with_len (from + 1) count))) ≤ suc count
     one_more None h = omega (arith, h)
     one_more (Some reading) h = omega (arith, h)
 
@@ -572,9 +572,9 @@ measured_told entries pack all =
     mapped_has IsFitMeasured IsRefusalInRange (λ measured. why.MeasuredAlready measured.gross) (measured_of entries pack)
     (last_said_has IsFitMeasured (measured_by pack) (measured_fits pack) entries all) (λ measured h. h.0)
 
-needless_told : (entries : List Entry) (batch : Name) → ToldInRange (rules.second_needless entries batch)
+needless_told : (entries : List Entry) (batch : Name) → ToldInRange (rules.second_not_needed entries batch)
 needless_told entries batch =
-    given_has IsRefusalInRange (λ (sample : samples.Sample). refused_if (rules.is_second_needless entries batch sample) (why.SecondNotNeeded (first_defective entries batch sample))) (samples.sample_of entries batch)
+    given_has IsRefusalInRange (λ (sample : samples.Sample). refused_if (rules.is_second_not_needed entries batch sample) (why.SecondNotNeeded (first_defective entries batch sample))) (samples.sample_of entries batch)
     (λ sample. where_refused _ (why.SecondNotNeeded (first_defective entries batch sample)) tt)
 
 wanting_told : (entries : List Entry) (packs : samples.Sample → List ℕ) (o : Option samples.Sample) → ToldInRange (option_and_then (λ sample. option_map (λ pack. why.Unmeasured pack) (first_unmeasured entries (packs sample))) o)
@@ -582,9 +582,9 @@ wanting_told entries packs o =
     given_has IsRefusalInRange (λ (sample : samples.Sample). option_map (λ pack. why.Unmeasured pack) (first_unmeasured entries (packs sample))) o
     (λ sample. of_map (λ pack. why.Unmeasured pack) (first_unmeasured entries (packs sample)) (λ pack. tt))
 
-wanted_told : (entries : List Entry) (batch : Name) → ToldInRange (rules.second_wanted entries batch)
+wanted_told : (entries : List Entry) (batch : Name) → ToldInRange (rules.second_needed entries batch)
 wanted_told entries batch =
-    given_has IsRefusalInRange (λ (sample : samples.Sample). refused_if (rules.is_second_wanted entries batch sample) (why.SecondNeeded (first_defective entries batch sample))) (samples.sample_of entries batch)
+    given_has IsRefusalInRange (λ (sample : samples.Sample). refused_if (rules.is_second_needed entries batch sample) (why.SecondNeeded (first_defective entries batch sample))) (samples.sample_of entries batch)
     (λ sample. where_refused _ (why.SecondNeeded (first_defective entries batch sample)) tt)
 
 density_told : (entries : List Entry) (product : Name) (density : ℕ) → ToldInRange (rules.density_range entries product density)

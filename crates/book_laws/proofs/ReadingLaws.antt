@@ -12,10 +12,10 @@ use Rattle.book_words.specs.declared.act.Act.{Act}
 use Rattle.book_words.specs.declared.act.Act.TheVariants.{NewDay, PutProduct, PutTare, OpenBatch, StartLane, Weigh, StopLane, Void, EndRun, Draw, Measure, DrawSecond, Close}
 use Rattle.book_words.specs.declared.act.Entry.{Entry}
 use Rattle.book_words.specs.declared.act.Reading.{Reading}
-use Rattle.book_words.specs.Readings.{reading_from, reading_at, readings, reading_of}
+use Rattle.book_words.specs.Readings.{weighed_reading, placed_reading, readings, reading_of}
 use Rattle.book_words.specs.Samples.{numbers_of}
 use Rattle.book_words.specs.Answers.{IsLawful, IsLegal}
-use Rattle.book_words.proofs.OneMoreEntry.{advance, reading_at-push, own_reading}
+use Rattle.book_words.proofs.OneMoreEntry.{advance, placed_reading-push, own_reading}
 
 -- ---- induction from the end
 
@@ -36,7 +36,7 @@ by_entries P none more entries legal = from [] entries none legal
 
 -- ---- the number of a reading is its place and one
 
-numbered_from : (number : ℕ) (before : List Entry) (act : Act) (signal : Option Signal) (after : List Entry) (reading : Reading) → reading_from number before act signal after ≡ Some reading → reading.number ≡ number
+numbered_from : (number : ℕ) (before : List Entry) (act : Act) (signal : Option Signal) (after : List Entry) (reading : Reading) → weighed_reading number before act signal after ≡ Some reading → reading.number ≡ number
 numbered_from number before (Weigh lane gross prior) signal after reading h = ap (λ (r : Reading). r.number) (sym (same_Some _ _ h))
 numbered_from number before (NewDay day) signal after reading h = absurd (cc)
 numbered_from number before (PutProduct name nominal unit) signal after reading h = absurd (cc)
@@ -52,10 +52,10 @@ numbered_from number before (DrawSecond batch word) signal after reading h = abs
 numbered_from number before (Close batch) signal after reading h = absurd (cc)
 
 -- the reading at a place has the number after it
-pub number_at : (entries : List Entry) (place : ℕ) (reading : Reading) → reading_at entries place ≡ Some reading → reading.number ≡ place + 1
+pub number_at : (entries : List Entry) (place : ℕ) (reading : Reading) → placed_reading entries place ≡ Some reading → reading.number ≡ place + 1
 number_at entries place reading = each (slice_get entries place)
   where
-    each : (o : Option Entry) → option_and_then (λ (e : Entry). reading_from (place + 1) (take place entries) e.act e.signal (drop (place + 1) entries)) o ≡ Some reading → reading.number ≡ place + 1
+    each : (o : Option Entry) → option_and_then (λ (e : Entry). weighed_reading (place + 1) (take place entries) e.act e.signal (drop (place + 1) entries)) o ≡ Some reading → reading.number ≡ place + 1
     each None h = absurd (cc)
     each (Some e) h = numbered_from (place + 1) (take place entries) e.act e.signal (drop (place + 1) entries) reading h
 
@@ -137,7 +137,7 @@ increasing least (r ∷ q ∷ rs) up (suc k) h =
 
 -- the numbers of the readings ascend
 pub readings_ascend : (entries : List Entry) → Ascend 0 (readings entries)
-readings_ascend entries = ascending (reading_at entries) (number_at entries) 0 (length entries)
+readings_ascend entries = ascending (placed_reading entries) (number_at entries) 0 (length entries)
 
 -- as a list of numbers, also behind a filter
 pub numbers_increase : (entries : List Entry) (test : Reading → Bool) → IsStrictlyIncreasing (numbers_of (filter test (readings entries)))
@@ -161,24 +161,24 @@ abbrev pub IsOneOf : List Entry → Reading → Type 0
 IsOneOf entries reading = reading_of entries reading.number ≡ Some reading
 
 -- the reading of a number is the one at the place before it
-pub reading_of-at : (entries : List Entry) (place : ℕ) → place < length entries → reading_of entries (place + 1) ≡ reading_at entries place
-reading_of-at entries place h = at_its_place (reading_at entries) (number_at entries) 0 (length entries) place (omega arith) (omega (arith, h))
+pub reading_of-at : (entries : List Entry) (place : ℕ) → place < length entries → reading_of entries (place + 1) ≡ placed_reading entries place
+reading_of-at entries place h = at_its_place (placed_reading entries) (number_at entries) 0 (length entries) place (omega arith) (omega (arith, h))
 
 -- each reading is the one of its number
 pub each_is_one : (entries : List Entry) → All (IsOneOf entries) (readings entries)
 each_is_one entries =
-    All-weaker (Stands (reading_at entries) 0 (length entries)) (IsOneOf entries)
+    All-weaker (Stands (placed_reading entries) 0 (length entries)) (IsOneOf entries)
     (λ reading at.
     let inside = at.2 in
     ap (reading_of entries) (number_at entries at.0 reading at.3) ∙ reading_of-at entries at.0 (omega (arith, inside)) ∙ at.3)
-    (readings entries) (each_stands (reading_at entries) 0 (length entries))
+    (readings entries) (each_stands (placed_reading entries) 0 (length entries))
 
 -- its number is at most the length of the list
 pub each_number_within : (entries : List Entry) → All (λ (reading : Reading). reading.number ≤ length entries) (readings entries)
 each_number_within entries =
-    All-weaker (Stands (reading_at entries) 0 (length entries)) (λ (reading : Reading). reading.number ≤ length entries)
+    All-weaker (Stands (placed_reading entries) 0 (length entries)) (λ (reading : Reading). reading.number ≤ length entries)
     (λ reading at. let inside = at.2 in let number = number_at entries at.0 reading at.3 in omega (arith, inside, number))
-    (readings entries) (each_stands (reading_at entries) 0 (length entries))
+    (readings entries) (each_stands (placed_reading entries) 0 (length entries))
 
 -- what is found in a list passes the test, and has what each has
 pub of_found : (P : Reading → Type 0) (test : Reading → Bool) (some : List Reading) (reading : Reading) → All P some → find test some ≡ Some reading → (test reading ≡ true) × P reading
@@ -220,7 +220,7 @@ none_beyond entries number h = each (reading_of entries number) refl
 
 -- nor under 0
 pub none_at_zero : (entries : List Entry) → reading_of entries 0 ≡ None
-none_at_zero entries = not_before_it (reading_at entries) (number_at entries) 0 (length entries) 0 (omega arith)
+none_at_zero entries = not_before_it (placed_reading entries) (number_at entries) 0 (length entries) 0 (omega arith)
 
 -- the reading of a number, with one entry more: as the entry's act leaves it
 pub reading_of-push : (entries : List Entry) (entry : Entry) (number : ℕ) → number ≤ length entries → reading_of (entries ++ entry ∷ []) number ≡ option_map (advance entry.act) (reading_of entries number)
@@ -228,7 +228,7 @@ reading_of-push entries entry zero h = none_at_zero (entries ++ entry ∷ []) �
 reading_of-push entries entry (suc place) h =
     subst (λ n. reading_of (entries ++ entry ∷ []) n ≡ option_map (advance entry.act) (reading_of entries n)) (let same : place + 1 ≡ suc place = omega arith in same)
     (reading_of-at (entries ++ entry ∷ []) place (omega (arith, h, length-append entries (entry ∷ [])))
-    ∙ reading_at-push entries entry place (omega (arith, h))
+    ∙ placed_reading-push entries entry place (omega (arith, h))
     ∙ sym (ap (option_map (advance entry.act)) (reading_of-at entries place (omega (arith, h)))))
 
 last_of : (entries : List Entry) (entry : Entry) → slice_get (entries ++ entry ∷ []) (length entries) ≡ Some entry
@@ -243,6 +243,6 @@ none_behind (x ∷ xs) entry = ap (λ n. drop n (x ∷ (xs ++ entry ∷ []))) (l
 pub reading_of-last : (entries : List Entry) (entry : Entry) → reading_of (entries ++ entry ∷ []) (length entries + 1) ≡ own_reading entries entry
 reading_of-last entries entry =
     reading_of-at (entries ++ entry ∷ []) (length entries) (omega (arith, length-append entries (entry ∷ [])))
-    ∙ ap (option_and_then (λ (e : Entry). reading_from (length entries + 1) (take (length entries) (entries ++ entry ∷ [])) e.act e.signal (drop (length entries + 1) (entries ++ entry ∷ [])))) (last_of entries entry)
-    ∙ ap (λ (before : List Entry). reading_from (length entries + 1) before entry.act entry.signal (drop (length entries + 1) (entries ++ entry ∷ []))) (take-append_seam entries (entry ∷ []))
-    ∙ ap (reading_from (length entries + 1) entries entry.act entry.signal) (none_behind entries entry)
+    ∙ ap (option_and_then (λ (e : Entry). weighed_reading (length entries + 1) (take (length entries) (entries ++ entry ∷ [])) e.act e.signal (drop (length entries + 1) (entries ++ entry ∷ [])))) (last_of entries entry)
+    ∙ ap (λ (before : List Entry). weighed_reading (length entries + 1) before entry.act entry.signal (drop (length entries + 1) (entries ++ entry ∷ []))) (take-append_seam entries (entry ∷ []))
+    ∙ ap (weighed_reading (length entries + 1) entries entry.act entry.signal) (none_behind entries entry)

@@ -20,7 +20,7 @@ use Rattle.book_words.specs.Acts.{said, last_said, day_set, nominal_put, product
 use Rattle.tare_register.specs.Tares.{latest, dated_by}
 use Rattle.tare_register.proofs.Latest.{none_greater, latest-append, latest_nothing}
 use Rattle.book_words.specs.Tares.{tare_put, tares_put, tare_of_product}
-use Rattle.book_words.specs.Readings.{readings, reading_from, tare_of_reading}
+use Rattle.book_words.specs.Readings.{readings, weighed_reading, tare_of_reading}
 use Rattle.book_words.specs.Refusals.{refused_if, day_unset, day_back, product_unknown, batch_unknown, batch_state, lane_number, lane_busy, lane_idle, no_tare}
 use Rattle.book_words.specs.Answers.{IsLegal}
 use Rattle.book_words.specs.Soundness.{has_tare_and_nominal, TaresKnown}
@@ -277,7 +277,7 @@ started_from lane batch (e ∷ es) o p before k =
 pub started_for_it : (entries : List Entry) (lane : ℕ) (batch : Name) → lane_batch entries lane ≡ Some batch → last_batch entries lane ≡ Some batch
 started_for_it entries lane batch on = started_from lane batch entries None None (λ k. absurd (cc)) on
 
-own_weighed : (entries : List Entry) (entry : Entry) (act : Act) → IsTared entries → entry.act ≡ act → IsAllowed entries entry.act → All (IsWeighed (entries ++ entry ∷ [])) (cons_option (reading_from (length entries + 1) entries act entry.signal []) [])
+own_weighed : (entries : List Entry) (entry : Entry) (act : Act) → IsTared entries → entry.act ≡ act → IsAllowed entries entry.act → All (IsWeighed (entries ++ entry ∷ [])) (cons_option (weighed_reading (length entries + 1) entries act entry.signal []) [])
 own_weighed entries entry (Weigh lane gross prior) sound is h =
     let a = none_of_two (day_unset entries) _ rules in
     let b = none_of_two (lane_number lane) _ a.1 in

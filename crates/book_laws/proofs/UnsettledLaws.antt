@@ -15,7 +15,7 @@ use Rattle.book_words.specs.declared.act.Entry.{Entry}
 use Rattle.book_words.specs.declared.act.Reading.{Reading}
 use Rattle.book_words.specs.declared.refusal.Refusal.TheVariants as why
 use Rattle.book_words.specs.Acts.{last_said, prior_told, is_void_of, state_set, lane_used, state_of, last_batch, lane_batch, newest_day}
-use Rattle.book_words.specs.Readings.{reading_from, readings, reading_of}
+use Rattle.book_words.specs.Readings.{weighed_reading, readings, reading_of}
 use Rattle.book_words.specs.Population.{is_pass, is_unsettled, unsettled_reading}
 use Rattle.book_words.specs.Refusals.{refused_if}
 use Rattle.book_words.specs.Answers.{IsLawful, IsLegal}
@@ -121,7 +121,7 @@ belongs_on entries entry reading h one has =
           or_from reading.voided (is_void_of reading.number entry.act) (has.kept was.0) (voids_settled entries entry.act reading h one was.0);
     }
 
-own_belongs : (entries : List Entry) (entry : Entry) (act : Act) → IsOrderly entries → entry.act ≡ act → IsAllowed entries act → All (Belongs (entries ++ entry ∷ [])) (cons_option (reading_from (length entries + 1) entries act entry.signal []) [])
+own_belongs : (entries : List Entry) (entry : Entry) (act : Act) → IsOrderly entries → entry.act ≡ act → IsAllowed entries act → All (Belongs (entries ++ entry ∷ [])) (cons_option (weighed_reading (length entries + 1) entries act entry.signal []) [])
 own_belongs entries entry (Weigh lane gross prior) good is h =
     All-cons (Belongs (entries ++ entry ∷ [])) _ [] (own (lane_batch entries lane) refl (weigh_tells entries lane gross prior h).runs) (All-nil (Belongs (entries ++ entry ∷ [])))
   where
@@ -198,7 +198,7 @@ one_at_most test (Some r) = either (test r)
     either false = omega arith
 
 -- an act that says nothing of a lane's gate weighs nothing there
-own_elsewhere : (entries : List Entry) (act : Act) (signal : Option Signal) (lane : ℕ) → prior_told lane act ≡ None → filter (waits_on_lane lane) (cons_option (reading_from (length entries + 1) entries act signal []) []) ≡ []
+own_elsewhere : (entries : List Entry) (act : Act) (signal : Option Signal) (lane : ℕ) → prior_told lane act ≡ None → filter (waits_on_lane lane) (cons_option (weighed_reading (length entries + 1) entries act signal []) []) ≡ []
 own_elsewhere entries (Weigh number gross prior) signal lane told = either (number == lane) told (is_pass signal) _
   where
     either : (b : Bool) → cond b (Some prior) None ≡ None → (c : Bool) (reading : Reading) → cond (b && (c && true)) (reading ∷ []) [] ≡ []

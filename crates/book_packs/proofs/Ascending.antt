@@ -3,14 +3,14 @@ use Rattle.std.proofs.Common.{◌≡◌, ℕ, zero, suc, ◌+◌, ◌<◌, ◌�
 use Rattle.std.specs.List.{AllByRecursion, filter_map, range_with_len, cons_option}
 use Rattle.book_words.specs.declared.act.Entry.{Entry}
 use Rattle.book_words.specs.declared.act.Reading.{Reading}
-use Rattle.book_words.specs.Readings.{reading_at, readings}
+use Rattle.book_words.specs.Readings.{placed_reading, readings}
 use Rattle.std.specs.List.{filter, slice_index}
 use Rattle.std.specs.List.Sorted.{IsStrictlyIncreasing}
 use Rattle.book_words.specs.declared.name.Name.{Name}
 use Rattle.book_words.specs.Readings.{is_of_batch}
 use Rattle.book_words.specs.Population.{population, is_counted}
 use Rattle.book_words.specs.Samples.{numbers_of}
-use Rattle.book_words.proofs.DrawnPacks.{reading_at-number}
+use Rattle.book_words.proofs.DrawnPacks.{placed_reading-number}
 use Rattle.book_packs.proofs.Lists.{all_then}
 
 -- each number is above the one before it
@@ -18,24 +18,24 @@ abbrev pub Above : ℕ → List Reading → Type 0
 Above low [] = Unit {0}
 Above low (reading ∷ some) = (low < reading.number) × Above reading.number some
 
-above_from : (entries : List Entry) (from many low : ℕ) → low ≤ from → Above low (filter_map (reading_at entries) (range_with_len from many))
+above_from : (entries : List Entry) (from many low : ℕ) → low ≤ from → Above low (filter_map (placed_reading entries) (range_with_len from many))
 above_from entries from zero low h = tt
-above_from entries from (suc many) low h = go (reading_at entries from) (reading_at-number entries from) (above_from entries (from + 1) many)
+above_from entries from (suc many) low h = go (placed_reading entries from) (placed_reading-number entries from) (above_from entries (from + 1) many)
   where
-    go : (o : Option Reading) → IfSome o (λ reading. reading.number ≡ from + 1) → ((least : ℕ) → least ≤ from + 1 → Above least (filter_map (reading_at entries) (range_with_len (from + 1) many)))
-        → Above low (cons_option o (filter_map (reading_at entries) (range_with_len (from + 1) many)))
+    go : (o : Option Reading) → IfSome o (λ reading. reading.number ≡ from + 1) → ((least : ℕ) → least ≤ from + 1 → Above least (filter_map (placed_reading entries) (range_with_len (from + 1) many)))
+        → Above low (cons_option o (filter_map (placed_reading entries) (range_with_len (from + 1) many)))
     go None is rest = rest low (omega (arith, h))
     go (Some reading) is rest = (omega (arith, h, is), rest reading.number (omega (arith, is)))
 
 pub ascending : (entries : List Entry) → Above 0 (readings entries)
 ascending entries = above_from entries 0 (length entries) 0 (omega arith)
 
-within_from : (entries : List Entry) (from many : ℕ) → AllByRecursion (λ reading. reading.number ≤ from + many) (filter_map (reading_at entries) (range_with_len from many))
+within_from : (entries : List Entry) (from many : ℕ) → AllByRecursion (λ reading. reading.number ≤ from + many) (filter_map (placed_reading entries) (range_with_len from many))
 within_from entries from zero = tt
-within_from entries from (suc many) = go (reading_at entries from) (reading_at-number entries from) (all_then (λ reading h. omega (arith, h)) _ (within_from entries (from + 1) many))
+within_from entries from (suc many) = go (placed_reading entries from) (placed_reading-number entries from) (all_then (λ reading h. omega (arith, h)) _ (within_from entries (from + 1) many))
   where
-    go : (o : Option Reading) → IfSome o (λ reading. reading.number ≡ from + 1) → AllByRecursion (λ reading. reading.number ≤ from + suc many) (filter_map (reading_at entries) (range_with_len (from + 1) many))
-        → AllByRecursion (λ reading. reading.number ≤ from + suc many) (cons_option o (filter_map (reading_at entries) (range_with_len (from + 1) many)))
+    go : (o : Option Reading) → IfSome o (λ reading. reading.number ≡ from + 1) → AllByRecursion (λ reading. reading.number ≤ from + suc many) (filter_map (placed_reading entries) (range_with_len (from + 1) many))
+        → AllByRecursion (λ reading. reading.number ≤ from + suc many) (cons_option o (filter_map (placed_reading entries) (range_with_len (from + 1) many)))
     go None is rest = rest
     go (Some reading) is rest = (omega (arith, is), rest)
 

@@ -16,7 +16,7 @@ use Rattle.book_words.specs.declared.act.Reading.{Reading}
 use Rattle.book_words.specs.Names.{same_name}
 use Rattle.book_words.specs.Acts.{said, day_set, product_given, batch_started, batch_opened, newest_day, product_of, last_batch}
 use Rattle.book_words.specs.Order.{place_of, product_number, batch_number}
-use Rattle.book_words.specs.Readings.{readings, reading_from}
+use Rattle.book_words.specs.Readings.{readings, weighed_reading}
 use Rattle.book_words.specs.Refusals.{is_within}
 use Rattle.book_words.specs.Answers.{IsLegal}
 use Rattle.book_words.proofs.LastSaid.{last_said-push}
@@ -174,7 +174,7 @@ module _ (entries : List Entry) (entry : Entry) where
       }
 
   -- the last entry's own reading
-  own_weighed : (act : Act) → Known entries → Passes entries act → AllByRecursion (IsWeighed (entries ++ entry ∷ [])) (cons_option (reading_from (length entries + 1) entries act entry.signal []) [])
+  own_weighed : (act : Act) → Known entries → Passes entries act → AllByRecursion (IsWeighed (entries ++ entry ∷ [])) (cons_option (weighed_reading (length entries + 1) entries act entry.signal []) [])
   own_weighed (Weigh lane gross prior) known h = (own (newest_day entries) (last_batch entries lane) refl refl (weigh entries lane gross prior h).day (was_started entries lane (weigh entries lane gross prior h).runs), tt)
     where
       own : (day : Option ℤ) (batch : Option Name) → newest_day entries ≡ day → last_batch entries lane ≡ batch → is_some (newest_day entries) ≡ true → is_some (last_batch entries lane) ≡ true

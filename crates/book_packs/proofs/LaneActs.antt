@@ -22,7 +22,7 @@ use Rattle.book_words.specs.declared.act.Entry.{Entry}
 use Rattle.book_words.specs.declared.act.Reading.{Reading}
 use Rattle.book_words.specs.Acts.{said, batch_opened, prior_told, is_void_of, newest_day, last_batch}
 use Rattle.book_words.specs.Order.{batch_number}
-use Rattle.book_words.specs.Readings.{readings, reading_from, tare_of_reading}
+use Rattle.book_words.specs.Readings.{readings, weighed_reading, tare_of_reading}
 use Rattle.book_words.specs.Population.{settled_pile, is_pass}
 use Rattle.book_words.specs.Samples.{is_sampled, sample_of}
 use Rattle.book_words.specs.Piles.{pile_of, pile_with_sample}
@@ -106,13 +106,13 @@ stop-push entries entry lane prior old new is stands tares batches packs unsettl
           ∙ ap (λ o. settled o prior (packs_in entries)) (ap (λ some. slice_index_or some (lane - 1) None) stands.unsettled ∙ lane_at entries lane bounds.0 bounds.1)
           ∙ settled_is entries entry lane prior act known rules
           ∙ sym (packs-push entries entry known rules
-          ∙ ap (λ a. map (λ reading. pack_of (entries ++ entry ∷ []) (advance entry.act reading)) (readings entries) ++ map (pack_of (entries ++ entry ∷ [])) (cons_option (reading_from (length entries + 1) entries a entry.signal []) [])) is.act
+          ∙ ap (λ a. map (λ reading. pack_of (entries ++ entry ∷ []) (advance entry.act reading)) (readings entries) ++ map (pack_of (entries ++ entry ∷ [])) (cons_option (weighed_reading (length entries + 1) entries a entry.signal []) [])) is.act
           ∙ append-nil _);
       unsettled =
           unsettled ∙ ap (λ some. slice_set some (lane - 1) None) stands.unsettled
           ∙ unsettled_set entries entry lane prior None act bounds.0 bounds.1
           (ap (λ some. option_map (λ (r : Reading). r.number) (slice_get some 0)) (list_settled entries entry lane (lane_told entry lane prior act))
-          ∙ ap (λ a. option_map (λ (r : Reading). r.number) (slice_get (filter (is_lane_unsettled lane) (cons_option (reading_from (length entries + 1) entries a entry.signal []) [])) 0)) is.act);
+          ∙ ap (λ a. option_map (λ (r : Reading). r.number) (slice_get (filter (is_lane_unsettled lane) (cons_option (weighed_reading (length entries + 1) entries a entry.signal []) [])) 0)) is.act);
     }
 
 -- ---- a weighing
@@ -202,12 +202,12 @@ module _ (entries : List Entry) (entry : Entry) (weighing : Weighing) (is : IsWe
             packs ∙ ap (λ some. some ++ record { number = weighing.number; batch = weighing.batch; day = weighing.day; gross = weighing.gross; tare = weighing.tare; pile = signal_pile weighing.signal } ∷ []) (settled_before old stands)
             ∙ ap (λ (pack : Pack). map (λ reading. pack_of (entries ++ entry ∷ []) (advance entry.act reading)) (readings entries) ++ pack ∷ []) (sym own_pack)
             ∙ sym (packs-push entries entry known rules
-            ∙ ap (λ a. map (λ reading. pack_of (entries ++ entry ∷ []) (advance entry.act reading)) (readings entries) ++ map (pack_of (entries ++ entry ∷ [])) (cons_option (reading_from (length entries + 1) entries a entry.signal []) [])) is.act);
+            ∙ ap (λ a. map (λ reading. pack_of (entries ++ entry ∷ []) (advance entry.act reading)) (readings entries) ++ map (pack_of (entries ++ entry ∷ [])) (cons_option (weighed_reading (length entries + 1) entries a entry.signal []) [])) is.act);
         unsettled =
             unsettled ∙ ap (λ some. slice_set some (weighing.lane - 1) (newly_unsettled weighing)) stands.unsettled
             ∙ unsettled_set entries entry weighing.lane weighing.prior (newly_unsettled weighing) act bounds.0 bounds.1
             (ap (λ some. option_map (λ (r : Reading). r.number) (slice_get some 0)) (list_settled entries entry weighing.lane (lane_told entry weighing.lane weighing.prior act))
-            ∙ ap (λ a. option_map (λ (r : Reading). r.number) (slice_get (filter (is_lane_unsettled weighing.lane) (cons_option (reading_from (length entries + 1) entries a entry.signal []) [])) 0)) is.act
+            ∙ ap (λ a. option_map (λ (r : Reading). r.number) (slice_get (filter (is_lane_unsettled weighing.lane) (cons_option (weighed_reading (length entries + 1) entries a entry.signal []) [])) 0)) is.act
             ∙ own_unsettled (own_of entries entry weighing) (weighing.lane == weighing.lane) (is_pass entry.signal) (eq-eqb weighing.lane weighing.lane refl)
             ∙ ap (λ o. cond (is_pass o) (Some (length entries + 1)) None) is.signal
             ∙ ap (λ n. cond (is_pass (Some weighing.signal)) (Some n) None) (sym is.number));
@@ -292,7 +292,7 @@ void-push entries entry pack old new is stands tares batches packs unsettled =
           ∙ map-within (λ reading. cond (reading.number == pack) (record (pack_of entries reading) { pile = Voided }) (pack_of entries reading)) (λ reading. pack_of (entries ++ entry ∷ []) (advance entry.act reading)) (readings entries)
           (all_then (λ reading w. each known rules reading w) (readings entries) known.weighed)
           ∙ sym (packs-push entries entry known rules
-          ∙ ap (λ a. map (λ reading. pack_of (entries ++ entry ∷ []) (advance entry.act reading)) (readings entries) ++ map (pack_of (entries ++ entry ∷ [])) (cons_option (reading_from (length entries + 1) entries a entry.signal []) [])) is.act
+          ∙ ap (λ a. map (λ reading. pack_of (entries ++ entry ∷ []) (advance entry.act reading)) (readings entries) ++ map (pack_of (entries ++ entry ∷ [])) (cons_option (weighed_reading (length entries + 1) entries a entry.signal []) [])) is.act
           ∙ append-nil _);
       unsettled = unsettled ∙ stands.unsettled ∙ ap (λ (f : ℕ → Option ℕ). map f (range_with_len 1 MAX_LANE)) (λ i lane. sym (number_kept entries entry lane (ap (λ a. is_none (prior_told lane a)) is.act)) i);
     }

@@ -13,7 +13,7 @@ use Rattle.book_words.specs.declared.act.Act.TheVariants.{NewDay, PutProduct, Pu
 use Rattle.book_words.specs.declared.act.Entry.{Entry}
 use Rattle.book_words.specs.declared.act.Reading.{Reading}
 use Rattle.book_words.specs.Acts.{prior_told, newest_day, last_batch}
-use Rattle.book_words.specs.Readings.{readings, reading_from}
+use Rattle.book_words.specs.Readings.{readings, weighed_reading}
 use Rattle.book_words.specs.Population.{is_pass, is_unsettled, unsettled_reading}
 use Rattle.book_words.proofs.OneMoreEntry.{advance, own_reading, readings-push}
 use Rattle.book_packs.specs.Stand.{unsettled_number}
@@ -133,7 +133,7 @@ away prior rest own true h = absurd (cc)
 away prior rest own false h = refl
 
 -- the own reading of an act that doesn't settle a lane is none of the lane's
-own_elsewhere : (lane number : ℕ) (before : List Entry) (act : Act) (signal : Option Signal) → is_none (prior_told lane act) ≡ true → filter (is_lane_unsettled lane) (cons_option (reading_from number before act signal []) []) ≡ []
+own_elsewhere : (lane number : ℕ) (before : List Entry) (act : Act) (signal : Option Signal) → is_none (prior_told lane act) ≡ true → filter (is_lane_unsettled lane) (cons_option (weighed_reading number before act signal []) []) ≡ []
 own_elsewhere lane number before (Weigh other gross prior) signal h = away prior (is_pass signal && true) (own_of number before other gross signal) (other == lane) h
 own_elsewhere lane number before (NewDay day) signal h = refl
 own_elsewhere lane number before (PutProduct name nominal unit) signal h = refl

@@ -17,10 +17,10 @@ use Rattle.book_words.specs.declared.act.Reading.{Reading}
 use Rattle.book_words.specs.Order.{batch_number}
 use Rattle.book_words.specs.Readings.{readings, is_of_batch, net_of_reading}
 use Rattle.book_words.specs.Classes.{is_below, density_of_batch, limits_of_batch}
-use Rattle.book_words.specs.Population.{is_counted, population, population_among, unsettled_reading}
+use Rattle.book_words.specs.Population.{is_counted, population, counted_readings, unsettled_reading}
 use Rattle.book_words.specs.Piles.{pile_of}
-use Rattle.book_words.specs.Signals.{population_at}
-use Rattle.book_words.proofs.OneMoreEntry.{advance, readings_among-push}
+use Rattle.book_words.specs.Signals.{judging_population}
+use Rattle.book_words.proofs.OneMoreEntry.{advance, first_readings-push}
 use Rattle.book_packs.specs.Densities.{limit_at}
 use Rattle.book_packs.specs.Stand.{pack_of, packs_in, unsettled_number, terms_of_batch}
 use Rattle.book_packs.specs.Settling.{takes_out, pile_left, if_counted, leaving, met_less, met_without}
@@ -122,9 +122,9 @@ module _ (entries : List Entry) (lane : ℕ) (gross : ℤ) (prior : Prior) (name
       ∙ moved_counts (pile_of entries reading) prior (out reading)
       ∙ ap (λ b. b && not (out reading)) (counted_among entries reading)
 
-  met_list : population_at entries (Weigh lane gross prior) name ≡ map (advance entry.act) (filter (λ reading. (is_of_batch name reading && is_counted reading) && not (out reading)) (readings entries))
+  met_list : judging_population entries (Weigh lane gross prior) name ≡ map (advance entry.act) (filter (λ reading. (is_of_batch name reading && is_counted reading) && not (out reading)) (readings entries))
   met_list =
-      ap (population_among name) (readings_among-push entries entry)
+      ap (counted_readings name) (first_readings-push entries entry)
       ∙ filter-map (λ reading. is_of_batch name reading && is_counted reading) (advance entry.act) (readings entries)
       ∙ ap (λ (test : Reading → Bool). map (advance entry.act) (filter test (readings entries)))
       (λ i reading. (ap (λ b. is_of_batch name reading && b) (counted_behind reading) ∙ and_swap (is_of_batch name reading) (is_counted reading) (not (out reading))) i)
@@ -146,11 +146,11 @@ module _ (entries : List Entry) (lane : ℕ) (gross : ℤ) (prior : Prior) (name
 
   -- each count of the population is the one that is met and that of the reading taken out
   count_parts : (counts : Reading → Bool) → ((reading : Reading) → counts (advance entry.act reading) ≡ counts reading)
-      → count_by counts (population entries name) ≡ count_by counts (population_at entries (Weigh lane gross prior) name)
+      → count_by counts (population entries name) ≡ count_by counts (judging_population entries (Weigh lane gross prior) name)
       + count_by counts (filter (λ reading. is_of_batch name reading && is_counted reading) (cons_option (cond (takes_out prior) (unsettled_reading entries lane) None) []))
   count_parts counts same =
       let whole = parted counts (λ reading. is_of_batch name reading && is_counted reading) out (readings entries) in
-      let met : count_by counts (population_at entries (Weigh lane gross prior) name) ≡ count_by counts (filter (λ reading. (is_of_batch name reading && is_counted reading) && not (out reading)) (readings entries)) =
+      let met : count_by counts (judging_population entries (Weigh lane gross prior) name) ≡ count_by counts (filter (λ reading. (is_of_batch name reading && is_counted reading) && not (out reading)) (readings entries)) =
       ap (count_by counts) met_list
       ∙ count-map counts (advance entry.act) (filter (λ reading. (is_of_batch name reading && is_counted reading) && not (out reading)) (readings entries))
       ∙ ap (λ (test : Reading → Bool). count_by test (filter (λ reading. (is_of_batch name reading && is_counted reading) && not (out reading)) (readings entries))) (λ i reading. same reading i) in
@@ -178,14 +178,14 @@ module _ (entries : List Entry) (lane : ℕ) (gross : ℤ) (prior : Prior) (name
         inadequate = below (limits_of_batch entries name).t2 i;
       }
     where
-      equal : (counts : Reading → Bool) → ((reading : Reading) → counts (advance entry.act reading) ≡ counts reading) → count_by counts (population entries name) ≡ count_by counts (population_at entries (Weigh lane gross prior) name)
+      equal : (counts : Reading → Bool) → ((reading : Reading) → counts (advance entry.act reading) ≡ counts reading) → count_by counts (population entries name) ≡ count_by counts (judging_population entries (Weigh lane gross prior) name)
       equal counts same = let parts = count_parts counts same in let nothing = none counts in omega (arith, parts, nothing)
 
-      population_same : length (population entries name) ≡ length (population_at entries (Weigh lane gross prior) name)
-      population_same = length_count (population entries name) ∙ equal (λ reading. true) (λ reading. refl) ∙ sym (length_count (population_at entries (Weigh lane gross prior) name))
+      population_same : length (population entries name) ≡ length (judging_population entries (Weigh lane gross prior) name)
+      population_same = length_count (population entries name) ∙ equal (λ reading. true) (λ reading. refl) ∙ sym (length_count (judging_population entries (Weigh lane gross prior) name))
 
       below : (limit : ℤ) → count_by (λ reading. is_below (density_of_batch entries name) limit (net_of_reading entries reading)) (population entries name)
-          ≡ count_by (λ reading. is_below (density_of_batch entries name) limit (net_of_reading entries reading)) (population_at entries (Weigh lane gross prior) name)
+          ≡ count_by (λ reading. is_below (density_of_batch entries name) limit (net_of_reading entries reading)) (judging_population entries (Weigh lane gross prior) name)
       below limit = equal (λ reading. is_below (density_of_batch entries name) limit (net_of_reading entries reading)) (λ reading. refl)
 
   -- what is met where a pack of the batch is taken out
@@ -198,14 +198,14 @@ module _ (entries : List Entry) (lane : ℕ) (gross : ℤ) (prior : Prior) (name
         inadequate = below (limits_of_batch entries name).t2 i;
       }
     where
-      less : (counts : Reading → Bool) → ((reading : Reading) → counts (advance entry.act reading) ≡ counts reading) → count_by counts (population entries name) - cond (counts v) 1 0 ≡ count_by counts (population_at entries (Weigh lane gross prior) name)
+      less : (counts : Reading → Bool) → ((reading : Reading) → counts (advance entry.act reading) ≡ counts reading) → count_by counts (population entries name) - cond (counts v) 1 0 ≡ count_by counts (judging_population entries (Weigh lane gross prior) name)
       less counts same = let parts = count_parts counts same in let own = one counts in omega (arith, parts, own)
 
-      population_less : length (population entries name) - 1 ≡ length (population_at entries (Weigh lane gross prior) name)
-      population_less = ap (λ n. n - 1) (length_count (population entries name)) ∙ less (λ reading. true) (λ reading. refl) ∙ sym (length_count (population_at entries (Weigh lane gross prior) name))
+      population_less : length (population entries name) - 1 ≡ length (judging_population entries (Weigh lane gross prior) name)
+      population_less = ap (λ n. n - 1) (length_count (population entries name)) ∙ less (λ reading. true) (λ reading. refl) ∙ sym (length_count (judging_population entries (Weigh lane gross prior) name))
 
       below : (limit : ℤ) → count_by (λ reading. is_below (density_of_batch entries name) limit (net_of_reading entries reading)) (population entries name) - cond (int_lt (net_of_reading entries v) (limit_at (density_of_batch entries name) limit)) 1 0
-          ≡ count_by (λ reading. is_below (density_of_batch entries name) limit (net_of_reading entries reading)) (population_at entries (Weigh lane gross prior) name)
+          ≡ count_by (λ reading. is_below (density_of_batch entries name) limit (net_of_reading entries reading)) (judging_population entries (Weigh lane gross prior) name)
       below limit =
           ap (λ b. count_by (λ reading. is_below (density_of_batch entries name) limit (net_of_reading entries reading)) (population entries name) - cond b 1 0) (below_is (density_of_batch entries name) limit (net_of_reading entries v))
           ∙ less (λ reading. is_below (density_of_batch entries name) limit (net_of_reading entries reading)) (λ reading. refl)

@@ -23,12 +23,12 @@ use Rattle.book_words.specs.declared.refusal.Refusal.{Refusal}
 use Rattle.book_words.specs.declared.refusal.Refusal.TheVariants.{SecondNotNeeded}
 use Rattle.book_words.specs.Names.{same_name}
 use Rattle.book_words.specs.Acts.{last_said, prior_told, is_void_of, batch_opened}
-use Rattle.book_words.specs.Readings.{readings, reading_from}
+use Rattle.book_words.specs.Readings.{readings, weighed_reading}
 use Rattle.book_words.specs.Population.{settled_pile, unsampled_pile, same_pile}
 use Rattle.book_words.specs.Samples.{Drawing, Sample, drawing_from, drawing_of, first_picks, second_word, sample_by, sample_of, is_among, is_sampled}
 use Rattle.book_words.specs.Piles.{pile_of, pile_with_sample}
 use Rattle.book_words.specs.Verdicts.{second_packs, first_defective}
-use Rattle.book_words.specs.Refusals.{refused_if, day_unset, batch_unknown, batch_state, second_needless, is_second_needless}
+use Rattle.book_words.specs.Refusals.{refused_if, day_unset, batch_unknown, batch_state, second_not_needed, is_second_not_needed}
 use Rattle.book_words.specs.declared.act.BatchState.TheVariants as state
 use Rattle.book_words.proofs.NameLemmas.{same_name_is, same_name_itself}
 use Rattle.book_words.proofs.OneMoreEntry.{advance}
@@ -222,9 +222,9 @@ second_open entries batch word sample h there =
     let a = none_of_two (day_unset entries) _ h in
     let b = none_of_two (batch_unknown entries batch) _ a.1 in
     let c = none_of_two (batch_state (state.Drawn ∷ []) entries batch) _ b.1 in
-    let d = none_of_two (second_needless entries batch) _ c.1 in
-    let e = sym (ap (option_and_then (λ (s : Sample). refused_if (is_second_needless entries batch s) (SecondNotNeeded (first_defective entries batch s)))) there) ∙ d.0 in
-    middle (sample.plan.second == 0) (is_some sample.second) _ (off (is_second_needless entries batch sample) _ e)
+    let d = none_of_two (second_not_needed entries batch) _ c.1 in
+    let e = sym (ap (option_and_then (λ (s : Sample). refused_if (is_second_not_needed entries batch s) (SecondNotNeeded (first_defective entries batch s)))) there) ∙ d.0 in
+    middle (sample.plan.second == 0) (is_some sample.second) _ (off (is_second_not_needed entries batch sample) _ e)
   where
     off : (test : Bool) (refusal : Refusal) → refused_if test refusal ≡ None → test ≡ false
     off true refusal k = absurd (cc)
@@ -316,7 +316,7 @@ module _ (entries : List Entry) (entry : Entry) (legal_rules : Passes entries en
 record Draws (act : Act) (name : Name) : Type 0 where
   told : (lane : ℕ) → prior_told lane act ≡ None
   voids : (number : ℕ) → is_void_of number act ≡ false
-  own : (number : ℕ) (before : List Entry) (signal : Option Signal) → reading_from number before act signal [] ≡ None
+  own : (number : ℕ) (before : List Entry) (signal : Option Signal) → weighed_reading number before act signal [] ≡ None
   tares : tare_named act ≡ None
   opens : batch_opened act ≡ None
 

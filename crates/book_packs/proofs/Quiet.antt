@@ -22,7 +22,7 @@ use Rattle.book_words.specs.declared.act.Entry.{Entry}
 use Rattle.book_words.specs.declared.act.Reading.{Reading}
 use Rattle.book_words.specs.Acts.{prior_told, is_void_of, batch_opened, nominal_put, unit_put, product_given, density_given, nominal_of, unit_of, product_of, density_of}
 use Rattle.book_words.specs.Order.{product_number}
-use Rattle.book_words.specs.Readings.{readings, reading_from, tare_of_reading}
+use Rattle.book_words.specs.Readings.{readings, weighed_reading, tare_of_reading}
 use Rattle.book_words.specs.Population.{settled_pile}
 use Rattle.book_words.specs.Samples.{is_sampled}
 use Rattle.book_words.specs.Piles.{pile_of, pile_with_sample}
@@ -45,7 +45,7 @@ pub record IsStill (act : Act) : Type 0 where
   pub told : (lane : ℕ) → prior_told lane act ≡ None
   pub voids : (number : ℕ) → is_void_of number act ≡ false
   pub draws : is_draw act ≡ false
-  pub own : (number : ℕ) (before : List Entry) (signal : Option Signal) → reading_from number before act signal [] ≡ None
+  pub own : (number : ℕ) (before : List Entry) (signal : Option Signal) → weighed_reading number before act signal [] ≡ None
 
 pub tare_still : (name : Name) (day tare : ℤ) → IsStill (PutTare name day tare)
 tare_still name day tare = record { told = λ lane. refl; voids = λ number. refl; draws = refl; own = λ number before signal. refl }

@@ -13,7 +13,7 @@ use Rattle.book_words.specs.Order.{batch_number}
 use Rattle.book_words.specs.Readings.{readings, reading_of}
 use Rattle.book_words.specs.Population.{readings_of_batch, population, nonstandard_count, inadequate_count, net_sum}
 use Rattle.book_words.specs.Piles.{in_pile, tally}
-use Rattle.book_words.specs.Signals.{population_at}
+use Rattle.book_words.specs.Signals.{judging_population}
 use Rattle.book_words.specs.Refusals.{is_closed, is_frozen}
 use Rattle.book_packs.specs.declared.types.AtWeighing.{AtWeighing}
 use Rattle.book_packs.specs.Stand.{pack_of}
@@ -52,7 +52,7 @@ piles_told entries =
 -- what a weighing meets in a batch: the population that the act leaves of the readings before it
 abbrev pub met_at : List Entry → Act → Name → AtWeighing
 met_at entries act batch =
-    let some = population_at entries act batch in
+    let some = judging_population entries act batch in
     record {
       population = length some;
       nonstandard = nonstandard_count entries batch some;

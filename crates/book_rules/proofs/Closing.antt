@@ -14,9 +14,9 @@ use Rattle.book_words.specs.declared.act.Entry.{Entry}
 use Rattle.book_words.specs.declared.act.Reading.{Reading}
 use Rattle.book_words.specs.Acts.{last_said, nominal_put, unit_put, product_given, density_given, nominal_of, unit_of, product_of, density_of}
 use Rattle.book_words.specs.Tares.{tare_put, tares_put, tare_of_product}
-use Rattle.book_words.specs.Readings.{reading_from, readings, reading_of, tare_of_reading}
+use Rattle.book_words.specs.Readings.{weighed_reading, readings, reading_of, tare_of_reading}
 use Rattle.book_words.specs.Classes.{nominal_of_batch, density_by_unit, density_of_batch}
-use Rattle.book_words.specs.Population.{population_among, population}
+use Rattle.book_words.specs.Population.{counted_readings, population}
 use Rattle.book_words.specs.Samples.{Drawing, drawing_from, drawing_of, second_word, sample_by, sample_of}
 use Rattle.book_words.specs.Measures.{Measured, measured_by, measured_of, actual_contents, contents_of_pack, contents_among}
 use Rattle.book_words.specs.Verdicts.{second_packs, verdict_of}
@@ -55,7 +55,7 @@ module _ (entries : List Entry) (entry : Entry) (name : Name) (is : entry.act �
   readings_still : readings (entries ++ entry ∷ []) ≡ readings entries
   readings_still =
       readings-push entries entry
-      ∙ ap (λ (act : Act). map (advance act) (readings entries) ++ cons_option (reading_from (length entries + 1) entries act entry.signal []) []) is
+      ∙ ap (λ (act : Act). map (advance act) (readings entries) ++ cons_option (weighed_reading (length entries + 1) entries act entry.signal []) []) is
       ∙ append-nil (map (advance (Close name)) (readings entries))
       ∙ all_still name (readings entries)
 
@@ -115,7 +115,7 @@ module _ (entries : List Entry) (entry : Entry) (name : Name) (is : entry.act �
   agrees : (batch : Name) → Agree (entries ++ entry ∷ []) entries batch
   agrees batch =
       record {
-        packs = ap (population_among batch) readings_still;
+        packs = ap (counted_readings batch) readings_still;
         sample = sample_still batch;
         nominal = nominal_still batch;
         density = density_still batch;

@@ -61,7 +61,7 @@ fn is_desk_right(ask: &Ask, act: &Act) -> bool
 
 /// The number isn't that of a desk, an act of a lane comes from a desk, or a request comes without
 /// a desk.
-pub fn refuse_desk(ask: &Ask, act: &Act) -> Option<Refusal>
+pub fn desk_number(ask: &Ask, act: &Act) -> Option<Refusal>
     ensures { result ≡ desk_number ask.now act.now }
 {
     if is_desk_right(ask, act) {

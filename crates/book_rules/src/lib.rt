@@ -9,7 +9,7 @@ mod rules;
 mod samples;
 mod signals;
 
-pub use desks::{refuse_desk, repeated_row};
+pub use desks::{desk_number, repeated_row};
 pub use replies::{reply_again, reply_new};
 pub use rules::refuse;
 pub use signals::recorded_signal;

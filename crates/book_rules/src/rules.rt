@@ -143,7 +143,7 @@ fn refuse_second(state: &State, batch: &Name, word: u64) -> Option<Refusal>
     checks::day_unset(state)
         .or(checks::batch_unknown(state, batch))
         .or(checks::batch_state(&[BatchState::Drawn], state, batch))
-        .or(samples::second_needless(state, batch))
+        .or(samples::second_not_needed(state, batch))
         .or(samples::first_wanting(state, batch))
 }
 
@@ -157,7 +157,7 @@ fn refuse_closing(state: &State, batch: &Name) -> Option<Refusal>
         .or(checks::batch_state(&allowed, state, batch))
         .or(samples::not_drawn(state, batch))
         .or(samples::needed_wanting(state, batch))
-        .or(samples::second_wanted(state, batch))
+        .or(samples::second_needed(state, batch))
 }
 
 // The act is refused by its own rules.

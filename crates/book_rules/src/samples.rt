@@ -123,10 +123,10 @@ fn is_measured(state: &State, batch: &Name, sample: &Sample) -> bool
 }
 
 // Whether a second sample isn't needed.
-fn is_second_needless(state: &State, batch: &Name, sample: &Sample, d1: u32) -> bool
+fn is_second_not_needed(state: &State, batch: &Name, sample: &Sample, d1: u32) -> bool
     requires sample { IsSampleOf state.now.entries batch.now sample.now }
     requires defective { d1 ≡ first_defective state.now.entries batch.now sample.now }
-    ensures { result ≡ rules.is_second_needless state.now.entries batch.now sample.now }
+    ensures { result ≡ rules.is_second_not_needed state.now.entries batch.now sample.now }
 {
     let plan = sample.plan();
     plan.second == 0
@@ -135,13 +135,13 @@ fn is_second_needless(state: &State, batch: &Name, sample: &Sample, d1: u32) -> 
 }
 
 /// No second sample is needed.
-pub fn second_needless(state: &State, batch: &Name) -> Option<Refusal>
-    ensures { result ≡ rules.second_needless state.now.entries batch.now }
+pub fn second_not_needed(state: &State, batch: &Name) -> Option<Refusal>
+    ensures { result ≡ rules.second_not_needed state.now.entries batch.now }
 {
     let sample = state.sample(batch)?;
     let d1 = count_first(state, batch, sample);
     refuse_if(
-        is_second_needless(state, batch, sample, d1),
+        is_second_not_needed(state, batch, sample, d1),
         Refusal::SecondNotNeeded { d1 },
     )
 }
@@ -198,22 +198,22 @@ pub fn needed_wanting(state: &State, batch: &Name) -> Option<Refusal>
 }
 
 // Whether a second sample is wanted.
-fn is_second_wanted(state: &State, batch: &Name, sample: &Sample, d1: u32) -> bool
+fn is_second_needed(state: &State, batch: &Name, sample: &Sample, d1: u32) -> bool
     requires sample { IsSampleOf state.now.entries batch.now sample.now }
     requires defective { d1 ≡ first_defective state.now.entries batch.now sample.now }
-    ensures { result ≡ rules.is_second_wanted state.now.entries batch.now sample.now }
+    ensures { result ≡ rules.is_second_needed state.now.entries batch.now sample.now }
 {
     is_measured(state, batch, sample) && is_open(sample.plan(), d1) && sample.second().is_none()
 }
 
 /// A second sample is wanted.
-pub fn second_wanted(state: &State, batch: &Name) -> Option<Refusal>
-    ensures { result ≡ rules.second_wanted state.now.entries batch.now }
+pub fn second_needed(state: &State, batch: &Name) -> Option<Refusal>
+    ensures { result ≡ rules.second_needed state.now.entries batch.now }
 {
     let sample = state.sample(batch)?;
     let d1 = count_first(state, batch, sample);
     refuse_if(
-        is_second_wanted(state, batch, sample, d1),
+        is_second_needed(state, batch, sample, d1),
         Refusal::SecondNeeded { d1 },
     )
 }

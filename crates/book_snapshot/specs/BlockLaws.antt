@@ -33,8 +33,12 @@ block_content-first count bytes = refl
 pub length-content_block :
     (piece : List ℕ) → length piece ≤ BLOCK_CONTENT → length (content_block piece) ≡ ROW_BYTES
 length-content_block piece short =
-    omega (arith, short, length-append piece (replicate (BLOCK_CONTENT - length piece) 0),
-    length-replicate {A = ℕ} (BLOCK_CONTENT - length piece) 0)
+    omega (
+      arith,
+      short,
+      length-append piece (replicate (BLOCK_CONTENT - length piece) 0),
+      length-replicate {A = ℕ} (BLOCK_CONTENT - length piece) 0,
+    )
 
 piece_short : (content : List ℕ) → length (take BLOCK_CONTENT content) ≤ BLOCK_CONTENT
 piece_short content = omega (arith, length-take BLOCK_CONTENT content)
@@ -47,7 +51,7 @@ length-content_blocks (suc count) content =
       arith,
       ap length (content_blocks-first count content),
       length-append (content_block (take BLOCK_CONTENT content))
-      (content_blocks count (drop BLOCK_CONTENT content)),
+          (content_blocks count (drop BLOCK_CONTENT content)),
       length-content_block (take BLOCK_CONTENT content) (piece_short content),
       length-content_blocks count (drop BLOCK_CONTENT content),
     )
@@ -109,12 +113,12 @@ length-block_content (suc count) bytes long =
       long,
       ap length (block_content-first count bytes),
       length-append (take BLOCK_CONTENT (drop BLOCK_HEAD bytes))
-      (block_content count (drop ROW_BYTES bytes)),
+          (block_content count (drop ROW_BYTES bytes)),
       length-take BLOCK_CONTENT (drop BLOCK_HEAD bytes),
       length-drop BLOCK_HEAD bytes,
       length-drop ROW_BYTES bytes,
       length-block_content count (drop ROW_BYTES bytes)
-      (omega (arith, long, length-drop ROW_BYTES bytes)),
+          (omega (arith, long, length-drop ROW_BYTES bytes)),
     )
 
 -- the front of two lists behind one another
@@ -147,8 +151,12 @@ content_back (suc count) content more short =
     ap (λ (l : List ℕ). l ++ more) (content_blocks-first count content)
     ∙ append_assoc (content_block piece) others more in
     let full : length (piece ++ zeros) ≡ BLOCK_CONTENT =
-    omega (arith, small, length-append piece zeros,
-    length-replicate {A = ℕ} (BLOCK_CONTENT - length piece) 0) in
+    omega (
+      arith,
+      small,
+      length-append piece zeros,
+      length-replicate {A = ℕ} (BLOCK_CONTENT - length piece) 0,
+    ) in
     let first : take BLOCK_CONTENT (drop BLOCK_HEAD (content_block piece ++ (others ++ more)))
     ≡ piece ++ zeros =
     take_at (piece ++ zeros) (others ++ more) BLOCK_CONTENT full in
@@ -184,7 +192,7 @@ content_back (suc count) content more short =
     cases zero m = inl (omega arith)
     cases (suc n) zero = inr (omega arith)
     cases (suc n) (suc m) =
-      ⊎_elim (λ le. inl (omega (arith, le))) (λ lt. inr (omega (arith, lt))) (cases n m)
+        ⊎_elim (λ le. inl (omega (arith, le))) (λ lt. inr (omega (arith, lt))) (cases n m)
 
     none_behind : (l : List ℕ) → length l ≡ 0 → [] ≡ l
     none_behind [] none = refl
@@ -201,30 +209,32 @@ content_back (suc count) content more short =
         (zeros ++ block_content count (content_blocks count (drop BLOCK_CONTENT content) ++ more))
         ≡ drop BLOCK_CONTENT content
     tail_of count content zeros more sizes rests zero_count back =
-      elim (cases (length content) BLOCK_CONTENT) [
-      | inl small ↦
-          let none : length content - length (take BLOCK_CONTENT content) ≡ 0 =
-          omega (arith, small, sizes) in
-          ap
-          (λ (n : ℕ). take n
-          (zeros ++ block_content count
-          (content_blocks count (drop BLOCK_CONTENT content) ++ more))) none
-          ∙ none_behind (drop BLOCK_CONTENT content) (omega (arith, small, rests))
-      | inr large ↦
-          let left : length content - length (take BLOCK_CONTENT content)
-          ≡ length (drop BLOCK_CONTENT content) =
-          omega (arith, large, sizes, rests) in
-          let no_zeros : [] ≡ zeros = none_behind zeros (omega (arith, zero_count, sizes, large)) in
-          ap
-          (λ (n : ℕ). take n
-          (zeros ++ block_content count
-          (content_blocks count (drop BLOCK_CONTENT content) ++ more))) left
-          ∙ ap
-          (λ (l : List ℕ). take (length (drop BLOCK_CONTENT content))
-          (l ++ block_content count (content_blocks count (drop BLOCK_CONTENT content) ++ more)))
-          (sym no_zeros)
-          ∙ back
-    ]
+        elim (cases (length content) BLOCK_CONTENT) [
+          | inl small ↦
+              let none : length content - length (take BLOCK_CONTENT content) ≡ 0 =
+              omega (arith, small, sizes) in
+              ap
+              (λ (n : ℕ). take n
+              (zeros ++ block_content count
+              (content_blocks count (drop BLOCK_CONTENT content) ++ more))) none
+              ∙ none_behind (drop BLOCK_CONTENT content) (omega (arith, small, rests))
+          | inr large ↦
+              let left : length content - length (take BLOCK_CONTENT content)
+              ≡ length (drop BLOCK_CONTENT content) =
+              omega (arith, large, sizes, rests) in
+              let no_zeros : [] ≡ zeros =
+              none_behind zeros (omega (arith, zero_count, sizes, large)) in
+              ap
+              (λ (n : ℕ). take n
+              (zeros ++ block_content count
+              (content_blocks count (drop BLOCK_CONTENT content) ++ more))) left
+              ∙ ap
+              (λ (l : List ℕ). take (length (drop BLOCK_CONTENT content))
+              (l ++ block_content count
+              (content_blocks count (drop BLOCK_CONTENT content) ++ more)))
+              (sym no_zeros)
+              ∙ back
+        ]
 
 -- there are enough blocks, and no more than are needed
 pub blocks_enough : (bytes : ℕ) → bytes ≤ BLOCK_CONTENT * blocks_for bytes
@@ -259,9 +269,9 @@ pub one_size :
     → (rows ≡ other_rows) × (bytes ≡ other_bytes)
 one_size kind rows bytes other_rows other_bytes size other same = (
   sym (end_rows kind rows bytes (end_block kind rows bytes) (omega (arith, size.few_rows)) refl)
-  ∙ end_rows kind other_rows other_bytes (end_block kind rows bytes) (omega (arith, other.few_rows))
-  same,
+      ∙ end_rows kind other_rows other_bytes (end_block kind rows bytes)
+      (omega (arith, other.few_rows)) same,
   sym (end_bytes kind rows bytes (end_block kind rows bytes) (omega (arith, size.few_bytes)) refl)
-  ∙ end_bytes kind other_rows other_bytes (end_block kind rows bytes)
-  (omega (arith, other.few_bytes)) same,
+      ∙ end_bytes kind other_rows other_bytes (end_block kind rows bytes)
+      (omega (arith, other.few_bytes)) same,
 )

@@ -20,10 +20,10 @@ use Rattle.book_words.specs.declared.act.Act.TheVariants.{NewDay, PutProduct, Pu
 use Rattle.book_words.specs.declared.act.Entry.{Entry}
 use Rattle.book_words.specs.declared.act.Reading.{Reading}
 use Rattle.book_words.specs.Acts.{newest_day, last_batch}
-use Rattle.book_words.specs.Readings.{readings, reading_from, is_of_batch, net_of_reading}
+use Rattle.book_words.specs.Readings.{readings, weighed_reading, is_of_batch, net_of_reading}
 use Rattle.book_words.specs.Classes.{is_below, nominal_of_batch, density_of_batch, limits_of_batch}
-use Rattle.book_words.specs.Population.{population, population_among, is_counted, is_pass, nonstandard_count, inadequate_count}
-use Rattle.book_words.specs.Signals.{class_signal, signal_by_class, judged_signal, population_at, recorded_signal}
+use Rattle.book_words.specs.Population.{population, counted_readings, is_counted, is_pass, nonstandard_count, inadequate_count}
+use Rattle.book_words.specs.Signals.{class_signal, signal_by_class, judged_signal, judging_population, recorded_signal}
 use Rattle.book_words.specs.Answers.{IsLegal}
 use Rattle.book_words.proofs.OneMoreEntry.{advance, own_reading}
 use Rattle.book_packs.specs.Told.{totals_told}
@@ -52,9 +52,9 @@ fewer_after entries batch (DrawSecond name word) = omega arith
 fewer_after entries batch (Close name) = omega arith
 
 -- so what a weighing meets is no longer than the population
-pub fewer_at : (entries : List Entry) (batch : Name) (act : Act) → IsLegal entries → length (population_at entries act batch) ≤ length (population entries batch)
+pub fewer_at : (entries : List Entry) (batch : Name) (act : Act) → IsLegal entries → length (judging_population entries act batch) ≤ length (population entries batch)
 fewer_at entries batch act legal =
-    let count : length (population_at entries act batch) ≡ length (filter (counts_after batch act) (readings entries)) =
+    let count : length (judging_population entries act batch) ≡ length (filter (counts_after batch act) (readings entries)) =
     ap (λ (some : List Reading). length some) (population_at_is entries act batch legal) ∙ length-map (filter (counts_after batch act) (readings entries)) (advance act) in
     let few = fewer_after entries batch act in
     omega (arith, count, few)
@@ -70,8 +70,8 @@ not_full false some nonstandard class h = either (some == MAX_POPULATION) refl h
     either false is k = refl
 
 own_room : (entries : List Entry) (entry : Entry) (batch : Name) (act : Act) (signal : Option Signal) → signal ≡ recorded_signal entries act
-    → length (filter (counts_after batch act) (readings entries)) ≤ MAX_POPULATION → length (population_at entries act batch) ≡ length (filter (counts_after batch act) (readings entries))
-    → length (filter (counts_after batch act) (readings entries)) + length (population_among batch (cons_option (reading_from (length entries + 1) entries act signal []) [])) ≤ MAX_POPULATION
+    → length (filter (counts_after batch act) (readings entries)) ≤ MAX_POPULATION → length (judging_population entries act batch) ≡ length (filter (counts_after batch act) (readings entries))
+    → length (filter (counts_after batch act) (readings entries)) + length (counted_readings batch (cons_option (weighed_reading (length entries + 1) entries act signal []) [])) ≤ MAX_POPULATION
 own_room entries entry batch (Weigh lane gross prior) signal is few same =
     either (is_of_batch batch own) refl (is_counted own) refl
   where
@@ -91,8 +91,8 @@ own_room entries entry batch (Weigh lane gross prior) signal is few same =
         let name : last_batch entries lane ≡ Some batch = batch_is batch (last_batch entries lane) of_it in
         let judged : signal ≡ Some (judged_signal entries (Weigh lane gross prior) gross batch) = is ∙ ap (option_map (judged_signal entries (Weigh lane gross prior) gross)) name in
         let passes : is_pass signal ≡ true = of_signal signal counts (ap is_some judged) in
-        let apart = not_full _ (length (population_at entries (Weigh lane gross prior) batch)) _ _ (sym (ap is_pass judged) ∙ passes) in
-        let other = eqb-false (length (population_at entries (Weigh lane gross prior) batch)) MAX_POPULATION apart in
+        let apart = not_full _ (length (judging_population entries (Weigh lane gross prior) batch)) _ _ (sym (ap is_pass judged) ∙ passes) in
+        let other = eqb-false (length (judging_population entries (Weigh lane gross prior) batch)) MAX_POPULATION apart in
         elim (leb_tells MAX_POPULATION before) [
           | inl full ↦ (let most = full.1 in absurd (other (same ∙ (let it : before ≡ MAX_POPULATION = omega (arith, most, few) in it))))
           | inr less ↦ (let fewer = less.1 in omega (arith, fewer))
@@ -117,8 +117,8 @@ population_few =
     let same = ap (λ (some : List Reading). length some) (population_at_is es e.act batch legal) ∙ length-map (filter (counts_after batch e.act) (readings es)) (advance e.act) in
     let room = own_room es e batch e.act e.signal lawful.signal (omega (arith, few, fewer)) same in
     let whole = ap (λ (some : List Reading). length some) (population_is es e batch legal)
-    ∙ length-append (map (advance e.act) (filter (counts_after batch e.act) (readings es))) (population_among batch (cons_option (own_reading es e) []))
-    ∙ ap (λ n. n + length (population_among batch (cons_option (own_reading es e) []))) (length-map (filter (counts_after batch e.act) (readings es)) (advance e.act)) in
+    ∙ length-append (map (advance e.act) (filter (counts_after batch e.act) (readings es))) (counted_readings batch (cons_option (own_reading es e) []))
+    ∙ ap (λ n. n + length (counted_readings batch (cons_option (own_reading es e) []))) (length-map (filter (counts_after batch e.act) (readings es)) (advance e.act)) in
     omega (arith, room, whole))
 
 -- ---- who is inadequate isn't standard
@@ -178,8 +178,8 @@ totals_few entries batch totals legal is =
 
 -- and what a weighing meets
 pub met_few : (entries : List Entry) (act : Act) (batch : Name) → IsLegal entries
-    → (length (population_at entries act batch) ≤ MAX_POPULATION) × (nonstandard_count entries batch (population_at entries act batch) ≤ length (population_at entries act batch))
+    → (length (judging_population entries act batch) ≤ MAX_POPULATION) × (nonstandard_count entries batch (judging_population entries act batch) ≤ length (judging_population entries act batch))
 met_few entries act batch legal =
     let few = population_few entries legal batch in
     let fewer = fewer_at entries batch act legal in
-    (omega (arith, few, fewer), nonstandard_few entries batch (population_at entries act batch))
+    (omega (arith, few, fewer), nonstandard_few entries batch (judging_population entries act batch))

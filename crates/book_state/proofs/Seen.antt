@@ -12,7 +12,7 @@ use Rattle.book_words.specs.declared.act.Act.TheVariants.{NewDay, PutProduct, Pu
 use Rattle.book_words.specs.declared.act.Entry.{Entry}
 use Rattle.book_words.specs.declared.act.Reading.{Reading}
 use Rattle.book_words.specs.Acts.{last_batch}
-use Rattle.book_words.specs.Readings.{reading_from, reading_of}
+use Rattle.book_words.specs.Readings.{weighed_reading, reading_of}
 use Rattle.book_words.specs.Signals.{judged_signal, recorded_signal}
 use Rattle.book_words.specs.Ranges.{IsBetween, is_act_in_range}
 use Rattle.book_words.specs.Answers.{ask_of, IsLegal}
@@ -23,7 +23,7 @@ use Rattle.book_state.specs.Told.{entry_numbered, lane_weighed}
 
 -- the reading that an entry of a number gives
 abbrev pub reading_in : List Entry → ℕ → Entry → Option Reading
-reading_in entries number e = reading_from (number - 1 + 1) (take (number - 1) entries) e.act e.signal (drop (number - 1 + 1) entries)
+reading_in entries number e = weighed_reading (number - 1 + 1) (take (number - 1) entries) e.act e.signal (drop (number - 1 + 1) entries)
 
 at_least : (entries : List Entry) (number : ℕ) → 1 ≤ number → slice_get entries (number - 1) ≡ entry_numbered entries number
 at_least entries number h = sym (ap (λ b. cond b (slice_get entries (number - 1)) None) (le-leb 1 number h))
@@ -45,7 +45,7 @@ reading_is entries (suc place) =
     ]
     ∙ ap (option_and_then (reading_in entries number)) (at_least entries number least)
 
-lane_from : (number : ℕ) (before : List Entry) (act : Act) (signal : Option Signal) (after : List Entry) → option_map (λ (r : Reading). r.lane) (reading_from number before act signal after) ≡ lane_weighed act
+lane_from : (number : ℕ) (before : List Entry) (act : Act) (signal : Option Signal) (after : List Entry) → option_map (λ (r : Reading). r.lane) (weighed_reading number before act signal after) ≡ lane_weighed act
 lane_from number before (Weigh lane gross prior) signal after = refl
 lane_from number before act signal after = refl
 
@@ -75,7 +75,7 @@ pub record IsSeen (signal : Option Signal) (reading : Reading) : Type 0 where
   pub range : IsBetween (pos 0) MAX_GROSS reading.gross
 
 seen_from : (number : ℕ) (before : List Entry) (act : Act) (signal : Option Signal) (after : List Entry) (reading : Reading) (batch : Name)
-    → signal ≡ recorded_signal before act → is_act_in_range act ≡ true → reading.batch ≡ Some batch → reading_from number before act signal after ≡ Some reading → IsSeen signal reading
+    → signal ≡ recorded_signal before act → is_act_in_range act ≡ true → reading.batch ≡ Some batch → weighed_reading number before act signal after ≡ Some reading → IsSeen signal reading
 seen_from number before (Weigh lane gross prior) signal after reading batch is range of_batch h =
     let own = some_reading _ reading h in
     let same : signal ≡ reading.signal = ap (λ (r : Reading). r.signal) own in

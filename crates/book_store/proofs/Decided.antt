@@ -22,7 +22,7 @@ use Rattle.book_core.specs.declared.types.Step.TheVariants.{New, Known}
 use Rattle.book_core.specs.declared.types.BookError.{BookError}
 use Rattle.book_core.specs.declared.types.BookError.TheVariants as error
 use Rattle.book_core.specs.View.{ReadyEntry, BookView}
-use Rattle.book_core.specs.Steps.{asked_act, ready_for, step_by, step_for, decision_by, made_ready, GivesUnlessNoMemory, HasNoRoom}
+use Rattle.book_core.specs.Steps.{asked_act, numbered_entry, decided_step, step_for, desk_decision, made_ready, GivesUnlessNoMemory, HasNoRoom}
 
 isnt_full : (limit : ℕ) (test : Bool) → refused_if test (BookFull limit) ≡ None → test ≡ false
 isnt_full limit false h = refl
@@ -94,7 +94,7 @@ none_made h = cc
 
 decides_by : (book : BookView) (by : ℕ) (ask : Ask) (act : Act) (given : Result Step BookError) (d : Option Refusal) (row : Option ℕ) (f : Option Refusal) → book.limit ≤ MAX_ROWS
     → desk_number ask act ≡ d → repeated_row book.entries ask act ≡ row → refusal_of book.limit book.entries ask act ≡ f
-    → GivesUnlessNoMemory book act given (step_by (ready_for book.entries by ask act) (decision_by book.entries act d row f))
+    → GivesUnlessNoMemory book act given (decided_step (numbered_entry book.entries by ask act) (desk_decision book.entries act d row f))
     → Decides book act (entry_unless row f (entry_for book.entries by ask act)) (desk_answer book.entries act d row f) given
 decides_by book by ask act given (Some x) row f most desk new free gives =
     let told : refusal_of book.limit book.entries ask act ≡ Some x =

@@ -102,7 +102,7 @@ states_step entries (Draw n mode word) h have name =
     (moved_name entries n name (allowed_by (Ended ∷ []) entries n (rules.batch_empty entries n ∷ rules.mode_small entries n mode ∷ []) h).0) (same_name n name) refl
 states_step entries (Close n) h have name =
     known_stays n name Closed (state_of entries name) (product_of entries name) (have name)
-    (moved_name entries n name (allowed_by (Ended ∷ Drawn ∷ []) entries n (rules.not_drawn entries n ∷ rules.needed_wanting entries n ∷ rules.second_wanted entries n ∷ []) h).0) (same_name n name) refl
+    (moved_name entries n name (allowed_by (Ended ∷ Drawn ∷ []) entries n (rules.not_drawn entries n ∷ rules.needed_wanting entries n ∷ rules.second_needed entries n ∷ []) h).0) (same_name n name) refl
 states_step entries (NewDay day) h have name = have name
 states_step entries (PutProduct product nominal unit) h have name = have name
 states_step entries (PutTare product day tare) h have name = have name
@@ -190,7 +190,7 @@ undrawn_step entries (DrawSecond n word) legal h name undrawn = either (same_nam
   where
     either : (test : Bool) → same_name n name ≡ test → DrawsNothing entries name (DrawSecond n word)
     either true same =
-        let allowed = allowed_by (Drawn ∷ []) entries n (rules.second_needless entries n ∷ rules.first_wanting entries n ∷ []) h in
+        let allowed = allowed_by (Drawn ∷ []) entries n (rules.second_not_needed entries n ∷ rules.first_wanting entries n ∷ []) h in
         absurd (never_second (state_of entries n) (states_known entries legal n ∙ allowed.0) allowed.1
         (ap (λ (b : Name). is_undrawn (state_of entries b)) (same_name_is n name same) ∙ undrawn))
     either false same = record { state = undrawn; first = refl; second = rw same refl }

@@ -12,7 +12,7 @@ use Rattle.book_words.specs.declared.act.Act.TheVariants.{NewDay, PutProduct, Pu
 use Rattle.book_words.specs.declared.act.Entry.{Entry}
 use Rattle.book_words.specs.declared.act.Reading.{Reading}
 use Rattle.book_words.specs.Names.{same_name}
-use Rattle.book_words.specs.Readings.{reading_from, reading_at, readings}
+use Rattle.book_words.specs.Readings.{weighed_reading, placed_reading, readings}
 use Rattle.book_words.specs.Population.{population}
 use Rattle.book_words.specs.Samples.{Drawing, numbers_of, drawing_from, drawing_of}
 use Rattle.book_words.specs.Answers.{IsLawful, IsLegal}
@@ -52,7 +52,7 @@ ascend-few least most (n ∷ ns) h k =
     let rest = ascend-few (n + 1) most ns h.2 (omega (arith, h.1)) in omega (arith, rest, h.0)
 
 -- a weighing has the number that it is given
-numbered : (number : ℕ) (before : List Entry) (act : Act) (signal : Option Signal) (after : List Entry) → IfSome (reading_from number before act signal after) (λ reading. reading.number ≡ number)
+numbered : (number : ℕ) (before : List Entry) (act : Act) (signal : Option Signal) (after : List Entry) → IfSome (weighed_reading number before act signal after) (λ reading. reading.number ≡ number)
 numbered number before (Weigh lane gross prior) signal after = refl
 numbered number before (NewDay day) signal after = tt
 numbered number before (PutProduct product nominal unit) signal after = tt
@@ -68,19 +68,19 @@ numbered number before (DrawSecond batch word) signal after = tt
 numbered number before (Close batch) signal after = tt
 
 -- the number of a reading is one more than its place
-pub reading_at-number : (entries : List Entry) (place : ℕ) → IfSome (reading_at entries place) (λ reading. reading.number ≡ place + 1)
-reading_at-number entries place = each (slice_get entries place)
+pub placed_reading-number : (entries : List Entry) (place : ℕ) → IfSome (placed_reading entries place) (λ reading. reading.number ≡ place + 1)
+placed_reading-number entries place = each (slice_get entries place)
   where
-    each : (o : Option Entry) → IfSome (option_and_then (λ (e : Entry). reading_from (place + 1) (take place entries) e.act e.signal (drop (place + 1) entries)) o) (λ reading. reading.number ≡ place + 1)
+    each : (o : Option Entry) → IfSome (option_and_then (λ (e : Entry). weighed_reading (place + 1) (take place entries) e.act e.signal (drop (place + 1) entries)) o) (λ reading. reading.number ≡ place + 1)
     each None = tt
     each (Some e) = numbered (place + 1) (take place entries) e.act e.signal (drop (place + 1) entries)
 
-among_ascend : (entries : List Entry) (from many : ℕ) → AscendWithin (from + 1) (from + many) (numbers_of (filter_map (reading_at entries) (range_with_len from many)))
+among_ascend : (entries : List Entry) (from many : ℕ) → AscendWithin (from + 1) (from + many) (numbers_of (filter_map (placed_reading entries) (range_with_len from many)))
 among_ascend entries from zero = tt
-among_ascend entries from (suc many) = either (reading_at entries from) (reading_at-number entries from) (among_ascend entries (from + 1) many)
+among_ascend entries from (suc many) = either (placed_reading entries from) (placed_reading-number entries from) (among_ascend entries (from + 1) many)
   where
     rest : List Reading
-    rest = filter_map (reading_at entries) (range_with_len (from + 1) many)
+    rest = filter_map (placed_reading entries) (range_with_len (from + 1) many)
 
     either : (o : Option Reading) → IfSome o (λ reading. reading.number ≡ from + 1) → AscendWithin (from + 1 + 1) (from + 1 + many) (numbers_of rest)
         → AscendWithin (from + 1) (from + suc many) (numbers_of (cons_option o rest))

@@ -12,7 +12,7 @@ use Rattle.book_words.specs.declared.act.Act.TheVariants.{NewDay, PutProduct, Pu
 use Rattle.book_words.specs.declared.act.Entry.{Entry}
 use Rattle.book_words.specs.declared.act.Reading.{Reading}
 use Rattle.book_words.specs.Acts.{said, first_said, prior_told, is_void_of, is_voided, newest_day, last_batch}
-use Rattle.book_words.specs.Readings.{reading_from, reading_at, readings_among, readings}
+use Rattle.book_words.specs.Readings.{weighed_reading, placed_reading, first_readings, readings}
 
 -- a reading once an act came after it
 abbrev pub advance : Act → Reading → Reading
@@ -50,24 +50,24 @@ is_voided-push (e ∷ es) entry pack =
     ap (λ b. is_void_of pack e.act || b) (is_voided-push es entry pack)
     ∙ sym (or_assoc (is_void_of pack e.act) (is_voided es pack) (is_void_of pack entry.act))
 
-reading_from-push : (number : ℕ) (before : List Entry) (act : Act) (signal : Option Signal) (after : List Entry) (entry : Entry)
-    → reading_from number before act signal (after ++ entry ∷ []) ≡ option_map (advance entry.act) (reading_from number before act signal after)
-reading_from-push number before (Weigh lane gross prior) signal after entry =
+weighed_reading-push : (number : ℕ) (before : List Entry) (act : Act) (signal : Option Signal) (after : List Entry) (entry : Entry)
+    → weighed_reading number before act signal (after ++ entry ∷ []) ≡ option_map (advance entry.act) (weighed_reading number before act signal after)
+weighed_reading-push number before (Weigh lane gross prior) signal after entry =
     let reading : Option Prior → Bool → Option Reading = λ o voided. Some (record { number = number; lane = lane; gross = gross; signal = signal; day = newest_day before; batch = last_batch before lane; next_prior = o; voided = voided }) in
     ap (λ o. reading o (is_voided (after ++ entry ∷ []) number)) (first_said-push (prior_told lane) after entry)
     ∙ ap (reading (option_or (first_said (prior_told lane) after) (prior_told lane entry.act))) (is_voided-push after entry number)
-reading_from-push number before (NewDay day) signal after entry = refl
-reading_from-push number before (PutProduct name nominal unit) signal after entry = refl
-reading_from-push number before (PutTare product day tare) signal after entry = refl
-reading_from-push number before (OpenBatch batch product density) signal after entry = refl
-reading_from-push number before (StartLane lane batch) signal after entry = refl
-reading_from-push number before (StopLane lane prior) signal after entry = refl
-reading_from-push number before (Void pack) signal after entry = refl
-reading_from-push number before (EndRun batch) signal after entry = refl
-reading_from-push number before (Draw batch mode word) signal after entry = refl
-reading_from-push number before (Measure pack gross empty) signal after entry = refl
-reading_from-push number before (DrawSecond batch word) signal after entry = refl
-reading_from-push number before (Close batch) signal after entry = refl
+weighed_reading-push number before (NewDay day) signal after entry = refl
+weighed_reading-push number before (PutProduct name nominal unit) signal after entry = refl
+weighed_reading-push number before (PutTare product day tare) signal after entry = refl
+weighed_reading-push number before (OpenBatch batch product density) signal after entry = refl
+weighed_reading-push number before (StartLane lane batch) signal after entry = refl
+weighed_reading-push number before (StopLane lane prior) signal after entry = refl
+weighed_reading-push number before (Void pack) signal after entry = refl
+weighed_reading-push number before (EndRun batch) signal after entry = refl
+weighed_reading-push number before (Draw batch mode word) signal after entry = refl
+weighed_reading-push number before (Measure pack gross empty) signal after entry = refl
+weighed_reading-push number before (DrawSecond batch word) signal after entry = refl
+weighed_reading-push number before (Close batch) signal after entry = refl
 
 slice_get-push : (entries : List Entry) (entry : Entry) (place : ℕ) → place < length entries → slice_get (entries ++ entry ∷ []) place ≡ slice_get entries place
 slice_get-push [] entry place h = absurd (omega arith)
@@ -80,33 +80,33 @@ drop-push [] entry (suc n) h = absurd (omega arith)
 drop-push (e ∷ es) entry (suc n) h = drop-push es entry n (omega arith)
 
 -- the readings before an entry, once it came
-pub reading_at-push : (entries : List Entry) (entry : Entry) (place : ℕ) → place < length entries → reading_at (entries ++ entry ∷ []) place ≡ option_map (advance entry.act) (reading_at entries place)
-reading_at-push entries entry place h =
-    ap (option_and_then (λ (e : Entry). reading_from (place + 1) (take place (entries ++ entry ∷ [])) e.act e.signal (drop (place + 1) (entries ++ entry ∷ [])))) (slice_get-push entries entry place h)
-    ∙ ap (λ (before : List Entry). option_and_then (λ (e : Entry). reading_from (place + 1) before e.act e.signal (drop (place + 1) (entries ++ entry ∷ []))) (slice_get entries place)) (take-append-le place entries (entry ∷ []) (omega arith))
-    ∙ ap (λ (after : List Entry). option_and_then (λ (e : Entry). reading_from (place + 1) (take place entries) e.act e.signal after) (slice_get entries place)) (drop-push entries entry (place + 1) (omega arith))
+pub placed_reading-push : (entries : List Entry) (entry : Entry) (place : ℕ) → place < length entries → placed_reading (entries ++ entry ∷ []) place ≡ option_map (advance entry.act) (placed_reading entries place)
+placed_reading-push entries entry place h =
+    ap (option_and_then (λ (e : Entry). weighed_reading (place + 1) (take place (entries ++ entry ∷ [])) e.act e.signal (drop (place + 1) (entries ++ entry ∷ [])))) (slice_get-push entries entry place h)
+    ∙ ap (λ (before : List Entry). option_and_then (λ (e : Entry). weighed_reading (place + 1) before e.act e.signal (drop (place + 1) (entries ++ entry ∷ []))) (slice_get entries place)) (take-append-le place entries (entry ∷ []) (omega arith))
+    ∙ ap (λ (after : List Entry). option_and_then (λ (e : Entry). weighed_reading (place + 1) (take place entries) e.act e.signal after) (slice_get entries place)) (drop-push entries entry (place + 1) (omega arith))
     ∙ each (slice_get entries place)
   where
-    each : (o : Option Entry) → option_and_then (λ (e : Entry). reading_from (place + 1) (take place entries) e.act e.signal (drop (place + 1) entries ++ entry ∷ [])) o
-        ≡ option_map (advance entry.act) (option_and_then (λ (e : Entry). reading_from (place + 1) (take place entries) e.act e.signal (drop (place + 1) entries)) o)
+    each : (o : Option Entry) → option_and_then (λ (e : Entry). weighed_reading (place + 1) (take place entries) e.act e.signal (drop (place + 1) entries ++ entry ∷ [])) o
+        ≡ option_map (advance entry.act) (option_and_then (λ (e : Entry). weighed_reading (place + 1) (take place entries) e.act e.signal (drop (place + 1) entries)) o)
     each None = refl
-    each (Some e) = reading_from-push (place + 1) (take place entries) e.act e.signal (drop (place + 1) entries) entry
+    each (Some e) = weighed_reading-push (place + 1) (take place entries) e.act e.signal (drop (place + 1) entries) entry
 
 map-cons_option : (f : Reading → Reading) (o : Option Reading) (some : List Reading) → cons_option (option_map f o) (map f some) ≡ map f (cons_option o some)
 map-cons_option f None some = refl
 map-cons_option f (Some reading) some = refl
 
 among-push : (entries : List Entry) (entry : Entry) (from many : ℕ) → from + many ≤ length entries
-    → filter_map (reading_at (entries ++ entry ∷ [])) (range_with_len from many) ≡ map (advance entry.act) (filter_map (reading_at entries) (range_with_len from many))
+    → filter_map (placed_reading (entries ++ entry ∷ [])) (range_with_len from many) ≡ map (advance entry.act) (filter_map (placed_reading entries) (range_with_len from many))
 among-push entries entry from zero h = refl
 among-push entries entry from (suc many) h =
-    ap (λ (o : Option Reading). cons_option o (filter_map (reading_at (entries ++ entry ∷ [])) (range_with_len (from + 1) many))) (reading_at-push entries entry from (omega arith))
-    ∙ ap (cons_option (option_map (advance entry.act) (reading_at entries from))) (among-push entries entry (from + 1) many (omega arith))
-    ∙ map-cons_option (advance entry.act) (reading_at entries from) (filter_map (reading_at entries) (range_with_len (from + 1) many))
+    ap (λ (o : Option Reading). cons_option o (filter_map (placed_reading (entries ++ entry ∷ [])) (range_with_len (from + 1) many))) (placed_reading-push entries entry from (omega arith))
+    ∙ ap (cons_option (option_map (advance entry.act) (placed_reading entries from))) (among-push entries entry (from + 1) many (omega arith))
+    ∙ map-cons_option (advance entry.act) (placed_reading entries from) (filter_map (placed_reading entries) (range_with_len (from + 1) many))
 
 -- the readings before an entry, once it came
-pub readings_among-push : (entries : List Entry) (entry : Entry) → readings_among (length entries) (entries ++ entry ∷ []) ≡ map (advance entry.act) (readings entries)
-readings_among-push entries entry = among-push entries entry 0 (length entries) (omega arith)
+pub first_readings-push : (entries : List Entry) (entry : Entry) → first_readings (length entries) (entries ++ entry ∷ []) ≡ map (advance entry.act) (readings entries)
+first_readings-push entries entry = among-push entries entry 0 (length entries) (omega arith)
 
 cons_option-append : (o : Option Reading) (some more : List Reading) → cons_option o (some ++ more) ≡ cons_option o some ++ more
 cons_option-append None some more = refl
@@ -121,13 +121,13 @@ range-push f from (suc many) =
 
 -- the reading of the last entry, where it is a weighing
 abbrev pub own_reading : List Entry → Entry → Option Reading
-own_reading entries entry = reading_from (length entries + 1) entries entry.act entry.signal []
+own_reading entries entry = weighed_reading (length entries + 1) entries entry.act entry.signal []
 
-own_reading-at : (entries : List Entry) (entry : Entry) → reading_at (entries ++ entry ∷ []) (length entries) ≡ own_reading entries entry
+own_reading-at : (entries : List Entry) (entry : Entry) → placed_reading (entries ++ entry ∷ []) (length entries) ≡ own_reading entries entry
 own_reading-at entries entry =
-    ap (option_and_then (λ (e : Entry). reading_from (length entries + 1) (take (length entries) (entries ++ entry ∷ [])) e.act e.signal (drop (length entries + 1) (entries ++ entry ∷ [])))) (slice_get-last entries entry)
-    ∙ ap (λ (before : List Entry). reading_from (length entries + 1) before entry.act entry.signal (drop (length entries + 1) (entries ++ entry ∷ []))) (take-append_seam entries (entry ∷ []))
-    ∙ ap (reading_from (length entries + 1) entries entry.act entry.signal) (drop-all entries entry)
+    ap (option_and_then (λ (e : Entry). weighed_reading (length entries + 1) (take (length entries) (entries ++ entry ∷ [])) e.act e.signal (drop (length entries + 1) (entries ++ entry ∷ [])))) (slice_get-last entries entry)
+    ∙ ap (λ (before : List Entry). weighed_reading (length entries + 1) before entry.act entry.signal (drop (length entries + 1) (entries ++ entry ∷ []))) (take-append_seam entries (entry ∷ []))
+    ∙ ap (weighed_reading (length entries + 1) entries entry.act entry.signal) (drop-all entries entry)
   where
     slice_get-last : (es : List Entry) (e : Entry) → slice_get (es ++ e ∷ []) (length es) ≡ Some e
     slice_get-last [] e = refl
@@ -140,8 +140,8 @@ own_reading-at entries entry =
 -- the readings with one more entry
 pub readings-push : (entries : List Entry) (entry : Entry) → readings (entries ++ entry ∷ []) ≡ map (advance entry.act) (readings entries) ++ cons_option (own_reading entries entry) []
 readings-push entries entry =
-    ap (λ n. readings_among n (entries ++ entry ∷ [])) (let same : length (entries ++ entry ∷ []) ≡ suc (length entries) = omega (arith, length-append entries (entry ∷ [])) in same)
-    ∙ range-push (reading_at (entries ++ entry ∷ [])) 0 (length entries)
-    ∙ ap (λ some. some ++ cons_option (reading_at (entries ++ entry ∷ []) (0 + length entries)) []) (readings_among-push entries entry)
-    ∙ ap (λ n. map (advance entry.act) (readings entries) ++ cons_option (reading_at (entries ++ entry ∷ []) n) []) (let same : 0 + length entries ≡ length entries = omega arith in same)
+    ap (λ n. first_readings n (entries ++ entry ∷ [])) (let same : length (entries ++ entry ∷ []) ≡ suc (length entries) = omega (arith, length-append entries (entry ∷ [])) in same)
+    ∙ range-push (placed_reading (entries ++ entry ∷ [])) 0 (length entries)
+    ∙ ap (λ some. some ++ cons_option (placed_reading (entries ++ entry ∷ []) (0 + length entries)) []) (first_readings-push entries entry)
+    ∙ ap (λ n. map (advance entry.act) (readings entries) ++ cons_option (placed_reading (entries ++ entry ∷ []) n) []) (let same : 0 + length entries ≡ length entries = omega arith in same)
     ∙ ap (λ o. map (advance entry.act) (readings entries) ++ cons_option o []) (own_reading-at entries entry)

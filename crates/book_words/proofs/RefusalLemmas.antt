@@ -160,9 +160,9 @@ small_numbered : (entries : List Entry) (batch : Name) (mode : Mode) → Numbere
 small_numbered entries batch Keep = tt
 small_numbered entries batch Destroy = where_refused _ (why.ModeSmall (length (population entries batch)))
 
-needless_numbered : (entries : List Entry) (batch : Name) → Numbered 31 (rules.second_needless entries batch)
+needless_numbered : (entries : List Entry) (batch : Name) → Numbered 31 (rules.second_not_needed entries batch)
 needless_numbered entries batch =
-    of_each 31 (λ (sample : Sample). refused_if (rules.is_second_needless entries batch sample) (why.SecondNotNeeded (first_defective entries batch sample))) (sample_of entries batch)
+    of_each 31 (λ (sample : Sample). refused_if (rules.is_second_not_needed entries batch sample) (why.SecondNotNeeded (first_defective entries batch sample))) (sample_of entries batch)
     (λ sample. where_refused _ (why.SecondNotNeeded (first_defective entries batch sample)))
 
 wanting_numbered : (entries : List Entry) (packs : Sample → List ℕ) (o : Option Sample) → Numbered 32 (option_and_then (λ sample. option_map (λ pack. why.Unmeasured pack) (first_unmeasured entries (packs sample))) o)
@@ -170,9 +170,9 @@ wanting_numbered entries packs o =
     of_each 32 (λ (sample : Sample). option_map (λ pack. why.Unmeasured pack) (first_unmeasured entries (packs sample))) o
     (λ sample. of_map 32 (λ pack. why.Unmeasured pack) (first_unmeasured entries (packs sample)) (λ pack. refl))
 
-wanted_numbered : (entries : List Entry) (batch : Name) → Numbered 33 (rules.second_wanted entries batch)
+wanted_numbered : (entries : List Entry) (batch : Name) → Numbered 33 (rules.second_needed entries batch)
 wanted_numbered entries batch =
-    of_each 33 (λ (sample : Sample). refused_if (rules.is_second_wanted entries batch sample) (why.SecondNeeded (first_defective entries batch sample))) (sample_of entries batch)
+    of_each 33 (λ (sample : Sample). refused_if (rules.is_second_needed entries batch sample) (why.SecondNeeded (first_defective entries batch sample))) (sample_of entries batch)
     (λ sample. where_refused _ (why.SecondNeeded (first_defective entries batch sample)))
 
 density_numbered : (entries : List Entry) (product : Name) (density : ℕ) → Numbered 35 (rules.density_range entries product density)

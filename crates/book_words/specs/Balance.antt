@@ -67,8 +67,8 @@ moved_pile entries (DrawSecond batch word) reading pile =
 moved_pile entries act reading pile = pile
 
 -- the pile of a reading of a list once an act came behind it
-abbrev pub pile_after : List Entry → Act → Reading → Pile
-pile_after entries act reading = moved_pile entries act reading (pile_of entries reading)
+abbrev pub next_pile : List Entry → Act → Reading → Pile
+next_pile entries act reading = moved_pile entries act reading (pile_of entries reading)
 
 -- the pile of an entry's own reading, where it is a weighing: by its signal
 abbrev pub own_pile : Entry → Act → List Pile
@@ -78,14 +78,14 @@ own_pile entry _ = []
 -- a reading stays in its pile, or lay among the passed
 abbrev pub leaves_passed : List Entry → Act → Reading → Bool
 leaves_passed entries act reading =
-    same_pile (pile_after entries act reading) (pile_of entries reading)
+    same_pile (next_pile entries act reading) (pile_of entries reading)
     || same_pile (pile_of entries reading) Passed
 
 -- an entry moves the packs so, and no others, and each that moves lay among the passed
 pub record MovesOnly (entries : List Entry) (entry : Entry) : Type 0 where
   pub piles :
       map (pile_of (entries ++ entry ∷ [])) (readings (entries ++ entry ∷ []))
-      ≡ map (pile_after entries entry.act) (readings entries) ++ own_pile entry entry.act
+      ≡ map (next_pile entries entry.act) (readings entries) ++ own_pile entry entry.act
   pub from : list_all (leaves_passed entries entry.act) (readings entries) ≡ true
 
 -- each entry of a list moves the packs as it may

@@ -60,13 +60,13 @@ abbrev pub is_counted : Reading → Bool
 is_counted reading = same_pile (unsampled_pile reading) Passed
 
 -- those of some readings that count for a batch
-abbrev pub population_among : Name → List Reading → List Reading
-population_among batch readings =
+abbrev pub counted_readings : Name → List Reading → List Reading
+counted_readings batch readings =
     filter (λ reading. is_of_batch batch reading && is_counted reading) readings
 
 -- the population of a batch
 abbrev pub population : List Entry → Name → List Reading
-population entries batch = population_among batch (readings entries)
+population entries batch = counted_readings batch (readings entries)
 
 -- how many of some readings have a net below a limit, at the density of their batch
 abbrev pub count_below : List Entry → Name → ℤ → List Reading → ℕ

@@ -23,12 +23,12 @@ abbrev pub IsBetween : ℤ → ℤ → ℤ → Type 0
 IsBetween least greatest number = (least ≤ℤ number) × (number ≤ℤ greatest)
 
 -- the greatest sum of grosses: the greatest gross for each row
-abbrev pub GREATEST_SUM : ℤ
-GREATEST_SUM = MAX_GROSS *ℤ pos MAX_ROWS
+abbrev pub MAX_SUM : ℤ
+MAX_SUM = MAX_GROSS *ℤ pos MAX_ROWS
 
 -- a sum of grosses is at most the greatest
 abbrev pub IsGrossInRange : Tally → Type 0
-IsGrossInRange tally = IsBetween (pos 0) GREATEST_SUM tally.gross
+IsGrossInRange tally = IsBetween (pos 0) MAX_SUM tally.gross
 
 -- so are the sums of a summary: that of all readings, and those of the four piles
 pub record IsSummaryInRange (view : SummaryView) : Type 0 where
@@ -49,7 +49,7 @@ pub record IsSheetInRange (sheet : Sheet) : Type 0 where
   pub rejected : IsGrossInRange sheet.rejected
   pub sampled : IsGrossInRange sheet.sampled
   pub voided : IsGrossInRange sheet.voided
-  pub net : IsBetween (neg_ℤ GREATEST_SUM) GREATEST_SUM sheet.net
+  pub net : IsBetween (neg_ℤ MAX_SUM) MAX_SUM sheet.net
 
 -- the day and the masses of a pack are within their limits
 pub record IsPackInRange (view : PackView) : Type 0 where

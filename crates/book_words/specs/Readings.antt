@@ -15,8 +15,8 @@ use Rattle.book_words.specs.Tares.{tare_of_product}
 -- a weighing as a reading of its number: its day and its batch are told by the entries before it,
 -- what the gate did by its lane's first weighing or stop after it, and whether it is taken back by
 -- the entries after it; no entry before it can name it
-abbrev pub reading_from : ℕ → List Entry → Act → Option Signal → List Entry → Option Reading
-reading_from number before (Weigh lane gross prior) signal after =
+abbrev pub weighed_reading : ℕ → List Entry → Act → Option Signal → List Entry → Option Reading
+weighed_reading number before (Weigh lane gross prior) signal after =
     Some (record {
       number = number;
       lane = lane;
@@ -27,24 +27,24 @@ reading_from number before (Weigh lane gross prior) signal after =
       next_prior = next_prior after lane;
       voided = is_voided after number;
     })
-reading_from number before _ signal after = None
+weighed_reading number before _ signal after = None
 
 -- the reading at a place of the list, where a weighing stands there; places are counted from 0,
 -- numbers from 1
-abbrev pub reading_at : List Entry → ℕ → Option Reading
-reading_at entries place =
+abbrev pub placed_reading : List Entry → ℕ → Option Reading
+placed_reading entries place =
     option_and_then
-    (λ entry. reading_from (place + 1) (take place entries) entry.act entry.signal
+    (λ entry. weighed_reading (place + 1) (take place entries) entry.act entry.signal
     (drop (place + 1) entries))
     (slice_get entries place)
 
 -- the readings among so many of the first entries, as the whole list shows them
-abbrev pub readings_among : ℕ → List Entry → List Reading
-readings_among count entries = filter_map (reading_at entries) (range_with_len 0 count)
+abbrev pub first_readings : ℕ → List Entry → List Reading
+first_readings count entries = filter_map (placed_reading entries) (range_with_len 0 count)
 
 -- the readings of the list
 abbrev pub readings : List Entry → List Reading
-readings entries = readings_among (length entries) entries
+readings entries = first_readings (length entries) entries
 
 -- the reading with a number, where there is one
 abbrev pub reading_of : List Entry → ℕ → Option Reading

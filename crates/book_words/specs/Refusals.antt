@@ -223,17 +223,17 @@ is_measured entries packs = is_none (first_unmeasured entries packs)
 
 -- no second sample is drawn where the plan has none, where one was drawn, and where the first is
 -- measured and decides
-abbrev pub is_second_needless : List Entry → Name → Sample → Bool
-is_second_needless entries batch sample =
+abbrev pub is_second_not_needed : List Entry → Name → Sample → Bool
+is_second_not_needed entries batch sample =
     (sample.plan.second == 0) || is_some sample.second
     || (is_measured entries sample.first
     && not (is_open sample.plan (first_defective entries batch sample)))
 
 -- 31: no second sample is needed
-abbrev pub second_needless : List Entry → Name → Option Refusal
-second_needless entries batch =
+abbrev pub second_not_needed : List Entry → Name → Option Refusal
+second_not_needed entries batch =
     option_and_then
-    (λ sample. refused_if (is_second_needless entries batch sample)
+    (λ sample. refused_if (is_second_not_needed entries batch sample)
     (SecondNotNeeded (first_defective entries batch sample)))
     (sample_of entries batch)
 
@@ -261,16 +261,16 @@ needed_wanting entries batch =
     (sample_of entries batch)
 
 -- a second sample is wanted where the first is measured and leaves it open, and none was drawn
-abbrev pub is_second_wanted : List Entry → Name → Sample → Bool
-is_second_wanted entries batch sample =
+abbrev pub is_second_needed : List Entry → Name → Sample → Bool
+is_second_needed entries batch sample =
     is_measured entries sample.first
     && is_open sample.plan (first_defective entries batch sample) && is_none sample.second
 
 -- 33: a second sample is wanted
-abbrev pub second_wanted : List Entry → Name → Option Refusal
-second_wanted entries batch =
+abbrev pub second_needed : List Entry → Name → Option Refusal
+second_needed entries batch =
     option_and_then
-    (λ sample. refused_if (is_second_wanted entries batch sample)
+    (λ sample. refused_if (is_second_needed entries batch sample)
     (SecondNeeded (first_defective entries batch sample)))
     (sample_of entries batch)
 
@@ -349,10 +349,10 @@ refusals_of entries (Measure pack gross empty) =
     ∷ measured_already entries pack ∷ []
 refusals_of entries (DrawSecond batch word) =
     day_unset entries ∷ batch_unknown entries batch ∷ batch_state (Drawn ∷ []) entries batch
-    ∷ second_needless entries batch ∷ first_wanting entries batch ∷ []
+    ∷ second_not_needed entries batch ∷ first_wanting entries batch ∷ []
 refusals_of entries (Close batch) =
     day_unset entries ∷ batch_unknown entries batch ∷ batch_state (Ended ∷ Drawn ∷ []) entries batch
-    ∷ not_drawn entries batch ∷ needed_wanting entries batch ∷ second_wanted entries batch ∷ []
+    ∷ not_drawn entries batch ∷ needed_wanting entries batch ∷ second_needed entries batch ∷ []
 
 -- 1 to 4: the refusals by desk and request
 abbrev pub desk_refusals : List Entry → Ask → Act → List (Option Refusal)

@@ -12,9 +12,9 @@ use Rattle.book_words.specs.declared.act.Act.TheVariants.{Weigh}
 use Rattle.book_words.specs.declared.act.Entry.{Entry}
 use Rattle.book_words.specs.declared.act.Reading.{Reading}
 use Rattle.book_words.specs.Acts.{newest_day, last_batch}
-use Rattle.book_words.specs.Readings.{readings_among, net_of_gross}
+use Rattle.book_words.specs.Readings.{first_readings, net_of_gross}
 use Rattle.book_words.specs.Classes.{class_in_batch}
-use Rattle.book_words.specs.Population.{population_among, nonstandard_count, is_held}
+use Rattle.book_words.specs.Population.{counted_readings, nonstandard_count, is_held}
 
 -- the signal of a class in a batch that isn't held and has room
 abbrev pub class_signal : Class → ℕ → ℕ → Signal
@@ -37,14 +37,14 @@ with_act entries act =
 
 -- the population of a batch at an act: over the readings before it, in the piles that the act
 -- leaves; so what a weighing says of the gate counts, and its own reading doesn't
-abbrev pub population_at : List Entry → Act → Name → List Reading
-population_at entries act batch =
-    population_among batch (readings_among (length entries) (with_act entries act))
+abbrev pub judging_population : List Entry → Act → Name → List Reading
+judging_population entries act batch =
+    counted_readings batch (first_readings (length entries) (with_act entries act))
 
 -- the signal of a gross in a batch: by its class, and by the population at the act
 abbrev pub judged_signal : List Entry → Act → ℤ → Name → Signal
 judged_signal entries act gross batch =
-    let some = population_at entries act batch in
+    let some = judging_population entries act batch in
     signal_by_class
     (class_in_batch entries batch (net_of_gross entries (Some batch) (newest_day entries) gross))
     (is_held entries batch some) (length some) (nonstandard_count entries batch some)

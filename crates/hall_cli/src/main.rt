@@ -30,8 +30,8 @@ const ROWS_MORE: usize = 4;
 /// The status where there is no memory.
 const NO_MEMORY: u8 = 7;
 
-/// The words behind the program's name. Where one isn't UTF-8, or there is no memory for them,
-/// there are none: no command is without words.
+// The words after the program's name. Where one isn't UTF-8, or there is no memory for them,
+// there are none: no command is without words.
 fn words(rt: &(impl Env + AllocGlobal)) -> Vec<String> {
     let Ok(args) = env::args(rt) else {
         return Vec::new(rt.alloc());
@@ -40,8 +40,8 @@ fn words(rt: &(impl Env + AllocGlobal)) -> Vec<String> {
     kept.unwrap_or(Vec::new(rt.alloc()))
 }
 
-/// Does what the words say over a disk. The exit status is that of the call, and what it says of
-/// the streams and the disk is true for some rows.
+// Does what the words say over a disk. The exit status is that of the call, and what it says of
+// the streams and the disk is true for some rows.
 fn run<S: Source, K: Sink, D: Disk + Drop>(
     alloc: Global,
     words: &[String],
@@ -58,13 +58,13 @@ fn run<S: Source, K: Sink, D: Disk + Drop>(
     ExitCode::from(hall(alloc, words, input, output, disk).status)
 }
 
-/// A disk in memory with room for a book of so many rows and its snapshot.
+// A disk in memory with room for a book of so many rows and its snapshot.
 fn memory_disk(alloc: Global, limit: u32) -> Result<QuietDisk, AllocError> {
     let rows = limit.min(MAX_ROWS) as usize + ROWS_MORE;
     Ok(QuietDisk::new(Vec::with_capacity(alloc, BYTES_A_ROW * rows)?))
 }
 
-/// The end of a call for which there is no memory.
+// The end of a call for which there is no memory.
 fn end_without_memory<K: Sink>(output: &mut K) -> ExitCode
     ensures { exit_status result ≡ NO_MEMORY }
 {

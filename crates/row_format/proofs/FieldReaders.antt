@@ -8,7 +8,7 @@ use Rattle.std.proofs.lemmas.Bool.{eqb-true, eq-eqb, cases_lt}
 use Rattle.std.proofs.lemmas.List.{drop_more, get_or-take, get_or-drop, get_or_past, length-take, length-drop, length-replicate}
 use Rattle.row_format.specs.declared.types.RowFault.{RowFault}
 use Rattle.row_format.specs.declared.fields.Numbers.{Numbers}
-use Rattle.row_format.specs.Reading.{has_number, wrong_from, number_in, byte_in, four_in, eight_in, two_at, four_at, eight_at, coded, known, code_at, zeros_in, zeros_at, faulty}
+use Rattle.row_format.specs.Reading.{has_number, wrong_from, number_in, byte_in, bounded_four, bounded_eight, two_at, four_at, eight_at, coded, known, code_at, zeros_in, zeros_at, faulty}
 use Rattle.row_format.proofs.LowBytes.{low, modulus, length-low, take-low, low_same, same_low, written_low}
 use Rattle.row_format.proofs.FirstWrong.{IsOneOf, Agrees, IsFirstWrong, has_decides, wrong_is}
 use Rattle.row_format.proofs.Readers.{IsBytes, WrongAt, Tells, IsField, IsReader, Within}
@@ -142,14 +142,14 @@ byte_reads numbers fits =
       tells = λ place bytes inside are. let r = read_byte place bytes inside are in number_tells numbers 1 _ place _ fits r.below r.is;
     }
 
-pub four_reads : (numbers : Numbers) → HasSize numbers 4 → IsReader Within 4 (NumberField numbers 4) (four_in numbers)
+pub four_reads : (numbers : Numbers) → HasSize numbers 4 → IsReader Within 4 (NumberField numbers 4) (bounded_four numbers)
 four_reads numbers fits =
     record {
       field = number_field numbers 4 fits;
       tells = λ place bytes inside are. let r = read_four place bytes inside are in number_tells numbers 4 _ place _ fits r.below r.is;
     }
 
-pub eight_reads : (numbers : Numbers) → HasSize numbers 8 → IsReader Within 8 (NumberField numbers 8) (eight_in numbers)
+pub eight_reads : (numbers : Numbers) → HasSize numbers 8 → IsReader Within 8 (NumberField numbers 8) (bounded_eight numbers)
 eight_reads numbers fits =
     record {
       field = number_field numbers 8 fits;

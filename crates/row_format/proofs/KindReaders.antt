@@ -11,7 +11,7 @@ use Rattle.book_words.specs.Names.{bytes_of}
 use Rattle.row_format.specs.declared.codes.Kind.{Kind}
 use Rattle.row_format.specs.declared.codes.Kind.TheVariants as kinds
 use Rattle.row_format.specs.declared.acts.Told.{Told}
-use Rattle.row_format.specs.Spelling.{four, eight, four_of, eight_of, name_field, prior_code, mode_code, unit_code, fields_of, filled, kind_of}
+use Rattle.row_format.specs.Spelling.{four, eight, four_field, eight_field, name_field, prior_code, mode_code, unit_code, fields_of, filled, kind_code}
 use Rattle.row_format.specs.Allowed.{IsShort, IsActAllowed, HasSignal, FitsAct}
 use Rattle.row_format.specs.Reading.{◌>>=◌, Reader, behind, told_of, ended, zeros_at, number_of_kind, name_at, act_at}
 use Rattle.row_format.proofs.Readers.{Tells, IsReader, Within, Then, Image, behind_reads, image_reads, same_reader}
@@ -137,7 +137,7 @@ kind_for (Measure pack gross empty) = kinds.Measure
 kind_for (DrawSecond batch word) = kinds.DrawSecond
 kind_for (Close batch) = kinds.Close
 
-pub kind_number : (act : Act) → number_of_kind (kind_for act) ≡ kind_of act
+pub kind_number : (act : Act) → number_of_kind (kind_for act) ≡ kind_code act
 kind_number (NewDay day) = refl
 kind_number (PutProduct name nominal unit) = refl
 kind_number (PutTare product day tare) = refl
@@ -189,12 +189,12 @@ module _ (width rest : ℕ) where
       let y = x.goes in
       let z = y.goes in
       let end = z.goes in
-      told_as (PutProduct x.first y.first z.first) None told text end.is (record { allowed = (x.starts.0, y.starts.0); signalled = refl; fits = tt; spelled = rw (x.parts, x.starts.1, y.parts, y.starts.1, z.parts, z.starts, end.spelled) (sym (three_fields (name_field width x.first) (eight_of y.first) (unit_code z.first ∷ []) (replicate rest 0))) })
+      told_as (PutProduct x.first y.first z.first) None told text end.is (record { allowed = (x.starts.0, y.starts.0); signalled = refl; fits = tt; spelled = rw (x.parts, x.starts.1, y.parts, y.starts.1, z.parts, z.starts, end.spelled) (sym (three_fields (name_field width x.first) (eight_field y.first) (unit_code z.first ∷ []) (replicate rest 0))) })
   act_of_fields kinds.PutTare told text x =
       let y = x.goes in
       let z = y.goes in
       let end = z.goes in
-      told_as (PutTare x.first y.first z.first) None told text end.is (record { allowed = (x.starts.0, y.starts.0, z.starts.0); signalled = refl; fits = tt; spelled = rw (x.parts, x.starts.1, y.parts, y.starts.1, z.parts, z.starts.1, end.spelled) (sym (three_fields (name_field width x.first) (four_of y.first) (four_of z.first) (replicate rest 0))) })
+      told_as (PutTare x.first y.first z.first) None told text end.is (record { allowed = (x.starts.0, y.starts.0, z.starts.0); signalled = refl; fits = tt; spelled = rw (x.parts, x.starts.1, y.parts, y.starts.1, z.parts, z.starts.1, end.spelled) (sym (three_fields (name_field width x.first) (four_field y.first) (four_field z.first) (replicate rest 0))) })
   act_of_fields kinds.OpenBatch told text x =
       let y = x.goes in
       let z = y.goes in
@@ -244,17 +244,17 @@ module _ (width rest : ℕ) where
   -- what spells an act has the fields of its kind
   fields_of_act : (act : Act) (signal : Option Signal) (text : List ℕ) → IsAct width rest act signal text → Fields width rest (kind_for act) (told_of act signal) text
   fields_of_act (NewDay day) signal text is =
-      subst (Fields width rest kinds.NewDay (told_of (NewDay day) signal)) (sym (is.spelled)) (step day (four_of day) _ (is.allowed, refl) (ending (NewDay day) signal is.signalled))
+      subst (Fields width rest kinds.NewDay (told_of (NewDay day) signal)) (sym (is.spelled)) (step day (four_field day) _ (is.allowed, refl) (ending (NewDay day) signal is.signalled))
   fields_of_act (PutProduct name nominal unit) signal text is =
-      subst (Fields width rest kinds.PutProduct (told_of (PutProduct name nominal unit) signal)) (sym (is.spelled ∙ three_fields (name_field width name) (eight_of nominal) (unit_code unit ∷ []) (replicate rest 0))) (step name (name_field width name) _ (is.allowed.0, refl) (step nominal (eight_of nominal) _ (is.allowed.1, refl) (step unit (unit_code unit ∷ []) _ refl (ending (PutProduct name nominal unit) signal is.signalled))))
+      subst (Fields width rest kinds.PutProduct (told_of (PutProduct name nominal unit) signal)) (sym (is.spelled ∙ three_fields (name_field width name) (eight_field nominal) (unit_code unit ∷ []) (replicate rest 0))) (step name (name_field width name) _ (is.allowed.0, refl) (step nominal (eight_field nominal) _ (is.allowed.1, refl) (step unit (unit_code unit ∷ []) _ refl (ending (PutProduct name nominal unit) signal is.signalled))))
   fields_of_act (PutTare product day tare) signal text is =
-      subst (Fields width rest kinds.PutTare (told_of (PutTare product day tare) signal)) (sym (is.spelled ∙ three_fields (name_field width product) (four_of day) (four_of tare) (replicate rest 0))) (step product (name_field width product) _ (is.allowed.0, refl) (step day (four_of day) _ (is.allowed.1, refl) (step tare (four_of tare) _ (is.allowed.2, refl) (ending (PutTare product day tare) signal is.signalled))))
+      subst (Fields width rest kinds.PutTare (told_of (PutTare product day tare) signal)) (sym (is.spelled ∙ three_fields (name_field width product) (four_field day) (four_field tare) (replicate rest 0))) (step product (name_field width product) _ (is.allowed.0, refl) (step day (four_field day) _ (is.allowed.1, refl) (step tare (four_field tare) _ (is.allowed.2, refl) (ending (PutTare product day tare) signal is.signalled))))
   fields_of_act (OpenBatch batch product density) signal text is =
       subst (Fields width rest kinds.OpenBatch (told_of (OpenBatch batch product density) signal)) (sym (is.spelled ∙ three_fields (name_field width batch) (name_field width product) (four density) (replicate rest 0))) (step batch (name_field width batch) _ (is.allowed.0, refl) (step product (name_field width product) _ (is.allowed.1, refl) (step density (four density) _ (is.allowed.2, refl) (ending (OpenBatch batch product density) signal is.signalled))))
   fields_of_act (StartLane lane batch) signal text is =
       subst (Fields width rest kinds.StartLane (told_of (StartLane lane batch) signal)) (sym (is.spelled)) (step lane (lane ∷ []) _ (is.allowed.0, refl) (step batch (name_field width batch) _ (is.allowed.1, refl) (ending (StartLane lane batch) signal is.signalled)))
   fields_of_act (Weigh lane gross prior) (Some signal) text is =
-      subst (Fields width rest kinds.Weigh (told_of (Weigh lane gross prior) (Some signal))) (sym (is.spelled)) (step lane (lane ∷ []) _ (is.allowed.0, refl) (step gross (four_of gross) _ (is.allowed.1, refl) (step prior (prior_code prior ∷ []) _ refl (step signal (code_of_signal signal ∷ []) _ refl (record { from = tt; spelled = refl; is = refl })))))
+      subst (Fields width rest kinds.Weigh (told_of (Weigh lane gross prior) (Some signal))) (sym (is.spelled)) (step lane (lane ∷ []) _ (is.allowed.0, refl) (step gross (four_field gross) _ (is.allowed.1, refl) (step prior (prior_code prior ∷ []) _ refl (step signal (code_of_signal signal ∷ []) _ refl (record { from = tt; spelled = refl; is = refl })))))
   fields_of_act (Weigh lane gross prior) None text is = absurd (no_signal None refl is.signalled)
   fields_of_act (StopLane lane prior) signal text is =
       subst (Fields width rest kinds.StopLane (told_of (StopLane lane prior) signal)) (sym (is.spelled)) (step lane (lane ∷ []) _ (is.allowed, refl) (step prior (prior_code prior ∷ []) _ refl (ending (StopLane lane prior) signal is.signalled)))
@@ -265,7 +265,7 @@ module _ (width rest : ℕ) where
   fields_of_act (Draw batch mode word) signal text is =
       subst (Fields width rest kinds.Draw (told_of (Draw batch mode word) signal)) (sym (is.spelled ∙ append_assoc (name_field width batch) (mode_code mode ∷ eight word) (replicate rest 0))) (step batch (name_field width batch) _ (is.allowed, refl) (step mode (mode_code mode ∷ []) _ refl (step word (eight word) _ (record { below = is.fits; is = refl }) (ending (Draw batch mode word) signal is.signalled))))
   fields_of_act (Measure pack gross empty) signal text is =
-      subst (Fields width rest kinds.Measure (told_of (Measure pack gross empty) signal)) (sym (is.spelled)) (step pack (four pack) _ (record { below = is.fits; is = refl }) (step gross (four_of gross) _ (is.allowed.0, refl) (step empty (four_of empty) _ (is.allowed.1, refl) (ending (Measure pack gross empty) signal is.signalled))))
+      subst (Fields width rest kinds.Measure (told_of (Measure pack gross empty) signal)) (sym (is.spelled)) (step pack (four pack) _ (record { below = is.fits; is = refl }) (step gross (four_field gross) _ (is.allowed.0, refl) (step empty (four_field empty) _ (is.allowed.1, refl) (ending (Measure pack gross empty) signal is.signalled))))
   fields_of_act (DrawSecond batch word) signal text is =
       subst (Fields width rest kinds.DrawSecond (told_of (DrawSecond batch word) signal)) (sym (is.spelled ∙ append_assoc (name_field width batch) (eight word) (replicate rest 0))) (step batch (name_field width batch) _ (is.allowed, refl) (step word (eight word) _ (record { below = is.fits; is = refl }) (ending (DrawSecond batch word) signal is.signalled)))
   fields_of_act (Close batch) signal text is =
@@ -306,9 +306,9 @@ length_behind width name rest short = length-append (name_field width name) rest
 length_fields : (width : ℕ) (act : Act) (signal : Option Signal) → IsActAllowed width act → length (fields_of width act signal) ≡ size_of width (kind_for act)
 length_fields width (NewDay day) signal is = refl
 length_fields width (PutProduct name nominal unit) signal is =
-    length-append (name_field width name ++ eight_of nominal) (unit_code unit ∷ []) ∙ ap (λ k. k + 1) (length_behind width name (eight_of nominal) is.0)
+    length-append (name_field width name ++ eight_field nominal) (unit_code unit ∷ []) ∙ ap (λ k. k + 1) (length_behind width name (eight_field nominal) is.0)
 length_fields width (PutTare product day tare) signal is =
-    length-append (name_field width product ++ four_of day) (four_of tare) ∙ ap (λ k. k + 4) (length_behind width product (four_of day) is.0)
+    length-append (name_field width product ++ four_field day) (four_field tare) ∙ ap (λ k. k + 4) (length_behind width product (four_field day) is.0)
 length_fields width (OpenBatch batch product density) signal is =
     length-append (name_field width batch ++ name_field width product) (four density) ∙ ap (λ k. k + 4) (length_behind width batch (name_field width product) is.0 ∙ ap (λ k. 1 + width + k) (length_name width product is.1))
 length_fields width (StartLane lane batch) signal is = omega (arith, length_name width batch is.1)

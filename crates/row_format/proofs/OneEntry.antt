@@ -22,7 +22,7 @@ use Rattle.book_words.specs.declared.name.Name.{Name}
 use Rattle.book_words.specs.Names.{bytes_of}
 use Rattle.book_words.specs.Ranges.{IsBetween}
 use Rattle.book_words.proofs.NameLemmas.{same_name_is}
-use Rattle.row_format.specs.Spelling.{new_layout, two, four, eight, four_of, eight_of, name_field, prior_code, signal_code, mode_code, unit_code, kind_of, fields_of, row_bytes}
+use Rattle.row_format.specs.Spelling.{new_layout, two, four, eight, four_field, eight_field, name_field, prior_code, signal_code, mode_code, unit_code, kind_code, fields_of, row_bytes}
 use Rattle.row_format.specs.Allowed.{IsShort, IsDensity, IsActAllowed, HasSignal, FitsAct}
 use Rattle.row_format.specs.Rows.{SpellsOneEntry}
 
@@ -45,7 +45,7 @@ eight_parts a b xs ys small other h =
     (sym (from_le_bytes-to_le_bytes_8 a small) ∙ ap (λ (l : List ℕ). from_le_bytes w64 l) front ∙ from_le_bytes-to_le_bytes_8 b other, ap (λ (l : List ℕ). drop 8 l) h)
 
 -- whole numbers of four or eight bytes that aren't below 0
-int_parts : (least most : ℕ) (a b : ℤ) (xs ys : List ℕ) → most < 2 ^ 32 → IsBetween (pos least) (pos most) a → IsBetween (pos least) (pos most) b → four_of a ++ xs ≡ four_of b ++ ys → (a ≡ b) × (xs ≡ ys)
+int_parts : (least most : ℕ) (a b : ℤ) (xs ys : List ℕ) → most < 2 ^ 32 → IsBetween (pos least) (pos most) a → IsBetween (pos least) (pos most) b → four_field a ++ xs ≡ four_field b ++ ys → (a ≡ b) × (xs ≡ ys)
 int_parts least most (pos n) (pos m) xs ys small within other h =
     let n_most : n ≤ most = omega (arith, ints, within.1) in
     let m_most : m ≤ most = omega (arith, ints, other.1) in
@@ -54,7 +54,7 @@ int_parts least most (pos n) (pos m) xs ys small within other h =
 int_parts least most (pos n) (negsuc m) xs ys small within other h = absurd (omega (arith, ints, other.0))
 int_parts least most (negsuc n) b xs ys small within other h = absurd (omega (arith, ints, within.0))
 
-long_parts : (least most : ℕ) (a b : ℤ) (xs ys : List ℕ) → most < 2 ^ 64 → IsBetween (pos least) (pos most) a → IsBetween (pos least) (pos most) b → eight_of a ++ xs ≡ eight_of b ++ ys → (a ≡ b) × (xs ≡ ys)
+long_parts : (least most : ℕ) (a b : ℤ) (xs ys : List ℕ) → most < 2 ^ 64 → IsBetween (pos least) (pos most) a → IsBetween (pos least) (pos most) b → eight_field a ++ xs ≡ eight_field b ++ ys → (a ≡ b) × (xs ≡ ys)
 long_parts least most (pos n) (pos m) xs ys small within other h =
     let n_most : n ≤ most = omega (arith, ints, within.1) in
     let m_most : m ≤ most = omega (arith, ints, other.1) in
@@ -135,19 +135,19 @@ density_small : (density : ℕ) → IsDensity density → density < 2 ^ 32
 density_small density is = ⊎_elim (λ none. omega (arith, none)) (λ some. omega (arith, some.1)) is
 
 -- the fields of an act
-act_parts : (a b : Act) (s t : Option Signal) (xs ys : List ℕ) → IsActAllowed NAME_BYTES a → IsActAllowed NAME_BYTES b → HasSignal a s → HasSignal b t → FitsAct a → FitsAct b → kind_of a ≡ kind_of b
+act_parts : (a b : Act) (s t : Option Signal) (xs ys : List ℕ) → IsActAllowed NAME_BYTES a → IsActAllowed NAME_BYTES b → HasSignal a s → HasSignal b t → FitsAct a → FitsAct b → kind_code a ≡ kind_code b
     → fields_of NAME_BYTES a s ++ xs ≡ fields_of NAME_BYTES b t ++ ys → (a ≡ b) × (s ≡ t)
 act_parts (NewDay d) (NewDay e) s t xs ys can could si ti fits other kind h =
     let p = int_parts 0 (unsigned_abs MAX_DAY) d e xs ys (omega arith) can could h in
     (ap (λ (x : ℤ). NewDay x) p.0, si ∙ sym ti)
 act_parts (PutProduct n q u) (PutProduct m r v) s t xs ys can could si ti fits other kind h =
-    let p = name_first n m (eight_of q) (eight_of r) (unit_code u ∷ []) (unit_code v ∷ []) xs ys can.0 could.0 h in
+    let p = name_first n m (eight_field q) (eight_field r) (unit_code u ∷ []) (unit_code v ∷ []) xs ys can.0 could.0 h in
     let o = long_parts (unsigned_abs MIN_NOMINAL) (unsigned_abs MAX_NOMINAL) q r (unit_code u ∷ xs) (unit_code v ∷ ys) (omega arith) can.1 could.1 p.1 in
     let w = unit_same u v (byte_parts (unit_code u) (unit_code v) xs ys o.1).0 in
     (λ i. PutProduct (p.0 i) (o.0 i) (w i), si ∙ sym ti)
 act_parts (PutTare n d q) (PutTare m e r) s t xs ys can could si ti fits other kind h =
-    let p = name_first n m (four_of d) (four_of e) (four_of q) (four_of r) xs ys can.0 could.0 h in
-    let o = int_parts 0 (unsigned_abs MAX_DAY) d e (four_of q ++ xs) (four_of r ++ ys) (omega arith) can.1 could.1 p.1 in
+    let p = name_first n m (four_field d) (four_field e) (four_field q) (four_field r) xs ys can.0 could.0 h in
+    let o = int_parts 0 (unsigned_abs MAX_DAY) d e (four_field q ++ xs) (four_field r ++ ys) (omega arith) can.1 could.1 p.1 in
     let w = int_parts 0 (unsigned_abs MAX_TARE) q r xs ys (omega arith) can.2 could.2 o.1 in
     (λ i. PutTare (p.0 i) (o.0 i) (w.0 i), si ∙ sym ti)
 act_parts (OpenBatch n k d) (OpenBatch m l e) s t xs ys can could si ti fits other kind h =
@@ -160,7 +160,7 @@ act_parts (StartLane k n) (StartLane l m) s t xs ys can could si ti fits other k
     let o = name_parts n m xs ys can.1 could.1 p.1 in
     (λ i. StartLane (p.0 i) (o.0 i), si ∙ sym ti)
 act_parts (Weigh k q u) (Weigh l r v) s t xs ys can could si ti fits other kind h =
-    let p = byte_parts k l (four_of q ++ prior_code u ∷ signal_code s ∷ xs) (four_of r ++ prior_code v ∷ signal_code t ∷ ys) h in
+    let p = byte_parts k l (four_field q ++ prior_code u ∷ signal_code s ∷ xs) (four_field r ++ prior_code v ∷ signal_code t ∷ ys) h in
     let o = int_parts 0 (unsigned_abs MAX_GROSS) q r (prior_code u ∷ signal_code s ∷ xs) (prior_code v ∷ signal_code t ∷ ys) (omega arith) can.1 could.1 p.1 in
     let w = byte_parts (prior_code u) (prior_code v) (signal_code s ∷ xs) (signal_code t ∷ ys) o.1 in
     let z = byte_parts (signal_code s) (signal_code t) xs ys w.1 in
@@ -181,8 +181,8 @@ act_parts (Draw n u k) (Draw m v l) s t xs ys can could si ti fits other kind h 
     let w = eight_parts k l xs ys fits other o.1 in
     (λ i. Draw (p.0 i) (modes i) (w.0 i), si ∙ sym ti)
 act_parts (Measure k q d) (Measure l r e) s t xs ys can could si ti fits other kind h =
-    let p = four_parts k l (four_of q ++ four_of d ++ xs) (four_of r ++ four_of e ++ ys) fits other h in
-    let o = int_parts 0 (unsigned_abs MAX_GROSS) q r (four_of d ++ xs) (four_of e ++ ys) (omega arith) can.0 could.0 p.1 in
+    let p = four_parts k l (four_field q ++ four_field d ++ xs) (four_field r ++ four_field e ++ ys) fits other h in
+    let o = int_parts 0 (unsigned_abs MAX_GROSS) q r (four_field d ++ xs) (four_field e ++ ys) (omega arith) can.0 could.0 p.1 in
     let w = int_parts 0 (unsigned_abs MAX_TARE) d e xs ys (omega arith) can.1 could.1 o.1 in
     (λ i. Measure (p.0 i) (o.0 i) (w.0 i), si ∙ sym ti)
 act_parts (DrawSecond n k) (DrawSecond m l) s t xs ys can could si ti fits other kind h =
@@ -196,7 +196,7 @@ act_parts a b s t xs ys can could si ti fits other kind h = absurd (cc)
 pub one_entry : SpellsOneEntry
 one_entry bytes number entry other is at =
     let rows : row_bytes new_layout number entry ≡ row_bytes new_layout number other = sym is.row ∙ at.row in
-    let kind : kind_of entry.act ≡ kind_of other.act = ap (λ (l : List ℕ). get_or l 1 0) rows in
+    let kind : kind_code entry.act ≡ kind_code other.act = ap (λ (l : List ℕ). get_or l 1 0) rows in
     let by = two_same entry.by other.by is.can.fits.by at.can.fits.by (ap (λ (l : List ℕ). take 2 (drop 6 l)) rows) in
     let desk = two_same entry.desk other.desk is.can.fits.desk at.can.fits.desk (ap (λ (l : List ℕ). take 2 (drop 8 l)) rows) in
     let request = four_parts entry.request other.request _ _ is.can.fits.request at.can.fits.request (ap (λ (l : List ℕ). drop 10 l) rows) in

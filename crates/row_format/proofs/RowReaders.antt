@@ -7,7 +7,7 @@ use Rattle.book_snapshot.specs.declared.layout.TheConstants.{OPEN}
 use Rattle.row_format.specs.declared.codes.Kind.{Kind}
 use Rattle.row_format.specs.declared.acts.Told.{Told}
 use Rattle.row_format.specs.declared.types.RowFault.{RowFault}
-use Rattle.row_format.specs.Spelling.{Layout, two, four, kind_of, fields_of, filled, spelled_fields, row_bytes}
+use Rattle.row_format.specs.Spelling.{Layout, two, four, kind_code, fields_of, filled, spelled_fields, row_bytes}
 use Rattle.row_format.specs.Rows.{Spells, FirstFault}
 use Rattle.row_format.specs.Reading.{act_at, number_of_kind, told_of, entry_of, row_at}
 use Rattle.row_format.proofs.LowBytes.{low, written_low}
@@ -35,7 +35,7 @@ module _ (total width number : ℕ) where
   join front rest a r text parts p q = parts ∙ ap (λ (xs : List ℕ). xs ++ rest) p ∙ ap (λ (xs : List ℕ). a ++ xs) q
 
   -- the zeros behind the fields of a kind are those of the row
-  whole_row : (by desk request : ℕ) (told : Told) → OPEN ∷ kind_of told.act ∷ (four number ++ (two by ++ (two desk ++ (four request ++ filled total (fields_of width told.act told.signal))))) ≡ row_bytes (layout_of total width) number (entry_of by desk request told)
+  whole_row : (by desk request : ℕ) (told : Told) → OPEN ∷ kind_code told.act ∷ (four number ++ (two by ++ (two desk ++ (four request ++ filled total (fields_of width told.act told.signal))))) ≡ row_bytes (layout_of total width) number (entry_of by desk request told)
   whole_row by desk request told =
       let zeros : total - length (fields_of width told.act told.signal) ≡ 14 + total - length (spelled_fields width number (entry_of by desk request told)) = omega arith in
       ap (λ k. spelled_fields width number (entry_of by desk request told) ++ replicate k 0) zeros
@@ -50,14 +50,14 @@ module _ (total width number : ℕ) where
       let body = x6.goes in
       let told = body.from in
       let is = body.spelled in
-      let kind : number_of_kind x2.first ≡ kind_of told.act = ap number_of_kind (sym is.of_kind) ∙ kind_number told.act in
+      let kind : number_of_kind x2.first ≡ kind_code told.act = ap number_of_kind (sym is.of_kind) ∙ kind_number told.act in
       let fields = filled total (fields_of width told.act told.signal) in
       let six : x5.rest ≡ four x6.first ++ fields = join x6.front x6.rest (four x6.first) fields x5.rest x6.parts x6.starts.is is.spelled in
       let five : x4.rest ≡ two x5.first ++ (four x6.first ++ fields) = join x5.front x5.rest (two x5.first) _ x4.rest x5.parts x5.starts.is six in
       let three : x3.rest ≡ two x4.first ++ (two x5.first ++ (four x6.first ++ fields)) = join x4.front x4.rest (two x4.first) _ x3.rest x4.parts x4.starts.is five in
       let second : x2.rest ≡ four number ++ (two x4.first ++ (two x5.first ++ (four x6.first ++ fields))) = join x3.front x3.rest (four number) _ x2.rest x3.parts (x3.starts.1 ∙ sym (written_low 4 number)) three in
-      let first : x.rest ≡ kind_of told.act ∷ (four number ++ (two x4.first ++ (two x5.first ++ (four x6.first ++ fields)))) = join x2.front x2.rest (kind_of told.act ∷ []) _ x.rest x2.parts (x2.starts ∙ ap (λ (k : ℕ). k ∷ []) kind) second in
-      let row : text ≡ OPEN ∷ kind_of told.act ∷ (four number ++ (two x4.first ++ (two x5.first ++ (four x6.first ++ fields)))) = join x.front x.rest (OPEN ∷ []) _ text x.parts x.starts.1 first in
+      let first : x.rest ≡ kind_code told.act ∷ (four number ++ (two x4.first ++ (two x5.first ++ (four x6.first ++ fields)))) = join x2.front x2.rest (kind_code told.act ∷ []) _ x.rest x2.parts (x2.starts ∙ ap (λ (k : ℕ). k ∷ []) kind) second in
+      let row : text ≡ OPEN ∷ kind_code told.act ∷ (four number ++ (two x4.first ++ (two x5.first ++ (four x6.first ++ fields)))) = join x.front x.rest (OPEN ∷ []) _ text x.parts x.starts.1 first in
       subst (λ e. Spelled e text) (sym body.is) (record {
         row = row ∙ whole_row x4.first x5.first x6.first told;
         can = record {
@@ -78,7 +78,7 @@ module _ (total width number : ℕ) where
       record {
         first = OPEN;
         front = OPEN ∷ [];
-        rest = kind_of entry.act ∷ rest;
+        rest = kind_code entry.act ∷ rest;
         starts = (refl, refl);
         goes = record {
           first = kind_for entry.act;

@@ -17,9 +17,9 @@ use Rattle.book_words.specs.Ranges.{IsBetween}
 use Rattle.row_format.specs.declared.codes.Kind.{Kind}
 use Rattle.row_format.specs.declared.codes.Kind.TheVariants as kinds
 use Rattle.row_format.specs.declared.fields.Numbers.{Numbers}
-use Rattle.row_format.specs.Spelling.{two, four, eight, four_of, eight_of, prior_code, signal_code, mode_code, unit_code}
+use Rattle.row_format.specs.Spelling.{two, four, eight, four_field, eight_field, prior_code, signal_code, mode_code, unit_code}
 use Rattle.row_format.specs.Allowed.{IsLane, IsDensity}
-use Rattle.row_format.specs.Reading.{◌>>=◌, between, four_in, eight_in, byte_in, gate_at, row_number_at, day_at, gross_at, tare_at, nominal_at, density_at, lane_at, coded, number_of_kind, all_kinds, all_signals, kind_at, prior_at, signal_at, mode_at, unit_at, two_at, four_at, eight_at}
+use Rattle.row_format.specs.Reading.{◌>>=◌, between, bounded_four, bounded_eight, byte_in, gate_at, row_number_at, day_at, gross_at, tare_at, nominal_at, density_at, lane_at, coded, number_of_kind, all_kinds, all_signals, kind_at, prior_at, signal_at, mode_at, unit_at, two_at, four_at, eight_at}
 use Rattle.row_format.proofs.LowBytes.{low, modulus, written_low}
 use Rattle.row_format.proofs.FirstWrong.{IsOneOf}
 use Rattle.row_format.proofs.Readers.{IsReader, Within, Image, image_reads, same_reader}
@@ -62,15 +62,15 @@ gate_reads = same_reader Within 1 1 (NumberField (between OPEN OPEN) 1) (OneNumb
 
 pub row_number_reads : (number : ℕ) → number < 2 ^ 32 → IsReader Within 4 (OneNumber 4 number) (row_number_at number)
 unfolding row_number_at
-row_number_reads number below = same_reader Within 4 4 (NumberField (between number number) 4) (OneNumber 4 number) (four_in (between number number)) refl (only_number 4 number) (number_only 4 number) (four_reads (between number number) (between_fits number number 4 (omega arith) (omega arith) (omega arith)))
+row_number_reads number below = same_reader Within 4 4 (NumberField (between number number) 4) (OneNumber 4 number) (bounded_four (between number number)) refl (only_number 4 number) (number_only 4 number) (four_reads (between number number) (between_fits number number 4 (omega arith) (omega arith) (omega arith)))
 
 -- ---- days and masses
 
 abbrev pub FourBytes : ℤ → ℤ → ℤ → List ℕ → Type 0
-FourBytes least greatest number text = IsBetween least greatest number × (text ≡ four_of number)
+FourBytes least greatest number text = IsBetween least greatest number × (text ≡ four_field number)
 
 abbrev pub EightBytes : ℤ → ℤ → ℤ → List ℕ → Type 0
-EightBytes least greatest number text = IsBetween least greatest number × (text ≡ eight_of number)
+EightBytes least greatest number text = IsBetween least greatest number × (text ≡ eight_field number)
 
 signed_between : (least greatest number : ℕ) → (least ≤ number) × (number ≤ greatest) → IsBetween (pos least) (pos greatest) (pos number)
 signed_between least greatest number h = let a = h.0 in let b = h.1 in (omega (arith, ints), omega (arith, ints))
@@ -94,15 +94,15 @@ eight_back : (least greatest : ℕ) (value : ℤ) (text : List ℕ) → EightByt
 eight_back least greatest (pos number) text x = record { from = number; spelled = (between_signed least greatest number x.0, x.1 ∙ written_low 8 number); is = refl }
 eight_back least greatest (negsuc number) text x = let a = x.0.0 in absurd (omega (arith, ints))
 
-four_bytes : (least greatest : ℕ) → least ≤ greatest → greatest < 2 ^ 32 → IsReader Within 4 (FourBytes (pos least) (pos greatest)) (λ place bytes. four_in (between least greatest) place bytes >>= λ number. Ok (pos number))
+four_bytes : (least greatest : ℕ) → least ≤ greatest → greatest < 2 ^ 32 → IsReader Within 4 (FourBytes (pos least) (pos greatest)) (λ place bytes. bounded_four (between least greatest) place bytes >>= λ number. Ok (pos number))
 four_bytes least greatest some below =
-    same_reader Within 4 4 (Image pos (NumberField (between least greatest) 4)) (FourBytes (pos least) (pos greatest)) (λ place bytes. four_in (between least greatest) place bytes >>= λ number. Ok (pos number)) refl (four_to least greatest) (four_back least greatest)
-    (image_reads Within pos 4 (NumberField (between least greatest) 4) (four_in (between least greatest)) (four_reads (between least greatest) (between_fits least greatest 4 (omega arith) some (omega arith))))
+    same_reader Within 4 4 (Image pos (NumberField (between least greatest) 4)) (FourBytes (pos least) (pos greatest)) (λ place bytes. bounded_four (between least greatest) place bytes >>= λ number. Ok (pos number)) refl (four_to least greatest) (four_back least greatest)
+    (image_reads Within pos 4 (NumberField (between least greatest) 4) (bounded_four (between least greatest)) (four_reads (between least greatest) (between_fits least greatest 4 (omega arith) some (omega arith))))
 
-eight_bytes : (least greatest : ℕ) → least ≤ greatest → greatest < 2 ^ 64 → IsReader Within 8 (EightBytes (pos least) (pos greatest)) (λ place bytes. eight_in (between least greatest) place bytes >>= λ number. Ok (pos number))
+eight_bytes : (least greatest : ℕ) → least ≤ greatest → greatest < 2 ^ 64 → IsReader Within 8 (EightBytes (pos least) (pos greatest)) (λ place bytes. bounded_eight (between least greatest) place bytes >>= λ number. Ok (pos number))
 eight_bytes least greatest some below =
-    same_reader Within 8 8 (Image pos (NumberField (between least greatest) 8)) (EightBytes (pos least) (pos greatest)) (λ place bytes. eight_in (between least greatest) place bytes >>= λ number. Ok (pos number)) refl (eight_to least greatest) (eight_back least greatest)
-    (image_reads Within pos 8 (NumberField (between least greatest) 8) (eight_in (between least greatest)) (eight_reads (between least greatest) (between_fits least greatest 8 (omega arith) some (omega arith))))
+    same_reader Within 8 8 (Image pos (NumberField (between least greatest) 8)) (EightBytes (pos least) (pos greatest)) (λ place bytes. bounded_eight (between least greatest) place bytes >>= λ number. Ok (pos number)) refl (eight_to least greatest) (eight_back least greatest)
+    (image_reads Within pos 8 (NumberField (between least greatest) 8) (bounded_eight (between least greatest)) (eight_reads (between least greatest) (between_fits least greatest 8 (omega arith) some (omega arith))))
 
 pub day_reads : IsReader Within 4 (FourBytes (pos 0) MAX_DAY) day_at
 unfolding day_at
@@ -143,7 +143,7 @@ densities_fit density (inr h) = omega (arith, h.1)
 pub density_reads : IsReader Within 4 DensityField density_at
 unfolding density_at
 density_reads =
-    same_reader Within 4 4 (NumberField densities 4) DensityField (four_in densities) refl (λ value text x. (density_is value x.0, x.1 ∙ sym (written_low 4 value))) (λ value text x. (is_density value x.0, x.1 ∙ written_low 4 value))
+    same_reader Within 4 4 (NumberField densities 4) DensityField (bounded_four densities) refl (λ value text x. (density_is value x.0, x.1 ∙ sym (written_low 4 value))) (λ value text x. (is_density value x.0, x.1 ∙ written_low 4 value))
     (four_reads densities (record { positive = omega arith; below = densities_fit; example = 0; is = inl (refl, refl) }))
 
 abbrev pub LaneField : ℕ → List ℕ → Type 0

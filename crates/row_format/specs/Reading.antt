@@ -90,12 +90,12 @@ between least greatest = record { zero = false; least = least; greatest = greate
 abbrev pub byte_in : Numbers → Reader ℕ
 byte_in numbers place bytes = number_in numbers 1 place (slice_index bytes place)
 
-abbrev pub four_in : Numbers → Reader ℕ
-four_in numbers place bytes =
+abbrev pub bounded_four : Numbers → Reader ℕ
+bounded_four numbers place bytes =
     number_in numbers 4 place (from_le_bytes w32 (slice_range bytes place (place + 4)))
 
-abbrev pub eight_in : Numbers → Reader ℕ
-eight_in numbers place bytes =
+abbrev pub bounded_eight : Numbers → Reader ℕ
+bounded_eight numbers place bytes =
     number_in numbers 8 place (from_le_bytes w64 (slice_range bytes place (place + 8)))
 
 -- fields that may hold any bytes
@@ -125,32 +125,33 @@ unfoldable pub gate_at : Reader ℕ
 gate_at place bytes = byte_in (between OPEN OPEN) place bytes
 
 unfoldable pub row_number_at : ℕ → Reader ℕ
-row_number_at number place bytes = four_in (between number number) place bytes
+row_number_at number place bytes = bounded_four (between number number) place bytes
 
 -- days, masses, densities and lanes
 unfoldable pub day_at : Reader ℤ
 day_at place bytes = do
-  day ← four_in (between 0 (unsigned_abs MAX_DAY)) place bytes
+  day ← bounded_four (between 0 (unsigned_abs MAX_DAY)) place bytes
   Ok (pos day)
 
 unfoldable pub gross_at : Reader ℤ
 gross_at place bytes = do
-  gross ← four_in (between 0 (unsigned_abs MAX_GROSS)) place bytes
+  gross ← bounded_four (between 0 (unsigned_abs MAX_GROSS)) place bytes
   Ok (pos gross)
 
 unfoldable pub tare_at : Reader ℤ
 tare_at place bytes = do
-  tare ← four_in (between 0 (unsigned_abs MAX_TARE)) place bytes
+  tare ← bounded_four (between 0 (unsigned_abs MAX_TARE)) place bytes
   Ok (pos tare)
 
 unfoldable pub nominal_at : Reader ℤ
 nominal_at place bytes = do
-  nominal ← eight_in (between (unsigned_abs MIN_NOMINAL) (unsigned_abs MAX_NOMINAL)) place bytes
+  nominal ←
+      bounded_eight (between (unsigned_abs MIN_NOMINAL) (unsigned_abs MAX_NOMINAL)) place bytes
   Ok (pos nominal)
 
 unfoldable pub density_at : Reader ℕ
 density_at place bytes =
-    four_in (record { zero = true; least = MIN_DENSITY; greatest = MAX_DENSITY }) place bytes
+    bounded_four (record { zero = true; least = MIN_DENSITY; greatest = MAX_DENSITY }) place bytes
 
 unfoldable pub lane_at : Reader ℕ
 lane_at place bytes = byte_in (between 1 MAX_LANE) place bytes
@@ -301,8 +302,8 @@ entry_of by desk request told =
     record { by = by; desk = desk; request = request; act = told.act; signal = told.signal }
 
 -- the entry of a reader of the fields of a kind
-abbrev pub entry_at : (by desk request : ℕ) → Reader Told → Reader Entry
-entry_at by desk request read place bytes =
+abbrev pub entry_reader : (by desk request : ℕ) → Reader Told → Reader Entry
+entry_reader by desk request read place bytes =
     read place bytes >>= λ told. Ok (entry_of by desk request told)
 
 -- the entry that a row with this number spells
@@ -310,4 +311,4 @@ unfoldable pub row_at : (width number : ℕ) → Reader Entry
 row_at width number =
     behind 1 gate_at λ _. behind 1 kind_at λ kind. behind 4 (row_number_at number) λ _.
     behind 2 two_at λ by. behind 2 two_at λ desk. behind 4 four_at λ request.
-    entry_at by desk request (act_at kind width)
+    entry_reader by desk request (act_at kind width)

@@ -42,11 +42,11 @@ abbrev pub eight : ℕ → List ℕ
 eight number = to_le_bytes w64 number
 
 -- a day or a mass of four bytes, and a nominal quantity of eight; none is below 0
-abbrev pub four_of : ℤ → List ℕ
-four_of number = four (unsigned_abs number)
+abbrev pub four_field : ℤ → List ℕ
+four_field number = four (unsigned_abs number)
 
-abbrev pub eight_of : ℤ → List ℕ
-eight_of number = eight (unsigned_abs number)
+abbrev pub eight_field : ℤ → List ℕ
+eight_field number = eight (unsigned_abs number)
 
 -- a name: its length, its bytes, and zeros up to the width of names
 abbrev pub name_field : ℕ → Name → List ℕ
@@ -77,39 +77,40 @@ unit_code Mass = 0
 unit_code Volume = 1
 
 -- the kind of a row
-abbrev pub kind_of : Act → ℕ
-kind_of (NewDay day) = 1
-kind_of (PutProduct name nominal unit) = 2
-kind_of (PutTare product day tare) = 3
-kind_of (OpenBatch batch product density) = 4
-kind_of (StartLane lane batch) = 5
-kind_of (Weigh lane gross prior) = 6
-kind_of (StopLane lane prior) = 7
-kind_of (Void pack) = 8
-kind_of (EndRun batch) = 9
-kind_of (Draw batch mode word) = 10
-kind_of (Measure pack gross empty) = 11
-kind_of (DrawSecond batch word) = 12
-kind_of (Close batch) = 13
+abbrev pub kind_code : Act → ℕ
+kind_code (NewDay day) = 1
+kind_code (PutProduct name nominal unit) = 2
+kind_code (PutTare product day tare) = 3
+kind_code (OpenBatch batch product density) = 4
+kind_code (StartLane lane batch) = 5
+kind_code (Weigh lane gross prior) = 6
+kind_code (StopLane lane prior) = 7
+kind_code (Void pack) = 8
+kind_code (EndRun batch) = 9
+kind_code (Draw batch mode word) = 10
+kind_code (Measure pack gross empty) = 11
+kind_code (DrawSecond batch word) = 12
+kind_code (Close batch) = 13
 
 -- the fields of each kind, one behind the other
 abbrev pub fields_of : ℕ → Act → Option Signal → List ℕ
-fields_of width (NewDay day) signal = four_of day
+fields_of width (NewDay day) signal = four_field day
 fields_of width (PutProduct name nominal unit) signal =
-    name_field width name ++ eight_of nominal ++ unit_code unit ∷ []
+    name_field width name ++ eight_field nominal ++ unit_code unit ∷ []
 fields_of width (PutTare product day tare) signal =
-    name_field width product ++ four_of day ++ four_of tare
+    name_field width product ++ four_field day ++ four_field tare
 fields_of width (OpenBatch batch product density) signal =
     name_field width batch ++ name_field width product ++ four density
 fields_of width (StartLane lane batch) signal = lane ∷ name_field width batch
 fields_of width (Weigh lane gross prior) signal =
-    lane ∷ four_of gross ++ prior_code prior ∷ signal_code signal ∷ []
+    lane ∷ four_field gross ++ prior_code prior ∷ signal_code signal ∷ []
 fields_of width (StopLane lane prior) signal = lane ∷ prior_code prior ∷ []
 fields_of width (Void pack) signal = four pack
 fields_of width (EndRun batch) signal = name_field width batch
 fields_of width (Draw batch mode word) signal =
     name_field width batch ++ mode_code mode ∷ eight word
-fields_of width (Measure pack gross empty) signal = four pack ++ four_of gross ++ four_of empty
+fields_of width (Measure pack gross empty) signal =
+    four pack ++ four_field gross ++ four_field empty
 fields_of width (DrawSecond batch word) signal = name_field width batch ++ eight word
 fields_of width (Close batch) signal = name_field width batch
 
@@ -117,7 +118,7 @@ fields_of width (Close batch) signal = name_field width batch
 -- the entry, the desk, its request, and the fields of the kind
 abbrev pub spelled_fields : ℕ → ℕ → Entry → List ℕ
 spelled_fields width number entry =
-    OPEN ∷ kind_of entry.act ∷ four number ++ two entry.by ++ two entry.desk ++ four entry.request
+    OPEN ∷ kind_code entry.act ∷ four number ++ two entry.by ++ two entry.desk ++ four entry.request
     ++ fields_of width entry.act entry.signal
 
 -- zeros fill a row up

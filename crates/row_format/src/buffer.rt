@@ -22,7 +22,7 @@ impl Model for RowBuffer {
 
 impl RowBuffer {
     ghost use Rattle.std.specs.Prelude.{◌≡◌, ◌+◌, ◌≤◌, [], ◌∷◌, ◌++◌, length, replicate};
-    ghost use Rattle.row_format.specs.Spelling.{four_of, filled, name_field};
+    ghost use Rattle.row_format.specs.Spelling.{four_field, filled, name_field};
     ghost use Rattle.row_format.specs.Allowed.{IsGross};
 
     /// No field yet.
@@ -77,7 +77,7 @@ impl RowBuffer {
     pub fn push_mass(&mut self, mass: &i64)
         requires room { length self.old + 4 ≤ ROW_BYTES }
         requires range { IsGross mass.now }
-        ensures { self.new ≡ self.old ++ four_of mass.now }
+        ensures { self.new ≡ self.old ++ four_field mass.now }
     {
         self.push(&(mass.unsigned_abs() as u32).to_le_bytes());
     }

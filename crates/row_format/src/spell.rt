@@ -1,5 +1,5 @@
 ghost use Rattle.std.specs.Prelude.{◌≡◌, ◌<◌, ◌^◌, [], ◌∷◌, ◌++◌, length};
-ghost use Rattle.row_format.specs.Spelling.{four, eight, name_field, four_of, eight_of, prior_code, signal_code, mode_code, unit_code, kind_of, fields_of};
+ghost use Rattle.row_format.specs.Spelling.{four, eight, name_field, four_field, eight_field, prior_code, signal_code, mode_code, unit_code, kind_code, fields_of};
 ghost use Rattle.row_format.specs.Allowed.{IsActAllowed, IsGross, FitsAct};
 
 use crate::buffer::RowBuffer;
@@ -12,8 +12,8 @@ use pack_judge::{Cause, Signal};
 const HEAD_BYTES: usize = 14;
 
 /// The kind of a row.
-pub(crate) fn kind_of(act: &Act) -> u8
-    ensures { result ≡ kind_of act.now }
+pub(crate) fn kind_code(act: &Act) -> u8
+    ensures { result ≡ kind_code act.now }
 {
     match act {
         Act::NewDay { .. } => 1,
@@ -67,7 +67,7 @@ pub(crate) fn push_fields(row: &mut RowBuffer, act: &Act, signal: &Option<Signal
 fn push_product(row: &mut RowBuffer, name: &Name, nominal: &i64, unit: &Unit)
     requires { length row.old ≡ HEAD_BYTES }
     ensures { row.new ≡ row.old
-        ++ (name_field NAME_BYTES name.now ++ eight_of nominal.now ++ unit_code unit.now ∷ []) }
+        ++ (name_field NAME_BYTES name.now ++ eight_field nominal.now ++ unit_code unit.now ∷ []) }
 {
     row.push_name(name);
     row.push(&nominal.unsigned_abs().to_le_bytes());
@@ -79,7 +79,7 @@ fn push_tare(row: &mut RowBuffer, product: &Name, day: &i32, tare: &i64)
     requires head { length row.old ≡ HEAD_BYTES }
     requires range { IsGross tare.now }
     ensures { row.new ≡ row.old
-        ++ (name_field NAME_BYTES product.now ++ four_of day.now ++ four_of tare.now) }
+        ++ (name_field NAME_BYTES product.now ++ four_field day.now ++ four_field tare.now) }
 {
     row.push_name(product);
     row.push(&day.unsigned_abs().to_le_bytes());
@@ -111,7 +111,7 @@ fn push_weighing(row: &mut RowBuffer, lane: u8, gross: &i64, prior: &Prior, sign
     requires head { length row.old ≡ HEAD_BYTES }
     requires range { IsGross gross.now }
     ensures { row.new ≡ row.old
-        ++ (lane ∷ four_of gross.now ++ prior_code prior.now ∷ signal_code signal.now ∷ []) }
+        ++ (lane ∷ four_field gross.now ++ prior_code prior.now ∷ signal_code signal.now ∷ []) }
 {
     row.push(&[lane]);
     row.push_mass(gross);
@@ -144,7 +144,8 @@ fn push_measurement(row: &mut RowBuffer, pack: u32, gross: &i64, empty: &i64)
     requires head { length row.old ≡ HEAD_BYTES }
     requires gross { IsGross gross.now }
     requires empty { IsGross empty.now }
-    ensures fields { row.new ≡ row.old ++ (four pack ++ four_of gross.now ++ four_of empty.now) }
+    ensures fields { row.new
+        ≡ row.old ++ (four pack ++ four_field gross.now ++ four_field empty.now) }
     ensures fits { pack < 2 ^ 32 }
 {
     push_pack(row, pack);

@@ -3,7 +3,7 @@ ghost use Rattle.row_format.specs.Allowed.{IsAllowed, IsAllowedWhereLawful};
 ghost use Rattle.row_format.specs.Rows.{Spells, SpellsOneEntry};
 
 use crate::buffer::RowBuffer;
-use crate::spell::{kind_of, push_fields};
+use crate::spell::{kind_code, push_fields};
 use book_snapshot::{OPEN, ROW_BYTES};
 use book_words::Entry;
 use hall_limits::NAME_BYTES;
@@ -15,7 +15,7 @@ pub fn write_row(entry: &Entry, number: u32) -> [u8; ROW_BYTES]
     ensures { Spells new_layout result number entry.now }
 {
     let mut row = RowBuffer::new();
-    row.push(&[OPEN, kind_of(&entry.act)]);
+    row.push(&[OPEN, kind_code(&entry.act)]);
     row.push(&number.to_le_bytes());
     row.push(&entry.by.to_le_bytes());
     row.push(&entry.desk.to_le_bytes());

@@ -1,18 +1,18 @@
 use Rattle.std.proofs.Common.{refl, arith, lit<, ◌+◌, ◌≤◌, unsigned_abs, w64}
 use Rattle.std.proofs.lemmas.Int.{ints}
 use Rattle.pack_judge.specs.declared.types.Tally.{Tally}
-use Rattle.book_words.specs.Ranges.{GREATEST_SUM}
+use Rattle.book_words.specs.Ranges.{MAX_SUM}
 use Rattle.reference_test.proofs.Computed.{again, Computes, computes_read, computes_sum}
 use Rattle.book_views.specs.Tallies.{IsTally}
 use Rattle.book_views.proofs.tallies.add_up.Goals as goal
 
 -- the sum of a tally that is read
-gross_read : (tally : Tally) → IsTally tally → Computes (again w64 tally.gross) tally.gross (unsigned_abs GREATEST_SUM)
+gross_read : (tally : Tally) → IsTally tally → Computes (again w64 tally.gross) tally.gross (unsigned_abs MAX_SUM)
 gross_read tally is =
     let least = is.gross.0 in
     let greatest = is.gross.1 in
-    let near : unsigned_abs tally.gross ≤ unsigned_abs GREATEST_SUM = omega (arith, ints, least, greatest) in
-    computes_read w64 tally.gross tally.gross (unsigned_abs GREATEST_SUM) (lit< tt) refl near
+    let near : unsigned_abs tally.gross ≤ unsigned_abs MAX_SUM = omega (arith, ints, least, greatest) in
+    computes_read w64 tally.gross tally.gross (unsigned_abs MAX_SUM) (lit< tt) refl near
 
 pub returns : goal.returns
 returns c =
