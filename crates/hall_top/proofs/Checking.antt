@@ -11,7 +11,7 @@ use Rattle.hall_top.specs.Transcript.{BookState}
 use Rattle.hall_top.specs.Streams.{Stream}
 use Rattle.hall_top.specs.Run.{Call, status_of, is_status}
 use Rattle.hall_top.specs.Kept.{CountsStop}
-use Rattle.hall_top.specs.Calls.{SaysWhy, SaysWhole, ExplainsCheck, EndsAs, status_for}
+use Rattle.hall_top.specs.Calls.{SaysWhy, SaysWhole, ExplainsCheck, EndsAs, mount_status}
 
 -- a check that wrote its line, or a part of it
 pub explains_check : {S : Type 0} (book : BookState) (call : Call S) (stop : Stop) → call.now.source ≡ call.before.source → call.rows ≡ book.entries → SaysWhole call.before.output call.now.output (length call.rows) stop → ExplainsCheck book call stop
@@ -42,7 +42,7 @@ stop_status DiskFault = refl
 stop_status NoMemory = refl
 stop_status Spent = refl
 
-why_status : (why : MountError) → IsTrue (is_status (status_for why))
+why_status : (why : MountError) → IsTrue (is_status (mount_status why))
 why_status (mount.NotJournal place) = refl
 why_status (mount.Damaged row) = refl
 why_status mount.DiskFault = refl
@@ -66,7 +66,7 @@ stop_differs DiskFault is = absurd (omega (arith, is))
 stop_differs NoMemory is = absurd (omega (arith, is))
 stop_differs Spent is = absurd (omega (arith, is))
 
-why_differs : (why : MountError) → status_for why ≡ 2 → ⊥
+why_differs : (why : MountError) → mount_status why ≡ 2 → ⊥
 why_differs (mount.NotJournal place) is = absurd (omega (arith, is))
 why_differs (mount.Damaged row) is = absurd (omega (arith, is))
 why_differs mount.DiskFault is = absurd (omega (arith, is))

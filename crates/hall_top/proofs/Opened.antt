@@ -24,7 +24,7 @@ use Rattle.hall_top.specs.Run.{Call}
 use Rattle.hall_top.specs.Kept.{CrashLeaves, HangsAtFault, HasKept, HoldsOrOffered, CountsStop, IsUnfailing}
 use Rattle.hall_top.specs.Snapshots.{HasNewRows}
 use Rattle.hall_top.proofs.Keeping.{keeps_in}
-use Rattle.hall_top.specs.Calls.{KeepsRows, CountsEnd, IsOpened, IsUnopened, IsDoneOver, SaysWhy}
+use Rattle.hall_top.specs.Calls.{KeepsRows, CountsEnd, IsOpened, IsUnopened, CommandDone, SaysWhy}
 
 -- the front of a list that begins with another
 front_of : (first more : List Entry) → take (length first) (first ++ more) ≡ first
@@ -91,7 +91,7 @@ pub is_opened : {S D : Type 0} (g : disk.Ghosts D) (counts_now : (d : D) (t : �
     → WhereTold (g.reads before) (λ bytes. IsOpenedAs bytes (entries_of store))
     → WhereTold (g.reads before) (λ bytes. (held : List Entry) → HoldsBook held bytes → IsLegal held → HasHeld g before held store)
     → WhereTold (g.reads before) (λ bytes. (rows size : ℕ) → FitsSnapshot rows size bytes → g.reads (disk_of store) ≡ Some bytes)
-    → IsDoneOver g Explains status_of store ended call
+    → CommandDone g Explains status_of store ended call
     → IsOpened g limit Explains status_of before ended call
 is_opened g counts_now limit Explains status_of before store ended call limit_is count calm faults opened held unwritten done =
     let begins = done.goes.begins in

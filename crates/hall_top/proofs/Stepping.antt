@@ -12,7 +12,7 @@ use Rattle.hall_top.specs.declared.stop.Stop.{Stop}
 use Rattle.hall_top.specs.Transcript.{BookState, ended_lines_of, lines_of}
 use Rattle.hall_top.specs.Streams.{Stream}
 use Rattle.hall_top.specs.Run.{StopsAtLine, StopsInScript, HasLine}
-use Rattle.hall_top.specs.Reached.{RunState, HasAnswered, Reached, GoesOn, StopsAnyway, StopsAfter, Steps}
+use Rattle.hall_top.specs.Reached.{RunState, HasAnswered, Reached, ReachedMore, StopsAnyway, StopsAfter, Steps}
 use Rattle.hall_top.proofs.ScriptLines.{ended_line, ended_of_line, ended_of_part, commands_of-push, all_good-push}
 use Rattle.hall_top.proofs.Answering.{answered_more, stops_after}
 
@@ -94,12 +94,12 @@ stops_anyway book before old now taken run rows said line stop judged stands las
     }
 
 -- two steps are one
-pub steps_on : (old between now : Stream) (run run' run'' : RunState) (first next : List ℕ) → GoesOn old between run run' first → GoesOn between now run' run'' next → GoesOn old now run run'' (first ++ next)
+pub steps_on : (old between now : Stream) (run run' run'' : RunState) (first next : List ℕ) → ReachedMore old between run run' first → ReachedMore between now run' run'' next → ReachedMore old now run run'' (first ++ next)
 steps_on old between now run run' run'' first next one two = λ book before taken stands.
     subst (λ (bytes : List ℕ). Reached book before now bytes run'') (append_assoc taken first next) (two book before (taken ++ first) (one book before taken stands))
 
 -- a step that ends the run ends it whatever was still at hand
-pub steps_stop : (old between now : Stream) (run run' : RunState) (rows : List Entry) (first next rest : List ℕ) (stop : Stop) → GoesOn old between run run' first → StopsAfter between now run' rows next stop
+pub steps_stop : (old between now : Stream) (run run' : RunState) (rows : List Entry) (first next rest : List ℕ) (stop : Stop) → ReachedMore old between run run' first → StopsAfter between now run' rows next stop
     → StopsAfter old now run rows (first ++ (next ++ rest)) stop
 steps_stop old between now run run' rows first next rest stop one two =
     record {
@@ -116,10 +116,10 @@ steps_stop old between now run run' rows first next rest stop one two =
 pub record GoneOver (old now : Stream) (run_before run : RunState) (piece rest : List ℕ) : Type 0 where
   pub first : List ℕ
   pub parts : piece ≡ first ++ rest
-  pub on : GoesOn old now run_before run first
+  pub on : ReachedMore old now run_before run first
 
 -- so is a last step, whatever it answers
-pub steps_last : {T : Type 0} (old between now : Stream) (run run' run'' : RunState) (first next : List ℕ) (result : Result T Stop) → GoesOn old between run run' first → Steps between now run' run'' next result
+pub steps_last : {T : Type 0} (old between now : Stream) (run run' run'' : RunState) (first next : List ℕ) (result : Result T Stop) → ReachedMore old between run run' first → Steps between now run' run'' next result
     → Steps old now run run'' (first ++ next) result
 steps_last old between now run run' run'' first next (Ok x) one two = steps_on old between now run run' run'' first next one two
 steps_last old between now run run' run'' first next (Err stop) one two =

@@ -23,7 +23,7 @@ use Rattle.hall_top.specs.Texts.{usage, disk_fault, no_memory, not_journal, dama
 use Rattle.hall_top.specs.Transcript.{BookState}
 use Rattle.hall_top.specs.Streams.{Stream, WroteAll, IsCutIn, Wrote}
 use Rattle.hall_top.specs.Run.{Call, Explains, HasGrown, IsComplete, status_of}
-use Rattle.hall_top.specs.Kept.{CrashLeaves, HoldsOrOffered, IsUnfailing, GoesTo}
+use Rattle.hall_top.specs.Kept.{CrashLeaves, HoldsOrOffered, IsUnfailing, RunGoes}
 use Rattle.hall_top.specs.Books.{stored_book}
 use Rattle.hall_top.specs.Migration.{ExplainsMigration}
 use Rattle.command_line.specs.Words.{Wanted}
@@ -42,16 +42,16 @@ line_of (mount.Damaged row) = damaged_row row
 line_of mount.DiskFault = disk_fault
 line_of mount.NoMemory = no_memory
 
-abbrev pub status_for : MountError → ℕ
-status_for (mount.NotJournal place) = 8
-status_for (mount.Damaged row) = 9
-status_for mount.DiskFault = 6
-status_for mount.NoMemory = 7
+abbrev pub mount_status : MountError → ℕ
+mount_status (mount.NotJournal place) = 8
+mount_status (mount.Damaged row) = 9
+mount_status mount.DiskFault = 6
+mount_status mount.NoMemory = 7
 
 -- the line that says why went out, or was cut
 abbrev pub SaysWhy : MountError → Stream → Stream → ℕ → Type 0
 SaysWhy why before now status =
-    (WroteAll before now (line_of why) × (status ≡ status_for why))
+    (WroteAll before now (line_of why) × (status ≡ mount_status why))
     ⊎ (IsCutIn before now [] (line_of why) × (status ≡ 5))
 
 -- The disk wasn't opened as a book: nothing was read, and one line says why. A disk that holds a
@@ -161,7 +161,7 @@ pub record IsUsage {S D : Type 0} (before : D) (ended : Ended D) (call : Call S)
 
 -- A command was done over a store: it ended in one of its ways, and the disk and the rows are those
 -- of the store that it left.
-pub record IsDoneOver {S D : Type 0} (disk : disk.Ghosts D)
+pub record CommandDone {S D : Type 0} (disk : disk.Ghosts D)
     (Explains : BookState → Call S → Stop → Type 0) (status_of : Stop → ℕ) (store : Store D)
     (ended : Ended D) (call : Call S) : Type 0 where
   pub last : Store D
@@ -170,5 +170,5 @@ pub record IsDoneOver {S D : Type 0} (disk : disk.Ghosts D)
   pub disk_left : ended.disk ≡ disk_of last
   pub rows : ended.rows ≡ entries_of last
   pub held : ended.held ≡ length (entries_of store)
-  pub goes : GoesTo disk stop store last
+  pub goes : RunGoes disk stop store last
   pub explained : Explains (stored_book store) call stop

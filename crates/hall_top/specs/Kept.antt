@@ -78,5 +78,5 @@ pub record Goes {D T : Type 0} (disk : disk.Ghosts D) (result : Result T Stop)
   pub snapshot : result ≡ Err Finished → LeavesSnapshot disk new
 
 -- what a whole run that ended so makes of the store
-abbrev pub GoesTo : {D : Type 0} → disk.Ghosts D → Stop → Store D → Store D → Type 0
-GoesTo disk stop old new = Goes {T = ⊤} disk (Err stop) old new
+abbrev pub RunGoes : {D : Type 0} → disk.Ghosts D → Stop → Store D → Store D → Type 0
+RunGoes disk stop old new = Goes {T = ⊤} disk (Err stop) old new

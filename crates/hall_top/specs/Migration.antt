@@ -118,7 +118,7 @@ CarrySteps old now before after bytes result =
 
 -- a migration that began with these devices took these bytes of its input and carried their rows;
 -- it has written nothing
-pub record CarriedAfter {S : Type 0} (book : BookState) (before now : Devices S) (taken : List ℕ)
+pub record HasReadJournal {S : Type 0} (book : BookState) (before now : Devices S) (taken : List ℕ)
     (state : MigrationState) : Type 0 where
   pub read : Consumes before.input.bytes now.input.bytes taken
   pub calm : IsCalm before.input now.input
@@ -131,7 +131,7 @@ pub record CarriedMore {S : Type 0} (book : BookState) (before now : Devices S) 
   pub more : List ℕ
   pub some : 0 < length more
   pub few : length more ≤ PIECE
-  pub stands : CarriedAfter book before now (taken ++ more) state
+  pub stands : HasReadJournal book before now (taken ++ more) state
 
 -- it took bytes in so many reads, each at least one and at most a piece
 pub record CarriedReads {S : Type 0} (book : BookState) (before now : Devices S) (reads : ℕ)
@@ -139,7 +139,7 @@ pub record CarriedReads {S : Type 0} (book : BookState) (before now : Devices S)
   pub taken : List ℕ
   pub least : reads ≤ length taken
   pub most : length taken ≤ reads * PIECE
-  pub stands : CarriedAfter book before now taken state
+  pub stands : HasReadJournal book before now taken state
 
 -- ---- the end of a migration
 
@@ -166,7 +166,7 @@ pub record StopsInJournal {S : Type 0} (book : BookState) (call : Call S)
   pub calm : IsCalm call.before.input call.now.input
 
 -- or at its end
-pub record StopsBehindJournal {S : Type 0} (book : BookState) (call : Call S)
+pub record StopsAtJournalEnd {S : Type 0} (book : BookState) (call : Call S)
     (stop : Stop) : Type 0 where
   pub journal : List ℕ
   pub read : ReadsWhole call.before.input call.now.input journal
@@ -206,14 +206,14 @@ pub record IsMigrationSpent {S : Type 0} (book : BookState) (call : Call S) : Ty
 
 -- what each way to stop says of a migration
 abbrev pub ExplainsMigration : {S : Type 0} → BookState → Call S → Stop → Type 0
-ExplainsMigration book call Finished = StopsBehindJournal book call Finished
+ExplainsMigration book call Finished = StopsAtJournalEnd book call Finished
 ExplainsMigration book call BadLine =
-    StopsInJournal book call BadLine ⊎ StopsBehindJournal book call BadLine
+    StopsInJournal book call BadLine ⊎ StopsAtJournalEnd book call BadLine
 ExplainsMigration book call ReadFault = IsMigrationFault book call
 ExplainsMigration book call Spent = IsMigrationSpent book call
 ExplainsMigration book call stop =
     StopsInJournal book call stop
-    ⊎ (StopsBehindJournal book call stop ⊎ IsUnbegun book call stop)
+    ⊎ (StopsAtJournalEnd book call stop ⊎ IsUnbegun book call stop)
 
 -- ---- steps of the code
 

@@ -51,8 +51,8 @@ pub record Reached (book : BookState) (before now : Stream) (taken : List ℕ)
   pub answered : HasAnswered book before now run.book (commands_of (ended_lines_of taken))
 
 -- wherever a run stood, it now stands after these bytes too
-abbrev pub GoesOn : Stream → Stream → RunState → RunState → List ℕ → Type 0
-GoesOn old now run_before run bytes =
+abbrev pub ReachedMore : Stream → Stream → RunState → RunState → List ℕ → Type 0
+ReachedMore old now run_before run bytes =
     (book : BookState) (before : Stream) (taken : List ℕ) → Reached book before old taken run_before
     → Reached book before now (taken ++ bytes) run
 
@@ -77,7 +77,7 @@ pub record StopsAfter (old now : Stream) (run_before : RunState) (rows : List En
 abbrev pub Steps : Stream → Stream → RunState → RunState → List ℕ
     → {T : Type 0} → Result T Stop → Type 0
 Steps old now run_before run bytes result =
-    MatchResult result (λ _. GoesOn old now run_before run bytes)
+    MatchResult result (λ _. ReachedMore old now run_before run bytes)
     (λ stop. StopsAfter old now run_before run.book.entries bytes stop)
 
 -- all lines of a script are good and answered, and these rows are left
@@ -102,7 +102,7 @@ EndsScript book before now rows script NoMemory = StopsOrEnds book before now ro
 EndsScript book before now rows script _ = ⊥
 
 -- a run that began with these devices took these bytes of its input
-pub record StandsAfter {S : Type 0} (book : BookState) (before now : Devices S) (taken : List ℕ)
+pub record HasReadScript {S : Type 0} (book : BookState) (before now : Devices S) (taken : List ℕ)
     (run : RunState) : Type 0 where
   pub read : Consumes before.input.bytes now.input.bytes taken
   pub calm : IsCalm before.input now.input
@@ -114,7 +114,7 @@ pub record WentOn {S : Type 0} (book : BookState) (before now : Devices S) (take
   pub more : List ℕ
   pub some : 0 < length more
   pub few : length more ≤ PIECE
-  pub stands : StandsAfter book before now (taken ++ more) run
+  pub stands : HasReadScript book before now (taken ++ more) run
 
 -- it took bytes in so many reads, each at least one and at most a piece
 pub record HasTaken {S : Type 0} (book : BookState) (before now : Devices S) (reads : ℕ)
@@ -122,4 +122,4 @@ pub record HasTaken {S : Type 0} (book : BookState) (before now : Devices S) (re
   pub taken : List ℕ
   pub least : reads ≤ length taken
   pub most : length taken ≤ reads * PIECE
-  pub stands : StandsAfter book before now taken run
+  pub stands : HasReadScript book before now taken run

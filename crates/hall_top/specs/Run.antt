@@ -41,14 +41,14 @@ pub record IsAnsweredThen (book : BookState) (before now : Stream) (rows : List 
   pub rows_left : AreLeft book commands rows
 
 -- the exchange of a command after others
-abbrev pub exchange_after : BookState → List Command → Command → Exchange
-exchange_after book commands command = exchange_at (after_commands book commands) command
+abbrev pub next_exchange : BookState → List Command → Command → Exchange
+next_exchange book commands command = exchange_at (after_commands book commands) command
 
 -- the answer to a command after others was cut; the rows are those that it leaves too
 pub record IsAnswerCut (book : BookState) (before now : Stream) (rows : List Entry)
     (commands : List Command) (command : Command) : Type 0 where
   pub cut : IsCutIn before now (answers book commands)
-      (outcome_text (exchange_after book commands command).answer)
+      (outcome_text (next_exchange book commands command).answer)
   pub rows_left : AreLeft book (commands ++ command ∷ []) rows
 
 -- what may find no memory: an act that adds an entry, and a question for a sample
@@ -60,14 +60,14 @@ MayFindNoMemory (want.Question question) new = ⊥
 -- there was no memory for a command after others: it would have added a row, or asks for a sample
 pub record FindsNoMemory (book : BookState) (rows : List Entry) (commands : List Command)
     (command : Command) : Type 0 where
-  pub may : MayFindNoMemory (exchange_after book commands command).ask.want
-      (exchange_after book commands command).added
+  pub may : MayFindNoMemory (next_exchange book commands command).ask.want
+      (next_exchange book commands command).added
   pub rows_left : AreLeft book commands rows
 
 -- the disk failed at a command after others, which would have added a row
 pub record FindsDiskFault (book : BookState) (rows : List Entry) (commands : List Command)
     (command : Command) : Type 0 where
-  pub offers : IsSome (exchange_after book commands command).added
+  pub offers : IsSome (next_exchange book commands command).added
   pub rows_left : AreLeft book commands rows
 
 -- how a run stops at the line of a number, after these commands: at a bad line, in a failed write,

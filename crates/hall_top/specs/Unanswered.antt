@@ -8,13 +8,13 @@ use Rattle.hall_top.specs.Transcript.{Exchange}
 use Rattle.hall_top.specs.Run.{MayFindNoMemory}
 
 -- how a run stops where a command isn't answered, and its line isn't cut
-abbrev pub stop_of : Unanswered → Stop
-stop_of unanswered.DiskFault = DiskFault
-stop_of unanswered.NoMemory = NoMemory
+abbrev pub failed_stop : Unanswered → Stop
+failed_stop unanswered.DiskFault = DiskFault
+failed_stop unanswered.NoMemory = NoMemory
 
 abbrev pub stopped : {T : Type 0} → Result T Unanswered → Result T Stop
 stopped (Ok done) = Ok done
-stopped (Err why) = Err (stop_of why)
+stopped (Err why) = Err (failed_stop why)
 
 -- which exchanges may so stay without an answer: where the disk fails, one that adds a row; where
 -- there is no memory, one that adds a row or asks for a sample

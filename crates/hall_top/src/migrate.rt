@@ -5,11 +5,11 @@ ghost use Rattle.book_words.specs.Answers.{IsLegal};
 ghost use Rattle.book_store.specs.Stores.{entries_of, opened_of, IsSound};
 ghost use Rattle.old_journal.specs.Reader.{old_after};
 ghost use Rattle.hall_top.specs.Books.{stored_book};
-ghost use Rattle.hall_top.specs.Kept.{Goes, GoesTo};
+ghost use Rattle.hall_top.specs.Kept.{Goes, RunGoes};
 ghost use Rattle.hall_top.specs.Run.{call};
 ghost use Rattle.hall_top.specs.Transcript.{BookState};
 ghost use Rattle.hall_top.specs.Streams.{Devices, devices, output_at};
-ghost use Rattle.hall_top.specs.Migration.{Carried, CarriedAfter, CarriedMore, EndsMigration, ExplainsMigration, IsCarrying, migration_state};
+ghost use Rattle.hall_top.specs.Migration.{Carried, HasReadJournal, CarriedMore, EndsMigration, ExplainsMigration, IsCarrying, migration_state};
 
 use crate::carrying::{Migration, say_bad_row};
 use crate::check::check_book;
@@ -34,7 +34,7 @@ fn finish<K: Sink, D: Disk>(migration: &mut Migration<D>, output: &mut K) -> Sto
         → Carried held taken (migration_state migration.old)
         → EndsMigration held (output_at K.Sink output.old) (output_at K.Sink output.new)
         (entries_of migration.new.store) taken result }
-    ensures goes { GoesTo D.Disk result migration.old.store migration.new.store }
+    ensures goes { RunGoes D.Disk result migration.old.store migration.new.store }
 {
     if !migration.journal.has_header() {
         return say_bad_row(0, output);
@@ -59,7 +59,7 @@ fn take_read<S: Source, K: Sink, D: Disk>(
     ensures unended { OnOk result (S.ended input.new ≡ false) }
     ensures explained { (book : BookState) (before : Devices S) (taken : List ℕ)
         → opened_of migration.old.store ≡ length book.entries
-        → CarriedAfter book before (devices S.Source K.Sink input.old output.old) taken
+        → HasReadJournal book before (devices S.Source K.Sink input.old output.old) taken
         (migration_state migration.old)
         → MatchResult result
         (λ _. CarriedMore book before (devices S.Source K.Sink input.new output.new) taken
@@ -98,7 +98,7 @@ fn read_all<S: Source, K: Sink, D: Disk>(
     ensures explained { ExplainsMigration (stored_book migration.old.store)
         (call S.Source K.Sink input.old output.old input.new output.new
         (entries_of migration.new.store)) result }
-    ensures goes { GoesTo D.Disk result migration.old.store migration.new.store }
+    ensures goes { RunGoes D.Disk result migration.old.store migration.new.store }
 {
     for _turn in 0..MAX_OLD_READS {
         if let Err(stop) = take_read(migration, buffer, input, output) {
@@ -123,7 +123,7 @@ pub fn migrate_journal<S: Source, K: Sink, D: Disk>(
     ensures explained { ExplainsMigration (stored_book store)
         (call S.Source K.Sink input.old output.old input.new output.new (entries_of result.store))
         result.stop }
-    ensures goes { GoesTo D.Disk result.stop store result.store }
+    ensures goes { RunGoes D.Disk result.stop store result.store }
 {
     let Ok(mut buffer) = vec![in alloc; 0u8; PIECE] else {
         return RunEnd {

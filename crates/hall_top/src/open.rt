@@ -1,7 +1,7 @@
 ghost use Rattle.std.specs.Prelude.{◌≡◌, [], OnOk, OnErr};
 ghost use Rattle.book_words.specs.Soundness.{IsSound};
 ghost use Rattle.hall_top.specs.Streams.{output_at, WroteAll, IsCutIn};
-ghost use Rattle.hall_top.specs.Calls.{SaysWhy, line_of, status_for};
+ghost use Rattle.hall_top.specs.Calls.{SaysWhy, line_of, mount_status};
 
 use crate::ended::Ended;
 use crate::numbered::{write_numbered, write_text};
@@ -40,8 +40,8 @@ fn say_why<K: Sink>(why: MountError, output: &mut K) -> Result<(), Partly>
 }
 
 // The status where a disk wasn't opened as a book.
-fn status_for(why: MountError) -> u8
-    ensures { result ≡ status_for why }
+fn mount_status(why: MountError) -> u8
+    ensures { result ≡ mount_status why }
 {
     match why {
         MountError::NotJournal { .. } => 8,
@@ -56,7 +56,7 @@ fn explain<K: Sink>(why: MountError, output: &mut K) -> u8
     ensures { SaysWhy why (output_at K.Sink output.old) (output_at K.Sink output.new) result }
 {
     match say_why(why, output) {
-        Ok(()) => status_for(why),
+        Ok(()) => mount_status(why),
         Err(_) => Stop::WriteFault.status(),
     }
 }

@@ -5,9 +5,9 @@ ghost use Rattle.book_store.specs.Stores.{entries_of, opened_of, IsSound};
 ghost use Rattle.hall_top.specs.Transcript.{BookState};
 ghost use Rattle.hall_top.specs.Streams.{Devices, devices};
 ghost use Rattle.hall_top.specs.Run.{call, Explains};
-ghost use Rattle.hall_top.specs.Kept.{Goes, GoesTo};
+ghost use Rattle.hall_top.specs.Kept.{Goes, RunGoes};
 ghost use Rattle.hall_top.specs.Books.{book_in, store_in, stored_book, opened_at, IsReady};
-ghost use Rattle.hall_top.specs.Reached.{SaysNoMemory, StandsAfter, WentOn};
+ghost use Rattle.hall_top.specs.Reached.{SaysNoMemory, HasReadScript, WentOn};
 ghost use Rattle.hall_top.specs.Runs.{run_state};
 
 use crate::run::Run;
@@ -44,7 +44,7 @@ fn take_read<S: Source, K: Sink, D: Disk>(
     requires ready { IsReady D.Disk run.old.session }
     ensures unended { OnOk result (S.ended input.new ≡ false) }
     ensures explained { (book : BookState) (before : Devices S) (taken : List ℕ)
-        → StandsAfter book before (devices S.Source K.Sink input.old output.old) taken
+        → HasReadScript book before (devices S.Source K.Sink input.old output.old) taken
         (run_state run.old)
         → MatchResult result
         (λ _. WentOn book before (devices S.Source K.Sink input.new output.new) taken
@@ -83,7 +83,7 @@ fn read_all<S: Source, K: Sink, D: Disk>(
     ensures explained { Explains (book_in run.old.session)
         (call S.Source K.Sink input.old output.old input.new output.new
         (entries_of (store_in run.new.session))) result }
-    ensures goes { GoesTo D.Disk result (store_in run.old.session) (store_in run.new.session) }
+    ensures goes { RunGoes D.Disk result (store_in run.old.session) (store_in run.new.session) }
 {
     for _turn in 0..MAX_READS {
         if let Err(stop) = take_read(run, buffer, input, output) {
@@ -127,7 +127,7 @@ pub fn run_script<S: Source, K: Sink, D: Disk>(
     ensures explained { Explains (stored_book store)
         (call S.Source K.Sink input.old output.old input.new output.new (entries_of result.store))
         result.stop }
-    ensures goes { GoesTo D.Disk result.stop store result.store }
+    ensures goes { RunGoes D.Disk result.stop store result.store }
 {
     match begin(alloc, store) {
         Ok((mut run, mut buffer)) => {

@@ -24,7 +24,7 @@ impl<D: Disk> Run<D> {
     ghost use Rattle.hall_top.specs.Transcript.{BookState};
     ghost use Rattle.hall_top.specs.Streams.{Stream, output_at};
     ghost use Rattle.hall_top.specs.Run.{StopsInScript};
-    ghost use Rattle.hall_top.specs.Kept.{Goes, GoesTo};
+    ghost use Rattle.hall_top.specs.Kept.{Goes, RunGoes};
     ghost use Rattle.hall_top.specs.Books.{book_in, store_in, opened_at, IsReady};
     ghost use Rattle.hall_top.specs.Runs.{run_state};
     ghost use Rattle.hall_top.specs.Reached.{Reached, Steps, IsWholeSoFar, EndsScript};
@@ -118,7 +118,7 @@ impl<D: Disk> Run<D> {
             → Reached book before (output_at K.Sink output.old) taken (run_state self.old)
             → EndsScript book before (output_at K.Sink output.new)
             (entries_of (store_in self.new.session)) taken result }
-        ensures goes { GoesTo D.Disk result
+        ensures goes { RunGoes D.Disk result
             (store_in self.old.session) (store_in self.new.session) }
         ensures ready { IsReady D.Disk self.new.session }
     {
@@ -159,7 +159,7 @@ impl<D: Disk> Run<D> {
             (book_in self.old.session)
             → EndsScript book before (output_at K.Sink output.new)
             (entries_of (store_in self.new.session)) taken result }
-        ensures goes { GoesTo D.Disk result
+        ensures goes { RunGoes D.Disk result
             (store_in self.old.session) (store_in self.new.session) }
         ensures ready { IsReady D.Disk self.new.session }
     {

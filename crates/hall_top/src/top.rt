@@ -5,12 +5,12 @@ ghost use Rattle.book_words.specs.Soundness.{IsSound as IsSoundBook};
 ghost use Rattle.book_store.specs.Stores.{entries_of, opened_of, IsSound};
 ghost use Rattle.hall_top.specs.Requests.{RequestsOnce};
 ghost use Rattle.hall_top.specs.Run.{call, is_status, status_of};
-ghost use Rattle.hall_top.specs.Kept.{GoesTo};
+ghost use Rattle.hall_top.specs.Kept.{RunGoes};
 ghost use Rattle.hall_top.specs.Books.{stored_book};
 ghost use Rattle.command_line.specs.Words.{Wanted, bytes_of, wanted_of};
 ghost use Rattle.hall_top.specs.Texts.{usage};
 ghost use Rattle.hall_top.specs.Streams.{output_at, Wrote};
-ghost use Rattle.hall_top.specs.Calls.{ExplainsCommand, EndsAs, IsDoneOver, IsOpened, IsUnopened, IsUsage};
+ghost use Rattle.hall_top.specs.Calls.{ExplainsCommand, EndsAs, CommandDone, IsOpened, IsUnopened, IsUsage};
 
 use crate::check::check_book;
 use crate::ended::Ended;
@@ -37,7 +37,7 @@ fn run_command<S: Source, K: Sink, D: Disk>(
     ensures explained { ExplainsCommand command (stored_book store)
         (call S.Source K.Sink input.old output.old input.new output.new (entries_of result.store))
         result.stop }
-    ensures goes { GoesTo D.Disk result.stop store result.store }
+    ensures goes { RunGoes D.Disk result.stop store result.store }
 {
     match command {
         Command::Run => run_script(alloc, store, input, output),
@@ -61,7 +61,7 @@ fn do_command<S: Source, K: Sink, D: Disk>(
     requires opened { opened_of store ≡ length (entries_of store) }
     requires sound { IsSound D.Disk store }
     requires legal { IsLegal (entries_of store) }
-    ensures done { IsDoneOver D.Disk (ExplainsCommand command) status_of store result
+    ensures done { CommandDone D.Disk (ExplainsCommand command) status_of store result
         (call S.Source K.Sink input.old output.old input.new output.new result.rows) }
     ensures sound { IsSoundBook result.rows }
 {

@@ -3,7 +3,7 @@ use Rattle.std.specs.Bool.{⊤}
 use Rattle.book_core.specs.View.{BookView}
 use Rattle.book_store.specs.Stores.{entries_of, opened_of}
 use Rattle.hall_top.specs.declared.stop.Stop.TheVariants.{BadLine}
-use Rattle.hall_top.specs.Kept.{GoesTo}
+use Rattle.hall_top.specs.Kept.{RunGoes}
 use Rattle.hall_top.specs.Streams.{output_at}
 use Rattle.hall_top.specs.Migration.{migration_state}
 use Rattle.hall_top.proofs.Going.{goes_on, goes_as, stays}
@@ -18,7 +18,7 @@ returns-then-not-has_header-clause-ends g c = λ held taken opened stands.
 
 pub returns-then-not-has_header-clause-goes : goal.returns-then-not-has_header-clause-goes
 returns-then-not-has_header-clause-goes g c =
-    subst (λ s. GoesTo g.D.Disk s c.args.migration.now.store c.args.migration.now.store) (sym c.say_bad_row.ensures.stops)
+    subst (λ s. RunGoes g.D.Disk s c.args.migration.now.store c.args.migration.now.store) (sym c.say_bad_row.ensures.stops)
     (stays g.D.Disk (Err BadLine) c.args.migration.now.store c.requires.ready.sound c.requires.ready.legal refl (λ is. absurd (cc)))
 
 pub returns-in-Ok-clause-ends : goal.returns-in-Ok-clause-ends

@@ -4,7 +4,7 @@ use Rattle.book_store.specs.declared.store.Store.{Store}
 use Rattle.book_store.specs.Stores.{entries_of}
 use Rattle.hall_top.specs.Streams.{devices}
 use Rattle.hall_top.specs.Run.{Explains}
-use Rattle.hall_top.specs.Kept.{GoesTo}
+use Rattle.hall_top.specs.Kept.{RunGoes}
 use Rattle.hall_top.specs.Books.{stored_book}
 use Rattle.hall_top.proofs.Keeping.{stop_unfinished}
 use Rattle.hall_top.proofs.Going.{stays_same, unbegun_counts, unbegun_unfinished}
@@ -20,8 +20,8 @@ returns-in-Ok-clause-explained g c =
 
 pub returns-in-Ok-clause-goes : goal.returns-in-Ok-clause-goes
 returns-in-Ok-clause-goes g c =
-    subst (λ (s : Store _). GoesTo g.D.Disk c.read_all-stop.result c.args.store s) (sym c.into_store.ensures)
-    (subst (λ (s : Store _). GoesTo g.D.Disk c.read_all-stop.result s c.read_all-stop.new.run.session.store) c.in-Ok.ensures.store c.read_all-stop.ensures.goes)
+    subst (λ (s : Store _). RunGoes g.D.Disk c.read_all-stop.result c.args.store s) (sym c.into_store.ensures)
+    (subst (λ (s : Store _). RunGoes g.D.Disk c.read_all-stop.result s c.read_all-stop.new.run.session.store) c.in-Ok.ensures.store c.read_all-stop.ensures.goes)
 
 pub returns-in-Err-clause-explained : goal.returns-in-Err-clause-explained
 returns-in-Err-clause-explained g c =
