@@ -1,6 +1,6 @@
 //! Tests of the book on a disk by its public calls, over disks in memory: crashes, calls that fail,
-//! bytes that are changed, entries that are adopted, how many calls and bytes a disk is asked, and the
-//! texts of its errors.
+//! bytes that are changed, entries that are adopted, how many calls and bytes a disk is asked, and
+//! the texts of its errors.
 #![tactic(auto)]
 
 #[cfg(test)]
