@@ -23,9 +23,9 @@ batches running 1 ended 0 drawn 0 closed 0
 ",
 );
 
-const FULL: Play = (
-    b"day 2025-03-04\n",
-    "\
+const NEXT_DAY: &[u8] = b"day 2025-03-04\n";
+
+const FULL: &str = "\
 refused 5 BookFull 5 at 5
 rows 5
 readings 0 gross 0.000
@@ -34,10 +34,10 @@ rejected 0 gross 0.000
 sampled 0 gross 0.000
 voided 0 gross 0.000
 batches running 1 ended 0 drawn 0 closed 0
-",
-);
+";
 
-const SIXTH_ROW: Play = (
+/// A script of one row more.
+pub const SIXTH_ROW: Play = (
     b"weigh 1 251.000\n",
     "\
 6 pass
@@ -51,12 +51,29 @@ batches running 1 ended 0 drawn 0 closed 0
 ",
 );
 
+const OVERFULL: &str = "\
+refused 5 BookFull 3 at 6
+rows 6
+readings 1 gross 251.000
+passed 1 gross 251.000
+rejected 0 gross 0.000
+sampled 0 gross 0.000
+voided 0 gross 0.000
+batches running 1 ended 0 drawn 0 closed 0
+";
+
 // The words, a script over what the one before left on the disk, how it ends, and how many bytes
-// the disk then has.
-const BOOK: [(&[&str], Play, Ends, usize); 4] = [
+// the disk then has. A book with more rows than the limit opens, and takes no more.
+const BOOK: [(&[&str], Play, Ends, usize); 5] = [
     (&["run"], FIVE_ROWS, (0, 0, 5), 1_056),
-    (&["run", "--limit", "5"], FULL, (0, 5, 5), 1_056),
+    (&["run", "--limit", "5"], (NEXT_DAY, FULL), (0, 5, 5), 1_056),
     (&["run"], SIXTH_ROW, (0, 5, 6), 1_152),
+    (
+        &["run", "--limit", "3"],
+        (NEXT_DAY, OVERFULL),
+        (0, 6, 6),
+        1_152,
+    ),
     (&["check"], (b"", "rows 6 whole\n"), (0, 6, 6), 1_152),
 ];
 
@@ -97,7 +114,7 @@ fn a_snapshot_is_left(rt: HostRuntime) -> Result<(), Fail> {
     Ok(())
 }
 
-const EMPTY: &str = "\
+const FIVE_HELD: &str = "\
 rows 5
 readings 0 gross 0.000
 passed 0 gross 0.000
@@ -107,13 +124,85 @@ voided 0 gross 0.000
 batches running 1 ended 0 drawn 0 closed 0
 ";
 
-// Of a disk of six rows: bytes that are changed, how many bytes are kept, what is then printed, and
-// how it ends. Byte 8 is the snapshot's mark, and byte 577 the kind of row 6.
-const DAMAGED: [(&[(usize, u8)], usize, &str, Ends); 3] = [
-    (&[(3, b'X')], 129, "not a journal at 3\n", (8, 0, 0)),
-    (&[(8, 0), (577, 14)], 673, "damaged row 6\n", (9, 0, 0)),
-    // a row that is cut isn't there
-    (&[(8, 0), (577, 14)], 586, EMPTY, (0, 5, 5)),
+const NONE_HELD: &str = "\
+rows 0
+readings 0 gross 0.000
+passed 0 gross 0.000
+rejected 0 gross 0.000
+sampled 0 gross 0.000
+voided 0 gross 0.000
+batches running 0 ended 0 drawn 0 closed 0
+";
+
+// Bytes of a disk of six rows that are changed, and how many bytes are kept.
+type Changed = (&'static [(usize, u8)], usize);
+
+// A foreign disk; and one whose row 6 is of a kind that isn't there, which is seen only without the
+// mark at 8.
+const FOREIGN: &[(usize, u8)] = &[(3, b'X')];
+
+const SIXTH_DAMAGED: &[(usize, u8)] = &[(8, 0), (577, 14)];
+
+const IS_FOREIGN: &str = "not a journal at 3\n";
+
+const IS_DAMAGED: &str = "damaged row 6\n";
+
+// What a disk has, a command, what it prints, how it ends, and what the disk then has: nothing is
+// written but the closed gate behind the rows, where it isn't there, or a new book.
+const DAMAGED: [(Changed, &str, &str, Ends, Changed); 9] = [
+    ((FOREIGN, 129), "run", IS_FOREIGN, (8, 0, 0), (FOREIGN, 129)),
+    ((FOREIGN, 98), "check", IS_FOREIGN, (8, 0, 0), (FOREIGN, 98)),
+    // so few bytes have no room for a row
+    (
+        (FOREIGN, 97),
+        "run",
+        NONE_HELD,
+        (0, 0, 0),
+        (&[(8, 0), (96, 0)], 97),
+    ),
+    (
+        (SIXTH_DAMAGED, 673),
+        "run",
+        IS_DAMAGED,
+        (9, 0, 0),
+        (SIXTH_DAMAGED, 673),
+    ),
+    (
+        (SIXTH_DAMAGED, 1_152),
+        "check",
+        IS_DAMAGED,
+        (9, 0, 0),
+        (SIXTH_DAMAGED, 1_152),
+    ),
+    (
+        (SIXTH_DAMAGED, 672),
+        "run",
+        IS_DAMAGED,
+        (9, 0, 0),
+        (SIXTH_DAMAGED, 673),
+    ),
+    // a row that is cut isn't there: its gate is closed
+    (
+        (&[(8, 0), (577, 14), (672, 1)], 700),
+        "check",
+        IS_DAMAGED,
+        (9, 0, 0),
+        (SIXTH_DAMAGED, 700),
+    ),
+    (
+        (SIXTH_DAMAGED, 586),
+        "run",
+        FIVE_HELD,
+        (0, 5, 5),
+        (&[(8, 0), (576, 0), (577, 14)], 586),
+    ),
+    (
+        (SIXTH_DAMAGED, 586),
+        "check",
+        "rows 5 whole\n",
+        (0, 5, 5),
+        (&[(8, 0), (576, 0), (577, 14)], 586),
+    ),
 ];
 
 #[test]
@@ -121,9 +210,11 @@ fn damaged_disks(rt: HostRuntime) -> Result<(), Fail> {
     let alloc = rt.alloc();
     let five = run_over(&rt, alloc, Vec::new(alloc), &["run"], FIVE_ROWS, (0, 0, 5))?;
     let six = run_over(&rt, alloc, five, &["run"], SIXTH_ROW, (0, 5, 6))?;
-    for (changes, length, text, ends) in &DAMAGED {
-        let bytes = changed(alloc, &six, changes, *length)?;
-        run_over(&rt, alloc, bytes, &["run"], (b"", text), *ends)?;
+    for (before, command, text, ends, after) in &DAMAGED {
+        let bytes = changed(alloc, &six, before.0, before.1)?;
+        let left = run_over(&rt, alloc, bytes, &[*command], (b"", text), *ends)?;
+        let wanted = changed(alloc, &six, after.0, after.1)?;
+        assert!(rt; left.as_slice() == wanted.as_slice(), "{command}: {text}");
     }
     Ok(())
 }

@@ -1,5 +1,5 @@
-//! Tests of the program in memory at its edges, by its public call alone: wrong words, inputs,
-//! outputs and disks that fail, disks that are opened again or are damaged, and old journals.
+//! Tests of the program at its edges, by its public call alone: wrong words, inputs, outputs and
+//! disks that fail, disks that are opened again or are damaged, old journals, and a book in a file.
 #![tactic(auto)]
 
 #[cfg(test)]
@@ -8,6 +8,8 @@ mod books;
 mod disk_faults;
 #[cfg(test)]
 mod faults;
+#[cfg(test)]
+mod files;
 #[cfg(test)]
 mod migrations;
 #[cfg(test)]

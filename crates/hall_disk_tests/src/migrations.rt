@@ -1,4 +1,4 @@
-use crate::books::FIVE_ROWS;
+use crate::books::{FIVE_ROWS, SIXTH_ROW};
 use crate::runs::{
     Ends, calls_of, changed, compare, empty_disk, ends_of, run, run_over, run_script,
 };
@@ -63,6 +63,20 @@ fn a_journal_is_carried_twice(rt: HostRuntime) -> Result<(), Fail> {
     assert!(rt; once.len() == 1_056 && once.as_slice() == script.as_slice());
     let again = run_over(&rt, alloc, once, MIGRATE, (&journal, FIVE), (0, 5, 5))?;
     assert!(rt; again.as_slice() == script.as_slice());
+    Ok(())
+}
+
+// A book that has the rows and one more stays as it is.
+#[test]
+fn a_longer_book_is_left(rt: HostRuntime) -> Result<(), Fail> {
+    let alloc = rt.alloc();
+    let journal = old_journal(alloc)?;
+    let five = run_over(&rt, alloc, Vec::new(alloc), &["run"], FIVE_ROWS, (0, 0, 5))?;
+    let six = run_over(&rt, alloc, five, &["run"], SIXTH_ROW, (0, 5, 6))?;
+    let book = Vec::from_slice(alloc, &six)?;
+    let carried = (journal.as_slice(), "rows 6 whole\n");
+    let left = run_over(&rt, alloc, book, MIGRATE, carried, (0, 6, 6))?;
+    assert!(rt; left.as_slice() == six.as_slice());
     Ok(())
 }
 

@@ -1,6 +1,6 @@
 ghost use Rattle.std.specs.Prelude.{◌≡◌, ◌≤◌, false, length};
 
-use disk_core::{MemoryDisk, MemorySink, QuietSource, Sink, Source};
+use disk_core::{Disk, MemoryDisk, MemorySink, QuietSource, Sink, Source};
 use hall_top::{Ended, hall};
 use std::alloc::{AllocError, Global};
 use std::process::Abort;
@@ -20,13 +20,13 @@ pub fn empty_disk(alloc: Global) -> MemoryDisk {
 }
 
 /// Does what the words say.
-pub fn run<S: Source, K: Sink>(
+pub fn run<S: Source, K: Sink, D: Disk + Drop>(
     alloc: Global,
     words: &[&str],
     input: &mut S,
     output: &mut K,
-    disk: MemoryDisk,
-) -> Result<Ended<MemoryDisk>, AllocError>
+    disk: D,
+) -> Result<Ended<D>, AllocError>
     requires { S.ended input.old ≡ false }
 {
     let words = words_of(alloc, words)?;
@@ -34,13 +34,13 @@ pub fn run<S: Source, K: Sink>(
 }
 
 /// Does what the words say, where the input is a script that is read without a fault.
-pub fn run_script(
+pub fn run_script<D: Disk + Drop>(
     alloc: Global,
     words: &[&str],
     script: &[u8],
     output: &mut MemorySink,
-    disk: MemoryDisk,
-) -> Result<Ended<MemoryDisk>, AllocError> {
+    disk: D,
+) -> Result<Ended<D>, AllocError> {
     let mut input = QuietSource::new(Vec::from_slice(alloc, script)?);
     run(alloc, words, &mut input, output, disk)
 }
@@ -49,7 +49,7 @@ pub fn run_script(
 pub type Ends = (u8, u32, usize);
 
 /// How a run ended.
-pub fn ends_of(ended: &Ended<MemoryDisk>) -> Ends {
+pub fn ends_of<D>(ended: &Ended<D>) -> Ends {
     (ended.status, ended.held, ended.rows.as_slice().len())
 }
 

@@ -437,9 +437,9 @@ fn broken_rows_of_version_1_have_their_first_fault(rt: HostRuntime) {
 
 // What a user reads of a row that spells nothing: at which place its first wrong byte stands.
 const TEXTS: [(usize, &str); 3] = [
-    (0, "no row has its byte at place 0"),
-    (14, "no row has its byte at place 14"),
-    (95, "no row has its byte at place 95"),
+    (0, "the byte at place 0 is wrong"),
+    (14, "the byte at place 14 is wrong"),
+    (95, "the byte at place 95 is wrong"),
 ];
 
 #[test]

@@ -13,7 +13,7 @@ pub struct RowFault {
 
 impl fmt::Display for RowFault {
     fn fmt<W: fmt::Write>(&self, f: &mut fmt::Formatter<W>) -> fmt::Result {
-        write!(f, "no row has its byte at place {}", self.place)
+        write!(f, "the byte at place {} is wrong", self.place)
     }
 }
 
