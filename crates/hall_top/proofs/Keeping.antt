@@ -341,7 +341,14 @@ module _ {D : Type 0} (g : disk.Ghosts D) where
       → Goes {T = T} g (Err stop) old new
   with_cause result stop old new goes cause failing unfinished =
       record {
-        sound = goes.sound; legal = goes.legal; limit = goes.limit; opened = goes.opened; begins = goes.begins; kept = goes.kept; fault = goes.fault; cause = cause;
+        sound = goes.sound;
+        legal = goes.legal;
+        limit = goes.limit;
+        opened = goes.opened;
+        begins = goes.begins;
+        kept = goes.kept;
+        fault = goes.fault;
+        cause = cause;
         calm = λ quiet. absurd (failing quiet);
         still = λ quiet few small. absurd (failing quiet);
         snapshot = λ finished. absurd (unfinished (let same : stop ≡ Finished = cc (finished) in same));

@@ -79,10 +79,7 @@ pub fn write_bad_line<K: Sink>(number: u64, text: &mut Vec<u8>, output: &mut K) 
 
 /// Keeps a snapshot of a book that has grown since its disk was mounted; the disk of another isn't
 /// touched.
-pub fn keep_snapshot<D: Disk, K: Sink>(
-    store: &mut Store<D>,
-    output: &mut K,
-) -> Result<(), Stop>
+pub fn keep_snapshot<D: Disk, K: Sink>(store: &mut Store<D>, output: &mut K) -> Result<(), Stop>
     requires sound { IsSound D.Disk store.old }
     requires legal { IsLegal (entries_of store.old) }
     ensures quiet { OnOk result (output_at K.Sink output.new ≡ output_at K.Sink output.old) }

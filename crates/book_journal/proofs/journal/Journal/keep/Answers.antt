@@ -209,8 +209,16 @@ returns-then-size-snapshot_end-clause-holds g c now told_now short =
     let old = c.args.self.now in
     let mid = c.unmark.new.self in
     let content = c.args.content.now in
-    absurd (omega (arith, short, c.if-size-snapshot_end.true, c.in_ok-size.ensures.length now (sym c.len.ensures.reads ∙ told_now), c.snapshot_end.ensures, c.unmark.ensures.count,
-    size_same mid.count (length c.as_slice.result.now) (length content) (ap length c.as_slice.ensures), count_same mid.count old.count (length content) c.unmark.ensures.count))
+    absurd (omega (
+      arith,
+      short,
+      c.if-size-snapshot_end.true,
+      c.in_ok-size.ensures.length now (sym c.len.ensures.reads ∙ told_now),
+      c.snapshot_end.ensures,
+      c.unmark.ensures.count,
+      size_same mid.count (length c.as_slice.result.now) (length content) (ap length c.as_slice.ensures),
+      count_same mid.count old.count (length content) c.unmark.ensures.count,
+    ))
 
 -- what a device tells was told before
 told_before : (before told : Option (List ℕ)) (now : List ℕ) → TellsAsBefore before told → told ≡ Some now → (bytes : List ℕ) × (before ≡ Some bytes)
