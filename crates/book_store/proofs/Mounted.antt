@@ -31,7 +31,7 @@ use Rattle.book_store.specs.Images.{spelled, CanAllBeSpelled, HoldsBook}
 use Rattle.book_store.specs.Listing.{Lists, IsOpenedAs, IsDamagedAt, snapshot_rows}
 use Rattle.book_store.specs.Mounting.{IsCauseOf, IsPassing, KeepsHeld, ReadsClosed, opening_bytes}
 use Rattle.book_store.specs.Opening.{IsReadable, rows_there, slots_from, StandsAtEnd, Stops, CountsRefusal, Opens, reading_cost}
-use Rattle.book_store.specs.Stores.{disk_of, entries_of, opened_of, IsSound}
+use Rattle.book_store.specs.Stores.{disk_of, entries_of, held_of, IsSound}
 use Rattle.book_store.proofs.Exits.{count_kept}
 use Rattle.book_store.proofs.Listed.{recovered_listed, slots_read, snapshot_same, closed_long, counts_first}
 use Rattle.book_store.proofs.Opened.{listed, opened_as, damaged_at, read_same, not_damaged, legal_few, length_spelled}
@@ -162,8 +162,8 @@ module _ {D : Type 0} (g : disk.Ghosts D) where
   sound journal limit (Err refused) most is opens = tt
 
   pub counted : (journal : Journal D) (limit : ℕ) (result : Result (Store D) (Unmounted D)) → Opens g journal limit result
-      → IfOk result (λ store. opened_of store ≡ length (entries_of store))
-  counted journal limit (Ok store) opens = opens.opened
+      → IfOk result (λ store. held_of store ≡ length (entries_of store))
+  counted journal limit (Ok store) opens = opens.held
   counted journal limit (Err refused) opens = tt
 
   still_reads : (kept : Option Kept) (bytes now : List ℕ) (rows size : ℕ) → mounting.IsSnapshotOf bytes kept → ((found : Kept) → kept ≡ Some found → now ≡ bytes)
@@ -196,7 +196,12 @@ module _ {D : Type 0} (g : disk.Ghosts D) where
 
   -- a journal with a damaged row reads what it did, but for the gate behind its rows
   closed : (journal : Journal D) (bytes : List ℕ) (row : ℕ) (new : D) → IsUnmoved g (journals.disk_of journal) new → HasMounted g bytes journal → IsDamagedAt bytes row → ReadsClosed g bytes new
-  closed journal bytes row new unmoved (inl finds) damaged = (journals.count_of journal, unmoved.reads ∙ finds.reads)
+  closed journal bytes row new unmoved (inl finds) damaged =
+      record {
+        kept = journals.kept_of journal;
+        snapshot = finds.snapshot;
+        reads = unmoved.reads ∙ finds.reads ∙ ap (λ (n : ℕ). Some (mounting.closed_behind n bytes)) finds.slots;
+      }
   closed journal bytes row new unmoved (inr makes) damaged = absurd (lists_damage bytes row makes.foreign damaged)
 
   module _ (old : D) (journal : Journal D) (most : journals.count_of journal ≤ MAX_SLOTS) (mounted : WhereTold (g.reads old) (λ bytes. HasMounted g bytes journal)) where

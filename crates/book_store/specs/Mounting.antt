@@ -1,14 +1,15 @@
 -- What mounting a disk as a store promises.
-use Rattle.std.specs.Prelude.{◌≡◌, ◌⊎◌, ⊤, ℕ, ◌+◌, ◌-◌, ◌*◌, ◌/◌, ◌<◌, List, length, Some, Result, Ok, Err}
+use Rattle.std.specs.Prelude.{◌≡◌, ◌⊎◌, ⊤, ℕ, ◌+◌, ◌-◌, ◌*◌, ◌/◌, ◌<◌, List, length, Option, Some, Result, Ok, Err}
 use Rattle.device_facts.specs.Count.{Counted}
 use Rattle.disk_core.specs.Disk.{WhereTold}
 use Rattle.disk_core.specs.Devices.{IsUnmoved}
 use Rattle.disk_core.specs.declared.disk.Disk as disk
 use Rattle.book_words.specs.declared.act.Entry.{Entry}
+use Rattle.book_snapshot.specs.declared.types.Kept.{Kept}
 use Rattle.book_journal.specs.declared.layout.TheConstants.{NEW_BYTES}
 use Rattle.book_journal.specs.declared.blocks.TheConstants.{BLOCKS_CONTENT}
 use Rattle.book_journal.specs.Rows.{FirstDiffersAt}
-use Rattle.book_journal.specs.Mounting.{KeepsFromSync, closed_behind}
+use Rattle.book_journal.specs.Mounting.{KeepsFromSync, IsSnapshotOf, rows_before, slots_behind, closed_behind}
 use Rattle.book_store.specs.declared.types.MountError.{MountError}
 use Rattle.book_store.specs.declared.types.MountError.TheVariants.{NotJournal, Damaged, DiskFault, NoMemory}
 use Rattle.book_store.specs.declared.types.Unmounted.{Unmounted}
@@ -24,9 +25,13 @@ pub record IsForeignAt (bytes : List ℕ) (place : ℕ) : Type 0 where
   pub long : NEW_BYTES < length bytes
   pub differs : FirstDiffersAt bytes place
 
--- of these bytes at most the gate behind some rows was closed: the disk reads them so
-abbrev pub ReadsClosed : {D : Type 0} → disk.Ghosts D → List ℕ → D → Type 0
-ReadsClosed disk bytes now = (count : ℕ) × (disk.reads now ≡ Some (closed_behind count bytes))
+-- of these bytes at most the gate behind the rows that they list was closed: the disk reads them so
+pub record ReadsClosed {D : Type 0} (disk : disk.Ghosts D) (bytes : List ℕ)
+    (now : D) : Type 0 where
+  pub kept : Option Kept
+  pub snapshot : IsSnapshotOf bytes kept
+  pub reads : disk.reads now ≡ Some (closed_behind
+      (rows_before kept + slots_behind (rows_before kept) bytes) bytes)
 
 -- Why a disk wasn't mounted, its count of faults then, and what it reads: it isn't a journal and is
 -- as it was; a row is damaged, and at most a gate was closed; it failed; or there was no memory.

@@ -24,7 +24,7 @@ use Rattle.book_store.specs.declared.mount.TheConstants.{CALL_BYTES}
 use Rattle.book_store.specs.Images.{spelled, CanAllBeSpelled}
 use Rattle.book_store.specs.Listing.{snapshot_rows}
 use Rattle.book_store.specs.Mounting.{calls_for}
-use Rattle.book_store.specs.Stores.{entries_of, limit_of, opened_of}
+use Rattle.book_store.specs.Stores.{entries_of, limit_of, held_of}
 
 -- the rows of these entries, whose numbers go on from this one, spell no others
 abbrev pub AreOnlyReadings : ℕ → List Entry → Type 0
@@ -130,7 +130,7 @@ pub record Opened {D : Type 0} (disk : disk.Ghosts D) (journal : Journal D) (lim
   pub read : OnlyRead disk journal store.journal
   pub limited : limit_of store ≡ limit
   pub legal : IsLegal (entries_of store)
-  pub opened : opened_of store ≡ length (entries_of store)
+  pub held : held_of store ≡ length (entries_of store)
   pub count : journals.count_of journal ≡ length (entries_of store)
   pub calm : disk.faults (journals.disk_of store.journal) ≡ disk.faults (journals.disk_of journal)
   pub asked : disk.asked (journals.disk_of store.journal) ≤ disk.asked (journals.disk_of journal)

@@ -17,13 +17,13 @@ use Rattle.book_store.specs.Stores.{disk_of, entries_of, Hangs}
 abbrev pub book_content : List Entry → List ℕ
 book_content entries = content (spelled entries)
 
--- Unless the disk is longer than a snapshot of these entries would end, it reads one of them.
+-- unless the disk is longer than a snapshot of these entries would end, it reads such a snapshot
 abbrev pub HoldsSnapshotOf : {D : Type 0} → disk.Ghosts D → List Entry → D → Type 0
 HoldsSnapshotOf disk entries now = WhereTold (disk.reads now) (λ bytes.
     length bytes ≤ snapshot_end (length entries) (length (book_content entries))
     → HoldsSnapshot (length entries) (book_content entries) bytes)
 
--- so the disk of a store with all rows of its book
+-- the same of a store's own disk and all rows of its book
 abbrev pub HoldsOwnSnapshot : {D : Type 0} → disk.Ghosts D → Store D → Type 0
 HoldsOwnSnapshot disk store = HoldsSnapshotOf disk (entries_of store) (disk_of store)
 

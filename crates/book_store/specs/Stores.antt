@@ -32,8 +32,8 @@ abbrev pub spare_of : {D : Type 0} → Store D → ℕ
 spare_of store = (book_of store).spare
 
 -- how many rows the disk held as it was mounted
-abbrev pub opened_of : {D : Type 0} → Store D → ℕ
-opened_of store = store.opened
+abbrev pub held_of : {D : Type 0} → Store D → ℕ
+held_of store = store.held
 
 -- a write failed so late that a crash may leave the entry or not
 abbrev pub Hangs : {D : Type 0} → Store D → Type 0

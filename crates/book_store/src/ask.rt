@@ -8,7 +8,7 @@ impl<D: Disk> Store<D> {
     ghost use Rattle.device_facts.specs.Known.{TellsAsBefore};
     ghost use Rattle.book_words.specs.declared.caller.AskError.TheVariants as error;
     ghost use Rattle.book_words.specs.Answers.{answer, added, IsLegal};
-    ghost use Rattle.book_store.specs.Stores.{disk_of, book_of, entries_of, limit_of, spare_of, opened_of, Hangs, ImagesHoldBook, IsSound};
+    ghost use Rattle.book_store.specs.Stores.{disk_of, book_of, entries_of, limit_of, spare_of, held_of, Hangs, ImagesHoldBook, IsSound};
     ghost use Rattle.book_store.specs.Offers.{Offers, GivesAnswer, list_behind, CountsDiskFault};
 
     /// Answers an ask of the caller `by` as the book does. An act that is new and accepted is
@@ -37,7 +37,7 @@ impl<D: Disk> Store<D> {
             OnOk result (¬ Hangs self.new) }
 
         ensures limit { limit_of self.new ≡ limit_of self.old }
-        ensures opened { opened_of self.new ≡ opened_of self.old }
+        ensures held { held_of self.new ≡ held_of self.old }
         ensures spare { spare_of self.old + length (entries_of self.old)
             ≤ spare_of self.new + length (entries_of self.new) }
         ensures cause { CountsDiskFault (D.faults (disk_of self.old)) (D.faults (disk_of self.new))

@@ -11,7 +11,7 @@ impl<D: Disk> Store<D> {
     ghost use Rattle.device_facts.specs.Known.{TellsAsBefore};
     ghost use Rattle.book_words.specs.Answers.{answer, IsLawful, IsLegal};
     ghost use Rattle.book_core.specs.Steps.{asked_act};
-    ghost use Rattle.book_store.specs.Stores.{disk_of, book_of, entries_of, limit_of, spare_of, opened_of, Hangs, HasBook, ImagesHoldBook, IsSound};
+    ghost use Rattle.book_store.specs.Stores.{disk_of, book_of, entries_of, limit_of, spare_of, held_of, Hangs, HasBook, ImagesHoldBook, IsSound};
     ghost use Rattle.book_store.specs.Offers.{OffersEntry};
 
     // Writes down what was made ready last, and enters it once its row is stable. Failed comes only
@@ -33,7 +33,7 @@ impl<D: Disk> Store<D> {
         ensures images { ImagesHoldBook D.Disk self.new }
         ensures settled { OnOk result (¬ Hangs self.new) }
         ensures limit { limit_of self.new ≡ limit_of self.old }
-        ensures opened { opened_of self.new ≡ opened_of self.old }
+        ensures held { held_of self.new ≡ held_of self.old }
         ensures spare { spare_of self.old + length (entries_of self.old)
             ≤ spare_of self.new + length (entries_of self.new) }
         ensures cause { CountsFault (D.faults (disk_of self.old)) (D.faults (disk_of self.new))

@@ -24,7 +24,7 @@ impl<D: Disk> Store<D> {
     ghost use Rattle.book_words.specs.Answers.{IsLegal};
     ghost use Rattle.book_journal.specs.Rows.{FitsSnapshot};
     ghost use Rattle.book_store.specs.Images.{HoldsBook};
-    ghost use Rattle.book_store.specs.Stores.{disk_of, entries_of, limit_of, opened_of, Hangs, IsSound};
+    ghost use Rattle.book_store.specs.Stores.{disk_of, entries_of, limit_of, held_of, Hangs, IsSound};
     ghost use Rattle.book_store.specs.Listing.{IsOpenedAs};
     ghost use Rattle.book_store.specs.Mounting.{IsCauseOf, KeepsHeld, opening_bytes};
 
@@ -56,7 +56,7 @@ impl<D: Disk> Store<D> {
             D.reads (disk_of store) ≡ Some bytes)) }
 
         ensures limit { IfOk result (λ store. limit_of store ≡ limit) }
-        ensures count { IfOk result (λ store. opened_of store ≡ length (entries_of store)) }
+        ensures count { IfOk result (λ store. held_of store ≡ length (entries_of store)) }
         ensures calm { IfOk result (λ store. ¬ Hangs store) }
         ensures legal { IfOk result (λ store. IsLegal (entries_of store)) }
         ensures sound { IfOk result (λ store. IsSound D.Disk store) }

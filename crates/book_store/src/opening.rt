@@ -67,7 +67,7 @@ pub(crate) fn open<D: Disk>(
     match read_rows(alloc, &mut journal, &mut book) {
         Ok(()) => Ok(Store {
             journal,
-            opened: book.len(),
+            held: book.len(),
             book,
             alloc,
         }),

@@ -19,7 +19,7 @@ impl<D: Disk> Store<D> {
     ghost use Rattle.book_snapshot.specs.Layout.{snapshot_end};
     ghost use Rattle.book_journal.specs.Marking.{HoldsSnapshot};
     ghost use Rattle.book_store.specs.declared.types.RestError.TheVariants as error;
-    ghost use Rattle.book_store.specs.Stores.{disk_of, book_of, entries_of, opened_of, Hangs, HasBook, KeepsBook, ImagesHoldBook, IsSound};
+    ghost use Rattle.book_store.specs.Stores.{disk_of, book_of, entries_of, held_of, Hangs, HasBook, KeepsBook, ImagesHoldBook, IsSound};
     ghost use Rattle.book_store.specs.Resting.{book_content, HasNothingToKeep, HoldsOwnSnapshot, CountsRestFault};
 
     /// Keeps a snapshot of the book on its disk, which opening then reads in place of the slots,
@@ -32,7 +32,7 @@ impl<D: Disk> Store<D> {
         requires sound { IsSound D.Disk self.old }
         ensures idle { (result ≡ Ok false) ↔ HasNothingToKeep self.old }
         ensures book { book_of self.new ≡ book_of self.old }
-        ensures opened { opened_of self.new ≡ opened_of self.old }
+        ensures held { held_of self.new ≡ held_of self.old }
         ensures hangs { Hangs self.new ↔ Hangs self.old }
 
         // What a crash leaves, during the call and after it, and what the disk then reads.

@@ -8,7 +8,7 @@ use std::alloc::Global;
 #[derive(Drop)]
 pub struct Store<D: Disk> {
     pub(crate) journal: Journal<D>,
-    pub(crate) opened: u32,
+    pub(crate) held: u32,
     pub(crate) book: Book,
     pub(crate) alloc: Global,
 }
@@ -17,7 +17,7 @@ impl<D: Disk> Store<D> {
     ghost use Rattle.std.specs.Prelude.{◌≡◌, ◌↔◌, ◌≤◌, IsTrue, length, OnOk};
     ghost use Rattle.book_words.specs.Soundness.{IsSound as IsSoundBook};
     ghost use Rattle.book_state.specs.Told.{entry_numbered};
-    ghost use Rattle.book_store.specs.Stores.{disk_of, book_of, entries_of, limit_of, spare_of, opened_of, Hangs, HasBook, HangsWith, IsSound};
+    ghost use Rattle.book_store.specs.Stores.{disk_of, book_of, entries_of, limit_of, spare_of, held_of, Hangs, HasBook, HangsWith, IsSound};
     ghost use Rattle.book_words.specs.declared.act.Entry.{Entry as Entered};
 
     /// The book, to be read.
@@ -35,10 +35,10 @@ impl<D: Disk> Store<D> {
     }
 
     /// How many rows the disk held as it was mounted.
-    pub fn opened(&self) -> u32
-        ensures { result ≡ opened_of self.now }
+    pub fn held(&self) -> u32
+        ensures { result ≡ held_of self.now }
     {
-        self.opened
+        self.held
     }
 
     /// The entry of a number; `None` exactly where the number isn't 1 to the number of rows.
@@ -63,7 +63,7 @@ impl<D: Disk> Store<D> {
         ensures spare { spare_of self.old ≤ spare_of self.new }
         ensures entries { entries_of self.new ≡ entries_of self.old }
         ensures limit { limit_of self.new ≡ limit_of self.old }
-        ensures opened { opened_of self.new ≡ opened_of self.old }
+        ensures held { held_of self.new ≡ held_of self.old }
         ensures disk { disk_of self.new ≡ disk_of self.old }
         ensures hangs { Hangs self.new ↔ Hangs self.old }
         ensures has { HasBook D.Disk self.old → HasBook D.Disk self.new }

@@ -17,7 +17,7 @@ use Rattle.hall_top.specs.Texts.{read_fault}
 use Rattle.hall_top.specs.Transcript.{BookState, lines_of}
 use Rattle.hall_top.specs.Streams.{Stream, Devices, IsCalm, HasFailed, Wrote, WroteAll}
 use Rattle.hall_top.specs.Run.{Call, StopsAtLine, StopsInScript, HasLine, StopsInInput, ReadsWhole, StopsAtSummary, Explains}
-use Rattle.hall_top.specs.Reached.{RunState, SaysNoMemory, Reached, Steps, StopsAfter, EndsScript, HasReadScript, WentOn, HasTaken}
+use Rattle.hall_top.specs.Reached.{RunState, SaysNoMemory, Reached, Steps, StopsAfter, EndsScript, RunStandsAfter, WentOn, HasTaken}
 use Rattle.hall_top.proofs.Acknowledged.{are_left}
 use Rattle.hall_top.proofs.Answering.{answered_none}
 use Rattle.hall_top.proofs.ScriptLines.{all_good-bad}
@@ -180,7 +180,7 @@ small_piece xs n small = omega (arith, length-take n xs)
 
 -- a piece of the input was taken
 pub explained_after : {T S : Type 0} (book : BookState) (before old now : Devices S) (taken more : List ℕ) (run run' : RunState) (result : Result T Stop)
-    → HasReadScript book before old taken run → Steps old.output now.output run run' more result → 0 < length more → length more ≤ PIECE
+    → RunStandsAfter book before old taken run → Steps old.output now.output run run' more result → 0 < length more → length more ≤ PIECE
     → Consumes old.input.bytes now.input.bytes more → IsCalm old.input now.input
     → MatchResult result (λ _. WentOn book before now taken run') (Explains book (call_from before now run'.book.entries))
 explained_after book before old now taken more run run' (Ok x) stands steps some small read calm =
@@ -199,7 +199,7 @@ explained_after book before old now taken more run run' (Err stop) stands steps 
     (stops_early book (call_from before now run'.book.entries) old.output taken more run stop small steps stands.reached (Consumes-trans _ _ _ taken more stands.read read)) (calm ∙ stands.calm)
 
 -- the input failed
-pub explained_fault : {S : Type 0} (book : BookState) (before old now : Devices S) (taken : List ℕ) (run : RunState) → HasReadScript book before old taken run
+pub explained_fault : {S : Type 0} (book : BookState) (before old now : Devices S) (taken : List ℕ) (run : RunState) → RunStandsAfter book before old taken run
     → ((out : Stream) (done : List ℕ) → WroteAll out old.output done → Wrote out now.output done read_fault) → Keeps old.input.bytes now.input.bytes → HasFailed old.input now.input
     → Explains book (call_from before now run.book.entries) ReadFault
 explained_fault book before old now taken run stands says read failed =
@@ -215,7 +215,7 @@ explained_fault book before old now taken run stands says read failed =
     }
 
 -- where a run begins
-pub begins : {S : Type 0} (now : Devices S) (run : RunState) → run.feed ≡ feed_after [] → run.opened ≡ length run.book.entries → HasReadScript run.book now now [] run
+pub begins : {S : Type 0} (now : Devices S) (run : RunState) → run.feed ≡ feed_after [] → run.opened ≡ length run.book.entries → RunStandsAfter run.book now now [] run
 begins now run fed opened =
     record {
       read = Consumes-nil now.input.bytes;

@@ -3,7 +3,7 @@ use Rattle.std.proofs.Common.{◌≡◌, ◌≢◌, ◌≤◌, ℕ, List, [], le
 use Rattle.disk_core.specs.declared.disk.Disk as disk
 use Rattle.book_words.specs.Answers.{IsLegal}
 use Rattle.book_store.specs.declared.store.Store.{Store}
-use Rattle.book_store.specs.Stores.{disk_of, entries_of, opened_of, IsSound}
+use Rattle.book_store.specs.Stores.{disk_of, entries_of, held_of, IsSound}
 use Rattle.hall_top.specs.declared.stop.Stop.{Stop}
 use Rattle.hall_top.specs.declared.stop.Stop.TheVariants.{Finished, BadLine, ReadFault, WriteFault, DiskFault, NoMemory, Spent}
 use Rattle.script_lines.specs.declared.command.Command.{Command}
@@ -26,15 +26,15 @@ goes_on g x result a b c first second =
       sound = second.sound;
       legal = second.legal;
       limit = second.limit ∙ first.limit;
-      opened = second.opened ∙ first.opened;
+      held = second.held ∙ first.held;
       begins = prefix_on (entries_of a) (entries_of b) (entries_of c) first.begins second.begins;
       kept = λ held start has. second.kept held start (first.kept held start has);
       fault = λ start before. second.fault start (first.fault start before);
       cause = subst (λ (n : ℕ). CountsStop n (g.faults (disk_of c)) result) first.cause second.cause;
       calm = λ quiet hung. first.calm tt (second.calm quiet hung);
       still = λ quiet few small.
-          second.still quiet (omega (arith, few, first.opened, begins_short (entries_of a) (entries_of b) first.begins)) small
-          ∙ first.still tt few (λ grown. small (omega (arith, grown, second.opened, longer)));
+          second.still quiet (omega (arith, few, first.held, begins_short (entries_of a) (entries_of b) first.begins)) small
+          ∙ first.still tt few (λ grown. small (omega (arith, grown, second.held, longer)));
       snapshot = second.snapshot;
     }
 
@@ -46,7 +46,7 @@ stays g result store sound legal counts snapshot =
       sound = sound;
       legal = legal;
       limit = refl;
-      opened = refl;
+      held = refl;
       begins = ([], sym (append-nil (entries_of store)));
       kept = λ held start has. has;
       fault = λ start before. before;
@@ -73,7 +73,7 @@ goes_with g first result a b goes counts unfailing snapshot =
       sound = goes.sound;
       legal = goes.legal;
       limit = goes.limit;
-      opened = goes.opened;
+      held = goes.held;
       begins = goes.begins;
       kept = goes.kept;
       fault = goes.fault;

@@ -20,13 +20,13 @@ use Rattle.book_store.specs.Adopting.{Adopts, list_adopted, CountsAdoptFault}
 use Rattle.book_store.specs.declared.types.RestError.{RestError}
 use Rattle.book_store.specs.declared.types.RestError.TheVariants as rest
 use Rattle.book_store.specs.Images.{HoldsBook}
-use Rattle.book_store.specs.Stores.{disk_of, book_of, entries_of, limit_of, opened_of, Hangs, HasBook, HangsWith, HoldsOrHangs, ImagesHoldBook, KeepsBook, IsSound}
+use Rattle.book_store.specs.Stores.{disk_of, book_of, entries_of, limit_of, held_of, Hangs, HasBook, HangsWith, HoldsOrHangs, ImagesHoldBook, KeepsBook, IsSound}
 use Rattle.book_store.specs.Offers.{Offers, OffersEntry, LeavesDisk, CountsDiskFault, list_behind}
 use Rattle.book_store.specs.Resting.{HasNothingToKeep, HoldsOwnSnapshot, CountsRestFault}
 use Rattle.hall_top.specs.declared.stop.Stop.{Stop}
 use Rattle.hall_top.specs.declared.stop.Stop.TheVariants.{Finished, BadLine, ReadFault, WriteFault, DiskFault, NoMemory, Spent}
 use Rattle.hall_top.specs.Kept.{HoldsOrOffered, CrashLeaves, HangsAtFault, HasKept, CountsStop, IsUnfailing, Goes}
-use Rattle.hall_top.specs.Snapshots.{HasNewRows, LeavesSnapshot}
+use Rattle.hall_top.specs.Snapshots.{HasAddedRows, LeavesSnapshot}
 use Rattle.hall_top.specs.Streams.{Stream}
 use Rattle.hall_top.specs.Reached.{SaysDiskFault, SaysNoMemory}
 use Rattle.hall_top.proofs.Acknowledged.{prefix_on}
@@ -85,19 +85,19 @@ on_unfinished done is = absurd (cc)
 pub stop_unfinished : {T : Type 0} (stop : Stop) (result : Result T Stop) → stop ≢ Finished → result ≡ Err stop → result ≢ Err Finished
 stop_unfinished stop result other is finished = other (let same : stop ≡ Finished = cc (is, finished) in same)
 
--- an act was answered, or refused, which adds nothing
+-- an act was answered, or refused, which adds nothing, or there was no memory for it
 abbrev pub IsSettled : Result Answered AskError → Option Entry → Type 0
 IsSettled (Ok answered) offered = Unit {0}
 IsSettled (Err (error.Refused refused)) offered = offered ≡ None
+IsSettled (Err error.NoMemory) offered = Unit {0}
 IsSettled (Err error.DiskFault) offered = ⊥
-IsSettled (Err error.NoMemory) offered = ⊥
 
--- an entry was adopted, or is unlawful
+-- an entry was adopted, or is unlawful, or there was no memory for it
 abbrev pub IsAdopted : Result ℕ AdoptError → Type 0
 IsAdopted (Ok number) = Unit {0}
 IsAdopted (Err adopt.Unlawful) = Unit {0}
+IsAdopted (Err adopt.NoMemory) = Unit {0}
 IsAdopted (Err adopt.DiskFault) = ⊥
-IsAdopted (Err adopt.NoMemory) = ⊥
 
 module _ {D : Type 0} (g : disk.Ghosts D) where
   -- moments since a sync may be said of more
@@ -225,46 +225,46 @@ module _ {D : Type 0} (g : disk.Ghosts D) where
   -- ---- steps of a run
 
   -- a store with one more row than one that had all rows of its disk has a new one
-  grows : (entry : Entry) (old new : Store D) → entries_of new ≡ entries_of old ++ entry ∷ [] → opened_of new ≡ opened_of old → opened_of old ≤ length (entries_of old) → HasNewRows new
+  grows : (entry : Entry) (old new : Store D) → entries_of new ≡ entries_of old ++ entry ∷ [] → held_of new ≡ held_of old → held_of old ≤ length (entries_of old) → HasAddedRows new
   grows entry old new is opened few = omega (arith, opened, few, ap length is, length-append (entries_of old) (entry ∷ []))
 
   still_asked : (old new : Store D) (result : Result Answered AskError) (offered : Option Entry) → IsSettled result offered → entries_of new ≡ list_behind result (entries_of old) offered → Offers g offered old new
-      → opened_of new ≡ opened_of old → opened_of old ≤ length (entries_of old) → ¬ HasNewRows new → disk_of new ≡ disk_of old
-  still_asked old new (Ok answered) None settled is offers opened few small = offers.same
-  still_asked old new (Ok answered) (Some entry) settled is offers opened few small = absurd (small (grows entry old new is opened few))
-  still_asked old new (Err (error.Refused refused)) None settled is offers opened few small = offers.same
-  still_asked old new (Err (error.Refused refused)) (Some entry) settled is offers opened few small = absurd (cc)
-  still_asked old new (Err error.DiskFault) offered settled is offers opened few small = absurd settled
-  still_asked old new (Err error.NoMemory) offered settled is offers opened few small = absurd settled
+      → (result ≡ Err error.NoMemory → disk_of new ≡ disk_of old) → held_of new ≡ held_of old → held_of old ≤ length (entries_of old) → ¬ HasAddedRows new → disk_of new ≡ disk_of old
+  still_asked old new (Ok answered) None settled is offers lacks opened few small = offers.same
+  still_asked old new (Ok answered) (Some entry) settled is offers lacks opened few small = absurd (small (grows entry old new is opened few))
+  still_asked old new (Err (error.Refused refused)) None settled is offers lacks opened few small = offers.same
+  still_asked old new (Err (error.Refused refused)) (Some entry) settled is offers lacks opened few small = absurd (cc)
+  still_asked old new (Err error.DiskFault) offered settled is offers lacks opened few small = absurd settled
+  still_asked old new (Err error.NoMemory) offered settled is offers lacks opened few small = lacks refl
 
   calm_asked : (old new : Store D) (result : Result Answered AskError) (offered : Option Entry) → IsSettled result offered → (result ≡ Err error.DiskFault) ⊎ Hangs old → Hangs old
   calm_asked old new (Ok answered) offered settled hangs = ⊎_elim (λ is. absurd (cc)) (λ was. was) hangs
   calm_asked old new (Err (error.Refused refused)) offered settled hangs = ⊎_elim (λ is. absurd (cc)) (λ was. was) hangs
   calm_asked old new (Err error.DiskFault) offered settled hangs = absurd settled
-  calm_asked old new (Err error.NoMemory) offered settled hangs = absurd settled
+  calm_asked old new (Err error.NoMemory) offered settled hangs = ⊎_elim (λ is. absurd (cc)) (λ was. was) hangs
 
   -- an ask
   pub goes_asked : {T : Type 0} (old new : Store D) (result : Result Answered AskError) (given : Result T Stop) (offered : Option Entry) → entries_of new ≡ list_behind result (entries_of old) offered
       → Offers g offered old new → (IsSome offered → OnOk result (¬ Hangs new)) → ImagesHoldBook g new → (Hangs new → (result ≡ Err error.DiskFault) ⊎ Hangs old)
-      → CountsDiskFault (g.faults (disk_of old)) (g.faults (disk_of new)) result → IsSound g new → IsLegal (entries_of new) → limit_of new ≡ limit_of old → opened_of new ≡ opened_of old
-      → CountsStop (g.faults (disk_of old)) (g.faults (disk_of new)) given → (IfErr given IsUnfailing → IsSettled result offered) → given ≢ Err Finished → Goes g given old new
-  goes_asked old new result given offered is offers settled images hangs counts sound legal limit opened cause unfailing unfinished =
+      → CountsDiskFault (g.faults (disk_of old)) (g.faults (disk_of new)) result → IsSound g new → IsLegal (entries_of new) → limit_of new ≡ limit_of old → held_of new ≡ held_of old
+      → CountsStop (g.faults (disk_of old)) (g.faults (disk_of new)) given → (result ≡ Err error.NoMemory → disk_of new ≡ disk_of old) → (IfErr given IsUnfailing → IsSettled result offered) → given ≢ Err Finished → Goes g given old new
+  goes_asked old new result given offered is offers settled images hangs counts sound legal limit opened cause lacks unfailing unfinished =
       record {
         sound = sound;
         legal = legal;
         limit = limit;
-        opened = opened;
+        held = opened;
         begins = asked_begins result (entries_of old) (entries_of new) offered is;
         kept = λ held start kept. kept_asked held start old new result offered is offers settled images kept;
         fault = λ start before. fault_asked start old new result hangs counts before;
         cause = cause;
         calm = λ quiet hung. calm_asked old new result offered (unfailing quiet) (hangs hung);
-        still = λ quiet few small. still_asked old new result offered (unfailing quiet) is offers opened few small;
+        still = λ quiet few small. still_asked old new result offered (unfailing quiet) is offers lacks opened few small;
         snapshot = λ finished. absurd (unfinished finished);
       }
 
   -- a snapshot
-  pub goes_rested : {T : Type 0} (old new : Store D) (result : Result Bool RestError) (given : Result T Stop) → book_of new ≡ book_of old → opened_of new ≡ opened_of old → HasNewRows old
+  pub goes_rested : {T : Type 0} (old new : Store D) (result : Result Bool RestError) (given : Result T Stop) → book_of new ≡ book_of old → held_of new ≡ held_of old → HasAddedRows old
       → (HasBook g old → KeepsBook g old new) → ImagesHoldBook g new → (Hangs new → Hangs old)
       → CountsRestFault (g.faults (disk_of old)) (g.faults (disk_of new)) result → IsSound g new → IsLegal (entries_of old)
       → CountsStop (g.faults (disk_of old)) (g.faults (disk_of new)) given → given ≢ Err Finished → Goes g given old new
@@ -274,7 +274,7 @@ module _ {D : Type 0} (g : disk.Ghosts D) where
         sound = sound;
         legal = subst IsLegal (sym entries) legal;
         limit = ap (λ (b : BookView). b.limit) same;
-        opened = opened;
+        held = opened;
         begins = same_begins (entries_of old) (entries_of new) entries;
         kept = λ held start kept. kept_rested held start old new entries keeps images kept;
         fault = λ start before. fault_rested start old new result hangs counts before;
@@ -304,35 +304,35 @@ module _ {D : Type 0} (g : disk.Ghosts D) where
       kept_offer held start entry old new kept (offers adopts.0 kept.has) (same_begins (entries_of old) (entries_of new) is) (λ hangs. is) images
 
   still_adopted : (old new : Store D) (entry : Entry) (result : Result ℕ AdoptError) → IsAdopted result → entries_of new ≡ list_adopted result (entries_of old) entry → (result ≡ Err adopt.Unlawful → LeavesDisk g old new)
-      → opened_of new ≡ opened_of old → opened_of old ≤ length (entries_of old) → ¬ HasNewRows new → disk_of new ≡ disk_of old
-  still_adopted old new entry (Ok number) settled is leaves opened few small = absurd (small (grows entry old new is opened few))
-  still_adopted old new entry (Err adopt.Unlawful) settled is leaves opened few small = (leaves refl).same
-  still_adopted old new entry (Err adopt.DiskFault) settled is leaves opened few small = absurd settled
-  still_adopted old new entry (Err adopt.NoMemory) settled is leaves opened few small = absurd settled
+      → (result ≡ Err adopt.NoMemory → disk_of new ≡ disk_of old) → held_of new ≡ held_of old → held_of old ≤ length (entries_of old) → ¬ HasAddedRows new → disk_of new ≡ disk_of old
+  still_adopted old new entry (Ok number) settled is leaves lacks opened few small = absurd (small (grows entry old new is opened few))
+  still_adopted old new entry (Err adopt.Unlawful) settled is leaves lacks opened few small = (leaves refl).same
+  still_adopted old new entry (Err adopt.DiskFault) settled is leaves lacks opened few small = absurd settled
+  still_adopted old new entry (Err adopt.NoMemory) settled is leaves lacks opened few small = lacks refl
 
   calm_adopted : (old new : Store D) (result : Result ℕ AdoptError) → IsAdopted result → (result ≡ Err adopt.DiskFault) ⊎ Hangs old → Hangs old
   calm_adopted old new (Ok number) settled hangs = ⊎_elim (λ is. absurd (cc)) (λ was. was) hangs
   calm_adopted old new (Err adopt.Unlawful) settled hangs = ⊎_elim (λ is. absurd (cc)) (λ was. was) hangs
   calm_adopted old new (Err adopt.DiskFault) settled hangs = absurd settled
-  calm_adopted old new (Err adopt.NoMemory) settled hangs = absurd settled
+  calm_adopted old new (Err adopt.NoMemory) settled hangs = ⊎_elim (λ is. absurd (cc)) (λ was. was) hangs
 
   pub goes_adopted : {T : Type 0} (old new : Store D) (entry : Entry) (result : Result ℕ AdoptError) (given : Result T Stop) → entries_of new ≡ list_adopted result (entries_of old) entry → Adopts (book_of old) entry result
       → (IsLawful (entries_of old) entry → HasBook g old → OffersEntry g entry old new) → (result ≡ Err adopt.Unlawful → LeavesDisk g old new) → OnOk result (¬ Hangs new) → ImagesHoldBook g new
       → (Hangs new → (result ≡ Err adopt.DiskFault) ⊎ Hangs old) → CountsAdoptFault (g.faults (disk_of old)) (g.faults (disk_of new)) result
-      → IsSound g new → IsLegal (entries_of new) → limit_of new ≡ limit_of old → opened_of new ≡ opened_of old → CountsStop (g.faults (disk_of old)) (g.faults (disk_of new)) given
-      → (IfErr given IsUnfailing → IsAdopted result) → given ≢ Err Finished → Goes g given old new
-  goes_adopted old new entry result given is adopts offers leaves settled images hangs counts sound legal limit opened cause unfailing unfinished =
+      → IsSound g new → IsLegal (entries_of new) → limit_of new ≡ limit_of old → held_of new ≡ held_of old → CountsStop (g.faults (disk_of old)) (g.faults (disk_of new)) given
+      → (result ≡ Err adopt.NoMemory → disk_of new ≡ disk_of old) → (IfErr given IsUnfailing → IsAdopted result) → given ≢ Err Finished → Goes g given old new
+  goes_adopted old new entry result given is adopts offers leaves settled images hangs counts sound legal limit opened cause lacks unfailing unfinished =
       record {
         sound = sound;
         legal = legal;
         limit = limit;
-        opened = opened;
+        held = opened;
         begins = adopted_begins result (entries_of old) (entries_of new) entry is;
         kept = λ held start kept. kept_adopted held start entry old new result is adopts offers leaves settled images kept;
         fault = λ start before. fault_adopted start old new result hangs counts before;
         cause = cause;
         calm = λ quiet hung. calm_adopted old new result (unfailing quiet) (hangs hung);
-        still = λ quiet few small. still_adopted old new entry result (unfailing quiet) is leaves opened few small;
+        still = λ quiet few small. still_adopted old new entry result (unfailing quiet) is leaves lacks opened few small;
         snapshot = λ finished. absurd (unfinished finished);
       }
 
@@ -344,7 +344,7 @@ module _ {D : Type 0} (g : disk.Ghosts D) where
         sound = goes.sound;
         legal = goes.legal;
         limit = goes.limit;
-        opened = goes.opened;
+        held = goes.held;
         begins = goes.begins;
         kept = goes.kept;
         fault = goes.fault;
@@ -377,7 +377,7 @@ module _ {D : Type 0} (g : disk.Ghosts D) where
   goes_without_memory before now Spent old new goes says = absurd says
 
 -- what keeping a snapshot leaves, by what it answered
-pub leaves_snapshot : {D : Type 0} (g : disk.Ghosts D) (old new : Store D) (result : Result Bool RestError) (kept : Bool) → result ≡ Ok kept → book_of new ≡ book_of old → (Hangs old → Hangs new) → HasNewRows old
+pub leaves_snapshot : {D : Type 0} (g : disk.Ghosts D) (old new : Store D) (result : Result Bool RestError) (kept : Bool) → result ≡ Ok kept → book_of new ≡ book_of old → (Hangs old → Hangs new) → HasAddedRows old
     → (result ≡ Ok false → HasNothingToKeep old) → (result ≡ Ok true → HoldsOwnSnapshot g new) → LeavesSnapshot g new
 leaves_snapshot g old new result true is same hangs grown idle holds = λ more calm. holds is
 leaves_snapshot g old new result false is same hangs grown idle holds = λ more calm. nothing calm (idle is)

@@ -19,7 +19,7 @@ use Rattle.hall_top.specs.Streams.{Stream, Devices, IsCalm, HasFailed, WroteAll,
 use Rattle.hall_top.specs.Run.{Call, FailsToKeep}
 use Rattle.hall_top.specs.Reached.{SaysNoMemory}
 use Rattle.hall_top.specs.Calls.{SaysWhole}
-use Rattle.hall_top.specs.Migration.{MigrationState, Carried, CarrySteps, StopsCarrying, StopsAtSlot, HasReadJournal, CarriedMore, CarriedReads, EndsMigration, StopsInJournal, StopsAtJournalEnd, HasCarried, ExplainsMigration}
+use Rattle.hall_top.specs.Migration.{MigrationState, Carried, CarrySteps, StopsCarrying, StopsAtSlot, MigrationStandsAfter, CarriedMore, CarriedReads, EndsMigration, StopsInJournal, StopsAtJournalEnd, HasCarried, ExplainsMigration}
 use Rattle.hall_top.proofs.Explaining.{call_from, reads_whole}
 use Rattle.hall_top.proofs.Printed.{wrote_nothing}
 use Rattle.hall_top.proofs.SlotSteps.{untouched}
@@ -96,7 +96,7 @@ explains_behind book call ReadFault stops = absurd stops.ends.1.1
 explains_behind book call Spent stops = absurd stops.ends.1.1
 
 -- a migration whose input was read to its end
-pub migration_at_end : {S : Type 0} (book : BookState) (before old now : Devices S) (taken : List ℕ) (state : MigrationState) (rows : List Entry) (stop : Stop) → HasReadJournal book before old taken state
+pub migration_at_end : {S : Type 0} (book : BookState) (before old now : Devices S) (taken : List ℕ) (state : MigrationState) (rows : List Entry) (stop : Stop) → MigrationStandsAfter book before old taken state
     → EndsMigration book.entries old.output now.output rows taken stop → Consumes before.input.bytes now.input.bytes taken → IsAtEnd now.input.bytes → IsCalm before.input now.input
     → ExplainsMigration book (call_from before now rows) stop
 migration_at_end book before old now taken state rows stop stands ends read end calm =
@@ -107,7 +107,7 @@ migration_at_end book before old now taken state rows stop stands ends read end 
     })
 
 -- a part of the last piece was judged
-stops_in_piece : {S : Type 0} (book : BookState) (before old now : Devices S) (taken more : List ℕ) (state : MigrationState) (rows : List Entry) (stop : Stop) → HasReadJournal book before old taken state
+stops_in_piece : {S : Type 0} (book : BookState) (before old now : Devices S) (taken more : List ℕ) (state : MigrationState) (rows : List Entry) (stop : Stop) → MigrationStandsAfter book before old taken state
     → StopsCarrying old.output now.output state rows more stop → length more ≤ PIECE → Consumes old.input.bytes now.input.bytes more → IsCalm old.input now.input
     → StopsInJournal book (call_from before now rows) stop
 stops_in_piece book before old now taken more state rows stop stands after small read calm =
@@ -123,7 +123,7 @@ stops_in_piece book before old now taken more state rows stop stands after small
 
 -- a piece of the input was taken
 pub migration_after : {T S : Type 0} (book : BookState) (before old now : Devices S) (taken more : List ℕ) (state state' : MigrationState) (result : Result T Stop)
-    → HasReadJournal book before old taken state → CarrySteps old.output now.output state state' more result → 0 < length more → length more ≤ PIECE
+    → MigrationStandsAfter book before old taken state → CarrySteps old.output now.output state state' more result → 0 < length more → length more ≤ PIECE
     → Consumes old.input.bytes now.input.bytes more → IsCalm old.input now.input
     → MatchResult result (λ _. CarriedMore book before now taken state') (ExplainsMigration book (call_from before now state'.rows))
 migration_after book before old now taken more state state' (Ok x) stands steps some small read calm =
@@ -145,7 +145,7 @@ has_carried : (held : List Entry) (taken : List ℕ) (state : MigrationState) �
 has_carried held taken state stands = record { header = stands.header; carried = stands.carried; are = stands.are; longer = stands.longer }
 
 -- the input failed
-pub migration_fault : {S : Type 0} (book : BookState) (before old now : Devices S) (taken : List ℕ) (state : MigrationState) → HasReadJournal book before old taken state
+pub migration_fault : {S : Type 0} (book : BookState) (before old now : Devices S) (taken : List ℕ) (state : MigrationState) → MigrationStandsAfter book before old taken state
     → ((out : Stream) (done : List ℕ) → WroteAll out old.output done → Wrote out now.output done read_fault) → Keeps old.input.bytes now.input.bytes → HasFailed old.input now.input
     → ExplainsMigration book (call_from before now state.rows) ReadFault
 migration_fault book before old now taken state stands says read failed =
@@ -161,7 +161,7 @@ pub nothing_counted : (reader : OldView) → reader ≡ old_after [] → reader.
 nothing_counted reader begun = ap (λ (v : OldView). v.rows) begun ∙ none_counted [] (λ has. absurd (omega (arith, has.long)))
 
 -- where a migration begins
-pub migration_begins : {S : Type 0} (book : BookState) (now : Devices S) (state : MigrationState) → state.reader ≡ old_after [] → state.rows ≡ book.entries → HasReadJournal book now now [] state
+pub migration_begins : {S : Type 0} (book : BookState) (now : Devices S) (state : MigrationState) → state.reader ≡ old_after [] → state.rows ≡ book.entries → MigrationStandsAfter book now now [] state
 migration_begins book now state begun same =
     record {
       read = Consumes-nil now.input.bytes;

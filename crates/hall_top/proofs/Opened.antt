@@ -14,7 +14,7 @@ use Rattle.book_store.specs.Images.{HoldsBook}
 use Rattle.book_store.specs.Listing.{IsOpenedAs}
 use Rattle.book_store.specs.Mounting.{HasHeld, IsCauseOf, IsPassing}
 use Rattle.book_store.specs.declared.types.Unmounted.{Unmounted}
-use Rattle.book_store.specs.Stores.{disk_of, entries_of, limit_of, opened_of, Hangs, HoldsOrHangs}
+use Rattle.book_store.specs.Stores.{disk_of, entries_of, limit_of, held_of, Hangs, HoldsOrHangs}
 use Rattle.book_store.specs.Resting.{HoldsSnapshotOf}
 use Rattle.hall_top.specs.declared.ended.Ended.{Ended}
 use Rattle.hall_top.specs.declared.stop.Stop.{Stop}
@@ -22,9 +22,9 @@ use Rattle.hall_top.specs.declared.stop.Stop.TheVariants.{Finished, BadLine, Rea
 use Rattle.hall_top.specs.Transcript.{BookState}
 use Rattle.hall_top.specs.Run.{Call}
 use Rattle.hall_top.specs.Kept.{CrashLeaves, HangsAtFault, HasKept, HoldsOrOffered, CountsStop, IsUnfailing}
-use Rattle.hall_top.specs.Snapshots.{HasNewRows}
+use Rattle.hall_top.specs.Snapshots.{HasAddedRows}
 use Rattle.hall_top.proofs.Keeping.{keeps_in}
-use Rattle.hall_top.specs.Calls.{KeepsRows, CountsEnd, IsOpened, IsUnopened, CommandDone, SaysWhy}
+use Rattle.hall_top.specs.Calls.{KeepsRows, CountsEnd, IsOpened, IsUnopened, CommandEnded, SaysWhy}
 
 -- the front of a list that begins with another
 front_of : (first more : List Entry) → take (length first) (first ++ more) ≡ first
@@ -87,11 +87,11 @@ keeps_rows g held before store last ended has kept fault disk_left rows front =
 
 -- a command that was done over a store that a disk was mounted as
 pub is_opened : {S D : Type 0} (g : disk.Ghosts D) (counts_now : (d : D) (t : ℕ) (c : List ℕ) → t ≤ g.time d → g.image d c → g.since d t c) (limit : ℕ) (Explains : BookState → Call S → Stop → Type 0) (status_of : Stop → ℕ) (before : D) (store : Store D) (ended : Ended D) (call : Call S)
-    → limit_of store ≡ limit → opened_of store ≡ length (entries_of store) → ¬ Hangs store → g.faults (disk_of store) ≡ g.faults before
+    → limit_of store ≡ limit → held_of store ≡ length (entries_of store) → ¬ Hangs store → g.faults (disk_of store) ≡ g.faults before
     → WhereTold (g.reads before) (λ bytes. IsOpenedAs bytes (entries_of store))
     → WhereTold (g.reads before) (λ bytes. (held : List Entry) → HoldsBook held bytes → IsLegal held → HasHeld g before held store)
     → WhereTold (g.reads before) (λ bytes. (rows size : ℕ) → FitsSnapshot rows size bytes → g.reads (disk_of store) ≡ Some bytes)
-    → CommandDone g Explains status_of store ended call
+    → CommandEnded g Explains status_of store ended call
     → IsOpened g limit Explains status_of before ended call
 is_opened g counts_now limit Explains status_of before store ended call limit_is count calm faults opened held unwritten done =
     let begins = done.goes.begins in
@@ -111,13 +111,13 @@ is_opened g counts_now limit Explains status_of before store ended call limit_is
           let kept = done.goes.kept rows before (kept_so_far g counts_now rows before store calm has) in
           keeps_rows g rows before store done.last ended has kept (done.goes.fault before (inl (calm, faults))) done.disk_left done.rows front;
       snapshot = λ finished grown.
-          let new : HasNewRows done.last = omega (arith, grown, ap length done.rows, done.goes.opened, count, done.held) in
+          let new : HasAddedRows done.last = omega (arith, grown, ap length done.rows, done.goes.held, count, done.held) in
           let none : ¬ Hangs done.last = λ hung. calm (done.goes.calm (subst IsUnfailing (sym finished) tt) hung) in
           let holds = done.goes.snapshot (ap (λ (s : Stop). Err s) finished) new none in
           subst (λ (d : _). HoldsSnapshotOf g ended.rows d) (sym done.disk_left)
           (subst (λ (es : List Entry). HoldsSnapshotOf g es (disk_of done.last)) (sym done.rows) holds);
       unwritten = λ unfailing small bytes told rows size fits.
-          let still = done.goes.still unfailing (omega (arith, count)) (λ new. small (omega (arith, new, ap length done.rows, done.goes.opened, count, done.held))) in
+          let still = done.goes.still unfailing (omega (arith, count)) (λ new. small (omega (arith, new, ap length done.rows, done.goes.held, count, done.held))) in
           ap g.reads (done.disk_left ∙ still) ∙ unwritten bytes told rows size fits;
     }
 

@@ -5,7 +5,7 @@ use Rattle.book_words.specs.Answers.{IsLegal}
 use Rattle.batch_reports.specs.declared.answers.TheConstants.{TEXT_ROOM}
 use Rattle.book_core.specs.View.{BookView}
 use Rattle.book_store.specs.declared.store.Store.{Store}
-use Rattle.book_store.specs.Stores.{book_of, entries_of, opened_of, IsSound}
+use Rattle.book_store.specs.Stores.{book_of, entries_of, held_of, IsSound}
 use Rattle.hall_top.specs.Transcript.{BookState}
 use Rattle.hall_top.specs.declared.session.Session.{Session}
 
@@ -26,7 +26,7 @@ book_in session = stored_book (store_in session)
 
 -- how many rows its disk held as it was mounted
 abbrev pub opened_at : {D : Type 0} → Session D → ℕ
-opened_at session = opened_of (store_in session)
+opened_at session = held_of (store_in session)
 
 -- the store is sound, the list legal, and there is room for the text of an answer
 pub record IsReady {D : Type 0} (disk : disk.Ghosts D) (session : Session D) : Type 0 where

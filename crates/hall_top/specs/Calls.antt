@@ -87,8 +87,8 @@ CountsEnd before now _ = now ≡ before
 
 -- The disk was opened as a book, and the command ended in one of its ways, which has its status.
 -- What `Explains` says of that way is the command's own meaning over the book as it was opened. A
--- command that is done and added rows leaves a snapshot of them all; one that added none, and that
--- no failure stopped, leaves every byte of a disk with a snapshot.
+-- command that is done and added rows leaves a snapshot of all rows; one that added none, where
+-- neither output nor disk failed, leaves every byte of a disk with a snapshot.
 pub record IsOpened {S D : Type 0} (disk : disk.Ghosts D) (limit : ℕ)
     (Explains : BookState → Call S → Stop → Type 0) (status_of : Stop → ℕ) (before : D)
     (ended : Ended D) (call : Call S) : Type 0 where
@@ -161,7 +161,7 @@ pub record IsUsage {S D : Type 0} (before : D) (ended : Ended D) (call : Call S)
 
 -- A command was done over a store: it ended in one of its ways, and the disk and the rows are those
 -- of the store that it left.
-pub record CommandDone {S D : Type 0} (disk : disk.Ghosts D)
+pub record CommandEnded {S D : Type 0} (disk : disk.Ghosts D)
     (Explains : BookState → Call S → Stop → Type 0) (status_of : Stop → ℕ) (store : Store D)
     (ended : Ended D) (call : Call S) : Type 0 where
   pub last : Store D

@@ -8,10 +8,10 @@ use Rattle.book_words.specs.Answers.{IsLawful, IsLegal}
 use Rattle.book_journal.specs.Mounting.{KeepsFromSync}
 use Rattle.book_store.specs.declared.store.Store.{Store}
 use Rattle.book_store.specs.Images.{HoldsBook}
-use Rattle.book_store.specs.Stores.{disk_of, entries_of, limit_of, opened_of, Hangs, HasBook, HangsWith, HoldsOrHangs, IsSound}
+use Rattle.book_store.specs.Stores.{disk_of, entries_of, limit_of, held_of, Hangs, HasBook, HangsWith, HoldsOrHangs, IsSound}
 use Rattle.hall_top.specs.declared.stop.Stop.{Stop}
-use Rattle.hall_top.specs.declared.stop.Stop.TheVariants.{Finished, WriteFault, DiskFault, NoMemory}
-use Rattle.hall_top.specs.Snapshots.{HasNewRows, LeavesSnapshot}
+use Rattle.hall_top.specs.declared.stop.Stop.TheVariants.{Finished, WriteFault, DiskFault}
+use Rattle.hall_top.specs.Snapshots.{HasAddedRows, LeavesSnapshot}
 
 -- an image holds these entries, or these and one more that was offered and is lawful behind them
 abbrev pub HoldsOrOffered : List Entry → List ℕ → Type 0
@@ -50,30 +50,29 @@ CountsStop before now (Err DiskFault) = Counted before now 1
 CountsStop before now (Err WriteFault) = (now ≡ before) ⊎ Counted before now 1
 CountsStop before now _ = now ≡ before
 
--- neither the output, nor the disk, nor memory failed
+-- neither the output nor the disk failed
 abbrev pub IsUnfailing : Stop → Type 0
 IsUnfailing WriteFault = ⊥
 IsUnfailing DiskFault = ⊥
-IsUnfailing NoMemory = ⊥
 IsUnfailing _ = ⊤
 
 -- What a step of a run makes of the store: its book goes on, a crash leaves what it may, and the
--- disk failed only where that is answered. Where nothing failed, nothing hangs that didn't before,
--- and without new rows the disk wasn't touched; and a run that is finished leaves a snapshot of the
--- new rows.
+-- disk failed only where that is answered. Where neither output nor disk failed, nothing hangs that
+-- didn't before, and a store without new rows has an untouched disk; and a run that is finished and
+-- added rows leaves a snapshot of all of them.
 pub record Goes {D T : Type 0} (disk : disk.Ghosts D) (result : Result T Stop)
     (old new : Store D) : Type 0 where
   pub sound : IsSound disk new
   pub legal : IsLegal (entries_of new)
   pub limit : limit_of new ≡ limit_of old
-  pub opened : opened_of new ≡ opened_of old
+  pub held : held_of new ≡ held_of old
   pub begins : IsPrefixOf (entries_of old) (entries_of new)
   pub kept : (held : List Entry) (start : D) → HasKept disk held start old
       → HasKept disk held start new
   pub fault : (start : D) → HangsAtFault disk start old → HangsAtFault disk start new
   pub cause : CountsStop (disk.faults (disk_of old)) (disk.faults (disk_of new)) result
   pub calm : IfErr result IsUnfailing → Hangs new → Hangs old
-  pub still : IfErr result IsUnfailing → opened_of old ≤ length (entries_of old) → ¬ HasNewRows new
+  pub still : IfErr result IsUnfailing → held_of old ≤ length (entries_of old) → ¬ HasAddedRows new
       → disk_of new ≡ disk_of old
   pub snapshot : result ≡ Err Finished → LeavesSnapshot disk new
 

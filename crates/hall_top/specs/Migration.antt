@@ -118,7 +118,7 @@ CarrySteps old now before after bytes result =
 
 -- a migration that began with these devices took these bytes of its input and carried their rows;
 -- it has written nothing
-pub record HasReadJournal {S : Type 0} (book : BookState) (before now : Devices S) (taken : List ℕ)
+pub record MigrationStandsAfter {S : Type 0} (book : BookState) (before now : Devices S) (taken : List ℕ)
     (state : MigrationState) : Type 0 where
   pub read : Consumes before.input.bytes now.input.bytes taken
   pub calm : IsCalm before.input now.input
@@ -131,7 +131,7 @@ pub record CarriedMore {S : Type 0} (book : BookState) (before now : Devices S) 
   pub more : List ℕ
   pub some : 0 < length more
   pub few : length more ≤ PIECE
-  pub stands : HasReadJournal book before now (taken ++ more) state
+  pub stands : MigrationStandsAfter book before now (taken ++ more) state
 
 -- it took bytes in so many reads, each at least one and at most a piece
 pub record CarriedReads {S : Type 0} (book : BookState) (before now : Devices S) (reads : ℕ)
@@ -139,7 +139,7 @@ pub record CarriedReads {S : Type 0} (book : BookState) (before now : Devices S)
   pub taken : List ℕ
   pub least : reads ≤ length taken
   pub most : length taken ≤ reads * PIECE
-  pub stands : HasReadJournal book before now taken state
+  pub stands : MigrationStandsAfter book before now taken state
 
 -- ---- the end of a migration
 

@@ -102,7 +102,7 @@ EndsScript book before now rows script NoMemory = StopsOrEnds book before now ro
 EndsScript book before now rows script _ = ⊥
 
 -- a run that began with these devices took these bytes of its input
-pub record HasReadScript {S : Type 0} (book : BookState) (before now : Devices S) (taken : List ℕ)
+pub record RunStandsAfter {S : Type 0} (book : BookState) (before now : Devices S) (taken : List ℕ)
     (run : RunState) : Type 0 where
   pub read : Consumes before.input.bytes now.input.bytes taken
   pub calm : IsCalm before.input now.input
@@ -114,7 +114,7 @@ pub record WentOn {S : Type 0} (book : BookState) (before now : Devices S) (take
   pub more : List ℕ
   pub some : 0 < length more
   pub few : length more ≤ PIECE
-  pub stands : HasReadScript book before now (taken ++ more) run
+  pub stands : RunStandsAfter book before now (taken ++ more) run
 
 -- it took bytes in so many reads, each at least one and at most a piece
 pub record HasTaken {S : Type 0} (book : BookState) (before now : Devices S) (reads : ℕ)
@@ -122,4 +122,4 @@ pub record HasTaken {S : Type 0} (book : BookState) (before now : Devices S) (re
   pub taken : List ℕ
   pub least : reads ≤ length taken
   pub most : length taken ≤ reads * PIECE
-  pub stands : HasReadScript book before now taken run
+  pub stands : RunStandsAfter book before now taken run

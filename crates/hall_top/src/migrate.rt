@@ -2,14 +2,14 @@ ghost use Rattle.std.specs.Prelude.{◌≡◌, ◌<◌, ◌≤◌, ℕ, List, []
 ghost use Rattle.hall_top.specs.declared.reads.TheConstants.{PIECE};
 ghost use Rattle.book_words.specs.declared.act.Entry.{Entry};
 ghost use Rattle.book_words.specs.Answers.{IsLegal};
-ghost use Rattle.book_store.specs.Stores.{entries_of, opened_of, IsSound};
+ghost use Rattle.book_store.specs.Stores.{entries_of, held_of, IsSound};
 ghost use Rattle.old_journal.specs.Reader.{old_after};
 ghost use Rattle.hall_top.specs.Books.{stored_book};
 ghost use Rattle.hall_top.specs.Kept.{Goes, RunGoes};
 ghost use Rattle.hall_top.specs.Run.{call};
 ghost use Rattle.hall_top.specs.Transcript.{BookState};
 ghost use Rattle.hall_top.specs.Streams.{Devices, devices, output_at};
-ghost use Rattle.hall_top.specs.Migration.{Carried, HasReadJournal, CarriedMore, EndsMigration, ExplainsMigration, IsCarrying, migration_state};
+ghost use Rattle.hall_top.specs.Migration.{Carried, MigrationStandsAfter, CarriedMore, EndsMigration, ExplainsMigration, IsCarrying, migration_state};
 
 use crate::carrying::{Migration, say_bad_row};
 use crate::check::check_book;
@@ -30,7 +30,7 @@ pub const MAX_OLD_READS: u32 = 200_000_000;
 fn finish<K: Sink, D: Disk>(migration: &mut Migration<D>, output: &mut K) -> Stop
     requires ready { IsCarrying D.Disk migration.old }
     ensures ends { (held : List Entry) (taken : List ℕ)
-        → opened_of migration.old.store ≡ length held
+        → held_of migration.old.store ≡ length held
         → Carried held taken (migration_state migration.old)
         → EndsMigration held (output_at K.Sink output.old) (output_at K.Sink output.new)
         (entries_of migration.new.store) taken result }
@@ -58,8 +58,8 @@ fn take_read<S: Source, K: Sink, D: Disk>(
     requires ready { IsCarrying D.Disk migration.old }
     ensures unended { OnOk result (S.ended input.new ≡ false) }
     ensures explained { (book : BookState) (before : Devices S) (taken : List ℕ)
-        → opened_of migration.old.store ≡ length book.entries
-        → HasReadJournal book before (devices S.Source K.Sink input.old output.old) taken
+        → held_of migration.old.store ≡ length book.entries
+        → MigrationStandsAfter book before (devices S.Source K.Sink input.old output.old) taken
         (migration_state migration.old)
         → MatchResult result
         (λ _. CarriedMore book before (devices S.Source K.Sink input.new output.new) taken
@@ -93,7 +93,7 @@ fn read_all<S: Source, K: Sink, D: Disk>(
     requires some { 0 < length buffer.old }
     requires small { length buffer.old ≤ PIECE }
     requires begun { migration.old.journal ≡ old_after [] }
-    requires opened { opened_of migration.old.store ≡ length (entries_of migration.old.store) }
+    requires opened { held_of migration.old.store ≡ length (entries_of migration.old.store) }
     requires ready { IsCarrying D.Disk migration.old }
     ensures explained { ExplainsMigration (stored_book migration.old.store)
         (call S.Source K.Sink input.old output.old input.new output.new
@@ -117,7 +117,7 @@ pub fn migrate_journal<S: Source, K: Sink, D: Disk>(
     output: &mut K,
 ) -> RunEnd<D>
     requires unended { S.ended input.old ≡ false }
-    requires opened { opened_of store ≡ length (entries_of store) }
+    requires opened { held_of store ≡ length (entries_of store) }
     requires sound { IsSound D.Disk store }
     requires legal { IsLegal (entries_of store) }
     ensures explained { ExplainsMigration (stored_book store)

@@ -1,13 +1,13 @@
 ghost use Rattle.std.specs.Prelude.{◌≡◌, ◌+◌, ◌<◌, ◌≤◌, List, ℕ, [], length, false, OnOk, IfOk, IfErr, MatchResult};
 ghost use Rattle.book_words.specs.Answers.{IsLegal};
 ghost use Rattle.script_lines.specs.Feed.{feed_after};
-ghost use Rattle.book_store.specs.Stores.{entries_of, opened_of, IsSound};
+ghost use Rattle.book_store.specs.Stores.{entries_of, held_of, IsSound};
 ghost use Rattle.hall_top.specs.Transcript.{BookState};
 ghost use Rattle.hall_top.specs.Streams.{Devices, devices};
 ghost use Rattle.hall_top.specs.Run.{call, Explains};
 ghost use Rattle.hall_top.specs.Kept.{Goes, RunGoes};
 ghost use Rattle.hall_top.specs.Books.{book_in, store_in, stored_book, opened_at, IsReady};
-ghost use Rattle.hall_top.specs.Reached.{SaysNoMemory, HasReadScript, WentOn};
+ghost use Rattle.hall_top.specs.Reached.{SaysNoMemory, RunStandsAfter, WentOn};
 ghost use Rattle.hall_top.specs.Runs.{run_state};
 
 use crate::run::Run;
@@ -44,7 +44,7 @@ fn take_read<S: Source, K: Sink, D: Disk>(
     requires ready { IsReady D.Disk run.old.session }
     ensures unended { OnOk result (S.ended input.new ≡ false) }
     ensures explained { (book : BookState) (before : Devices S) (taken : List ℕ)
-        → HasReadScript book before (devices S.Source K.Sink input.old output.old) taken
+        → RunStandsAfter book before (devices S.Source K.Sink input.old output.old) taken
         (run_state run.old)
         → MatchResult result
         (λ _. WentOn book before (devices S.Source K.Sink input.new output.new) taken
@@ -121,7 +121,7 @@ pub fn run_script<S: Source, K: Sink, D: Disk>(
     output: &mut K,
 ) -> RunEnd<D>
     requires unended { S.ended input.old ≡ false }
-    requires opened { opened_of store ≡ length (entries_of store) }
+    requires opened { held_of store ≡ length (entries_of store) }
     requires sound { IsSound D.Disk store }
     requires legal { IsLegal (entries_of store) }
     ensures explained { Explains (stored_book store)

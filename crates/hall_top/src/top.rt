@@ -2,7 +2,7 @@ ghost use Rattle.std.specs.Prelude.{◌≡◌, ◌≤◌, ◌⊎◌, ◌↔◌, 
 ghost use Rattle.hall_limits.specs.declared.TheConstants.{MAX_ROWS};
 ghost use Rattle.book_words.specs.Answers.{IsLegal};
 ghost use Rattle.book_words.specs.Soundness.{IsSound as IsSoundBook};
-ghost use Rattle.book_store.specs.Stores.{entries_of, opened_of, IsSound};
+ghost use Rattle.book_store.specs.Stores.{entries_of, held_of, IsSound};
 ghost use Rattle.hall_top.specs.Requests.{RequestsOnce};
 ghost use Rattle.hall_top.specs.Run.{call, is_status, status_of};
 ghost use Rattle.hall_top.specs.Kept.{RunGoes};
@@ -10,7 +10,7 @@ ghost use Rattle.hall_top.specs.Books.{stored_book};
 ghost use Rattle.command_line.specs.Words.{Wanted, bytes_of, wanted_of};
 ghost use Rattle.hall_top.specs.Texts.{usage};
 ghost use Rattle.hall_top.specs.Streams.{output_at, Wrote};
-ghost use Rattle.hall_top.specs.Calls.{ExplainsCommand, EndsAs, CommandDone, IsOpened, IsUnopened, IsUsage};
+ghost use Rattle.hall_top.specs.Calls.{ExplainsCommand, EndsAs, CommandEnded, IsOpened, IsUnopened, IsUsage};
 
 use crate::check::check_book;
 use crate::ended::Ended;
@@ -31,7 +31,7 @@ fn run_command<S: Source, K: Sink, D: Disk>(
     output: &mut K,
 ) -> RunEnd<D>
     requires unended { S.ended input.old ≡ false }
-    requires opened { opened_of store ≡ length (entries_of store) }
+    requires opened { held_of store ≡ length (entries_of store) }
     requires sound { IsSound D.Disk store }
     requires legal { IsLegal (entries_of store) }
     ensures explained { ExplainsCommand command (stored_book store)
@@ -58,10 +58,10 @@ fn do_command<S: Source, K: Sink, D: Disk>(
     output: &mut K,
 ) -> Ended<D>
     requires unended { S.ended input.old ≡ false }
-    requires opened { opened_of store ≡ length (entries_of store) }
+    requires opened { held_of store ≡ length (entries_of store) }
     requires sound { IsSound D.Disk store }
     requires legal { IsLegal (entries_of store) }
-    ensures done { CommandDone D.Disk (ExplainsCommand command) status_of store result
+    ensures done { CommandEnded D.Disk (ExplainsCommand command) status_of store result
         (call S.Source K.Sink input.old output.old input.new output.new result.rows) }
     ensures sound { IsSoundBook result.rows }
 {

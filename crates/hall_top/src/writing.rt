@@ -3,12 +3,12 @@ ghost use Rattle.book_words.specs.Views.{summary};
 ghost use Rattle.book_words.specs.Answers.{IsLegal};
 ghost use Rattle.script_lines.specs.declared.command.Line.TheVariants as line;
 ghost use Rattle.batch_reports.specs.Texts.{summary_text};
-ghost use Rattle.book_store.specs.Stores.{disk_of, book_of, entries_of, opened_of, IsSound};
+ghost use Rattle.book_store.specs.Stores.{disk_of, book_of, entries_of, held_of, IsSound};
 ghost use Rattle.hall_top.specs.declared.stop.Stop.TheVariants as stop;
 ghost use Rattle.hall_top.specs.Texts.{bad_line, read_fault};
 ghost use Rattle.hall_top.specs.Books.{stored_book};
 ghost use Rattle.hall_top.specs.Kept.{Goes};
-ghost use Rattle.hall_top.specs.Snapshots.{HasNewRows, LeavesSnapshot};
+ghost use Rattle.hall_top.specs.Snapshots.{HasAddedRows, LeavesSnapshot};
 ghost use Rattle.hall_top.specs.Streams.{Stream, output_at, WroteAll, IsCutIn, Wrote};
 ghost use Rattle.hall_top.specs.Run.{FailsToKeep, StopsAtLine};
 ghost use Rattle.hall_top.specs.Reached.{HasAnswered, SaysDiskFault, SaysNoMemory};
@@ -83,14 +83,14 @@ pub fn keep_snapshot<D: Disk, K: Sink>(store: &mut Store<D>, output: &mut K) -> 
     requires sound { IsSound D.Disk store.old }
     requires legal { IsLegal (entries_of store.old) }
     ensures quiet { OnOk result (output_at K.Sink output.new ≡ output_at K.Sink output.old) }
-    ensures stops { IfErr result (FailsToKeep (opened_of store.old) (output_at K.Sink output.old)
+    ensures stops { IfErr result (FailsToKeep (held_of store.old) (output_at K.Sink output.old)
         (output_at K.Sink output.new) (entries_of store.old)) }
     ensures book { book_of store.new ≡ book_of store.old }
     ensures goes { Goes D.Disk result store.old store.new }
     ensures snapshot { OnOk result (LeavesSnapshot D.Disk store.new) }
-    ensures idle { ¬ HasNewRows store.old → disk_of store.new ≡ disk_of store.old }
+    ensures idle { ¬ HasAddedRows store.old → disk_of store.new ≡ disk_of store.old }
 {
-    if store.len() <= store.opened() {
+    if store.len() <= store.held() {
         return Ok(());
     }
     match store.rest() {

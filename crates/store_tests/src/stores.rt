@@ -185,7 +185,7 @@ impl<D: Disk> TestStore<D> {
             && self.take_to(entries, way.rows)
             && self.has_front(entries)
             && self.keep(way.rests)
-            && self.store.opened() == held;
+            && self.store.held() == held;
         Seen {
             held,
             right,

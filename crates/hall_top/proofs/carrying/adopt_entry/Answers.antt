@@ -15,7 +15,7 @@ pub returns-in-Ok-clause-goes : goal.returns-in-Ok-clause-goes
 returns-in-Ok-clause-goes g c =
     let a = c.adopt.ensures in
     let cause : g.D.Disk.faults (disk_of c.adopt.new.self) ≡ g.D.Disk.faults (disk_of c.args.store.now) = search rules in
-    goes_adopted g.D.Disk c.args.store.now c.adopt.new.self c.args.entry.now c.adopt.result (Ok tt) a.entries a.adopts a.offers a.unlawful a.settled a.images a.hangs a.cause a.sound a.legal a.limit a.opened cause (λ quiet. rw c.in-Ok.is tt) (on_unfinished tt)
+    goes_adopted g.D.Disk c.args.store.now c.adopt.new.self c.args.entry.now c.adopt.result (Ok tt) a.entries a.adopts a.offers a.unlawful a.settled a.images a.hangs a.cause a.sound a.legal a.limit a.held cause a.no_memory (λ quiet. rw c.in-Ok.is tt) (on_unfinished tt)
 
 pub returns-in-Err-Unlawful-clause-stops : goal.returns-in-Err-Unlawful-clause-stops
 returns-in-Err-Unlawful-clause-stops g c =
@@ -28,14 +28,14 @@ returns-in-Err-Unlawful-clause-goes g c =
     let a = c.adopt.ensures in
     let cause : g.D.Disk.faults (disk_of c.adopt.new.self) ≡ g.D.Disk.faults (disk_of c.args.store.now) = search rules in
     subst (λ s. Goes {T = ⊤} g.D.Disk (Err s) c.args.store.now c.adopt.new.self) (sym c.say_bad_row.ensures.stops)
-    (goes_adopted g.D.Disk c.args.store.now c.adopt.new.self c.args.entry.now c.adopt.result (Err BadLine) a.entries a.adopts a.offers a.unlawful a.settled a.images a.hangs a.cause a.sound a.legal a.limit a.opened cause (λ quiet. rw (c.in-Err-Unlawful.is, c.in-Err-Unlawful.field-0-is) tt) (λ is. absurd (cc)))
+    (goes_adopted g.D.Disk c.args.store.now c.adopt.new.self c.args.entry.now c.adopt.result (Err BadLine) a.entries a.adopts a.offers a.unlawful a.settled a.images a.hangs a.cause a.sound a.legal a.limit a.held cause a.no_memory (λ quiet. rw (c.in-Err-Unlawful.is, c.in-Err-Unlawful.field-0-is) tt) (λ is. absurd (cc)))
 
 pub returns-in-Err-DiskFault-clause-goes : goal.returns-in-Err-DiskFault-clause-goes
 returns-in-Err-DiskFault-clause-goes g c =
     let a = c.adopt.ensures in
     let cause : CountsStop {T = ⊤} (g.D.Disk.faults (disk_of c.args.store.now)) (g.D.Disk.faults (disk_of c.adopt.new.self)) (Err DiskFault) = search rules in
     goes_at_fault g.D.Disk (output_at g.K.Sink c.args.output.now) (output_at g.K.Sink c.say_disk_fault.new.output) c.say_disk_fault.result c.args.store.now c.adopt.new.self
-    (goes_adopted g.D.Disk c.args.store.now c.adopt.new.self c.args.entry.now c.adopt.result (Err DiskFault) a.entries a.adopts a.offers a.unlawful a.settled a.images a.hangs a.cause a.sound a.legal a.limit a.opened cause (λ quiet. absurd quiet) (λ is. absurd (cc)))
+    (goes_adopted g.D.Disk c.args.store.now c.adopt.new.self c.args.entry.now c.adopt.result (Err DiskFault) a.entries a.adopts a.offers a.unlawful a.settled a.images a.hangs a.cause a.sound a.legal a.limit a.held cause a.no_memory (λ quiet. absurd quiet) (λ is. absurd (cc)))
     c.say_disk_fault.ensures
 
 pub returns-in-Err-NoMemory-clause-goes : goal.returns-in-Err-NoMemory-clause-goes
@@ -43,7 +43,7 @@ returns-in-Err-NoMemory-clause-goes g c =
     let a = c.adopt.ensures in
     let cause : g.D.Disk.faults (disk_of c.adopt.new.self) ≡ g.D.Disk.faults (disk_of c.args.store.now) = search rules in
     goes_without_memory g.D.Disk (output_at g.K.Sink c.args.output.now) (output_at g.K.Sink c.say_no_memory.new.output) c.say_no_memory.result c.args.store.now c.adopt.new.self
-    (goes_adopted g.D.Disk c.args.store.now c.adopt.new.self c.args.entry.now c.adopt.result (Err NoMemory) a.entries a.adopts a.offers a.unlawful a.settled a.images a.hangs a.cause a.sound a.legal a.limit a.opened cause (λ quiet. absurd quiet) (λ is. absurd (cc)))
+    (goes_adopted g.D.Disk c.args.store.now c.adopt.new.self c.args.entry.now c.adopt.result (Err NoMemory) a.entries a.adopts a.offers a.unlawful a.settled a.images a.hangs a.cause a.sound a.legal a.limit a.held cause a.no_memory (λ quiet. rw (c.in-Err-NoMemory.is, c.in-Err-NoMemory.field-0-is) tt) (λ is. absurd (cc)))
     c.say_no_memory.ensures
 
 pub returns-in-Err-DiskFault-clause-stops : goal.returns-in-Err-DiskFault-clause-stops

@@ -14,7 +14,7 @@ returns-in-Ok-clause-goes g c =
     let store = c.args.store.now in
     let asked = c.ask.ensures in
     let cause : g.D.Disk.faults (disk_of c.ask.new.self) ≡ g.D.Disk.faults (disk_of store) = search rules in
-    goes_asked g.D.Disk store c.ask.new.self c.ask.result (Ok tt) (added (limit_of store) (entries_of store) script_caller c.ask_at-ask.result) asked.entries asked.offers asked.settled asked.images asked.hangs asked.cause asked.sound asked.legal asked.limit asked.opened cause (λ quiet. rw c.in-Ok.is tt) (on_unfinished tt)
+    goes_asked g.D.Disk store c.ask.new.self c.ask.result (Ok tt) (added (limit_of store) (entries_of store) script_caller c.ask_at-ask.result) asked.entries asked.offers asked.settled asked.images asked.hangs asked.cause asked.sound asked.legal asked.limit asked.held cause asked.no_memory (λ quiet. rw c.in-Ok.is tt) (on_unfinished tt)
 
 pub returns-in-Err-Refused-clause-after : goal.returns-in-Err-Refused-clause-after
 returns-in-Err-Refused-clause-after g c =
@@ -33,18 +33,18 @@ returns-in-Err-Refused-clause-goes g c =
     let ask : c.ask_at-ask.result ≡ ask_at (entries_of store) c.args.command.now = search rules in
     let refused : Err c.in-Err-Refused.refused ≡ answer (limit_of store) (entries_of store) c.ask_at-ask.result = search rules in
     let none = refused_adds (stored_book store) c.args.command.now c.ask_at-ask.result c.in-Err-Refused.refused ask refused in
-    goes_asked g.D.Disk store c.ask.new.self c.ask.result (Ok tt) (added (limit_of store) (entries_of store) script_caller c.ask_at-ask.result) asked.entries asked.offers asked.settled asked.images asked.hangs asked.cause asked.sound asked.legal asked.limit asked.opened cause (λ quiet. rw (c.in-Err-Refused.is, c.in-Err-Refused.field-0-is) none) (on_unfinished tt)
+    goes_asked g.D.Disk store c.ask.new.self c.ask.result (Ok tt) (added (limit_of store) (entries_of store) script_caller c.ask_at-ask.result) asked.entries asked.offers asked.settled asked.images asked.hangs asked.cause asked.sound asked.legal asked.limit asked.held cause asked.no_memory (λ quiet. rw (c.in-Err-Refused.is, c.in-Err-Refused.field-0-is) none) (on_unfinished tt)
 
 pub returns-in-Err-DiskFault-clause-goes : goal.returns-in-Err-DiskFault-clause-goes
 returns-in-Err-DiskFault-clause-goes g c =
     let store = c.args.store.now in
     let asked = c.ask.ensures in
     let cause : CountsStop {T = Unit {0}} (g.D.Disk.faults (disk_of store)) (g.D.Disk.faults (disk_of c.ask.new.self)) (Err DiskFault) = search rules in
-    goes_asked g.D.Disk store c.ask.new.self c.ask.result (Err DiskFault) (added (limit_of store) (entries_of store) script_caller c.ask_at-ask.result) asked.entries asked.offers asked.settled asked.images asked.hangs asked.cause asked.sound asked.legal asked.limit asked.opened cause (λ quiet. absurd quiet) (λ is. absurd (cc))
+    goes_asked g.D.Disk store c.ask.new.self c.ask.result (Err DiskFault) (added (limit_of store) (entries_of store) script_caller c.ask_at-ask.result) asked.entries asked.offers asked.settled asked.images asked.hangs asked.cause asked.sound asked.legal asked.limit asked.held cause asked.no_memory (λ quiet. absurd quiet) (λ is. absurd (cc))
 
 pub returns-in-Err-NoMemory-clause-goes : goal.returns-in-Err-NoMemory-clause-goes
 returns-in-Err-NoMemory-clause-goes g c =
     let store = c.args.store.now in
     let asked = c.ask.ensures in
     let cause : g.D.Disk.faults (disk_of c.ask.new.self) ≡ g.D.Disk.faults (disk_of store) = search rules in
-    goes_asked g.D.Disk store c.ask.new.self c.ask.result (Err NoMemory) (added (limit_of store) (entries_of store) script_caller c.ask_at-ask.result) asked.entries asked.offers asked.settled asked.images asked.hangs asked.cause asked.sound asked.legal asked.limit asked.opened cause (λ quiet. absurd quiet) (λ is. absurd (cc))
+    goes_asked g.D.Disk store c.ask.new.self c.ask.result (Err NoMemory) (added (limit_of store) (entries_of store) script_caller c.ask_at-ask.result) asked.entries asked.offers asked.settled asked.images asked.hangs asked.cause asked.sound asked.legal asked.limit asked.held cause asked.no_memory (λ quiet. rw (c.in-Err-NoMemory.is, c.in-Err-NoMemory.field-0-is) tt) (λ is. absurd (cc))

@@ -1,7 +1,7 @@
 use Rattle.std.proofs.Common.{◌≡◌, ap, sym, subst, Err, refl}
 use Rattle.std.specs.Bool.{⊤}
 use Rattle.book_core.specs.View.{BookView}
-use Rattle.book_store.specs.Stores.{entries_of, opened_of}
+use Rattle.book_store.specs.Stores.{entries_of, held_of}
 use Rattle.hall_top.specs.declared.stop.Stop.TheVariants.{BadLine}
 use Rattle.hall_top.specs.Kept.{RunGoes}
 use Rattle.hall_top.specs.Streams.{output_at}
@@ -36,7 +36,7 @@ returns-in-Ok-clause-goes g c =
 pub returns-in-Err-clause-ends : goal.returns-in-Err-clause-ends
 returns-in-Err-clause-ends g c = λ held taken opened stands.
     let same : entries_of c.keep_snapshot.new.store ≡ entries_of c.args.migration.now.store = ap (λ (b : BookView). b.entries) c.keep_snapshot.ensures.book in
-    ends_failed held taken (migration_state c.args.migration.now) (entries_of c.keep_snapshot.new.store) (opened_of c.args.migration.now.store) (output_at g.K.Sink c.args.output.now) (output_at g.K.Sink c.keep_snapshot.new.output) c.in-Err.stop stands
+    ends_failed held taken (migration_state c.args.migration.now) (entries_of c.keep_snapshot.new.store) (held_of c.args.migration.now.store) (output_at g.K.Sink c.args.output.now) (output_at g.K.Sink c.keep_snapshot.new.output) c.in-Err.stop stands
     ((c.has_header.ensures taken stands.reader).0 c.if-not-has_header.false) same opened c.in-Err.ensures.stops
 
 pub returns-in-Err-clause-goes : goal.returns-in-Err-clause-goes

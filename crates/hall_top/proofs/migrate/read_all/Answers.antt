@@ -30,7 +30,7 @@ loop-turn-preserved g c =
     let now = devices g.S.Source g.K.Sink c.take_read.new.input c.take_read.new.output in
     record {
       taken = carried_reads_more book before (devices g.S.Source g.K.Sink c.loop-turn.input c.loop-turn.output) now c.loop-turn._turn (migration_state c.loop-turn.migration) (migration_state c.take_read.new.migration) has
-          (c.in_default.ensures.explained book before has.taken (c.loop-turn.invariant.goes.opened ∙ c.requires.opened) has.stands);
+          (c.in_default.ensures.explained book before has.taken (c.loop-turn.invariant.goes.held ∙ c.requires.opened) has.stands);
       goes = goes_on g.D.Disk tt (Ok tt) c.args.migration.now.store c.loop-turn.migration.store c.take_read.new.migration.store c.loop-turn.invariant.goes c.in_default.ensures.goes;
       ready = c.in_default.ensures.ready;
       unended = c.in_default.ensures.unended;
@@ -40,7 +40,7 @@ loop-turn-preserved g c =
 pub returns-in-Err-clause-explained : goal.returns-in-Err-clause-explained
 returns-in-Err-clause-explained g c =
     let has = c.loop-turn.invariant.taken in
-    c.in-Err.ensures.explained (stored_book c.args.migration.now.store) (devices g.S.Source g.K.Sink c.args.input.now c.args.output.now) has.taken (c.loop-turn.invariant.goes.opened ∙ c.requires.opened) has.stands
+    c.in-Err.ensures.explained (stored_book c.args.migration.now.store) (devices g.S.Source g.K.Sink c.args.input.now c.args.output.now) has.taken (c.loop-turn.invariant.goes.held ∙ c.requires.opened) has.stands
 
 pub returns-clause-explained : goal.returns-clause-explained
 returns-clause-explained g c =
