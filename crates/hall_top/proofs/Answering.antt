@@ -73,18 +73,18 @@ stops_here book before old now rows commands number (Asks command) WriteFault fi
     })
 stops_here book before old now rows commands number (Asks command) WriteFault first (inr stops) =
     inr (cut_on before old now (answers book commands) no_memory first stops.0, record { may = stops.1.may; rows_left = are_left book commands rows stops.1.rows_left.left })
-stops_here book before old now rows commands number (Asks command) DiskFaultUnsaid first stops =
-    (cut_on before old now (answers book commands) disk_fault first stops.0, record { offers = stops.1.offers; rows_left = are_left book commands rows stops.1.rows_left.left })
-stops_here book before old now rows commands number (Asks command) DiskFault first stops =
-    (wrote_on before old now (answers book commands) disk_fault first stops.0, record { offers = stops.1.offers; rows_left = are_left book commands rows stops.1.rows_left.left })
+stops_here book before old now rows commands number (Asks command) (DiskFaultUnsaid offer) first stops =
+    (cut_on before old now (answers book commands) disk_fault first stops.0, record { asked = stops.1.asked; offers = stops.1.offers; rows_left = are_left book commands rows stops.1.rows_left.left })
+stops_here book before old now rows commands number (Asks command) (DiskFault offer) first stops =
+    (wrote_on before old now (answers book commands) disk_fault first stops.0, record { asked = stops.1.asked; offers = stops.1.offers; rows_left = are_left book commands rows stops.1.rows_left.left })
 stops_here book before old now rows commands number (Asks command) NoMemory first stops =
     (wrote_on before old now (answers book commands) no_memory first stops.0, record { may = stops.1.may; rows_left = are_left book commands rows stops.1.rows_left.left })
 stops_here book before old now rows commands number Nothing stop first stops = absurd stops
 stops_here book before old now rows commands number Bad Finished first stops = absurd stops
 stops_here book before old now rows commands number Bad ReadFault first stops = absurd stops
 stops_here book before old now rows commands number Bad WriteFault first stops = absurd stops
-stops_here book before old now rows commands number Bad DiskFault first stops = absurd stops
-stops_here book before old now rows commands number Bad DiskFaultUnsaid first stops = absurd stops
+stops_here book before old now rows commands number Bad (DiskFault offer) first stops = absurd stops
+stops_here book before old now rows commands number Bad (DiskFaultUnsaid offer) first stops = absurd stops
 stops_here book before old now rows commands number Bad NoMemory first stops = absurd stops
 stops_here book before old now rows commands number Bad Spent first stops = absurd stops
 stops_here book before old now rows commands number (Asks command) Finished first stops = absurd stops

@@ -154,7 +154,7 @@ module _ (held carried rows : List Entry) (taken now : List ℕ) (number : ℕ) 
     bad = bad;
   }
 
-  pub new_row : (entry : Entry) → Spells old_layout row number entry → slice_get rows (length carried) ≡ None → IsLawful rows entry → HasNewRow held now rows
+  pub new_row : (entry : Entry) → Spells old_layout row number entry → slice_get rows (length carried) ≡ None → IsLawful rows entry → HasNewRow held now rows entry
   new_row entry spells none lawful =
       let same : number ≡ length carried + 1 = next.next ∙ ap (λ n. n + 1) counted in
       record {
@@ -162,7 +162,6 @@ module _ (held carried rows : List Entry) (taken now : List ℕ) (number : ℕ) 
         before = carried_to;
         row = row;
         stands = stands;
-        entry = entry;
         spells = subst (λ n. Spells old_layout row n entry) same spells;
         lacks = get_none rows (length carried) none;
         lawful = lawful;

@@ -19,8 +19,8 @@ explains_check book call Finished unread rows says = record { unread = unread; r
 explains_check book call WriteFault unread rows says = record { unread = unread; rows = rows; cut = says }
 explains_check book call BadLine unread rows says = absurd says
 explains_check book call ReadFault unread rows says = absurd says
-explains_check book call DiskFault unread rows says = absurd says
-explains_check book call DiskFaultUnsaid unread rows says = absurd says
+explains_check book call (DiskFault offer) unread rows says = absurd says
+explains_check book call (DiskFaultUnsaid offer) unread rows says = absurd says
 explains_check book call NoMemory unread rows says = absurd says
 explains_check book call Spent unread rows says = absurd says
 
@@ -30,8 +30,8 @@ whole_counts T before now rows count Finished says = refl
 whole_counts T before now rows count WriteFault says = refl
 whole_counts T before now rows count BadLine says = absurd says
 whole_counts T before now rows count ReadFault says = absurd says
-whole_counts T before now rows count DiskFault says = absurd says
-whole_counts T before now rows count DiskFaultUnsaid says = absurd says
+whole_counts T before now rows count (DiskFault offer) says = absurd says
+whole_counts T before now rows count (DiskFaultUnsaid offer) says = absurd says
 whole_counts T before now rows count NoMemory says = absurd says
 whole_counts T before now rows count Spent says = absurd says
 
@@ -40,8 +40,8 @@ stop_status Finished = refl
 stop_status BadLine = refl
 stop_status ReadFault = refl
 stop_status WriteFault = refl
-stop_status DiskFault = refl
-stop_status DiskFaultUnsaid = refl
+stop_status (DiskFault offer) = refl
+stop_status (DiskFaultUnsaid offer) = refl
 stop_status NoMemory = refl
 stop_status Spent = refl
 
@@ -65,8 +65,8 @@ stop_differs Finished is = absurd (omega (arith, is))
 stop_differs BadLine is = absurd (omega (arith, is))
 stop_differs ReadFault is = absurd (omega (arith, is))
 stop_differs WriteFault is = absurd (omega (arith, is))
-stop_differs DiskFault is = absurd (omega (arith, is))
-stop_differs DiskFaultUnsaid is = absurd (omega (arith, is))
+stop_differs (DiskFault offer) is = absurd (omega (arith, is))
+stop_differs (DiskFaultUnsaid offer) is = absurd (omega (arith, is))
 stop_differs NoMemory is = absurd (omega (arith, is))
 stop_differs Spent is = absurd (omega (arith, is))
 

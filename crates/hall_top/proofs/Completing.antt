@@ -5,6 +5,7 @@ use Rattle.device_facts.specs.Count.{Calm}
 use Rattle.device_facts.specs.CountLaws.{calm_counts_none}
 use Rattle.script_lines.specs.Script.{all_good}
 use Rattle.hall_top.specs.declared.reads.TheConstants.{MAX_READS}
+use Rattle.hall_top.specs.declared.stop.Offer.{Offer}
 use Rattle.hall_top.specs.declared.stop.Stop.{Stop}
 use Rattle.hall_top.specs.declared.stop.Stop.TheVariants.{Finished, BadLine, ReadFault, WriteFault, DiskFault, DiskFaultUnsaid, NoMemory, Spent}
 use Rattle.hall_top.specs.Transcript.{BookState, lines_of}
@@ -25,15 +26,15 @@ not_both good is isnt = absurd (cc)
 -- a run of a good script stops in no other way
 module _ {S : Type 0} (book : BookState) (call : Call S) (script : List ℕ) (told : call.before.input.bytes ≡ Some script) (good : all_good (lines_of script) ≡ true) (short : length script < MAX_READS)
     (input_calm : Calm call.before.input.faults call.now.input.faults) (output_calm : Calm call.before.output.faults call.now.output.faults) where
-  by_stop : (stop : Stop) → Explains book call stop → (stop ≡ Finished) ⊎ ((stop ≡ DiskFault) ⊎ (stop ≡ NoMemory))
+  by_stop : (stop : Stop) → Explains book call stop → (stop ≡ Finished) ⊎ (((offer : Offer) × (stop ≡ DiskFault offer)) ⊎ (stop ≡ NoMemory))
   by_stop Finished explains = inl refl
-  by_stop DiskFault explains = inr (inl refl)
+  by_stop (DiskFault offer) explains = inr (inl (offer, refl))
   by_stop NoMemory explains = inr (inr refl)
   by_stop BadLine explains =
       absurd (not_both (all_good (lines_of script)) good (subst (λ (left : Option (List ℕ)). IfSome left (λ script. all_good (lines_of script) ≡ false)) told explains.cause))
   by_stop ReadFault explains = calm_counts_none call.before.input.faults call.now.input.faults 0 input_calm explains.cause
   by_stop WriteFault explains = calm_counts_none call.before.output.faults call.now.output.faults 0 output_calm explains.cause
-  by_stop DiskFaultUnsaid explains = calm_counts_none call.before.output.faults call.now.output.faults 0 output_calm explains.cause
+  by_stop (DiskFaultUnsaid offer) explains = calm_counts_none call.before.output.faults call.now.output.faults 0 output_calm explains.cause
   by_stop Spent explains =
       absurd (omega (arith, short, explains.least, few_taken call.now.input.bytes explains.taken script (subst (λ (left : Option (List ℕ)). Consumes left call.now.input.bytes explains.taken) told explains.read)))
 

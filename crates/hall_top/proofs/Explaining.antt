@@ -11,6 +11,7 @@ use Rattle.script_lines.specs.Feed.{FeedView, feed_after}
 use Rattle.script_lines.specs.Script.{all_good}
 use Rattle.script_lines.proofs.LineLists.{ended_lines-few}
 use Rattle.hall_top.specs.declared.reads.TheConstants.{MAX_READS, PIECE}
+use Rattle.hall_top.specs.declared.stop.Offer.{Offer}
 use Rattle.hall_top.specs.declared.stop.Stop.{Stop}
 use Rattle.hall_top.specs.declared.stop.Stop.TheVariants.{Finished, BadLine, ReadFault, WriteFault, DiskFault, DiskFaultUnsaid, NoMemory, Spent}
 use Rattle.hall_top.specs.Texts.{read_fault}
@@ -46,16 +47,16 @@ memory_calm book before now rows commands number Nothing stops = absurd stops
 memory_calm book before now rows commands number Bad stops = absurd stops
 
 -- so it is where the disk failed
-disk_calm : (book : BookState) (before now : Stream) (rows : List Entry) (commands : List Command) (number : ℕ) (line : Line) → StopsAtLine book before now rows commands number line DiskFault → IsCalm before now
-disk_calm book before now rows commands number (Asks command) stops = stops.0.calm
-disk_calm book before now rows commands number Nothing stops = absurd stops
-disk_calm book before now rows commands number Bad stops = absurd stops
+disk_calm : (offer : Offer) (book : BookState) (before now : Stream) (rows : List Entry) (commands : List Command) (number : ℕ) (line : Line) → StopsAtLine book before now rows commands number line (DiskFault offer) → IsCalm before now
+disk_calm offer book before now rows commands number (Asks command) stops = stops.0.calm
+disk_calm offer book before now rows commands number Nothing stops = absurd stops
+disk_calm offer book before now rows commands number Bad stops = absurd stops
 
 -- where the disk failed and that couldn't be said, the output failed too
-unsaid_failed : (book : BookState) (before now : Stream) (rows : List Entry) (commands : List Command) (number : ℕ) (line : Line) → StopsAtLine book before now rows commands number line DiskFaultUnsaid → HasFailed before now
-unsaid_failed book before now rows commands number (Asks command) stops = stops.0.failed
-unsaid_failed book before now rows commands number Nothing stops = absurd stops
-unsaid_failed book before now rows commands number Bad stops = absurd stops
+unsaid_failed : (offer : Offer) (book : BookState) (before now : Stream) (rows : List Entry) (commands : List Command) (number : ℕ) (line : Line) → StopsAtLine book before now rows commands number line (DiskFaultUnsaid offer) → HasFailed before now
+unsaid_failed offer book before now rows commands number (Asks command) stops = stops.0.failed
+unsaid_failed offer book before now rows commands number Nothing stops = absurd stops
+unsaid_failed offer book before now rows commands number Bad stops = absurd stops
 
 -- where a write stopped a run at its end, the output failed
 end_failed : (opened : ℕ) (before now : Stream) (rows : List Entry) → StopsAtSummary opened before now rows WriteFault → HasFailed before now
@@ -89,10 +90,10 @@ explain book call WriteFault stops calm =
     record { stops = inl stops; cause = cut_failed book call.before.output call.now.output call.rows _ _ stops.stops.line stops.stops.stops; calm = calm }
 explain book call NoMemory stops calm =
     record { stops = inl stops; calm = calm; output_calm = memory_calm book call.before.output call.now.output call.rows _ _ stops.stops.line stops.stops.stops }
-explain book call DiskFault stops calm =
-    record { stops = inl stops; calm = calm; output_calm = disk_calm book call.before.output call.now.output call.rows _ _ stops.stops.line stops.stops.stops }
-explain book call DiskFaultUnsaid stops calm =
-    record { stops = inl stops; cause = unsaid_failed book call.before.output call.now.output call.rows _ _ stops.stops.line stops.stops.stops; calm = calm }
+explain book call (DiskFault offer) stops calm =
+    record { stops = inl stops; calm = calm; output_calm = disk_calm offer book call.before.output call.now.output call.rows _ _ stops.stops.line stops.stops.stops }
+explain book call (DiskFaultUnsaid offer) stops calm =
+    record { stops = inl stops; cause = unsaid_failed offer book call.before.output call.now.output call.rows _ _ stops.stops.line stops.stops.stops; calm = calm }
 explain book call Finished stops calm = absurd (never_finished book call.before.output call.now.output call.rows _ _ stops.stops.line stops.stops.stops)
   where
     never_finished : (book : BookState) (before now : Stream) (rows : List Entry) (commands : List Command) (number : ℕ) (line : Line) → StopsAtLine book before now rows commands number line Finished → ⊥
@@ -142,18 +143,18 @@ explained_at_end book call taken WriteFault (inr ends) read end calm =
       cause = failed_behind call.before.output ends.answered call.now.output ends.wrote.calm (end_failed _ ends.answered call.now.output call.rows ends.stops);
       calm = calm;
     }
-explained_at_end book call taken DiskFault (inl ends) read end calm = explain book call DiskFault (stops_at_end book call taken DiskFault ends read end) calm
-explained_at_end book call taken DiskFault (inr ends) read end calm =
+explained_at_end book call taken (DiskFault offer) (inl ends) read end calm = explain book call (DiskFault offer) (stops_at_end book call taken (DiskFault offer) ends read end) calm
+explained_at_end book call taken (DiskFault offer) (inr ends) read end calm =
     record {
       stops = inr (record { script = taken; read = reads_whole call.before.input call.now.input taken read end calm; ends = ends });
       calm = calm;
-      output_calm = ends.stops.1.calm ∙ ends.wrote.calm;
+      output_calm = ends.stops.1.1.calm ∙ ends.wrote.calm;
     }
-explained_at_end book call taken DiskFaultUnsaid (inl ends) read end calm = explain book call DiskFaultUnsaid (stops_at_end book call taken DiskFaultUnsaid ends read end) calm
-explained_at_end book call taken DiskFaultUnsaid (inr ends) read end calm =
+explained_at_end book call taken (DiskFaultUnsaid offer) (inl ends) read end calm = explain book call (DiskFaultUnsaid offer) (stops_at_end book call taken (DiskFaultUnsaid offer) ends read end) calm
+explained_at_end book call taken (DiskFaultUnsaid offer) (inr ends) read end calm =
     record {
       stops = inr (record { script = taken; read = reads_whole call.before.input call.now.input taken read end calm; ends = ends });
-      cause = failed_behind call.before.output ends.answered call.now.output ends.wrote.calm ends.stops.1.failed;
+      cause = failed_behind call.before.output ends.answered call.now.output ends.wrote.calm ends.stops.1.1.failed;
       calm = calm;
     }
 explained_at_end book call taken NoMemory (inl ends) read end calm = explain book call NoMemory (stops_at_end book call taken NoMemory ends read end) calm
@@ -277,6 +278,6 @@ explained_unbegun book call WriteFault none same calm says =
 explained_unbegun book call Finished none same calm says = absurd says
 explained_unbegun book call BadLine none same calm says = absurd says
 explained_unbegun book call ReadFault none same calm says = absurd says
-explained_unbegun book call DiskFault none same calm says = absurd says
-explained_unbegun book call DiskFaultUnsaid none same calm says = absurd says
+explained_unbegun book call (DiskFault offer) none same calm says = absurd says
+explained_unbegun book call (DiskFaultUnsaid offer) none same calm says = absurd says
 explained_unbegun book call Spent none same calm says = absurd says

@@ -76,8 +76,8 @@ ends_early book left rows before old now script opened stop begun whole same sto
 pub done_but : (book left : BookState) (rows : List Entry) (before old now : Stream) (script : List ℕ) (opened : ℕ) (stop : Stop) → opened ≡ length book.entries → IsWholeSoFar book before old script left → rows ≡ left.entries
     → StopsAtSummary opened old now left.entries stop → EndsScript book before now rows script stop
 done_but book left rows before old now script opened WriteFault begun whole same stops = inr (ends_early book left rows before old now script opened WriteFault begun whole same stops)
-done_but book left rows before old now script opened DiskFault begun whole same stops = inr (ends_early book left rows before old now script opened DiskFault begun whole same stops)
-done_but book left rows before old now script opened DiskFaultUnsaid begun whole same stops = inr (ends_early book left rows before old now script opened DiskFaultUnsaid begun whole same stops)
+done_but book left rows before old now script opened (DiskFault offer) begun whole same stops = inr (ends_early book left rows before old now script opened (DiskFault offer) begun whole same stops)
+done_but book left rows before old now script opened (DiskFaultUnsaid offer) begun whole same stops = inr (ends_early book left rows before old now script opened (DiskFaultUnsaid offer) begun whole same stops)
 done_but book left rows before old now script opened NoMemory begun whole same stops = inr (ends_early book left rows before old now script opened NoMemory begun whole same stops)
 done_but book left rows before old now script opened Finished begun whole same stops = absurd stops.1
 done_but book left rows before old now script opened BadLine begun whole same stops = absurd stops.1
@@ -91,8 +91,8 @@ ends_stopped book before now rows stop script stops = ends_at stop stops.line st
     ends_at : (stop : Stop) (line : Line) → StopsAtLine book before now rows (commands_of stops.lines) (length stops.lines + 1) line stop → StopsInScript book before now rows stop script → EndsScript book before now rows script stop
     ends_at BadLine line here over = over
     ends_at WriteFault line here over = inl over
-    ends_at DiskFault line here over = inl over
-    ends_at DiskFaultUnsaid line here over = inl over
+    ends_at (DiskFault offer) line here over = inl over
+    ends_at (DiskFaultUnsaid offer) line here over = inl over
     ends_at NoMemory line here over = inl over
     ends_at Finished Nothing here over = absurd here
     ends_at Finished Bad here over = absurd here

@@ -14,9 +14,11 @@ use Rattle.hall_top.specs.Streams.{Stream}
 use Rattle.hall_top.specs.Run.{StopsAtLine}
 use Rattle.hall_top.specs.Reached.{SaysNoMemory}
 use Rattle.hall_top.specs.Kept.{CountsStep, SparesDisk, Goes}
+use Rattle.hall_top.specs.Books.{stored_book}
+use Rattle.hall_top.specs.Offers.{step_row}
 use Rattle.hall_top.specs.Snapshots.{LeavesSnapshot}
 use Rattle.hall_top.proofs.Acknowledged.{prefix_on}
-use Rattle.hall_top.proofs.Keeping.{begins_short}
+use Rattle.hall_top.proofs.Keeping.{begins_short, kept_more}
 
 -- a step that goes on, and then another
 pub goes_on : {D T U : Type 0} (g : disk.Ghosts D) (x : T) (result : Result U Stop) (a b c : Store D) → Goes g (Ok x) a b → Goes g result b c → Goes g result a c
@@ -29,7 +31,6 @@ goes_on g x result a b c first second =
       held = second.held ∙ first.held;
       begins = prefix_on (entries_of a) (entries_of b) (entries_of c) first.begins second.begins;
       kept = λ held start has. second.kept held start (first.kept held start has);
-      fault = λ start before. second.fault start (first.fault start before);
       cause = subst (λ (n : ℕ). CountsStep n (g.faults (disk_of c)) result) first.cause second.cause;
       calm = λ quiet hung. first.calm tt (second.calm quiet hung);
       still = λ quiet few small.
@@ -48,18 +49,33 @@ stays g result store sound legal counts snapshot =
       limit = refl;
       held = refl;
       begins = ([], sym (append-nil (entries_of store)));
-      kept = λ held start has. has;
-      fault = λ start before. before;
+      kept = λ held start has. kept_more g held start store (step_row (stored_book store) result) has;
       cause = counts;
       calm = λ quiet hung. hung;
       still = λ quiet few small. refl;
       snapshot = snapshot;
     }
 
--- the same step, by another answer that counts so
-pub goes_with : {D T U : Type 0} (g : disk.Ghosts D) (first : Result T Stop) (result : Result U Stop) (a b : Store D) → Goes g first a b → CountsStep (g.faults (disk_of a)) (g.faults (disk_of b)) result
-    → (IfErr result SparesDisk → IfErr first SparesDisk) → (result ≡ Err Finished → LeavesSnapshot g b) → Goes g result a b
-goes_with g first result a b goes counts unfailing snapshot =
+-- a step that goes on, by another answer that counts so
+pub goes_with : {D T U : Type 0} (g : disk.Ghosts D) (done : T) (result : Result U Stop) (a b : Store D) → Goes g (Ok done) a b → CountsStep (g.faults (disk_of a)) (g.faults (disk_of b)) result
+    → (result ≡ Err Finished → LeavesSnapshot g b) → Goes g result a b
+goes_with g done result a b goes counts snapshot =
+    record {
+      sound = goes.sound;
+      legal = goes.legal;
+      limit = goes.limit;
+      held = goes.held;
+      begins = goes.begins;
+      kept = λ held start has. kept_more g held start b (step_row (stored_book b) result) (goes.kept held start has);
+      cause = counts;
+      calm = λ quiet hung. goes.calm tt hung;
+      still = λ quiet few small. goes.still tt few small;
+      snapshot = snapshot;
+    }
+
+-- how a run stops, whatever its steps answer
+pub goes_as : {D T U : Type 0} (g : disk.Ghosts D) (stop : Stop) (a b : Store D) → Goes {T = T} g (Err stop) a b → Goes {T = U} g (Err stop) a b
+goes_as g stop a b goes =
     record {
       sound = goes.sound;
       legal = goes.legal;
@@ -67,18 +83,11 @@ goes_with g first result a b goes counts unfailing snapshot =
       held = goes.held;
       begins = goes.begins;
       kept = goes.kept;
-      fault = goes.fault;
-      cause = counts;
-      calm = λ quiet hung. goes.calm (unfailing quiet) hung;
-      still = λ quiet few small. goes.still (unfailing quiet) few small;
-      snapshot = snapshot;
+      cause = goes.cause;
+      calm = goes.calm;
+      still = goes.still;
+      snapshot = λ is. let same : stop ≡ Finished = cc (is) in goes.snapshot (ap (λ (s : Stop). Err s) same);
     }
-
--- how a run stops, whatever its steps answer
-pub goes_as : {D T U : Type 0} (g : disk.Ghosts D) (stop : Stop) (a b : Store D) → Goes {T = T} g (Err stop) a b → Goes {T = U} g (Err stop) a b
-goes_as {T = T} {U = U} g stop a b goes =
-    goes_with g (Err stop) (Err stop) a b goes goes.cause (λ quiet. quiet)
-    (λ is. let same : stop ≡ Finished = cc (is) in goes.snapshot (ap (λ (s : Stop). Err s) same))
 
 -- the disk isn't touched where a run stops at a bad line
 pub bad_counts : (T : Type 0) (book : BookState) (before now : Stream) (rows : List Entry) (commands : List Command) (number count : ℕ) (stop : Stop) → StopsAtLine book before now rows commands number Bad stop → CountsStep {T = T} count count (Err stop)
@@ -86,8 +95,8 @@ bad_counts T book before now rows commands number count BadLine stops = refl
 bad_counts T book before now rows commands number count Finished stops = absurd stops
 bad_counts T book before now rows commands number count ReadFault stops = absurd stops
 bad_counts T book before now rows commands number count WriteFault stops = absurd stops
-bad_counts T book before now rows commands number count DiskFault stops = absurd stops
-bad_counts T book before now rows commands number count DiskFaultUnsaid stops = absurd stops
+bad_counts T book before now rows commands number count (DiskFault offer) stops = absurd stops
+bad_counts T book before now rows commands number count (DiskFaultUnsaid offer) stops = absurd stops
 bad_counts T book before now rows commands number count NoMemory stops = absurd stops
 bad_counts T book before now rows commands number count Spent stops = absurd stops
 
@@ -98,8 +107,8 @@ unbegun_counts T before now count WriteFault says = refl
 unbegun_counts T before now count Finished says = absurd says
 unbegun_counts T before now count BadLine says = absurd says
 unbegun_counts T before now count ReadFault says = absurd says
-unbegun_counts T before now count DiskFault says = absurd says
-unbegun_counts T before now count DiskFaultUnsaid says = absurd says
+unbegun_counts T before now count (DiskFault offer) says = absurd says
+unbegun_counts T before now count (DiskFaultUnsaid offer) says = absurd says
 unbegun_counts T before now count Spent says = absurd says
 
 -- the store is as it was, said of a store that is the same
@@ -114,8 +123,8 @@ bad_unfinished book before now rows commands number Finished stops is = stops
 bad_unfinished book before now rows commands number BadLine stops is = absurd (cc)
 bad_unfinished book before now rows commands number ReadFault stops is = stops
 bad_unfinished book before now rows commands number WriteFault stops is = stops
-bad_unfinished book before now rows commands number DiskFault stops is = stops
-bad_unfinished book before now rows commands number DiskFaultUnsaid stops is = stops
+bad_unfinished book before now rows commands number (DiskFault offer) stops is = stops
+bad_unfinished book before now rows commands number (DiskFaultUnsaid offer) stops is = stops
 bad_unfinished book before now rows commands number NoMemory stops is = stops
 bad_unfinished book before now rows commands number Spent stops is = stops
 
@@ -124,7 +133,7 @@ unbegun_unfinished before now Finished says is = says
 unbegun_unfinished before now BadLine says is = says
 unbegun_unfinished before now ReadFault says is = says
 unbegun_unfinished before now WriteFault says is = absurd (cc)
-unbegun_unfinished before now DiskFault says is = says
-unbegun_unfinished before now DiskFaultUnsaid says is = says
+unbegun_unfinished before now (DiskFault offer) says is = says
+unbegun_unfinished before now (DiskFaultUnsaid offer) says is = says
 unbegun_unfinished before now NoMemory says is = absurd (cc)
 unbegun_unfinished before now Spent says is = says

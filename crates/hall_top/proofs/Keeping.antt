@@ -2,7 +2,6 @@
 use Rattle.std.proofs.Common.{◌≡◌, ◌≢◌, ◌⊎◌, ◌≤◌, Bool, true, false, inl, inr, ⊎_elim, ℕ, List, [], ◌∷◌, ◌++◌, length, take, Option, Some, None, IsSome, Result, Ok, Err, OnOk, IfErr, refl, sym, ap, ◌∙◌, subst, arith, append_assoc, append-nil, length-append}
 use Rattle.std.proofs.Math.Seq.{take-append_seam}
 use Rattle.std.proofs.lemmas.List.{take-append-le}
-use Rattle.device_facts.specs.Count.{Counted, Rose}
 use Rattle.device_facts.specs.Prefix.{IsPrefixOf}
 use Rattle.disk_core.specs.Devices.{LeavesOnly}
 use Rattle.disk_core.specs.declared.disk.Disk as disk
@@ -16,16 +15,19 @@ use Rattle.book_journal.specs.Mounting.{KeepsFromSync}
 use Rattle.book_store.specs.declared.store.Store.{Store}
 use Rattle.book_store.specs.declared.types.AdoptError.{AdoptError}
 use Rattle.book_store.specs.declared.types.AdoptError.TheVariants as adopt
-use Rattle.book_store.specs.Adopting.{Adopts, list_adopted, CountsAdoptFault}
+use Rattle.book_store.specs.Adopting.{Adopts, list_adopted}
 use Rattle.book_store.specs.declared.types.RestError.{RestError}
 use Rattle.book_store.specs.declared.types.RestError.TheVariants as rest
 use Rattle.book_store.specs.Images.{HoldsBook}
 use Rattle.book_store.specs.Stores.{disk_of, book_of, entries_of, limit_of, held_of, Hangs, HasBook, HangsWith, HoldsOrHangs, ImagesHoldBook, KeepsBook, IsSound}
-use Rattle.book_store.specs.Offers.{Offers, OffersEntry, LeavesDisk, CountsDiskFault, list_behind}
-use Rattle.book_store.specs.Resting.{HasNothingToKeep, HoldsOwnSnapshot, CountsRestFault}
+use Rattle.book_store.specs.Offers.{Offers, OffersEntry, LeavesDisk, list_behind}
+use Rattle.book_store.specs.Resting.{HasNothingToKeep, HoldsOwnSnapshot}
+use Rattle.hall_top.specs.declared.stop.Offer.{Offer}
 use Rattle.hall_top.specs.declared.stop.Stop.{Stop}
 use Rattle.hall_top.specs.declared.stop.Stop.TheVariants.{Finished, BadLine, ReadFault, WriteFault, DiskFault, DiskFaultUnsaid, NoMemory, Spent}
-use Rattle.hall_top.specs.Kept.{HoldsOrOffered, CrashLeaves, HangsAtFault, HasKept, CountsStop, CountsStep, SparesDisk, Goes}
+use Rattle.hall_top.specs.Kept.{HoldsFirst, CrashLeaves, HasKept, CountsStop, CountsStep, SparesDisk, Goes}
+use Rattle.hall_top.specs.Books.{stored_book}
+use Rattle.hall_top.specs.Offers.{offer_row, stop_row, step_row}
 use Rattle.hall_top.specs.Snapshots.{HasAddedRows, LeavesSnapshot}
 use Rattle.hall_top.specs.Streams.{Stream}
 use Rattle.hall_top.specs.Reached.{SaysDiskFault, SaysNoMemory}
@@ -53,27 +55,51 @@ adopted_begins (Err why) entries next entry is = same_begins entries next is
 
 -- ---- what a crash leaves
 
+none_named : (entry : Entry) → None ≡ Some entry → ⊥
+none_named entry is = absurd (cc)
+
 -- of fewer rows a crash leaves what it may leave of more
-leaves_of_more : (held rows next : List Entry) (c : List ℕ) → IsPrefixOf rows next → CrashLeaves held rows c → CrashLeaves held next c
-leaves_of_more held rows next c begins left =
+first_of_more : (held rows next : List Entry) (c : List ℕ) → IsPrefixOf rows next → HoldsFirst held rows c → HoldsFirst held next c
+first_of_more held rows next c begins left =
     record {
       count = left.count;
       least = left.least;
       most = omega (arith, left.most, begins_short rows next begins);
-      holds = subst (λ (es : List Entry). HoldsOrOffered es c)
+      holds = subst (λ (es : List Entry). HoldsBook es c)
           (sym (ap (take left.count) begins.1 ∙ take-append-le left.count rows begins.0 left.most)) left.holds;
     }
 
 -- the rows that a list begins with are among what it may leave
-pub leaves_front : (held rows next : List Entry) (c : List ℕ) → IsPrefixOf held rows → IsPrefixOf rows next → HoldsOrOffered rows c → CrashLeaves held next c
-leaves_front held rows next c opened begins holds =
+first_front : (held rows next : List Entry) (c : List ℕ) → IsPrefixOf held rows → IsPrefixOf rows next → HoldsBook rows c → HoldsFirst held next c
+first_front held rows next c opened begins holds =
     record {
       count = length rows;
       least = begins_short held rows opened;
       most = begins_short rows next begins;
-      holds = subst (λ (es : List Entry). HoldsOrOffered es c)
+      holds = subst (λ (es : List Entry). HoldsBook es c)
           (sym (ap (take (length rows)) begins.1 ∙ take-append_seam rows begins.0)) holds;
     }
+
+-- where nothing was offered a crash leaves what it may leave of more rows, whatever is offered then
+leaves_more : (held rows next : List Entry) (named : Option Entry) (c : List ℕ) → IsPrefixOf rows next → CrashLeaves held rows None c → CrashLeaves held next named c
+leaves_more held rows next named c begins (inl first) = inl (first_of_more held rows next c begins first)
+leaves_more held rows next named c begins (inr never) = absurd never
+
+-- ---- which row was offered
+
+-- an ask offers its row, and only where the disk failed that isn't settled
+abbrev pub OffersAt : Result Answered AskError → Option Entry → Option Entry → Type 0
+OffersAt (Ok answered) offered named = named ≡ None
+OffersAt (Err (error.Refused refused)) offered named = (offered ≡ None) × (named ≡ None)
+OffersAt (Err error.NoMemory) offered named = named ≡ None
+OffersAt (Err error.DiskFault) offered named = named ≡ offered
+
+-- so does an entry that is adopted
+abbrev pub AdoptsAt : Result ℕ AdoptError → Entry → Option Entry → Type 0
+AdoptsAt (Ok number) entry named = named ≡ None
+AdoptsAt (Err adopt.Unlawful) entry named = named ≡ None
+AdoptsAt (Err adopt.NoMemory) entry named = named ≡ None
+AdoptsAt (Err adopt.DiskFault) entry named = named ≡ Some entry
 
 -- ---- what may be told where nothing failed
 
@@ -129,97 +155,113 @@ module _ {D : Type 0} (g : disk.Ghosts D) where
             (leaves.before t c (omega (arith, le, kept.after, kept.before)) was);
       }
 
-  -- what hangs with a book, or stands behind it, was offered
-  pub hung_offered : (held : List Entry) (start : D) (store : Store D) (c : List ℕ) → HasKept g held start store → HoldsOrHangs g store c → HoldsOrOffered (entries_of store) c
-  hung_offered held start store c kept (inl holds) = inl holds
-  hung_offered held start store c kept (inr hangs) = inr (hangs.0, kept.hung hangs.0 hangs.1, hangs.2)
+  -- nothing hangs with a book that was offered nothing
+  nothing_hangs : (held : List Entry) (start : D) (store : Store D) → HasKept g held start None store → ¬ Hangs store
+  nothing_hangs held start store kept hangs = let hung = kept.has.hung hangs in none_named hung.0 (kept.hung hung.0 hung.1)
 
-  -- ---- what hangs
+  holds_all : (held : List Entry) (start : D) (store : Store D) (c : List ℕ) → HasKept g held start None store → HoldsOrHangs g store c → HoldsBook (entries_of store) c
+  holds_all held start store c kept (inl holds) = holds
+  holds_all held start store c kept (inr hangs) = absurd (none_named hangs.0 (kept.hung hangs.0 hangs.1))
 
-  rose_on : (start old new : ℕ) → Counted old new 1 → (old ≡ start) ⊎ Rose start old → Rose start new
-  rose_on start old new more (inl same) = omega arith
-  rose_on start old new more (inr rose) = omega arith
-
-  -- a call at which the disk failed
-  fault_now : (start : D) (old new : Store D) → Counted (g.faults (disk_of old)) (g.faults (disk_of new)) 1 → HangsAtFault g start old → HangsAtFault g start new
-  fault_now start old new more fault =
-      inr (rose_on (g.faults start) (g.faults (disk_of old)) (g.faults (disk_of new)) more (⊎_elim (λ calm. inl calm.1) (λ rose. inr rose) fault))
-
-  -- a call at which it didn't
-  fault_before : (start : D) (old new : Store D) → (Hangs new → Hangs old) → g.faults (disk_of new) ≡ g.faults (disk_of old) → HangsAtFault g start old → HangsAtFault g start new
-  fault_before start old new hangs same (inl calm) = inl ((λ hung. calm.0 (hangs hung)), same ∙ calm.1)
-  fault_before start old new hangs same (inr rose) = inr (subst (Rose (g.faults start)) (sym same) rose)
-
-  fault_asked : (start : D) (old new : Store D) (result : Result Answered AskError) → (Hangs new → (result ≡ Err error.DiskFault) ⊎ Hangs old) → CountsDiskFault (g.faults (disk_of old)) (g.faults (disk_of new)) result
-      → HangsAtFault g start old → HangsAtFault g start new
-  fault_asked start old new (Err error.DiskFault) hangs cause fault = fault_now start old new cause fault
-  fault_asked start old new (Ok answered) hangs cause fault = fault_before start old new (λ hung. ⊎_elim (λ is. absurd (cc)) (λ was. was) (hangs hung)) cause fault
-  fault_asked start old new (Err error.NoMemory) hangs cause fault = fault_before start old new (λ hung. ⊎_elim (λ is. absurd (cc)) (λ was. was) (hangs hung)) cause fault
-  fault_asked start old new (Err (error.Refused refused)) hangs cause fault = fault_before start old new (λ hung. ⊎_elim (λ is. absurd (cc)) (λ was. was) (hangs hung)) cause fault
-
-  fault_rested : (start : D) (old new : Store D) (result : Result Bool RestError) → (Hangs new → Hangs old) → CountsRestFault (g.faults (disk_of old)) (g.faults (disk_of new)) result
-      → HangsAtFault g start old → HangsAtFault g start new
-  fault_rested start old new (Err rest.DiskFault) hangs cause fault = fault_now start old new cause fault
-  fault_rested start old new (Err rest.NoMemory) hangs cause fault = fault_before start old new hangs cause fault
-  fault_rested start old new (Ok kept) hangs cause fault = fault_before start old new hangs cause fault
+  -- what is kept where nothing was offered is kept whatever was
+  pub kept_more : (held : List Entry) (start : D) (store : Store D) (named : Option Entry) → HasKept g held start None store → HasKept g held start named store
+  kept_more held start store named kept =
+      record {
+        has = kept.has;
+        begins = kept.begins;
+        hung = λ entry hangs. absurd (none_named entry (kept.hung entry hangs));
+        moments = keeps_in start (disk_of store) (CrashLeaves held (entries_of store) None) (CrashLeaves held (entries_of store) named)
+            (λ c is. leaves_more held (entries_of store) (entries_of store) named c (same_begins (entries_of store) (entries_of store) refl) is) kept.moments;
+        images = kept.images;
+      }
 
   -- ---- calls
 
-  -- a call over which a crash leaves the rows, or one more that was offered
-  kept_on : (held : List Entry) (start : D) (old new : Store D) (Q : List ℕ → Type 0) → HasKept g held start old → HasBook g new → IsPrefixOf (entries_of old) (entries_of new)
-      → ((entry : Entry) → HangsWith g new entry → IsLawful (entries_of new) entry) → ((c : List ℕ) → Q c → HoldsOrOffered (entries_of old) c)
-      → LeavesOnly g (disk_of old) (disk_of new) Q → ImagesHoldBook g new → HasKept g held start new
-  kept_on held start old new Q kept has begins hung offered leaves images =
+  -- a call over which a crash leaves what it may
+  kept_on : (held : List Entry) (start : D) (old new : Store D) (named : Option Entry) (Q : List ℕ → Type 0) → HasKept g held start None old → HasBook g new → IsPrefixOf (entries_of old) (entries_of new)
+      → ((entry : Entry) → HangsWith g new entry → named ≡ Some entry) → ((c : List ℕ) → Q c → CrashLeaves held (entries_of new) named c)
+      → LeavesOnly g (disk_of old) (disk_of new) Q → ImagesHoldBook g new → HasKept g held start named new
+  kept_on held start old new named Q kept has begins hung offered leaves images =
       record {
         has = has;
         begins = prefix_on held (entries_of old) (entries_of new) kept.begins begins;
         hung = hung;
-        moments = synced_on start (disk_of old) (disk_of new) (CrashLeaves held (entries_of old)) Q (CrashLeaves held (entries_of new))
-            (λ c is. leaves_of_more held (entries_of old) (entries_of new) c begins is)
-            (λ c is. leaves_front held (entries_of old) (entries_of new) c kept.begins begins (offered c is))
-            kept.moments leaves;
+        moments = synced_on start (disk_of old) (disk_of new) (CrashLeaves held (entries_of old) None) Q (CrashLeaves held (entries_of new) named)
+            (λ c is. leaves_more held (entries_of old) (entries_of new) named c begins is) offered kept.moments leaves;
         images = images has;
       }
 
   -- a call that leaves disk and list as they were
-  kept_still : (held : List Entry) (start : D) (old new : Store D) → entries_of new ≡ entries_of old → LeavesDisk g old new → ImagesHoldBook g new → HasKept g held start old → HasKept g held start new
+  kept_still : (held : List Entry) (start : D) (old new : Store D) → entries_of new ≡ entries_of old → LeavesDisk g old new → ImagesHoldBook g new → HasKept g held start None old → HasKept g held start None new
   kept_still held start old new same leaves images kept =
       record {
         has = leaves.has kept.has;
         begins = prefix_on held (entries_of old) (entries_of new) kept.begins (same_begins (entries_of old) (entries_of new) same);
-        hung = λ entry hangs. subst (λ (es : List Entry). IsLawful es entry) (sym same) (kept.hung entry (leaves.hung entry hangs));
-        moments = subst (λ (d : D). KeepsFromSync g start d (CrashLeaves held (entries_of new))) (sym leaves.same)
-            (subst (λ (es : List Entry). KeepsFromSync g start (disk_of old) (CrashLeaves held es)) (sym same) kept.moments);
+        hung = λ entry hangs. kept.hung entry (leaves.hung entry hangs);
+        moments = subst (λ (d : D). KeepsFromSync g start d (CrashLeaves held (entries_of new) None)) (sym leaves.same)
+            (subst (λ (es : List Entry). KeepsFromSync g start (disk_of old) (CrashLeaves held es None)) (sym same) kept.moments);
         images = images (leaves.has kept.has);
       }
 
-  -- a call that offered an entry: it hangs only where it wasn't added
-  kept_offer : (held : List Entry) (start : D) (entry : Entry) (old new : Store D) → HasKept g held start old → OffersEntry g entry old new → IsPrefixOf (entries_of old) (entries_of new)
-      → (Hangs new → entries_of new ≡ entries_of old) → ImagesHoldBook g new → HasKept g held start new
-  kept_offer held start entry old new kept offer begins unless images =
-      kept_on held start old new (λ c. HoldsOrHangs g old c ⊎ HoldsBook (entries_of old ++ entry ∷ []) c) kept offer.has begins
-      (λ hung hangs. subst (λ (es : List Entry). IsLawful es hung) (sym (unless hangs.row.hangs))
-      (⊎_elim (λ is. subst (IsLawful (entries_of old)) (sym is) offer.lawful) (λ is. kept.hung hung is) (offer.hung hung hangs)))
-      (λ c is. ⊎_elim (λ was. hung_offered held start old c kept was) (λ stands. inr (entry, offer.lawful, stands)) is)
+  -- a call that offered an entry, which was added
+  kept_added : (held : List Entry) (start : D) (entry : Entry) (old new : Store D) → HasKept g held start None old → OffersEntry g entry old new → entries_of new ≡ entries_of old ++ entry ∷ [] → ¬ Hangs new → ImagesHoldBook g new
+      → HasKept g held start None new
+  kept_added held start entry old new kept offer added calm images =
+      let begins : IsPrefixOf (entries_of old) (entries_of new) = (entry ∷ [], added) in
+      let opened = prefix_on held (entries_of old) (entries_of new) kept.begins begins in
+      kept_on held start old new None (λ c. HoldsOrHangs g old c ⊎ HoldsBook (entries_of old ++ entry ∷ []) c) kept offer.has begins
+      (λ hung hangs. absurd (calm hangs.row.hangs))
+      (λ c is. inl (⊎_elim (λ was. first_front held (entries_of old) (entries_of new) c kept.begins begins (holds_all held start old c kept was))
+      (λ stands. first_front held (entries_of new) (entries_of new) c opened (same_begins (entries_of new) (entries_of new) refl) (subst (λ (es : List Entry). HoldsBook es c) (sym added) stands)) is))
       offer.moments images
 
+  -- the same, where the disk failed
+  kept_failed : (held : List Entry) (start : D) (entry : Entry) (old new : Store D) → HasKept g held start None old → OffersEntry g entry old new → entries_of new ≡ entries_of old → ImagesHoldBook g new
+      → HasKept g held start (Some entry) new
+  kept_failed held start entry old new kept offer same images =
+      let begins = same_begins (entries_of old) (entries_of new) same in
+      kept_on held start old new (Some entry) (λ c. HoldsOrHangs g old c ⊎ HoldsBook (entries_of old ++ entry ∷ []) c) kept offer.has begins
+      (λ hung hangs. ⊎_elim (λ is. ap (λ (e : Entry). Some e) (sym is)) (λ was. absurd (none_named hung (kept.hung hung was))) (offer.hung hung hangs))
+      (λ c is. ⊎_elim (λ was. inl (first_front held (entries_of old) (entries_of new) c kept.begins begins (holds_all held start old c kept was)))
+      (λ stands. inr (subst (λ (es : List Entry). HoldsBook (es ++ entry ∷ []) c) (sym same) stands)) is)
+      offer.moments images
+
+  -- the same, where there was no memory
+  kept_lacking : (held : List Entry) (start : D) (old new : Store D) → HasKept g held start None old → HasBook g new → entries_of new ≡ entries_of old → disk_of new ≡ disk_of old → (Hangs new → Hangs old) → ImagesHoldBook g new
+      → HasKept g held start None new
+  kept_lacking held start old new kept has same unmoved hangs images =
+      record {
+        has = has;
+        begins = prefix_on held (entries_of old) (entries_of new) kept.begins (same_begins (entries_of old) (entries_of new) same);
+        hung = λ entry with. absurd (nothing_hangs held start old kept (hangs with.row.hangs));
+        moments = subst (λ (d : D). KeepsFromSync g start d (CrashLeaves held (entries_of new) None)) (sym unmoved)
+            (subst (λ (es : List Entry). KeepsFromSync g start (disk_of old) (CrashLeaves held es None)) (sym same) kept.moments);
+        images = images has;
+      }
+
   -- an ask, by what it offers
-  kept_asked : (held : List Entry) (start : D) (old new : Store D) (result : Result Answered AskError) (offered : Option Entry) → entries_of new ≡ list_behind result (entries_of old) offered → Offers g offered old new
-      → (IsSome offered → OnOk result (¬ Hangs new)) → ImagesHoldBook g new → HasKept g held start old → HasKept g held start new
-  kept_asked held start old new (Ok answered) None is offers settled images kept = kept_still held start old new is offers images kept
-  kept_asked held start old new (Err why) None is offers settled images kept = kept_still held start old new is offers images kept
-  kept_asked held start old new (Ok answered) (Some entry) is offers settled images kept =
-      kept_offer held start entry old new kept (offers kept.has) (entry ∷ [], is) (λ hangs. absurd (settled refl hangs)) images
-  kept_asked held start old new (Err why) (Some entry) is offers settled images kept =
-      kept_offer held start entry old new kept (offers kept.has) (same_begins (entries_of old) (entries_of new) is) (λ hangs. is) images
+  kept_asked : (held : List Entry) (start : D) (old new : Store D) (result : Result Answered AskError) (offered named : Option Entry) → entries_of new ≡ list_behind result (entries_of old) offered → Offers g offered old new
+      → (IsSome offered → OnOk result (¬ Hangs new)) → ImagesHoldBook g new → (Hangs new → (result ≡ Err error.DiskFault) ⊎ Hangs old) → (result ≡ Err error.NoMemory → disk_of new ≡ disk_of old)
+      → OffersAt result offered named → HasKept g held start None old → HasKept g held start named new
+  kept_asked held start old new (Ok answered) None named is offers settled images hangs lacks at kept = kept_more held start new named (kept_still held start old new is offers images kept)
+  kept_asked held start old new (Err error.DiskFault) None named is offers settled images hangs lacks at kept = kept_more held start new named (kept_still held start old new is offers images kept)
+  kept_asked held start old new (Err error.NoMemory) None named is offers settled images hangs lacks at kept = kept_more held start new named (kept_still held start old new is offers images kept)
+  kept_asked held start old new (Err (error.Refused refused)) None named is offers settled images hangs lacks at kept = kept_more held start new named (kept_still held start old new is offers images kept)
+  kept_asked held start old new (Ok answered) (Some entry) named is offers settled images hangs lacks at kept =
+      kept_more held start new named (kept_added held start entry old new kept (offers kept.has) is (settled refl) images)
+  kept_asked held start old new (Err error.DiskFault) (Some entry) named is offers settled images hangs lacks at kept =
+      subst (λ (o : Option Entry). HasKept g held start o new) (sym at) (kept_failed held start entry old new kept (offers kept.has) is images)
+  kept_asked held start old new (Err error.NoMemory) (Some entry) named is offers settled images hangs lacks at kept =
+      kept_more held start new named (kept_lacking held start old new kept (offers kept.has).has is (lacks refl) (λ hung. ⊎_elim (λ wrong. absurd (cc)) (λ was. was) (hangs hung)) images)
+  kept_asked held start old new (Err (error.Refused refused)) (Some entry) named is offers settled images hangs lacks at kept = absurd (none_named entry (sym at.0))
 
   -- a snapshot
-  kept_rested : (held : List Entry) (start : D) (old new : Store D) → entries_of new ≡ entries_of old → (HasBook g old → KeepsBook g old new) → ImagesHoldBook g new → HasKept g held start old → HasKept g held start new
+  kept_rested : (held : List Entry) (start : D) (old new : Store D) → entries_of new ≡ entries_of old → (HasBook g old → KeepsBook g old new) → ImagesHoldBook g new → HasKept g held start None old → HasKept g held start None new
   kept_rested held start old new same keeps images kept =
       let rested = keeps kept.has in
-      kept_on held start old new (HoldsOrHangs g old) kept rested.has (same_begins (entries_of old) (entries_of new) same)
-      (λ hung hangs. subst (λ (es : List Entry). IsLawful es hung) (sym same) (kept.hung hung (rested.hung hung hangs)))
-      (λ c is. hung_offered held start old c kept is)
+      let begins = same_begins (entries_of old) (entries_of new) same in
+      kept_on held start old new None (HoldsOrHangs g old) kept rested.has begins (λ entry hangs. kept.hung entry (rested.hung entry hangs))
+      (λ c is. inl (first_front held (entries_of old) (entries_of new) c kept.begins begins (holds_all held start old c kept is)))
       rested.moments images
 
   -- ---- steps of a run
@@ -246,17 +288,16 @@ module _ {D : Type 0} (g : disk.Ghosts D) where
   -- an ask
   pub goes_asked : {T : Type 0} (old new : Store D) (result : Result Answered AskError) (given : Result T Stop) (offered : Option Entry) → entries_of new ≡ list_behind result (entries_of old) offered
       → Offers g offered old new → (IsSome offered → OnOk result (¬ Hangs new)) → ImagesHoldBook g new → (Hangs new → (result ≡ Err error.DiskFault) ⊎ Hangs old)
-      → CountsDiskFault (g.faults (disk_of old)) (g.faults (disk_of new)) result → IsSound g new → IsLegal (entries_of new) → limit_of new ≡ limit_of old → held_of new ≡ held_of old
-      → CountsStep (g.faults (disk_of old)) (g.faults (disk_of new)) given → (result ≡ Err error.NoMemory → disk_of new ≡ disk_of old) → (IfErr given SparesDisk → IsSettled result offered) → given ≢ Err Finished → Goes g given old new
-  goes_asked old new result given offered is offers settled images hangs counts sound legal limit opened cause lacks unfailing unfinished =
+      → IsSound g new → IsLegal (entries_of new) → limit_of new ≡ limit_of old → held_of new ≡ held_of old
+      → CountsStep (g.faults (disk_of old)) (g.faults (disk_of new)) given → (result ≡ Err error.NoMemory → disk_of new ≡ disk_of old) → (IfErr given SparesDisk → IsSettled result offered) → OffersAt result offered (step_row (stored_book new) given) → given ≢ Err Finished → Goes g given old new
+  goes_asked old new result given offered is offers settled images hangs sound legal limit opened cause lacks unfailing at unfinished =
       record {
         sound = sound;
         legal = legal;
         limit = limit;
         held = opened;
         begins = asked_begins result (entries_of old) (entries_of new) offered is;
-        kept = λ held start kept. kept_asked held start old new result offered is offers settled images kept;
-        fault = λ start before. fault_asked start old new result hangs counts before;
+        kept = λ held start kept. kept_asked held start old new result offered (step_row (stored_book new) given) is offers settled images hangs lacks at kept;
         cause = cause;
         calm = λ quiet hung. calm_asked old new result offered (unfailing quiet) (hangs hung);
         still = λ quiet few small. still_asked old new result offered (unfailing quiet) is offers lacks opened few small;
@@ -264,11 +305,11 @@ module _ {D : Type 0} (g : disk.Ghosts D) where
       }
 
   -- a snapshot
-  pub goes_rested : {T : Type 0} (old new : Store D) (result : Result Bool RestError) (given : Result T Stop) → book_of new ≡ book_of old → held_of new ≡ held_of old → HasAddedRows old
+  pub goes_rested : {T : Type 0} (old new : Store D) (given : Result T Stop) → book_of new ≡ book_of old → held_of new ≡ held_of old → HasAddedRows old
       → (HasBook g old → KeepsBook g old new) → ImagesHoldBook g new → (Hangs new → Hangs old)
-      → CountsRestFault (g.faults (disk_of old)) (g.faults (disk_of new)) result → IsSound g new → IsLegal (entries_of old)
+      → IsSound g new → IsLegal (entries_of old)
       → CountsStep (g.faults (disk_of old)) (g.faults (disk_of new)) given → given ≢ Err Finished → Goes g given old new
-  goes_rested old new result given same opened grown keeps images hangs counts sound legal cause unfinished =
+  goes_rested old new given same opened grown keeps images hangs sound legal cause unfinished =
       let entries : entries_of new ≡ entries_of old = ap (λ (b : BookView). b.entries) same in
       record {
         sound = sound;
@@ -276,8 +317,7 @@ module _ {D : Type 0} (g : disk.Ghosts D) where
         limit = ap (λ (b : BookView). b.limit) same;
         held = opened;
         begins = same_begins (entries_of old) (entries_of new) entries;
-        kept = λ held start kept. kept_rested held start old new entries keeps images kept;
-        fault = λ start before. fault_rested start old new result hangs counts before;
+        kept = λ held start kept. kept_more held start new (step_row (stored_book new) given) (kept_rested held start old new entries keeps images kept);
         cause = cause;
         calm = λ quiet hung. hangs hung;
         still = λ quiet few small. absurd (small (omega (arith, grown, opened, ap length entries)));
@@ -285,23 +325,17 @@ module _ {D : Type 0} (g : disk.Ghosts D) where
       }
 
   -- an entry that is adopted
-  fault_adopted : (start : D) (old new : Store D) (result : Result ℕ AdoptError) → (Hangs new → (result ≡ Err adopt.DiskFault) ⊎ Hangs old) → CountsAdoptFault (g.faults (disk_of old)) (g.faults (disk_of new)) result
-      → HangsAtFault g start old → HangsAtFault g start new
-  fault_adopted start old new (Err adopt.DiskFault) hangs cause fault = fault_now start old new cause fault
-  fault_adopted start old new (Ok number) hangs cause fault = fault_before start old new (λ hung. ⊎_elim (λ is. absurd (cc)) (λ was. was) (hangs hung)) cause fault
-  fault_adopted start old new (Err adopt.NoMemory) hangs cause fault = fault_before start old new (λ hung. ⊎_elim (λ is. absurd (cc)) (λ was. was) (hangs hung)) cause fault
-  fault_adopted start old new (Err adopt.Unlawful) hangs cause fault = fault_before start old new (λ hung. ⊎_elim (λ is. absurd (cc)) (λ was. was) (hangs hung)) cause fault
-
-  kept_adopted : (held : List Entry) (start : D) (entry : Entry) (old new : Store D) (result : Result ℕ AdoptError) → entries_of new ≡ list_adopted result (entries_of old) entry → Adopts (book_of old) entry result
+  kept_adopted : (held : List Entry) (start : D) (entry : Entry) (old new : Store D) (result : Result ℕ AdoptError) (named : Option Entry) → entries_of new ≡ list_adopted result (entries_of old) entry → Adopts (book_of old) entry result
       → (IsLawful (entries_of old) entry → HasBook g old → OffersEntry g entry old new) → (result ≡ Err adopt.Unlawful → LeavesDisk g old new) → OnOk result (¬ Hangs new) → ImagesHoldBook g new
-      → HasKept g held start old → HasKept g held start new
-  kept_adopted held start entry old new (Ok number) is adopts offers leaves settled images kept =
-      kept_offer held start entry old new kept (offers adopts.0 kept.has) (entry ∷ [], is) (λ hangs. absurd (settled hangs)) images
-  kept_adopted held start entry old new (Err adopt.Unlawful) is adopts offers leaves settled images kept = kept_still held start old new is (leaves refl) images kept
-  kept_adopted held start entry old new (Err adopt.DiskFault) is adopts offers leaves settled images kept =
-      kept_offer held start entry old new kept (offers adopts kept.has) (same_begins (entries_of old) (entries_of new) is) (λ hangs. is) images
-  kept_adopted held start entry old new (Err adopt.NoMemory) is adopts offers leaves settled images kept =
-      kept_offer held start entry old new kept (offers adopts.0 kept.has) (same_begins (entries_of old) (entries_of new) is) (λ hangs. is) images
+      → (Hangs new → (result ≡ Err adopt.DiskFault) ⊎ Hangs old) → (result ≡ Err adopt.NoMemory → disk_of new ≡ disk_of old) → AdoptsAt result entry named → HasKept g held start None old → HasKept g held start named new
+  kept_adopted held start entry old new (Ok number) named is adopts offers leaves settled images hangs lacks at kept =
+      kept_more held start new named (kept_added held start entry old new kept (offers adopts.0 kept.has) is settled images)
+  kept_adopted held start entry old new (Err adopt.Unlawful) named is adopts offers leaves settled images hangs lacks at kept =
+      kept_more held start new named (kept_still held start old new is (leaves refl) images kept)
+  kept_adopted held start entry old new (Err adopt.DiskFault) named is adopts offers leaves settled images hangs lacks at kept =
+      subst (λ (o : Option Entry). HasKept g held start o new) (sym at) (kept_failed held start entry old new kept (offers adopts kept.has) is images)
+  kept_adopted held start entry old new (Err adopt.NoMemory) named is adopts offers leaves settled images hangs lacks at kept =
+      kept_more held start new named (kept_lacking held start old new kept (offers adopts.0 kept.has).has is (lacks refl) (λ hung. ⊎_elim (λ wrong. absurd (cc)) (λ was. was) (hangs hung)) images)
 
   still_adopted : (old new : Store D) (entry : Entry) (result : Result ℕ AdoptError) → IsAdopted result → entries_of new ≡ list_adopted result (entries_of old) entry → (result ≡ Err adopt.Unlawful → LeavesDisk g old new)
       → (result ≡ Err adopt.NoMemory → disk_of new ≡ disk_of old) → held_of new ≡ held_of old → held_of old ≤ length (entries_of old) → ¬ HasAddedRows new → disk_of new ≡ disk_of old
@@ -318,18 +352,16 @@ module _ {D : Type 0} (g : disk.Ghosts D) where
 
   pub goes_adopted : {T : Type 0} (old new : Store D) (entry : Entry) (result : Result ℕ AdoptError) (given : Result T Stop) → entries_of new ≡ list_adopted result (entries_of old) entry → Adopts (book_of old) entry result
       → (IsLawful (entries_of old) entry → HasBook g old → OffersEntry g entry old new) → (result ≡ Err adopt.Unlawful → LeavesDisk g old new) → OnOk result (¬ Hangs new) → ImagesHoldBook g new
-      → (Hangs new → (result ≡ Err adopt.DiskFault) ⊎ Hangs old) → CountsAdoptFault (g.faults (disk_of old)) (g.faults (disk_of new)) result
-      → IsSound g new → IsLegal (entries_of new) → limit_of new ≡ limit_of old → held_of new ≡ held_of old → CountsStep (g.faults (disk_of old)) (g.faults (disk_of new)) given
-      → (result ≡ Err adopt.NoMemory → disk_of new ≡ disk_of old) → (IfErr given SparesDisk → IsAdopted result) → given ≢ Err Finished → Goes g given old new
-  goes_adopted old new entry result given is adopts offers leaves settled images hangs counts sound legal limit opened cause lacks unfailing unfinished =
+      → (Hangs new → (result ≡ Err adopt.DiskFault) ⊎ Hangs old) → IsSound g new → IsLegal (entries_of new) → limit_of new ≡ limit_of old → held_of new ≡ held_of old → CountsStep (g.faults (disk_of old)) (g.faults (disk_of new)) given
+      → (result ≡ Err adopt.NoMemory → disk_of new ≡ disk_of old) → (IfErr given SparesDisk → IsAdopted result) → AdoptsAt result entry (step_row (stored_book new) given) → given ≢ Err Finished → Goes g given old new
+  goes_adopted old new entry result given is adopts offers leaves settled images hangs sound legal limit opened cause lacks unfailing at unfinished =
       record {
         sound = sound;
         legal = legal;
         limit = limit;
         held = opened;
         begins = adopted_begins result (entries_of old) (entries_of new) entry is;
-        kept = λ held start kept. kept_adopted held start entry old new result is adopts offers leaves settled images kept;
-        fault = λ start before. fault_adopted start old new result hangs counts before;
+        kept = λ held start kept. kept_adopted held start entry old new result (step_row (stored_book new) given) is adopts offers leaves settled images hangs lacks at kept;
         cause = cause;
         calm = λ quiet hung. calm_adopted old new result (unfailing quiet) (hangs hung);
         still = λ quiet few small. still_adopted old new entry result (unfailing quiet) is leaves lacks opened few small;
@@ -337,17 +369,16 @@ module _ {D : Type 0} (g : disk.Ghosts D) where
       }
 
   -- a step whose last text was cut, or that failed
-  with_cause : {T : Type 0} (result : Result T Stop) (stop : Stop) (old new : Store D) → Goes g result old new → CountsStop (g.faults (disk_of old)) (g.faults (disk_of new)) stop → (SparesDisk stop → IfErr result SparesDisk) → stop ≢ Finished
+  with_cause : {T : Type 0} (result : Result T Stop) (stop : Stop) (old new : Store D) → Goes g result old new → CountsStop (g.faults (disk_of old)) (g.faults (disk_of new)) stop → (SparesDisk stop → IfErr result SparesDisk) → step_row (stored_book new) result ≡ stop_row (stored_book new) stop → stop ≢ Finished
       → Goes {T = T} g (Err stop) old new
-  with_cause result stop old new goes cause spares unfinished =
+  with_cause result stop old new goes cause spares same unfinished =
       record {
         sound = goes.sound;
         legal = goes.legal;
         limit = goes.limit;
         held = goes.held;
         begins = goes.begins;
-        kept = goes.kept;
-        fault = goes.fault;
+        kept = λ held start kept. subst (λ (o : Option Entry). HasKept g held start o new) same (goes.kept held start kept);
         cause = cause;
         calm = λ quiet hung. goes.calm (spares quiet) hung;
         still = λ quiet few small. goes.still (spares quiet) few small;
@@ -355,27 +386,28 @@ module _ {D : Type 0} (g : disk.Ghosts D) where
       }
 
   pub goes_cut : {T : Type 0} (done : T) (old new : Store D) → Goes g (Ok done) old new → Goes {T = T} g (Err WriteFault) old new
-  goes_cut done old new goes = with_cause (Ok done) WriteFault old new goes goes.cause (λ quiet. tt) (λ is. absurd (cc))
+  goes_cut done old new goes = with_cause (Ok done) WriteFault old new goes goes.cause (λ quiet. tt) refl (λ is. absurd (cc))
 
   -- a step that says that the disk failed, or that there is no memory
-  pub goes_at_fault : {T : Type 0} (before now : Stream) (stop : Stop) (old new : Store D) → Goes {T = T} g (Err DiskFault) old new → SaysDiskFault before now stop → Goes {T = T} g (Err stop) old new
-  goes_at_fault before now DiskFault old new goes says = goes
-  goes_at_fault before now DiskFaultUnsaid old new goes says = with_cause (Err DiskFault) DiskFaultUnsaid old new goes goes.cause (λ quiet. quiet) (λ is. absurd (cc))
-  goes_at_fault before now WriteFault old new goes says = absurd says
-  goes_at_fault before now Finished old new goes says = absurd says
-  goes_at_fault before now BadLine old new goes says = absurd says
-  goes_at_fault before now ReadFault old new goes says = absurd says
-  goes_at_fault before now NoMemory old new goes says = absurd says
-  goes_at_fault before now Spent old new goes says = absurd says
+  pub goes_at_fault : {T : Type 0} (offer : Offer) (before now : Stream) (stop : Stop) (old new : Store D) → Goes {T = T} g (Err (DiskFault offer)) old new → SaysDiskFault offer before now stop → Goes {T = T} g (Err stop) old new
+  goes_at_fault {T = T} offer before now (DiskFault named) old new goes says = subst (λ (o : Offer). Goes {T = T} g (Err (DiskFault o)) old new) (sym says.0) goes
+  goes_at_fault offer before now (DiskFaultUnsaid named) old new goes says =
+      with_cause (Err (DiskFault offer)) (DiskFaultUnsaid named) old new goes goes.cause (λ quiet. quiet) (ap (offer_row (stored_book new)) (sym says.0)) (λ is. absurd (cc))
+  goes_at_fault offer before now WriteFault old new goes says = absurd says
+  goes_at_fault offer before now Finished old new goes says = absurd says
+  goes_at_fault offer before now BadLine old new goes says = absurd says
+  goes_at_fault offer before now ReadFault old new goes says = absurd says
+  goes_at_fault offer before now NoMemory old new goes says = absurd says
+  goes_at_fault offer before now Spent old new goes says = absurd says
 
   pub goes_without_memory : {T : Type 0} (before now : Stream) (stop : Stop) (old new : Store D) → Goes {T = T} g (Err NoMemory) old new → SaysNoMemory before now stop → Goes {T = T} g (Err stop) old new
   goes_without_memory before now NoMemory old new goes says = goes
-  goes_without_memory before now WriteFault old new goes says = with_cause (Err NoMemory) WriteFault old new goes goes.cause (λ quiet. tt) (λ is. absurd (cc))
+  goes_without_memory before now WriteFault old new goes says = with_cause (Err NoMemory) WriteFault old new goes goes.cause (λ quiet. tt) refl (λ is. absurd (cc))
   goes_without_memory before now Finished old new goes says = absurd says
   goes_without_memory before now BadLine old new goes says = absurd says
   goes_without_memory before now ReadFault old new goes says = absurd says
-  goes_without_memory before now DiskFault old new goes says = absurd says
-  goes_without_memory before now DiskFaultUnsaid old new goes says = absurd says
+  goes_without_memory before now (DiskFault offer) old new goes says = absurd says
+  goes_without_memory before now (DiskFaultUnsaid offer) old new goes says = absurd says
   goes_without_memory before now Spent old new goes says = absurd says
 
 -- what keeping a snapshot leaves, by what it answered

@@ -53,8 +53,8 @@ ends_whole held taken state rows old mid now WriteFault stands header same quiet
     (migrated held taken state rows stands header same, inl (subst (λ (s : Stream). IsCutIn s now [] (whole (length rows))) quiet says))
 ends_whole held taken state rows old mid now BadLine stands header same quiet says = absurd says
 ends_whole held taken state rows old mid now ReadFault stands header same quiet says = absurd says
-ends_whole held taken state rows old mid now DiskFault stands header same quiet says = absurd says
-ends_whole held taken state rows old mid now DiskFaultUnsaid stands header same quiet says = absurd says
+ends_whole held taken state rows old mid now (DiskFault offer) stands header same quiet says = absurd says
+ends_whole held taken state rows old mid now (DiskFaultUnsaid offer) stands header same quiet says = absurd says
 ends_whole held taken state rows old mid now NoMemory stands header same quiet says = absurd says
 ends_whole held taken state rows old mid now Spent stands header same quiet says = absurd says
 
@@ -67,10 +67,10 @@ pub ends_failed : (held : List Entry) (taken : List ℕ) (state : MigrationState
     → FailsToKeep opened old now state.rows stop → EndsMigration held old now rows taken stop
 ends_failed held taken state rows opened old now WriteFault stands header same is fails =
     (migrated held taken state rows stands header same, inr (fails_so held opened old now state.rows rows WriteFault is same fails))
-ends_failed held taken state rows opened old now DiskFault stands header same is fails =
-    (migrated held taken state rows stands header same, fails_so held opened old now state.rows rows DiskFault is same fails)
-ends_failed held taken state rows opened old now DiskFaultUnsaid stands header same is fails =
-    (migrated held taken state rows stands header same, fails_so held opened old now state.rows rows DiskFaultUnsaid is same fails)
+ends_failed held taken state rows opened old now (DiskFault offer) stands header same is fails =
+    (migrated held taken state rows stands header same, fails_so held opened old now state.rows rows (DiskFault offer) is same fails)
+ends_failed held taken state rows opened old now (DiskFaultUnsaid offer) stands header same is fails =
+    (migrated held taken state rows stands header same, fails_so held opened old now state.rows rows (DiskFaultUnsaid offer) is same fails)
 ends_failed held taken state rows opened old now NoMemory stands header same is fails =
     (migrated held taken state rows stands header same, fails_so held opened old now state.rows rows NoMemory is same fails)
 ends_failed held taken state rows opened old now Finished stands header same is fails = absurd fails.1
@@ -83,19 +83,19 @@ ends_failed held taken state rows opened old now Spent stands header same is fai
 explains_in : {S : Type 0} (book : BookState) (call : Call S) (stop : Stop) → StopsInJournal book call stop → ExplainsMigration book call stop
 explains_in book call BadLine stops = inl stops
 explains_in book call WriteFault stops = inl stops
-explains_in book call DiskFault stops = inl stops
-explains_in book call DiskFaultUnsaid stops = inl stops
+explains_in book call (DiskFault offer) stops = inl stops
+explains_in book call (DiskFaultUnsaid offer) stops = inl stops
 explains_in book call NoMemory stops = inl stops
-explains_in book call Finished stops = absurd stops.stops.1
-explains_in book call ReadFault stops = absurd stops.stops.1
-explains_in book call Spent stops = absurd stops.stops.1
+explains_in book call Finished stops = absurd stops.stops.2
+explains_in book call ReadFault stops = absurd stops.stops.2
+explains_in book call Spent stops = absurd stops.stops.2
 
 explains_behind : {S : Type 0} (book : BookState) (call : Call S) (stop : Stop) → StopsAtJournalEnd book call stop → ExplainsMigration book call stop
 explains_behind book call Finished stops = stops
 explains_behind book call BadLine stops = inr stops
 explains_behind book call WriteFault stops = inr (inl stops)
-explains_behind book call DiskFault stops = inr (inl stops)
-explains_behind book call DiskFaultUnsaid stops = inr (inl stops)
+explains_behind book call (DiskFault offer) stops = inr (inl stops)
+explains_behind book call (DiskFaultUnsaid offer) stops = inr (inl stops)
 explains_behind book call NoMemory stops = inr (inl stops)
 explains_behind book call ReadFault stops = absurd stops.ends.1.1
 explains_behind book call Spent stops = absurd stops.ends.1.1
@@ -215,6 +215,6 @@ migration_unbegun book call WriteFault rows same says = inr (inr (record { unrea
 migration_unbegun book call Finished rows same says = absurd says
 migration_unbegun book call BadLine rows same says = absurd says
 migration_unbegun book call ReadFault rows same says = absurd says
-migration_unbegun book call DiskFault rows same says = absurd says
-migration_unbegun book call DiskFaultUnsaid rows same says = absurd says
+migration_unbegun book call (DiskFault offer) rows same says = absurd says
+migration_unbegun book call (DiskFaultUnsaid offer) rows same says = absurd says
 migration_unbegun book call Spent rows same says = absurd says

@@ -1,7 +1,6 @@
 -- Lemmas on a command over a disk that was opened as a book.
-use Rattle.std.proofs.Common.{◌≡◌, ◌⊎◌, ℕ, ◌≤◌, List, [], ◌∷◌, ◌++◌, length, take, Some, Err, inl, inr, refl, sym, ap, ◌∙◌, subst, arith, append-nil, length-append}
+use Rattle.std.proofs.Common.{◌≡◌, ◌⊎◌, ℕ, ◌≤◌, List, [], ◌∷◌, ◌++◌, length, take, Option, Some, None, Err, inl, inr, refl, sym, ap, ◌∙◌, subst, arith, append-nil, length-append}
 use Rattle.std.specs.Bool.{⊤}
-use Rattle.device_facts.specs.Count.{Rose}
 use Rattle.disk_core.specs.Disk.{WhereTold}
 use Rattle.disk_core.specs.Devices.{IsUnmoved}
 use Rattle.disk_core.specs.declared.disk.Disk as disk
@@ -21,7 +20,9 @@ use Rattle.hall_top.specs.declared.stop.Stop.{Stop}
 use Rattle.hall_top.specs.declared.stop.Stop.TheVariants.{Finished, BadLine, ReadFault, WriteFault, DiskFault, DiskFaultUnsaid, NoMemory, Spent}
 use Rattle.hall_top.specs.Transcript.{BookState}
 use Rattle.hall_top.specs.Run.{Call}
-use Rattle.hall_top.specs.Kept.{CrashLeaves, HangsAtFault, HasKept, HoldsOrOffered, CountsStop, SparesDisk}
+use Rattle.hall_top.specs.Kept.{CrashLeaves, HasKept, HoldsOffered, CountsStop, SparesDisk}
+use Rattle.hall_top.specs.Books.{stored_book}
+use Rattle.hall_top.specs.Offers.{stop_row}
 use Rattle.hall_top.specs.Snapshots.{HasAddedRows}
 use Rattle.hall_top.proofs.Keeping.{keeps_in}
 use Rattle.hall_top.specs.Calls.{KeepsRows, IsOpened, IsUnopened, CommandEnded, SaysWhy}
@@ -34,46 +35,44 @@ front_of (entry ∷ first) more = ap (λ (es : List Entry). entry ∷ es) (front
 -- a store that was mounted on a disk that held these entries has kept them
 module _ {D : Type 0} (g : disk.Ghosts D) (counts_now : (d : D) (t : ℕ) (c : List ℕ) → t ≤ g.time d → g.image d c → g.since d t c) (held : List Entry) (start : D) (store : Store D) (calm : ¬ Hangs store)
     (has : HasHeld g start held store) where
-  leaves : (c : List ℕ) → HoldsBook held c → CrashLeaves held (entries_of store) c
+  leaves : (c : List ℕ) → HoldsBook held c → CrashLeaves held (entries_of store) None c
   leaves c holds =
       let whole : take (length held) (entries_of store) ≡ held = ap (take (length held)) (has.same ∙ sym (append-nil held)) ∙ front_of held [] in
-      record {
+      inl (record {
         count = length held;
         least = omega arith;
         most = omega (arith, ap length has.same);
-        holds = inl (subst (λ (es : List Entry). HoldsBook es c) (sym whole) holds);
-      }
+        holds = subst (λ (es : List Entry). HoldsBook es c) (sym whole) holds;
+      })
 
-  pub kept_so_far : HasKept g held start store
+  pub kept_so_far : HasKept g held start None store
   kept_so_far =
       record {
         has = has.has;
         begins = ([], has.same ∙ sym (append-nil held));
         hung = λ entry hangs. absurd (calm hangs.row.hangs);
-        moments = keeps_in g start (disk_of store) (HoldsBook held) (CrashLeaves held (entries_of store)) leaves has.moments;
+        moments = keeps_in g start (disk_of store) (HoldsBook held) (CrashLeaves held (entries_of store) None) leaves has.moments;
         images = λ c image. inl (subst (λ (es : List Entry). HoldsBook es c) (sym has.same) (has.moments.each c (counts_now (disk_of store) has.moments.synced c has.moments.before image)));
       }
 
--- at the end each image holds the rows, or the disk failed and an entry that was offered hangs
-end_image : {D : Type 0} (g : disk.Ghosts D) (held : List Entry) (start : D) (last : Store D) (c : List ℕ) → HasKept g held start last → HangsAtFault g start last → HoldsOrHangs g last c
-    → HoldsBook (entries_of last) c ⊎ (Rose (g.faults start) (g.faults (disk_of last)) × HoldsOrOffered (entries_of last) c)
-end_image g held start last c kept fault (inl holds) = inl holds
-end_image g held start last c kept (inl (calm, same)) (inr (hung, hangs, holds)) = absurd (calm hangs.row.hangs)
-end_image g held start last c kept (inr rose) (inr (hung, hangs, holds)) = inr (rose, inr (hung, kept.hung hung hangs, holds))
+-- at the end each image holds the rows, or these and the one that was offered
+end_image : {D : Type 0} (g : disk.Ghosts D) (held : List Entry) (start : D) (offered : Option Entry) (last : Store D) (c : List ℕ) → HasKept g held start offered last → HoldsOrHangs g last c
+    → HoldsBook (entries_of last) c ⊎ HoldsOffered (entries_of last) offered c
+end_image g held start offered last c kept (inl holds) = inl holds
+end_image g held start offered last c kept (inr (hung, hangs, holds)) = inr (subst (λ (o : Option Entry). HoldsOffered (entries_of last) o c) (sym (kept.hung hung hangs)) holds)
 
 -- what is left of a disk that held these entries
-keeps_rows : {D : Type 0} (g : disk.Ghosts D) (held : List Entry) (before : D) (store last : Store D) (ended : Ended D)
-    → HasHeld g before held store → HasKept g held before last → HangsAtFault g before last → ended.disk ≡ disk_of last → ended.rows ≡ entries_of last → take ended.held ended.rows ≡ entries_of store
-    → KeepsRows g held before ended
-keeps_rows g held before store last ended has kept fault disk_left rows front =
+keeps_rows : {D : Type 0} (g : disk.Ghosts D) (held : List Entry) (before : D) (offered : Option Entry) (store last : Store D) (ended : Ended D)
+    → HasHeld g before held store → HasKept g held before offered last → ended.disk ≡ disk_of last → ended.rows ≡ entries_of last → take ended.held ended.rows ≡ entries_of store
+    → KeepsRows g held offered before ended
+keeps_rows g held before offered store last ended has kept disk_left rows front =
     record {
       same = front ∙ has.same;
-      moments = subst (λ (d : _). KeepsFromSync g before d (CrashLeaves held ended.rows)) (sym disk_left)
-          (subst (λ (es : List Entry). KeepsFromSync g before (disk_of last) (CrashLeaves held es)) (sym rows) kept.moments);
+      moments = subst (λ (d : _). KeepsFromSync g before d (CrashLeaves held ended.rows offered)) (sym disk_left)
+          (subst (λ (es : List Entry). KeepsFromSync g before (disk_of last) (CrashLeaves held es offered)) (sym rows) kept.moments);
       end = λ c image.
-          let over = end_image g held before last c kept fault (kept.images c (subst (λ (d : _). g.image d c) disk_left image)) in
-          subst (λ (d : _). HoldsBook ended.rows c ⊎ (Rose (g.faults before) (g.faults d) × HoldsOrOffered ended.rows c)) (sym disk_left)
-          (subst (λ (es : List Entry). HoldsBook es c ⊎ (Rose (g.faults before) (g.faults (disk_of last)) × HoldsOrOffered es c)) (sym rows) over);
+          subst (λ (es : List Entry). HoldsBook es c ⊎ HoldsOffered es offered c) (sym rows)
+          (end_image g held before offered last c kept (kept.images c (subst (λ (d : _). g.image d c) disk_left image)));
     }
 
 -- a command that was done over a store that a disk was mounted as
@@ -99,8 +98,10 @@ is_opened g counts_now limit Explains status_of before store ended call limit_is
           done.goes.cause);
       kept = λ bytes told rows holds legal.
           let has = held bytes told rows holds legal in
-          let kept = done.goes.kept rows before (kept_so_far g counts_now rows before store calm has) in
-          keeps_rows g rows before store done.last ended has kept (done.goes.fault before (inl (calm, faults))) done.disk_left done.rows front;
+          let left : BookState = record { limit = limit; entries = ended.rows } in
+          let book : stored_book done.last ≡ left = λ i. record { limit = (done.goes.limit ∙ limit_is) i; entries = (sym done.rows) i } in
+          let kept = subst (λ (b : BookState). HasKept g rows before (stop_row b done.stop) done.last) book (done.goes.kept rows before (kept_so_far g counts_now rows before store calm has)) in
+          keeps_rows g rows before (stop_row left done.stop) store done.last ended has kept done.disk_left done.rows front;
       snapshot = λ finished grown.
           let new : HasAddedRows done.last = omega (arith, grown, ap length done.rows, done.goes.held, count, done.held) in
           let none : ¬ Hangs done.last = λ hung. calm (done.goes.calm (subst SparesDisk (sym finished) tt) hung) in

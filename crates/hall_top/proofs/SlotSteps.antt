@@ -13,6 +13,7 @@ use Rattle.old_journal.specs.Reader.{OldView, old_after, counted, Says, HasNextR
 use Rattle.old_journal.proofs.Headers.{header_by, by_header, header_on}
 use Rattle.old_journal.proofs.OpenSlots.{rows_stay}
 use Rattle.old_journal.proofs.Standing.{none_counted}
+use Rattle.hall_top.specs.declared.stop.Offer.TheVariants as offering
 use Rattle.hall_top.specs.declared.stop.Stop.{Stop}
 use Rattle.hall_top.specs.declared.stop.Stop.TheVariants.{Finished, BadLine, ReadFault, WriteFault, DiskFault, DiskFaultUnsaid, NoMemory, Spent}
 use Rattle.hall_top.specs.Streams.{Stream}
@@ -80,7 +81,7 @@ untouched held (x ∷ carried) rows (inr (front, is)) none = absurd (omega (arit
 
 -- a piece that stops
 module _ (held : List Entry) (taken more : List ℕ) (before : MigrationState) (reader : OldView) (old now : Stream) (stands : Carried held taken before) where
-  at_new : (number : ℕ) (entry : Entry) (row : List ℕ) → reader.rows ≡ before.reader.rows + 1 → HasNextRow taken (taken ++ more) number row → SpellsOnly row number entry → entry_numbered before.rows reader.rows ≡ None → IsLawful before.rows entry → HasNewRow held (taken ++ more) before.rows
+  at_new : (number : ℕ) (entry : Entry) (row : List ℕ) → reader.rows ≡ before.reader.rows + 1 → HasNextRow taken (taken ++ more) number row → SpellsOnly row number entry → entry_numbered before.rows reader.rows ≡ None → IsLawful before.rows entry → HasNewRow held (taken ++ more) before.rows entry
   at_new number entry row count next spells none lawful =
       let place : reader.rows ≡ length stands.carried + 1 = count ∙ ap (λ n. n + 1) stands.counted in
       let there = numbered_next before.rows (length stands.carried) reader.rows place in
@@ -101,10 +102,10 @@ module _ (held : List Entry) (taken more : List ℕ) (before : MigrationState) (
             (λ other spelled may. never (subst (MayCome (length stands.carried) held before.rows) (spells.only other spelled) may)))),
         wrote,
       )
-  at_row number entry DiskFault count (row, next, spells) (none, lawful, says) = (at_new number entry row count next spells none lawful, says)
-  at_row number entry DiskFaultUnsaid count (row, next, spells) (none, lawful, says) = (at_new number entry row count next spells none lawful, says)
-  at_row number entry NoMemory count (row, next, spells) (none, lawful, says) = (at_new number entry row count next spells none lawful, says)
-  at_row number entry WriteFault count (row, next, spells) (none, lawful, says) = (at_new number entry row count next spells none lawful, says)
+  at_row number entry (DiskFault offer) count (row, next, spells) (none, lawful, says) = (entry, at_new number entry row count next spells none lawful, says)
+  at_row number entry (DiskFaultUnsaid offer) count (row, next, spells) (none, lawful, says) = (entry, at_new number entry row count next spells none lawful, says)
+  at_row number entry NoMemory count (row, next, spells) (none, lawful, says) = (entry, at_new number entry row count next spells none lawful, says)
+  at_row number entry WriteFault count (row, next, spells) (none, lawful, says) = (entry, at_new number entry row count next spells none lawful, says)
   at_row number entry Finished count says never = absurd never.2
   at_row number entry ReadFault count says never = absurd never.2
   at_row number entry Spent count says never = absurd never.2
@@ -133,9 +134,9 @@ module _ (held : List Entry) (taken more : List ℕ) (before : MigrationState) (
   piece_stops Over stop count says never = absurd never
 
 -- an entry that was to be added, and that failed
-pub stops_new : (before now : Stream) (rows : List Entry) (number : ℕ) (entry : Entry) (stop : Stop) → entry_numbered rows number ≡ None → IsLawful rows entry → SaysFailed before now stop → StopsAtEntry before now rows number entry stop
-stops_new before now rows number entry DiskFault none lawful says = (none, lawful, says)
-stops_new before now rows number entry DiskFaultUnsaid none lawful says = (none, lawful, says)
+pub stops_new : (before now : Stream) (rows : List Entry) (number : ℕ) (entry : Entry) (stop : Stop) → entry_numbered rows number ≡ None → IsLawful rows entry → SaysFailed (offering.Row entry) before now stop → StopsAtEntry before now rows number entry stop
+stops_new before now rows number entry (DiskFault offer) none lawful says = (none, lawful, says)
+stops_new before now rows number entry (DiskFaultUnsaid offer) none lawful says = (none, lawful, says)
 stops_new before now rows number entry NoMemory none lawful says = (none, lawful, says)
 stops_new before now rows number entry WriteFault none lawful says = (none, lawful, says)
 stops_new before now rows number entry Finished none lawful says = absurd says

@@ -1,6 +1,5 @@
 -- What a whole call of the program does: its words, its disk, its command.
-use Rattle.std.specs.Prelude.{◌≡◌, ◌⊎◌, ℕ, ◌≤◌, List, [], length, take, Some}
-use Rattle.device_facts.specs.Count.{Rose}
+use Rattle.std.specs.Prelude.{◌≡◌, ◌⊎◌, ℕ, ◌≤◌, List, [], length, take, Option, Some}
 use Rattle.disk_core.specs.Disk.{WhereTold}
 use Rattle.disk_core.specs.Devices.{IsUnmoved}
 use Rattle.disk_core.specs.declared.disk.Disk as disk
@@ -23,8 +22,9 @@ use Rattle.hall_top.specs.Texts.{usage, disk_fault, no_memory, not_journal, dama
 use Rattle.hall_top.specs.Transcript.{BookState}
 use Rattle.hall_top.specs.Streams.{Stream, WroteAll, IsCutIn, Wrote}
 use Rattle.hall_top.specs.Run.{Call, Explains, HasGrown, IsComplete, status_of}
-use Rattle.hall_top.specs.Kept.{CrashLeaves, HoldsOrOffered, CountsStop, SparesDisk, RunGoes}
+use Rattle.hall_top.specs.Kept.{CrashLeaves, HoldsOffered, CountsStop, SparesDisk, RunGoes}
 use Rattle.hall_top.specs.Books.{stored_book}
+use Rattle.hall_top.specs.Offers.{stop_row}
 use Rattle.hall_top.specs.Migration.{ExplainsMigration}
 use Rattle.command_line.specs.Words.{Wanted}
 use Rattle.command_line.specs.declared.types.Command.{Command}
@@ -67,19 +67,19 @@ pub record IsUnopened {S D : Type 0} (disk : disk.Ghosts D) (before : D) (ended 
       (held : List Entry) → HoldsBook held bytes → IsLegal held → IsPassing why
       × (KeepsFromSync disk before ended.disk (HoldsBook held) ⊎ IsUnmoved disk before ended.disk))
 
--- what is left of a disk that held a book: its rows begin with those; each crash from the first
--- sync on leaves what it may; and at the end one leaves the rows, or, only where the disk failed,
--- the rows and one more that was offered
-pub record KeepsRows {D : Type 0} (disk : disk.Ghosts D) (held : List Entry) (before : D)
-    (ended : Ended D) : Type 0 where
+-- what is left of a disk that held a book, where this row was offered last, if any: its rows begin
+-- with those that it held; each crash from the first sync on leaves the first so many, or all and
+-- the one that was offered; and at the end one leaves all rows, or all and that one
+pub record KeepsRows {D : Type 0} (disk : disk.Ghosts D) (held : List Entry)
+    (offered : Option Entry) (before : D) (ended : Ended D) : Type 0 where
   pub same : take ended.held ended.rows ≡ held
-  pub moments : KeepsFromSync disk before ended.disk (CrashLeaves held ended.rows)
+  pub moments : KeepsFromSync disk before ended.disk (CrashLeaves held ended.rows offered)
   pub end : (c : List ℕ) → disk.image ended.disk c
-      → HoldsBook ended.rows c
-      ⊎ (Rose (disk.faults before) (disk.faults ended.disk) × HoldsOrOffered ended.rows c)
+      → HoldsBook ended.rows c ⊎ HoldsOffered ended.rows offered c
 
 -- The disk was opened as a book, and the command ended in one of its ways, which has its status.
--- What `Explains` says of that way is the command's own meaning over the book as it was opened. A
+-- What `Explains` says of that way is the command's own meaning over the book as it was opened, and
+-- names what was offered to a disk that failed; a crash may leave no other row behind the rows. A
 -- command that is done and added rows leaves a snapshot of all rows; one that added none, where the
 -- disk didn't fail, leaves every byte of a disk with a snapshot.
 pub record IsOpened {S D : Type 0} (disk : disk.Ghosts D) (limit : ℕ)
@@ -94,7 +94,9 @@ pub record IsOpened {S D : Type 0} (disk : disk.Ghosts D) (limit : ℕ)
       Explains (record { limit = limit; entries = take ended.held ended.rows }) call stop
   pub cause : CountsStop (disk.faults before) (disk.faults ended.disk) stop
   pub kept : WhereTold (disk.reads before) (λ bytes.
-      (held : List Entry) → HoldsBook held bytes → IsLegal held → KeepsRows disk held before ended)
+      (held : List Entry) → HoldsBook held bytes → IsLegal held
+      → KeepsRows disk held (stop_row (record { limit = limit; entries = ended.rows }) stop)
+      before ended)
   pub snapshot : stop ≡ Finished → HasGrown ended.held ended.rows
       → HoldsSnapshotOf disk ended.rows ended.disk
   pub unwritten : SparesDisk stop → ¬ HasGrown ended.held ended.rows

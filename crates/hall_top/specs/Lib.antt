@@ -2,6 +2,7 @@ pub mod Books
 pub mod Calls
 pub mod Kept
 pub mod Migration
+pub mod Offers
 pub mod Reached
 pub mod Requests
 pub mod Run

@@ -16,6 +16,7 @@ use Rattle.old_journal.specs.declared.types.OldPiece.TheVariants.{Foreign, Row, 
 use Rattle.hall_top.specs.declared.reads.TheConstants.{PIECE}
 use Rattle.hall_top.specs.declared.migrate.TheConstants.{MAX_OLD_READS}
 use Rattle.hall_top.specs.declared.carrying.Migration.{Migration}
+use Rattle.hall_top.specs.declared.stop.Offer.TheVariants as offering
 use Rattle.hall_top.specs.declared.stop.Stop.{Stop}
 use Rattle.hall_top.specs.declared.stop.Stop.TheVariants.{Finished, BadLine, ReadFault, WriteFault, Spent}
 use Rattle.hall_top.specs.Texts.{bad_line, read_fault, whole}
@@ -44,7 +45,8 @@ abbrev pub StopsAtEntry : Stream → Stream → List Entry → ℕ → Entry →
 StopsAtEntry before now rows number entry BadLine =
     Refuses rows number entry × Wrote before now [] (bad_line number)
 StopsAtEntry before now rows number entry stop =
-    (entry_numbered rows number ≡ None) × IsLawful rows entry × SaysFailed before now stop
+    (entry_numbered rows number ≡ None) × IsLawful rows entry
+    × SaysFailed (offering.Row entry) before now stop
 
 -- ---- many rows
 
@@ -79,13 +81,14 @@ IsBadSlot held judged row rows =
     ((row ≡ 0) × ((more : List ℕ) → ¬ HasOldHeader (judged ++ more)) × (rows ≡ held))
     ⊎ IsBadRow held judged row rows
 
--- the rows before the last of these bytes were carried, and it spells an entry that was to be added
-pub record HasNewRow (held : List Entry) (judged : List ℕ) (rows : List Entry) : Type 0 where
+-- the rows before the last of these bytes were carried, and it spells this entry, which was to be
+-- added
+pub record HasNewRow (held : List Entry) (judged : List ℕ) (rows : List Entry) (entry : Entry)
+    : Type 0 where
   pub count : ℕ
   pub before : IsCarriedTo held judged count rows
   pub row : List ℕ
   pub stands : slice_get (old_rows judged) count ≡ Some row
-  pub entry : Entry
   pub spells : Spells old_layout row (count + 1) entry
   pub lacks : length rows ≤ count
   pub lawful : IsLawful rows entry
@@ -95,7 +98,8 @@ abbrev pub StopsAtSlot : List Entry → Stream → Stream → List Entry → Lis
 StopsAtSlot held before now rows judged BadLine =
     (row : ℕ) × IsBadSlot held judged row rows × Wrote before now [] (bad_line row)
 StopsAtSlot held before now rows judged stop =
-    HasNewRow held judged rows × SaysFailed before now stop
+    (entry : Entry) × HasNewRow held judged rows entry
+    × SaysFailed (offering.Row entry) before now stop
 
 -- wherever a migration stood, of these bytes it judged some, and stops at the last slot of those
 pub record StopsCarrying (old now : Stream) (before : MigrationState) (rows : List Entry)

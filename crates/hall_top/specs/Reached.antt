@@ -8,6 +8,7 @@ use Rattle.script_lines.specs.Lines.{rest_of}
 use Rattle.script_lines.specs.Feed.{FeedView, feed_after}
 use Rattle.script_lines.specs.Script.{all_good, commands_of}
 use Rattle.hall_top.specs.declared.reads.TheConstants.{PIECE}
+use Rattle.hall_top.specs.declared.stop.Offer.{Offer}
 use Rattle.hall_top.specs.declared.stop.Stop.{Stop}
 use Rattle.hall_top.specs.declared.stop.Stop.TheVariants.{Finished, BadLine, WriteFault, DiskFault, DiskFaultUnsaid, NoMemory}
 use Rattle.hall_top.specs.Texts.{disk_fault, no_memory}
@@ -22,11 +23,12 @@ pub record RunState : Type 0 where
   pub opened : ℕ
   pub feed : FeedView
 
--- the line went out that says that the disk failed, or was cut
-abbrev pub SaysDiskFault : Stream → Stream → Stop → Type 0
-SaysDiskFault before now DiskFault = WroteAll before now disk_fault
-SaysDiskFault before now DiskFaultUnsaid = IsCutIn before now [] disk_fault
-SaysDiskFault before now _ = ⊥
+-- the line went out that says that the disk failed as it was offered this, or was cut
+abbrev pub SaysDiskFault : Offer → Stream → Stream → Stop → Type 0
+SaysDiskFault offer before now (DiskFault named) = (named ≡ offer) × WroteAll before now disk_fault
+SaysDiskFault offer before now (DiskFaultUnsaid named) =
+    (named ≡ offer) × IsCutIn before now [] disk_fault
+SaysDiskFault offer before now _ = ⊥
 
 -- the line went out that says that there is no memory, or was cut
 abbrev pub SaysNoMemory : Stream → Stream → Stop → Type 0
@@ -97,9 +99,10 @@ EndsScript book before now rows script Finished = HasTranscript book before now 
 EndsScript book before now rows script BadLine = StopsInScript book before now rows BadLine script
 EndsScript book before now rows script WriteFault =
     StopsOrEnds book before now rows WriteFault script
-EndsScript book before now rows script DiskFault = StopsOrEnds book before now rows DiskFault script
-EndsScript book before now rows script DiskFaultUnsaid =
-    StopsOrEnds book before now rows DiskFaultUnsaid script
+EndsScript book before now rows script (DiskFault offer) =
+    StopsOrEnds book before now rows (DiskFault offer) script
+EndsScript book before now rows script (DiskFaultUnsaid offer) =
+    StopsOrEnds book before now rows (DiskFaultUnsaid offer) script
 EndsScript book before now rows script NoMemory = StopsOrEnds book before now rows NoMemory script
 EndsScript book before now rows script _ = ⊥
 

@@ -17,6 +17,8 @@ use Rattle.script_lines.specs.Lines.{rest_of}
 use Rattle.script_lines.specs.Script.{all_good, commands_of}
 use Rattle.batch_reports.specs.Texts.{outcome_text, summary_text}
 use Rattle.hall_top.specs.declared.reads.TheConstants.{MAX_READS, PIECE}
+use Rattle.hall_top.specs.declared.stop.Offer.{Offer}
+use Rattle.hall_top.specs.declared.stop.Offer.TheVariants as offering
 use Rattle.hall_top.specs.declared.stop.Stop.{Stop}
 use Rattle.hall_top.specs.declared.stop.Stop.TheVariants.{Finished, BadLine, ReadFault, WriteFault, DiskFault, DiskFaultUnsaid, NoMemory, Spent}
 use Rattle.hall_top.specs.Texts.{bad_line, read_fault, disk_fault, no_memory}
@@ -64,9 +66,10 @@ pub record FindsNoMemory (book : BookState) (rows : List Entry) (commands : List
       (next_exchange book commands command).added
   pub rows_left : AreLeft book commands rows
 
--- the disk failed at a command after others, which would have added a row
+-- the disk failed at a command after others, which would have added a row, and was offered that
 pub record FindsDiskFault (book : BookState) (rows : List Entry) (commands : List Command)
-    (command : Command) : Type 0 where
+    (command : Command) (offer : Offer) : Type 0 where
+  pub asked : offer ≡ offering.Asked command
   pub offers : IsSome (next_exchange book commands command).added
   pub rows_left : AreLeft book commands rows
 
@@ -81,12 +84,12 @@ StopsAtLine book before now rows commands number (Asks command) WriteFault =
     IsAnswerCut book before now rows commands command
     ⊎ (IsCutIn before now (answers book commands) no_memory
     × FindsNoMemory book rows commands command)
-StopsAtLine book before now rows commands number (Asks command) DiskFault =
+StopsAtLine book before now rows commands number (Asks command) (DiskFault offer) =
     WroteAll before now (answers book commands ++ disk_fault)
-    × FindsDiskFault book rows commands command
-StopsAtLine book before now rows commands number (Asks command) DiskFaultUnsaid =
+    × FindsDiskFault book rows commands command offer
+StopsAtLine book before now rows commands number (Asks command) (DiskFaultUnsaid offer) =
     IsCutIn before now (answers book commands) disk_fault
-    × FindsDiskFault book rows commands command
+    × FindsDiskFault book rows commands command offer
 StopsAtLine book before now rows commands number (Asks command) NoMemory =
     WroteAll before now (answers book commands ++ no_memory)
     × FindsNoMemory book rows commands command
@@ -150,18 +153,21 @@ pub record HasTranscript (book : BookState) (before now : Stream) (rows : List E
 abbrev pub HasGrown : ℕ → List Entry → Type 0
 HasGrown opened rows = opened < length rows
 
--- a line went out that says that the disk failed or that there is no memory, or was cut
-abbrev pub SaysFailed : Stream → Stream → Stop → Type 0
-SaysFailed before now DiskFault = WroteAll before now disk_fault
-SaysFailed before now NoMemory = WroteAll before now no_memory
-SaysFailed before now DiskFaultUnsaid = IsCutIn before now [] disk_fault
-SaysFailed before now WriteFault = IsCutIn before now [] no_memory
-SaysFailed before now _ = ⊥
+-- a line went out that says that the disk failed as it was offered this, or that there is no
+-- memory, or was cut
+abbrev pub SaysFailed : Offer → Stream → Stream → Stop → Type 0
+SaysFailed offer before now (DiskFault named) = (named ≡ offer) × WroteAll before now disk_fault
+SaysFailed offer before now (DiskFaultUnsaid named) =
+    (named ≡ offer) × IsCutIn before now [] disk_fault
+SaysFailed offer before now NoMemory = WroteAll before now no_memory
+SaysFailed offer before now WriteFault = IsCutIn before now [] no_memory
+SaysFailed offer before now _ = ⊥
 
 -- where rows were added, the disk may fail and memory may lack while a snapshot of them is kept,
 -- and a line says so
 abbrev pub FailsToKeep : ℕ → Stream → Stream → List Entry → Stop → Type 0
-FailsToKeep opened before now rows stop = HasGrown opened rows × SaysFailed before now stop
+FailsToKeep opened before now rows stop =
+    HasGrown opened rows × SaysFailed offering.Snapshot before now stop
 
 -- how a run ends without its summary, all lines answered: the summary is cut, or no snapshot was
 -- kept
@@ -219,7 +225,7 @@ pub record NotBegun {S : Type 0} (book : BookState) (call : Call S) : Type 0 whe
   pub unread : call.now.source ≡ call.before.source
   pub rows_left : AreLeft book [] call.rows
 
--- what a failed write stopped: an answer, the summary, or the line that says that there is no memory
+-- what a failed write stopped: an answer, the summary, or the line that says that memory lacks
 abbrev pub IsCutShort : {S : Type 0} → BookState → Call S → Type 0
 IsCutShort book call =
     StopsInInput book call WriteFault
@@ -234,15 +240,18 @@ pub record IsWriteFault {S : Type 0} (book : BookState) (call : Call S) : Type 0
 
 -- status 6: the disk failed, at a command or at the end; the commands before are answered, then
 -- comes one line, and nothing else failed
-pub record IsDiskFault {S : Type 0} (book : BookState) (call : Call S) : Type 0 where
-  pub stops : StopsInInput book call DiskFault ⊎ StopsAtEnd book call DiskFault
+pub record IsDiskFault {S : Type 0} (book : BookState) (call : Call S) (offer : Offer) : Type 0
+    where
+  pub stops : StopsInInput book call (DiskFault offer) ⊎ StopsAtEnd book call (DiskFault offer)
   pub calm : IsCalm call.before.input call.now.input
   pub output_calm : IsCalm call.before.output call.now.output
 
 -- status 5 too: the disk failed, at a command or at the end, and then the output at the line that
 -- says so; the input didn't
-pub record IsDiskFaultUnsaid {S : Type 0} (book : BookState) (call : Call S) : Type 0 where
-  pub stops : StopsInInput book call DiskFaultUnsaid ⊎ StopsAtEnd book call DiskFaultUnsaid
+pub record IsDiskFaultUnsaid {S : Type 0} (book : BookState) (call : Call S)
+    (offer : Offer) : Type 0 where
+  pub stops : StopsInInput book call (DiskFaultUnsaid offer)
+      ⊎ StopsAtEnd book call (DiskFaultUnsaid offer)
   pub cause : HasFailed call.before.output call.now.output
   pub calm : IsCalm call.before.input call.now.input
 
@@ -278,8 +287,8 @@ Explains book call Finished = IsDone book call
 Explains book call BadLine = IsBadLine book call
 Explains book call ReadFault = IsReadFault book call
 Explains book call WriteFault = IsWriteFault book call
-Explains book call DiskFault = IsDiskFault book call
-Explains book call DiskFaultUnsaid = IsDiskFaultUnsaid book call
+Explains book call (DiskFault offer) = IsDiskFault book call offer
+Explains book call (DiskFaultUnsaid offer) = IsDiskFaultUnsaid book call offer
 Explains book call NoMemory = IsOutOfMemory book call
 Explains book call Spent = IsSpent book call
 
@@ -289,8 +298,8 @@ status_of Finished = 0
 status_of BadLine = 3
 status_of ReadFault = 4
 status_of WriteFault = 5
-status_of DiskFault = 6
-status_of DiskFaultUnsaid = 5
+status_of (DiskFault offer) = 6
+status_of (DiskFaultUnsaid offer) = 5
 status_of NoMemory = 7
 status_of Spent = 12
 
@@ -307,4 +316,4 @@ IsComplete call stop = IfSome call.before.input.bytes (λ script.
     all_good (lines_of script) ≡ true → length script < MAX_READS
     → Calm call.before.input.faults call.now.input.faults
     → Calm call.before.output.faults call.now.output.faults
-    → (stop ≡ Finished) ⊎ ((stop ≡ DiskFault) ⊎ (stop ≡ NoMemory)))
+    → (stop ≡ Finished) ⊎ (((offer : Offer) × (stop ≡ DiskFault offer)) ⊎ (stop ≡ NoMemory)))

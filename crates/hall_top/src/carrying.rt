@@ -9,7 +9,7 @@ ghost use Rattle.hall_top.specs.Streams.{output_at, Wrote};
 ghost use Rattle.hall_top.specs.Migration.{Carries, StopsAtEntry, CarriesPiece, StopsAtPiece, IsCarrying, CarriesOn, StopsCarrying, CarrySteps, migration_state};
 
 use crate::numbered::write_numbered;
-use crate::stop::Stop;
+use crate::stop::{Offer, Stop};
 use crate::writing::{say_disk_fault, say_no_memory};
 use book_store::{AdoptError, Store};
 use book_words::Entry;
@@ -54,7 +54,7 @@ fn adopt_entry<D: Disk, K: Sink>(
     match store.adopt(entry) {
         Ok(_) => Ok(()),
         Err(AdoptError::Unlawful) => Err(say_bad_row(number, output)),
-        Err(AdoptError::DiskFault) => Err(say_disk_fault(output)),
+        Err(AdoptError::DiskFault) => Err(say_disk_fault(&Offer::Row(*entry), output)),
         Err(AdoptError::NoMemory) => Err(say_no_memory(output)),
     }
 }

@@ -46,7 +46,7 @@ pub fn compose_answer<D: Disk>(
         ≡ after_command (stored_book store.old) command.now) }
     ensures same { OnErr result (stored_book store.new ≡ stored_book store.old) }
     ensures may { IfErr result (MayStay (exchange_at (stored_book store.old) command.now)) }
-    ensures goes { Goes D.Disk (stopped result) store.old store.new }
+    ensures goes { Goes D.Disk (stopped command.now result) store.old store.new }
     ensures capacity { vec_capacity text.new ≡ vec_capacity text.old }
 {
     text.clear();

@@ -1,5 +1,19 @@
+use book_words::Entry;
+use script_lines::Command;
+
+/// What a disk was offered as it failed.
+#[derive(Clone, Copy)]
+pub enum Offer {
+    /// A snapshot of the book, and so no row.
+    Snapshot,
+    /// The row that the command adds which was asked.
+    Asked(Command),
+    /// This row of a journal that is carried.
+    Row(Entry),
+}
+
 /// How a command ended.
-#[derive(Clone, Copy, Debug, PartialEq, Eq)]
+#[derive(Clone, Copy)]
 pub enum Stop {
     /// It was done: the summary of a run went out, or how many rows the book has.
     Finished,
@@ -10,9 +24,9 @@ pub enum Stop {
     /// The output failed.
     WriteFault,
     /// The disk failed.
-    DiskFault,
+    DiskFault(Offer),
     /// The disk failed, and then the output at the line that says so.
-    DiskFaultUnsaid,
+    DiskFaultUnsaid(Offer),
     /// There was no memory.
     NoMemory,
     /// The reads that it may make were made, and the end wasn't seen.
@@ -32,8 +46,8 @@ impl Stop {
             Stop::BadLine => 3,
             Stop::ReadFault => 4,
             Stop::WriteFault => 5,
-            Stop::DiskFault => 6,
-            Stop::DiskFaultUnsaid => 5,
+            Stop::DiskFault(_) => 6,
+            Stop::DiskFaultUnsaid(_) => 5,
             Stop::NoMemory => 7,
             Stop::Spent => 12,
         }

@@ -14,7 +14,7 @@ ghost use Rattle.hall_top.specs.Run.{FailsToKeep, StopsAtLine};
 ghost use Rattle.hall_top.specs.Reached.{HasAnswered, SaysDiskFault, SaysNoMemory};
 
 use crate::composing::{Unanswered, compose_answer, compose_bad_line, compose_summary};
-use crate::stop::Stop;
+use crate::stop::{Offer, Stop};
 use batch_reports::TEXT_ROOM;
 use book_core::Book;
 use book_store::{RestError, Store};
@@ -59,7 +59,7 @@ pub fn write_answer<D: Disk, K: Sink>(
             write_text(text, output)?;
             Ok(())
         }
-        Err(Unanswered::DiskFault) => Err(say_disk_fault(output)),
+        Err(Unanswered::DiskFault) => Err(say_disk_fault(&Offer::Asked(*command), output)),
         Err(Unanswered::NoMemory) => Err(say_no_memory(output)),
     }
 }
@@ -95,7 +95,7 @@ pub fn keep_snapshot<D: Disk, K: Sink>(store: &mut Store<D>, output: &mut K) -> 
     }
     match store.rest() {
         Ok(_) => Ok(()),
-        Err(RestError::DiskFault) => Err(say_disk_fault(output)),
+        Err(RestError::DiskFault) => Err(say_disk_fault(&Offer::Snapshot, output)),
         Err(RestError::NoMemory) => Err(say_no_memory(output)),
     }
 }
@@ -125,13 +125,14 @@ pub fn say_read_fault<K: Sink>(output: &mut K)
     let _ = write_all(output, b"read fault\n");
 }
 
-/// Says that the disk failed.
-pub fn say_disk_fault<K: Sink>(output: &mut K) -> Stop
-    ensures { SaysDiskFault (output_at K.Sink output.old) (output_at K.Sink output.new) result }
+/// Says that the disk failed as it was offered this.
+pub fn say_disk_fault<K: Sink>(offer: &Offer, output: &mut K) -> Stop
+    ensures { SaysDiskFault offer.now (output_at K.Sink output.old) (output_at K.Sink output.new)
+        result }
 {
     match write_all(output, b"disk fault\n") {
-        Ok(()) => Stop::DiskFault,
-        Err(_) => Stop::DiskFaultUnsaid,
+        Ok(()) => Stop::DiskFault(*offer),
+        Err(_) => Stop::DiskFaultUnsaid(*offer),
     }
 }
 

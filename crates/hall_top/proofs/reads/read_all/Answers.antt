@@ -51,4 +51,4 @@ returns-in-Err-clause-goes g c =
 
 pub returns-clause-goes : goal.returns-clause-goes
 returns-clause-goes g c =
-    goes_with g.D.Disk (Ok tt) (Err Spent) (store_in c.args.run.now.session) (store_in c.loop-turn.run.session) c.loop-turn.invariant.goes c.loop-turn.invariant.goes.cause (λ quiet. tt) (λ is. absurd (cc))
+    goes_with g.D.Disk tt (Err Spent) (store_in c.args.run.now.session) (store_in c.loop-turn.run.session) c.loop-turn.invariant.goes c.loop-turn.invariant.goes.cause (λ is. absurd (cc))

@@ -1,9 +1,10 @@
 use Rattle.std.proofs.Common.{inr, refl}
 use Rattle.book_journal.proofs.Moments.{unmoved_none}
 use Rattle.book_store.specs.declared.types.MountError.TheVariants.{NoMemory}
-use Rattle.command_line.specs.Words.{bytes_of}
+use Rattle.command_line.specs.Words.{bytes_of, wanted_of}
 use Rattle.command_line.specs.Taken.{seen}
 use Rattle.hall_top.specs.Streams.{devices}
+use Rattle.hall_top.proofs.Checking.{same_wanted}
 use Rattle.hall_top.proofs.Explaining.{call_from}
 use Rattle.hall_top.proofs.Opened.{is_unopened}
 use Rattle.hall_top.proofs.RowLimit.{limit_asked}
@@ -21,3 +22,10 @@ carry_out-requires-clause-least g c = (limit_asked (bytes_of c.args.words.now) (
 
 pub carry_out-requires-clause-most : goal.carry_out-requires-clause-most
 carry_out-requires-clause-most g c = (limit_asked (bytes_of c.args.words.now) (seen c.in-Ok.wanted) c.in-Ok.ensures.ok).most
+
+pub returns-in-Ok-clause-ends : goal.returns-in-Ok-clause-ends
+returns-in-Ok-clause-ends g c = λ wanted asks.
+    let before = devices g.S.Source g.K.Sink c.args.input.now c.args.output.now in
+    let now = devices g.S.Source g.K.Sink c.carry_out.new.input c.carry_out.new.output in
+    same_wanted g.D.Disk (wanted_of (bytes_of c.args.words.now)) (seen c.in-Ok.wanted) wanted c.args.disk c.carry_out.result (call_from before now c.carry_out.result.rows)
+    c.in-Ok.ensures.ok asks c.carry_out.ensures.ends

@@ -43,6 +43,6 @@ loop-rest-preserved g c =
     record {
       over = over_more (migration_state c.args.self.now) (migration_state c.loop-rest.self) (migration_state c.take_slot.new.self) c.args.piece.now rest (take count rest) c.split_at.result.1.now c.loop-rest.invariant.over parts c.in_ok-count.ensures.on;
       quiet = c.in_ok-count.ensures.quiet ∙ c.loop-rest.invariant.quiet;
-      goes = goes_with g.D.Disk (Ok count) (Ok tt) c.args.self.now.store c.take_slot.new.self.store goes goes.cause (λ quiet. tt) (λ is. absurd (on_unfinished tt is));
+      goes = goes_with g.D.Disk count (Ok tt) c.args.self.now.store c.take_slot.new.self.store goes goes.cause (λ is. absurd (on_unfinished tt is));
       ready = c.in_ok-count.ensures.ready;
     }

@@ -11,7 +11,7 @@ returns-in-Ok-clause-ends g c = λ book before taken opened whole.
 
 pub returns-in-Ok-clause-goes : goal.returns-in-Ok-clause-goes
 returns-in-Ok-clause-goes g c =
-    goes_with g.D.Disk (Ok tt) (Err Finished) (store_in c.args.self.now.session) (store_in c.finish.new.self) c.in-Ok.ensures.goes c.in-Ok.ensures.goes.cause (λ quiet. tt) (λ finished. c.in-Ok.ensures.snapshot)
+    goes_with g.D.Disk tt (Err Finished) (store_in c.args.self.now.session) (store_in c.finish.new.self) c.in-Ok.ensures.goes c.in-Ok.ensures.goes.cause (λ finished. c.in-Ok.ensures.snapshot)
 
 pub returns-in-Err-clause-ends : goal.returns-in-Err-clause-ends
 returns-in-Err-clause-ends g c = λ book before taken opened whole.

@@ -1,12 +1,16 @@
-use Rattle.std.proofs.Common.{◌≡◌, List, [], ap, ◌∙◌, subst}
+use Rattle.std.proofs.Common.{◌≡◌, List, [], Err, sym, ap, ◌∙◌, subst}
+use Rattle.std.specs.Bool.{⊤}
 use Rattle.std.proofs.lemmas.Result.{err_from_is_err_and}
 use Rattle.book_words.specs.declared.act.Entry.{Entry}
 use Rattle.book_words.specs.Views.{summary}
 use Rattle.batch_reports.specs.Texts.{summary_text}
 use Rattle.book_core.specs.View.{BookView}
+use Rattle.hall_top.specs.declared.stop.Stop.{Stop}
 use Rattle.hall_top.specs.declared.stop.Stop.TheVariants.{WriteFault}
 use Rattle.hall_top.specs.Books.{opened_at}
 use Rattle.hall_top.specs.Streams.{Stream, output_at, WroteAll, IsCutIn}
+use Rattle.hall_top.specs.Kept.{Goes}
+use Rattle.hall_top.proofs.Keeping.{goes_cut}
 use Rattle.hall_top.proofs.Stopping.{ends_cut}
 use Rattle.hall_top.proofs.session.Session.finish.Goals as goal
 
@@ -26,3 +30,9 @@ returns-clause-wrote g c =
     let now = output_at g.K.Sink c.write_summary.new.output in
     subst (λ (before : Stream). WroteAll before now (summary_text (summary c.args.self.now.store.book.entries))) c.in_ok-keep_snapshot.ensures.quiet
     (subst (λ (es : List Entry). WroteAll (output_at g.K.Sink c.keep_snapshot.new.output) now (summary_text (summary es))) entries c.in_ok-write_summary.ensures.wrote)
+
+pub returns-in_err-write_summary-clause-goes : goal.returns-in_err-write_summary-clause-goes
+returns-in_err-write_summary-clause-goes g c =
+    let p = err_from_is_err_and c.from_residual-in_err-write_summary.result c.from_residual-in_err-write_summary.ensures.1 in
+    rw (p.1, p.2) (subst (λ (s : Stop). Goes {T = ⊤} g.D.Disk (Err s) c.args.self.now.store c.keep_snapshot.new.store) (sym c.in_err-write_summary.ensures.cut.0)
+    (goes_cut g.D.Disk tt c.args.self.now.store c.keep_snapshot.new.store c.in_ok-keep_snapshot.ensures.goes))
