@@ -32,7 +32,8 @@ use Rattle.book_words.specs.declared.refusal.Refusal.TheVariants as why
 use Rattle.book_words.specs.Names.{same_name}
 use Rattle.book_words.specs.Acts.{last_said, same_state, state_of}
 use Rattle.book_words.specs.Readings.{readings, reading_of, is_of_batch}
-use Rattle.book_words.specs.Population.{same_pile, is_unsettled, unsettled_reading, is_counted, population}
+use Rattle.book_words.specs.Population.{is_unsettled, unsettled_reading, is_counted, population}
+use Rattle.pack_judge.specs.Piles.{same_pile}
 use Rattle.book_words.specs.Samples.{Drawing, Sample, numbers_of, drawing_from, drawing_of, plan_of_drawing, first_picks, second_picks, second_word, sample_by, sample_of, is_among}
 use Rattle.book_words.specs.Piles.{pile_of}
 use Rattle.book_words.specs.Measures.{measured_of, first_unmeasured}

@@ -22,7 +22,8 @@ use Rattle.book_words.specs.declared.refusal.Refusal.TheVariants as why
 use Rattle.book_words.specs.Names.{same_name}
 use Rattle.book_words.specs.Acts.{last_said, state_of, newest_day, last_batch, lane_batch}
 use Rattle.book_words.specs.Readings.{weighed_reading, readings, reading_of, is_of_batch}
-use Rattle.book_words.specs.Population.{settled_pile, unsampled_pile, same_pile, is_pass, is_unsettled, is_counted, readings_of_batch, population}
+use Rattle.book_words.specs.Population.{settled_pile, unsampled_pile, is_pass, is_unsettled, is_counted, readings_of_batch, population}
+use Rattle.pack_judge.specs.Piles.{same_pile}
 use Rattle.book_words.specs.Samples.{Drawing, Sample, numbers_of, drawing_from, drawing_of, first_picks, second_picks, second_word, sample_by, sample_of, is_among, holds_pack, is_sampled}
 use Rattle.book_words.specs.Piles.{pile_with_sample, pile_of, in_pile, gross_sum, tally}
 use Rattle.book_words.specs.Verdicts.{first_defective}

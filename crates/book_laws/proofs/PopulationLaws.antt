@@ -23,7 +23,8 @@ use Rattle.book_words.specs.declared.refusal.Refusal.TheVariants as why
 use Rattle.book_words.specs.Names.{same_name}
 use Rattle.book_words.specs.Acts.{state_set, same_state, state_of, last_batch, lane_batch}
 use Rattle.book_words.specs.Readings.{weighed_reading, readings, reading_of, is_of_batch}
-use Rattle.book_words.specs.Population.{settled_pile, unsampled_pile, same_pile, is_pass, is_unsettled, is_counted, readings_of_batch, counted_readings, population}
+use Rattle.book_words.specs.Population.{settled_pile, unsampled_pile, is_pass, is_unsettled, is_counted, readings_of_batch, counted_readings, population}
+use Rattle.pack_judge.specs.Piles.{same_pile}
 use Rattle.book_words.specs.Samples.{Drawing, numbers_of, drawing_from, drawing_of, is_sampled}
 use Rattle.book_words.specs.Piles.{pile_with_sample, pile_of}
 use Rattle.book_words.specs.Signals.{judging_population}

@@ -24,7 +24,8 @@ use Rattle.book_words.specs.declared.refusal.Refusal.TheVariants.{SecondNotNeede
 use Rattle.book_words.specs.Names.{same_name}
 use Rattle.book_words.specs.Acts.{last_said, prior_told, is_void_of, batch_opened}
 use Rattle.book_words.specs.Readings.{readings, weighed_reading}
-use Rattle.book_words.specs.Population.{settled_pile, unsampled_pile, same_pile}
+use Rattle.book_words.specs.Population.{settled_pile, unsampled_pile}
+use Rattle.pack_judge.specs.Piles.{same_pile}
 use Rattle.book_words.specs.Samples.{Drawing, Sample, drawing_from, drawing_of, first_picks, second_word, sample_by, sample_of, is_among, is_sampled}
 use Rattle.book_words.specs.Piles.{pile_of, pile_with_sample}
 use Rattle.book_words.specs.Verdicts.{second_packs, first_defective}
