@@ -23,7 +23,8 @@ use Rattle.book_words.proofs.NameLemmas.{same_name_itself}
 use Rattle.book_words.proofs.RefusalLemmas.{none_of_two}
 use Rattle.book_words.proofs.OneMoreEntry.{advance, own_reading, readings-push}
 use Rattle.book_laws.proofs.TareLaws.{started_for_it}
-use Rattle.book_laws.proofs.KnownLaws.{IsAllowed, apart, is_there, silent, state_apart}
+use Rattle.book_laws.proofs.KnownLaws.{apart, silent, state_apart}
+use Rattle.book_words.proofs.AllowedActs.{IsAllowed, is_there}
 use Rattle.book_laws.proofs.LaneLaws.{IsOfLane, AreLanesRight}
 use Rattle.book_laws.proofs.PackLaws.{IsFound, IsPackOf, numbered, batch_is}
 

@@ -26,7 +26,8 @@ use Rattle.book_words.specs.Refusals.{same_tare, changes_tare, is_closed, is_fro
 use Rattle.book_words.proofs.LastSaid.{last_said-push}
 use Rattle.book_words.proofs.NameLemmas.{same_name_is}
 use Rattle.book_words.proofs.RefusalLemmas.{none_of_two}
-use Rattle.book_laws.proofs.KnownLaws.{IsAllowed, product_of_stays}
+use Rattle.book_laws.proofs.KnownLaws.{product_of_stays}
+use Rattle.book_words.proofs.AllowedActs.{IsAllowed}
 use Rattle.book_laws.proofs.PackLaws.{batch_is}
 
 -- ---- what no batch is, a batch that is there isn't

@@ -27,7 +27,9 @@ use Rattle.book_words.proofs.NameLemmas.{same_name_is}
 use Rattle.book_words.proofs.RefusalLemmas.{none_of_two, not_refused}
 use Rattle.book_words.proofs.OneMoreEntry.{advance, own_reading, readings-push}
 use Rattle.book_laws.proofs.TareLaws.{some_is, started_for_it}
-use Rattle.book_laws.proofs.KnownLaws.{IsAllowed, kept_behind, state_known, is_there, silent, moves_state, state_of_stays, state_apart}
+use Rattle.book_laws.proofs.KnownLaws.{state_known, silent, moves_state, state_of_stays, state_apart}
+use Rattle.book_words.proofs.AllowedActs.{IsAllowed, is_there, allowed}
+use Rattle.book_words.proofs.LegalLemmas.{legal_steps}
 
 -- a lane is one of the hall's, and its batch runs
 pub record RunsOn (entries : List Entry) (lane : ℕ) (batch : Name) : Type 0 where
@@ -247,7 +249,9 @@ lanes_right-push entries entry right h =
 
 -- the lanes of a legal list are right
 pub lanes_right : (entries : List Entry) → IsLegal entries → AreLanesRight entries
-lanes_right entries legal = kept_behind AreLanesRight lanes_right-push [] entries nothing legal
+lanes_right =
+    legal_steps AreLanesRight nothing
+    (λ before entry legal lawful right. lanes_right-push before entry right (allowed before entry lawful))
   where
     nothing : AreLanesRight []
     nothing = record { opened = λ batch there. absurd (cc); lanes = λ lane batch on. absurd (cc); waiting = All-nil (IsOfLane []) }

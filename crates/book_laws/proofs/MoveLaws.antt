@@ -36,7 +36,7 @@ use Rattle.book_words.proofs.RefusalLemmas.{not_refused}
 use Rattle.book_words.proofs.LegalLemmas.{legal-prefix}
 use Rattle.book_words.proofs.OneMoreEntry.{advance, own_reading, readings-push}
 use Rattle.book_words.proofs.DrawnLemmas.{sample_of-push}
-use Rattle.book_laws.proofs.LawfulActs.{IsAllowed, allowed, not_test, weigh_tells, void_tells, draw_second_tells}
+use Rattle.book_words.proofs.AllowedActs.{IsAllowed, allowed, not_test, weigh_tells, void_tells, draw_second_tells}
 use Rattle.book_laws.proofs.ReadingLaws.{IsOneOf, each_is_one, of_reading, numbers_increase}
 use Rattle.book_laws.proofs.BatchLaws.{IsOrderly, orderly, is_fixed, no_sample, draw_state}
 use Rattle.book_laws.proofs.UnsettledLaws.{Belongs, each_belongs}

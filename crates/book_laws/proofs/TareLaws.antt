@@ -27,7 +27,9 @@ use Rattle.book_words.specs.Soundness.{has_tare_and_nominal, TaresKnown}
 use Rattle.book_words.proofs.LastSaid.{last_or-cons, last_said-push}
 use Rattle.book_words.proofs.RefusalLemmas.{none_of_two}
 use Rattle.book_words.proofs.OneMoreEntry.{advance, own_reading, readings-push}
-use Rattle.book_laws.proofs.KnownLaws.{IsAllowed, kept_behind, unit_known, density_known, state_known, is_there, product_of_stays}
+use Rattle.book_laws.proofs.KnownLaws.{unit_known, density_known, state_known, product_of_stays}
+use Rattle.book_words.proofs.AllowedActs.{IsAllowed, is_there, allowed}
+use Rattle.book_words.proofs.LegalLemmas.{legal_steps}
 
 -- ---- a tare is there exactly where one is dated on the day or before it
 
@@ -326,7 +328,9 @@ each_has entries (reading ∷ some) all = and_from (has_tare_and_nominal entries
 
 -- the batches, the lanes and the readings of a legal list have what they need
 pub tared_of : (entries : List Entry) → IsLegal entries → IsTared entries
-tared_of entries legal = kept_behind IsTared tared-push [] entries nothing legal
+tared_of =
+    legal_steps IsTared nothing
+    (λ before entry legal lawful tared. tared-push before entry tared (allowed before entry lawful))
   where
     nothing : IsTared []
     nothing = record { products = λ batch product known. absurd (cc); lanes = λ lane batch on. absurd (cc); weighed = All-nil (IsWeighed []) }

@@ -20,8 +20,9 @@ use Rattle.book_words.specs.Population.{is_pass, is_unsettled, unsettled_reading
 use Rattle.book_words.specs.Refusals.{refused_if}
 use Rattle.book_words.specs.Answers.{IsLawful, IsLegal}
 use Rattle.book_words.proofs.OneMoreEntry.{advance, own_reading, readings-push}
-use Rattle.book_laws.proofs.LawfulActs.{IsAllowed, allowed, not_test, start_lane_tells, weigh_tells, void_tells}
-use Rattle.book_laws.proofs.ReadingLaws.{by_entries, IsOneOf, each_is_one, of_reading}
+use Rattle.book_words.proofs.AllowedActs.{IsAllowed, allowed, not_test, start_lane_tells, weigh_tells, void_tells}
+use Rattle.book_laws.proofs.ReadingLaws.{IsOneOf, each_is_one, of_reading}
+use Rattle.book_words.proofs.LegalLemmas.{legal_steps}
 use Rattle.book_laws.proofs.BatchLaws.{IsOrderly, orderly, state_of-push, lane_batch-push, lane_runs}
 
 -- what holds of a reading of a legal list: it has a batch, which has a state; and while it is
@@ -163,7 +164,7 @@ belong-push entries entry legal lawful all =
 
 -- each reading of a legal list belongs to a batch
 pub each_belongs : (entries : List Entry) → IsLegal entries → All (Belongs entries) (readings entries)
-each_belongs entries legal = by_entries AllBelong (All-nil (Belongs [])) belong-push entries legal
+each_belongs entries legal = legal_steps AllBelong (All-nil (Belongs [])) belong-push entries legal
 
 -- ---- at most one in a lane
 

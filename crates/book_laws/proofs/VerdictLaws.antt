@@ -34,7 +34,8 @@ use Rattle.book_words.proofs.LegalLemmas.{legal-prefix}
 use Rattle.book_words.proofs.OneMoreEntry.{advance}
 use Rattle.book_words.proofs.DrawnLemmas.{drawing_of-push}
 use Rattle.book_laws.proofs.TareLaws.{tared_of}
-use Rattle.book_laws.proofs.KnownLaws.{IsAllowed, lawful_allowed, IsKnown, silent, state_apart, closed_stays, nominal_of_batch_stays, density_of_batch_stays}
+use Rattle.book_laws.proofs.KnownLaws.{IsKnown, silent, state_apart, closed_stays, nominal_of_batch_stays, density_of_batch_stays}
+use Rattle.book_words.proofs.AllowedActs.{IsAllowed, allowed}
 use Rattle.book_laws.proofs.LaneLaws.{AreLanesRight, lanes_right}
 use Rattle.book_laws.proofs.PackLaws.{IsPick, PicksOwn, picks_own, numbered, none_beyond, reading_of_later}
 use Rattle.book_laws.proofs.ClosedLaws.{Unmoved, all_unmoved, measured_stays, closed_population_stays}
@@ -278,14 +279,14 @@ settled_of entries batch legal closed = each (product_of entries batch) refl (ri
 pub closed_verdict_stays : (entries : List Entry) (entry : Entry) (batch : Name) → IsLegal entries → IsLawful entries entry → state_of entries batch ≡ Some Closed
     → verdict_of (entries ++ entry ∷ []) batch ≡ verdict_of entries batch
 closed_verdict_stays entries entry batch legal lawful closed =
-    same_verdict (entries ++ entry ∷ []) entries batch (agrees entries entry batch (lawful_allowed entries entry lawful) (settled_of entries batch legal closed))
+    same_verdict (entries ++ entry ∷ []) entries batch (agrees entries entry batch (allowed entries entry lawful) (settled_of entries batch legal closed))
 
 -- it stays whatever follows
 verdict_behind : (batch : Name) (before after : List Entry) → state_of before batch ≡ Some Closed → IsLegal (before ++ after) → verdict_of before batch ≡ verdict_of (before ++ after) batch
 verdict_behind batch before [] closed legal = ap (λ (es : List Entry). verdict_of es batch) (sym (append-nil before))
 verdict_behind batch before (entry ∷ after) closed legal =
     let whole : (before ++ entry ∷ []) ++ after ≡ before ++ entry ∷ after = append_assoc before (entry ∷ []) after in
-    let allowed = lawful_allowed before entry (legal before entry after refl) in
+    let allowed = allowed before entry (legal before entry after refl) in
     let front = legal-prefix before (entry ∷ after) legal in
     let settled = settled_of before batch front closed in
     sym (closed_verdict_stays before entry batch front (legal before entry after refl) closed)

@@ -30,7 +30,8 @@ use Rattle.book_words.specs.Piles.{pile_of, pile_with_sample, in_pile, gross_sum
 use Rattle.book_packs.specs.Densities.{limit_at}
 use Rattle.book_packs.specs.Stand.{terms_of_batch, opened_terms, pack_of, packs_in}
 use Rattle.book_packs.specs.Told.{pack_told, totals_told, piles_told}
-use Rattle.book_packs.proofs.Lists.{filter-map, find-map, filter-filter, filter-within, map-map, all_then, count-map, place_holds, same_place}
+use Rattle.book_packs.proofs.Lists.{filter-map, find-map, filter-filter, filter-within, map-map, all_then, count-map}
+use Rattle.book_words.proofs.PlaceLemmas.{place_of-name, same_place}
 use Rattle.book_packs.proofs.Known.{IsWeighed}
 use Rattle.book_packs.proofs.Below.{below_is}
 
@@ -126,7 +127,7 @@ module _ (entries : List Entry) where
   pub terms_at : (name : Name) (number : ℕ) → batch_number entries name ≡ Some number → slice_get (opened_terms entries) number ≡ Some (terms_of_batch entries name)
   terms_at name number is =
       slice_get-map (terms_of_batch entries) (said batch_opened entries) number
-      ∙ ap (option_map (terms_of_batch entries)) (place_holds (said batch_opened entries) name number is)
+      ∙ ap (option_map (terms_of_batch entries)) (place_of-name (said batch_opened entries) name number is)
 
   pub totals_are : (kept : Sums) (name : Name) (number : ℕ) → kept.batches ≡ opened_terms entries → kept.packs ≡ packs_in entries
       → batch_number entries name ≡ Some number → AllByRecursion (IsWeighed entries) (readings entries)

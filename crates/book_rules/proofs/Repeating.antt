@@ -21,7 +21,7 @@ use Rattle.book_words.specs.Verdicts.{verdict_of}
 use Rattle.book_words.specs.Refusals as rules
 use Rattle.book_words.specs.Answers.{judged_or_done, reply_behind, IsLegal}
 use Rattle.book_words.proofs.RefusalLemmas.{none_of_two}
-use Rattle.book_laws.proofs.KnownLaws.{IsAllowed, lawful_allowed, is_there}
+use Rattle.book_words.proofs.AllowedActs.{IsAllowed, allowed, is_there}
 use Rattle.book_laws.proofs.TareLaws.{some_is}
 use Rattle.book_laws.proofs.VerdictLaws.{verdicts_stay}
 use Rattle.book_state.specs.Told.{entry_numbered}
@@ -112,7 +112,7 @@ pub held_known : (entries : List Entry) (row : ℕ) (act : Act) (batch : Name) �
 held_known entries row act batch legal holds is =
     let at = parts_at entries row holds.entry holds.numbered in
     let before = take (row - 1) entries in
-    let allowed = lawful_allowed before holds.entry (legal before holds.entry at.after at.parts) in
+    let allowed = allowed before holds.entry (legal before holds.entry at.after at.parts) in
     let closing : IsAllowed before (Close batch) = subst (IsAllowed before) (holds.same ∙ is) allowed in
     subst (λ (es : List Entry). is_some (product_of es batch) ≡ true) (sym at.parts) (product_later before (holds.entry ∷ at.after) batch (closes_known before batch closing))
 

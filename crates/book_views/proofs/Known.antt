@@ -25,7 +25,8 @@ use Rattle.book_words.specs.Samples.{Sample, sample_of}
 use Rattle.book_words.specs.Verdicts.{second_packs}
 use Rattle.book_words.specs.Ranges.{IsSampleInRange}
 use Rattle.book_laws.proofs.RangeLaws.{sample_within}
-use Rattle.book_laws.proofs.KnownLaws.{IsAllowed, lawful_allowed, put_apart}
+use Rattle.book_laws.proofs.KnownLaws.{put_apart}
+use Rattle.book_words.proofs.AllowedActs.{IsAllowed, allowed}
 use Rattle.book_laws.proofs.TareLaws.{IsTared, tared_of, some_is}
 
 -- what is there isn't found missing
@@ -78,7 +79,7 @@ suits_behind before [] suits legal = subst DensitiesSuit (sym (append-nil before
 suits_behind before (entry ∷ after) suits legal =
     let whole : (before ++ entry ∷ []) ++ after ≡ before ++ entry ∷ after = append_assoc before (entry ∷ []) after in
     let front = legal-prefix before (entry ∷ after) legal in
-    let allowed = lawful_allowed before entry (legal before entry after refl) in
+    let allowed = allowed before entry (legal before entry after refl) in
     subst DensitiesSuit whole
     (suits_behind (before ++ entry ∷ []) after
     (λ batch product density unit given recorded measured.
