@@ -40,6 +40,9 @@ use Rattle.book_laws.proofs.ReadingLaws.{IsOneOf, each_is_one}
 use Rattle.book_words.proofs.LegalLemmas.{legal_steps}
 use Rattle.book_laws.proofs.BatchLaws.{IsOrderly, orderly, state_of-push, drawn_is_fixed, is_fixed, close_state}
 use Rattle.book_laws.proofs.UnsettledLaws.{Belongs, each_belongs}
+use Rattle.book_words.proofs.PlainLemmas.{some_of, or_none, eqb-swap}
+use Rattle.book_words.proofs.DrawnOnce.{drawn_has_draw}
+use Rattle.std.proofs.Math.Bool.{or-false}
 
 -- ---- where a reading lies before samples are looked at, once an act came
 
@@ -51,14 +54,6 @@ settled_after (StopLane lane prior) reading pile =
     if ((reading.lane == lane) && is_unsettled reading) then pile_by_gate prior pile else pile
 settled_after (Void pack) reading pile = if reading.number == pack then Voided else pile
 settled_after act reading pile = pile
-
--- two numbers are the same, whichever stands first
-pub same_either_way : (a b : ℕ) → (a == b) ≡ (b == a)
-same_either_way a b =
-    elim (cases_eq a b) [
-      | inl same ↦ eq-eqb a b same ∙ sym (eq-eqb b a (sym same))
-      | inr differ ↦ ne_eqb a b differ ∙ sym (ne_eqb b a (λ same. differ (sym same)))
-    ]
 
 by_gate : (voided : Bool) (signal : Option Signal) (next : Option Prior) (prior : Prior) → ((is_pass signal && is_none next) ≡ true → voided ≡ false)
     → settled_pile voided signal (option_or next (Some prior)) ≡ cond (is_pass signal && is_none next) (pile_by_gate prior (settled_pile voided signal next)) (settled_pile voided signal next)
@@ -74,20 +69,12 @@ by_gate false (Some Pass) None Unknown h = refl
 by_gate false (Some Pass) (Some p) prior h = refl
 by_gate false (Some (Reject cause)) next prior h = refl
 
-or_false : (b : Bool) → (b || false) ≡ b
-or_false true = refl
-or_false false = refl
-
-or_none : {A : Type 0} (o : Option A) → option_or o None ≡ o
-or_none None = refl
-or_none (Some x) = refl
-
 at_gate : (voided : Bool) (signal : Option Signal) (next : Option Prior) (lane number : ℕ) (prior : Prior) → ((is_pass signal && is_none next) ≡ true → voided ≡ false)
     → settled_pile (voided || false) signal (option_or next (cond (number == lane) (Some prior) None))
     ≡ cond ((lane == number) && (is_pass signal && is_none next)) (pile_by_gate prior (settled_pile voided signal next)) (settled_pile voided signal next)
 at_gate voided signal next lane number prior h =
-    ap (λ b. settled_pile b signal (option_or next (cond (number == lane) (Some prior) None))) (or_false voided)
-    ∙ ap (λ b. settled_pile voided signal (option_or next (cond b (Some prior) None))) (same_either_way number lane)
+    ap (λ b. settled_pile b signal (option_or next (cond (number == lane) (Some prior) None))) (or-false voided)
+    ∙ ap (λ b. settled_pile voided signal (option_or next (cond b (Some prior) None))) (eqb-swap number lane)
     ∙ either (lane == number)
   where
     either : (b : Bool) → settled_pile voided signal (option_or next (cond b (Some prior) None))
@@ -96,13 +83,13 @@ at_gate voided signal next lane number prior h =
     either false = ap (settled_pile voided signal) (or_none next)
 
 unmoved : (voided : Bool) (signal : Option Signal) (next : Option Prior) → settled_pile (voided || false) signal (option_or next None) ≡ settled_pile voided signal next
-unmoved voided signal next = ap (λ b. settled_pile b signal (option_or next None)) (or_false voided) ∙ ap (settled_pile voided signal) (or_none next)
+unmoved voided signal next = ap (λ b. settled_pile b signal (option_or next None)) (or-false voided) ∙ ap (settled_pile voided signal) (or_none next)
 
 taken_back : (voided : Bool) (signal : Option Signal) (next : Option Prior) (pack number : ℕ)
     → settled_pile (voided || (pack == number)) signal (option_or next None) ≡ cond (number == pack) Voided (settled_pile voided signal next)
 taken_back voided signal next pack number =
     ap (settled_pile (voided || (pack == number)) signal) (or_none next)
-    ∙ ap (λ b. settled_pile (voided || b) signal next) (same_either_way pack number) ∙ either voided (number == pack)
+    ∙ ap (λ b. settled_pile (voided || b) signal next) (eqb-swap pack number) ∙ either voided (number == pack)
   where
     either : (v b : Bool) → settled_pile (v || b) signal next ≡ cond b Voided (settled_pile v signal next)
     either true true = refl
@@ -441,57 +428,8 @@ population_in_stock entries batch =
 
 -- ---- which batches have a draw
 
-some_of : {A : Type 0} (o p : Option A) → is_some p ≡ true → is_some (option_or o p) ≡ true
-some_of None p h = h
-some_of (Some x) p h = refl
-
--- an act that makes a batch drawn draws it
-drawn_by : (entries : List Entry) (act : Act) (batch : Name) → (state_of entries batch ≡ Some Drawn → is_some (drawing_of entries batch) ≡ true)
-    → option_or (state_set batch act) (state_of entries batch) ≡ Some Drawn → is_some (option_or (drawing_from batch entries act) (drawing_of entries batch)) ≡ true
-drawn_by entries (Draw name mode word) batch before = either (same_name name batch) (record { mode = mode; word = word; packs = numbers_of (population entries batch) })
-  where
-    either : (b : Bool) (drawing : Drawing) → option_or (cond b (Some Drawn) None) (state_of entries batch) ≡ Some Drawn → is_some (option_or (cond b (Some drawing) None) (drawing_of entries batch)) ≡ true
-    either true drawing is = refl
-    either false drawing is = before is
-drawn_by entries (OpenBatch name product density) batch before = either (same_name name batch)
-  where
-    either : (b : Bool) → option_or (cond b (Some Running) None) (state_of entries batch) ≡ Some Drawn → is_some (drawing_of entries batch) ≡ true
-    either true is = absurd (cc)
-    either false is = before is
-drawn_by entries (EndRun name) batch before = either (same_name name batch)
-  where
-    either : (b : Bool) → option_or (cond b (Some Ended) None) (state_of entries batch) ≡ Some Drawn → is_some (drawing_of entries batch) ≡ true
-    either true is = absurd (cc)
-    either false is = before is
-drawn_by entries (Close name) batch before = either (same_name name batch)
-  where
-    either : (b : Bool) → option_or (cond b (Some Closed) None) (state_of entries batch) ≡ Some Drawn → is_some (drawing_of entries batch) ≡ true
-    either true is = absurd (cc)
-    either false is = before is
-drawn_by entries (NewDay day) batch before = before
-drawn_by entries (PutProduct name nominal unit) batch before = before
-drawn_by entries (PutTare product day tare) batch before = before
-drawn_by entries (StartLane lane name) batch before = before
-drawn_by entries (Weigh lane gross prior) batch before = before
-drawn_by entries (StopLane lane prior) batch before = before
-drawn_by entries (Void pack) batch before = before
-drawn_by entries (Measure pack gross empty) batch before = before
-drawn_by entries (DrawSecond name word) batch before = before
-
--- a drawn batch has a draw
-abbrev DrawnHave : List Entry → Type 0
-DrawnHave entries = (batch : Name) → state_of entries batch ≡ Some Drawn → is_some (drawing_of entries batch) ≡ true
-
--- so each drawn batch of a legal list
-pub drawn_has : (entries : List Entry) (batch : Name) → IsLegal entries → state_of entries batch ≡ Some Drawn → is_some (drawing_of entries batch) ≡ true
-drawn_has entries batch legal =
-    legal_steps DrawnHave (λ batch is. absurd (cc))
-    (λ entries entry legal lawful all batch is.
-    ap is_some (drawing_of-push entries entry batch) ∙ drawn_by entries entry.act batch (all batch) (sym (state_of-push entries entry batch) ∙ is))
-    entries legal batch
-
 -- a batch that an act closes undrawn has no pack
-closed_by : (entries : List Entry) (act : Act) (batch : Name) → IsOrderly entries → DrawnHave entries → IsAllowed entries act → is_fixed (state_of entries batch) ≡ false
+closed_by : (entries : List Entry) (act : Act) (batch : Name) → IsOrderly entries → ((b : Name) → state_of entries b ≡ Some Drawn → is_some (drawing_of entries b) ≡ true) → IsAllowed entries act → is_fixed (state_of entries batch) ≡ false
     → is_fixed (option_or (state_set batch act) (state_of entries batch)) ≡ true → (is_some (option_or (drawing_from batch entries act) (drawing_of entries batch)) ≡ true) ⊎ ((moves_population act ≡ false) × (population entries batch ≡ []))
 closed_by entries (Draw name mode word) batch good have h free closed = either (same_name name batch) (record { mode = mode; word = word; packs = numbers_of (population entries batch) }) closed
   where
@@ -556,7 +494,7 @@ drawn_or_empty-push entries entry legal lawful all batch fixed = each (cases_Boo
           | inr none ↦ inr (fixed_population entries entry batch legal lawful before ∙ none)
         ]
     each (inr free) =
-        elim (closed_by entries entry.act batch (orderly entries legal) (λ b. drawn_has entries b legal) (allowed entries entry lawful) free now) [
+        elim (closed_by entries entry.act batch (orderly entries legal) (drawn_has_draw entries legal) (allowed entries entry lawful) free now) [
           | inl has ↦ inl (ap is_some (drawing_of-push entries entry batch) ∙ has)
           | inr none ↦ inr (quiet_population entries entry batch legal none.0 ∙ ap numbers_of none.1)
         ]
