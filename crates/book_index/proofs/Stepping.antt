@@ -26,7 +26,7 @@ use Rattle.book_index.specs.Listed.{IsIndexOf, terms_of_product, terms_of_batch,
 use Rattle.book_index.proofs.SameNames.{same_name_swap}
 use Rattle.book_words.proofs.PlainLemmas.{in_both}
 use Rattle.book_index.proofs.Places.{kept_with, names_kept}
-use Rattle.book_index.proofs.SaidNames.{nominal_where_put, product_where_opened}
+use Rattle.book_words.proofs.SaidNames.{nominal_where_put, product_where_opened}
 use Rattle.book_index.proofs.LookUps.{products_named, batches_named}
 use Rattle.book_index.proofs.LegalNames.{IsActNamed, AreNamed}
 use Rattle.book_words.proofs.PlaceLemmas.{place_among_more, place_is_some}

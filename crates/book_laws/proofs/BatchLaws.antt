@@ -27,7 +27,7 @@ use Rattle.book_words.proofs.AllowedActs.{IsAllowed, allowed, open_batch_tells, 
 use Rattle.book_words.proofs.LegalLemmas.{legal_steps}
 use Rattle.book_words.proofs.DrawnOnce.{states_known, undrawn_by_state, is_undrawn, undrawn_at_draw}
 use Rattle.book_laws.proofs.LaneLaws.{AreLanesRight, lanes_right}
-use Rattle.book_laws.proofs.TareLaws.{started_for_it}
+use Rattle.book_words.proofs.SaidTogether.{started_for_it}
 
 -- ---- states
 

@@ -21,7 +21,7 @@ use Rattle.book_words.specs.Refusals as rules
 use Rattle.book_words.specs.Refusals.{same_tare, changes_tare, is_closed, is_frozen}
 use Rattle.book_words.proofs.NameLemmas.{same_name_itself}
 use Rattle.book_words.proofs.OneMoreEntry.{advance, own_reading, readings-push}
-use Rattle.book_laws.proofs.TareLaws.{started_for_it}
+use Rattle.book_words.proofs.SaidTogether.{started_for_it}
 use Rattle.book_laws.proofs.KnownLaws.{apart, silent, state_apart}
 use Rattle.book_words.proofs.AllowedActs.{IsAllowed, is_there, void_tells, measure_tells, weigh_tells}
 use Rattle.book_laws.proofs.LaneLaws.{IsOfLane, AreLanesRight}

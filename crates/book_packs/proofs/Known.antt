@@ -24,7 +24,9 @@ use Rattle.book_words.proofs.OneMoreEntry.{advance, own_reading, readings-push}
 use Rattle.book_packs.proofs.Lists.{all_then, all-append, all-map}
 use Rattle.book_words.proofs.LegalLemmas.{legal_steps}
 use Rattle.book_words.proofs.AllowedActs.{IsAllowed, allowed, put_tare_tells, new_day_tells, open_batch_tells, start_lane_tells, weigh_tells}
-use Rattle.book_packs.proofs.Numbered.{product_is_known, batch_is_known, product_keeps, batch_keeps, was_started}
+use Rattle.book_packs.proofs.Numbered.{product_keeps, batch_keeps}
+use Rattle.book_words.proofs.SaidNames.{nominal_where_put, product_where_opened}
+use Rattle.book_words.proofs.SaidTogether.{was_started}
 use Rattle.std.proofs.lemmas.Option.{same_Some}
 use Rattle.book_words.proofs.PlaceLemmas.{apart_more}
 
@@ -64,7 +66,7 @@ product_ruled entries (OpenBatch name other density) h batch product is =
     elim (cases_Bool (same_name name batch)) [
       | inl t ↦
           let same : other ≡ product = same_Some _ _ (sym (ap (λ b. cond b (Some other) None) t) ∙ is) in
-          subst (λ (p : Name). is_some (product_number entries p) ≡ true) same (sym (product_is_known entries other) ∙ (open_batch_tells entries name other density h).known)
+          subst (λ (p : Name). is_some (product_number entries p) ≡ true) same (sym (nominal_where_put entries other) ∙ (open_batch_tells entries name other density h).known)
       | inr f ↦ absurd (let wrong = sym (ap (λ b. cond b (Some other) None) f) ∙ is in cc)
     ]
 product_ruled entries (NewDay day) h batch product is = absurd (cc)
@@ -85,7 +87,7 @@ lane_ruled entries (StartLane number name) h lane batch is =
     elim (cases_Bool (number == lane)) [
       | inl t ↦
           let same : name ≡ batch = same_Some _ _ (sym (ap (λ b. cond b (Some name) None) t) ∙ is) in
-          subst (λ (b : Name). is_some (batch_number entries b) ≡ true) same (sym (batch_is_known entries name) ∙ (start_lane_tells entries number name h).known)
+          subst (λ (b : Name). is_some (batch_number entries b) ≡ true) same (sym (product_where_opened entries name) ∙ (start_lane_tells entries number name h).known)
       | inr f ↦ absurd (let wrong = sym (ap (λ b. cond b (Some name) None) f) ∙ is in cc)
     ]
 lane_ruled entries (NewDay day) h lane batch is = absurd (cc)
@@ -117,7 +119,7 @@ day_ruled entries (DrawSecond other word) h day is = absurd (cc)
 day_ruled entries (Close other) h day is = absurd (cc)
 
 tare_ruled : (entries : List Entry) (act : Act) → IsAllowed entries act → AllByRecursion (λ name. is_some (product_number entries name) ≡ true) (cons_option (tare_named act) [])
-tare_ruled entries (PutTare other date tare) h = (sym (product_is_known entries other) ∙ (put_tare_tells entries other date tare h).known, tt)
+tare_ruled entries (PutTare other date tare) h = (sym (nominal_where_put entries other) ∙ (put_tare_tells entries other date tare h).known, tt)
 tare_ruled entries (NewDay new) h = tt
 tare_ruled entries (PutProduct other nominal unit) h = tt
 tare_ruled entries (OpenBatch name other density) h = tt
@@ -133,7 +135,7 @@ tare_ruled entries (Close other) h = tt
 
 opened_new : (entries : List Entry) (act : Act) → IsAllowed entries act → (batch : Name) → batch_opened act ≡ Some batch → is_some (batch_number entries batch) ≡ false
 opened_new entries (OpenBatch name other density) h batch is =
-    subst (λ (b : Name). is_some (batch_number entries b) ≡ false) (same_Some _ _ is) (sym (batch_is_known entries name) ∙ ap is_some (open_batch_tells entries name other density h).new)
+    subst (λ (b : Name). is_some (batch_number entries b) ≡ false) (same_Some _ _ is) (sym (product_where_opened entries name) ∙ ap is_some (open_batch_tells entries name other density h).new)
 opened_new entries (NewDay day) h batch is = absurd (cc)
 opened_new entries (PutProduct other nominal unit) h batch is = absurd (cc)
 opened_new entries (PutTare other day tare) h batch is = absurd (cc)

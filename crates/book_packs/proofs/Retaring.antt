@@ -18,7 +18,8 @@ use Rattle.book_words.specs.Tares.{tare_of_product}
 use Rattle.book_words.specs.Readings.{tare_of_reading}
 use Rattle.book_words.proofs.LastSaid.{last_said-push}
 use Rattle.book_packs.specs.Stand.{tare_entry, tares_in, terms_of_batch, opened_terms, number_of_product, pack_of}
-use Rattle.book_packs.proofs.Numbered.{product_keeps, batch_is_known}
+use Rattle.book_packs.proofs.Numbered.{product_keeps}
+use Rattle.book_words.proofs.SaidNames.{product_where_opened}
 use Rattle.book_packs.proofs.Known.{Known, IsWeighed, is_there}
 use Rattle.book_packs.proofs.Telling.{terms_at}
 use Rattle.book_packs.proofs.Registering.{tare_is}
@@ -33,7 +34,7 @@ pub record HasProduct (entries : List Entry) (batch : Name) : Type 0 where
   pub numbered : product_number entries name ≡ Some number
 
 pub has_product : (entries : List Entry) → Known entries → (batch : Name) → is_some (batch_number entries batch) ≡ true → HasProduct entries batch
-has_product entries known batch h = each (product_of entries batch) refl (batch_is_known entries batch ∙ h)
+has_product entries known batch h = each (product_of entries batch) refl (product_where_opened entries batch ∙ h)
   where
     with_number : (name : Name) (o : Option ℕ) → product_of entries batch ≡ Some name → product_number entries name ≡ o → is_some (product_number entries name) ≡ true → HasProduct entries batch
     with_number name None of numbered k = absurd (let wrong = sym (ap is_some numbered) ∙ k in cc)

@@ -17,7 +17,7 @@ use Rattle.book_words.specs.Answers.{IsLegal}
 use Rattle.book_packs.specs.Stand.{Standing, IsPacksOf, terms_of_batch}
 use Rattle.book_index.proofs.LegalNames.{legal_named}
 use Rattle.book_words.proofs.PlaceLemmas.{place_of-name}
-use Rattle.book_index.proofs.SaidNames.{product_where_opened}
+use Rattle.book_words.proofs.SaidNames.{product_where_opened}
 use Rattle.book_laws.proofs.BatchLaws.{orderly, is_fixed, no_sample}
 use Rattle.book_laws.proofs.UnsettledLaws.{Belongs, each_belongs}
 use Rattle.book_laws.proofs.PopulationLaws.{batch_of}

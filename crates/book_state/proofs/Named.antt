@@ -7,7 +7,7 @@ use Rattle.book_words.specs.Order.{product_named, product_number, batch_number}
 use Rattle.book_words.specs.Answers.{IsLegal}
 use Rattle.book_index.specs.Listed.{batch_product_number}
 use Rattle.book_index.proofs.LegalNames.{legal_named, product_numbered}
-use Rattle.book_index.proofs.SaidNames.{product_where_opened}
+use Rattle.book_words.proofs.SaidNames.{product_where_opened}
 use Rattle.book_words.proofs.PlaceLemmas.{place_of-name}
 
 -- nothing is there where nothing is counted

@@ -14,7 +14,7 @@ use Rattle.book_words.specs.Tares.{tare_put, tares_put, tare_of_product}
 use Rattle.book_words.specs.Order.{product_number}
 use Rattle.book_words.specs.Answers.{IsLegal}
 use Rattle.book_index.proofs.LegalNames.{still_said}
-use Rattle.book_index.proofs.SaidNames.{nominal_where_put}
+use Rattle.book_words.proofs.SaidNames.{nominal_where_put}
 use Rattle.book_index.proofs.SameNames.{same_name_swap}
 use Rattle.book_laws.proofs.KnownLaws.{apart}
 use Rattle.book_words.proofs.AllowedActs.{IsAllowed, allowed, put_tare_tells}
