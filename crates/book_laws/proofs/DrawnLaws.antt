@@ -359,18 +359,7 @@ plan_now entries (Draw name mode word) batch drawing h is = either (same_name na
     either : (b : Bool) → same_name name batch ≡ b → cond {A = Option Drawing} b (Some (record { mode = mode; word = word; packs = numbers_of (population entries batch) })) None ≡ Some drawing → HasPlan drawing
     either true same k = subst HasPlan (same_Some _ _ k) (plan batch (subst (λ (n : Name). is_ok (plan_of (length (population entries n)) mode) ≡ true) (same_name_is name batch same) (draw_has_plan entries name mode word h)))
     either false same k = absurd (cc)
-plan_now entries (NewDay day) batch drawing h is = absurd (cc)
-plan_now entries (PutProduct name nominal unit) batch drawing h is = absurd (cc)
-plan_now entries (PutTare product day tare) batch drawing h is = absurd (cc)
-plan_now entries (OpenBatch name product density) batch drawing h is = absurd (cc)
-plan_now entries (StartLane lane name) batch drawing h is = absurd (cc)
-plan_now entries (Weigh lane gross prior) batch drawing h is = absurd (cc)
-plan_now entries (StopLane lane prior) batch drawing h is = absurd (cc)
-plan_now entries (Void pack) batch drawing h is = absurd (cc)
-plan_now entries (EndRun name) batch drawing h is = absurd (cc)
-plan_now entries (Measure pack gross empty) batch drawing h is = absurd (cc)
-plan_now entries (DrawSecond name word) batch drawing h is = absurd (cc)
-plan_now entries (Close name) batch drawing h is = absurd (cc)
+plan_now entries act batch drawing h is = absurd (cc)
 
 some_of_two : {A : Type 0} (o p : Option A) (x : A) → option_or o p ≡ Some x → (o ≡ Some x) ⊎ (p ≡ Some x)
 some_of_two None p x h = inr h
@@ -400,17 +389,7 @@ undrawn_sample entries (Draw name mode word) batch h =
     ap (λ b. option_map (λ (d : Drawing). sample_by d (last_said (second_word batch) entries)) (option_or (cond b (Some (record { mode = mode; word = word; packs = numbers_of (population entries batch) })) None) (drawing_of entries batch))) h
 undrawn_sample entries (DrawSecond name word) batch h =
     ap (λ b. option_map (λ (d : Drawing). sample_by d (option_or (cond b (Some word) None) (last_said (second_word batch) entries))) (drawing_of entries batch)) h
-undrawn_sample entries (NewDay day) batch h = refl
-undrawn_sample entries (PutProduct name nominal unit) batch h = refl
-undrawn_sample entries (PutTare product day tare) batch h = refl
-undrawn_sample entries (OpenBatch name product density) batch h = refl
-undrawn_sample entries (StartLane lane name) batch h = refl
-undrawn_sample entries (Weigh lane gross prior) batch h = refl
-undrawn_sample entries (StopLane lane prior) batch h = refl
-undrawn_sample entries (Void pack) batch h = refl
-undrawn_sample entries (EndRun name) batch h = refl
-undrawn_sample entries (Measure pack gross empty) batch h = refl
-undrawn_sample entries (Close name) batch h = refl
+undrawn_sample entries act batch h = refl
 
 -- an act that draws none of a batch leaves its samples
 pub sample_stays : (entries : List Entry) (entry : Entry) (batch : Name) → is_draw_of batch entry.act ≡ false → sample_of (entries ++ entry ∷ []) batch ≡ sample_of entries batch

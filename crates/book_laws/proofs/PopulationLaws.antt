@@ -102,16 +102,7 @@ pub unsampled_on : (act : Act) (reading : Reading) → (is_unsettled reading ≡
 unsampled_on (Weigh lane gross prior) reading kept = at_gate reading.voided reading.signal reading.next_prior reading.lane lane prior kept
 unsampled_on (StopLane lane prior) reading kept = at_gate reading.voided reading.signal reading.next_prior reading.lane lane prior kept
 unsampled_on (Void pack) reading kept = taken_back reading.voided reading.signal reading.next_prior pack reading.number
-unsampled_on (NewDay day) reading kept = unmoved reading.voided reading.signal reading.next_prior
-unsampled_on (PutProduct name nominal unit) reading kept = unmoved reading.voided reading.signal reading.next_prior
-unsampled_on (PutTare product day tare) reading kept = unmoved reading.voided reading.signal reading.next_prior
-unsampled_on (OpenBatch name product density) reading kept = unmoved reading.voided reading.signal reading.next_prior
-unsampled_on (StartLane lane name) reading kept = unmoved reading.voided reading.signal reading.next_prior
-unsampled_on (EndRun name) reading kept = unmoved reading.voided reading.signal reading.next_prior
-unsampled_on (Draw name mode word) reading kept = unmoved reading.voided reading.signal reading.next_prior
-unsampled_on (Measure pack gross empty) reading kept = unmoved reading.voided reading.signal reading.next_prior
-unsampled_on (DrawSecond name word) reading kept = unmoved reading.voided reading.signal reading.next_prior
-unsampled_on (Close name) reading kept = unmoved reading.voided reading.signal reading.next_prior
+unsampled_on act reading kept = unmoved reading.voided reading.signal reading.next_prior
 
 -- ---- the packs that count for a batch
 
@@ -200,16 +191,7 @@ settled_fixed entries (Void pack) reading batch good h one has fixed of_it = eit
         let found : reading_of entries pack ≡ Some reading = ap (reading_of entries) (sym (eqb-true reading.number pack is)) ∙ one in
         absurd (both_ways _ (subst (λ (n : Name). is_fixed (state_of entries n) ≡ false) (batch_of entries reading batch has of_it) (voided_is_free entries pack reading h has found)) fixed)
     either false is = refl
-settled_fixed entries (NewDay day) reading batch good h one has fixed of_it = refl
-settled_fixed entries (PutProduct name nominal unit) reading batch good h one has fixed of_it = refl
-settled_fixed entries (PutTare product day tare) reading batch good h one has fixed of_it = refl
-settled_fixed entries (OpenBatch name product density) reading batch good h one has fixed of_it = refl
-settled_fixed entries (StartLane lane name) reading batch good h one has fixed of_it = refl
-settled_fixed entries (EndRun name) reading batch good h one has fixed of_it = refl
-settled_fixed entries (Draw name mode word) reading batch good h one has fixed of_it = refl
-settled_fixed entries (Measure pack gross empty) reading batch good h one has fixed of_it = refl
-settled_fixed entries (DrawSecond name word) reading batch good h one has fixed of_it = refl
-settled_fixed entries (Close name) reading batch good h one has fixed of_it = refl
+settled_fixed entries act reading batch good h one has fixed of_it = refl
 
 -- no pack is weighed of it
 own_not_fixed : (entries : List Entry) (act : Act) (signal : Option Signal) (batch : Name) → IsOrderly entries → IsAllowed entries act → is_fixed (state_of entries batch) ≡ true
@@ -236,18 +218,7 @@ own_not_fixed entries (Weigh lane gross prior) signal batch good h fixed =
               absurd (both_ways _ (ap is_fixed (subst (λ (n : Name). state_of entries n ≡ Some Running) same (good.lanes lane other on))) fixed)
           | inr f ↦ f
         ])
-own_not_fixed entries (NewDay day) signal batch good h fixed = refl
-own_not_fixed entries (PutProduct name nominal unit) signal batch good h fixed = refl
-own_not_fixed entries (PutTare product day tare) signal batch good h fixed = refl
-own_not_fixed entries (OpenBatch name product density) signal batch good h fixed = refl
-own_not_fixed entries (StartLane lane name) signal batch good h fixed = refl
-own_not_fixed entries (StopLane lane prior) signal batch good h fixed = refl
-own_not_fixed entries (Void pack) signal batch good h fixed = refl
-own_not_fixed entries (EndRun name) signal batch good h fixed = refl
-own_not_fixed entries (Draw name mode word) signal batch good h fixed = refl
-own_not_fixed entries (Measure pack gross empty) signal batch good h fixed = refl
-own_not_fixed entries (DrawSecond name word) signal batch good h fixed = refl
-own_not_fixed entries (Close name) signal batch good h fixed = refl
+own_not_fixed entries act signal batch good h fixed = refl
 
 -- the population of a batch that is drawn or closed stays
 pub fixed_population : (entries : List Entry) (entry : Entry) (batch : Name) → IsLegal entries → IsLawful entries entry → is_fixed (state_of entries batch) ≡ true
@@ -285,18 +256,7 @@ draw_packs entries (Draw name mode word) signal batch drawing h = (either (same_
     either : (b : Bool) → cond {A = Option Drawing} b (Some (record { mode = mode; word = word; packs = numbers_of (population entries batch) })) None ≡ Some drawing → drawing.packs ≡ numbers_of (population entries batch)
     either true k = ap (λ (d : Drawing). d.packs) (sym (same_Some _ _ k))
     either false k = absurd (cc)
-draw_packs entries (NewDay day) signal batch drawing h = absurd (cc)
-draw_packs entries (PutProduct name nominal unit) signal batch drawing h = absurd (cc)
-draw_packs entries (PutTare product day tare) signal batch drawing h = absurd (cc)
-draw_packs entries (OpenBatch name product density) signal batch drawing h = absurd (cc)
-draw_packs entries (StartLane lane name) signal batch drawing h = absurd (cc)
-draw_packs entries (Weigh lane gross prior) signal batch drawing h = absurd (cc)
-draw_packs entries (StopLane lane prior) signal batch drawing h = absurd (cc)
-draw_packs entries (Void pack) signal batch drawing h = absurd (cc)
-draw_packs entries (EndRun name) signal batch drawing h = absurd (cc)
-draw_packs entries (Measure pack gross empty) signal batch drawing h = absurd (cc)
-draw_packs entries (DrawSecond name word) signal batch drawing h = absurd (cc)
-draw_packs entries (Close name) signal batch drawing h = absurd (cc)
+draw_packs entries act signal batch drawing h = absurd (cc)
 
 -- a sample is drawn from the population as it still is
 abbrev pub DrawnFromAll : List Entry → Type 0
@@ -365,16 +325,7 @@ quiet : (entries : List Entry) (act : Act) (signal : Option Signal) (batch : Nam
 quiet entries (Weigh lane gross prior) signal batch h = absurd (cc)
 quiet entries (StopLane lane prior) signal batch h = absurd (cc)
 quiet entries (Void pack) signal batch h = absurd (cc)
-quiet entries (NewDay day) signal batch h = append-nil (population entries batch)
-quiet entries (PutProduct name nominal unit) signal batch h = append-nil (population entries batch)
-quiet entries (PutTare product day tare) signal batch h = append-nil (population entries batch)
-quiet entries (OpenBatch name product density) signal batch h = append-nil (population entries batch)
-quiet entries (StartLane lane name) signal batch h = append-nil (population entries batch)
-quiet entries (EndRun name) signal batch h = append-nil (population entries batch)
-quiet entries (Draw name mode word) signal batch h = append-nil (population entries batch)
-quiet entries (Measure pack gross empty) signal batch h = append-nil (population entries batch)
-quiet entries (DrawSecond name word) signal batch h = append-nil (population entries batch)
-quiet entries (Close name) signal batch h = append-nil (population entries batch)
+quiet entries act signal batch h = append-nil (population entries batch)
 
 -- any other act leaves each population as it is
 pub quiet_population : (entries : List Entry) (entry : Entry) (batch : Name) → IsLegal entries → moves_population entry.act ≡ false
@@ -467,15 +418,7 @@ closed_by entries (EndRun name) batch good have h free closed = either (same_nam
     either : (b : Bool) → is_fixed (option_or (cond b (Some Ended) None) (state_of entries batch)) ≡ true → (is_some (drawing_of entries batch) ≡ true) ⊎ ((false ≡ false) × (population entries batch ≡ []))
     either true fixed = absurd (cc)
     either false fixed = absurd (both_ways _ free fixed)
-closed_by entries (NewDay day) batch good have h free fixed = absurd (both_ways _ free fixed)
-closed_by entries (PutProduct name nominal unit) batch good have h free fixed = absurd (both_ways _ free fixed)
-closed_by entries (PutTare product day tare) batch good have h free fixed = absurd (both_ways _ free fixed)
-closed_by entries (StartLane lane name) batch good have h free fixed = absurd (both_ways _ free fixed)
-closed_by entries (Weigh lane gross prior) batch good have h free fixed = absurd (both_ways _ free fixed)
-closed_by entries (StopLane lane prior) batch good have h free fixed = absurd (both_ways _ free fixed)
-closed_by entries (Void pack) batch good have h free fixed = absurd (both_ways _ free fixed)
-closed_by entries (Measure pack gross empty) batch good have h free fixed = absurd (both_ways _ free fixed)
-closed_by entries (DrawSecond name word) batch good have h free fixed = absurd (both_ways _ free fixed)
+closed_by entries act batch good have h free fixed = absurd (both_ways _ free fixed)
 
 -- a drawn or a closed batch has a draw, or no pack
 abbrev pub DrawnOrEmpty : List Entry → Type 0
@@ -580,13 +523,4 @@ pub counts_after_quiet : (entries : List Entry) (batch : Name) (act : Act) → m
 counts_after_quiet entries batch (Weigh lane gross prior) h = absurd (cc)
 counts_after_quiet entries batch (StopLane lane prior) h = absurd (cc)
 counts_after_quiet entries batch (Void pack) h = absurd (cc)
-counts_after_quiet entries batch (NewDay day) h = refl
-counts_after_quiet entries batch (PutProduct name nominal unit) h = refl
-counts_after_quiet entries batch (PutTare product day tare) h = refl
-counts_after_quiet entries batch (OpenBatch name product density) h = refl
-counts_after_quiet entries batch (StartLane lane name) h = refl
-counts_after_quiet entries batch (EndRun name) h = refl
-counts_after_quiet entries batch (Draw name mode word) h = refl
-counts_after_quiet entries batch (Measure pack gross empty) h = refl
-counts_after_quiet entries batch (DrawSecond name word) h = refl
-counts_after_quiet entries batch (Close name) h = refl
+counts_after_quiet entries batch act h = refl

@@ -69,18 +69,7 @@ product_ruled entries (OpenBatch name other density) h batch product is =
           subst (λ (p : Name). is_some (product_number entries p) ≡ true) same (sym (nominal_where_put entries other) ∙ (open_batch_tells entries name other density h).known)
       | inr f ↦ absurd (let wrong = sym (ap (λ b. cond b (Some other) None) f) ∙ is in cc)
     ]
-product_ruled entries (NewDay day) h batch product is = absurd (cc)
-product_ruled entries (PutProduct other nominal unit) h batch product is = absurd (cc)
-product_ruled entries (PutTare other day tare) h batch product is = absurd (cc)
-product_ruled entries (StartLane lane other) h batch product is = absurd (cc)
-product_ruled entries (Weigh lane gross prior) h batch product is = absurd (cc)
-product_ruled entries (StopLane lane prior) h batch product is = absurd (cc)
-product_ruled entries (Void pack) h batch product is = absurd (cc)
-product_ruled entries (EndRun other) h batch product is = absurd (cc)
-product_ruled entries (Draw other mode word) h batch product is = absurd (cc)
-product_ruled entries (Measure pack gross empty) h batch product is = absurd (cc)
-product_ruled entries (DrawSecond other word) h batch product is = absurd (cc)
-product_ruled entries (Close other) h batch product is = absurd (cc)
+product_ruled entries act h batch product is = absurd (cc)
 
 lane_ruled : (entries : List Entry) (act : Act) → IsAllowed entries act → (lane : ℕ) (batch : Name) → batch_started lane act ≡ Some batch → is_some (batch_number entries batch) ≡ true
 lane_ruled entries (StartLane number name) h lane batch is =
@@ -90,64 +79,20 @@ lane_ruled entries (StartLane number name) h lane batch is =
           subst (λ (b : Name). is_some (batch_number entries b) ≡ true) same (sym (product_where_opened entries name) ∙ (start_lane_tells entries number name h).known)
       | inr f ↦ absurd (let wrong = sym (ap (λ b. cond b (Some name) None) f) ∙ is in cc)
     ]
-lane_ruled entries (NewDay day) h lane batch is = absurd (cc)
-lane_ruled entries (PutProduct other nominal unit) h lane batch is = absurd (cc)
-lane_ruled entries (PutTare other day tare) h lane batch is = absurd (cc)
-lane_ruled entries (OpenBatch name other density) h lane batch is = absurd (cc)
-lane_ruled entries (Weigh number gross prior) h lane batch is = absurd (cc)
-lane_ruled entries (StopLane number prior) h lane batch is = absurd (cc)
-lane_ruled entries (Void pack) h lane batch is = absurd (cc)
-lane_ruled entries (EndRun other) h lane batch is = absurd (cc)
-lane_ruled entries (Draw other mode word) h lane batch is = absurd (cc)
-lane_ruled entries (Measure pack gross empty) h lane batch is = absurd (cc)
-lane_ruled entries (DrawSecond other word) h lane batch is = absurd (cc)
-lane_ruled entries (Close other) h lane batch is = absurd (cc)
+lane_ruled entries act h lane batch is = absurd (cc)
 
 day_ruled : (entries : List Entry) (act : Act) → IsAllowed entries act → (day : ℤ) → day_set act ≡ Some day → IsUpTo MAX_DAY day
 day_ruled entries (NewDay new) h day is = subst (λ (d : ℤ). IsUpTo MAX_DAY d) (same_Some _ _ is) (up_to MAX_DAY new (new_day_tells entries new h).range)
-day_ruled entries (PutProduct other nominal unit) h day is = absurd (cc)
-day_ruled entries (PutTare other date tare) h day is = absurd (cc)
-day_ruled entries (OpenBatch name other density) h day is = absurd (cc)
-day_ruled entries (StartLane lane name) h day is = absurd (cc)
-day_ruled entries (Weigh number gross prior) h day is = absurd (cc)
-day_ruled entries (StopLane number prior) h day is = absurd (cc)
-day_ruled entries (Void pack) h day is = absurd (cc)
-day_ruled entries (EndRun other) h day is = absurd (cc)
-day_ruled entries (Draw other mode word) h day is = absurd (cc)
-day_ruled entries (Measure pack gross empty) h day is = absurd (cc)
-day_ruled entries (DrawSecond other word) h day is = absurd (cc)
-day_ruled entries (Close other) h day is = absurd (cc)
+day_ruled entries act h day is = absurd (cc)
 
 tare_ruled : (entries : List Entry) (act : Act) → IsAllowed entries act → AllByRecursion (λ name. is_some (product_number entries name) ≡ true) (cons_option (tare_named act) [])
 tare_ruled entries (PutTare other date tare) h = (sym (nominal_where_put entries other) ∙ (put_tare_tells entries other date tare h).known, tt)
-tare_ruled entries (NewDay new) h = tt
-tare_ruled entries (PutProduct other nominal unit) h = tt
-tare_ruled entries (OpenBatch name other density) h = tt
-tare_ruled entries (StartLane lane name) h = tt
-tare_ruled entries (Weigh number gross prior) h = tt
-tare_ruled entries (StopLane number prior) h = tt
-tare_ruled entries (Void pack) h = tt
-tare_ruled entries (EndRun other) h = tt
-tare_ruled entries (Draw other mode word) h = tt
-tare_ruled entries (Measure pack gross empty) h = tt
-tare_ruled entries (DrawSecond other word) h = tt
-tare_ruled entries (Close other) h = tt
+tare_ruled entries act h = tt
 
 opened_new : (entries : List Entry) (act : Act) → IsAllowed entries act → (batch : Name) → batch_opened act ≡ Some batch → is_some (batch_number entries batch) ≡ false
 opened_new entries (OpenBatch name other density) h batch is =
     subst (λ (b : Name). is_some (batch_number entries b) ≡ false) (same_Some _ _ is) (sym (product_where_opened entries name) ∙ ap is_some (open_batch_tells entries name other density h).new)
-opened_new entries (NewDay day) h batch is = absurd (cc)
-opened_new entries (PutProduct other nominal unit) h batch is = absurd (cc)
-opened_new entries (PutTare other day tare) h batch is = absurd (cc)
-opened_new entries (StartLane lane other) h batch is = absurd (cc)
-opened_new entries (Weigh lane gross prior) h batch is = absurd (cc)
-opened_new entries (StopLane lane prior) h batch is = absurd (cc)
-opened_new entries (Void pack) h batch is = absurd (cc)
-opened_new entries (EndRun other) h batch is = absurd (cc)
-opened_new entries (Draw other mode word) h batch is = absurd (cc)
-opened_new entries (Measure pack gross empty) h batch is = absurd (cc)
-opened_new entries (DrawSecond other word) h batch is = absurd (cc)
-opened_new entries (Close other) h batch is = absurd (cc)
+opened_new entries act h batch is = absurd (cc)
 
 -- either the last act said it, or it was said before
 last_is : {A : Type 0} {P : Type 0} (x : A) (own before : Option A) → option_or own before ≡ Some x → (own ≡ Some x → P) → (before ≡ Some x → P) → P
@@ -190,18 +135,7 @@ module _ (entries : List Entry) (entry : Entry) where
           with_number None none k = absurd (let wrong = sym (ap is_some none) ∙ k in cc)
           with_number (Some number) numbered k =
               record { batch = batch; of_batch = of; number = number; numbered = batch_keeps entries entry batch k ∙ numbered; day = day; on_day = is }
-  own_weighed (NewDay new) known h = tt
-  own_weighed (PutProduct other nominal unit) known h = tt
-  own_weighed (PutTare other date tare) known h = tt
-  own_weighed (OpenBatch name other density) known h = tt
-  own_weighed (StartLane lane name) known h = tt
-  own_weighed (StopLane number prior) known h = tt
-  own_weighed (Void pack) known h = tt
-  own_weighed (EndRun other) known h = tt
-  own_weighed (Draw other mode word) known h = tt
-  own_weighed (Measure pack gross empty) known h = tt
-  own_weighed (DrawSecond other word) known h = tt
-  own_weighed (Close other) known h = tt
+  own_weighed act known h = tt
 
   pub known-push : Known entries → IsAllowed entries entry.act → Known (entries ++ entry ∷ [])
   known-push known h =

@@ -304,17 +304,7 @@ record Draws (act : Act) (name : Name) : Type 0 where
 draws : (act : Act) (name : Name) → batch_drawn act ≡ Some name → Draws act name
 draws (Draw batch mode word) name h = record { told = λ lane. refl; voids = λ number. refl; own = λ number before signal. refl; tares = refl; opens = refl }
 draws (DrawSecond batch word) name h = record { told = λ lane. refl; voids = λ number. refl; own = λ number before signal. refl; tares = refl; opens = refl }
-draws (NewDay day) name h = absurd (cc)
-draws (PutProduct other nominal unit) name h = absurd (cc)
-draws (PutTare other day tare) name h = absurd (cc)
-draws (OpenBatch batch other density) name h = absurd (cc)
-draws (StartLane lane other) name h = absurd (cc)
-draws (Weigh lane gross prior) name h = absurd (cc)
-draws (StopLane lane prior) name h = absurd (cc)
-draws (Void pack) name h = absurd (cc)
-draws (EndRun other) name h = absurd (cc)
-draws (Measure pack gross empty) name h = absurd (cc)
-draws (Close other) name h = absurd (cc)
+draws act name h = absurd (cc)
 
 module _ (entries : List Entry) (entry : Entry) (batch : ℕ) (picks : List ℕ) (is : IsDraw entries entry batch picks) where
   rules : IsAllowed entries entry.act
@@ -339,17 +329,7 @@ module _ (entries : List Entry) (entry : Entry) (batch : ℕ) (picks : List ℕ)
       held_second entries entry rules b word act name number
       ∙ ap (λ (n : Name). holds (sample_of entries name) number || (same_name name n && is_among number (picks_by (entries ++ entry ∷ []) (DrawSecond b word)))) (same_Some _ _ drawn)
       ∙ ap (λ some. holds (sample_of entries name) number || (same_name name is.name && is_among number some)) (sym picked)
-  held (NewDay day) act drawn picked name number = absurd (cc)
-  held (PutProduct other nominal unit) act drawn picked name number = absurd (cc)
-  held (PutTare other day tare) act drawn picked name number = absurd (cc)
-  held (OpenBatch b other density) act drawn picked name number = absurd (cc)
-  held (StartLane lane other) act drawn picked name number = absurd (cc)
-  held (Weigh lane gross prior) act drawn picked name number = absurd (cc)
-  held (StopLane lane prior) act drawn picked name number = absurd (cc)
-  held (Void pack) act drawn picked name number = absurd (cc)
-  held (EndRun other) act drawn picked name number = absurd (cc)
-  held (Measure pack gross empty) act drawn picked name number = absurd (cc)
-  held (Close other) act drawn picked name number = absurd (cc)
+  held other act drawn picked name number = absurd (cc)
 
   sampled_behind : (reading : Reading) → IsWeighed entries reading
       → is_sampled (entries ++ entry ∷ []) (advance entry.act reading) ≡ (is_sampled entries reading || (((pack_of entries reading).batch == batch) && is_among reading.number picks))
@@ -404,17 +384,7 @@ module _ (entries : List Entry) (entry : Entry) (batch : ℕ) (picks : List ℕ)
       each : (o : Option Sample) → IfSome o (λ sample. AtMost (length all) sample.first × IfSome sample.second (AtMost (length all))) → AtMost (length all) (option_map_or second_packs o [])
       each None h = tt
       each (Some sample) h = second sample.second h.1
-  picks_small all (NewDay day) = tt
-  picks_small all (PutProduct other nominal unit) = tt
-  picks_small all (PutTare other day tare) = tt
-  picks_small all (OpenBatch b other density) = tt
-  picks_small all (StartLane lane other) = tt
-  picks_small all (Weigh lane gross prior) = tt
-  picks_small all (StopLane lane prior) = tt
-  picks_small all (Void pack) = tt
-  picks_small all (EndRun other) = tt
-  picks_small all (Measure pack gross empty) = tt
-  picks_small all (Close other) = tt
+  picks_small all act = tt
 
   pub picks_fit : All (λ pick. pick < 4294967296) picks
   picks_fit =

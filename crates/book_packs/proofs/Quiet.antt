@@ -67,13 +67,7 @@ quiet (StartLane lane name) h = record { still = record { told = λ lane. refl; 
 quiet (EndRun name) h = record { still = record { told = λ lane. refl; voids = λ number. refl; draws = refl; own = λ number before signal. refl }; tares = refl; opens = refl }
 quiet (Measure pack gross empty) h = record { still = record { told = λ lane. refl; voids = λ number. refl; draws = refl; own = λ number before signal. refl }; tares = refl; opens = refl }
 quiet (Close name) h = record { still = record { told = λ lane. refl; voids = λ number. refl; draws = refl; own = λ number before signal. refl }; tares = refl; opens = refl }
-quiet (PutTare name day tare) h = absurd (cc)
-quiet (OpenBatch batch name density) h = absurd (cc)
-quiet (Weigh lane gross prior) h = absurd (cc)
-quiet (StopLane lane prior) h = absurd (cc)
-quiet (Void pack) h = absurd (cc)
-quiet (Draw name mode word) h = absurd (cc)
-quiet (DrawSecond name word) h = absurd (cc)
+quiet act h = absurd (cc)
 
 module _ (entries : List Entry) (entry : Entry) (still : IsStill entry.act) where
   pub pile_still : (reading : Reading) → pile_of (entries ++ entry ∷ []) (advance entry.act reading) ≡ pile_of entries reading

@@ -80,33 +80,11 @@ puts_none entries (Close name) h product known = (refl, refl)
 
 tares_none : (act : Act) (product : Name) → tare_named act ≡ None → tare_put product act ≡ None
 tares_none (PutTare name day tare) product h = absurd (cc)
-tares_none (NewDay day) product h = refl
-tares_none (PutProduct name nominal unit) product h = refl
-tares_none (OpenBatch batch name density) product h = refl
-tares_none (StartLane lane name) product h = refl
-tares_none (Weigh lane gross prior) product h = refl
-tares_none (StopLane lane prior) product h = refl
-tares_none (Void pack) product h = refl
-tares_none (EndRun name) product h = refl
-tares_none (Draw name mode word) product h = refl
-tares_none (Measure pack gross empty) product h = refl
-tares_none (DrawSecond name word) product h = refl
-tares_none (Close name) product h = refl
+tares_none act product h = refl
 
 entry_none : (entries : List Entry) (act : Act) → tare_named act ≡ None → tare_entry entries act ≡ None
 entry_none entries (PutTare name day tare) h = absurd (cc)
-entry_none entries (NewDay day) h = refl
-entry_none entries (PutProduct name nominal unit) h = refl
-entry_none entries (OpenBatch batch name density) h = refl
-entry_none entries (StartLane lane name) h = refl
-entry_none entries (Weigh lane gross prior) h = refl
-entry_none entries (StopLane lane prior) h = refl
-entry_none entries (Void pack) h = refl
-entry_none entries (EndRun name) h = refl
-entry_none entries (Draw name mode word) h = refl
-entry_none entries (Measure pack gross empty) h = refl
-entry_none entries (DrawSecond name word) h = refl
-entry_none entries (Close name) h = refl
+entry_none entries act h = refl
 
 through : {A : Type 0} (f g : Name → Option A) (o : Option Name) → ((x : Name) → o ≡ Some x → f x ≡ g x) → option_and_then f o ≡ option_and_then g o
 through f g None h = refl
@@ -124,18 +102,7 @@ module _ (entries : List Entry) (entry : Entry) (known : Known entries) where
   retare : (act : Act) (names : List Name) (xs ys : List ProductTare) → AllByRecursion (λ name. is_some (product_number entries name) ≡ true) (cons_option (tare_named act) names)
       → (AllByRecursion (λ name. is_some (product_number entries name) ≡ true) names → xs ≡ ys) → cons_option (tare_entry (entries ++ entry ∷ []) act) xs ≡ cons_option (tare_entry entries act) ys
   retare (PutTare product day tare) names xs ys all h = λ i. cons_option (option_map (λ n. entry_of n day tare) (product_keeps entries entry product all.0 i)) (h all.1 i)
-  retare (NewDay day) names xs ys all h = h all
-  retare (PutProduct name nominal unit) names xs ys all h = h all
-  retare (OpenBatch batch name density) names xs ys all h = h all
-  retare (StartLane lane name) names xs ys all h = h all
-  retare (Weigh lane gross prior) names xs ys all h = h all
-  retare (StopLane lane prior) names xs ys all h = h all
-  retare (Void pack) names xs ys all h = h all
-  retare (EndRun name) names xs ys all h = h all
-  retare (Draw name mode word) names xs ys all h = h all
-  retare (Measure pack gross empty) names xs ys all h = h all
-  retare (DrawSecond name word) names xs ys all h = h all
-  retare (Close name) names xs ys all h = h all
+  retare act names xs ys all h = h all
 
   retared : (some : List Entry) → AllByRecursion (λ name. is_some (product_number entries name) ≡ true) (said tare_named some) → said (tare_entry (entries ++ entry ∷ [])) some ≡ said (tare_entry entries) some
   retared [] all = refl

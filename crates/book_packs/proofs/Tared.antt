@@ -41,18 +41,7 @@ light_latest tares all = light_last None (of_greatest_day tares) tt (light_filte
 light_act : (entries : List Entry) (act : Act) → IsAllowed entries act → (product : Name) → Light (cons_option (tare_put product act) [])
 light_act entries (PutTare name day tare) h product =
     elim (same_name name product) as (λ b. Light (cons_option (cond b (Some (record { day = day; tare = tare })) None) [])) [ true ↦ (up_to MAX_TARE tare (put_tare_tells entries name day tare h).range, tt) | false ↦ tt ]
-light_act entries (NewDay day) h product = tt
-light_act entries (PutProduct name nominal unit) h product = tt
-light_act entries (OpenBatch batch name density) h product = tt
-light_act entries (StartLane lane name) h product = tt
-light_act entries (Weigh lane gross prior) h product = tt
-light_act entries (StopLane lane prior) h product = tt
-light_act entries (Void pack) h product = tt
-light_act entries (EndRun name) h product = tt
-light_act entries (Draw name mode word) h product = tt
-light_act entries (Measure pack gross empty) h product = tt
-light_act entries (DrawSecond name word) h product = tt
-light_act entries (Close name) h product = tt
+light_act entries act h product = tt
 
 light_from : (product : Name) (entries : List Entry) → IsLegal entries → Light (tares_put entries product)
 light_from product =

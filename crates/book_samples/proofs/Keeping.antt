@@ -35,15 +35,7 @@ quiet entries (OpenBatch batch product density) h = absurd (true_is_not_false h)
 quiet entries (Draw batch mode word) h = absurd (true_is_not_false h)
 quiet entries (Measure pack gross empty) h = absurd (true_is_not_false h)
 quiet entries (DrawSecond batch word) h = absurd (true_is_not_false h)
-quiet entries (NewDay day) h = record { opened = refl; first = λ _. refl; second = λ _. refl; measured = λ _. refl }
-quiet entries (PutProduct product nominal unit) h = record { opened = refl; first = λ _. refl; second = λ _. refl; measured = λ _. refl }
-quiet entries (PutTare product day tare) h = record { opened = refl; first = λ _. refl; second = λ _. refl; measured = λ _. refl }
-quiet entries (StartLane lane batch) h = record { opened = refl; first = λ _. refl; second = λ _. refl; measured = λ _. refl }
-quiet entries (Weigh lane gross prior) h = record { opened = refl; first = λ _. refl; second = λ _. refl; measured = λ _. refl }
-quiet entries (StopLane lane prior) h = record { opened = refl; first = λ _. refl; second = λ _. refl; measured = λ _. refl }
-quiet entries (Void pack) h = record { opened = refl; first = λ _. refl; second = λ _. refl; measured = λ _. refl }
-quiet entries (EndRun batch) h = record { opened = refl; first = λ _. refl; second = λ _. refl; measured = λ _. refl }
-quiet entries (Close batch) h = record { opened = refl; first = λ _. refl; second = λ _. refl; measured = λ _. refl }
+quiet entries act h = record { opened = refl; first = λ _. refl; second = λ _. refl; measured = λ _. refl }
 
 -- no batch is opened by the last entry
 none_opened : (entries : List Entry) (entry : Entry) → batch_opened entry.act ≡ None → said batch_opened (entries ++ entry ∷ []) ≡ said batch_opened entries

@@ -40,16 +40,7 @@ fewer_after entries batch (StopLane lane prior) =
     subst (λ (some : List Reading). length some ≤ length (population entries batch)) (sym (counts_after_gate entries batch lane prior)) (fewer _ (population entries batch))
 fewer_after entries batch (Void pack) =
     subst (λ (some : List Reading). length some ≤ length (population entries batch)) (sym (counts_after_void entries batch pack)) (fewer _ (population entries batch))
-fewer_after entries batch (NewDay day) = omega arith
-fewer_after entries batch (PutProduct name nominal unit) = omega arith
-fewer_after entries batch (PutTare product day tare) = omega arith
-fewer_after entries batch (OpenBatch name product density) = omega arith
-fewer_after entries batch (StartLane lane name) = omega arith
-fewer_after entries batch (EndRun name) = omega arith
-fewer_after entries batch (Draw name mode word) = omega arith
-fewer_after entries batch (Measure pack gross empty) = omega arith
-fewer_after entries batch (DrawSecond name word) = omega arith
-fewer_after entries batch (Close name) = omega arith
+fewer_after entries batch act = omega arith
 
 -- so what a weighing meets is no longer than the population
 pub fewer_at : (entries : List Entry) (batch : Name) (act : Act) → IsLegal entries → length (judging_population entries act batch) ≤ length (population entries batch)

@@ -63,18 +63,7 @@ not_given name (OpenBatch other product density) h = either (same_name other nam
         some_is_not_none : Some product ≡ None → ⊥
         some_is_not_none h = cc
     either false same h = same
-not_given name (NewDay day) h = refl
-not_given name (PutProduct product nominal unit) h = refl
-not_given name (PutTare product day tare) h = refl
-not_given name (StartLane lane other) h = refl
-not_given name (Weigh lane gross prior) h = refl
-not_given name (StopLane lane prior) h = refl
-not_given name (Void pack) h = refl
-not_given name (EndRun other) h = refl
-not_given name (Draw other mode word) h = refl
-not_given name (Measure pack gross empty) h = refl
-not_given name (DrawSecond other word) h = refl
-not_given name (Close other) h = refl
+not_given name act h = refl
 
 none_named : (name : Name) (o : Option Name) (entries : List Entry) → last_or o (said (product_given name) entries) ≡ None → (o ≡ None) × (is_named name (said batch_opened entries) ≡ false)
 none_named name o [] h = (h, refl)
@@ -121,18 +110,7 @@ OpensDistinct entries = AreDistinct (said batch_opened entries)
 distinct_step : (entries : List Entry) (act : Act) → first_refusal (refusals_of entries act) ≡ None → OpensDistinct entries → AreDistinct (said batch_opened entries ++ cons_option (batch_opened act) [])
 distinct_step entries (OpenBatch name product density) h distinct =
     distinct-push (said batch_opened entries) name distinct (not_opened entries name (opened_is_new entries name product density h))
-distinct_step entries (NewDay day) h distinct = rw append-nil distinct
-distinct_step entries (PutProduct product nominal unit) h distinct = rw append-nil distinct
-distinct_step entries (PutTare product day tare) h distinct = rw append-nil distinct
-distinct_step entries (StartLane lane other) h distinct = rw append-nil distinct
-distinct_step entries (Weigh lane gross prior) h distinct = rw append-nil distinct
-distinct_step entries (StopLane lane prior) h distinct = rw append-nil distinct
-distinct_step entries (Void pack) h distinct = rw append-nil distinct
-distinct_step entries (EndRun other) h distinct = rw append-nil distinct
-distinct_step entries (Draw other mode word) h distinct = rw append-nil distinct
-distinct_step entries (Measure pack gross empty) h distinct = rw append-nil distinct
-distinct_step entries (DrawSecond other word) h distinct = rw append-nil distinct
-distinct_step entries (Close other) h distinct = rw append-nil distinct
+distinct_step entries act h distinct = rw append-nil distinct
 
 -- no two batches of a legal list have one name
 pub opened_once : (entries : List Entry) → IsLegal entries → AreDistinct (said batch_opened entries)

@@ -38,17 +38,7 @@ draws_none entries (DrawSecond name word) batch h = absurd (true_is_not_false h)
   where
     true_is_not_false : true ≡ false → ⊥
     true_is_not_false h = cc
-draws_none entries (NewDay day) batch h = record { first = refl; second = refl }
-draws_none entries (PutProduct product nominal unit) batch h = record { first = refl; second = refl }
-draws_none entries (PutTare product day tare) batch h = record { first = refl; second = refl }
-draws_none entries (OpenBatch name product density) batch h = record { first = refl; second = refl }
-draws_none entries (StartLane lane name) batch h = record { first = refl; second = refl }
-draws_none entries (Weigh lane gross prior) batch h = record { first = refl; second = refl }
-draws_none entries (StopLane lane prior) batch h = record { first = refl; second = refl }
-draws_none entries (Void pack) batch h = record { first = refl; second = refl }
-draws_none entries (EndRun name) batch h = record { first = refl; second = refl }
-draws_none entries (Measure pack gross empty) batch h = record { first = refl; second = refl }
-draws_none entries (Close name) batch h = record { first = refl; second = refl }
+draws_none entries act batch h = record { first = refl; second = refl }
 
 -- an act that draws no packs leaves the samples of each batch
 pub sample_of-no_draw : (entries : List Entry) (entry : Entry) → draws_packs entry.act ≡ false → (batch : Name) → sample_of (entries ++ entry ∷ []) batch ≡ sample_of entries batch
