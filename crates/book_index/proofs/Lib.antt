@@ -1,6 +1,5 @@
 pub mod SameNames
 pub mod Places
-pub mod SaidNames
 pub mod LookUps
 pub mod LegalNames
 pub mod Stepping

@@ -23,11 +23,13 @@ use Rattle.book_index.specs.declared.types.BatchTerms.{BatchTerms}
 use Rattle.book_index.specs.Known.{Known, names_of}
 use Rattle.book_index.specs.Changes.{with_named, restated, with_state, with_numbered, with_row, after_act}
 use Rattle.book_index.specs.Listed.{IsIndexOf, terms_of_product, terms_of_batch, batch_product_number, products_listed, batches_listed, lane_batch_number, newest_row_number}
-use Rattle.book_index.proofs.SameNames.{same_name_swap, in_both}
-use Rattle.book_index.proofs.Places.{kept_with, names_kept, place_is_some}
-use Rattle.book_index.proofs.SaidNames.{nominal_where_put, product_where_opened}
+use Rattle.book_index.proofs.SameNames.{same_name_swap}
+use Rattle.book_words.proofs.PlainLemmas.{in_both}
+use Rattle.book_index.proofs.Places.{kept_with, names_kept}
+use Rattle.book_words.proofs.SaidNames.{nominal_where_put, product_where_opened}
 use Rattle.book_index.proofs.LookUps.{products_named, batches_named}
-use Rattle.book_index.proofs.LegalNames.{IsActNamed, AreNamed, place_among_more}
+use Rattle.book_index.proofs.LegalNames.{IsActNamed, AreNamed}
+use Rattle.book_words.proofs.PlaceLemmas.{place_among_more, place_is_some}
 
 -- ---- lists of names
 
@@ -81,23 +83,12 @@ products_pushed entries entry =
     (filter_map-append (λ (e : Entry). product_named e.act) entries (entry ∷ []) i))
 
 products_after : (entries : List Entry) (known : Known) → IsIndexOf entries known → (act : Act) → IsActNamed entries act → (after_act act known).products ≡ products_then entries act
-products_after entries known is (NewDay day) act = is.products ∙ ap (kept_with (terms_of_product entries)) (sym (append-nil (said product_named entries)))
 products_after entries known is (PutProduct name nominal unit) act =
     let new : is_some (product_number entries name) ≡ false = sym (nominal_where_put entries name) ∙ ap is_some (act.new_product name refl) in
     let made : product_then entries (PutProduct name nominal unit) name ≡ record { nominal = nominal; unit = unit } = ap (λ (b : Bool). record { nominal = unwrap_or (option_or (if b then Some nominal else None) (nominal_of entries name)) (pos 0); unit = unwrap_or (option_or (if b then Some unit else None) (unit_of entries name)) units.TheVariants.Mass }) (same_name_itself name) in
     ap (λ (terms : ProductTerms). with_named name terms known.products) (sym made)
     ∙ named_push (terms_of_product entries) (product_then entries (PutProduct name nominal unit)) (said product_named entries) name known.products is.products new (λ other h. rw h refl)
-products_after entries known is (PutTare product day tare) act = is.products ∙ ap (kept_with (terms_of_product entries)) (sym (append-nil (said product_named entries)))
-products_after entries known is (OpenBatch name product density) act = is.products ∙ ap (kept_with (terms_of_product entries)) (sym (append-nil (said product_named entries)))
-products_after entries known is (StartLane number name) act = is.products ∙ ap (kept_with (terms_of_product entries)) (sym (append-nil (said product_named entries)))
-products_after entries known is (Weigh lane gross prior) act = is.products ∙ ap (kept_with (terms_of_product entries)) (sym (append-nil (said product_named entries)))
-products_after entries known is (StopLane number prior) act = is.products ∙ ap (kept_with (terms_of_product entries)) (sym (append-nil (said product_named entries)))
-products_after entries known is (Void pack) act = is.products ∙ ap (kept_with (terms_of_product entries)) (sym (append-nil (said product_named entries)))
-products_after entries known is (EndRun name) act = is.products ∙ ap (kept_with (terms_of_product entries)) (sym (append-nil (said product_named entries)))
-products_after entries known is (Draw name mode word) act = is.products ∙ ap (kept_with (terms_of_product entries)) (sym (append-nil (said product_named entries)))
-products_after entries known is (Measure pack gross empty) act = is.products ∙ ap (kept_with (terms_of_product entries)) (sym (append-nil (said product_named entries)))
-products_after entries known is (DrawSecond name word) act = is.products ∙ ap (kept_with (terms_of_product entries)) (sym (append-nil (said product_named entries)))
-products_after entries known is (Close name) act = is.products ∙ ap (kept_with (terms_of_product entries)) (sym (append-nil (said product_named entries)))
+products_after entries known is other act = is.products ∙ ap (kept_with (terms_of_product entries)) (sym (append-nil (said product_named entries)))
 
 -- ---- the batches
 
@@ -151,7 +142,6 @@ batches_in_state entries known name state is =
         (λ h. rw h (ap (λ (terms : BatchTerms). (n, terms)) (batch_as_it_was entries n)))
 
 batches_after : (entries : List Entry) (known : Known) → IsIndexOf entries known → AreNamed entries → (act : Act) → IsActNamed entries act → (after_act act known).batches ≡ batches_then entries act
-batches_after entries known is named (NewDay day) act = is.batches ∙ batches_as_they_were entries
 batches_after entries known is named (PutProduct name nominal unit) act =
     is.batches ∙ λ i. map (λ (batch : Name). (batch, record { product = unwrap_or (each batch i) 0; density = unwrap_or (density_of entries batch) 0; state = unwrap_or (state_of entries batch) Running })) (sym (append-nil (said batch_opened entries)) i)
   where
@@ -161,7 +151,6 @@ batches_after entries known is named (PutProduct name nominal unit) act =
 
     each : (batch : Name) → batch_product_number entries batch ≡ option_and_then (place_of (said product_named entries ++ name ∷ [])) (product_of entries batch)
     each batch = either (product_of entries batch) (λ product h. named.product batch product h)
-batches_after entries known is named (PutTare product day tare) act = is.batches ∙ batches_as_they_were entries
 batches_after entries known is named (OpenBatch name product density) act =
     let new : is_some (batch_number entries name) ≡ false = sym (product_where_opened entries name) ∙ ap is_some (act.new_batch name refl) in
     let made : batch_then entries (OpenBatch name product density) name ≡ record { product = unwrap_or (place_of (said product_named entries ++ []) product) 0; density = density; state = Running } =
@@ -170,15 +159,10 @@ batches_after entries known is named (OpenBatch name product density) act =
     ap (λ (names : List Name). with_named name (record { product = unwrap_or (place_of names product) 0; density = density; state = Running }) known.batches) products
     ∙ ap (λ (terms : BatchTerms). with_named name terms known.batches) (sym made)
     ∙ named_push (terms_of_batch entries) (batch_then entries (OpenBatch name product density)) (said batch_opened entries) name known.batches is.batches new (λ other h. batch_as_it_was entries other ∙ rw h refl)
-batches_after entries known is named (StartLane number name) act = is.batches ∙ batches_as_they_were entries
-batches_after entries known is named (Weigh lane gross prior) act = is.batches ∙ batches_as_they_were entries
-batches_after entries known is named (StopLane number prior) act = is.batches ∙ batches_as_they_were entries
-batches_after entries known is named (Void pack) act = is.batches ∙ batches_as_they_were entries
 batches_after entries known is named (EndRun name) act = batches_in_state entries known name Ended is
 batches_after entries known is named (Draw name mode word) act = batches_in_state entries known name Drawn is
-batches_after entries known is named (Measure pack gross empty) act = is.batches ∙ batches_as_they_were entries
-batches_after entries known is named (DrawSecond name word) act = is.batches ∙ batches_as_they_were entries
 batches_after entries known is named (Close name) act = batches_in_state entries known name Closed is
+batches_after entries known is named other act = is.batches ∙ batches_as_they_were entries
 
 -- ---- the lanes
 
@@ -217,9 +201,6 @@ lanes_noted entries known is number batch place h =
     each lane = in_both (number == lane) (λ k. rw k h) (λ k. rw k (lane_as_it_was entries lane))
 
 lanes_after : (entries : List Entry) (known : Known) → IsIndexOf entries known → AreNamed entries → (act : Act) → IsActNamed entries act → (after_act act known).lanes ≡ map (lane_then entries act) (range_with_len 1 MAX_LANE)
-lanes_after entries known is named (NewDay day) act = is.lanes ∙ map_same (lane_batch_number entries) (lane_among entries) (lane_as_it_was entries) (range_with_len 1 MAX_LANE)
-lanes_after entries known is named (PutProduct name nominal unit) act = is.lanes ∙ map_same (lane_batch_number entries) (lane_among entries) (lane_as_it_was entries) (range_with_len 1 MAX_LANE)
-lanes_after entries known is named (PutTare product day tare) act = is.lanes ∙ map_same (lane_batch_number entries) (lane_among entries) (lane_as_it_was entries) (range_with_len 1 MAX_LANE)
 lanes_after entries known is named (OpenBatch name product density) act =
     is.lanes ∙ map_same (lane_batch_number entries) (lane_then entries (OpenBatch name product density)) each (range_with_len 1 MAX_LANE)
   where
@@ -232,31 +213,14 @@ lanes_after entries known is named (OpenBatch name product density) act =
 lanes_after entries known is named (StartLane number name) act =
     lanes_noted entries known is number (Some name) (place_of (names_of known.batches) name)
     (ap (λ (names : List Name). place_of names name) (batches_named entries known is ∙ sym (append-nil (said batch_opened entries))))
-lanes_after entries known is named (Weigh lane gross prior) act = is.lanes ∙ map_same (lane_batch_number entries) (lane_among entries) (lane_as_it_was entries) (range_with_len 1 MAX_LANE)
 lanes_after entries known is named (StopLane number prior) act = lanes_noted entries known is number None None refl
-lanes_after entries known is named (Void pack) act = is.lanes ∙ map_same (lane_batch_number entries) (lane_among entries) (lane_as_it_was entries) (range_with_len 1 MAX_LANE)
-lanes_after entries known is named (EndRun name) act = is.lanes ∙ map_same (lane_batch_number entries) (lane_among entries) (lane_as_it_was entries) (range_with_len 1 MAX_LANE)
-lanes_after entries known is named (Draw name mode word) act = is.lanes ∙ map_same (lane_batch_number entries) (lane_among entries) (lane_as_it_was entries) (range_with_len 1 MAX_LANE)
-lanes_after entries known is named (Measure pack gross empty) act = is.lanes ∙ map_same (lane_batch_number entries) (lane_among entries) (lane_as_it_was entries) (range_with_len 1 MAX_LANE)
-lanes_after entries known is named (DrawSecond name word) act = is.lanes ∙ map_same (lane_batch_number entries) (lane_among entries) (lane_as_it_was entries) (range_with_len 1 MAX_LANE)
-lanes_after entries known is named (Close name) act = is.lanes ∙ map_same (lane_batch_number entries) (lane_among entries) (lane_as_it_was entries) (range_with_len 1 MAX_LANE)
+lanes_after entries known is named other act = is.lanes ∙ map_same (lane_batch_number entries) (lane_among entries) (lane_as_it_was entries) (range_with_len 1 MAX_LANE)
 
 -- ---- the day
 
 day_after : (entries : List Entry) (known : Known) → IsIndexOf entries known → (act : Act) → (after_act act known).day ≡ option_or (day_set act) (newest_day entries)
 day_after entries known is (NewDay day) = refl
-day_after entries known is (PutProduct name nominal unit) = is.day
-day_after entries known is (PutTare product day tare) = is.day
-day_after entries known is (OpenBatch name product density) = is.day
-day_after entries known is (StartLane number name) = is.day
-day_after entries known is (Weigh lane gross prior) = is.day
-day_after entries known is (StopLane number prior) = is.day
-day_after entries known is (Void pack) = is.day
-day_after entries known is (EndRun name) = is.day
-day_after entries known is (Draw name mode word) = is.day
-day_after entries known is (Measure pack gross empty) = is.day
-day_after entries known is (DrawSecond name word) = is.day
-day_after entries known is (Close name) = is.day
+day_after entries known is act = is.day
 
 -- ---- the desks
 

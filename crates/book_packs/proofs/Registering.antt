@@ -16,7 +16,7 @@ use Rattle.book_words.specs.Order.{product_number, product_named}
 use Rattle.book_words.specs.Tares.{tare_put, tare_of_product}
 use Rattle.book_words.proofs.NameLemmas.{same_name_is}
 use Rattle.book_packs.specs.Stand.{tare_entry, tares_in, unsettled_number, unsettled_in}
-use Rattle.book_packs.proofs.Lists.{same_place}
+use Rattle.book_words.proofs.PlaceLemmas.{same_place}
 
 module _ (entries : List Entry) (name : Name) (number : ℕ) (is : product_number entries name ≡ Some number) where
   one : (xs : List ProductTare) (ys : List DatedTare) (product : Name) (day tare : ℤ) (o : Option ℕ) → product_number entries product ≡ o → tares_of xs number ≡ ys
@@ -35,18 +35,7 @@ module _ (entries : List Entry) (name : Name) (number : ℕ) (is : product_numbe
 
   each : (xs : List ProductTare) (ys : List DatedTare) (act : Act) → tares_of xs number ≡ ys → tares_of (cons_option (tare_entry entries act) xs) number ≡ cons_option (tare_put name act) ys
   each xs ys (PutTare product day tare) h = one xs ys product day tare (product_number entries product) refl h
-  each xs ys (NewDay day) h = h
-  each xs ys (PutProduct other nominal unit) h = h
-  each xs ys (OpenBatch batch product density) h = h
-  each xs ys (StartLane lane batch) h = h
-  each xs ys (Weigh lane gross prior) h = h
-  each xs ys (StopLane lane prior) h = h
-  each xs ys (Void pack) h = h
-  each xs ys (EndRun batch) h = h
-  each xs ys (Draw batch mode word) h = h
-  each xs ys (Measure pack gross empty) h = h
-  each xs ys (DrawSecond batch word) h = h
-  each xs ys (Close batch) h = h
+  each xs ys act h = h
 
   among : (some : List Entry) → tares_of (said (tare_entry entries) some) number ≡ said (tare_put name) some
   among [] = refl

@@ -18,14 +18,13 @@ use Rattle.book_words.specs.Tares.{tare_of_product}
 use Rattle.book_words.specs.Readings.{tare_of_reading}
 use Rattle.book_words.proofs.LastSaid.{last_said-push}
 use Rattle.book_packs.specs.Stand.{tare_entry, tares_in, terms_of_batch, opened_terms, number_of_product, pack_of}
-use Rattle.book_packs.proofs.Numbered.{product_keeps, batch_is_known}
+use Rattle.book_packs.proofs.Numbered.{product_keeps}
+use Rattle.book_words.proofs.SaidNames.{product_where_opened}
 use Rattle.book_packs.proofs.Known.{Known, IsWeighed, is_there}
 use Rattle.book_packs.proofs.Telling.{terms_at}
 use Rattle.book_packs.proofs.Registering.{tare_is}
 use Rattle.book_packs.proofs.Staying.{tares-push}
-
-turned : (a b : ℕ) → (a == b) ≡ (b == a)
-turned a b = grind (arith, nat_tests)
+use Rattle.book_words.proofs.PlainLemmas.{eqb-swap}
 
 -- what a batch that was opened has
 pub record HasProduct (entries : List Entry) (batch : Name) : Type 0 where
@@ -35,7 +34,7 @@ pub record HasProduct (entries : List Entry) (batch : Name) : Type 0 where
   pub numbered : product_number entries name ≡ Some number
 
 pub has_product : (entries : List Entry) → Known entries → (batch : Name) → is_some (batch_number entries batch) ≡ true → HasProduct entries batch
-has_product entries known batch h = each (product_of entries batch) refl (batch_is_known entries batch ∙ h)
+has_product entries known batch h = each (product_of entries batch) refl (product_where_opened entries batch ∙ h)
   where
     with_number : (name : Name) (o : Option ℕ) → product_of entries batch ≡ Some name → product_number entries name ≡ o → is_some (product_number entries name) ≡ true → HasProduct entries batch
     with_number name None of numbered k = absurd (let wrong = sym (ap is_some numbered) ∙ k in cc)
@@ -54,7 +53,7 @@ concerned_is entries product span reading w has =
     let number : number_of_product entries w.batch ≡ has.number = ap (λ o. unwrap_or (option_and_then (product_number entries) o) 0) has.of_batch ∙ ap (λ o. unwrap_or o 0) has.numbered in
     ap (λ o. option_map_or (λ (t : Terms). t.product == product) o false && covers span (pack_of entries reading).day) terms
     ∙ ap (λ n. (n == product) && covers span (pack_of entries reading).day) number
-    ∙ ap (λ b. b && covers span (pack_of entries reading).day) (turned has.number product)
+    ∙ ap (λ b. b && covers span (pack_of entries reading).day) (eqb-swap has.number product)
     ∙ ap (λ o. (product == has.number) && covers span (unwrap_or o (pos 0))) w.on_day
 
 -- the tare of a reading is that of its product on its day

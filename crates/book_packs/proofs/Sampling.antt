@@ -25,19 +25,9 @@ is_draw (DrawSecond batch word) = true
 is_draw _ = false
 
 draws_nothing : (entries : List Entry) (batch : Name) (act : Act) → is_draw act ≡ false → (drawing_from batch entries act ≡ None) × (second_word batch act ≡ None)
-draws_nothing entries batch (NewDay day) h = (refl, refl)
-draws_nothing entries batch (PutProduct name nominal unit) h = (refl, refl)
-draws_nothing entries batch (PutTare product day tare) h = (refl, refl)
-draws_nothing entries batch (OpenBatch name product density) h = (refl, refl)
-draws_nothing entries batch (StartLane lane name) h = (refl, refl)
-draws_nothing entries batch (Weigh lane gross prior) h = (refl, refl)
-draws_nothing entries batch (StopLane lane prior) h = (refl, refl)
-draws_nothing entries batch (Void pack) h = (refl, refl)
-draws_nothing entries batch (EndRun name) h = (refl, refl)
 draws_nothing entries batch (Draw name mode word) h = absurd (cc)
-draws_nothing entries batch (Measure pack gross empty) h = (refl, refl)
 draws_nothing entries batch (DrawSecond name word) h = absurd (cc)
-draws_nothing entries batch (Close name) h = (refl, refl)
+draws_nothing entries batch act h = (refl, refl)
 
 pub sample_stays : (entries : List Entry) (entry : Entry) (batch : Name) → is_draw entry.act ≡ false → sample_of (entries ++ entry ∷ []) batch ≡ sample_of entries batch
 sample_stays entries entry batch h =
@@ -122,18 +112,7 @@ from_within limit before batch (Draw name mode word) h =
       | true ↦ looser (length before) limit h (numbers_of (population before batch)) (population_within before batch)
       | false ↦ tt
     ]
-from_within limit before batch (NewDay day) h = tt
-from_within limit before batch (PutProduct name nominal unit) h = tt
-from_within limit before batch (PutTare product day tare) h = tt
-from_within limit before batch (OpenBatch name product density) h = tt
-from_within limit before batch (StartLane lane name) h = tt
-from_within limit before batch (Weigh lane gross prior) h = tt
-from_within limit before batch (StopLane lane prior) h = tt
-from_within limit before batch (Void pack) h = tt
-from_within limit before batch (EndRun name) h = tt
-from_within limit before batch (Measure pack gross empty) h = tt
-from_within limit before batch (DrawSecond name word) h = tt
-from_within limit before batch (Close name) h = tt
+from_within limit before batch act h = tt
 
 -- the draw of a batch is from numbers of readings
 drawing_from_left : (before after : List Entry) (batch : Name) → IfSome (drawing_of before batch) (λ drawing. AtMost (length before) drawing.packs) → IfSome (drawing_of (before ++ after) batch) (λ drawing. AtMost (length (before ++ after)) drawing.packs)

@@ -29,8 +29,9 @@ use Rattle.book_words.proofs.OneMoreEntry.{advance, own_reading, readings-push}
 use Rattle.book_packs.specs.Densities.{limits_at}
 use Rattle.book_packs.specs.Stand.{tare_entry, tares_in, terms_of_batch, opened_terms, pack_of, packs_in}
 use Rattle.book_packs.proofs.Lists.{map-within, map-map, all_then, each_has_place}
-use Rattle.book_packs.proofs.Rules.{Passes, put_product, open_batch}
-use Rattle.book_packs.proofs.Numbered.{product_is_known, batch_is_known, product_keeps, batch_keeps}
+use Rattle.book_words.proofs.AllowedActs.{IsAllowed, put_product_tells, open_batch_tells}
+use Rattle.book_packs.proofs.Numbered.{product_keeps, batch_keeps}
+use Rattle.book_words.proofs.SaidNames.{nominal_where_put, product_where_opened}
 use Rattle.book_packs.proofs.Known.{Known, IsWeighed, tare_named, is_there}
 
 guard_off : {A : Type 0} (b : Bool) (x : A) → b ≡ false → cond b (Some x) None ≡ None
@@ -40,9 +41,9 @@ clash : {P : Type 0} {b : Bool} → b ≡ true → b ≡ false → P
 clash h k = absurd (let wrong : true ≡ false = sym h ∙ k in cc)
 
 -- no lawful act opens a batch that is there
-opens_none : (entries : List Entry) (act : Act) → Passes entries act → (batch : Name) → is_some (batch_number entries batch) ≡ true → (product_given batch act ≡ None) × (density_given batch act ≡ None)
+opens_none : (entries : List Entry) (act : Act) → IsAllowed entries act → (batch : Name) → is_some (batch_number entries batch) ≡ true → (product_given batch act ≡ None) × (density_given batch act ≡ None)
 opens_none entries (OpenBatch name product density) h batch known = elim (cases_Bool (same_name name batch)) [
-  | inl t ↦ clash (ap (λ (n : Name). is_some (batch_number entries n)) (same_name_is name batch t) ∙ known) (sym (batch_is_known entries name) ∙ (open_batch entries name product density h).1)
+  | inl t ↦ clash (ap (λ (n : Name). is_some (batch_number entries n)) (same_name_is name batch t) ∙ known) (sym (product_where_opened entries name) ∙ ap is_some (open_batch_tells entries name product density h).new)
   | inr f ↦ (guard_off (same_name name batch) product f, guard_off (same_name name batch) density f)
 ]
 opens_none entries (NewDay day) h batch known = (refl, refl)
@@ -59,9 +60,9 @@ opens_none entries (DrawSecond name word) h batch known = (refl, refl)
 opens_none entries (Close name) h batch known = (refl, refl)
 
 -- none puts a product that is there
-puts_none : (entries : List Entry) (act : Act) → Passes entries act → (product : Name) → is_some (product_number entries product) ≡ true → (nominal_put product act ≡ None) × (unit_put product act ≡ None)
+puts_none : (entries : List Entry) (act : Act) → IsAllowed entries act → (product : Name) → is_some (product_number entries product) ≡ true → (nominal_put product act ≡ None) × (unit_put product act ≡ None)
 puts_none entries (PutProduct name nominal unit) h product known = elim (cases_Bool (same_name name product)) [
-  | inl t ↦ clash (ap (λ (n : Name). is_some (product_number entries n)) (same_name_is name product t) ∙ known) (sym (product_is_known entries name) ∙ put_product entries name nominal unit h)
+  | inl t ↦ clash (ap (λ (n : Name). is_some (product_number entries n)) (same_name_is name product t) ∙ known) (sym (nominal_where_put entries name) ∙ ap is_some (put_product_tells entries name nominal unit h).new)
   | inr f ↦ (guard_off (same_name name product) nominal f, guard_off (same_name name product) unit f)
 ]
 puts_none entries (NewDay day) h product known = (refl, refl)
@@ -79,33 +80,11 @@ puts_none entries (Close name) h product known = (refl, refl)
 
 tares_none : (act : Act) (product : Name) → tare_named act ≡ None → tare_put product act ≡ None
 tares_none (PutTare name day tare) product h = absurd (cc)
-tares_none (NewDay day) product h = refl
-tares_none (PutProduct name nominal unit) product h = refl
-tares_none (OpenBatch batch name density) product h = refl
-tares_none (StartLane lane name) product h = refl
-tares_none (Weigh lane gross prior) product h = refl
-tares_none (StopLane lane prior) product h = refl
-tares_none (Void pack) product h = refl
-tares_none (EndRun name) product h = refl
-tares_none (Draw name mode word) product h = refl
-tares_none (Measure pack gross empty) product h = refl
-tares_none (DrawSecond name word) product h = refl
-tares_none (Close name) product h = refl
+tares_none act product h = refl
 
 entry_none : (entries : List Entry) (act : Act) → tare_named act ≡ None → tare_entry entries act ≡ None
 entry_none entries (PutTare name day tare) h = absurd (cc)
-entry_none entries (NewDay day) h = refl
-entry_none entries (PutProduct name nominal unit) h = refl
-entry_none entries (OpenBatch batch name density) h = refl
-entry_none entries (StartLane lane name) h = refl
-entry_none entries (Weigh lane gross prior) h = refl
-entry_none entries (StopLane lane prior) h = refl
-entry_none entries (Void pack) h = refl
-entry_none entries (EndRun name) h = refl
-entry_none entries (Draw name mode word) h = refl
-entry_none entries (Measure pack gross empty) h = refl
-entry_none entries (DrawSecond name word) h = refl
-entry_none entries (Close name) h = refl
+entry_none entries act h = refl
 
 through : {A : Type 0} (f g : Name → Option A) (o : Option Name) → ((x : Name) → o ≡ Some x → f x ≡ g x) → option_and_then f o ≡ option_and_then g o
 through f g None h = refl
@@ -123,18 +102,7 @@ module _ (entries : List Entry) (entry : Entry) (known : Known entries) where
   retare : (act : Act) (names : List Name) (xs ys : List ProductTare) → AllByRecursion (λ name. is_some (product_number entries name) ≡ true) (cons_option (tare_named act) names)
       → (AllByRecursion (λ name. is_some (product_number entries name) ≡ true) names → xs ≡ ys) → cons_option (tare_entry (entries ++ entry ∷ []) act) xs ≡ cons_option (tare_entry entries act) ys
   retare (PutTare product day tare) names xs ys all h = λ i. cons_option (option_map (λ n. entry_of n day tare) (product_keeps entries entry product all.0 i)) (h all.1 i)
-  retare (NewDay day) names xs ys all h = h all
-  retare (PutProduct name nominal unit) names xs ys all h = h all
-  retare (OpenBatch batch name density) names xs ys all h = h all
-  retare (StartLane lane name) names xs ys all h = h all
-  retare (Weigh lane gross prior) names xs ys all h = h all
-  retare (StopLane lane prior) names xs ys all h = h all
-  retare (Void pack) names xs ys all h = h all
-  retare (EndRun name) names xs ys all h = h all
-  retare (Draw name mode word) names xs ys all h = h all
-  retare (Measure pack gross empty) names xs ys all h = h all
-  retare (DrawSecond name word) names xs ys all h = h all
-  retare (Close name) names xs ys all h = h all
+  retare act names xs ys all h = h all
 
   retared : (some : List Entry) → AllByRecursion (λ name. is_some (product_number entries name) ≡ true) (said tare_named some) → said (tare_entry (entries ++ entry ∷ [])) some ≡ said (tare_entry entries) some
   retared [] all = refl
@@ -148,7 +116,7 @@ module _ (entries : List Entry) (entry : Entry) (known : Known entries) where
   pub tares_keep : tare_named entry.act ≡ None → tares_in (entries ++ entry ∷ []) ≡ tares_in entries
   tares_keep h = tares-push ∙ ap (λ o. tares_in entries ++ cons_option o []) (entry_none (entries ++ entry ∷ []) entry.act h) ∙ append-nil (tares_in entries)
 
-module _ (entries : List Entry) (entry : Entry) (known : Known entries) (rules : Passes entries entry.act) where
+module _ (entries : List Entry) (entry : Entry) (known : Known entries) (rules : IsAllowed entries entry.act) where
   pub product_of_keeps : (batch : Name) → is_some (batch_number entries batch) ≡ true → product_of (entries ++ entry ∷ []) batch ≡ product_of entries batch
   product_of_keeps batch h =
       last_said-push (product_given batch) entries entry ∙ ap (λ o. option_or o (product_of entries batch)) (opens_none entries entry.act rules batch h).0

@@ -21,7 +21,7 @@ use Rattle.book_packs.specs.Densities.{limit_at, limits_at}
 use Rattle.book_packs.specs.declared.types.AtWeighing.{AtWeighing}
 use Rattle.book_packs.specs.Told.{met_at}
 use Rattle.book_packs.proofs.Below.{class_is}
-use Rattle.book_laws.proofs.TareLaws.{started_for_it}
+use Rattle.book_words.proofs.SaidTogether.{started_for_it}
 
 signal_by_tests : (below2 below1 held : Bool) (population nonstandard : ℕ)
     → (if held then Reject cause.Held else

@@ -15,7 +15,8 @@ use Rattle.book_words.specs.Answers.{IsLegal}
 use Rattle.book_words.proofs.NameLemmas.{same_name_is}
 use Rattle.book_words.proofs.DrawnLemmas.{sample_of-kept, measured_of-push}
 use Rattle.book_words.proofs.SampleSteps.{draws_packs, sample_of-no_draw, sample_of-opened, sample_of-draw, sample_of-draw_apart, sample_of-second, sample_of-second_apart}
-use Rattle.book_words.proofs.OpenedOnce.{said-push, is_named, AreDistinct, opened_once, place_of-name}
+use Rattle.book_words.proofs.OpenedOnce.{said-push, is_named, AreDistinct, opened_once}
+use Rattle.book_words.proofs.PlaceLemmas.{place_of-name}
 use Rattle.book_samples.specs.Kept.{Kept, measured_in, IsSamplesOf, StandsForAll, TakesDown, IsOpening, IsFirstDraw, IsSecondDraw, IsMeasurement, is_of_samples}
 use Rattle.book_samples.specs.Changed.{change_at, with_second}
 
@@ -34,15 +35,7 @@ quiet entries (OpenBatch batch product density) h = absurd (true_is_not_false h)
 quiet entries (Draw batch mode word) h = absurd (true_is_not_false h)
 quiet entries (Measure pack gross empty) h = absurd (true_is_not_false h)
 quiet entries (DrawSecond batch word) h = absurd (true_is_not_false h)
-quiet entries (NewDay day) h = record { opened = refl; first = λ _. refl; second = λ _. refl; measured = λ _. refl }
-quiet entries (PutProduct product nominal unit) h = record { opened = refl; first = λ _. refl; second = λ _. refl; measured = λ _. refl }
-quiet entries (PutTare product day tare) h = record { opened = refl; first = λ _. refl; second = λ _. refl; measured = λ _. refl }
-quiet entries (StartLane lane batch) h = record { opened = refl; first = λ _. refl; second = λ _. refl; measured = λ _. refl }
-quiet entries (Weigh lane gross prior) h = record { opened = refl; first = λ _. refl; second = λ _. refl; measured = λ _. refl }
-quiet entries (StopLane lane prior) h = record { opened = refl; first = λ _. refl; second = λ _. refl; measured = λ _. refl }
-quiet entries (Void pack) h = record { opened = refl; first = λ _. refl; second = λ _. refl; measured = λ _. refl }
-quiet entries (EndRun batch) h = record { opened = refl; first = λ _. refl; second = λ _. refl; measured = λ _. refl }
-quiet entries (Close batch) h = record { opened = refl; first = λ _. refl; second = λ _. refl; measured = λ _. refl }
+quiet entries act h = record { opened = refl; first = λ _. refl; second = λ _. refl; measured = λ _. refl }
 
 -- no batch is opened by the last entry
 none_opened : (entries : List Entry) (entry : Entry) → batch_opened entry.act ≡ None → said batch_opened (entries ++ entry ∷ []) ≡ said batch_opened entries

@@ -27,8 +27,8 @@ use Rattle.book_packs.specs.Entering.{IsNext, IsWeighing, IsDraw, batch_drawn, p
 use Rattle.book_samples.specs.Kept.{drawing_at, IsFirstDraw, IsSecondDraw}
 use Rattle.book_samples.specs.DrawnBy.{IsDrawnBy}
 use Rattle.book_samples.proofs.Known.{sample_drawn_by}
-use Rattle.book_index.proofs.SaidNames.{nominal_where_put, product_where_opened}
-use Rattle.book_laws.proofs.LawfulActs.{IsAllowed, allowed_act, put_tare_tells, open_batch_tells, AllowsWeigh, weigh_tells, draw_tells, draw_second_tells}
+use Rattle.book_words.proofs.SaidNames.{nominal_where_put, product_where_opened}
+use Rattle.book_words.proofs.AllowedActs.{IsAllowed, allowed_act, put_tare_tells, open_batch_tells, AllowsWeigh, weigh_tells, draw_tells, draw_second_tells}
 use Rattle.book_laws.proofs.ReadingLaws.{numbers_increase}
 use Rattle.book_laws.proofs.BatchLaws.{orderly}
 use Rattle.book_laws.proofs.PopulationLaws.{drawn_from_all}
@@ -70,17 +70,7 @@ drawn_batch entries entry (Draw name mode word) batch next is drawn =
 drawn_batch entries entry (DrawSecond name word) batch next is drawn =
     subst (λ (b : Name). is_some (batch_number entries b) ≡ true) (name_is drawn)
     (sym (product_where_opened entries name) ∙ (draw_second_tells entries name word (allowed_act entries entry (DrawSecond name word) next.lawful is)).known)
-drawn_batch entries entry (NewDay day) batch next is drawn = absurd (cc)
-drawn_batch entries entry (PutProduct name nominal unit) batch next is drawn = absurd (cc)
-drawn_batch entries entry (PutTare product day tare) batch next is drawn = absurd (cc)
-drawn_batch entries entry (OpenBatch name product density) batch next is drawn = absurd (cc)
-drawn_batch entries entry (StartLane lane name) batch next is drawn = absurd (cc)
-drawn_batch entries entry (Weigh lane gross prior) batch next is drawn = absurd (cc)
-drawn_batch entries entry (StopLane lane prior) batch next is drawn = absurd (cc)
-drawn_batch entries entry (Void pack) batch next is drawn = absurd (cc)
-drawn_batch entries entry (EndRun name) batch next is drawn = absurd (cc)
-drawn_batch entries entry (Measure pack gross empty) batch next is drawn = absurd (cc)
-drawn_batch entries entry (Close name) batch next is drawn = absurd (cc)
+drawn_batch entries entry act batch next is drawn = absurd (cc)
 
 -- ---- the tare of a lane
 
@@ -151,18 +141,7 @@ weighing_made entries entry (Weigh other gross prior) lane batch day tare next a
 
     made_from : Act → Option ℕ → Option ℤ → Option Signal → Option Weighing
     made_from act b d s = option_and_then (λ n. option_and_then (λ on. option_and_then (act_weighing act (length entries + 1) tare n on) s) d) b
-weighing_made entries entry (NewDay d) lane batch day tare next act_is weighs batch_is day_is tare_is = absurd (cc)
-weighing_made entries entry (PutProduct name nominal unit) lane batch day tare next act_is weighs batch_is day_is tare_is = absurd (cc)
-weighing_made entries entry (PutTare product d t) lane batch day tare next act_is weighs batch_is day_is tare_is = absurd (cc)
-weighing_made entries entry (OpenBatch name product density) lane batch day tare next act_is weighs batch_is day_is tare_is = absurd (cc)
-weighing_made entries entry (StartLane l name) lane batch day tare next act_is weighs batch_is day_is tare_is = absurd (cc)
-weighing_made entries entry (StopLane l prior) lane batch day tare next act_is weighs batch_is day_is tare_is = absurd (cc)
-weighing_made entries entry (Void pack) lane batch day tare next act_is weighs batch_is day_is tare_is = absurd (cc)
-weighing_made entries entry (EndRun name) lane batch day tare next act_is weighs batch_is day_is tare_is = absurd (cc)
-weighing_made entries entry (Draw name mode word) lane batch day tare next act_is weighs batch_is day_is tare_is = absurd (cc)
-weighing_made entries entry (Measure pack gross empty) lane batch day tare next act_is weighs batch_is day_is tare_is = absurd (cc)
-weighing_made entries entry (DrawSecond name word) lane batch day tare next act_is weighs batch_is day_is tare_is = absurd (cc)
-weighing_made entries entry (Close name) lane batch day tare next act_is weighs batch_is day_is tare_is = absurd (cc)
+weighing_made entries entry act lane batch day tare next act_is weighs batch_is day_is tare_is = absurd (cc)
 
 -- ---- draws
 

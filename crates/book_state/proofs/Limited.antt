@@ -29,7 +29,7 @@ use Rattle.book_words.proofs.OneMoreEntry.{advance, own_reading}
 use Rattle.book_packs.specs.Told.{totals_told}
 use Rattle.book_laws.proofs.PackLaws.{batch_is}
 use Rattle.book_laws.proofs.RangeLaws.{fewer}
-use Rattle.book_laws.proofs.ReadingLaws.{by_entries}
+use Rattle.book_words.proofs.LegalLemmas.{legal_steps}
 use Rattle.book_laws.proofs.PopulationLaws.{counts_after, population_is, population_at_is, counts_after_gate, counts_after_void}
 
 -- no act but a weighing makes a population longer, before its own pack is looked at
@@ -40,16 +40,7 @@ fewer_after entries batch (StopLane lane prior) =
     subst (λ (some : List Reading). length some ≤ length (population entries batch)) (sym (counts_after_gate entries batch lane prior)) (fewer _ (population entries batch))
 fewer_after entries batch (Void pack) =
     subst (λ (some : List Reading). length some ≤ length (population entries batch)) (sym (counts_after_void entries batch pack)) (fewer _ (population entries batch))
-fewer_after entries batch (NewDay day) = omega arith
-fewer_after entries batch (PutProduct name nominal unit) = omega arith
-fewer_after entries batch (PutTare product day tare) = omega arith
-fewer_after entries batch (OpenBatch name product density) = omega arith
-fewer_after entries batch (StartLane lane name) = omega arith
-fewer_after entries batch (EndRun name) = omega arith
-fewer_after entries batch (Draw name mode word) = omega arith
-fewer_after entries batch (Measure pack gross empty) = omega arith
-fewer_after entries batch (DrawSecond name word) = omega arith
-fewer_after entries batch (Close name) = omega arith
+fewer_after entries batch act = omega arith
 
 -- so what a weighing meets is no longer than the population
 pub fewer_at : (entries : List Entry) (batch : Name) (act : Act) → IsLegal entries → length (judging_population entries act batch) ≤ length (population entries batch)
@@ -110,7 +101,7 @@ IsWithinAll entries = (batch : Name) → length (population entries batch) ≤ M
 -- a population has no more packs than a batch may have
 pub population_few : (entries : List Entry) → IsLegal entries → IsWithinAll entries
 population_few =
-    by_entries IsWithinAll (λ batch. omega arith)
+    legal_steps IsWithinAll (λ batch. omega arith)
     (λ es e legal lawful before batch.
     let few = before batch in
     let fewer = fewer_after es batch e.act in

@@ -88,18 +88,7 @@ seen_from number before (Weigh lane gross prior) signal after reading batch is r
   where
     some_reading : (a b : Reading) → Some a ≡ Some b → a ≡ b
     some_reading a b k = cc
-seen_from number before (NewDay day) signal after reading batch is range of_batch h = absurd (cc)
-seen_from number before (PutProduct name nominal unit) signal after reading batch is range of_batch h = absurd (cc)
-seen_from number before (PutTare product day tare) signal after reading batch is range of_batch h = absurd (cc)
-seen_from number before (OpenBatch name product density) signal after reading batch is range of_batch h = absurd (cc)
-seen_from number before (StartLane lane name) signal after reading batch is range of_batch h = absurd (cc)
-seen_from number before (StopLane lane prior) signal after reading batch is range of_batch h = absurd (cc)
-seen_from number before (Void pack) signal after reading batch is range of_batch h = absurd (cc)
-seen_from number before (EndRun name) signal after reading batch is range of_batch h = absurd (cc)
-seen_from number before (Draw name mode word) signal after reading batch is range of_batch h = absurd (cc)
-seen_from number before (Measure pack gross empty) signal after reading batch is range of_batch h = absurd (cc)
-seen_from number before (DrawSecond name word) signal after reading batch is range of_batch h = absurd (cc)
-seen_from number before (Close name) signal after reading batch is range of_batch h = absurd (cc)
+seen_from number before act signal after reading batch is range of_batch h = absurd (cc)
 
 pub seen : (entries : List Entry) (number : ℕ) (reading : Reading) (batch : Name) → IsLegal entries → reading.batch ≡ Some batch → reading_of entries number ≡ Some reading
     → IsSeen (option_and_then (λ (e : Entry). e.signal) (entry_numbered entries number)) reading

@@ -56,18 +56,7 @@ weighed_reading-push number before (Weigh lane gross prior) signal after entry =
     let reading : Option Prior → Bool → Option Reading = λ o voided. Some (record { number = number; lane = lane; gross = gross; signal = signal; day = newest_day before; batch = last_batch before lane; next_prior = o; voided = voided }) in
     ap (λ o. reading o (is_voided (after ++ entry ∷ []) number)) (first_said-push (prior_told lane) after entry)
     ∙ ap (reading (option_or (first_said (prior_told lane) after) (prior_told lane entry.act))) (is_voided-push after entry number)
-weighed_reading-push number before (NewDay day) signal after entry = refl
-weighed_reading-push number before (PutProduct name nominal unit) signal after entry = refl
-weighed_reading-push number before (PutTare product day tare) signal after entry = refl
-weighed_reading-push number before (OpenBatch batch product density) signal after entry = refl
-weighed_reading-push number before (StartLane lane batch) signal after entry = refl
-weighed_reading-push number before (StopLane lane prior) signal after entry = refl
-weighed_reading-push number before (Void pack) signal after entry = refl
-weighed_reading-push number before (EndRun batch) signal after entry = refl
-weighed_reading-push number before (Draw batch mode word) signal after entry = refl
-weighed_reading-push number before (Measure pack gross empty) signal after entry = refl
-weighed_reading-push number before (DrawSecond batch word) signal after entry = refl
-weighed_reading-push number before (Close batch) signal after entry = refl
+weighed_reading-push number before act signal after entry = refl
 
 slice_get-push : (entries : List Entry) (entry : Entry) (place : ℕ) → place < length entries → slice_get (entries ++ entry ∷ []) place ≡ slice_get entries place
 slice_get-push [] entry place h = absurd (omega arith)

@@ -1,5 +1,4 @@
 pub mod Filled
-pub mod Together
 pub mod Lawful
 pub mod RowReaders
 pub mod KindReaders

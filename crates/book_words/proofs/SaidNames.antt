@@ -4,13 +4,14 @@ use Rattle.std.specs.List.{last_or, cons_option}
 use Rattle.std.specs.Option.{option_or}
 use Rattle.book_words.specs.declared.name.Name.{Name}
 use Rattle.book_words.specs.declared.act.Act.{Act}
-use Rattle.book_words.specs.declared.act.Act.TheVariants.{NewDay, PutProduct, PutTare, OpenBatch, StartLane, Weigh, StopLane, Void, EndRun, Draw, Measure, DrawSecond, Close}
+use Rattle.book_words.specs.declared.act.Act.TheVariants.{PutProduct, OpenBatch}
 use Rattle.book_words.specs.declared.act.Entry.{Entry}
 use Rattle.book_words.specs.Names.{same_name}
 use Rattle.book_words.specs.Acts.{said, last_said, nominal_put, unit_put, product_given, density_given, batch_opened, nominal_of, unit_of, product_of, density_of}
 use Rattle.book_words.specs.Order.{place_of, product_named, product_number, batch_number}
 use Rattle.book_words.proofs.LastSaid.{last_or-cons}
-use Rattle.book_index.proofs.Places.{place_is_some}
+use Rattle.book_words.proofs.PlaceLemmas.{place_is_some}
+use Rattle.std.proofs.Math.Bool.{or-false}
 
 -- whether a name that an act gives is this one
 abbrev names_it : Name → Option Name → Bool
@@ -32,16 +33,12 @@ said_where_named {A} says named name each entries = from None entries
     or_assoc true b c = refl
     or_assoc false b c = refl
 
-    or_false : (b : Bool) → b ≡ b || false
-    or_false true = refl
-    or_false false = refl
-
     one_more : (o : Option Name) (names : List Name) → names_it name o || is_some (place_of names name) ≡ is_some (place_of (cons_option o names) name)
     one_more None names = refl
     one_more (Some first) names = sym (place_is_some first names name)
 
     from : (o : Option A) (entries : List Entry) → is_some (last_or o (said says entries)) ≡ is_some o || is_some (place_of (said named entries) name)
-    from o [] = or_false (is_some o)
+    from o [] = sym (or-false (is_some o))
     from o (e ∷ es) =
         ap is_some (last_or-cons o (says e.act) (said says es))
         ∙ from (option_or (says e.act) o) es
@@ -59,76 +56,32 @@ pub nominal_where_put : (entries : List Entry) (name : Name) → is_some (nomina
 nominal_where_put entries name = said_where_named (nominal_put name) product_named name each entries
   where
     each : (act : Act) → is_some (nominal_put name act) ≡ names_it name (product_named act)
-    each (NewDay day) = refl
     each (PutProduct other nominal unit) = given (same_name other name) nominal
-    each (PutTare product day tare) = refl
-    each (OpenBatch other product density) = refl
-    each (StartLane lane batch) = refl
-    each (Weigh lane gross prior) = refl
-    each (StopLane lane prior) = refl
-    each (Void pack) = refl
-    each (EndRun batch) = refl
-    each (Draw batch mode word) = refl
-    each (Measure pack gross empty) = refl
-    each (DrawSecond batch word) = refl
-    each (Close batch) = refl
+    each act = refl
 
 -- so with its unit
 pub unit_where_put : (entries : List Entry) (name : Name) → is_some (unit_of entries name) ≡ is_some (product_number entries name)
 unit_where_put entries name = said_where_named (unit_put name) product_named name each entries
   where
     each : (act : Act) → is_some (unit_put name act) ≡ names_it name (product_named act)
-    each (NewDay day) = refl
     each (PutProduct other nominal unit) = given (same_name other name) unit
-    each (PutTare product day tare) = refl
-    each (OpenBatch other product density) = refl
-    each (StartLane lane batch) = refl
-    each (Weigh lane gross prior) = refl
-    each (StopLane lane prior) = refl
-    each (Void pack) = refl
-    each (EndRun batch) = refl
-    each (Draw batch mode word) = refl
-    each (Measure pack gross empty) = refl
-    each (DrawSecond batch word) = refl
-    each (Close batch) = refl
+    each act = refl
 
 -- a batch has a product, and nothing else has
 pub product_where_opened : (entries : List Entry) (name : Name) → is_some (product_of entries name) ≡ is_some (batch_number entries name)
 product_where_opened entries name = said_where_named (product_given name) batch_opened name each entries
   where
     each : (act : Act) → is_some (product_given name act) ≡ names_it name (batch_opened act)
-    each (NewDay day) = refl
-    each (PutProduct other nominal unit) = refl
-    each (PutTare product day tare) = refl
     each (OpenBatch other product density) = given (same_name other name) product
-    each (StartLane lane batch) = refl
-    each (Weigh lane gross prior) = refl
-    each (StopLane lane prior) = refl
-    each (Void pack) = refl
-    each (EndRun batch) = refl
-    each (Draw batch mode word) = refl
-    each (Measure pack gross empty) = refl
-    each (DrawSecond batch word) = refl
-    each (Close batch) = refl
+    each act = refl
 
 -- so with its density
 pub density_where_opened : (entries : List Entry) (name : Name) → is_some (density_of entries name) ≡ is_some (batch_number entries name)
 density_where_opened entries name = said_where_named (density_given name) batch_opened name each entries
   where
     each : (act : Act) → is_some (density_given name act) ≡ names_it name (batch_opened act)
-    each (NewDay day) = refl
-    each (PutProduct other nominal unit) = refl
-    each (PutTare product day tare) = refl
     each (OpenBatch other product density) = given (same_name other name) density
-    each (StartLane lane batch) = refl
-    each (Weigh lane gross prior) = refl
-    each (StopLane lane prior) = refl
-    each (Void pack) = refl
-    each (EndRun batch) = refl
-    each (Draw batch mode word) = refl
-    each (Measure pack gross empty) = refl
-    each (DrawSecond batch word) = refl
-    each (Close batch) = refl
+    each act = refl
 
 -- a product has a unit just where it has a nominal quantity
 pub unit_with_nominal : (entries : List Entry) (name : Name) → is_some (unit_of entries name) ≡ is_some (nominal_of entries name)
