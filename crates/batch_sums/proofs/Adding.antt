@@ -9,7 +9,8 @@ use Rattle.std.proofs.lemmas.Int.{ints}
 use Rattle.pack_judge.specs.declared.types.Pile.{Pile}
 use Rattle.pack_judge.specs.declared.types.Pile.TheVariants.{Passed, Rejected, Sampled, Voided}
 use Rattle.batch_sums.specs.declared.types.Held.{Held}
-use Rattle.batch_sums.specs.Totals.{same_pile, is_counted, net_of, of_batch, in_pile, population, gross_sum, net_sum}
+use Rattle.batch_sums.specs.Totals.{is_counted, net_of, of_batch, in_pile, population, gross_sum, net_sum}
+use Rattle.pack_judge.specs.Piles.{same_pile}
 use Rattle.batch_sums.specs.declared.types.Pack.{Pack}
 use Rattle.batch_sums.specs.Groups.{Face, at_least_0, nth_face, threshold}
 use Rattle.batch_sums.specs.Kept.{seen, belongs, added_count, added_gross, added_tare, added_below}

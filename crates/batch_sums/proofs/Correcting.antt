@@ -10,7 +10,8 @@ use Rattle.hall_limits.specs.declared.TheConstants.{MAX_TARE}
 use Rattle.batch_sums.specs.declared.batch.Batch.{Batch}
 use Rattle.batch_sums.specs.declared.group.Group.{Group}
 use Rattle.batch_sums.specs.declared.types.Held.{Held}
-use Rattle.batch_sums.specs.Totals.{is_counted, same_pile}
+use Rattle.batch_sums.specs.Totals.{is_counted}
+use Rattle.pack_judge.specs.Piles.{same_pile}
 use Rattle.batch_sums.specs.Rising.{mass_of}
 use Rattle.batch_sums.specs.Groups.{Face, face_of, faces, nth_face, no_face, threshold, IsJudged}
 use Rattle.batch_sums.specs.Running.{one_if_below, HasShare, IsCorrected}

@@ -11,7 +11,8 @@ use Rattle.batch_sums.specs.declared.batch.Batch.{Batch}
 use Rattle.batch_sums.specs.declared.grosses.Gross.{Gross}
 use Rattle.batch_sums.specs.declared.group.Group.{Group}
 use Rattle.batch_sums.specs.declared.types.Held.{Held}
-use Rattle.batch_sums.specs.Totals.{is_counted, same_pile}
+use Rattle.batch_sums.specs.Totals.{is_counted}
+use Rattle.pack_judge.specs.Piles.{same_pile}
 use Rattle.batch_sums.specs.Rising.{mass_of, HasMoreIf}
 use Rattle.batch_sums.specs.Groups.{Face, face_of, faces, nth_face, threshold, IsJudged}
 use Rattle.batch_sums.specs.Running.{IsEntered, HasRoom, Covers, pile_sum, one_if_below}

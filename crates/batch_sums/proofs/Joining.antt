@@ -7,7 +7,8 @@ use Rattle.pack_judge.specs.declared.types.Pile.{Pile}
 use Rattle.batch_sums.specs.declared.batch.Batch.{Batch}
 use Rattle.batch_sums.specs.declared.grosses.Gross.{Gross}
 use Rattle.batch_sums.specs.declared.types.Held.{Held}
-use Rattle.batch_sums.specs.Totals.{same_pile, is_counted}
+use Rattle.batch_sums.specs.Totals.{is_counted}
+use Rattle.pack_judge.specs.Piles.{same_pile}
 use Rattle.batch_sums.specs.Rising.{mass_of, HasMoreIf}
 use Rattle.batch_sums.specs.Groups.{Face, nth_face, threshold}
 use Rattle.batch_sums.specs.Running.{IsEntered, one_if_below}

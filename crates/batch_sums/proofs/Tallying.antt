@@ -9,7 +9,8 @@ use Rattle.pack_judge.specs.declared.types.Pile.{Pile}
 use Rattle.pack_judge.specs.declared.types.Pile.TheVariants.{Passed, Rejected, Sampled, Voided}
 use Rattle.batch_sums.specs.declared.batch.PileSums.{PileSums}
 use Rattle.batch_sums.specs.declared.types.Held.{Held}
-use Rattle.batch_sums.specs.Totals.{same_pile, in_pile, gross_sum}
+use Rattle.batch_sums.specs.Totals.{in_pile, gross_sum}
+use Rattle.pack_judge.specs.Piles.{same_pile}
 use Rattle.batch_sums.specs.Groups.{Face, at_least_0}
 use Rattle.batch_sums.specs.Running.{sum_in, shown_tallies, CountsOneMore, WeighsMore}
 use Rattle.batch_sums.specs.Kept.{seen, IsTallied}

@@ -11,7 +11,8 @@ use Rattle.pack_judge.specs.declared.types.Pile.TheVariants.{Passed, Rejected, S
 use Rattle.batch_sums.specs.declared.batch.Batch.{Batch}
 use Rattle.batch_sums.specs.declared.group.Group.{Group}
 use Rattle.batch_sums.specs.declared.types.Held.{Held}
-use Rattle.batch_sums.specs.Totals.{is_counted, same_pile, of_batch, pack_totals}
+use Rattle.batch_sums.specs.Totals.{is_counted, of_batch, pack_totals}
+use Rattle.pack_judge.specs.Piles.{same_pile}
 use Rattle.batch_sums.specs.Groups.{Face, at_least_0, face_of, faces, nth_face}
 use Rattle.batch_sums.specs.Running.{IsBounded, shown}
 use Rattle.batch_sums.specs.Kept.{AddsUp, Sound, seen, belongs, added_gross, added_tare}

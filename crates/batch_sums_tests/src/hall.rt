@@ -35,7 +35,7 @@ pub struct Hall {
 
 impl Model for Hall {
     ghost use Rattle.std.specs.Prelude.{◌≡◌, length};
-    ghost use Rattle.batch_sums.specs.Kept.{Sums};
+    ghost use Rattle.batch_sums.specs.Totals.{Sums};
     ghost use Rattle.batch_sums_tests.specs.Halls.{IsKept};
 
     ghost Value = { Sums };

@@ -18,7 +18,7 @@ use Rattle.book_words.proofs.NameLemmas.{same_name_itself}
 use Rattle.book_index.specs.declared.types.BatchTerms.{BatchTerms}
 use Rattle.book_index.specs.Known.{Known}
 use Rattle.book_index.specs.Listed.{IsIndexOf, terms_of_batch}
-use Rattle.book_index.proofs.Places.{place_is_some}
+use Rattle.book_words.proofs.PlaceLemmas.{place_is_some}
 use Rattle.book_index.proofs.SaidNames.{product_where_opened}
 use Rattle.book_index.proofs.LegalNames.{AreNamed}
 

@@ -8,7 +8,7 @@ use Rattle.book_words.specs.Desks.{is_desk}
 use Rattle.book_index.specs.Known.{Known}
 use Rattle.book_index.specs.Changes.{with_numbered, with_lane, with_row}
 use Rattle.book_index.specs.Listed.{is_lane}
-use Rattle.book_index.proofs.SameNames.{in_both}
+use Rattle.book_words.proofs.PlainLemmas.{in_both}
 
 -- a number that none of them has changes none
 pub numbered_outside : {A : Type 0} (first number : ℕ) (thing : A) (things : List A) → (first ≤ number → number < first + length things → ⊥) → with_numbered first number thing things ≡ things

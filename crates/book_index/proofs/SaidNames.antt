@@ -10,7 +10,7 @@ use Rattle.book_words.specs.Names.{same_name}
 use Rattle.book_words.specs.Acts.{said, last_said, nominal_put, unit_put, product_given, density_given, batch_opened, nominal_of, unit_of, product_of, density_of}
 use Rattle.book_words.specs.Order.{place_of, product_named, product_number, batch_number}
 use Rattle.book_words.proofs.LastSaid.{last_or-cons}
-use Rattle.book_index.proofs.Places.{place_is_some}
+use Rattle.book_words.proofs.PlaceLemmas.{place_is_some}
 
 -- whether a name that an act gives is this one
 abbrev names_it : Name → Option Name → Bool

@@ -23,11 +23,13 @@ use Rattle.book_index.specs.declared.types.BatchTerms.{BatchTerms}
 use Rattle.book_index.specs.Known.{Known, names_of}
 use Rattle.book_index.specs.Changes.{with_named, restated, with_state, with_numbered, with_row, after_act}
 use Rattle.book_index.specs.Listed.{IsIndexOf, terms_of_product, terms_of_batch, batch_product_number, products_listed, batches_listed, lane_batch_number, newest_row_number}
-use Rattle.book_index.proofs.SameNames.{same_name_swap, in_both}
-use Rattle.book_index.proofs.Places.{kept_with, names_kept, place_is_some}
+use Rattle.book_index.proofs.SameNames.{same_name_swap}
+use Rattle.book_words.proofs.PlainLemmas.{in_both}
+use Rattle.book_index.proofs.Places.{kept_with, names_kept}
 use Rattle.book_index.proofs.SaidNames.{nominal_where_put, product_where_opened}
 use Rattle.book_index.proofs.LookUps.{products_named, batches_named}
-use Rattle.book_index.proofs.LegalNames.{IsActNamed, AreNamed, place_among_more}
+use Rattle.book_index.proofs.LegalNames.{IsActNamed, AreNamed}
+use Rattle.book_words.proofs.PlaceLemmas.{place_among_more, place_is_some}
 
 -- ---- lists of names
 

@@ -14,8 +14,10 @@ use Rattle.book_index.specs.declared.types.BatchTerms.{BatchTerms}
 use Rattle.book_index.specs.Known.{names_of}
 use Rattle.book_index.specs.Changes.{with_named, with_state}
 use Rattle.book_index.specs.Invariant.{flags_of}
-use Rattle.book_index.proofs.SameNames.{is_one, one_is_same, same_name_swap, in_both}
-use Rattle.book_index.proofs.Places.{place_is, place_is_some}
+use Rattle.book_index.proofs.SameNames.{is_one, one_is_same, same_name_swap}
+use Rattle.book_words.proofs.PlainLemmas.{in_both}
+use Rattle.book_index.proofs.Places.{place_is}
+use Rattle.book_words.proofs.PlaceLemmas.{place_is_some}
 
 -- the maps find what is there
 pub found_where : {A : Type 0} (name : Name) (things : List (Name × A)) → is_some (lookup (is_one name) things) ≡ is_some (place_of (names_of things) name)

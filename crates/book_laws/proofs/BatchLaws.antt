@@ -23,8 +23,8 @@ use Rattle.book_words.specs.Answers.{IsLawful, IsLegal}
 use Rattle.book_words.proofs.NameLemmas.{same_name_is, same_name_itself}
 use Rattle.book_words.proofs.LastSaid.{last_said-push}
 use Rattle.book_words.proofs.DrawnLemmas.{drawings-push}
-use Rattle.book_laws.proofs.LawfulActs.{IsAllowed, allowed, open_batch_tells, start_lane_tells, end_run_tells, draw_tells, draw_second_tells, close_tells}
-use Rattle.book_laws.proofs.ReadingLaws.{by_entries}
+use Rattle.book_words.proofs.AllowedActs.{IsAllowed, allowed, open_batch_tells, start_lane_tells, end_run_tells, draw_tells, draw_second_tells, close_tells}
+use Rattle.book_words.proofs.LegalLemmas.{legal_steps}
 
 -- ---- states
 
@@ -459,7 +459,7 @@ nothing_orderly =
 
 -- each legal list is orderly
 pub orderly : (entries : List Entry) → IsLegal entries → IsOrderly entries
-orderly entries legal = by_entries IsOrderly nothing_orderly orderly-push entries legal
+orderly entries legal = legal_steps IsOrderly nothing_orderly orderly-push entries legal
 
 -- ---- what other crates cite
 

@@ -32,7 +32,8 @@ use Rattle.book_words.specs.declared.refusal.Refusal.TheVariants as why
 use Rattle.book_words.specs.Names.{same_name}
 use Rattle.book_words.specs.Acts.{last_said, same_state, state_of}
 use Rattle.book_words.specs.Readings.{readings, reading_of, is_of_batch}
-use Rattle.book_words.specs.Population.{same_pile, is_unsettled, unsettled_reading, is_counted, population}
+use Rattle.book_words.specs.Population.{is_unsettled, unsettled_reading, is_counted, population}
+use Rattle.pack_judge.specs.Piles.{same_pile}
 use Rattle.book_words.specs.Samples.{Drawing, Sample, numbers_of, drawing_from, drawing_of, plan_of_drawing, first_picks, second_picks, second_word, sample_by, sample_of, is_among}
 use Rattle.book_words.specs.Piles.{pile_of}
 use Rattle.book_words.specs.Measures.{measured_of, first_unmeasured}
@@ -44,8 +45,9 @@ use Rattle.book_words.specs.Answers.{IsLawful, IsLegal}
 use Rattle.book_words.proofs.NameLemmas.{same_name_is, same_name_itself}
 use Rattle.book_words.proofs.RefusalLemmas.{not_refused}
 use Rattle.book_words.proofs.DrawnLemmas.{drawing_of-push, sample_of-push}
-use Rattle.book_laws.proofs.LawfulActs.{IsAllowed, allowed, allowed_act, not_test, is_absent, void_tells, draw_tells, measure_tells, draw_second_tells, close_tells}
-use Rattle.book_laws.proofs.ReadingLaws.{by_entries, IsOneOf, each_is_one, of_reading, numbers_increase}
+use Rattle.book_words.proofs.AllowedActs.{IsAllowed, allowed, allowed_act, not_test, is_absent, void_tells, draw_tells, measure_tells, draw_second_tells, close_tells}
+use Rattle.book_laws.proofs.ReadingLaws.{IsOneOf, each_is_one, of_reading, numbers_increase}
+use Rattle.book_words.proofs.LegalLemmas.{legal_steps}
 use Rattle.book_laws.proofs.BatchLaws.{orderly, is_fixed, draw_state, draw_second_state, close_state}
 use Rattle.book_laws.proofs.UnsettledLaws.{Belongs, each_belongs}
 use Rattle.book_laws.proofs.PopulationLaws.{drawn_from_all, drawn_has}
@@ -390,7 +392,7 @@ some_of_two (Some y) p x h = inl h
 -- each draw of a legal list has a plan
 pub drawing_has_plan : (entries : List Entry) (batch : Name) (drawing : Drawing) → IsLegal entries → drawing_of entries batch ≡ Some drawing → is_ok (plan_of (length drawing.packs) drawing.mode) ≡ true
 drawing_has_plan entries batch drawing legal =
-    by_entries (λ (es : List Entry). (b : Name) (d : Drawing) → drawing_of es b ≡ Some d → HasPlan d) (λ b d is. absurd (cc))
+    legal_steps (λ (es : List Entry). (b : Name) (d : Drawing) → drawing_of es b ≡ Some d → HasPlan d) (λ b d is. absurd (cc))
     (λ es e _ lawful all b d is.
     elim (some_of_two (drawing_from b es e.act) (drawing_of es b) d (sym (drawing_of-push es e b) ∙ is)) [
       | inl now ↦ plan_now es e.act b d (allowed es e lawful) now

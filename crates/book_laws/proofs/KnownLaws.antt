@@ -21,27 +21,7 @@ use Rattle.book_words.specs.Refusals.{refused_if, first_refusal, refusals_of}
 use Rattle.book_words.specs.Answers.{ask_of, IsLawful, IsLegal}
 use Rattle.book_words.proofs.LastSaid.{last_or-cons, last_said-push}
 use Rattle.book_words.proofs.NameLemmas.{same_name_is}
-use Rattle.book_words.proofs.RefusalLemmas.{none_of_two, act_rules}
-
--- no rule of its own refuses an act behind some entries
-abbrev pub IsAllowed : List Entry → Act → Type 0
-IsAllowed entries act = first_refusal (refusals_of entries act) ≡ None
-
--- what a lawful entry does is so
-pub lawful_allowed : (entries : List Entry) (entry : Entry) → IsLawful entries entry → IsAllowed entries entry.act
-lawful_allowed entries entry lawful = act_rules entries (ask_of entry) entry.act lawful.rules
-
-behind : (P : List Entry → Type 0) → ((entries : List Entry) (entry : Entry) → P entries → IsAllowed entries entry.act → P (entries ++ entry ∷ []))
-    → (before after : List Entry) → P before → IsLegal (before ++ after) → P (before ++ after)
-behind P step before [] holds legal = subst P (sym (append-nil before)) holds
-behind P step before (entry ∷ after) holds legal =
-    let whole : (before ++ entry ∷ []) ++ after ≡ before ++ entry ∷ after = append_assoc before (entry ∷ []) after in
-    subst P whole (behind P step (before ++ entry ∷ []) after (step before entry holds (lawful_allowed before entry (legal before entry after refl))) (subst IsLegal (sym whole) legal))
-
--- what each allowed act keeps holds of a legal list where it holds of its first entries
-pub kept_behind : (P : List Entry → Type 0) → ((entries : List Entry) (entry : Entry) → P entries → IsAllowed entries entry.act → P (entries ++ entry ∷ []))
-    → (before after : List Entry) → P before → IsLegal (before ++ after) → P (before ++ after)
-kept_behind P step before after holds legal = behind P step before after holds legal
+use Rattle.book_words.proofs.AllowedActs.{IsAllowed, put_product_tells, open_batch_tells, end_run_tells, draw_tells, close_tells}
 
 -- ---- what is said of a name together with another thing
 
@@ -102,16 +82,6 @@ apart holds name other f t = each (cases_Bool (same_name name other))
     each (inl same) = absurd (let wrong : true ≡ false = sym t ∙ sym (ap holds (same_name_is name other same)) ∙ f in cc)
     each (inr no_more) = no_more
 
--- what isn't refused where it is there isn't there
-pub not_there : {A : Type 0} (o : Option A) (refusal : Refusal) → refused_if (is_some o) refusal ≡ None → is_some o ≡ false
-not_there None refusal h = refl
-not_there (Some x) refusal h = absurd (cc)
-
--- what isn't refused where it isn't there is there
-pub is_there : {A : Type 0} (o : Option A) (refusal : Refusal) → refused_if (is_none o) refusal ≡ None → is_some o ≡ true
-is_there None refusal h = absurd (cc)
-is_there (Some x) refusal h = refl
-
 none_is_not_some : {A : Type 0} (o : Option A) → o ≡ None → is_some o ≡ false
 none_is_not_some o h = ap is_some h
 
@@ -119,19 +89,13 @@ none_is_not_some o h = ap is_some h
 pub put_apart : (entries : List Entry) (name product : Name) (nominal : ℤ) (unit : units.Unit) → IsAllowed entries (PutProduct name nominal unit)
     → is_some (nominal_of entries product) ≡ true → same_name name product ≡ false
 put_apart entries name product nominal unit h known =
-    let a = none_of_two (rules.day_unset entries) _ h in
-    let b = none_of_two (rules.product_known entries name) _ a.1 in
-    apart (λ n. is_some (nominal_of entries n)) name product (not_there (nominal_of entries name) _ b.0) known
+    apart (λ n. is_some (nominal_of entries n)) name product (ap is_some (put_product_tells entries name nominal unit h).new) known
 
 -- a batch that is opened wasn't there
 pub opened_apart : (entries : List Entry) (name batch product : Name) (density : ℕ) → IsAllowed entries (OpenBatch name product density)
     → is_some (product_of entries batch) ≡ true → same_name name batch ≡ false
 opened_apart entries name batch product density h known =
-    let a = none_of_two (rules.day_unset entries) _ h in
-    let b = none_of_two (rules.product_unknown entries product) _ a.1 in
-    let c = none_of_two (rules.name_shape name) _ b.1 in
-    let d = none_of_two (rules.batch_known entries name) _ c.1 in
-    apart (λ n. is_some (product_of entries n)) name batch (not_there (product_of entries name) _ d.0) known
+    apart (λ n. is_some (product_of entries n)) name batch (ap is_some (open_batch_tells entries name product density h).new) known
 
 -- ---- what stays
 
@@ -256,21 +220,9 @@ state_apart entries allowed name batch state free is others =
 
 -- a closed batch isn't moved to another state
 pub closed_is_last : (entries : List Entry) (act : Act) (batch : Name) → IsAllowed entries act → state_of entries batch ≡ Some Closed → moves_state batch act ≡ false
-closed_is_last entries (EndRun name) batch h closed =
-    let a = none_of_two (rules.day_unset entries) _ h in
-    let b = none_of_two (rules.batch_unknown entries name) _ a.1 in
-    let c = none_of_two (rules.batch_state (Running ∷ []) entries name) _ b.1 in
-    state_apart entries (Running ∷ []) name batch Closed c.0 closed refl
-closed_is_last entries (Draw name mode word) batch h closed =
-    let a = none_of_two (rules.day_unset entries) _ h in
-    let b = none_of_two (rules.batch_unknown entries name) _ a.1 in
-    let c = none_of_two (rules.batch_state (Ended ∷ []) entries name) _ b.1 in
-    state_apart entries (Ended ∷ []) name batch Closed c.0 closed refl
-closed_is_last entries (Close name) batch h closed =
-    let a = none_of_two (rules.day_unset entries) _ h in
-    let b = none_of_two (rules.batch_unknown entries name) _ a.1 in
-    let c = none_of_two (rules.batch_state (Ended ∷ Drawn ∷ []) entries name) _ b.1 in
-    state_apart entries (Ended ∷ Drawn ∷ []) name batch Closed c.0 closed refl
+closed_is_last entries (EndRun name) batch h closed = state_apart entries (Running ∷ []) name batch Closed (end_run_tells entries name h).state closed refl
+closed_is_last entries (Draw name mode word) batch h closed = state_apart entries (Ended ∷ []) name batch Closed (draw_tells entries name mode word h).state closed refl
+closed_is_last entries (Close name) batch h closed = state_apart entries (Ended ∷ Drawn ∷ []) name batch Closed (close_tells entries name h).state closed refl
 closed_is_last entries act batch h closed = refl
 
 -- a closed batch stays closed

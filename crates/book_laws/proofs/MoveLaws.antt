@@ -22,7 +22,8 @@ use Rattle.book_words.specs.declared.refusal.Refusal.TheVariants as why
 use Rattle.book_words.specs.Names.{same_name}
 use Rattle.book_words.specs.Acts.{last_said, state_of, newest_day, last_batch, lane_batch}
 use Rattle.book_words.specs.Readings.{weighed_reading, readings, reading_of, is_of_batch}
-use Rattle.book_words.specs.Population.{settled_pile, unsampled_pile, same_pile, is_pass, is_unsettled, is_counted, readings_of_batch, population}
+use Rattle.book_words.specs.Population.{settled_pile, unsampled_pile, is_pass, is_unsettled, is_counted, readings_of_batch, population}
+use Rattle.pack_judge.specs.Piles.{same_pile}
 use Rattle.book_words.specs.Samples.{Drawing, Sample, numbers_of, drawing_from, drawing_of, first_picks, second_picks, second_word, sample_by, sample_of, is_among, holds_pack, is_sampled}
 use Rattle.book_words.specs.Piles.{pile_with_sample, pile_of, in_pile, gross_sum, tally}
 use Rattle.book_words.specs.Verdicts.{first_defective}
@@ -35,7 +36,7 @@ use Rattle.book_words.proofs.RefusalLemmas.{not_refused}
 use Rattle.book_words.proofs.LegalLemmas.{legal-prefix}
 use Rattle.book_words.proofs.OneMoreEntry.{advance, own_reading, readings-push}
 use Rattle.book_words.proofs.DrawnLemmas.{sample_of-push}
-use Rattle.book_laws.proofs.LawfulActs.{IsAllowed, allowed, not_test, weigh_tells, void_tells, draw_second_tells}
+use Rattle.book_words.proofs.AllowedActs.{IsAllowed, allowed, not_test, weigh_tells, void_tells, draw_second_tells}
 use Rattle.book_laws.proofs.ReadingLaws.{IsOneOf, each_is_one, of_reading, numbers_increase}
 use Rattle.book_laws.proofs.BatchLaws.{IsOrderly, orderly, is_fixed, no_sample, draw_state}
 use Rattle.book_laws.proofs.UnsettledLaws.{Belongs, each_belongs}

@@ -23,7 +23,8 @@ use Rattle.book_words.specs.declared.refusal.Refusal.TheVariants as why
 use Rattle.book_words.specs.Names.{same_name}
 use Rattle.book_words.specs.Acts.{state_set, same_state, state_of, last_batch, lane_batch}
 use Rattle.book_words.specs.Readings.{weighed_reading, readings, reading_of, is_of_batch}
-use Rattle.book_words.specs.Population.{settled_pile, unsampled_pile, same_pile, is_pass, is_unsettled, is_counted, readings_of_batch, counted_readings, population}
+use Rattle.book_words.specs.Population.{settled_pile, unsampled_pile, is_pass, is_unsettled, is_counted, readings_of_batch, counted_readings, population}
+use Rattle.pack_judge.specs.Piles.{same_pile}
 use Rattle.book_words.specs.Samples.{Drawing, numbers_of, drawing_from, drawing_of, is_sampled}
 use Rattle.book_words.specs.Piles.{pile_with_sample, pile_of}
 use Rattle.book_words.specs.Signals.{judging_population}
@@ -34,8 +35,9 @@ use Rattle.book_words.specs.Answers.{IsLawful, IsLegal}
 use Rattle.book_words.proofs.NameLemmas.{same_name_is}
 use Rattle.book_words.proofs.OneMoreEntry.{advance, own_reading, readings-push, first_readings-push}
 use Rattle.book_words.proofs.DrawnLemmas.{drawing_of-push}
-use Rattle.book_laws.proofs.LawfulActs.{IsAllowed, allowed, weigh_tells, void_tells, close_tells}
-use Rattle.book_laws.proofs.ReadingLaws.{by_entries, IsOneOf, each_is_one}
+use Rattle.book_words.proofs.AllowedActs.{IsAllowed, allowed, weigh_tells, void_tells, close_tells}
+use Rattle.book_laws.proofs.ReadingLaws.{IsOneOf, each_is_one}
+use Rattle.book_words.proofs.LegalLemmas.{legal_steps}
 use Rattle.book_laws.proofs.BatchLaws.{IsOrderly, orderly, state_of-push, drawn_is_fixed, is_fixed, close_state}
 use Rattle.book_laws.proofs.UnsettledLaws.{Belongs, each_belongs}
 
@@ -326,7 +328,7 @@ drawn_from-push entries entry legal lawful all batch drawing is =
 
 -- in a legal list each sample is drawn from the population of its batch
 pub drawn_from_all : (entries : List Entry) → IsLegal entries → DrawnFromAll entries
-drawn_from_all entries legal = by_entries DrawnFromAll (λ batch drawing is. absurd (cc)) drawn_from-push entries legal
+drawn_from_all entries legal = legal_steps DrawnFromAll (λ batch drawing is. absurd (cc)) drawn_from-push entries legal
 
 -- ---- the population as a list of readings
 
@@ -483,7 +485,7 @@ DrawnHave entries = (batch : Name) → state_of entries batch ≡ Some Drawn →
 -- so each drawn batch of a legal list
 pub drawn_has : (entries : List Entry) (batch : Name) → IsLegal entries → state_of entries batch ≡ Some Drawn → is_some (drawing_of entries batch) ≡ true
 drawn_has entries batch legal =
-    by_entries DrawnHave (λ batch is. absurd (cc))
+    legal_steps DrawnHave (λ batch is. absurd (cc))
     (λ entries entry legal lawful all batch is.
     ap is_some (drawing_of-push entries entry batch) ∙ drawn_by entries entry.act batch (all batch) (sym (state_of-push entries entry batch) ∙ is))
     entries legal batch
@@ -561,7 +563,7 @@ drawn_or_empty-push entries entry legal lawful all batch fixed = each (cases_Boo
 
 -- so in each legal list
 pub drawn_or_empty : (entries : List Entry) → IsLegal entries → DrawnOrEmpty entries
-drawn_or_empty entries legal = by_entries DrawnOrEmpty (λ batch fixed. absurd (cc)) drawn_or_empty-push entries legal
+drawn_or_empty entries legal = legal_steps DrawnOrEmpty (λ batch fixed. absurd (cc)) drawn_or_empty-push entries legal
 
 -- ---- how packs come and go
 

@@ -46,7 +46,8 @@ use Rattle.book_words.specs.Names.{same_name}
 use Rattle.book_words.specs.Tares.{tare_put, tares_put, tare_of_product}
 use Rattle.book_words.specs.Readings.{readings, weighed_reading, placed_reading, reading_of, tare_of_batch, tare_of_reading, net_of_reading, is_of_batch}
 use Rattle.book_words.specs.Classes.{nominal_of_batch}
-use Rattle.book_words.specs.Population.{is_counted, same_pile, is_unsettled, readings_of_batch, population, net_sum}
+use Rattle.book_words.specs.Population.{is_counted, is_unsettled, readings_of_batch, population, net_sum}
+use Rattle.pack_judge.specs.Piles.{same_pile}
 use Rattle.book_words.specs.Samples as samples
 use Rattle.book_words.specs.Samples.{Drawing, drawing_of, first_picks, second_picks, sample_by, plan_of_drawing, plan_or_empty, second_word, numbers_of}
 use Rattle.book_words.specs.Piles.{pile_of, in_pile, gross_sum, tally}

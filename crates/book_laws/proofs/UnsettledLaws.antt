@@ -20,9 +20,11 @@ use Rattle.book_words.specs.Population.{is_pass, is_unsettled, unsettled_reading
 use Rattle.book_words.specs.Refusals.{refused_if}
 use Rattle.book_words.specs.Answers.{IsLawful, IsLegal}
 use Rattle.book_words.proofs.OneMoreEntry.{advance, own_reading, readings-push}
-use Rattle.book_laws.proofs.LawfulActs.{IsAllowed, allowed, not_test, start_lane_tells, weigh_tells, void_tells}
-use Rattle.book_laws.proofs.ReadingLaws.{by_entries, IsOneOf, each_is_one, of_reading}
+use Rattle.book_words.proofs.AllowedActs.{IsAllowed, allowed, not_test, start_lane_tells, weigh_tells, void_tells}
+use Rattle.book_laws.proofs.ReadingLaws.{IsOneOf, each_is_one, of_reading}
+use Rattle.book_words.proofs.LegalLemmas.{legal_steps}
 use Rattle.book_laws.proofs.BatchLaws.{IsOrderly, orderly, state_of-push, lane_batch-push, lane_runs}
+use Rattle.book_laws.proofs.LaneLaws.{lane_stays}
 
 -- what holds of a reading of a legal list: it has a batch, which has a state; and while it is
 -- unsettled, its lane has that batch, and it isn't taken back
@@ -44,32 +46,6 @@ unsettled_before act reading h =
     let parts = and_parts (is_pass reading.signal) (is_none (option_or reading.next_prior (prior_told reading.lane act))) h in
     let nones = none_first reading.next_prior (prior_told reading.lane act) parts.1 in
     (and_from (is_pass reading.signal) (is_none reading.next_prior) parts.0 nones.0, nones.1)
-
--- an allowed act that says nothing of the gate of a lane with a batch leaves it its batch
-lane_kept : (entries : List Entry) (act : Act) (lane : ℕ) (batch : Name) → IsAllowed entries act → lane_batch entries lane ≡ Some batch → prior_told lane act ≡ None → lane_used lane act ≡ None
-lane_kept entries (StartLane number started) lane batch h has told = either (number == lane) refl
-  where
-    either : (b : Bool) → (number == lane) ≡ b → cond b (Some (Some started)) None ≡ None
-    either true is =
-        let idle : lane_batch entries lane ≡ None = subst (λ n. lane_batch entries n ≡ None) (eqb-true number lane is) (start_lane_tells entries number started h).idle in
-        absurd (let wrong : None ≡ Some batch = sym idle ∙ has in cc)
-    either false is = refl
-lane_kept entries (StopLane number prior) lane batch h has told = either (number == lane) told
-  where
-    either : (b : Bool) → cond b (Some prior) None ≡ None → cond {A = Option (Option Name)} b (Some None) None ≡ None
-    either true k = absurd (cc)
-    either false k = refl
-lane_kept entries (NewDay day) lane batch h has told = refl
-lane_kept entries (PutProduct name nominal unit) lane batch h has told = refl
-lane_kept entries (PutTare product day tare) lane batch h has told = refl
-lane_kept entries (OpenBatch name product density) lane batch h has told = refl
-lane_kept entries (Weigh number gross prior) lane batch h has told = refl
-lane_kept entries (Void pack) lane batch h has told = refl
-lane_kept entries (EndRun name) lane batch h has told = refl
-lane_kept entries (Draw name mode word) lane batch h has told = refl
-lane_kept entries (Measure pack gross empty) lane batch h has told = refl
-lane_kept entries (DrawSecond name word) lane batch h has told = refl
-lane_kept entries (Close name) lane batch h has told = refl
 
 -- an allowed act takes back no unsettled reading
 voids_settled : (entries : List Entry) (act : Act) (reading : Reading) → IsAllowed entries act → IsOneOf entries reading → is_unsettled reading ≡ true → is_void_of reading.number act ≡ false
@@ -114,7 +90,7 @@ belongs_on entries entry reading h one has =
           let was = unsettled_before entry.act reading now in
           let on = has.lane was.0 in
           lane_batch-push entries entry reading.lane
-          ∙ ap (λ (o : Option (Option Name)). option_flatten (option_or o (last_said (lane_used reading.lane) entries))) (lane_kept entries entry.act reading.lane has.batch h on was.1)
+          ∙ ap (λ (o : Option (Option Name)). option_flatten (option_or o (last_said (lane_used reading.lane) entries))) (lane_stays entries entry.act reading.lane has.batch h on was.1)
           ∙ on;
       kept = λ now.
           let was = unsettled_before entry.act reading now in
@@ -163,7 +139,7 @@ belong-push entries entry legal lawful all =
 
 -- each reading of a legal list belongs to a batch
 pub each_belongs : (entries : List Entry) → IsLegal entries → All (Belongs entries) (readings entries)
-each_belongs entries legal = by_entries AllBelong (All-nil (Belongs [])) belong-push entries legal
+each_belongs entries legal = legal_steps AllBelong (All-nil (Belongs [])) belong-push entries legal
 
 -- ---- at most one in a lane
 

@@ -16,9 +16,7 @@ use Rattle.book_words.specs.Readings.{readings, reading_of}
 use Rattle.book_packs.specs.Settling.{takes_out, if_counted, leaving, if_counts_for}
 use Rattle.book_packs.specs.Stand.{pack_of, packs_in}
 use Rattle.book_packs.proofs.Ascending.{numbers_within}
-
-turned : (a b : ℕ) → (a == b) ≡ (b == a)
-turned a b = grind (arith, nat_tests)
+use Rattle.book_words.proofs.PlainLemmas.{eqb-swap}
 
 -- what is found was added
 found_added : (number : ℕ) (packs : List Pack) (pack : Pack) → find (λ (p : Pack). p.number == number) packs ≡ Some pack → (is_added packs pack.number ≡ true) × (pack.number ≡ number)
@@ -73,7 +71,7 @@ reading_is_added entries number h = among (readings entries) h
   where
     among : (some : List Reading) → is_some (find (λ (r : Reading). r.number == number) some) ≡ true → is_added (map (pack_of entries) some) number ≡ true
     among [] k = absurd (cc)
-    among (reading ∷ some) k = either (reading.number == number) (turned number reading.number) k (among some)
+    among (reading ∷ some) k = either (reading.number == number) (eqb-swap number reading.number) k (among some)
       where
         either : (b : Bool) → (number == reading.number) ≡ b → is_some (cond b (Some reading) (find (λ (r : Reading). r.number == number) some)) ≡ true
             → (is_some (find (λ (r : Reading). r.number == number) some) ≡ true → is_added (map (pack_of entries) some) number ≡ true) → is_added (map (pack_of entries) (reading ∷ some)) number ≡ true

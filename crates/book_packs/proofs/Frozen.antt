@@ -7,7 +7,7 @@ use Rattle.std.proofs.lemmas.Bool.{cases_Bool, eqb-true, eq-eqb, or_cases, and_p
 use Rattle.std.proofs.lemmas.Int.{ints}
 use Rattle.std.proofs.lemmas.List.Elements.{All-contains}
 use Rattle.std.proofs.lemmas.List.Folds.{list_any_at}
-use Rattle.std.proofs.lemmas.Option.{slice_get-map}
+use Rattle.std.proofs.lemmas.Option.{slice_get-map, same_Some}
 use Rattle.tare_register.specs.Tares.{tare_of, covers, span_of, DecidesWithin, HasOneTareWithin}
 use Rattle.batch_sums.specs.declared.types.Pack.{Pack}
 use Rattle.batch_sums.specs.Changes.{is_concerned, concerned}
@@ -31,9 +31,6 @@ use Rattle.book_packs.proofs.Telling.{of_batch_tells}
 use Rattle.book_packs.proofs.Registering.{tare_is}
 use Rattle.book_packs.proofs.Retaring.{has_product, concerned_is, tare_told, reading_retared}
 
-one : {A : Type 0} {x y : A} → Some x ≡ Some y → x ≡ y
-one h = cc
-
 -- ---- the place of the first name that passes a test
 
 place_found : (Name → Bool) → List Name → Option ℕ
@@ -45,7 +42,7 @@ found_passes test [] name h = absurd (cc)
 found_passes test (first ∷ names) name h = each (test first) refl h (found_passes test names name)
   where
     each : (b : Bool) → test first ≡ b → cond b (Some first) (find test names) ≡ Some name → (find test names ≡ Some name → test name ≡ true) → test name ≡ true
-    each true is k rest = ap test (sym (one k)) ∙ is
+    each true is k rest = ap test (sym (same_Some _ _ k)) ∙ is
     each false is k rest = rest k
 
 place_of_found : (test : Name → Bool) (names : List Name) → option_and_then (place_of names) (find test names) ≡ place_found test names
@@ -80,17 +77,17 @@ place_found_passes test (first ∷ names) place h = each (test first) refl (plac
         → ((p : ℕ) → place_found test names ≡ Some p → (holds_at test names p ≡ true) × ((k : ℕ) → holds_at test names k ≡ true → p ≤ k))
         → (holds_at test (first ∷ names) place ≡ true) × ((k : ℕ) → holds_at test (first ∷ names) k ≡ true → place ≤ k)
     each true is o there k rest =
-        let zero_is : 0 ≡ place = one k in
+        let zero_is : 0 ≡ place = same_Some _ _ k in
         (subst (λ n. holds_at test (first ∷ names) n ≡ true) zero_is is, λ n holds. omega (arith, zero_is))
     each false is None there k rest = absurd (cc)
     each false is (Some p) there k rest =
-        let next : p + 1 ≡ place = one k in
+        let next : p + 1 ≡ place = same_Some _ _ k in
         let suc_is : suc p ≡ place = omega (arith, next) in
         (subst (λ n. holds_at test (first ∷ names) n ≡ true) suc_is (rest p there).0, behind)
       where
         behind : (n : ℕ) → holds_at test (first ∷ names) n ≡ true → place ≤ n
         behind zero holds = absurd (true≢false (sym holds ∙ is))
-        behind (suc n) holds = let far = (rest p there).1 n holds in let next : p + 1 ≡ place = one k in omega (arith, far, next)
+        behind (suc n) holds = let far = (rest p there).1 n holds in let next : p + 1 ≡ place = same_Some _ _ k in omega (arith, far, next)
 
 place_found_none : (test : Name → Bool) (names : List Name) → place_found test names ≡ None → (k : ℕ) → holds_at test names k ≡ true → ⊥
 unfolding place_found

@@ -1,6 +1,5 @@
 pub mod Lists
 pub mod Below
-pub mod Rules
 pub mod Numbered
 pub mod Known
 pub mod Telling
@@ -17,6 +16,5 @@ pub mod Retaring
 pub mod Quiet
 pub mod Meeting
 pub mod Frozen
-pub mod Drawn
 pub mod Picking
 pub mod Callers

@@ -31,6 +31,7 @@ use Rattle.book_packs.proofs.Known.{IsWeighed}
 use Rattle.book_packs.proofs.Telling.{counted_among, of_batch_tells}
 use Rattle.book_packs.proofs.Lone.{names, is_lane_unsettled, few_unsettled, lone_unsettled}
 use Rattle.book_packs.proofs.Settled.{IsLaneAct, pile_settled, find-filter, find-within}
+use Rattle.std.proofs.Math.Bool.{and-true, and-false}
 
 -- counts of those that pass a test, parted by another one
 parted : {X : Type 0} (counts kept out : X → Bool) (xs : List X)
@@ -78,14 +79,6 @@ all_fail : {X : Type 0} (xs : List X) → filter (λ (x : X). false) xs ≡ []
 all_fail [] = refl
 all_fail (x ∷ xs) = all_fail xs
 
-and_true : (b : Bool) → (b && true) ≡ b
-and_true true = refl
-and_true false = refl
-
-and_false : (b : Bool) → (b && false) ≡ false
-and_false true = refl
-and_false false = refl
-
 left_counts : (prior : Prior) → sums.is_counted (pile_left prior) ≡ false
 left_counts Nothing = refl
 left_counts Opened = refl
@@ -98,7 +91,7 @@ moved_counts pile prior true = each (sums.is_counted pile) refl
     each : (b : Bool) → sums.is_counted pile ≡ b → sums.is_counted (cond (sums.is_counted pile && true) (pile_left prior) pile) ≡ (sums.is_counted pile && false)
     each true h = ap (λ b. sums.is_counted (cond (b && true) (pile_left prior) pile)) h ∙ left_counts prior ∙ sym (ap (λ b. b && false) h)
     each false h = ap (λ b. sums.is_counted (cond (b && true) (pile_left prior) pile)) h ∙ h ∙ sym (ap (λ b. b && false) h)
-moved_counts pile prior false = ap (λ b. sums.is_counted (cond b (pile_left prior) pile)) (and_false (sums.is_counted pile)) ∙ sym (and_true (sums.is_counted pile))
+moved_counts pile prior false = ap (λ b. sums.is_counted (cond b (pile_left prior) pile)) (and-false (sums.is_counted pile)) ∙ sym (and-true (sums.is_counted pile))
 
 and_swap : (a b c : Bool) → (a && (b && c)) ≡ ((a && b) && c)
 and_swap true b c = refl
@@ -135,12 +128,12 @@ module _ (entries : List Entry) (lane : ℕ) (gross : ℤ) (prior : Prior) (name
       each : (takes_out prior ≡ true) ⊎ (takes_out prior ≡ false) → filter (λ reading. is_lane_unsettled lane reading && takes_out prior) (readings entries) ≡ cons_option (cond (takes_out prior) (unsettled_reading entries lane) None) []
       each (inl t) =
           ap (λ b. filter (λ reading. is_lane_unsettled lane reading && b) (readings entries)) t
-          ∙ ap (λ (test : Reading → Bool). filter test (readings entries)) (λ i reading. and_true (is_lane_unsettled lane reading) i)
+          ∙ ap (λ (test : Reading → Bool). filter test (readings entries)) (λ i reading. and-true (is_lane_unsettled lane reading) i)
           ∙ short_list (filter (is_lane_unsettled lane) (readings entries)) (few_unsettled entries lane)
           ∙ sym (ap (λ b. cons_option (cond b (unsettled_reading entries lane) None) []) t)
       each (inr f) =
           ap (λ b. filter (λ reading. is_lane_unsettled lane reading && b) (readings entries)) f
-          ∙ ap (λ (test : Reading → Bool). filter test (readings entries)) (λ i reading. and_false (is_lane_unsettled lane reading) i)
+          ∙ ap (λ (test : Reading → Bool). filter test (readings entries)) (λ i reading. and-false (is_lane_unsettled lane reading) i)
           ∙ all_fail (readings entries)
           ∙ sym (ap (λ b. cons_option (cond b (unsettled_reading entries lane) None) []) f)
 
@@ -216,7 +209,7 @@ module _ (entries : List Entry) (lane : ℕ) (gross : ℤ) (prior : Prior) (name
 
   with_reading : takes_out prior ≡ true → (v : Reading) → unsettled_reading entries lane ≡ Some v → (counted home : Bool) → is_counted v ≡ counted → is_of_batch name v ≡ home
       → met_less (totals_told entries name) (terms_of_batch entries name).limits batch (cond counted (Some (pack_of entries v)) None) ≡ met_at entries (Weigh lane gross prior) name
-  with_reading t v there false home counts of = same_met (λ counting. listed counting ∙ single counting (λ reading. is_of_batch name reading && is_counted reading) v false (ap (λ b. is_of_batch name v && b) counts ∙ and_false (is_of_batch name v)))
+  with_reading t v there false home counts of = same_met (λ counting. listed counting ∙ single counting (λ reading. is_of_batch name reading && is_counted reading) v false (ap (λ b. is_of_batch name v && b) counts ∙ and-false (is_of_batch name v)))
     where
       listed : (counting : Reading → Bool) → count_by counting (filter (λ reading. is_of_batch name reading && is_counted reading) (cons_option (cond (takes_out prior) (unsettled_reading entries lane) None) []))
           ≡ count_by counting (filter (λ reading. is_of_batch name reading && is_counted reading) (v ∷ []))

@@ -11,7 +11,7 @@ use Rattle.book_words.specs.Names.{same_name}
 use Rattle.book_words.specs.Acts.{said, nominal_put, product_given, batch_opened, batch_started, lane_used, nominal_of, product_of, last_batch, lane_batch}
 use Rattle.book_words.specs.Order.{place_of, product_named, product_number, batch_number}
 use Rattle.book_words.proofs.LastSaid.{last_or-cons}
-use Rattle.book_packs.proofs.Lists.{place_stays}
+use Rattle.book_words.proofs.PlaceLemmas.{place_among_more}
 
 or_false : (b : Bool) → b ≡ (b || false)
 or_false true = refl
@@ -95,12 +95,12 @@ batch_is_known entries name = said_of (product_given name) batch_opened name (gi
 pub product_keeps : (entries : List Entry) (entry : Entry) (name : Name) → is_some (product_number entries name) ≡ true → product_number (entries ++ entry ∷ []) name ≡ product_number entries name
 product_keeps entries entry name h =
     ap (λ names. place_of names name) (filter_map-append (λ (e : Entry). product_named e.act) entries (entry ∷ []))
-    ∙ place_stays (said product_named entries) (said product_named (entry ∷ [])) name h
+    ∙ place_among_more (said product_named entries) (said product_named (entry ∷ [])) name h
 
 pub batch_keeps : (entries : List Entry) (entry : Entry) (name : Name) → is_some (batch_number entries name) ≡ true → batch_number (entries ++ entry ∷ []) name ≡ batch_number entries name
 batch_keeps entries entry name h =
     ap (λ names. place_of names name) (filter_map-append (λ (e : Entry). batch_opened e.act) entries (entry ∷ []))
-    ∙ place_stays (said batch_opened entries) (said batch_opened (entry ∷ [])) name h
+    ∙ place_among_more (said batch_opened entries) (said batch_opened (entry ∷ [])) name h
 
 -- ---- a lane that runs was started
 

@@ -1,6 +1,6 @@
 -- What is kept behind a draw.
 use Rattle.std.proofs.Common.{◌≡◌, ℕ, ◌+◌, ◌<◌, ◌==◌, Bool, true, false, ◌&&◌, ◌||◌, cond, List, [], ◌∷◌, ◌++◌, length, map, Option, Some, None, IfSome, option_map, is_some, is_none, refl, sym, ◌∙◌, ap, subst, arith, inl, inr, true≢false, append-nil, length-append}
-use Rattle.std.specs.List.{AllByRecursion, All, find, cons_option, range_with_len}
+use Rattle.std.specs.List.{last_or, AllByRecursion, All, find, cons_option, range_with_len}
 use Rattle.std.specs.Option.{option_or, option_and_then, option_map_or, unwrap_or}
 use Rattle.std.proofs.lemmas.Bool.{cases_Bool, eqb-true}
 use Rattle.std.proofs.lemmas.Bool.Decides.{nat_tests}
@@ -24,8 +24,9 @@ use Rattle.book_words.specs.declared.refusal.Refusal.TheVariants.{SecondNotNeede
 use Rattle.book_words.specs.Names.{same_name}
 use Rattle.book_words.specs.Acts.{last_said, prior_told, is_void_of, batch_opened}
 use Rattle.book_words.specs.Readings.{readings, weighed_reading}
-use Rattle.book_words.specs.Population.{settled_pile, unsampled_pile, same_pile}
-use Rattle.book_words.specs.Samples.{Drawing, Sample, drawing_from, drawing_of, first_picks, second_word, sample_by, sample_of, is_among, is_sampled}
+use Rattle.book_words.specs.Population.{population, settled_pile, unsampled_pile}
+use Rattle.pack_judge.specs.Piles.{same_pile}
+use Rattle.book_words.specs.Samples.{numbers_of, Drawing, Sample, drawing_from, drawing_of, first_picks, second_word, sample_by, sample_of, is_among, is_sampled}
 use Rattle.book_words.specs.Piles.{pile_of, pile_with_sample}
 use Rattle.book_words.specs.Verdicts.{second_packs, first_defective}
 use Rattle.book_words.specs.Refusals.{refused_if, day_unset, batch_unknown, batch_state, second_not_needed, is_second_not_needed}
@@ -37,33 +38,32 @@ use Rattle.book_packs.specs.Stand.{Standing, IsPacksOf, pack_of}
 use Rattle.book_packs.specs.Settling.{if_counts_for, sampled_one, sampled}
 use Rattle.book_packs.specs.Entering.{IsDraw, picks_by, batch_drawn}
 use Rattle.book_packs.proofs.Lists.{find-map, map-map, map-within, all_then}
-use Rattle.book_packs.proofs.Rules.{Passes, passes, none_of_two}
+use Rattle.book_words.proofs.AllowedActs.{IsAllowed, allowed, not_test, draw_second_tells}
+use Rattle.book_words.proofs.DrawnOnce.{undrawn_at_draw}
+use Rattle.book_words.proofs.DrawnPacks.{AscendWithin, readings_ascend}
+use Rattle.std.proofs.Math.Bool.{or-false}
+use Rattle.std.proofs.lemmas.Option.{same_Some}
 use Rattle.book_packs.proofs.Known.{Known, known_of, IsWeighed, tare_named}
 use Rattle.book_packs.proofs.Telling.{unsampled, of_batch_tells}
-use Rattle.book_packs.proofs.Ascending.{Above, later, ascending}
+use Rattle.book_packs.proofs.Ascending.{later}
 use Rattle.book_packs.proofs.Lone.{number_kept}
 use Rattle.book_packs.proofs.Sampling.{holds, AtMost, samples_within}
 use Rattle.book_packs.proofs.Staying.{tares_keep, batches_keep, packs-push, pack_kept}
-use Rattle.book_packs.proofs.Drawn.{own_drawing, untouched}
-
-one : {A : Type 0} {x y : A} → Some x ≡ Some y → x ≡ y
-one h = cc
-
-turned : (a b : ℕ) → (a == b) ≡ (b == a)
-turned a b = grind (arith, nat_tests)
+use Rattle.book_words.proofs.PlainLemmas.{eqb-swap, or_none}
+use Rattle.book_words.proofs.OpenedOnce.{same_name-swap}
 
 -- ---- one pick after another
 
 -- the number of what is found is that of no other reading
-unique : (number low : ℕ) (some : List Reading) (v : Reading) → Above low some → find (λ (r : Reading). r.number == number) some ≡ Some v → AllByRecursion (λ (r : Reading). (r.number == number) ≡ true → r ≡ v) some
-unique number low [] v above h = tt
-unique number low (reading ∷ some) v above h = elim (cases_Bool (reading.number == number)) [
+unique : (number low most : ℕ) (some : List Reading) (v : Reading) → AscendWithin (low + 1) most (numbers_of some) → find (λ (r : Reading). r.number == number) some ≡ Some v → AllByRecursion (λ (r : Reading). (r.number == number) ≡ true → r ≡ v) some
+unique number low most [] v above h = tt
+unique number low most (reading ∷ some) v above h = elim (cases_Bool (reading.number == number)) [
   | inl t ↦
-      let here : reading ≡ v = one (sym (ap (λ b. cond b (Some reading) (find (λ (r : Reading). r.number == number) some)) t) ∙ h) in
-      (λ k. here, all_then (λ other after k. absurd (apart reading.number number other.number (eqb-true reading.number number t) after (eqb-true other.number number k))) some (later reading.number some above.1))
+      let here : reading ≡ v = same_Some _ _ (sym (ap (λ b. cond b (Some reading) (find (λ (r : Reading). r.number == number) some)) t) ∙ h) in
+      (λ k. here, all_then (λ other after k. absurd (apart reading.number number other.number (eqb-true reading.number number t) after (eqb-true other.number number k))) some (later reading.number most some above.2))
   | inr f ↦ (
     λ k. absurd (true≢false (sym k ∙ f)),
-    unique number reading.number some v above.1 (sym (ap (λ b. cond b (Some reading) (find (λ (r : Reading). r.number == number) some)) f) ∙ h),
+    unique number reading.number most some v above.2 (sym (ap (λ b. cond b (Some reading) (find (λ (r : Reading). r.number == number) some)) f) ∙ h),
   )
 ]
   where
@@ -80,7 +80,7 @@ find_none number (reading ∷ some) h = elim (cases_Bool (reading.number == numb
 found_number : (number : ℕ) (some : List Reading) (v : Reading) → find (λ (r : Reading). r.number == number) some ≡ Some v → v.number ≡ number
 found_number number [] v h = absurd (cc)
 found_number number (reading ∷ some) v h = elim (cases_Bool (reading.number == number)) [
-  | inl t ↦ ap (λ (r : Reading). r.number) (sym (one (sym (ap (λ b. cond b (Some reading) (find (λ (r : Reading). r.number == number) some)) t) ∙ h))) ∙ eqb-true reading.number number t
+  | inl t ↦ ap (λ (r : Reading). r.number) (sym (same_Some _ _ (sym (ap (λ b. cond b (Some reading) (find (λ (r : Reading). r.number == number) some)) t) ∙ h))) ∙ eqb-true reading.number number t
   | inr f ↦ found_number number some v (sym (ap (λ b. cond b (Some reading) (find (λ (r : Reading). r.number == number) some)) f) ∙ h)
 ]
 
@@ -148,13 +148,13 @@ module _ (entries : List Entry) (batch : ℕ) where
           (cond counts (Some (record (pack_of entries v) { pile = pile v })) None) (map (λ reading. record (pack_of entries reading) { pile = pile reading }) (readings entries))
           ≡ map (λ reading. record (pack_of entries reading) { pile = cond ((reading.number == pick) && (((pack_of entries reading).batch == batch) && sums.is_counted (pile reading))) Sampled (pile reading) }) (readings entries)
       by_counts v there false counts =
-          kept (all_then (λ reading same k. ap (λ (r : Reading). ((pack_of entries r).batch == batch) && sums.is_counted (pile r)) (same k) ∙ counts) (readings entries) (unique pick 0 (readings entries) v (ascending entries) there))
+          kept (all_then (λ reading same k. ap (λ (r : Reading). ((pack_of entries r).batch == batch) && sums.is_counted (pile r)) (same k) ∙ counts) (readings entries) (unique pick 0 (length entries) (readings entries) v (readings_ascend entries) there))
       by_counts v there true counts =
           ap (λ n. moved n Sampled (map (λ reading. record (pack_of entries reading) { pile = pile reading }) (readings entries))) (found_number pick (readings entries) v there)
           ∙ map-map (λ (p : Pack). cond (p.number == pick) (record p { pile = Sampled }) p) (λ reading. record (pack_of entries reading) { pile = pile reading }) (readings entries)
           ∙ map-within _ _ (readings entries)
           (all_then (λ reading same. on (reading.number == pick) ((pack_of entries reading).batch == batch) (sums.is_counted (pile reading)) (record (pack_of entries reading) { pile = pile reading }) (pile reading)
-          (λ k. ap (λ (r : Reading). ((pack_of entries r).batch == batch) && sums.is_counted (pile r)) (same k) ∙ counts) refl) (readings entries) (unique pick 0 (readings entries) v (ascending entries) there))
+          (λ k. ap (λ (r : Reading). ((pack_of entries r).batch == batch) && sums.is_counted (pile r)) (same k) ∙ counts) refl) (readings entries) (unique pick 0 (length entries) (readings entries) v (readings_ascend entries) there))
 
       by_found : (o : Option Reading) → find (λ (r : Reading). r.number == pick) (readings entries) ≡ o
           → sampled_one batch pick (map (λ reading. record (pack_of entries reading) { pile = pile reading }) (readings entries))
@@ -183,9 +183,13 @@ module _ (entries : List Entry) (batch : ℕ) where
       ∙ sampled_all picks (λ reading. cond ((reading.number == pick) && (((pack_of entries reading).batch == batch) && sums.is_counted (pile reading))) Sampled (pile reading))
       ∙ ap (λ (f : Reading → Pile). map (λ reading. record (pack_of entries reading) { pile = f reading }) (readings entries))
       (λ i reading. (stepped (pile reading) (reading.number == pick) ((pack_of entries reading).batch == batch) (is_among reading.number picks)
-      ∙ ap (λ b. cond (sums.is_counted (pile reading) && (((pack_of entries reading).batch == batch) && (b || is_among reading.number picks))) Sampled (pile reading)) (turned reading.number pick)) i)
+      ∙ ap (λ b. cond (sums.is_counted (pile reading) && (((pack_of entries reading).batch == batch) && (b || is_among reading.number picks))) Sampled (pile reading)) (eqb-swap reading.number pick)) i)
 
 -- ---- what a draw adds to the samples
+
+-- what a draw draws by
+abbrev own_drawing : List Entry → Name → Mode → ℕ → Drawing
+own_drawing entries batch mode word = record { mode = mode; word = word; packs = numbers_of (population entries batch) }
 
 pile_more : (p : Pile) (a b : Bool) → same_pile p Sampled ≡ false → pile_with_sample p (a || b) ≡ cond (sums.is_counted (pile_with_sample p a) && b) Sampled (pile_with_sample p a)
 pile_more Sampled a b h = absurd (cc)
@@ -202,40 +206,17 @@ pile_more Voided true false h = refl
 pile_more Voided false true h = refl
 pile_more Voided false false h = refl
 
-or_false : (b : Bool) → (b || false) ≡ b
-or_false true = refl
-or_false false = refl
-
-or_none : (o : Option Prior) → option_or o None ≡ o
-or_none None = refl
-or_none (Some p) = refl
-
--- a name is another one where that is the first
-other_name : (a b : Name) → same_name a b ≡ false → same_name b a ≡ false
-other_name a b h = elim (cases_Bool (same_name b a)) [
-  | inl t ↦ absurd (true≢false (sym (ap (λ n. same_name n b) (sym (same_name_is b a t)) ∙ same_name_itself b) ∙ h))
-  | inr f ↦ f
-]
-
-second_open : (entries : List Entry) (batch : Name) (word : ℕ) (sample : Sample) → Passes entries (DrawSecond batch word) → sample_of entries batch ≡ Some sample → is_some sample.second ≡ false
+second_open : (entries : List Entry) (batch : Name) (word : ℕ) (sample : Sample) → IsAllowed entries (DrawSecond batch word) → sample_of entries batch ≡ Some sample → is_some sample.second ≡ false
 second_open entries batch word sample h there =
-    let a = none_of_two (day_unset entries) _ h in
-    let b = none_of_two (batch_unknown entries batch) _ a.1 in
-    let c = none_of_two (batch_state (state.Drawn ∷ []) entries batch) _ b.1 in
-    let d = none_of_two (second_not_needed entries batch) _ c.1 in
-    let e = sym (ap (option_and_then (λ (s : Sample). refused_if (is_second_not_needed entries batch s) (SecondNotNeeded (first_defective entries batch s)))) there) ∙ d.0 in
-    middle (sample.plan.second == 0) (is_some sample.second) _ (off (is_second_not_needed entries batch sample) _ e)
+    let e = sym (ap (option_and_then (λ (s : Sample). refused_if (is_second_not_needed entries batch s) (SecondNotNeeded (first_defective entries batch s)))) there) ∙ (draw_second_tells entries batch word h).needed in
+    middle (sample.plan.second == 0) (is_some sample.second) _ (not_test (is_second_not_needed entries batch sample) _ e)
   where
-    off : (test : Bool) (refusal : Refusal) → refused_if test refusal ≡ None → test ≡ false
-    off true refusal k = absurd (cc)
-    off false refusal k = refl
-
     middle : (a b c : Bool) → ((a || b) || c) ≡ false → b ≡ false
     middle true b c k = absurd (cc)
     middle false true c k = absurd (cc)
     middle false false c k = refl
 
-module _ (entries : List Entry) (entry : Entry) (legal_rules : Passes entries entry.act) where
+module _ (entries : List Entry) (entry : Entry) (legal_rules : IsAllowed entries entry.act) where
   -- what the samples of a batch hold behind a first draw
   held_first : (untouched_is : (name : Name) (mode : Mode) (word : ℕ) → entry.act ≡ Draw name mode word → (drawing_of entries name ≡ None) × (last_said (second_word name) entries ≡ None))
       → (name : Name) (mode : Mode) (word : ℕ) → entry.act ≡ Draw name mode word → (batch : Name) (number : ℕ)
@@ -244,7 +225,7 @@ module _ (entries : List Entry) (entry : Entry) (legal_rules : Passes entries en
     | inl t ↦ subst (λ (b : Name). holds (sample_of (entries ++ entry ∷ []) b) number ≡ (holds (sample_of entries b) number || (same_name b name && is_among number (picks_by (entries ++ entry ∷ []) (Draw name mode word))))) (same_name_is name batch t) own
     | inr f ↦
         ap (λ o. holds o number) (other f)
-        ∙ sym (ap (λ b. holds (sample_of entries batch) number || (b && is_among number (picks_by (entries ++ entry ∷ []) (Draw name mode word)))) (other_name name batch f) ∙ or_false (holds (sample_of entries batch) number))
+        ∙ sym (ap (λ b. holds (sample_of entries batch) number || (b && is_among number (picks_by (entries ++ entry ∷ []) (Draw name mode word)))) (same_name-swap name batch f) ∙ or-false (holds (sample_of entries batch) number))
   ]
     where
       pushed : (b : Name) → sample_of (entries ++ entry ∷ []) b ≡ option_map (λ drawing. sample_by drawing (last_said (second_word b) entries)) (option_or (cond (same_name name b) (Some (own_drawing entries b mode word)) None) (drawing_of entries b))
@@ -263,7 +244,7 @@ module _ (entries : List Entry) (entry : Entry) (legal_rules : Passes entries en
       own : holds (sample_of (entries ++ entry ∷ []) name) number ≡ (holds (sample_of entries name) number || (same_name name name && is_among number (picks_by (entries ++ entry ∷ []) (Draw name mode word))))
       own =
           ap (λ o. holds o number) drawn_own
-          ∙ or_false (is_among number (first_picks (own_drawing entries name mode word)))
+          ∙ or-false (is_among number (first_picks (own_drawing entries name mode word)))
           ∙ sym (ap (λ o. holds (option_map (λ drawing. sample_by drawing (last_said (second_word name) entries)) o) number || (same_name name name && is_among number (picks_by (entries ++ entry ∷ []) (Draw name mode word)))) (fresh name mode word act).0
           ∙ ap (λ b. b && is_among number (picks_by (entries ++ entry ∷ []) (Draw name mode word))) (same_name_itself name)
           ∙ ap (λ o. is_among number (option_map_or (λ (s : Sample). s.first) o [])) drawn_own)
@@ -276,7 +257,7 @@ module _ (entries : List Entry) (entry : Entry) (legal_rules : Passes entries en
         (own (drawing_of entries name) (last_said (second_word name) entries) refl refl)
     | inr f ↦
         ap (λ o. holds o number) (other f)
-        ∙ sym (ap (λ b. holds (sample_of entries batch) number || (b && is_among number (picks_by (entries ++ entry ∷ []) (DrawSecond name word)))) (other_name name batch f) ∙ or_false (holds (sample_of entries batch) number))
+        ∙ sym (ap (λ b. holds (sample_of entries batch) number || (b && is_among number (picks_by (entries ++ entry ∷ []) (DrawSecond name word)))) (same_name-swap name batch f) ∙ or-false (holds (sample_of entries batch) number))
   ]
     where
       pushed : (b : Name) → sample_of (entries ++ entry ∷ []) b ≡ option_map (λ drawing. sample_by drawing (option_or (cond (same_name name b) (Some word) None) (last_said (second_word b) entries))) (drawing_of entries b)
@@ -300,7 +281,7 @@ module _ (entries : List Entry) (entry : Entry) (legal_rules : Passes entries en
       own (Some d) (Some w) there said_is =
           let had : sample_of entries name ≡ Some (sample_by d (Some w)) =
           ap (option_map (λ drawing. sample_by drawing (last_said (second_word name) entries))) there ∙ ap (λ x. Some (sample_by d x)) said_is in
-          absurd (true≢false (second_open entries name word (sample_by d (Some w)) (subst (Passes entries) act legal_rules) had))
+          absurd (true≢false (second_open entries name word (sample_by d (Some w)) (subst (IsAllowed entries) act legal_rules) had))
       own (Some d) None there said_is =
           let had : sample_of entries name ≡ Some (sample_by d None) =
           ap (option_map (λ drawing. sample_by drawing (last_said (second_word name) entries))) there ∙ ap (λ x. Some (sample_by d x)) said_is in
@@ -308,7 +289,7 @@ module _ (entries : List Entry) (entry : Entry) (legal_rules : Passes entries en
           ap (λ o. holds o number) has
           ∙ sym (ap (λ o. holds o number || (same_name name name && is_among number (picks_by (entries ++ entry ∷ []) (DrawSecond name word)))) had
           ∙ ap (λ b. (is_among number (first_picks d) || false) || (b && is_among number (picks_by (entries ++ entry ∷ []) (DrawSecond name word)))) (same_name_itself name)
-          ∙ ap (λ b. b || is_among number (picks_by (entries ++ entry ∷ []) (DrawSecond name word))) (or_false (is_among number (first_picks d)))
+          ∙ ap (λ b. b || is_among number (picks_by (entries ++ entry ∷ []) (DrawSecond name word))) (or-false (is_among number (first_picks d)))
           ∙ ap (λ o. is_among number (first_picks d) || is_among number (option_map_or second_packs o [])) has)
 
 -- ---- a draw keeps the relation
@@ -336,24 +317,27 @@ draws (Measure pack gross empty) name h = absurd (cc)
 draws (Close other) name h = absurd (cc)
 
 module _ (entries : List Entry) (entry : Entry) (batch : ℕ) (picks : List ℕ) (is : IsDraw entries entry batch picks) where
-  rules : Passes entries entry.act
-  rules = passes entries entry is.next.lawful
+  rules : IsAllowed entries entry.act
+  rules = allowed entries entry is.next.lawful
 
   known : Known entries
   known = known_of entries is.next.legal
 
   fresh : (name : Name) (mode : Mode) (word : ℕ) → entry.act ≡ Draw name mode word → (drawing_of entries name ≡ None) × (last_said (second_word name) entries ≡ None)
-  fresh name mode word act = untouched entries name _ is.next.legal (subst (Passes entries) act rules)
+  fresh name mode word act =
+      let draws = ap (drawing_from name entries) act ∙ ap (λ b. cond b (Some (own_drawing entries name mode word)) None) (same_name_itself name) in
+      let undrawn = undrawn_at_draw entries entry name (own_drawing entries name mode word) is.next.legal is.next.lawful draws in
+      (ap (last_or None) undrawn.first, undrawn.second)
 
   held : (act : Act) → entry.act ≡ act → batch_drawn act ≡ Some is.name → picks ≡ picks_by (entries ++ entry ∷ []) act → (name : Name) (number : ℕ)
       → holds (sample_of (entries ++ entry ∷ []) name) number ≡ (holds (sample_of entries name) number || (same_name name is.name && is_among number picks))
   held (Draw b mode word) act drawn picked name number =
       held_first entries entry rules fresh b mode word act name number
-      ∙ ap (λ (n : Name). holds (sample_of entries name) number || (same_name name n && is_among number (picks_by (entries ++ entry ∷ []) (Draw b mode word)))) (one drawn)
+      ∙ ap (λ (n : Name). holds (sample_of entries name) number || (same_name name n && is_among number (picks_by (entries ++ entry ∷ []) (Draw b mode word)))) (same_Some _ _ drawn)
       ∙ ap (λ some. holds (sample_of entries name) number || (same_name name is.name && is_among number some)) (sym picked)
   held (DrawSecond b word) act drawn picked name number =
       held_second entries entry rules b word act name number
-      ∙ ap (λ (n : Name). holds (sample_of entries name) number || (same_name name n && is_among number (picks_by (entries ++ entry ∷ []) (DrawSecond b word)))) (one drawn)
+      ∙ ap (λ (n : Name). holds (sample_of entries name) number || (same_name name n && is_among number (picks_by (entries ++ entry ∷ []) (DrawSecond b word)))) (same_Some _ _ drawn)
       ∙ ap (λ some. holds (sample_of entries name) number || (same_name name is.name && is_among number some)) (sym picked)
   held (NewDay day) act drawn picked name number = absurd (cc)
   held (PutProduct other nominal unit) act drawn picked name number = absurd (cc)
@@ -382,7 +366,7 @@ module _ (entries : List Entry) (entry : Entry) (batch : ℕ) (picks : List ℕ)
       let act = draws entry.act is.name is.drawn in
       ap (λ b. pile_with_sample (settled_pile (reading.voided || is_void_of reading.number entry.act) reading.signal (option_or reading.next_prior (prior_told reading.lane entry.act))) b) (sampled_behind reading w)
       ∙ ap (λ b. pile_with_sample (settled_pile (reading.voided || b) reading.signal (option_or reading.next_prior (prior_told reading.lane entry.act))) (is_sampled entries reading || (((pack_of entries reading).batch == batch) && is_among reading.number picks))) (act.voids reading.number)
-      ∙ ap (λ b. pile_with_sample (settled_pile b reading.signal (option_or reading.next_prior (prior_told reading.lane entry.act))) (is_sampled entries reading || (((pack_of entries reading).batch == batch) && is_among reading.number picks))) (or_false reading.voided)
+      ∙ ap (λ b. pile_with_sample (settled_pile b reading.signal (option_or reading.next_prior (prior_told reading.lane entry.act))) (is_sampled entries reading || (((pack_of entries reading).batch == batch) && is_among reading.number picks))) (or-false reading.voided)
       ∙ ap (λ o. pile_with_sample (settled_pile reading.voided reading.signal (option_or reading.next_prior o)) (is_sampled entries reading || (((pack_of entries reading).batch == batch) && is_among reading.number picks))) (act.told reading.lane)
       ∙ ap (λ o. pile_with_sample (settled_pile reading.voided reading.signal o) (is_sampled entries reading || (((pack_of entries reading).batch == batch) && is_among reading.number picks))) (or_none reading.next_prior)
       ∙ pile_more (unsampled_pile reading) (is_sampled entries reading) (((pack_of entries reading).batch == batch) && is_among reading.number picks) (unsampled reading.voided reading.signal reading.next_prior)

@@ -16,7 +16,7 @@ use Rattle.book_words.specs.Order.{product_number, product_named}
 use Rattle.book_words.specs.Tares.{tare_put, tare_of_product}
 use Rattle.book_words.proofs.NameLemmas.{same_name_is}
 use Rattle.book_packs.specs.Stand.{tare_entry, tares_in, unsettled_number, unsettled_in}
-use Rattle.book_packs.proofs.Lists.{same_place}
+use Rattle.book_words.proofs.PlaceLemmas.{same_place}
 
 module _ (entries : List Entry) (name : Name) (number : ℕ) (is : product_number entries name ≡ Some number) where
   one : (xs : List ProductTare) (ys : List DatedTare) (product : Name) (day tare : ℤ) (o : Option ℕ) → product_number entries product ≡ o → tares_of xs number ≡ ys

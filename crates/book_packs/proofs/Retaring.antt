@@ -23,9 +23,7 @@ use Rattle.book_packs.proofs.Known.{Known, IsWeighed, is_there}
 use Rattle.book_packs.proofs.Telling.{terms_at}
 use Rattle.book_packs.proofs.Registering.{tare_is}
 use Rattle.book_packs.proofs.Staying.{tares-push}
-
-turned : (a b : ℕ) → (a == b) ≡ (b == a)
-turned a b = grind (arith, nat_tests)
+use Rattle.book_words.proofs.PlainLemmas.{eqb-swap}
 
 -- what a batch that was opened has
 pub record HasProduct (entries : List Entry) (batch : Name) : Type 0 where
@@ -54,7 +52,7 @@ concerned_is entries product span reading w has =
     let number : number_of_product entries w.batch ≡ has.number = ap (λ o. unwrap_or (option_and_then (product_number entries) o) 0) has.of_batch ∙ ap (λ o. unwrap_or o 0) has.numbered in
     ap (λ o. option_map_or (λ (t : Terms). t.product == product) o false && covers span (pack_of entries reading).day) terms
     ∙ ap (λ n. (n == product) && covers span (pack_of entries reading).day) number
-    ∙ ap (λ b. b && covers span (pack_of entries reading).day) (turned has.number product)
+    ∙ ap (λ b. b && covers span (pack_of entries reading).day) (eqb-swap has.number product)
     ∙ ap (λ o. (product == has.number) && covers span (unwrap_or o (pos 0))) w.on_day
 
 -- the tare of a reading is that of its product on its day

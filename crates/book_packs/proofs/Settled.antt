@@ -23,23 +23,22 @@ use Rattle.book_words.proofs.OneMoreEntry.{advance}
 use Rattle.book_packs.specs.Stand.{pack_of, packs_in, unsettled_number}
 use Rattle.book_packs.specs.Settling.{takes_out, pile_left, if_counted, settled}
 use Rattle.book_packs.proofs.Lists.{find-map, map-map, map-within, all_then}
-use Rattle.book_packs.proofs.Rules.{Passes}
+use Rattle.book_words.proofs.AllowedActs.{IsAllowed}
 use Rattle.book_packs.proofs.Known.{Known, IsWeighed, tare_named}
 use Rattle.book_packs.proofs.Lone.{Tells, names, is_lane_unsettled, lone_unsettled}
 use Rattle.book_packs.proofs.Sampling.{is_draw, sampled_stays}
 use Rattle.book_packs.proofs.Staying.{pack_kept}
+use Rattle.book_words.proofs.PlainLemmas.{eqb-swap, or_none}
+use Rattle.std.proofs.Math.Bool.{or-false}
+use Rattle.std.proofs.lemmas.Option.{same_Some}
 
 -- the pile of a reading once its lane's next act told something, or another lane's did
 settle_pile : (here voided : Bool) (signal : Option Signal) (next : Option Prior) (prior : Prior) (held : Bool)
     → pile_with_sample (settled_pile voided signal (option_or next (cond here (Some prior) None))) held
     ≡ cond (sums.is_counted (pile_with_sample (settled_pile voided signal next) held) && ((here && (is_pass signal && is_none next)) && takes_out prior)) (pile_left prior) (pile_with_sample (settled_pile voided signal next) held)
 settle_pile false voided signal next prior held =
-    ap (λ o. pile_with_sample (settled_pile voided signal o) held) (right next) ∙ sym (off (sums.is_counted (pile_with_sample (settled_pile voided signal next) held)) (pile_left prior) (pile_with_sample (settled_pile voided signal next) held))
+    ap (λ o. pile_with_sample (settled_pile voided signal o) held) (or_none next) ∙ sym (off (sums.is_counted (pile_with_sample (settled_pile voided signal next) held)) (pile_left prior) (pile_with_sample (settled_pile voided signal next) held))
   where
-    right : (o : Option Prior) → option_or o None ≡ o
-    right None = refl
-    right (Some p) = refl
-
     off : (b : Bool) (x y : Pile) → cond (b && false) x y ≡ y
     off true x y = refl
     off false x y = refl
@@ -62,13 +61,6 @@ settle_pile true false (Some Pass) None Stayed false = refl
 settle_pile true false (Some Pass) None Unknown true = refl
 settle_pile true false (Some Pass) None Unknown false = refl
 
-turned : (a b : ℕ) → (a == b) ≡ (b == a)
-turned a b = grind (arith, nat_tests)
-
-or_false : (b : Bool) → (b || false) ≡ b
-or_false true = refl
-or_false false = refl
-
 pub find-filter : {X : Type 0} (test : X → Bool) (xs : List X) → find test xs ≡ slice_get (filter test xs) 0
 find-filter test [] = refl
 find-filter test (x ∷ xs) = elim (test x) as (λ b. cond b (Some x) (find test xs) ≡ slice_get (cond b (x ∷ filter test xs) (filter test xs)) 0) [ true ↦ refl | false ↦ find-filter test xs ]
@@ -80,9 +72,6 @@ find-within p q (x ∷ xs) all = ap (λ b. cond b (Some x) (find p xs)) all.0 �
 both : {X : Type 0} {P Q R : X → Type 0} (h : (x : X) → P x → Q x → R x) (xs : List X) → AllByRecursion P xs → AllByRecursion Q xs → AllByRecursion R xs
 both h [] p q = tt
 both h (x ∷ xs) p q = (h x p.0 q.0, both h xs p.1 q.1)
-
-one : {A : Type 0} {x y : A} → Some x ≡ Some y → x ≡ y
-one h = cc
 
 -- an act of a lane that tells of the gate
 pub record IsLaneAct (entry : Entry) (lane : ℕ) (prior : Prior) : Type 0 where
@@ -98,10 +87,10 @@ module _ (entries : List Entry) (entry : Entry) (lane : ℕ) (prior : Prior) (is
       ap (λ b. pile_with_sample (settled_pile (reading.voided || is_void_of reading.number entry.act) reading.signal (option_or reading.next_prior (prior_told reading.lane entry.act))) b)
       (sampled_stays entries entry (advance entry.act reading) reading is.draws refl refl)
       ∙ ap (λ b. pile_with_sample (settled_pile (reading.voided || b) reading.signal (option_or reading.next_prior (prior_told reading.lane entry.act))) (is_sampled entries reading)) (is.voids reading.number)
-      ∙ ap (λ b. pile_with_sample (settled_pile b reading.signal (option_or reading.next_prior (prior_told reading.lane entry.act))) (is_sampled entries reading)) (or_false reading.voided)
+      ∙ ap (λ b. pile_with_sample (settled_pile b reading.signal (option_or reading.next_prior (prior_told reading.lane entry.act))) (is_sampled entries reading)) (or-false reading.voided)
       ∙ ap (λ o. pile_with_sample (settled_pile reading.voided reading.signal (option_or reading.next_prior o)) (is_sampled entries reading)) (is.told reading.lane)
       ∙ settle_pile (lane == reading.lane) reading.voided reading.signal reading.next_prior prior (is_sampled entries reading)
-      ∙ ap (λ b. cond (sums.is_counted (pile_of entries reading) && ((b && is_unsettled reading) && takes_out prior)) (pile_left prior) (pile_of entries reading)) (turned lane reading.lane)
+      ∙ ap (λ b. cond (sums.is_counted (pile_of entries reading) && ((b && is_unsettled reading) && takes_out prior)) (pile_left prior) (pile_of entries reading)) (eqb-swap lane reading.lane)
 
   cond_off : (a b t : Bool) (x y : Pile) → t ≡ false → cond (a && (b && t)) x y ≡ y
   cond_off true true t x y h = ap (λ c. cond c x y) h
@@ -123,7 +112,7 @@ module _ (entries : List Entry) (entry : Entry) (lane : ℕ) (prior : Prior) (is
   cond_first true b t x y h = absurd (cc)
   cond_first false b t x y h = refl
 
-  module _ (known : Known entries) (rules : Passes entries entry.act) where
+  module _ (known : Known entries) (rules : IsAllowed entries entry.act) where
     pack_settled : (reading : Reading) → IsWeighed entries reading → pack_of (entries ++ entry ∷ []) (advance entry.act reading)
         ≡ record (pack_of entries reading) { pile = cond (sums.is_counted (pile_of entries reading) && (is_lane_unsettled lane reading && takes_out prior)) (pile_left prior) (pile_of entries reading) }
     pack_settled reading w = pack_kept entries entry known rules is.tares reading w ∙ ap (λ (p : Pile). record (pack_of entries reading) { pile = p }) (pile_settled reading)
@@ -154,7 +143,7 @@ module _ (entries : List Entry) (entry : Entry) (lane : ℕ) (prior : Prior) (is
         either : (reading : Reading) → Tells (is_lane_unsettled lane) (unsettled_reading entries lane) reading → (is_lane_unsettled lane reading ≡ true) ⊎ (is_lane_unsettled lane reading ≡ false)
             → cond (sums.is_counted (pile_of entries reading) && (is_lane_unsettled lane reading && takes_out prior)) (pile_left prior) (pile_of entries reading) ≡ pile_of entries reading
         either reading tells (inl t) =
-            let same : v ≡ reading = one (sym there ∙ tells.only t) in
+            let same : v ≡ reading = same_Some _ _ (sym there ∙ tells.only t) in
             cond_first (sums.is_counted (pile_of entries reading)) (is_lane_unsettled lane reading) (takes_out prior) (pile_left prior) (pile_of entries reading) (ap (λ (r : Reading). sums.is_counted (pile_of entries r)) (sym same) ∙ counts)
         either reading tells (inr f) = cond_other (sums.is_counted (pile_of entries reading)) (is_lane_unsettled lane reading) (takes_out prior) (pile_left prior) (pile_of entries reading) f
     with_reading out v there true counts =
@@ -165,7 +154,7 @@ module _ (entries : List Entry) (entry : Entry) (lane : ℕ) (prior : Prior) (is
         either : (reading : Reading) → Tells (is_lane_unsettled lane) (unsettled_reading entries lane) reading → IsWeighed entries reading → (is_lane_unsettled lane reading ≡ true) ⊎ (is_lane_unsettled lane reading ≡ false)
             → cond (reading.number == v.number) (record (pack_of entries reading) { pile = pile_left prior }) (pack_of entries reading) ≡ pack_of (entries ++ entry ∷ []) (advance entry.act reading)
         either reading tells w (inl t) =
-            let same : v ≡ reading = one (sym there ∙ tells.only t) in
+            let same : v ≡ reading = same_Some _ _ (sym there ∙ tells.only t) in
             let here : (reading.number == v.number) ≡ true = ap (λ o. names (option_map (λ (r : Reading). r.number) o) reading.number) (sym there) ∙ tells.named ∙ t in
             ap (λ b. cond b (record (pack_of entries reading) { pile = pile_left prior }) (pack_of entries reading)) here
             ∙ sym (pack_settled reading w ∙ ap (λ (p : Pile). record (pack_of entries reading) { pile = p })

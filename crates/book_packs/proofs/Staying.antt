@@ -29,7 +29,7 @@ use Rattle.book_words.proofs.OneMoreEntry.{advance, own_reading, readings-push}
 use Rattle.book_packs.specs.Densities.{limits_at}
 use Rattle.book_packs.specs.Stand.{tare_entry, tares_in, terms_of_batch, opened_terms, pack_of, packs_in}
 use Rattle.book_packs.proofs.Lists.{map-within, map-map, all_then, each_has_place}
-use Rattle.book_packs.proofs.Rules.{Passes, put_product, open_batch}
+use Rattle.book_words.proofs.AllowedActs.{IsAllowed, put_product_tells, open_batch_tells}
 use Rattle.book_packs.proofs.Numbered.{product_is_known, batch_is_known, product_keeps, batch_keeps}
 use Rattle.book_packs.proofs.Known.{Known, IsWeighed, tare_named, is_there}
 
@@ -40,9 +40,9 @@ clash : {P : Type 0} {b : Bool} → b ≡ true → b ≡ false → P
 clash h k = absurd (let wrong : true ≡ false = sym h ∙ k in cc)
 
 -- no lawful act opens a batch that is there
-opens_none : (entries : List Entry) (act : Act) → Passes entries act → (batch : Name) → is_some (batch_number entries batch) ≡ true → (product_given batch act ≡ None) × (density_given batch act ≡ None)
+opens_none : (entries : List Entry) (act : Act) → IsAllowed entries act → (batch : Name) → is_some (batch_number entries batch) ≡ true → (product_given batch act ≡ None) × (density_given batch act ≡ None)
 opens_none entries (OpenBatch name product density) h batch known = elim (cases_Bool (same_name name batch)) [
-  | inl t ↦ clash (ap (λ (n : Name). is_some (batch_number entries n)) (same_name_is name batch t) ∙ known) (sym (batch_is_known entries name) ∙ (open_batch entries name product density h).1)
+  | inl t ↦ clash (ap (λ (n : Name). is_some (batch_number entries n)) (same_name_is name batch t) ∙ known) (sym (batch_is_known entries name) ∙ ap is_some (open_batch_tells entries name product density h).new)
   | inr f ↦ (guard_off (same_name name batch) product f, guard_off (same_name name batch) density f)
 ]
 opens_none entries (NewDay day) h batch known = (refl, refl)
@@ -59,9 +59,9 @@ opens_none entries (DrawSecond name word) h batch known = (refl, refl)
 opens_none entries (Close name) h batch known = (refl, refl)
 
 -- none puts a product that is there
-puts_none : (entries : List Entry) (act : Act) → Passes entries act → (product : Name) → is_some (product_number entries product) ≡ true → (nominal_put product act ≡ None) × (unit_put product act ≡ None)
+puts_none : (entries : List Entry) (act : Act) → IsAllowed entries act → (product : Name) → is_some (product_number entries product) ≡ true → (nominal_put product act ≡ None) × (unit_put product act ≡ None)
 puts_none entries (PutProduct name nominal unit) h product known = elim (cases_Bool (same_name name product)) [
-  | inl t ↦ clash (ap (λ (n : Name). is_some (product_number entries n)) (same_name_is name product t) ∙ known) (sym (product_is_known entries name) ∙ put_product entries name nominal unit h)
+  | inl t ↦ clash (ap (λ (n : Name). is_some (product_number entries n)) (same_name_is name product t) ∙ known) (sym (product_is_known entries name) ∙ ap is_some (put_product_tells entries name nominal unit h).new)
   | inr f ↦ (guard_off (same_name name product) nominal f, guard_off (same_name name product) unit f)
 ]
 puts_none entries (NewDay day) h product known = (refl, refl)
@@ -148,7 +148,7 @@ module _ (entries : List Entry) (entry : Entry) (known : Known entries) where
   pub tares_keep : tare_named entry.act ≡ None → tares_in (entries ++ entry ∷ []) ≡ tares_in entries
   tares_keep h = tares-push ∙ ap (λ o. tares_in entries ++ cons_option o []) (entry_none (entries ++ entry ∷ []) entry.act h) ∙ append-nil (tares_in entries)
 
-module _ (entries : List Entry) (entry : Entry) (known : Known entries) (rules : Passes entries entry.act) where
+module _ (entries : List Entry) (entry : Entry) (known : Known entries) (rules : IsAllowed entries entry.act) where
   pub product_of_keeps : (batch : Name) → is_some (batch_number entries batch) ≡ true → product_of (entries ++ entry ∷ []) batch ≡ product_of entries batch
   product_of_keeps batch h =
       last_said-push (product_given batch) entries entry ∙ ap (λ o. option_or o (product_of entries batch)) (opens_none entries entry.act rules batch h).0

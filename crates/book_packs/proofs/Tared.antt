@@ -19,7 +19,8 @@ use Rattle.book_words.specs.Tares.{tare_put, tares_put, tare_of_product}
 use Rattle.book_words.specs.Readings.{tare_of_reading}
 use Rattle.book_words.specs.Answers.{IsLegal}
 use Rattle.book_packs.proofs.Lists.{all-append}
-use Rattle.book_packs.proofs.Rules.{Passes, passes, put_tare}
+use Rattle.book_words.proofs.LegalLemmas.{legal_steps}
+use Rattle.book_words.proofs.AllowedActs.{IsAllowed, allowed, put_tare_tells}
 use Rattle.book_packs.proofs.Known.{up_to}
 
 abbrev Light : List DatedTare → Type 0
@@ -37,9 +38,9 @@ light_latest : (tares : List DatedTare) → Light tares → IfSome (latest tares
 unfolding latest
 light_latest tares all = light_last None (of_greatest_day tares) tt (light_filter (λ dated. list_all (λ other. int_le other.day dated.day) tares) tares all)
 
-light_act : (entries : List Entry) (act : Act) → Passes entries act → (product : Name) → Light (cons_option (tare_put product act) [])
+light_act : (entries : List Entry) (act : Act) → IsAllowed entries act → (product : Name) → Light (cons_option (tare_put product act) [])
 light_act entries (PutTare name day tare) h product =
-    elim (same_name name product) as (λ b. Light (cons_option (cond b (Some (record { day = day; tare = tare })) None) [])) [ true ↦ (up_to MAX_TARE tare (put_tare entries name day tare h).1, tt) | false ↦ tt ]
+    elim (same_name name product) as (λ b. Light (cons_option (cond b (Some (record { day = day; tare = tare })) None) [])) [ true ↦ (up_to MAX_TARE tare (put_tare_tells entries name day tare h).range, tt) | false ↦ tt ]
 light_act entries (NewDay day) h product = tt
 light_act entries (PutProduct name nominal unit) h product = tt
 light_act entries (OpenBatch batch name density) h product = tt
@@ -53,14 +54,12 @@ light_act entries (Measure pack gross empty) h product = tt
 light_act entries (DrawSecond name word) h product = tt
 light_act entries (Close name) h product = tt
 
-light_from : (before after : List Entry) → IsLegal (before ++ after) → (product : Name) → Light (tares_put before product) → Light (tares_put (before ++ after) product)
-light_from before [] legal product light = subst (λ (es : List Entry). Light (tares_put es product)) (sym (append-nil before)) light
-light_from before (e ∷ es) legal product light =
-    let whole : (before ++ e ∷ []) ++ es ≡ before ++ e ∷ es = append_assoc before (e ∷ []) es in
-    subst (λ (all : List Entry). Light (tares_put all product)) whole
-    (light_from (before ++ e ∷ []) es (subst IsLegal (sym whole) legal) product
-    (subst Light (sym (filter_map-append (λ (x : Entry). tare_put product x.act) before (e ∷ [])))
-    (all-append _ (tares_put before product) (cons_option (tare_put product e.act) []) light (light_act before e.act (passes before e (legal before e es refl)) product))))
+light_from : (product : Name) (entries : List Entry) → IsLegal entries → Light (tares_put entries product)
+light_from product =
+    legal_steps (λ entries. Light (tares_put entries product)) tt
+    (λ before e legal lawful light.
+    subst Light (sym (filter_map-append (λ (x : Entry). tare_put product x.act) before (e ∷ [])))
+    (all-append _ (tares_put before product) (cons_option (tare_put product e.act) []) light (light_act before e.act (allowed before e lawful) product)))
 
 either_zero : (o : Option DatedTare) → IfSome o (λ dated. IsUpTo MAX_TARE dated.tare) → IsUpTo MAX_TARE (unwrap_or (option_map (λ (dated : DatedTare). dated.tare) o) (pos 0))
 either_zero None h = (grind (arith, ints), grind (arith, ints))
@@ -76,4 +75,4 @@ light_reading entries legal (Some batch) (Some day) = of_product (product_of ent
     of_product None = either_zero None tt
     of_product (Some product) =
         either_zero (deciding_tare (tares_put entries product) day)
-        (light_latest (dated_by (tares_put entries product) day) (light_filter (λ dated. int_le dated.day day) (tares_put entries product) (light_from [] entries legal product tt)))
+        (light_latest (dated_by (tares_put entries product) day) (light_filter (λ dated. int_le dated.day day) (tares_put entries product) (light_from product entries legal)))

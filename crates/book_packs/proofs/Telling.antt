@@ -13,7 +13,7 @@ use Rattle.book_words.specs.declared.act.Prior.TheVariants.{Nothing, Opened, Sta
 use Rattle.batch_sums.specs.declared.types.Pack.{Pack}
 use Rattle.batch_sums.specs.Totals as sums
 use Rattle.batch_sums.specs.Asked as asked
-use Rattle.batch_sums.specs.Kept.{Sums, kept_totals}
+use Rattle.batch_sums.specs.Totals.{Sums, kept_totals}
 use Rattle.book_words.specs.declared.name.Name.{Name}
 use Rattle.book_words.specs.declared.act.Entry.{Entry}
 use Rattle.book_words.specs.declared.act.Reading.{Reading}
@@ -22,35 +22,18 @@ use Rattle.book_words.specs.Acts.{said, batch_opened}
 use Rattle.book_words.specs.Order.{batch_number}
 use Rattle.book_words.specs.Readings.{readings, is_of_batch}
 use Rattle.book_words.specs.Classes.{density_of_batch, limits_of_batch}
-use Rattle.book_words.specs.Population.{same_pile, is_counted, settled_pile, unsampled_pile, readings_of_batch, population, count_below, net_sum}
+use Rattle.book_words.specs.Population.{is_counted, settled_pile, unsampled_pile, readings_of_batch, population, count_below, net_sum}
+use Rattle.pack_judge.specs.Piles.{same_pile}
 use Rattle.book_words.specs.Readings.{net_of_reading}
 use Rattle.book_words.specs.Samples.{numbers_of, is_sampled}
 use Rattle.book_words.specs.Piles.{pile_of, pile_with_sample, in_pile, gross_sum, tally}
 use Rattle.book_packs.specs.Densities.{limit_at}
 use Rattle.book_packs.specs.Stand.{terms_of_batch, opened_terms, pack_of, packs_in}
 use Rattle.book_packs.specs.Told.{pack_told, totals_told, piles_told}
-use Rattle.book_packs.proofs.Lists.{filter-map, find-map, filter-filter, filter-within, map-map, all_then, count-map, place_holds, same_place}
+use Rattle.book_packs.proofs.Lists.{filter-map, find-map, filter-filter, filter-within, map-map, all_then, count-map}
+use Rattle.book_words.proofs.PlaceLemmas.{place_of-name, same_place}
 use Rattle.book_packs.proofs.Known.{IsWeighed}
 use Rattle.book_packs.proofs.Below.{below_is}
-
--- two words for one thing
-pile_is : (a b : Pile) → sums.same_pile a b ≡ same_pile a b
-pile_is Passed Passed = refl
-pile_is Passed Rejected = refl
-pile_is Passed Sampled = refl
-pile_is Passed Voided = refl
-pile_is Rejected Passed = refl
-pile_is Rejected Rejected = refl
-pile_is Rejected Sampled = refl
-pile_is Rejected Voided = refl
-pile_is Sampled Passed = refl
-pile_is Sampled Rejected = refl
-pile_is Sampled Sampled = refl
-pile_is Sampled Voided = refl
-pile_is Voided Passed = refl
-pile_is Voided Rejected = refl
-pile_is Voided Sampled = refl
-pile_is Voided Voided = refl
 
 -- without a look at samples nothing lies among the sampled
 pub unsampled : (voided : Bool) (signal : Option Signal) (next : Option Prior) → same_pile (settled_pile voided signal next) Sampled ≡ false
@@ -90,8 +73,7 @@ module _ (entries : List Entry) where
 
   in_pile_is : (pile : Pile) (some : List Reading) → sums.in_pile pile (map (pack_of entries) some) ≡ map (pack_of entries) (in_pile entries pile some)
   in_pile_is pile some =
-      filter-map (λ (pack : Pack). sums.same_pile pack.pile pile) (pack_of entries) some
-      ∙ ap (λ (test : Reading → Bool). map (pack_of entries) (filter test some)) (λ i reading. pile_is (pile_of entries reading) pile i)
+      filter-map (λ (pack : Pack). same_pile pack.pile pile) (pack_of entries) some
 
   tally_is : (some : List Reading) → sums.tally (map (pack_of entries) some) ≡ tally some
   tally_is some i = record { count = length_is some i; gross = gross_is some i }
@@ -145,7 +127,7 @@ module _ (entries : List Entry) where
   pub terms_at : (name : Name) (number : ℕ) → batch_number entries name ≡ Some number → slice_get (opened_terms entries) number ≡ Some (terms_of_batch entries name)
   terms_at name number is =
       slice_get-map (terms_of_batch entries) (said batch_opened entries) number
-      ∙ ap (option_map (terms_of_batch entries)) (place_holds (said batch_opened entries) name number is)
+      ∙ ap (option_map (terms_of_batch entries)) (place_of-name (said batch_opened entries) name number is)
 
   pub totals_are : (kept : Sums) (name : Name) (number : ℕ) → kept.batches ≡ opened_terms entries → kept.packs ≡ packs_in entries
       → batch_number entries name ≡ Some number → AllByRecursion (IsWeighed entries) (readings entries)

@@ -4,7 +4,7 @@ use Rattle.std.proofs.lemmas.Bool.{and_parts}
 use Rattle.std.proofs.lemmas.Bool.Decides.{nat_tests}
 use Rattle.std.proofs.lemmas.List.{length-take-le}
 use Rattle.std.proofs.lemmas.List.Elements.{filter_map-append}
-use Rattle.std.proofs.lemmas.Option.{slice_get_within}
+use Rattle.std.proofs.lemmas.Option.{slice_get_within, same_Some}
 use Rattle.std.specs.List.{last_or}
 use Rattle.std.specs.Option.{option_and_then}
 use Rattle.pack_judge.specs.declared.types.Signal.{Signal}
@@ -21,8 +21,7 @@ use Rattle.book_words.specs.Verdicts.{verdict_of}
 use Rattle.book_words.specs.Refusals as rules
 use Rattle.book_words.specs.Answers.{judged_or_done, reply_behind, IsLegal}
 use Rattle.book_words.proofs.RefusalLemmas.{none_of_two}
-use Rattle.book_laws.proofs.KnownLaws.{IsAllowed, lawful_allowed, is_there}
-use Rattle.book_laws.proofs.TareLaws.{some_is}
+use Rattle.book_words.proofs.AllowedActs.{IsAllowed, allowed, is_there}
 use Rattle.book_laws.proofs.VerdictLaws.{verdicts_stay}
 use Rattle.book_state.specs.Told.{entry_numbered}
 use Rattle.book_rules.specs.Replying.{reply_with}
@@ -49,7 +48,7 @@ repeated_holds entries ask act row h = by_request (nat_lt 0 ask.request) h
   where
     by_test : (r : Row) → newest_row entries ask.desk ≡ Some r → (b : Bool) → is_row_of ask act r ≡ b → cond b (Some r.number) None ≡ Some row → HoldsAct entries row act
     by_test r is true test k =
-        let number : r.number ≡ row = some_is r.number row k in
+        let number : r.number ≡ row = same_Some r.number row k in
         record {
           entry = r.entry;
           numbered = ap (entry_numbered entries) (sym number) ∙ newest_is_row entries ask.desk r is;
@@ -67,7 +66,7 @@ repeated_holds entries ask act row h = by_request (nat_lt 0 ask.request) h
 
 parted_at : (entries : List Entry) (place : ℕ) (entry : Entry) → slice_get entries place ≡ Some entry → entries ≡ take place entries ++ entry ∷ drop (suc place) entries
 parted_at [] place entry h = absurd (cc)
-parted_at (e ∷ es) zero entry h = ap (λ (x : Entry). x ∷ es) (some_is e entry h)
+parted_at (e ∷ es) zero entry h = ap (λ (x : Entry). x ∷ es) (same_Some e entry h)
 parted_at (e ∷ es) (suc place) entry h = ap (λ xs. e ∷ xs) (parted_at es place entry h)
 
 -- a row parts the list in the entries before it, its own, and those behind it
@@ -112,7 +111,7 @@ pub held_known : (entries : List Entry) (row : ℕ) (act : Act) (batch : Name) �
 held_known entries row act batch legal holds is =
     let at = parts_at entries row holds.entry holds.numbered in
     let before = take (row - 1) entries in
-    let allowed = lawful_allowed before holds.entry (legal before holds.entry at.after at.parts) in
+    let allowed = allowed before holds.entry (legal before holds.entry at.after at.parts) in
     let closing : IsAllowed before (Close batch) = subst (IsAllowed before) (holds.same ∙ is) allowed in
     subst (λ (es : List Entry). is_some (product_of es batch) ≡ true) (sym at.parts) (product_later before (holds.entry ∷ at.after) batch (closes_known before batch closing))
 
@@ -123,7 +122,7 @@ told_again_as entries row act entry legal holds numbered =
     let at = parts_at entries row holds.entry holds.numbered in
     let before = take (row - 1) entries in
     let lawful = legal before holds.entry at.after at.parts in
-    let own : entry ≡ holds.entry = some_is entry holds.entry (sym numbered ∙ holds.numbered) in
+    let own : entry ≡ holds.entry = same_Some entry holds.entry (sym numbered ∙ holds.numbered) in
     let signal : entry.signal ≡ recorded_signal before act = ap (λ (e : Entry). e.signal) own ∙ lawful.signal ∙ ap (recorded_signal before) holds.same in
     each act at.after at.parts at.count holds.same signal
   where

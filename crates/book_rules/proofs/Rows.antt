@@ -4,7 +4,7 @@ use Rattle.std.proofs.lemmas.Bool.Decides.{nat_tests}
 use Rattle.std.proofs.lemmas.List.Elements.{All-nil, All-cons, All-head, All-tail, All-filter}
 use Rattle.std.specs.List.{All, cons_option, filter_map, last_or, range_with_len}
 use Rattle.book_words.specs.declared.act.Entry.{Entry}
-use Rattle.book_laws.proofs.TareLaws.{some_is}
+use Rattle.std.proofs.lemmas.Option.{same_Some}
 use Rattle.book_words.specs.Desks.{Row, rows_of, newest_row}
 use Rattle.book_words.proofs.RowLemmas.{row_at}
 use Rattle.book_state.specs.Told.{entry_numbered}
@@ -33,7 +33,7 @@ rows_from entries from (suc count) = own_row entries from (slice_get entries fro
 
 last_has : (P : Row → Type 0) (o : Option Row) (rows : List Row) (row : Row) → ((first : Row) → o ≡ Some first → P first) → All P rows → last_or o rows ≡ Some row → P row
 last_has P o [] row first all h = first row h
-last_has P o (r ∷ rows) row first all h = last_has P (Some r) rows row (λ one is. subst P (some_is r one is) (All-head P r rows all)) (All-tail P r rows all) h
+last_has P o (r ∷ rows) row first all h = last_has P (Some r) rows row (λ one is. subst P (same_Some r one is) (All-head P r rows all)) (All-tail P r rows all) h
 
 -- the newest row of a desk is the entry of its number
 pub newest_is_row : (entries : List Entry) (desk : ℕ) (row : Row) → newest_row entries desk ≡ Some row → entry_numbered entries row.number ≡ Some row.entry
@@ -49,9 +49,9 @@ newest_by_number entries desk number entry numbered there = each (newest_row ent
     each : (o : Option Row) → newest_row entries desk ≡ o → option_map (λ (row : Row). row.number) o ≡ Some number → newest_row entries desk ≡ Some (record { number = number; entry = entry })
     each None is k = absurd (cc)
     each (Some row) is k =
-        let same : row.number ≡ number = some_is row.number number k in
+        let same : row.number ≡ number = same_Some row.number number k in
         let found : Some row.entry ≡ Some entry = sym (newest_is_row entries desk row is) ∙ ap (entry_numbered entries) same ∙ there in
-        let entries_same : row.entry ≡ entry = some_is row.entry entry found in
+        let entries_same : row.entry ≡ entry = same_Some row.entry entry found in
         is ∙ (λ i. Some (record { number = same i; entry = entries_same i }))
 
 -- and it is there
@@ -62,6 +62,6 @@ newest_is_there entries desk number numbered absent = each (newest_row entries d
     each None is k = cc
     each (Some row) is k =
         let there = newest_is_row entries desk row is in
-        let same : row.number ≡ number = some_is row.number number k in
+        let same : row.number ≡ number = same_Some row.number number k in
         let wrong : Some row.entry ≡ None = sym there ∙ ap (entry_numbered entries) same ∙ absent in
         cc

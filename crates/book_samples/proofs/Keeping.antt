@@ -15,7 +15,8 @@ use Rattle.book_words.specs.Answers.{IsLegal}
 use Rattle.book_words.proofs.NameLemmas.{same_name_is}
 use Rattle.book_words.proofs.DrawnLemmas.{sample_of-kept, measured_of-push}
 use Rattle.book_words.proofs.SampleSteps.{draws_packs, sample_of-no_draw, sample_of-opened, sample_of-draw, sample_of-draw_apart, sample_of-second, sample_of-second_apart}
-use Rattle.book_words.proofs.OpenedOnce.{said-push, is_named, AreDistinct, opened_once, place_of-name}
+use Rattle.book_words.proofs.OpenedOnce.{said-push, is_named, AreDistinct, opened_once}
+use Rattle.book_words.proofs.PlaceLemmas.{place_of-name}
 use Rattle.book_samples.specs.Kept.{Kept, measured_in, IsSamplesOf, StandsForAll, TakesDown, IsOpening, IsFirstDraw, IsSecondDraw, IsMeasurement, is_of_samples}
 use Rattle.book_samples.specs.Changed.{change_at, with_second}
 

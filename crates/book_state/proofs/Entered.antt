@@ -28,7 +28,7 @@ use Rattle.book_samples.specs.Kept.{drawing_at, IsFirstDraw, IsSecondDraw}
 use Rattle.book_samples.specs.DrawnBy.{IsDrawnBy}
 use Rattle.book_samples.proofs.Known.{sample_drawn_by}
 use Rattle.book_index.proofs.SaidNames.{nominal_where_put, product_where_opened}
-use Rattle.book_laws.proofs.LawfulActs.{IsAllowed, allowed_act, put_tare_tells, open_batch_tells, AllowsWeigh, weigh_tells, draw_tells, draw_second_tells}
+use Rattle.book_words.proofs.AllowedActs.{IsAllowed, allowed_act, put_tare_tells, open_batch_tells, AllowsWeigh, weigh_tells, draw_tells, draw_second_tells}
 use Rattle.book_laws.proofs.ReadingLaws.{numbers_increase}
 use Rattle.book_laws.proofs.BatchLaws.{orderly}
 use Rattle.book_laws.proofs.PopulationLaws.{drawn_from_all}

@@ -29,7 +29,7 @@ use Rattle.book_words.proofs.OneMoreEntry.{advance, own_reading}
 use Rattle.book_packs.specs.Told.{totals_told}
 use Rattle.book_laws.proofs.PackLaws.{batch_is}
 use Rattle.book_laws.proofs.RangeLaws.{fewer}
-use Rattle.book_laws.proofs.ReadingLaws.{by_entries}
+use Rattle.book_words.proofs.LegalLemmas.{legal_steps}
 use Rattle.book_laws.proofs.PopulationLaws.{counts_after, population_is, population_at_is, counts_after_gate, counts_after_void}
 
 -- no act but a weighing makes a population longer, before its own pack is looked at
@@ -110,7 +110,7 @@ IsWithinAll entries = (batch : Name) → length (population entries batch) ≤ M
 -- a population has no more packs than a batch may have
 pub population_few : (entries : List Entry) → IsLegal entries → IsWithinAll entries
 population_few =
-    by_entries IsWithinAll (λ batch. omega arith)
+    legal_steps IsWithinAll (λ batch. omega arith)
     (λ es e legal lawful before batch.
     let few = before batch in
     let fewer = fewer_after es batch e.act in

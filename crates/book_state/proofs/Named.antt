@@ -8,7 +8,7 @@ use Rattle.book_words.specs.Answers.{IsLegal}
 use Rattle.book_index.specs.Listed.{batch_product_number}
 use Rattle.book_index.proofs.LegalNames.{legal_named, product_numbered}
 use Rattle.book_index.proofs.SaidNames.{product_where_opened}
-use Rattle.book_index.proofs.LaneLemmas.{name_at_place}
+use Rattle.book_words.proofs.PlaceLemmas.{place_of-name}
 
 -- nothing is there where nothing is counted
 pub none_of : {A : Type 0} (o : Option A) → is_some o ≡ false → o ≡ None
@@ -26,7 +26,7 @@ product_at entries batch number is = either (product_of entries batch) refl
   where
     either : (o : Option Name) → product_of entries batch ≡ o → slice_get (said product_named entries) number ≡ o
     either None none = absurd (let clash : Some number ≡ None = is ∙ ap (option_and_then (product_number entries)) none in cc)
-    either (Some product) some = name_at_place (said product_named entries) product number (sym (is ∙ ap (option_and_then (product_number entries)) some))
+    either (Some product) some = place_of-name (said product_named entries) product number (sym (is ∙ ap (option_and_then (product_number entries)) some))
 
 -- the batch of a lane has a number
 pub lane_has_batch : (entries : List Entry) (lane : ℕ) (batch : Name) → IsLegal entries → lane_batch entries lane ≡ Some batch → is_some (batch_number entries batch) ≡ true

@@ -23,7 +23,7 @@ use Rattle.book_words.specs.Answers.{IsLegal}
 use Rattle.book_packs.specs.Stand.{pack_of}
 use Rattle.book_packs.specs.Told.{pack_told}
 use Rattle.book_packs.proofs.Known.{IsWeighed, known_of}
-use Rattle.book_index.proofs.LaneLemmas.{name_at_place}
+use Rattle.book_words.proofs.PlaceLemmas.{place_of-name}
 use Rattle.book_laws.proofs.RangeLaws.{tare_within}
 use Rattle.book_laws.proofs.ReadingLaws.{of_reading, found_is_one}
 use Rattle.book_laws.proofs.UnsettledLaws.{waits_by_number}
@@ -61,7 +61,7 @@ some_told entries r signal legal weighed in_row = each r.signal refl in_row.told
     numbered = ap (λ (o : Option Name). unwrap_or (option_and_then (batch_number entries) o) 0) weighed.of_batch ∙ ap (λ (o : Option ℕ). unwrap_or o 0) weighed.numbered
 
     named : slice_get (said batch_opened entries) (unwrap_or (option_and_then (batch_number entries) r.batch) 0) ≡ Some batch
-    named = ap (slice_get (said batch_opened entries)) numbered ∙ name_at_place (said batch_opened entries) batch weighed.number weighed.numbered
+    named = ap (slice_get (said batch_opened entries)) numbered ∙ place_of-name (said batch_opened entries) batch weighed.number weighed.numbered
 
     on_day : unwrap_or r.day (pos 0) ≡ weighed.day
     on_day = ap (λ (o : Option ℤ). unwrap_or o (pos 0)) weighed.on_day

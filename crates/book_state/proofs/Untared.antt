@@ -17,8 +17,8 @@ use Rattle.book_index.proofs.LegalNames.{still_said}
 use Rattle.book_index.proofs.SaidNames.{nominal_where_put}
 use Rattle.book_index.proofs.SameNames.{same_name_swap}
 use Rattle.book_laws.proofs.KnownLaws.{apart}
-use Rattle.book_laws.proofs.LawfulActs.{IsAllowed, allowed, put_tare_tells}
-use Rattle.book_laws.proofs.ReadingLaws.{by_entries}
+use Rattle.book_words.proofs.AllowedActs.{IsAllowed, allowed, put_tare_tells}
+use Rattle.book_words.proofs.LegalLemmas.{legal_steps}
 
 -- no tare is put for a name that isn't a product
 not_put : (entries : List Entry) (name : Name) (act : Act) → IsAllowed entries act → is_some (nominal_of entries name) ≡ false → tare_put name act ≡ None
@@ -35,7 +35,7 @@ not_before false then none = refl
 -- so none is there
 pub unput : (entries : List Entry) → IsLegal entries → (name : Name) → is_some (nominal_of entries name) ≡ false → tares_put entries name ≡ []
 unput =
-    by_entries (λ (es : List Entry). (name : Name) → is_some (nominal_of es name) ≡ false → tares_put es name ≡ [])
+    legal_steps (λ (es : List Entry). (name : Name) → is_some (nominal_of es name) ≡ false → tares_put es name ≡ [])
     (λ name none. refl)
     (λ es e legal lawful before name none.
     let earlier = not_before (is_some (nominal_of es name)) (still_said (nominal_put name) es e) none in

@@ -7,7 +7,8 @@ use Rattle.book_words.specs.declared.name.Name.{Name}
 use Rattle.book_words.specs.declared.act.Entry.{Entry}
 use Rattle.book_words.specs.declared.act.Reading.{Reading}
 use Rattle.book_words.specs.Readings.{readings}
-use Rattle.book_words.specs.Population.{same_pile, readings_of_batch}
+use Rattle.book_words.specs.Population.{readings_of_batch}
+use Rattle.pack_judge.specs.Piles.{same_pile}
 use Rattle.book_words.specs.Piles.{pile_of, in_pile, gross_sum, tally}
 use Rattle.book_words.specs.Balance.{AddUp}
 use Rattle.book_words.specs.Answers.{IsLegal}

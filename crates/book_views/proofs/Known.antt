@@ -25,8 +25,10 @@ use Rattle.book_words.specs.Samples.{Sample, sample_of}
 use Rattle.book_words.specs.Verdicts.{second_packs}
 use Rattle.book_words.specs.Ranges.{IsSampleInRange}
 use Rattle.book_laws.proofs.RangeLaws.{sample_within}
-use Rattle.book_laws.proofs.KnownLaws.{IsAllowed, lawful_allowed, put_apart}
-use Rattle.book_laws.proofs.TareLaws.{IsTared, tared_of, some_is}
+use Rattle.book_laws.proofs.KnownLaws.{put_apart}
+use Rattle.book_words.proofs.AllowedActs.{IsAllowed, allowed}
+use Rattle.book_laws.proofs.TareLaws.{IsTared, tared_of}
+use Rattle.std.proofs.lemmas.Option.{same_Some}
 
 -- what is there isn't found missing
 pub never_none : {A : Type 0} (o r : Option A) → is_some o ≡ true → r ≡ o → r ≡ None → ⊥
@@ -35,7 +37,7 @@ never_none o r there same nothing = let wrong : true ≡ false = sym there ∙ a
 -- limits that are told of a batch that is there
 pub told_limits : (o : Option Name) (x limits : Limits) → Some limits ≡ option_map (λ (product : Name). x) o → limits ≡ x
 told_limits None x limits h = absurd (cc)
-told_limits (Some product) x limits h = some_is limits x h
+told_limits (Some product) x limits h = same_Some limits x h
 
 -- the product of a batch has a nominal quantity
 pub nominal_there : (entries : List Entry) (batch product : Name) → IsLegal entries → product_of entries batch ≡ Some product → is_some (nominal_of entries product) ≡ true
@@ -65,9 +67,9 @@ suits_by_act entries (OpenBatch name other dense) tared suits h batch product de
         let c = none_of_two (rules.name_shape name) _ b.1 in
         let d = none_of_two (rules.batch_known entries name) _ c.1 in
         let e = none_of_two (rules.density_range entries other dense) None d.1 in
-        let same : other ≡ product = some_is other product p in
+        let same : other ≡ product = same_Some other product p in
         let found : unit_of entries other ≡ Some unit = ap (unit_of entries) same ∙ measured in
-        subst (λ n. suits_unit unit n ≡ true) (some_is dense density q) (not_unsuited unit (unit_of entries other) dense found e.0)
+        subst (λ n. suits_unit unit n ≡ true) (same_Some dense density q) (not_unsuited unit (unit_of entries other) dense found e.0)
 suits_by_act entries (PutProduct name nominal put) tared suits h batch product density unit given recorded measured =
     let other = put_apart entries name product nominal put h (tared.products batch product given) in
     suits batch product density unit given recorded (sym (ap (λ b. option_or (cond b (Some put) None) (unit_of entries product)) other) ∙ measured)
@@ -78,7 +80,7 @@ suits_behind before [] suits legal = subst DensitiesSuit (sym (append-nil before
 suits_behind before (entry ∷ after) suits legal =
     let whole : (before ++ entry ∷ []) ++ after ≡ before ++ entry ∷ after = append_assoc before (entry ∷ []) after in
     let front = legal-prefix before (entry ∷ after) legal in
-    let allowed = lawful_allowed before entry (legal before entry after refl) in
+    let allowed = allowed before entry (legal before entry after refl) in
     subst DensitiesSuit whole
     (suits_behind (before ++ entry ∷ []) after
     (λ batch product density unit given recorded measured.

@@ -15,7 +15,7 @@ use Rattle.book_words.specs.Classes.{is_below, density_of_batch, limits_of_batch
 use Rattle.book_words.specs.Measures.{Measured, measured_of, actual_contents, contents_of_pack, contents_among, defective_count}
 use Rattle.book_state.specs.declared.types.KnownPack.{KnownPack}
 use Rattle.book_state.specs.Told.{known_record, known_reading, known_pack}
-use Rattle.book_laws.proofs.TareLaws.{some_is}
+use Rattle.std.proofs.lemmas.Option.{same_Some}
 use Rattle.book_packs.specs.Densities.{limit_at}
 use Rattle.book_packs.proofs.Below.{below_is}
 use Rattle.book_views.specs.Testing.{is_pack_defective}
@@ -48,7 +48,7 @@ known_contents entries mode pack known measured is was = each (reading_of entrie
         parts (Some batch) (Some day) None h = absurd (cc)
         parts (Some batch) (Some day) (Some signal) h =
             ap Some (by_mode entries mode reading measured batch day signal)
-            ∙ ap (λ (k : KnownPack). Some (contents_by mode k.tare measured)) (some_is _ known h)
+            ∙ ap (λ (k : KnownPack). Some (contents_by mode k.tare measured)) (same_Some _ known h)
 
 count_from : {A : Type 0} (test : A → Bool) (xs : List A) (o : Option A) (n : ℕ)
     → fold (λ m x. m + cond (test x) 1 0) n (xs ++ cons_option o []) ≡ fold (λ m x. m + cond (test x) 1 0) n xs + cond (option_map_or test o false) 1 0

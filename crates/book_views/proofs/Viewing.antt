@@ -15,7 +15,8 @@ use Rattle.book_words.specs.Classes.{nominal_of_batch, class_in_batch}
 use Rattle.book_words.specs.Refusals.{batch_of_pack}
 use Rattle.book_words.specs.Answers.{IsLegal}
 use Rattle.book_words.specs.Views.{pack_record, view_of_reading, pack_view}
-use Rattle.book_laws.proofs.TareLaws.{IsWeighed, tared_of, some_is}
+use Rattle.book_laws.proofs.TareLaws.{IsWeighed, tared_of}
+use Rattle.std.proofs.lemmas.Option.{same_Some}
 use Rattle.book_laws.proofs.ReadingLaws.{of_reading}
 use Rattle.book_state.specs.declared.types.KnownPack.{KnownPack}
 use Rattle.book_state.specs.Told.{known_record, known_reading, known_pack}
@@ -31,7 +32,7 @@ found_number pack [] reading h = absurd (cc)
 found_number pack (first ∷ some) reading h = step (first.number == pack) refl (found_number pack some reading) h
   where
     step : (b : Bool) → (first.number == pack) ≡ b → (find (λ (r : Reading). r.number == pack) some ≡ Some reading → reading.number ≡ pack) → cond b (Some first) (find (λ (r : Reading). r.number == pack) some) ≡ Some reading → reading.number ≡ pack
-    step true is rest k = ap (λ (r : Reading). r.number) (sym (some_is first reading k)) ∙ eqb-true first.number pack is
+    step true is rest k = ap (λ (r : Reading). r.number) (sym (same_Some first reading k)) ∙ eqb-true first.number pack is
     step false is rest k = rest k
 
 -- the batch of a pack has a product
@@ -42,7 +43,7 @@ pack_product entries pack batch legal of_batch = each (reading_of entries pack) 
     each None found h = absurd (cc)
     each (Some reading) found h =
         let weighed = (of_reading (IsWeighed entries) entries pack reading (tared_of entries legal).weighed found).1 in
-        subst (λ name. is_some (product_of entries name) ≡ true) (some_is weighed.batch batch (sym weighed.of_batch ∙ h)) (ap is_some weighed.has.known)
+        subst (λ name. is_some (product_of entries name) ≡ true) (same_Some weighed.batch batch (sym weighed.of_batch ∙ h)) (ap is_some weighed.has.known)
 
 -- what is told of a known pack
 abbrev pub view_by : ℕ → KnownPack → Name → Class → PackView
@@ -89,4 +90,4 @@ known_view entries pack known product class is given of_class = each (reading_of
         parts None d s h = absurd (cc)
         parts (Some batch) None s h = absurd (cc)
         parts (Some batch) (Some day) None h = absurd (cc)
-        parts (Some batch) (Some day) (Some signal) h = whole batch day signal known (some_is _ known h) given of_class
+        parts (Some batch) (Some day) (Some signal) h = whole batch day signal known (same_Some _ known h) given of_class

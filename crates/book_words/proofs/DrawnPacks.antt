@@ -17,7 +17,7 @@ use Rattle.book_words.specs.Population.{population}
 use Rattle.book_words.specs.Samples.{Drawing, numbers_of, drawing_from, drawing_of}
 use Rattle.book_words.specs.Answers.{IsLawful, IsLegal}
 use Rattle.book_words.proofs.DrawnLemmas.{drawing_of-push}
-use Rattle.book_words.proofs.DrawnOnce.{legal_steps}
+use Rattle.book_words.proofs.LegalLemmas.{legal_steps}
 
 -- some numbers ascend, and lie from one number to another
 abbrev pub AscendWithin : ℕ → ℕ → List ℕ → Type 0
@@ -93,7 +93,8 @@ pub readings_ascend : (entries : List Entry) → AscendWithin 1 (length entries)
 readings_ascend entries =
     ascend-wider (0 + 1) 1 (0 + length entries) (length entries) (numbers_of (readings entries)) (omega arith) (omega arith) (among_ascend entries 0 (length entries))
 
-filter_ascends : (test : Reading → Bool) (least most : ℕ) (some : List Reading) → AscendWithin least most (numbers_of some) → AscendWithin least most (numbers_of (filter test some))
+-- and those of a filter
+pub filter_ascends : (test : Reading → Bool) (least most : ℕ) (some : List Reading) → AscendWithin least most (numbers_of some) → AscendWithin least most (numbers_of (filter test some))
 filter_ascends test least most [] h = tt
 filter_ascends test least most (reading ∷ some) h = either (test reading) (filter_ascends test (reading.number + 1) most some h.2)
   where
@@ -101,7 +102,7 @@ filter_ascends test least most (reading ∷ some) h = either (test reading) (fil
     either true rest = (h.0, h.1, rest)
     either false rest = ascend-wider (reading.number + 1) least most most (numbers_of (filter test some)) (omega (arith, h.0)) (omega arith) rest
 
--- so are those of a population
+-- so those of a population
 pub population_ascends : (entries : List Entry) (batch : Name) → AscendWithin 1 (length entries) (numbers_of (population entries batch))
 population_ascends entries batch = filter_ascends _ 1 (length entries) (readings entries) (readings_ascend entries)
 

@@ -1,10 +1,13 @@
 pub mod NameLemmas
+pub mod PlainLemmas
 pub mod LastSaid
 pub mod OneMoreEntry
 pub mod RefusalLemmas
+pub mod AllowedActs
 pub mod LegalLemmas
 pub mod DrawnLemmas
 pub mod DrawnOnce
+pub mod PlaceLemmas
 pub mod OpenedOnce
 pub mod SampleSteps
 pub mod DrawnPacks

@@ -13,7 +13,9 @@ use Rattle.book_words.specs.Refusals.{first_refusal, refusals_of}
 use Rattle.book_words.specs.Answers.{IsLegal}
 use Rattle.book_words.proofs.NameLemmas.{same_name_is, same_name_itself}
 use Rattle.book_words.proofs.LastSaid.{last_or-cons}
-use Rattle.book_words.proofs.DrawnOnce.{legal_steps, lawful_rules, opened_is_new}
+use Rattle.book_words.proofs.DrawnOnce.{opened_is_new}
+use Rattle.book_words.proofs.AllowedActs.{allowed}
+use Rattle.book_words.proofs.LegalLemmas.{legal_steps}
 
 true_is_not_false : true ≡ false → ⊥
 true_is_not_false h = cc
@@ -136,28 +138,4 @@ distinct_step entries (Close other) h distinct = rw append-nil distinct
 pub opened_once : (entries : List Entry) → IsLegal entries → AreDistinct (said batch_opened entries)
 opened_once =
     legal_steps OpensDistinct tt (λ before entry legal lawful distinct.
-    rw (said-push batch_opened before entry) (distinct_step before entry.act (lawful_rules before entry lawful) distinct))
-
--- at the place of a name stands the name
-pub place_of-name : (names : List Name) (name : Name) (place : ℕ) → place_of names name ≡ Some place → slice_get names place ≡ Some name
-place_of-name [] name place h = absurd (none_is_not_some h)
-  where
-    none_is_not_some : None ≡ Some place → ⊥
-    none_is_not_some h = cc
-place_of-name (n ∷ ns) name place h = either (same_name n name) refl (λ before found. place_of-name ns name before found) h
-  where
-    some_is : (a b : ℕ) → Some a ≡ Some b → a ≡ b
-    some_is a b h = cc
-
-    behind : (o : Option ℕ) → place_of ns name ≡ o → ((before : ℕ) → place_of ns name ≡ Some before → slice_get ns before ≡ Some name) → option_map (λ place. place + 1) o ≡ Some place → slice_get (n ∷ ns) place ≡ Some name
-    behind None found step h = absurd (none_is_not_some h)
-      where
-        none_is_not_some : None ≡ Some place → ⊥
-        none_is_not_some h = cc
-    behind (Some before) found step h =
-        let same : place ≡ suc before = sym (some_is (before + 1) place h) ∙ (let next : before + 1 ≡ suc before = omega arith in next) in
-        ap (slice_get (n ∷ ns)) same ∙ step before found
-
-    either : (test : Bool) → same_name n name ≡ test → ((before : ℕ) → place_of ns name ≡ Some before → slice_get ns before ≡ Some name) → (if test then Some 0 else option_map (λ place. place + 1) (place_of ns name)) ≡ Some place → slice_get (n ∷ ns) place ≡ Some name
-    either true same step h = ap (slice_get (n ∷ ns)) (sym (some_is 0 place h)) ∙ ap Some (same_name_is n name same)
-    either false same step h = behind (place_of ns name) refl step h
+    rw (said-push batch_opened before entry) (distinct_step before entry.act (allowed before entry lawful) distinct))

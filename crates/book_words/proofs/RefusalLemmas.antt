@@ -22,7 +22,8 @@ use Rattle.book_words.specs.declared.refusal.Refusal.TheVariants as why
 use Rattle.book_words.specs.Acts.{newest_day, unit_of, product_of, state_of, same_state, lane_batch}
 use Rattle.book_words.specs.Tares.{tare_of_product}
 use Rattle.book_words.specs.Readings.{reading_of}
-use Rattle.book_words.specs.Population.{population, same_pile, is_unsettled}
+use Rattle.book_words.specs.Population.{population, is_unsettled}
+use Rattle.pack_judge.specs.Piles.{same_pile}
 use Rattle.book_words.specs.Piles.{pile_of}
 use Rattle.book_words.specs.Samples.{Sample, sample_of}
 use Rattle.book_words.specs.Measures.{Measured, measured_of, first_unmeasured}

@@ -15,7 +15,8 @@ use Rattle.book_words.specs.Refusals.{first_refusal, refusals_of}
 use Rattle.book_words.specs.Answers.{IsLawful, IsLegal}
 use Rattle.book_words.proofs.NameLemmas.{same_name_itself}
 use Rattle.book_words.proofs.DrawnLemmas.{sample_of-push, sample_of-kept}
-use Rattle.book_words.proofs.DrawnOnce.{lawful_rules, opened_is_new, states_known, is_undrawn, IsUndrawn, undrawn_by_state, undrawn_at_draw}
+use Rattle.book_words.proofs.DrawnOnce.{opened_is_new, states_known, is_undrawn, IsUndrawn, undrawn_by_state, undrawn_at_draw}
+use Rattle.book_words.proofs.AllowedActs.{allowed}
 use Rattle.book_words.proofs.OpenedOnce.{same_name-swap}
 
 -- whether an act draws packs
@@ -74,7 +75,7 @@ pub sample_of-opened : (entries : List Entry) (entry : Entry) (batch product : N
     → sample_of entries batch ≡ None
 sample_of-opened entries entry batch product density legal lawful is =
     sample_of-unknown entries batch legal
-    (opened_is_new entries batch product density (ap (λ (act : Act). first_refusal (refusals_of entries act)) (sym is) ∙ lawful_rules entries entry lawful))
+    (opened_is_new entries batch product density (ap (λ (act : Act). first_refusal (refusals_of entries act)) (sym is) ∙ allowed entries entry lawful))
 
 -- what a draw of the first sample of a batch behind some entries draws by
 abbrev pub drawing_behind : List Entry → Name → Mode → ℕ → Drawing

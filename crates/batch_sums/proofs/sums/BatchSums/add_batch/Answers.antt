@@ -1,5 +1,6 @@
 use Rattle.std.proofs.Common.{◌≡◌, ◌++◌, ◌∷◌, [], sym, subst, ap, refl, ◌∙◌, arith}
-use Rattle.batch_sums.specs.Kept.{Sums, Sound}
+use Rattle.batch_sums.specs.Kept.{Sound}
+use Rattle.batch_sums.specs.Totals.{Sums}
 use Rattle.std.proofs.lemmas.List.{map-append}
 use Rattle.batch_sums.specs.declared.batch.Batch.{Batch}
 use Rattle.batch_sums.specs.Invariant.{reaches_of}

@@ -6,7 +6,8 @@ use Rattle.std.proofs.lemmas.Int.{ints}
 use Rattle.std.proofs.lemmas.List.{length-map}
 use Rattle.std.proofs.lemmas.Option.{slice_get_read, slice_get-map}
 use Rattle.batch_sums.specs.Groups.{Face, face_of, faces}
-use Rattle.batch_sums.specs.Kept.{Sums, seen, IsKey}
+use Rattle.batch_sums.specs.Kept.{seen, IsKey}
+use Rattle.batch_sums.specs.Totals.{Sums}
 use Rattle.batch_sums.proofs.Finding.{find-numbered}
 use Rattle.batch_sums.proofs.Moving.{in_group, light_pack, at_group, kept_group}
 use Rattle.batch_sums.proofs.Numbers.{number_at}

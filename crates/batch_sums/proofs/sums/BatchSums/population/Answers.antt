@@ -6,7 +6,8 @@ use Rattle.batch_sums.specs.declared.batch.Batch.{Batch}
 use Rattle.batch_sums.specs.declared.types.Held.{Held}
 use Rattle.batch_sums.specs.declared.types.Pack.{Pack}
 use Rattle.batch_sums.specs.Groups.{faces}
-use Rattle.batch_sums.specs.Kept.{Sums, terms_of, seen, reach_of}
+use Rattle.batch_sums.specs.Kept.{terms_of, seen, reach_of}
+use Rattle.batch_sums.specs.Totals.{Sums}
 use Rattle.batch_sums.specs.Invariant.{homes_of, reaches_of}
 use Rattle.batch_sums.proofs.Telling.{tared, bounded}
 use Rattle.batch_sums.proofs.Walking.{IsWalked, own, lower, walk_begun, walk_on}

@@ -10,7 +10,7 @@ use Rattle.balanced_tree.specs.declared.tree.Tree.{Tree}
 use Rattle.batch_sums.specs.declared.group.Group.{Group}
 use Rattle.batch_sums.specs.declared.types.Held.{Held}
 use Rattle.batch_sums.specs.Groups.{face_of, faces, nth_rank}
-use Rattle.batch_sums.specs.Kept.{Sums}
+use Rattle.batch_sums.specs.Totals.{Sums}
 use Rattle.batch_sums.specs.Changes.{concerned, group_count, HasFewPerGroup}
 use Rattle.batch_sums.proofs.Rising.{below, below-le-length}
 use Rattle.batch_sums.proofs.Opening.{All-found}

@@ -4,7 +4,8 @@ use Rattle.std.proofs.lemmas.List.{map-set}
 use Rattle.hall_limits.specs.declared.TheConstants.{MAX_TARE}
 use Rattle.batch_sums.specs.Groups.{Face, faces, IsJudged}
 use Rattle.batch_sums.specs.Running.{IsEntered}
-use Rattle.batch_sums.specs.Kept.{Sums, terms_of}
+use Rattle.batch_sums.specs.Kept.{terms_of}
+use Rattle.batch_sums.specs.Totals.{Sums}
 use Rattle.batch_sums.specs.Changes.{is_added}
 use Rattle.batch_sums.proofs.Moving.{joins, in_group, kept_group, batch_there, has_gross, at_batch, judged_before, covers, room_to, few_less, sound_moved, faces_moved, moved_is}
 use Rattle.batch_sums.proofs.Numbers.{added_is, number_at, inside_moved, outside_moved, settled_moved}

@@ -2,7 +2,7 @@ use Rattle.std.proofs.Common.{sym, ap, ◌∙◌}
 use Rattle.std.specs.Option.{option_and_then}
 use Rattle.book_words.specs.Order.{batch_number}
 use Rattle.book_index.specs.Listed.{is_lane}
-use Rattle.book_index.proofs.SameNames.{in_both}
+use Rattle.book_words.proofs.PlainLemmas.{in_both}
 use Rattle.book_index.proofs.LegalNames.{legal_named}
 use Rattle.book_index.proofs.index.Index.lane_number.Goals as goal
 

@@ -4,7 +4,7 @@ use Rattle.book_words.specs.Population.{population}
 use Rattle.book_words.specs.Samples.{numbers_of, sample_by}
 use Rattle.book_words.specs.Order.{batch_number}
 use Rattle.book_index.proofs.SaidNames.{product_where_opened}
-use Rattle.book_laws.proofs.LawfulActs.{draw_tells}
+use Rattle.book_words.proofs.AllowedActs.{draw_tells}
 use Rattle.book_state.proofs.Parts.{parts_of}
 use Rattle.book_state.proofs.Batches.{number_within}
 use Rattle.book_samples.specs.Kept.{drawing_at}

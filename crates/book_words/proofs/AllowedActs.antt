@@ -1,4 +1,4 @@
--- What a lawful entry tells, act by act: that none of the act's own refusals holds.
+-- What an act tells that none of its own refusals stands against, and so the act of a lawful entry.
 use Rattle.std.proofs.Common.{◌≡◌, ℕ, ℤ, pos, Bool, true, false, not, ◌&&◌, ◌==◌, nat_le, nat_lt, int_lt, int_le, List, [], ◌∷◌, length, Option, Some, None, is_some, is_none, option_map, refl, sym, ◌∙◌, ap, subst, arith}
 use Rattle.std.proofs.lemmas.Int.{ints}
 use Rattle.std.specs.List.{list_any, find}
@@ -24,6 +24,7 @@ use Rattle.book_words.specs.Measures.{Measured, measured_of}
 use Rattle.book_words.specs.Refusals as rules
 use Rattle.book_words.specs.Refusals.{refused_if, first_refusal, refusals_of, is_within}
 use Rattle.book_words.specs.Answers.{ask_of, IsLawful}
+use Rattle.book_words.proofs.PlainLemmas.{none_mapped}
 use Rattle.book_words.proofs.RefusalLemmas.{none_of_two, not_refused, act_rules}
 
 -- no refusal of the act's own holds
@@ -54,11 +55,6 @@ is_there (Some x) refusal h = refl
 pub is_absent : {A : Type 0} (o : Option A) (refusal : Refusal) → refused_if (is_some o) refusal ≡ None → o ≡ None
 is_absent None refusal h = refl
 is_absent (Some x) refusal h = absurd (cc)
-
--- what would be refused by a thing that it names is absent
-pub none_mapped : {A : Type 0} (f : A → Refusal) (o : Option A) → option_map f o ≡ None → o ≡ None
-none_mapped f None h = refl
-none_mapped f (Some x) h = absurd (cc)
 
 -- the state of a batch, where there is one, is among those that are allowed
 pub state_among : (allowed : List states.BatchState) (entries : List Entry) (batch : Name) (state : states.BatchState) → rules.batch_state allowed entries batch ≡ None
@@ -272,11 +268,7 @@ measure_tells entries pack gross empty h =
     let e = none_of_two (rules.pack_unknown entries pack) _ d.1 in
     let f = none_of_two (rules.pack_pile Sampled entries pack) _ e.1 in
     let g = none_of_two (rules.measured_already entries pack) None f.1 in
-    record { day = is_there (newest_day entries) _ a.0; state = b.0; range = not_refused _ _ c.0; hollow = d.0; known = is_there (reading_of entries pack) _ e.0; pile = f.0; new = no_measure (measured_of entries pack) g.0 }
-  where
-    no_measure : (o : Option Measured) → option_map (λ (measured : Measured). why.MeasuredAlready measured.gross) o ≡ None → o ≡ None
-    no_measure None k = refl
-    no_measure (Some x) k = absurd (cc)
+    record { day = is_there (newest_day entries) _ a.0; state = b.0; range = not_refused _ _ c.0; hollow = d.0; known = is_there (reading_of entries pack) _ e.0; pile = f.0; new = none_mapped (λ (measured : Measured). why.MeasuredAlready measured.gross) (measured_of entries pack) g.0 }
 
 -- a second draw: a day is set, the batch is there and its state, if any, is drawn, a second sample
 -- isn't needless, and the first one is measured
