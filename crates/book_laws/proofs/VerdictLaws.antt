@@ -23,7 +23,8 @@ use Rattle.book_words.specs.Classes.{UNIT_DENSITY, is_below, nominal_of_batch, l
 use Rattle.book_words.specs.Population.{is_counted, population, count_below, nonstandard_count, inadequate_count, net_sum}
 use Rattle.book_words.specs.Samples.{Drawing, Sample, numbers_of, drawing_from, drawing_of, second_word, sample_by, sample_of}
 use Rattle.book_words.specs.Measures.{Measured, measured_of, actual_contents, contents_of_pack, contents_among, defective_count}
-use Rattle.book_words.specs.Verdicts.{second_packs, first_defective, second_defective, is_accepted, contents_check_accepts, mean_accepts, mean_check_accepts, average_accepts, fails_of, verdict_by_fails, verdict_of}
+use Rattle.reference_test.specs.Means.{mean_accepts}
+use Rattle.book_words.specs.Verdicts.{second_packs, first_defective, second_defective, is_accepted, contents_check_accepts, mean_check_accepts, average_accepts, fails_of, verdict_by_fails, verdict_of}
 use Rattle.book_words.specs.Refusals as rules
 use Rattle.book_words.specs.Answers.{IsLawful, IsLegal}
 use Rattle.book_words.specs.Balance.{VerdictsStay}

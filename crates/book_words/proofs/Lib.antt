@@ -14,3 +14,4 @@ pub mod OpenedOnce
 pub mod SampleSteps
 pub mod DrawnPacks
 pub mod RowLemmas
+pub mod RightAnswers
