@@ -8,7 +8,7 @@ use Rattle.script_lines.specs.declared.command.Command.{Command}
 use Rattle.script_lines.specs.declared.command.Line.{Line}
 use Rattle.script_lines.specs.declared.command.Line.TheVariants.{Nothing, Asks, Bad}
 use Rattle.hall_top.specs.declared.stop.Stop.{Stop}
-use Rattle.hall_top.specs.declared.stop.Stop.TheVariants.{Finished, BadLine, ReadFault, WriteFault, DiskFault, NoMemory, Spent}
+use Rattle.hall_top.specs.declared.stop.Stop.TheVariants.{Finished, BadLine, ReadFault, WriteFault, DiskFault, DiskFaultUnsaid, NoMemory, Spent}
 use Rattle.batch_reports.specs.Texts.{outcome_text}
 use Rattle.hall_top.specs.Texts.{bad_line, no_memory, disk_fault}
 use Rattle.hall_top.specs.Transcript.{BookState, Exchange, after_command, after_commands, exchanges, answers}
@@ -71,10 +71,10 @@ stops_here book before old now rows commands number (Asks command) WriteFault fi
       cut = cut_on before old now (answers book commands) _ first stops.cut;
       rows_left = are_left book (commands ++ command ∷ []) rows (stops.rows_left.left ∙ ap (λ (b : BookState). b.entries) (sym (after_commands-append book commands (command ∷ []))));
     })
-stops_here book before old now rows commands number (Asks command) WriteFault first (inr (inl stops)) =
-    inr (inl (cut_on before old now (answers book commands) no_memory first stops.0, record { may = stops.1.may; rows_left = are_left book commands rows stops.1.rows_left.left }))
-stops_here book before old now rows commands number (Asks command) WriteFault first (inr (inr stops)) =
-    inr (inr (cut_on before old now (answers book commands) disk_fault first stops.0, record { offers = stops.1.offers; rows_left = are_left book commands rows stops.1.rows_left.left }))
+stops_here book before old now rows commands number (Asks command) WriteFault first (inr stops) =
+    inr (cut_on before old now (answers book commands) no_memory first stops.0, record { may = stops.1.may; rows_left = are_left book commands rows stops.1.rows_left.left })
+stops_here book before old now rows commands number (Asks command) DiskFaultUnsaid first stops =
+    (cut_on before old now (answers book commands) disk_fault first stops.0, record { offers = stops.1.offers; rows_left = are_left book commands rows stops.1.rows_left.left })
 stops_here book before old now rows commands number (Asks command) DiskFault first stops =
     (wrote_on before old now (answers book commands) disk_fault first stops.0, record { offers = stops.1.offers; rows_left = are_left book commands rows stops.1.rows_left.left })
 stops_here book before old now rows commands number (Asks command) NoMemory first stops =
@@ -84,6 +84,7 @@ stops_here book before old now rows commands number Bad Finished first stops = a
 stops_here book before old now rows commands number Bad ReadFault first stops = absurd stops
 stops_here book before old now rows commands number Bad WriteFault first stops = absurd stops
 stops_here book before old now rows commands number Bad DiskFault first stops = absurd stops
+stops_here book before old now rows commands number Bad DiskFaultUnsaid first stops = absurd stops
 stops_here book before old now rows commands number Bad NoMemory first stops = absurd stops
 stops_here book before old now rows commands number Bad Spent first stops = absurd stops
 stops_here book before old now rows commands number (Asks command) Finished first stops = absurd stops

@@ -6,11 +6,11 @@ use Rattle.hall_top.specs.declared.ended.Ended.{Ended}
 use Rattle.book_store.specs.declared.types.MountError.{MountError}
 use Rattle.book_store.specs.declared.types.MountError.TheVariants as mount
 use Rattle.hall_top.specs.declared.stop.Stop.{Stop}
-use Rattle.hall_top.specs.declared.stop.Stop.TheVariants.{Finished, BadLine, ReadFault, WriteFault, DiskFault, NoMemory, Spent}
+use Rattle.hall_top.specs.declared.stop.Stop.TheVariants.{Finished, BadLine, ReadFault, WriteFault, DiskFault, DiskFaultUnsaid, NoMemory, Spent}
 use Rattle.hall_top.specs.Transcript.{BookState}
 use Rattle.hall_top.specs.Streams.{Stream}
 use Rattle.hall_top.specs.Run.{Call, status_of, is_status}
-use Rattle.hall_top.specs.Kept.{CountsStop}
+use Rattle.hall_top.specs.Kept.{CountsStep}
 use Rattle.hall_top.specs.Calls.{SaysWhy, SaysWhole, ExplainsCheck, EndsAs, mount_status}
 
 -- a check that wrote its line, or a part of it
@@ -20,16 +20,18 @@ explains_check book call WriteFault unread rows says = record { unread = unread;
 explains_check book call BadLine unread rows says = absurd says
 explains_check book call ReadFault unread rows says = absurd says
 explains_check book call DiskFault unread rows says = absurd says
+explains_check book call DiskFaultUnsaid unread rows says = absurd says
 explains_check book call NoMemory unread rows says = absurd says
 explains_check book call Spent unread rows says = absurd says
 
 -- it touches no disk
-pub whole_counts : (T : Type 0) (before now : Stream) (rows count : ℕ) (stop : Stop) → SaysWhole before now rows stop → CountsStop {T = T} count count (Err stop)
+pub whole_counts : (T : Type 0) (before now : Stream) (rows count : ℕ) (stop : Stop) → SaysWhole before now rows stop → CountsStep {T = T} count count (Err stop)
 whole_counts T before now rows count Finished says = refl
-whole_counts T before now rows count WriteFault says = inl refl
+whole_counts T before now rows count WriteFault says = refl
 whole_counts T before now rows count BadLine says = absurd says
 whole_counts T before now rows count ReadFault says = absurd says
 whole_counts T before now rows count DiskFault says = absurd says
+whole_counts T before now rows count DiskFaultUnsaid says = absurd says
 whole_counts T before now rows count NoMemory says = absurd says
 whole_counts T before now rows count Spent says = absurd says
 
@@ -39,6 +41,7 @@ stop_status BadLine = refl
 stop_status ReadFault = refl
 stop_status WriteFault = refl
 stop_status DiskFault = refl
+stop_status DiskFaultUnsaid = refl
 stop_status NoMemory = refl
 stop_status Spent = refl
 
@@ -63,6 +66,7 @@ stop_differs BadLine is = absurd (omega (arith, is))
 stop_differs ReadFault is = absurd (omega (arith, is))
 stop_differs WriteFault is = absurd (omega (arith, is))
 stop_differs DiskFault is = absurd (omega (arith, is))
+stop_differs DiskFaultUnsaid is = absurd (omega (arith, is))
 stop_differs NoMemory is = absurd (omega (arith, is))
 stop_differs Spent is = absurd (omega (arith, is))
 

@@ -6,7 +6,7 @@ use Rattle.device_facts.specs.CountLaws.{calm_counts_none}
 use Rattle.script_lines.specs.Script.{all_good}
 use Rattle.hall_top.specs.declared.reads.TheConstants.{MAX_READS}
 use Rattle.hall_top.specs.declared.stop.Stop.{Stop}
-use Rattle.hall_top.specs.declared.stop.Stop.TheVariants.{Finished, BadLine, ReadFault, WriteFault, DiskFault, NoMemory, Spent}
+use Rattle.hall_top.specs.declared.stop.Stop.TheVariants.{Finished, BadLine, ReadFault, WriteFault, DiskFault, DiskFaultUnsaid, NoMemory, Spent}
 use Rattle.hall_top.specs.Transcript.{BookState, lines_of}
 use Rattle.hall_top.specs.Run.{Call, Explains, IsComplete}
 use Rattle.hall_top.specs.Calls.{ExplainsRun}
@@ -33,6 +33,7 @@ module _ {S : Type 0} (book : BookState) (call : Call S) (script : List ℕ) (to
       absurd (not_both (all_good (lines_of script)) good (subst (λ (left : Option (List ℕ)). IfSome left (λ script. all_good (lines_of script) ≡ false)) told explains.cause))
   by_stop ReadFault explains = calm_counts_none call.before.input.faults call.now.input.faults 0 input_calm explains.cause
   by_stop WriteFault explains = calm_counts_none call.before.output.faults call.now.output.faults 0 output_calm explains.cause
+  by_stop DiskFaultUnsaid explains = calm_counts_none call.before.output.faults call.now.output.faults 0 output_calm explains.cause
   by_stop Spent explains =
       absurd (omega (arith, short, explains.least, few_taken call.now.input.bytes explains.taken script (subst (λ (left : Option (List ℕ)). Consumes left call.now.input.bytes explains.taken) told explains.read)))
 

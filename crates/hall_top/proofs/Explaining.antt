@@ -12,7 +12,7 @@ use Rattle.script_lines.specs.Script.{all_good}
 use Rattle.script_lines.proofs.LineLists.{ended_lines-few}
 use Rattle.hall_top.specs.declared.reads.TheConstants.{MAX_READS, PIECE}
 use Rattle.hall_top.specs.declared.stop.Stop.{Stop}
-use Rattle.hall_top.specs.declared.stop.Stop.TheVariants.{Finished, BadLine, ReadFault, WriteFault, DiskFault, NoMemory, Spent}
+use Rattle.hall_top.specs.declared.stop.Stop.TheVariants.{Finished, BadLine, ReadFault, WriteFault, DiskFault, DiskFaultUnsaid, NoMemory, Spent}
 use Rattle.hall_top.specs.Texts.{read_fault}
 use Rattle.hall_top.specs.Transcript.{BookState, lines_of}
 use Rattle.hall_top.specs.Streams.{Stream, Devices, IsCalm, HasFailed, Wrote, WroteAll}
@@ -35,8 +35,7 @@ whatever_follows (Some xs) (Some ys) taken Q read h = subst Q (sym read) (h ys)
 -- where a write stopped a run, the output failed
 cut_failed : (book : BookState) (before now : Stream) (rows : List Entry) (commands : List Command) (number : ℕ) (line : Line) → StopsAtLine book before now rows commands number line WriteFault → HasFailed before now
 cut_failed book before now rows commands number (Asks command) (inl stops) = stops.cut.failed
-cut_failed book before now rows commands number (Asks command) (inr (inl stops)) = stops.0.failed
-cut_failed book before now rows commands number (Asks command) (inr (inr stops)) = stops.0.failed
+cut_failed book before now rows commands number (Asks command) (inr stops) = stops.0.failed
 cut_failed book before now rows commands number Nothing stops = absurd stops
 cut_failed book before now rows commands number Bad stops = absurd stops
 
@@ -52,11 +51,16 @@ disk_calm book before now rows commands number (Asks command) stops = stops.0.ca
 disk_calm book before now rows commands number Nothing stops = absurd stops
 disk_calm book before now rows commands number Bad stops = absurd stops
 
+-- where the disk failed and that couldn't be said, the output failed too
+unsaid_failed : (book : BookState) (before now : Stream) (rows : List Entry) (commands : List Command) (number : ℕ) (line : Line) → StopsAtLine book before now rows commands number line DiskFaultUnsaid → HasFailed before now
+unsaid_failed book before now rows commands number (Asks command) stops = stops.0.failed
+unsaid_failed book before now rows commands number Nothing stops = absurd stops
+unsaid_failed book before now rows commands number Bad stops = absurd stops
+
 -- where a write stopped a run at its end, the output failed
 end_failed : (opened : ℕ) (before now : Stream) (rows : List Entry) → StopsAtSummary opened before now rows WriteFault → HasFailed before now
 end_failed opened before now rows (inl cut) = cut.failed
-end_failed opened before now rows (inr (grown, inl cut)) = cut.failed
-end_failed opened before now rows (inr (grown, inr cut)) = cut.failed
+end_failed opened before now rows (inr (grown, cut)) = cut.failed
 
 failed_behind : (a b c : Stream) → IsCalm a b → HasFailed b c → HasFailed a c
 failed_behind a b c calm failed = subst (λ (n : ℕ). Counted n c.faults 1) calm failed
@@ -87,6 +91,8 @@ explain book call NoMemory stops calm =
     record { stops = inl stops; calm = calm; output_calm = memory_calm book call.before.output call.now.output call.rows _ _ stops.stops.line stops.stops.stops }
 explain book call DiskFault stops calm =
     record { stops = inl stops; calm = calm; output_calm = disk_calm book call.before.output call.now.output call.rows _ _ stops.stops.line stops.stops.stops }
+explain book call DiskFaultUnsaid stops calm =
+    record { stops = inl stops; cause = unsaid_failed book call.before.output call.now.output call.rows _ _ stops.stops.line stops.stops.stops; calm = calm }
 explain book call Finished stops calm = absurd (never_finished book call.before.output call.now.output call.rows _ _ stops.stops.line stops.stops.stops)
   where
     never_finished : (book : BookState) (before now : Stream) (rows : List Entry) (commands : List Command) (number : ℕ) (line : Line) → StopsAtLine book before now rows commands number line Finished → ⊥
@@ -142,6 +148,13 @@ explained_at_end book call taken DiskFault (inr ends) read end calm =
       stops = inr (record { script = taken; read = reads_whole call.before.input call.now.input taken read end calm; ends = ends });
       calm = calm;
       output_calm = ends.stops.1.calm ∙ ends.wrote.calm;
+    }
+explained_at_end book call taken DiskFaultUnsaid (inl ends) read end calm = explain book call DiskFaultUnsaid (stops_at_end book call taken DiskFaultUnsaid ends read end) calm
+explained_at_end book call taken DiskFaultUnsaid (inr ends) read end calm =
+    record {
+      stops = inr (record { script = taken; read = reads_whole call.before.input call.now.input taken read end calm; ends = ends });
+      cause = failed_behind call.before.output ends.answered call.now.output ends.wrote.calm ends.stops.1.failed;
+      calm = calm;
     }
 explained_at_end book call taken NoMemory (inl ends) read end calm = explain book call NoMemory (stops_at_end book call taken NoMemory ends read end) calm
 explained_at_end book call taken NoMemory (inr ends) read end calm =
@@ -265,4 +278,5 @@ explained_unbegun book call Finished none same calm says = absurd says
 explained_unbegun book call BadLine none same calm says = absurd says
 explained_unbegun book call ReadFault none same calm says = absurd says
 explained_unbegun book call DiskFault none same calm says = absurd says
+explained_unbegun book call DiskFaultUnsaid none same calm says = absurd says
 explained_unbegun book call Spent none same calm says = absurd says

@@ -9,7 +9,7 @@ use Rattle.script_lines.specs.Feed.{FeedView}
 use Rattle.script_lines.specs.Script.{is_good, commands_of}
 use Rattle.batch_reports.specs.Texts.{summary_text}
 use Rattle.hall_top.specs.declared.stop.Stop.{Stop}
-use Rattle.hall_top.specs.declared.stop.Stop.TheVariants.{Finished, BadLine, ReadFault, WriteFault, DiskFault, NoMemory, Spent}
+use Rattle.hall_top.specs.declared.stop.Stop.TheVariants.{Finished, BadLine, ReadFault, WriteFault, DiskFault, DiskFaultUnsaid, NoMemory, Spent}
 use Rattle.hall_top.specs.Transcript.{BookState, answers, lines_of}
 use Rattle.hall_top.specs.Streams.{Stream, WroteAll}
 use Rattle.hall_top.specs.Run.{AreLeft, StopsAtLine, StopsInScript, HasTranscript, StopsAtSummary, EndsEarly}
@@ -77,6 +77,7 @@ pub done_but : (book left : BookState) (rows : List Entry) (before old now : Str
     → StopsAtSummary opened old now left.entries stop → EndsScript book before now rows script stop
 done_but book left rows before old now script opened WriteFault begun whole same stops = inr (ends_early book left rows before old now script opened WriteFault begun whole same stops)
 done_but book left rows before old now script opened DiskFault begun whole same stops = inr (ends_early book left rows before old now script opened DiskFault begun whole same stops)
+done_but book left rows before old now script opened DiskFaultUnsaid begun whole same stops = inr (ends_early book left rows before old now script opened DiskFaultUnsaid begun whole same stops)
 done_but book left rows before old now script opened NoMemory begun whole same stops = inr (ends_early book left rows before old now script opened NoMemory begun whole same stops)
 done_but book left rows before old now script opened Finished begun whole same stops = absurd stops.1
 done_but book left rows before old now script opened BadLine begun whole same stops = absurd stops.1
@@ -91,6 +92,7 @@ ends_stopped book before now rows stop script stops = ends_at stop stops.line st
     ends_at BadLine line here over = over
     ends_at WriteFault line here over = inl over
     ends_at DiskFault line here over = inl over
+    ends_at DiskFaultUnsaid line here over = inl over
     ends_at NoMemory line here over = inl over
     ends_at Finished Nothing here over = absurd here
     ends_at Finished Bad here over = absurd here

@@ -5,7 +5,7 @@ use Rattle.book_words.specs.Answers.{IsLegal}
 use Rattle.book_store.specs.declared.store.Store.{Store}
 use Rattle.book_store.specs.Stores.{disk_of, entries_of, held_of, IsSound}
 use Rattle.hall_top.specs.declared.stop.Stop.{Stop}
-use Rattle.hall_top.specs.declared.stop.Stop.TheVariants.{Finished, BadLine, ReadFault, WriteFault, DiskFault, NoMemory, Spent}
+use Rattle.hall_top.specs.declared.stop.Stop.TheVariants.{Finished, BadLine, ReadFault, WriteFault, DiskFault, DiskFaultUnsaid, NoMemory, Spent}
 use Rattle.script_lines.specs.declared.command.Command.{Command}
 use Rattle.script_lines.specs.declared.command.Line.TheVariants.{Bad}
 use Rattle.book_words.specs.declared.act.Entry.{Entry}
@@ -13,7 +13,7 @@ use Rattle.hall_top.specs.Transcript.{BookState}
 use Rattle.hall_top.specs.Streams.{Stream}
 use Rattle.hall_top.specs.Run.{StopsAtLine}
 use Rattle.hall_top.specs.Reached.{SaysNoMemory}
-use Rattle.hall_top.specs.Kept.{CountsStop, IsUnfailing, Goes}
+use Rattle.hall_top.specs.Kept.{CountsStep, SparesDisk, Goes}
 use Rattle.hall_top.specs.Snapshots.{LeavesSnapshot}
 use Rattle.hall_top.proofs.Acknowledged.{prefix_on}
 use Rattle.hall_top.proofs.Keeping.{begins_short}
@@ -30,7 +30,7 @@ goes_on g x result a b c first second =
       begins = prefix_on (entries_of a) (entries_of b) (entries_of c) first.begins second.begins;
       kept = λ held start has. second.kept held start (first.kept held start has);
       fault = λ start before. second.fault start (first.fault start before);
-      cause = subst (λ (n : ℕ). CountsStop n (g.faults (disk_of c)) result) first.cause second.cause;
+      cause = subst (λ (n : ℕ). CountsStep n (g.faults (disk_of c)) result) first.cause second.cause;
       calm = λ quiet hung. first.calm tt (second.calm quiet hung);
       still = λ quiet few small.
           second.still quiet (omega (arith, few, first.held, begins_short (entries_of a) (entries_of b) first.begins)) small
@@ -39,7 +39,7 @@ goes_on g x result a b c first second =
     }
 
 -- the store is as it was
-pub stays : {D T : Type 0} (g : disk.Ghosts D) (result : Result T Stop) (store : Store D) → IsSound g store → IsLegal (entries_of store) → CountsStop (g.faults (disk_of store)) (g.faults (disk_of store)) result
+pub stays : {D T : Type 0} (g : disk.Ghosts D) (result : Result T Stop) (store : Store D) → IsSound g store → IsLegal (entries_of store) → CountsStep (g.faults (disk_of store)) (g.faults (disk_of store)) result
     → (result ≡ Err Finished → LeavesSnapshot g store) → Goes g result store store
 stays g result store sound legal counts snapshot =
     record {
@@ -56,18 +56,9 @@ stays g result store sound legal counts snapshot =
       snapshot = snapshot;
     }
 
-counts_as : (T U : Type 0) (before now : ℕ) (stop : Stop) → CountsStop {T = T} before now (Err stop) → CountsStop {T = U} before now (Err stop)
-counts_as T U before now Finished counts = counts
-counts_as T U before now BadLine counts = counts
-counts_as T U before now ReadFault counts = counts
-counts_as T U before now WriteFault counts = counts
-counts_as T U before now DiskFault counts = counts
-counts_as T U before now NoMemory counts = counts
-counts_as T U before now Spent counts = counts
-
 -- the same step, by another answer that counts so
-pub goes_with : {D T U : Type 0} (g : disk.Ghosts D) (first : Result T Stop) (result : Result U Stop) (a b : Store D) → Goes g first a b → CountsStop (g.faults (disk_of a)) (g.faults (disk_of b)) result
-    → (IfErr result IsUnfailing → IfErr first IsUnfailing) → (result ≡ Err Finished → LeavesSnapshot g b) → Goes g result a b
+pub goes_with : {D T U : Type 0} (g : disk.Ghosts D) (first : Result T Stop) (result : Result U Stop) (a b : Store D) → Goes g first a b → CountsStep (g.faults (disk_of a)) (g.faults (disk_of b)) result
+    → (IfErr result SparesDisk → IfErr first SparesDisk) → (result ≡ Err Finished → LeavesSnapshot g b) → Goes g result a b
 goes_with g first result a b goes counts unfailing snapshot =
     record {
       sound = goes.sound;
@@ -86,31 +77,33 @@ goes_with g first result a b goes counts unfailing snapshot =
 -- how a run stops, whatever its steps answer
 pub goes_as : {D T U : Type 0} (g : disk.Ghosts D) (stop : Stop) (a b : Store D) → Goes {T = T} g (Err stop) a b → Goes {T = U} g (Err stop) a b
 goes_as {T = T} {U = U} g stop a b goes =
-    goes_with g (Err stop) (Err stop) a b goes (counts_as T U (g.faults (disk_of a)) (g.faults (disk_of b)) stop goes.cause) (λ quiet. quiet)
+    goes_with g (Err stop) (Err stop) a b goes goes.cause (λ quiet. quiet)
     (λ is. let same : stop ≡ Finished = cc (is) in goes.snapshot (ap (λ (s : Stop). Err s) same))
 
 -- the disk isn't touched where a run stops at a bad line
-pub bad_counts : (T : Type 0) (book : BookState) (before now : Stream) (rows : List Entry) (commands : List Command) (number count : ℕ) (stop : Stop) → StopsAtLine book before now rows commands number Bad stop → CountsStop {T = T} count count (Err stop)
+pub bad_counts : (T : Type 0) (book : BookState) (before now : Stream) (rows : List Entry) (commands : List Command) (number count : ℕ) (stop : Stop) → StopsAtLine book before now rows commands number Bad stop → CountsStep {T = T} count count (Err stop)
 bad_counts T book before now rows commands number count BadLine stops = refl
 bad_counts T book before now rows commands number count Finished stops = absurd stops
 bad_counts T book before now rows commands number count ReadFault stops = absurd stops
 bad_counts T book before now rows commands number count WriteFault stops = absurd stops
 bad_counts T book before now rows commands number count DiskFault stops = absurd stops
+bad_counts T book before now rows commands number count DiskFaultUnsaid stops = absurd stops
 bad_counts T book before now rows commands number count NoMemory stops = absurd stops
 bad_counts T book before now rows commands number count Spent stops = absurd stops
 
 -- nor where there is no memory to begin with
-pub unbegun_counts : (T : Type 0) (before now : Stream) (count : ℕ) (stop : Stop) → SaysNoMemory before now stop → CountsStop {T = T} count count (Err stop)
+pub unbegun_counts : (T : Type 0) (before now : Stream) (count : ℕ) (stop : Stop) → SaysNoMemory before now stop → CountsStep {T = T} count count (Err stop)
 unbegun_counts T before now count NoMemory says = refl
-unbegun_counts T before now count WriteFault says = inl refl
+unbegun_counts T before now count WriteFault says = refl
 unbegun_counts T before now count Finished says = absurd says
 unbegun_counts T before now count BadLine says = absurd says
 unbegun_counts T before now count ReadFault says = absurd says
 unbegun_counts T before now count DiskFault says = absurd says
+unbegun_counts T before now count DiskFaultUnsaid says = absurd says
 unbegun_counts T before now count Spent says = absurd says
 
 -- the store is as it was, said of a store that is the same
-pub stays_same : {D T : Type 0} (g : disk.Ghosts D) (result : Result T Stop) (a b : Store D) → b ≡ a → IsSound g a → IsLegal (entries_of a) → CountsStop (g.faults (disk_of a)) (g.faults (disk_of a)) result
+pub stays_same : {D T : Type 0} (g : disk.Ghosts D) (result : Result T Stop) (a b : Store D) → b ≡ a → IsSound g a → IsLegal (entries_of a) → CountsStep (g.faults (disk_of a)) (g.faults (disk_of a)) result
     → result ≢ Err Finished → Goes g result a b
 stays_same g result a b same sound legal counts unfinished =
     subst (λ (s : Store _). Goes g result a s) (sym same) (stays g result a sound legal counts (λ finished. absurd (unfinished finished)))
@@ -122,6 +115,7 @@ bad_unfinished book before now rows commands number BadLine stops is = absurd (c
 bad_unfinished book before now rows commands number ReadFault stops is = stops
 bad_unfinished book before now rows commands number WriteFault stops is = stops
 bad_unfinished book before now rows commands number DiskFault stops is = stops
+bad_unfinished book before now rows commands number DiskFaultUnsaid stops is = stops
 bad_unfinished book before now rows commands number NoMemory stops is = stops
 bad_unfinished book before now rows commands number Spent stops is = stops
 
@@ -131,5 +125,6 @@ unbegun_unfinished before now BadLine says is = says
 unbegun_unfinished before now ReadFault says is = says
 unbegun_unfinished before now WriteFault says is = absurd (cc)
 unbegun_unfinished before now DiskFault says is = says
+unbegun_unfinished before now DiskFaultUnsaid says is = says
 unbegun_unfinished before now NoMemory says is = absurd (cc)
 unbegun_unfinished before now Spent says is = says

@@ -24,8 +24,8 @@ use Rattle.book_store.specs.Stores.{disk_of, book_of, entries_of, limit_of, held
 use Rattle.book_store.specs.Offers.{Offers, OffersEntry, LeavesDisk, CountsDiskFault, list_behind}
 use Rattle.book_store.specs.Resting.{HasNothingToKeep, HoldsOwnSnapshot, CountsRestFault}
 use Rattle.hall_top.specs.declared.stop.Stop.{Stop}
-use Rattle.hall_top.specs.declared.stop.Stop.TheVariants.{Finished, BadLine, ReadFault, WriteFault, DiskFault, NoMemory, Spent}
-use Rattle.hall_top.specs.Kept.{HoldsOrOffered, CrashLeaves, HangsAtFault, HasKept, CountsStop, IsUnfailing, Goes}
+use Rattle.hall_top.specs.declared.stop.Stop.TheVariants.{Finished, BadLine, ReadFault, WriteFault, DiskFault, DiskFaultUnsaid, NoMemory, Spent}
+use Rattle.hall_top.specs.Kept.{HoldsOrOffered, CrashLeaves, HangsAtFault, HasKept, CountsStop, CountsStep, SparesDisk, Goes}
 use Rattle.hall_top.specs.Snapshots.{HasAddedRows, LeavesSnapshot}
 use Rattle.hall_top.specs.Streams.{Stream}
 use Rattle.hall_top.specs.Reached.{SaysDiskFault, SaysNoMemory}
@@ -247,7 +247,7 @@ module _ {D : Type 0} (g : disk.Ghosts D) where
   pub goes_asked : {T : Type 0} (old new : Store D) (result : Result Answered AskError) (given : Result T Stop) (offered : Option Entry) → entries_of new ≡ list_behind result (entries_of old) offered
       → Offers g offered old new → (IsSome offered → OnOk result (¬ Hangs new)) → ImagesHoldBook g new → (Hangs new → (result ≡ Err error.DiskFault) ⊎ Hangs old)
       → CountsDiskFault (g.faults (disk_of old)) (g.faults (disk_of new)) result → IsSound g new → IsLegal (entries_of new) → limit_of new ≡ limit_of old → held_of new ≡ held_of old
-      → CountsStop (g.faults (disk_of old)) (g.faults (disk_of new)) given → (result ≡ Err error.NoMemory → disk_of new ≡ disk_of old) → (IfErr given IsUnfailing → IsSettled result offered) → given ≢ Err Finished → Goes g given old new
+      → CountsStep (g.faults (disk_of old)) (g.faults (disk_of new)) given → (result ≡ Err error.NoMemory → disk_of new ≡ disk_of old) → (IfErr given SparesDisk → IsSettled result offered) → given ≢ Err Finished → Goes g given old new
   goes_asked old new result given offered is offers settled images hangs counts sound legal limit opened cause lacks unfailing unfinished =
       record {
         sound = sound;
@@ -267,7 +267,7 @@ module _ {D : Type 0} (g : disk.Ghosts D) where
   pub goes_rested : {T : Type 0} (old new : Store D) (result : Result Bool RestError) (given : Result T Stop) → book_of new ≡ book_of old → held_of new ≡ held_of old → HasAddedRows old
       → (HasBook g old → KeepsBook g old new) → ImagesHoldBook g new → (Hangs new → Hangs old)
       → CountsRestFault (g.faults (disk_of old)) (g.faults (disk_of new)) result → IsSound g new → IsLegal (entries_of old)
-      → CountsStop (g.faults (disk_of old)) (g.faults (disk_of new)) given → given ≢ Err Finished → Goes g given old new
+      → CountsStep (g.faults (disk_of old)) (g.faults (disk_of new)) given → given ≢ Err Finished → Goes g given old new
   goes_rested old new result given same opened grown keeps images hangs counts sound legal cause unfinished =
       let entries : entries_of new ≡ entries_of old = ap (λ (b : BookView). b.entries) same in
       record {
@@ -319,8 +319,8 @@ module _ {D : Type 0} (g : disk.Ghosts D) where
   pub goes_adopted : {T : Type 0} (old new : Store D) (entry : Entry) (result : Result ℕ AdoptError) (given : Result T Stop) → entries_of new ≡ list_adopted result (entries_of old) entry → Adopts (book_of old) entry result
       → (IsLawful (entries_of old) entry → HasBook g old → OffersEntry g entry old new) → (result ≡ Err adopt.Unlawful → LeavesDisk g old new) → OnOk result (¬ Hangs new) → ImagesHoldBook g new
       → (Hangs new → (result ≡ Err adopt.DiskFault) ⊎ Hangs old) → CountsAdoptFault (g.faults (disk_of old)) (g.faults (disk_of new)) result
-      → IsSound g new → IsLegal (entries_of new) → limit_of new ≡ limit_of old → held_of new ≡ held_of old → CountsStop (g.faults (disk_of old)) (g.faults (disk_of new)) given
-      → (result ≡ Err adopt.NoMemory → disk_of new ≡ disk_of old) → (IfErr given IsUnfailing → IsAdopted result) → given ≢ Err Finished → Goes g given old new
+      → IsSound g new → IsLegal (entries_of new) → limit_of new ≡ limit_of old → held_of new ≡ held_of old → CountsStep (g.faults (disk_of old)) (g.faults (disk_of new)) given
+      → (result ≡ Err adopt.NoMemory → disk_of new ≡ disk_of old) → (IfErr given SparesDisk → IsAdopted result) → given ≢ Err Finished → Goes g given old new
   goes_adopted old new entry result given is adopts offers leaves settled images hangs counts sound legal limit opened cause lacks unfailing unfinished =
       record {
         sound = sound;
@@ -337,9 +337,9 @@ module _ {D : Type 0} (g : disk.Ghosts D) where
       }
 
   -- a step whose last text was cut, or that failed
-  with_cause : {T : Type 0} (result : Result T Stop) (stop : Stop) (old new : Store D) → Goes g result old new → CountsStop {T = T} (g.faults (disk_of old)) (g.faults (disk_of new)) (Err stop) → ¬ IsUnfailing stop → stop ≢ Finished
+  with_cause : {T : Type 0} (result : Result T Stop) (stop : Stop) (old new : Store D) → Goes g result old new → CountsStop (g.faults (disk_of old)) (g.faults (disk_of new)) stop → (SparesDisk stop → IfErr result SparesDisk) → stop ≢ Finished
       → Goes {T = T} g (Err stop) old new
-  with_cause result stop old new goes cause failing unfinished =
+  with_cause result stop old new goes cause spares unfinished =
       record {
         sound = goes.sound;
         legal = goes.legal;
@@ -349,18 +349,19 @@ module _ {D : Type 0} (g : disk.Ghosts D) where
         kept = goes.kept;
         fault = goes.fault;
         cause = cause;
-        calm = λ quiet. absurd (failing quiet);
-        still = λ quiet few small. absurd (failing quiet);
+        calm = λ quiet hung. goes.calm (spares quiet) hung;
+        still = λ quiet few small. goes.still (spares quiet) few small;
         snapshot = λ finished. absurd (unfinished (let same : stop ≡ Finished = cc (finished) in same));
       }
 
   pub goes_cut : {T : Type 0} (done : T) (old new : Store D) → Goes g (Ok done) old new → Goes {T = T} g (Err WriteFault) old new
-  goes_cut done old new goes = with_cause (Ok done) WriteFault old new goes (inl goes.cause) (λ fails. fails) (λ is. absurd (cc))
+  goes_cut done old new goes = with_cause (Ok done) WriteFault old new goes goes.cause (λ quiet. tt) (λ is. absurd (cc))
 
   -- a step that says that the disk failed, or that there is no memory
   pub goes_at_fault : {T : Type 0} (before now : Stream) (stop : Stop) (old new : Store D) → Goes {T = T} g (Err DiskFault) old new → SaysDiskFault before now stop → Goes {T = T} g (Err stop) old new
   goes_at_fault before now DiskFault old new goes says = goes
-  goes_at_fault before now WriteFault old new goes says = with_cause (Err DiskFault) WriteFault old new goes (inr goes.cause) (λ fails. fails) (λ is. absurd (cc))
+  goes_at_fault before now DiskFaultUnsaid old new goes says = with_cause (Err DiskFault) DiskFaultUnsaid old new goes goes.cause (λ quiet. quiet) (λ is. absurd (cc))
+  goes_at_fault before now WriteFault old new goes says = absurd says
   goes_at_fault before now Finished old new goes says = absurd says
   goes_at_fault before now BadLine old new goes says = absurd says
   goes_at_fault before now ReadFault old new goes says = absurd says
@@ -369,11 +370,12 @@ module _ {D : Type 0} (g : disk.Ghosts D) where
 
   pub goes_without_memory : {T : Type 0} (before now : Stream) (stop : Stop) (old new : Store D) → Goes {T = T} g (Err NoMemory) old new → SaysNoMemory before now stop → Goes {T = T} g (Err stop) old new
   goes_without_memory before now NoMemory old new goes says = goes
-  goes_without_memory before now WriteFault old new goes says = with_cause (Err NoMemory) WriteFault old new goes (inl goes.cause) (λ fails. fails) (λ is. absurd (cc))
+  goes_without_memory before now WriteFault old new goes says = with_cause (Err NoMemory) WriteFault old new goes goes.cause (λ quiet. tt) (λ is. absurd (cc))
   goes_without_memory before now Finished old new goes says = absurd says
   goes_without_memory before now BadLine old new goes says = absurd says
   goes_without_memory before now ReadFault old new goes says = absurd says
   goes_without_memory before now DiskFault old new goes says = absurd says
+  goes_without_memory before now DiskFaultUnsaid old new goes says = absurd says
   goes_without_memory before now Spent old new goes says = absurd says
 
 -- what keeping a snapshot leaves, by what it answered

@@ -12,7 +12,7 @@ use Rattle.old_journal.proofs.Standing.{none_counted}
 use Rattle.hall_top.specs.declared.reads.TheConstants.{PIECE}
 use Rattle.hall_top.specs.declared.migrate.TheConstants.{MAX_OLD_READS}
 use Rattle.hall_top.specs.declared.stop.Stop.{Stop}
-use Rattle.hall_top.specs.declared.stop.Stop.TheVariants.{Finished, BadLine, ReadFault, WriteFault, DiskFault, NoMemory, Spent}
+use Rattle.hall_top.specs.declared.stop.Stop.TheVariants.{Finished, BadLine, ReadFault, WriteFault, DiskFault, DiskFaultUnsaid, NoMemory, Spent}
 use Rattle.hall_top.specs.Texts.{bad_line, read_fault, whole}
 use Rattle.hall_top.specs.Transcript.{BookState}
 use Rattle.hall_top.specs.Streams.{Stream, Devices, IsCalm, HasFailed, WroteAll, IsCutIn, Wrote}
@@ -54,6 +54,7 @@ ends_whole held taken state rows old mid now WriteFault stands header same quiet
 ends_whole held taken state rows old mid now BadLine stands header same quiet says = absurd says
 ends_whole held taken state rows old mid now ReadFault stands header same quiet says = absurd says
 ends_whole held taken state rows old mid now DiskFault stands header same quiet says = absurd says
+ends_whole held taken state rows old mid now DiskFaultUnsaid stands header same quiet says = absurd says
 ends_whole held taken state rows old mid now NoMemory stands header same quiet says = absurd says
 ends_whole held taken state rows old mid now Spent stands header same quiet says = absurd says
 
@@ -68,6 +69,8 @@ ends_failed held taken state rows opened old now WriteFault stands header same i
     (migrated held taken state rows stands header same, inr (fails_so held opened old now state.rows rows WriteFault is same fails))
 ends_failed held taken state rows opened old now DiskFault stands header same is fails =
     (migrated held taken state rows stands header same, fails_so held opened old now state.rows rows DiskFault is same fails)
+ends_failed held taken state rows opened old now DiskFaultUnsaid stands header same is fails =
+    (migrated held taken state rows stands header same, fails_so held opened old now state.rows rows DiskFaultUnsaid is same fails)
 ends_failed held taken state rows opened old now NoMemory stands header same is fails =
     (migrated held taken state rows stands header same, fails_so held opened old now state.rows rows NoMemory is same fails)
 ends_failed held taken state rows opened old now Finished stands header same is fails = absurd fails.1
@@ -81,6 +84,7 @@ explains_in : {S : Type 0} (book : BookState) (call : Call S) (stop : Stop) → 
 explains_in book call BadLine stops = inl stops
 explains_in book call WriteFault stops = inl stops
 explains_in book call DiskFault stops = inl stops
+explains_in book call DiskFaultUnsaid stops = inl stops
 explains_in book call NoMemory stops = inl stops
 explains_in book call Finished stops = absurd stops.stops.1
 explains_in book call ReadFault stops = absurd stops.stops.1
@@ -91,6 +95,7 @@ explains_behind book call Finished stops = stops
 explains_behind book call BadLine stops = inr stops
 explains_behind book call WriteFault stops = inr (inl stops)
 explains_behind book call DiskFault stops = inr (inl stops)
+explains_behind book call DiskFaultUnsaid stops = inr (inl stops)
 explains_behind book call NoMemory stops = inr (inl stops)
 explains_behind book call ReadFault stops = absurd stops.ends.1.1
 explains_behind book call Spent stops = absurd stops.ends.1.1
@@ -211,4 +216,5 @@ migration_unbegun book call Finished rows same says = absurd says
 migration_unbegun book call BadLine rows same says = absurd says
 migration_unbegun book call ReadFault rows same says = absurd says
 migration_unbegun book call DiskFault rows same says = absurd says
+migration_unbegun book call DiskFaultUnsaid rows same says = absurd says
 migration_unbegun book call Spent rows same says = absurd says

@@ -18,27 +18,18 @@ use Rattle.book_store.specs.Stores.{disk_of, entries_of, limit_of, held_of, Hang
 use Rattle.book_store.specs.Resting.{HoldsSnapshotOf}
 use Rattle.hall_top.specs.declared.ended.Ended.{Ended}
 use Rattle.hall_top.specs.declared.stop.Stop.{Stop}
-use Rattle.hall_top.specs.declared.stop.Stop.TheVariants.{Finished, BadLine, ReadFault, WriteFault, DiskFault, NoMemory, Spent}
+use Rattle.hall_top.specs.declared.stop.Stop.TheVariants.{Finished, BadLine, ReadFault, WriteFault, DiskFault, DiskFaultUnsaid, NoMemory, Spent}
 use Rattle.hall_top.specs.Transcript.{BookState}
 use Rattle.hall_top.specs.Run.{Call}
-use Rattle.hall_top.specs.Kept.{CrashLeaves, HangsAtFault, HasKept, HoldsOrOffered, CountsStop, IsUnfailing}
+use Rattle.hall_top.specs.Kept.{CrashLeaves, HangsAtFault, HasKept, HoldsOrOffered, CountsStop, SparesDisk}
 use Rattle.hall_top.specs.Snapshots.{HasAddedRows}
 use Rattle.hall_top.proofs.Keeping.{keeps_in}
-use Rattle.hall_top.specs.Calls.{KeepsRows, CountsEnd, IsOpened, IsUnopened, CommandEnded, SaysWhy}
+use Rattle.hall_top.specs.Calls.{KeepsRows, IsOpened, IsUnopened, CommandEnded, SaysWhy}
 
 -- the front of a list that begins with another
 front_of : (first more : List Entry) → take (length first) (first ++ more) ≡ first
 front_of [] more = refl
 front_of (entry ∷ first) more = ap (λ (es : List Entry). entry ∷ es) (front_of first more)
-
-counts_end : (before now : ℕ) (stop : Stop) → CountsStop {T = ⊤} before now (Err stop) → CountsEnd before now stop
-counts_end before now DiskFault counts = counts
-counts_end before now WriteFault counts = counts
-counts_end before now Finished counts = counts
-counts_end before now BadLine counts = counts
-counts_end before now ReadFault counts = counts
-counts_end before now NoMemory counts = counts
-counts_end before now Spent counts = counts
 
 -- a store that was mounted on a disk that held these entries has kept them
 module _ {D : Type 0} (g : disk.Ghosts D) (counts_now : (d : D) (t : ℕ) (c : List ℕ) → t ≤ g.time d → g.image d c → g.since d t c) (held : List Entry) (start : D) (store : Store D) (calm : ¬ Hangs store)
@@ -103,16 +94,16 @@ is_opened g counts_now limit Explains status_of before store ended call limit_is
       stop = done.stop;
       status = done.status;
       explained = subst (λ (b : BookState). Explains b call done.stop) (λ i. record { limit = limit_is i; entries = (sym front) i }) done.explained;
-      cause = subst (λ (d : _). CountsEnd (g.faults before) (g.faults d) done.stop) (sym done.disk_left)
-          (subst (λ (n : ℕ). CountsEnd n (g.faults (disk_of done.last)) done.stop) faults
-          (counts_end (g.faults (disk_of store)) (g.faults (disk_of done.last)) done.stop done.goes.cause));
+      cause = subst (λ (d : _). CountsStop (g.faults before) (g.faults d) done.stop) (sym done.disk_left)
+          (subst (λ (n : ℕ). CountsStop n (g.faults (disk_of done.last)) done.stop) faults
+          done.goes.cause);
       kept = λ bytes told rows holds legal.
           let has = held bytes told rows holds legal in
           let kept = done.goes.kept rows before (kept_so_far g counts_now rows before store calm has) in
           keeps_rows g rows before store done.last ended has kept (done.goes.fault before (inl (calm, faults))) done.disk_left done.rows front;
       snapshot = λ finished grown.
           let new : HasAddedRows done.last = omega (arith, grown, ap length done.rows, done.goes.held, count, done.held) in
-          let none : ¬ Hangs done.last = λ hung. calm (done.goes.calm (subst IsUnfailing (sym finished) tt) hung) in
+          let none : ¬ Hangs done.last = λ hung. calm (done.goes.calm (subst SparesDisk (sym finished) tt) hung) in
           let holds = done.goes.snapshot (ap (λ (s : Stop). Err s) finished) new none in
           subst (λ (d : _). HoldsSnapshotOf g ended.rows d) (sym done.disk_left)
           (subst (λ (es : List Entry). HoldsSnapshotOf g es (disk_of done.last)) (sym done.rows) holds);

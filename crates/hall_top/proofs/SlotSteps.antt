@@ -14,7 +14,7 @@ use Rattle.old_journal.proofs.Headers.{header_by, by_header, header_on}
 use Rattle.old_journal.proofs.OpenSlots.{rows_stay}
 use Rattle.old_journal.proofs.Standing.{none_counted}
 use Rattle.hall_top.specs.declared.stop.Stop.{Stop}
-use Rattle.hall_top.specs.declared.stop.Stop.TheVariants.{Finished, BadLine, ReadFault, WriteFault, DiskFault, NoMemory, Spent}
+use Rattle.hall_top.specs.declared.stop.Stop.TheVariants.{Finished, BadLine, ReadFault, WriteFault, DiskFault, DiskFaultUnsaid, NoMemory, Spent}
 use Rattle.hall_top.specs.Streams.{Stream}
 use Rattle.hall_top.specs.Run.{SaysFailed}
 use Rattle.hall_top.specs.Migration.{MigrationState, Carried, HasNewRow, CarriesOn, CarriesPiece, StopsAtPiece, StopsAtEntry, StopsAtSlot, StopsCarrying}
@@ -102,6 +102,7 @@ module _ (held : List Entry) (taken more : List ℕ) (before : MigrationState) (
         wrote,
       )
   at_row number entry DiskFault count (row, next, spells) (none, lawful, says) = (at_new number entry row count next spells none lawful, says)
+  at_row number entry DiskFaultUnsaid count (row, next, spells) (none, lawful, says) = (at_new number entry row count next spells none lawful, says)
   at_row number entry NoMemory count (row, next, spells) (none, lawful, says) = (at_new number entry row count next spells none lawful, says)
   at_row number entry WriteFault count (row, next, spells) (none, lawful, says) = (at_new number entry row count next spells none lawful, says)
   at_row number entry Finished count says never = absurd never.2
@@ -134,6 +135,7 @@ module _ (held : List Entry) (taken more : List ℕ) (before : MigrationState) (
 -- an entry that was to be added, and that failed
 pub stops_new : (before now : Stream) (rows : List Entry) (number : ℕ) (entry : Entry) (stop : Stop) → entry_numbered rows number ≡ None → IsLawful rows entry → SaysFailed before now stop → StopsAtEntry before now rows number entry stop
 stops_new before now rows number entry DiskFault none lawful says = (none, lawful, says)
+stops_new before now rows number entry DiskFaultUnsaid none lawful says = (none, lawful, says)
 stops_new before now rows number entry NoMemory none lawful says = (none, lawful, says)
 stops_new before now rows number entry WriteFault none lawful says = (none, lawful, says)
 stops_new before now rows number entry Finished none lawful says = absurd says

@@ -6,7 +6,7 @@ use Rattle.script_lines.specs.declared.command.Command.{Command}
 use Rattle.script_lines.specs.declared.command.Line.TheVariants.{Asks}
 use Rattle.batch_reports.specs.Texts.{outcome_text, summary_text}
 use Rattle.hall_top.specs.declared.stop.Stop.{Stop}
-use Rattle.hall_top.specs.declared.stop.Stop.TheVariants.{Finished, BadLine, ReadFault, WriteFault, DiskFault, NoMemory, Spent}
+use Rattle.hall_top.specs.declared.stop.Stop.TheVariants.{Finished, BadLine, ReadFault, WriteFault, DiskFault, DiskFaultUnsaid, NoMemory, Spent}
 use Rattle.hall_top.specs.Transcript.{BookState, exchange_at, after_command}
 use Rattle.hall_top.specs.Streams.{Stream, IsCutIn}
 use Rattle.hall_top.specs.Run.{MayFindNoMemory, StopsAtLine, SaysFailed, FailsToKeep, StopsAtSummary}
@@ -25,8 +25,9 @@ pub stops_at_fault : (book left : BookState) (before now : Stream) (number : ℕ
     → SaysDiskFault before now stop → StopsAtLine book before now left.entries [] number (Asks command) stop
 stops_at_fault book left before now number command DiskFault same offers says =
     (says, record { offers = offers; rows_left = are_left book [] left.entries (ap (λ (b : BookState). b.entries) same) })
-stops_at_fault book left before now number command WriteFault same offers says =
-    inr (inr (says, record { offers = offers; rows_left = are_left book [] left.entries (ap (λ (b : BookState). b.entries) same) }))
+stops_at_fault book left before now number command DiskFaultUnsaid same offers says =
+    (says, record { offers = offers; rows_left = are_left book [] left.entries (ap (λ (b : BookState). b.entries) same) })
+stops_at_fault book left before now number command WriteFault same offers says = absurd says
 stops_at_fault book left before now number command Finished same offers says = absurd says
 stops_at_fault book left before now number command BadLine same offers says = absurd says
 stops_at_fault book left before now number command ReadFault same offers says = absurd says
@@ -39,17 +40,19 @@ pub stops_at_want : (book left : BookState) (before now : Stream) (number : ℕ)
 stops_at_want book left before now number command NoMemory same may says =
     (says, record { may = may; rows_left = are_left book [] left.entries (ap (λ (b : BookState). b.entries) same) })
 stops_at_want book left before now number command WriteFault same may says =
-    inr (inl (says, record { may = may; rows_left = are_left book [] left.entries (ap (λ (b : BookState). b.entries) same) }))
+    inr (says, record { may = may; rows_left = are_left book [] left.entries (ap (λ (b : BookState). b.entries) same) })
 stops_at_want book left before now number command Finished same may says = absurd says
 stops_at_want book left before now number command BadLine same may says = absurd says
 stops_at_want book left before now number command ReadFault same may says = absurd says
 stops_at_want book left before now number command DiskFault same may says = absurd says
+stops_at_want book left before now number command DiskFaultUnsaid same may says = absurd says
 stops_at_want book left before now number command Spent same may says = absurd says
 
 -- a line that says that the disk failed, or that there is no memory, says one of both
 pub says_fault : (before now : Stream) (stop : Stop) → SaysDiskFault before now stop → SaysFailed before now stop
 says_fault before now DiskFault says = says
-says_fault before now WriteFault says = inl says
+says_fault before now DiskFaultUnsaid says = says
+says_fault before now WriteFault says = absurd says
 says_fault before now Finished says = absurd says
 says_fault before now BadLine says = absurd says
 says_fault before now ReadFault says = absurd says
@@ -58,16 +61,18 @@ says_fault before now Spent says = absurd says
 
 pub says_want : (before now : Stream) (stop : Stop) → SaysNoMemory before now stop → SaysFailed before now stop
 says_want before now NoMemory says = says
-says_want before now WriteFault says = inr says
+says_want before now WriteFault says = says
 says_want before now Finished says = absurd says
 says_want before now BadLine says = absurd says
 says_want before now ReadFault says = absurd says
 says_want before now DiskFault says = absurd says
+says_want before now DiskFaultUnsaid says = absurd says
 says_want before now Spent says = absurd says
 
 -- a run ends where no snapshot was kept
 pub ends_unkept : (opened : ℕ) (before now : Stream) (rows : List Entry) (stop : Stop) → FailsToKeep opened before now rows stop → StopsAtSummary opened before now rows stop
 ends_unkept opened before now rows DiskFault fails = fails
+ends_unkept opened before now rows DiskFaultUnsaid fails = fails
 ends_unkept opened before now rows NoMemory fails = fails
 ends_unkept opened before now rows WriteFault fails = inr fails
 ends_unkept opened before now rows Finished fails = fails

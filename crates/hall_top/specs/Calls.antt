@@ -1,6 +1,6 @@
 -- What a whole call of the program does: its words, its disk, its command.
 use Rattle.std.specs.Prelude.{◌≡◌, ◌⊎◌, ℕ, ◌≤◌, List, [], length, take, Some}
-use Rattle.device_facts.specs.Count.{Counted, Rose}
+use Rattle.device_facts.specs.Count.{Rose}
 use Rattle.disk_core.specs.Disk.{WhereTold}
 use Rattle.disk_core.specs.Devices.{IsUnmoved}
 use Rattle.disk_core.specs.declared.disk.Disk as disk
@@ -18,12 +18,12 @@ use Rattle.book_store.specs.Mounting.{IsCauseOf, IsPassing}
 use Rattle.book_store.specs.Resting.{HoldsSnapshotOf}
 use Rattle.hall_top.specs.declared.ended.Ended.{Ended}
 use Rattle.hall_top.specs.declared.stop.Stop.{Stop}
-use Rattle.hall_top.specs.declared.stop.Stop.TheVariants.{Finished, WriteFault, DiskFault}
+use Rattle.hall_top.specs.declared.stop.Stop.TheVariants.{Finished, WriteFault}
 use Rattle.hall_top.specs.Texts.{usage, disk_fault, no_memory, not_journal, damaged_row, whole}
 use Rattle.hall_top.specs.Transcript.{BookState}
 use Rattle.hall_top.specs.Streams.{Stream, WroteAll, IsCutIn, Wrote}
 use Rattle.hall_top.specs.Run.{Call, Explains, HasGrown, IsComplete, status_of}
-use Rattle.hall_top.specs.Kept.{CrashLeaves, HoldsOrOffered, IsUnfailing, RunGoes}
+use Rattle.hall_top.specs.Kept.{CrashLeaves, HoldsOrOffered, CountsStop, SparesDisk, RunGoes}
 use Rattle.hall_top.specs.Books.{stored_book}
 use Rattle.hall_top.specs.Migration.{ExplainsMigration}
 use Rattle.command_line.specs.Words.{Wanted}
@@ -78,17 +78,10 @@ pub record KeepsRows {D : Type 0} (disk : disk.Ghosts D) (held : List Entry) (be
       → HoldsBook ended.rows c
       ⊎ (Rose (disk.faults before) (disk.faults ended.disk) × HoldsOrOffered ended.rows c)
 
--- the disk's count behind a whole call: it stays, but one more is counted where the disk failed,
--- which perhaps couldn't be written
-abbrev pub CountsEnd : ℕ → ℕ → Stop → Type 0
-CountsEnd before now DiskFault = Counted before now 1
-CountsEnd before now WriteFault = (now ≡ before) ⊎ Counted before now 1
-CountsEnd before now _ = now ≡ before
-
 -- The disk was opened as a book, and the command ended in one of its ways, which has its status.
 -- What `Explains` says of that way is the command's own meaning over the book as it was opened. A
--- command that is done and added rows leaves a snapshot of all rows; one that added none, where
--- neither output nor disk failed, leaves every byte of a disk with a snapshot.
+-- command that is done and added rows leaves a snapshot of all rows; one that added none, where the
+-- disk didn't fail, leaves every byte of a disk with a snapshot.
 pub record IsOpened {S D : Type 0} (disk : disk.Ghosts D) (limit : ℕ)
     (Explains : BookState → Call S → Stop → Type 0) (status_of : Stop → ℕ) (before : D)
     (ended : Ended D) (call : Call S) : Type 0 where
@@ -99,12 +92,12 @@ pub record IsOpened {S D : Type 0} (disk : disk.Ghosts D) (limit : ℕ)
   pub status : ended.status ≡ status_of stop
   pub explained :
       Explains (record { limit = limit; entries = take ended.held ended.rows }) call stop
-  pub cause : CountsEnd (disk.faults before) (disk.faults ended.disk) stop
+  pub cause : CountsStop (disk.faults before) (disk.faults ended.disk) stop
   pub kept : WhereTold (disk.reads before) (λ bytes.
       (held : List Entry) → HoldsBook held bytes → IsLegal held → KeepsRows disk held before ended)
   pub snapshot : stop ≡ Finished → HasGrown ended.held ended.rows
       → HoldsSnapshotOf disk ended.rows ended.disk
-  pub unwritten : IsUnfailing stop → ¬ HasGrown ended.held ended.rows
+  pub unwritten : SparesDisk stop → ¬ HasGrown ended.held ended.rows
       → WhereTold (disk.reads before) (λ bytes. (rows size : ℕ) → FitsSnapshot rows size bytes
       → disk.reads ended.disk ≡ Some bytes)
 

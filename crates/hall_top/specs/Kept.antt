@@ -1,5 +1,5 @@
 -- What a run makes of the store that it asks, and what a crash leaves of its disk.
-use Rattle.std.specs.Prelude.{◌≡◌, ◌⊎◌, ⊤, ℕ, ◌≤◌, List, [], ◌∷◌, ◌++◌, length, take, Result, Err, IfErr}
+use Rattle.std.specs.Prelude.{◌≡◌, ◌⊎◌, ⊤, ℕ, ◌≤◌, List, [], ◌∷◌, ◌++◌, length, take, Result, Ok, Err, IfErr}
 use Rattle.device_facts.specs.Count.{Counted, Rose}
 use Rattle.device_facts.specs.Prefix.{IsPrefixOf}
 use Rattle.disk_core.specs.declared.disk.Disk as disk
@@ -10,7 +10,7 @@ use Rattle.book_store.specs.declared.store.Store.{Store}
 use Rattle.book_store.specs.Images.{HoldsBook}
 use Rattle.book_store.specs.Stores.{disk_of, entries_of, limit_of, held_of, Hangs, HasBook, HangsWith, HoldsOrHangs, IsSound}
 use Rattle.hall_top.specs.declared.stop.Stop.{Stop}
-use Rattle.hall_top.specs.declared.stop.Stop.TheVariants.{Finished, WriteFault, DiskFault}
+use Rattle.hall_top.specs.declared.stop.Stop.TheVariants.{Finished, DiskFault, DiskFaultUnsaid}
 use Rattle.hall_top.specs.Snapshots.{HasAddedRows, LeavesSnapshot}
 
 -- an image holds these entries, or these and one more that was offered and is lawful behind them
@@ -43,23 +43,27 @@ pub record HasKept {D : Type 0} (disk : disk.Ghosts D) (held : List Entry) (star
   pub moments : KeepsFromSync disk start (disk_of store) (CrashLeaves held (entries_of store))
   pub images : (c : List ℕ) → disk.image (disk_of store) c → HoldsOrHangs disk store c
 
--- the disk's count behind a step of a run: it stays, but one more is counted where the disk failed,
--- which perhaps couldn't be written
-abbrev pub CountsStop : {T : Type 0} → ℕ → ℕ → Result T Stop → Type 0
-CountsStop before now (Err DiskFault) = Counted before now 1
-CountsStop before now (Err WriteFault) = (now ≡ before) ⊎ Counted before now 1
+-- the disk's count where a run stopped so: it stays, but one more is counted where the disk failed
+abbrev pub CountsStop : ℕ → ℕ → Stop → Type 0
+CountsStop before now DiskFault = Counted before now 1
+CountsStop before now DiskFaultUnsaid = Counted before now 1
 CountsStop before now _ = now ≡ before
 
--- neither the output nor the disk failed
-abbrev pub IsUnfailing : Stop → Type 0
-IsUnfailing WriteFault = ⊥
-IsUnfailing DiskFault = ⊥
-IsUnfailing _ = ⊤
+-- the same behind a step of a run
+abbrev pub CountsStep : {T : Type 0} → ℕ → ℕ → Result T Stop → Type 0
+CountsStep before now (Ok done) = now ≡ before
+CountsStep before now (Err stop) = CountsStop before now stop
+
+-- the disk didn't fail
+abbrev pub SparesDisk : Stop → Type 0
+SparesDisk DiskFault = ⊥
+SparesDisk DiskFaultUnsaid = ⊥
+SparesDisk _ = ⊤
 
 -- What a step of a run makes of the store: its book goes on, a crash leaves what it may, and the
--- disk failed only where that is answered. Where neither output nor disk failed, nothing hangs that
--- didn't before, and a store without new rows has an untouched disk; and a run that is finished and
--- added rows leaves a snapshot of all of them.
+-- disk failed only where that is answered. Where it didn't fail, nothing hangs that didn't before,
+-- and a store without new rows has an untouched disk; and a run that is finished and added rows
+-- leaves a snapshot of all of them.
 pub record Goes {D T : Type 0} (disk : disk.Ghosts D) (result : Result T Stop)
     (old new : Store D) : Type 0 where
   pub sound : IsSound disk new
@@ -70,9 +74,9 @@ pub record Goes {D T : Type 0} (disk : disk.Ghosts D) (result : Result T Stop)
   pub kept : (held : List Entry) (start : D) → HasKept disk held start old
       → HasKept disk held start new
   pub fault : (start : D) → HangsAtFault disk start old → HangsAtFault disk start new
-  pub cause : CountsStop (disk.faults (disk_of old)) (disk.faults (disk_of new)) result
-  pub calm : IfErr result IsUnfailing → Hangs new → Hangs old
-  pub still : IfErr result IsUnfailing → held_of old ≤ length (entries_of old) → ¬ HasAddedRows new
+  pub cause : CountsStep (disk.faults (disk_of old)) (disk.faults (disk_of new)) result
+  pub calm : IfErr result SparesDisk → Hangs new → Hangs old
+  pub still : IfErr result SparesDisk → held_of old ≤ length (entries_of old) → ¬ HasAddedRows new
       → disk_of new ≡ disk_of old
   pub snapshot : result ≡ Err Finished → LeavesSnapshot disk new
 

@@ -9,7 +9,7 @@ use Rattle.script_lines.specs.Feed.{FeedView, feed_after}
 use Rattle.script_lines.specs.Script.{all_good, commands_of}
 use Rattle.hall_top.specs.declared.reads.TheConstants.{PIECE}
 use Rattle.hall_top.specs.declared.stop.Stop.{Stop}
-use Rattle.hall_top.specs.declared.stop.Stop.TheVariants.{Finished, BadLine, WriteFault, DiskFault, NoMemory}
+use Rattle.hall_top.specs.declared.stop.Stop.TheVariants.{Finished, BadLine, WriteFault, DiskFault, DiskFaultUnsaid, NoMemory}
 use Rattle.hall_top.specs.Texts.{disk_fault, no_memory}
 use Rattle.hall_top.specs.Transcript.{BookState, after_commands, answers, ended_lines_of, lines_of}
 use Rattle.hall_top.specs.Streams.{Stream, Devices, IsCalm, WroteAll, IsCutIn}
@@ -25,7 +25,7 @@ pub record RunState : Type 0 where
 -- the line went out that says that the disk failed, or was cut
 abbrev pub SaysDiskFault : Stream → Stream → Stop → Type 0
 SaysDiskFault before now DiskFault = WroteAll before now disk_fault
-SaysDiskFault before now WriteFault = IsCutIn before now [] disk_fault
+SaysDiskFault before now DiskFaultUnsaid = IsCutIn before now [] disk_fault
 SaysDiskFault before now _ = ⊥
 
 -- the line went out that says that there is no memory, or was cut
@@ -98,6 +98,8 @@ EndsScript book before now rows script BadLine = StopsInScript book before now r
 EndsScript book before now rows script WriteFault =
     StopsOrEnds book before now rows WriteFault script
 EndsScript book before now rows script DiskFault = StopsOrEnds book before now rows DiskFault script
+EndsScript book before now rows script DiskFaultUnsaid =
+    StopsOrEnds book before now rows DiskFaultUnsaid script
 EndsScript book before now rows script NoMemory = StopsOrEnds book before now rows NoMemory script
 EndsScript book before now rows script _ = ⊥
 

@@ -18,7 +18,7 @@ use Rattle.script_lines.specs.Script.{all_good, commands_of}
 use Rattle.batch_reports.specs.Texts.{outcome_text, summary_text}
 use Rattle.hall_top.specs.declared.reads.TheConstants.{MAX_READS, PIECE}
 use Rattle.hall_top.specs.declared.stop.Stop.{Stop}
-use Rattle.hall_top.specs.declared.stop.Stop.TheVariants.{Finished, BadLine, ReadFault, WriteFault, DiskFault, NoMemory, Spent}
+use Rattle.hall_top.specs.declared.stop.Stop.TheVariants.{Finished, BadLine, ReadFault, WriteFault, DiskFault, DiskFaultUnsaid, NoMemory, Spent}
 use Rattle.hall_top.specs.Texts.{bad_line, read_fault, disk_fault, no_memory}
 use Rattle.hall_top.specs.Transcript.{BookState, Exchange, exchange_at, after_commands, answers, transcript, StandOnce, ended_lines_of, lines_of}
 use Rattle.hall_top.specs.Streams.{Stream, Devices, devices, IsCalm, HasFailed, WroteAll, IsCutIn, Wrote}
@@ -79,12 +79,13 @@ StopsAtLine book before now rows commands number Bad BadLine =
     IsAnsweredThen book before now rows commands (bad_line number)
 StopsAtLine book before now rows commands number (Asks command) WriteFault =
     IsAnswerCut book before now rows commands command
-    ⊎ ((IsCutIn before now (answers book commands) no_memory
+    ⊎ (IsCutIn before now (answers book commands) no_memory
     × FindsNoMemory book rows commands command)
-    ⊎ (IsCutIn before now (answers book commands) disk_fault
-    × FindsDiskFault book rows commands command))
 StopsAtLine book before now rows commands number (Asks command) DiskFault =
     WroteAll before now (answers book commands ++ disk_fault)
+    × FindsDiskFault book rows commands command
+StopsAtLine book before now rows commands number (Asks command) DiskFaultUnsaid =
+    IsCutIn before now (answers book commands) disk_fault
     × FindsDiskFault book rows commands command
 StopsAtLine book before now rows commands number (Asks command) NoMemory =
     WroteAll before now (answers book commands ++ no_memory)
@@ -153,8 +154,8 @@ HasGrown opened rows = opened < length rows
 abbrev pub SaysFailed : Stream → Stream → Stop → Type 0
 SaysFailed before now DiskFault = WroteAll before now disk_fault
 SaysFailed before now NoMemory = WroteAll before now no_memory
-SaysFailed before now WriteFault =
-    IsCutIn before now [] disk_fault ⊎ IsCutIn before now [] no_memory
+SaysFailed before now DiskFaultUnsaid = IsCutIn before now [] disk_fault
+SaysFailed before now WriteFault = IsCutIn before now [] no_memory
 SaysFailed before now _ = ⊥
 
 -- where rows were added, the disk may fail and memory may lack while a snapshot of them is kept,
@@ -218,15 +219,14 @@ pub record NotBegun {S : Type 0} (book : BookState) (call : Call S) : Type 0 whe
   pub unread : call.now.source ≡ call.before.source
   pub rows_left : AreLeft book [] call.rows
 
--- what a failed write stopped: an answer, the summary, or a line that says that the disk failed or
--- that there is no memory
+-- what a failed write stopped: an answer, the summary, or the line that says that there is no memory
 abbrev pub IsCutShort : {S : Type 0} → BookState → Call S → Type 0
 IsCutShort book call =
     StopsInInput book call WriteFault
     ⊎ (StopsAtEnd book call WriteFault
     ⊎ (NotBegun book call × IsCutIn call.before.output call.now.output [] no_memory))
 
--- status 5: the output failed, in one of these places; the input didn't
+-- status 5: the output failed, in one of these places; the input didn't, nor the disk
 pub record IsWriteFault {S : Type 0} (book : BookState) (call : Call S) : Type 0 where
   pub stops : IsCutShort book call
   pub cause : HasFailed call.before.output call.now.output
@@ -238,6 +238,13 @@ pub record IsDiskFault {S : Type 0} (book : BookState) (call : Call S) : Type 0 
   pub stops : StopsInInput book call DiskFault ⊎ StopsAtEnd book call DiskFault
   pub calm : IsCalm call.before.input call.now.input
   pub output_calm : IsCalm call.before.output call.now.output
+
+-- status 5 too: the disk failed, at a command or at the end, and then the output at the line that
+-- says so; the input didn't
+pub record IsDiskFaultUnsaid {S : Type 0} (book : BookState) (call : Call S) : Type 0 where
+  pub stops : StopsInInput book call DiskFaultUnsaid ⊎ StopsAtEnd book call DiskFaultUnsaid
+  pub cause : HasFailed call.before.output call.now.output
+  pub calm : IsCalm call.before.input call.now.input
 
 -- how a run is stopped for want of memory: at a command, at the end, or before it began
 abbrev pub RunsOut : {S : Type 0} → BookState → Call S → Type 0
@@ -272,6 +279,7 @@ Explains book call BadLine = IsBadLine book call
 Explains book call ReadFault = IsReadFault book call
 Explains book call WriteFault = IsWriteFault book call
 Explains book call DiskFault = IsDiskFault book call
+Explains book call DiskFaultUnsaid = IsDiskFaultUnsaid book call
 Explains book call NoMemory = IsOutOfMemory book call
 Explains book call Spent = IsSpent book call
 
@@ -282,6 +290,7 @@ status_of BadLine = 3
 status_of ReadFault = 4
 status_of WriteFault = 5
 status_of DiskFault = 6
+status_of DiskFaultUnsaid = 5
 status_of NoMemory = 7
 status_of Spent = 12
 

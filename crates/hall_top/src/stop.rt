@@ -11,6 +11,8 @@ pub enum Stop {
     WriteFault,
     /// The disk failed.
     DiskFault,
+    /// The disk failed, and then the output at the line that says so.
+    DiskFaultUnsaid,
     /// There was no memory.
     NoMemory,
     /// The reads that it may make were made, and the end wasn't seen.
@@ -31,6 +33,7 @@ impl Stop {
             Stop::ReadFault => 4,
             Stop::WriteFault => 5,
             Stop::DiskFault => 6,
+            Stop::DiskFaultUnsaid => 5,
             Stop::NoMemory => 7,
             Stop::Spent => 12,
         }

@@ -131,7 +131,7 @@ pub fn say_disk_fault<K: Sink>(output: &mut K) -> Stop
 {
     match write_all(output, b"disk fault\n") {
         Ok(()) => Stop::DiskFault,
-        Err(_) => Stop::WriteFault,
+        Err(_) => Stop::DiskFaultUnsaid,
     }
 }
 

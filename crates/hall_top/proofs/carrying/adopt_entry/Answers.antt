@@ -3,7 +3,7 @@ use Rattle.std.specs.Bool.{⊤}
 use Rattle.book_words.specs.Answers.{IsLawful}
 use Rattle.book_store.specs.Stores.{disk_of, entries_of}
 use Rattle.hall_top.specs.declared.stop.Stop.TheVariants.{BadLine, DiskFault, NoMemory}
-use Rattle.hall_top.specs.Kept.{CountsStop, Goes}
+use Rattle.hall_top.specs.Kept.{CountsStep, Goes}
 use Rattle.hall_top.specs.Streams.{output_at}
 use Rattle.hall_top.specs.Migration.{StopsAtEntry}
 use Rattle.hall_top.proofs.Keeping.{goes_adopted, goes_at_fault, goes_without_memory, on_unfinished}
@@ -33,7 +33,7 @@ returns-in-Err-Unlawful-clause-goes g c =
 pub returns-in-Err-DiskFault-clause-goes : goal.returns-in-Err-DiskFault-clause-goes
 returns-in-Err-DiskFault-clause-goes g c =
     let a = c.adopt.ensures in
-    let cause : CountsStop {T = ⊤} (g.D.Disk.faults (disk_of c.args.store.now)) (g.D.Disk.faults (disk_of c.adopt.new.self)) (Err DiskFault) = search rules in
+    let cause : CountsStep {T = ⊤} (g.D.Disk.faults (disk_of c.args.store.now)) (g.D.Disk.faults (disk_of c.adopt.new.self)) (Err DiskFault) = search rules in
     goes_at_fault g.D.Disk (output_at g.K.Sink c.args.output.now) (output_at g.K.Sink c.say_disk_fault.new.output) c.say_disk_fault.result c.args.store.now c.adopt.new.self
     (goes_adopted g.D.Disk c.args.store.now c.adopt.new.self c.args.entry.now c.adopt.result (Err DiskFault) a.entries a.adopts a.offers a.unlawful a.settled a.images a.hangs a.cause a.sound a.legal a.limit a.held cause a.no_memory (λ quiet. absurd quiet) (λ is. absurd (cc)))
     c.say_disk_fault.ensures

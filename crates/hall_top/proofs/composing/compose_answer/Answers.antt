@@ -3,7 +3,7 @@ use Rattle.book_words.specs.Answers.{added, answer}
 use Rattle.book_store.specs.Stores.{disk_of, entries_of, limit_of}
 use Rattle.hall_top.specs.declared.stop.Stop.TheVariants.{DiskFault, NoMemory}
 use Rattle.hall_top.specs.Books.{stored_book}
-use Rattle.hall_top.specs.Kept.{CountsStop}
+use Rattle.hall_top.specs.Kept.{CountsStep}
 use Rattle.hall_top.specs.Transcript.{script_caller, ask_at}
 use Rattle.hall_top.proofs.Acknowledged.{refused_adds, book_refused}
 use Rattle.hall_top.proofs.Keeping.{goes_asked, on_unfinished}
@@ -39,7 +39,7 @@ pub returns-in-Err-DiskFault-clause-goes : goal.returns-in-Err-DiskFault-clause-
 returns-in-Err-DiskFault-clause-goes g c =
     let store = c.args.store.now in
     let asked = c.ask.ensures in
-    let cause : CountsStop {T = Unit {0}} (g.D.Disk.faults (disk_of store)) (g.D.Disk.faults (disk_of c.ask.new.self)) (Err DiskFault) = search rules in
+    let cause : CountsStep {T = Unit {0}} (g.D.Disk.faults (disk_of store)) (g.D.Disk.faults (disk_of c.ask.new.self)) (Err DiskFault) = search rules in
     goes_asked g.D.Disk store c.ask.new.self c.ask.result (Err DiskFault) (added (limit_of store) (entries_of store) script_caller c.ask_at-ask.result) asked.entries asked.offers asked.settled asked.images asked.hangs asked.cause asked.sound asked.legal asked.limit asked.held cause asked.no_memory (λ quiet. absurd quiet) (λ is. absurd (cc))
 
 pub returns-in-Err-NoMemory-clause-goes : goal.returns-in-Err-NoMemory-clause-goes

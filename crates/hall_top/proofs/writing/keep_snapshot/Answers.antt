@@ -1,7 +1,7 @@
 use Rattle.std.proofs.Common.{rules, ◌≡◌, Ok, Err, arith}
 use Rattle.book_store.specs.Stores.{disk_of}
 use Rattle.hall_top.specs.declared.stop.Stop.TheVariants.{DiskFault, NoMemory}
-use Rattle.hall_top.specs.Kept.{CountsStop}
+use Rattle.hall_top.specs.Kept.{CountsStep}
 use Rattle.hall_top.specs.Snapshots.{HasAddedRows}
 use Rattle.hall_top.specs.Streams.{output_at}
 use Rattle.hall_top.proofs.Keeping.{goes_rested, goes_at_fault, goes_without_memory, leaves_snapshot, on_unfinished}
@@ -17,7 +17,7 @@ returns-in-Ok-clause-goes g c =
 pub returns-in-Err-DiskFault-clause-goes : goal.returns-in-Err-DiskFault-clause-goes
 returns-in-Err-DiskFault-clause-goes g c =
     let r = c.rest.ensures in
-    let cause : CountsStop {T = Unit {0}} (g.D.Disk.faults (disk_of c.args.store.now)) (g.D.Disk.faults (disk_of c.rest.new.self)) (Err DiskFault) = search rules in
+    let cause : CountsStep {T = Unit {0}} (g.D.Disk.faults (disk_of c.args.store.now)) (g.D.Disk.faults (disk_of c.rest.new.self)) (Err DiskFault) = search rules in
     let grown : HasAddedRows c.args.store.now = search rules in
     goes_at_fault g.D.Disk (output_at g.K.Sink c.args.output.now) (output_at g.K.Sink c.say_disk_fault.new.output) c.say_disk_fault.result c.args.store.now c.rest.new.self
     (goes_rested g.D.Disk c.args.store.now c.rest.new.self c.rest.result (Err DiskFault) r.book r.held grown r.keeps r.images r.hangs.0 r.cause r.sound c.requires.legal cause (λ is. absurd (cc)))
