@@ -18,7 +18,7 @@ use Rattle.annex_tables.specs.Plans.{plan_of, keeping_plan, plan_of_destruction}
 use Rattle.pack_judge.specs.declared.types.Pile as piles
 use Rattle.pack_judge.specs.declared.types.Pile.TheVariants.{Passed, Rejected, Sampled, Voided}
 use Rattle.sample_draw.specs.Draws.{packs_left}
-use Rattle.sample_draw.proofs.Drawing.{AllPairs-from_ascending, AllPairs-drawn, AllPairs-packs_left, packs_left-enough, length-drawn}
+use Rattle.sample_draw.proofs.DrawLemmas.{AllPairs-from_ascending, AllPairs-drawn, AllPairs-packs_left, packs_left-enough, length-drawn}
 use Rattle.book_words.specs.declared.name.Name.{Name}
 use Rattle.book_words.specs.declared.act.Prior.{Prior}
 use Rattle.book_words.specs.declared.act.Prior.TheVariants.{Nothing, Opened, Stayed, Unknown}
@@ -55,6 +55,7 @@ use Rattle.book_laws.proofs.MoveLaws.{sample_after}
 use Rattle.book_laws.proofs.SampleLaws.{first_among, second_among, plan_fits}
 use Rattle.book_words.proofs.DrawnOnce.{drawn_has_draw}
 use Rattle.book_words.proofs.PlainLemmas.{none_mapped, is_mapped}
+use Rattle.book_words.proofs.PileLemmas.{same_pile_is}
 
 -- ---- what is said of the gate
 
@@ -74,24 +75,6 @@ running_or_ended (Some Running) there h = inl refl
 running_or_ended (Some Ended) there h = inr refl
 running_or_ended (Some Drawn) there h = absurd (cc)
 running_or_ended (Some Closed) there h = absurd (cc)
-
-same_pile_is : (a b : piles.Pile) → same_pile a b ≡ true → a ≡ b
-same_pile_is Passed Passed h = refl
-same_pile_is Rejected Rejected h = refl
-same_pile_is Sampled Sampled h = refl
-same_pile_is Voided Voided h = refl
-same_pile_is Passed Rejected h = absurd (cc)
-same_pile_is Passed Sampled h = absurd (cc)
-same_pile_is Passed Voided h = absurd (cc)
-same_pile_is Rejected Passed h = absurd (cc)
-same_pile_is Rejected Sampled h = absurd (cc)
-same_pile_is Rejected Voided h = absurd (cc)
-same_pile_is Sampled Passed h = absurd (cc)
-same_pile_is Sampled Rejected h = absurd (cc)
-same_pile_is Sampled Voided h = absurd (cc)
-same_pile_is Voided Passed h = absurd (cc)
-same_pile_is Voided Rejected h = absurd (cc)
-same_pile_is Voided Sampled h = absurd (cc)
 
 pile_is : (entries : List Entry) (pack : ℕ) (reading : Reading) (wanted : piles.Pile) → reading_of entries pack ≡ Some reading → rules.pack_pile wanted entries pack ≡ None → pile_of entries reading ≡ wanted
 pile_is entries pack reading wanted found h =

@@ -42,6 +42,7 @@ use Rattle.book_laws.proofs.BatchLaws.{IsOrderly, orderly, is_fixed, no_sample, 
 use Rattle.book_laws.proofs.UnsettledLaws.{Belongs, each_belongs}
 use Rattle.book_laws.proofs.PopulationLaws.{settled_after, unsampled_on, batch_of, unsettled_is_free, DrawnFromAll, drawn_from_all}
 use Rattle.book_laws.proofs.SampleLaws.{first_among, second_among, counted_if_among}
+use Rattle.book_words.proofs.PileLemmas.{same_itself}
 
 -- ---- the samples with one entry more
 
@@ -84,12 +85,6 @@ is_passed Passed h = refl
 is_passed Rejected h = absurd (cc)
 is_passed Sampled h = absurd (cc)
 is_passed Voided h = absurd (cc)
-
-same_itself : (pile : Pile) → same_pile pile pile ≡ true
-same_itself Passed = refl
-same_itself Rejected = refl
-same_itself Sampled = refl
-same_itself Voided = refl
 
 -- what is unsettled and not taken back lies among the passed
 pub unsettled_passed : (voided : Bool) (signal : Option Signal) (next : Option Prior) → (is_pass signal && is_none next) ≡ true → voided ≡ false → settled_pile voided signal next ≡ Passed

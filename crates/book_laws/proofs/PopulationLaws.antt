@@ -43,6 +43,7 @@ use Rattle.book_laws.proofs.UnsettledLaws.{Belongs, each_belongs}
 use Rattle.book_words.proofs.PlainLemmas.{some_of, or_none, eqb-swap}
 use Rattle.book_words.proofs.DrawnOnce.{drawn_has_draw}
 use Rattle.std.proofs.Math.Bool.{or-false}
+use Rattle.book_words.proofs.PileLemmas.{unsampled}
 
 -- ---- where a reading lies before samples are looked at, once an act came
 
@@ -337,16 +338,6 @@ quiet_population entries entry batch legal h =
 
 -- ---- the population lies among the passed and the sampled
 
-not_sampled_yet : (voided : Bool) (signal : Option Signal) (next : Option Prior) → same_pile (settled_pile voided signal next) Sampled ≡ false
-not_sampled_yet true signal next = refl
-not_sampled_yet false None next = refl
-not_sampled_yet false (Some (Reject cause)) next = refl
-not_sampled_yet false (Some Pass) None = refl
-not_sampled_yet false (Some Pass) (Some Nothing) = refl
-not_sampled_yet false (Some Pass) (Some Opened) = refl
-not_sampled_yet false (Some Pass) (Some Stayed) = refl
-not_sampled_yet false (Some Pass) (Some Unknown) = refl
-
 counted_pile : (pile : Pile) (sampled : Bool) → same_pile pile Sampled ≡ false → same_pile pile Passed ≡ (same_pile (pile_with_sample pile sampled) Passed || same_pile (pile_with_sample pile sampled) Sampled)
 counted_pile Passed true h = refl
 counted_pile Passed false h = refl
@@ -360,7 +351,7 @@ is_in_stock entries reading = same_pile (pile_of entries reading) Passed || same
 
 -- a reading counts where it lies among the passed or the sampled
 pub counted_is_in_stock : (entries : List Entry) (reading : Reading) → is_counted reading ≡ is_in_stock entries reading
-counted_is_in_stock entries reading = counted_pile (unsampled_pile reading) (is_sampled entries reading) (not_sampled_yet reading.voided reading.signal reading.next_prior)
+counted_is_in_stock entries reading = counted_pile (unsampled_pile reading) (is_sampled entries reading) (unsampled reading.voided reading.signal reading.next_prior)
 
 filter_twice : (first second : Reading → Bool) (some : List Reading) → filter (λ (r : Reading). first r && second r) some ≡ filter second (filter first some)
 filter_twice first second [] = refl

@@ -11,7 +11,7 @@ use Rattle.annex_tables.specs.declared.types.Mode.TheVariants.{Keep, Destroy}
 use Rattle.annex_tables.specs.Errors.{error_of, tolerable_error}
 use Rattle.annex_tables.specs.Plans.{plan_of, keeping_plan}
 use Rattle.sample_draw.specs.Draws.{packs_left}
-use Rattle.sample_draw.proofs.Drawing.{length-drawn}
+use Rattle.sample_draw.proofs.DrawLemmas.{length-drawn}
 use Rattle.tare_register.specs.declared.types.DatedTare.{DatedTare}
 use Rattle.tare_register.specs.Tares.{latest, dated_by}
 use Rattle.pack_judge.specs.declared.types.Pile as piles

@@ -25,6 +25,7 @@ use Rattle.book_laws.proofs.ReadingLaws.{IsOneOf, each_is_one, of_reading}
 use Rattle.book_words.proofs.LegalLemmas.{legal_steps}
 use Rattle.book_laws.proofs.BatchLaws.{IsOrderly, orderly, state_of-push, lane_batch-push, lane_runs}
 use Rattle.book_laws.proofs.LaneLaws.{lane_stays}
+use Rattle.book_words.proofs.PlainLemmas.{or_none}
 
 -- what holds of a reading of a legal list: it has a batch, which has a state; and while it is
 -- unsettled, its lane has that batch, and it isn't taken back
@@ -272,10 +273,6 @@ filter_mapped test change (r ∷ rs) same =
     either : (b : Bool) → cond b (change r ∷ map change (filter test rs)) (map change (filter test rs)) ≡ map change (cond b (r ∷ filter test rs) (filter test rs))
     either true = refl
     either false = refl
-
-or_none : {A : Type 0} (o : Option A) → option_or o None ≡ o
-or_none None = refl
-or_none (Some x) = refl
 
 -- an act that says nothing of a lane's gate leaves its readings open or shut
 waits_alike : (act : Act) (lane : ℕ) → prior_told lane act ≡ None → (reading : Reading) → waits_on_lane lane (advance act reading) ≡ waits_on_lane lane reading

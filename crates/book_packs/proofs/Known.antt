@@ -24,7 +24,7 @@ use Rattle.book_words.proofs.OneMoreEntry.{advance, own_reading, readings-push}
 use Rattle.book_packs.proofs.Lists.{all_then, all-append, all-map}
 use Rattle.book_words.proofs.LegalLemmas.{legal_steps}
 use Rattle.book_words.proofs.AllowedActs.{IsAllowed, allowed, put_tare_tells, new_day_tells, open_batch_tells, start_lane_tells, weigh_tells}
-use Rattle.book_packs.proofs.Numbered.{product_keeps, batch_keeps}
+use Rattle.book_packs.proofs.KeptNumbers.{product_keeps, batch_keeps}
 use Rattle.book_words.proofs.SaidNames.{nominal_where_put, product_where_opened}
 use Rattle.book_words.proofs.SaidTogether.{was_started}
 use Rattle.std.proofs.lemmas.Option.{same_Some}

@@ -20,7 +20,7 @@ use Rattle.book_packs.specs.Stand.{unsettled_number}
 use Rattle.book_packs.proofs.Lists.{filter-map}
 use Rattle.book_words.specs.Samples.{numbers_of}
 use Rattle.book_words.proofs.DrawnPacks.{AscendWithin, readings_ascend}
-use Rattle.book_packs.proofs.Ascending.{later}
+use Rattle.book_packs.proofs.NumberOrder.{later}
 use Rattle.std.proofs.Math.Bool.{and-true, and-false}
 
 -- whether a number is the one that is there, if any

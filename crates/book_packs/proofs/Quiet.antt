@@ -33,12 +33,12 @@ use Rattle.book_packs.specs.Stand.{Standing, IsPacksOf, tares_in, terms_of_batch
 use Rattle.book_packs.specs.Entering.{IsNext, IsTarePut, IsOpening, leaves_packs}
 use Rattle.book_packs.proofs.Lists.{map-map, map-within, all_then}
 use Rattle.book_words.proofs.AllowedActs.{IsAllowed, allowed, put_tare_tells}
-use Rattle.book_packs.proofs.Numbered.{product_keeps}
+use Rattle.book_packs.proofs.KeptNumbers.{product_keeps}
 use Rattle.book_packs.proofs.Known.{Known, known_of, IsWeighed, tare_named, is_there, up_to}
-use Rattle.book_packs.proofs.Retaring.{own_entry_is, reading_retared}
+use Rattle.book_packs.proofs.ReadingTares.{own_entry_is, reading_retared}
 use Rattle.book_packs.proofs.Lone.{number_kept}
-use Rattle.book_packs.proofs.Sampling.{is_draw, sampled_stays}
-use Rattle.book_packs.proofs.Staying.{built, tares_keep, batches-push, batches_keep, packs-push, pack_kept, pack_tared}
+use Rattle.book_packs.proofs.SampleNumbers.{is_draw, sampled_stays}
+use Rattle.book_packs.proofs.StandingTerms.{built, tares_keep, batches-push, batches_keep, packs-push, pack_kept, pack_tared}
 use Rattle.book_words.proofs.PlainLemmas.{eqb-swap, or_none}
 use Rattle.std.proofs.Math.Bool.{or-false}
 

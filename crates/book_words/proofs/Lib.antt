@@ -9,6 +9,7 @@ pub mod LegalLemmas
 pub mod DrawnLemmas
 pub mod DrawnOnce
 pub mod PlaceLemmas
+pub mod PileLemmas
 pub mod SaidNames
 pub mod OpenedOnce
 pub mod SampleSteps

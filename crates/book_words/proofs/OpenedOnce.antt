@@ -16,6 +16,7 @@ use Rattle.book_words.proofs.LastSaid.{last_or-cons}
 use Rattle.book_words.proofs.DrawnOnce.{opened_is_new}
 use Rattle.book_words.proofs.AllowedActs.{allowed}
 use Rattle.book_words.proofs.LegalLemmas.{legal_steps}
+use Rattle.std.proofs.lemmas.Bool.{or_parts}
 
 true_is_not_false : true ≡ false → ⊥
 true_is_not_false h = cc
@@ -83,10 +84,6 @@ not_opened entries name h = (none_named name None entries h).1
 abbrev pub AreDistinct : List Name → Type 0
 AreDistinct [] = Unit {0}
 AreDistinct (name ∷ names) = (is_named name names ≡ false) × AreDistinct names
-
-or_parts : (a b : Bool) → a || b ≡ false → (a ≡ false) × (b ≡ false)
-or_parts true b h = absurd (true_is_not_false h)
-or_parts false b h = (refl, h)
 
 or_from : (a b : Bool) → a ≡ false → b ≡ false → a || b ≡ false
 or_from a b h k = rw (h, k) refl

@@ -18,6 +18,7 @@ use Rattle.book_words.proofs.DrawnLemmas.{sample_of-push, sample_of-kept}
 use Rattle.book_words.proofs.DrawnOnce.{opened_is_new, states_known, is_undrawn, IsUndrawn, undrawn_by_state, undrawn_at_draw}
 use Rattle.book_words.proofs.AllowedActs.{allowed}
 use Rattle.book_words.proofs.OpenedOnce.{same_name-swap}
+use Rattle.book_words.proofs.PlainLemmas.{none_of}
 
 -- whether an act draws packs
 abbrev pub draws_packs : Act → Bool
@@ -55,10 +56,6 @@ pub sample_of-unknown : (entries : List Entry) (batch : Name) → IsLegal entrie
 sample_of-unknown entries batch legal unknown =
     let stateless : state_of entries batch ≡ None = none_of (state_of entries batch) (states_known entries legal batch ∙ ap is_some unknown) in
     sample_of-undrawn entries batch (undrawn_by_state entries legal batch (ap is_undrawn stateless))
-  where
-    none_of : {A : Type 0} (o : Option A) → is_some o ≡ false → o ≡ None
-    none_of None h = refl
-    none_of (Some x) h = absurd (cc)
 
 -- a batch that is opened has no sample
 pub sample_of-opened : (entries : List Entry) (entry : Entry) (batch product : Name) (density : ℕ) → IsLegal entries → IsLawful entries entry → entry.act ≡ OpenBatch batch product density

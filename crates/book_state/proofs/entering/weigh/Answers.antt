@@ -1,7 +1,7 @@
 use Rattle.std.proofs.Common.{◌≡◌, ◌∙◌, None, Some, refl, sym, subst}
 use Rattle.book_packs.specs.declared.types.Weighing.{Weighing}
 use Rattle.book_packs.specs.Entering.{IsWeighing}
-use Rattle.book_state.proofs.Entered.{weighing_made}
+use Rattle.book_state.proofs.EntryFacts.{weighing_made}
 use Rattle.book_state.proofs.entering.weigh.Goals as goal
 
 pub unreachable-requires : goal.unreachable-requires

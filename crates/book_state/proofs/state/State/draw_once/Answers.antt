@@ -8,7 +8,7 @@ use Rattle.book_words.proofs.AllowedActs.{draw_tells}
 use Rattle.book_state.proofs.Parts.{parts_of}
 use Rattle.book_state.proofs.Batches.{number_within}
 use Rattle.book_samples.specs.Kept.{drawing_at}
-use Rattle.book_state.proofs.Entered.{there, numbers_few, numbers_ascend}
+use Rattle.book_state.proofs.EntryFacts.{there, numbers_few, numbers_ascend}
 use Rattle.book_state.proofs.state.State.draw_once.Goals as goal
 
 pub unreachable-requires : goal.unreachable-requires

@@ -7,9 +7,9 @@ use Rattle.book_words.specs.declared.act.Act.TheVariants.{Weigh}
 use Rattle.book_laws.proofs.BatchLaws.{orderly}
 use Rattle.book_state.proofs.Parts.{parts_of}
 use Rattle.book_state.proofs.Batches.{number_within}
-use Rattle.book_state.proofs.Limited.{met_few}
+use Rattle.book_state.proofs.PopulationLimits.{met_few}
 use Rattle.book_words.specs.Order.{batch_number}
-use Rattle.book_state.proofs.Named.{lane_has_batch}
+use Rattle.book_state.proofs.NumberedNames.{lane_has_batch}
 use Rattle.book_state.proofs.OnLanes.{numbered}
 use Rattle.book_state.proofs.state.State.met.Goals as goal
 
