@@ -21,7 +21,7 @@ use Rattle.book_index.specs.Listed.{IsIndexOf, terms_of_batch, batch_product_num
 use Rattle.book_words.proofs.PlaceLemmas.{place_of-name}
 use Rattle.book_words.proofs.PlainLemmas.{in_both, bool_same}
 use Rattle.std.proofs.lemmas.Option.{none-some, same_Some}
-use Rattle.book_index.proofs.SaidNames.{product_where_opened}
+use Rattle.book_words.proofs.SaidNames.{product_where_opened}
 use Rattle.book_index.proofs.LegalNames.{AreNamed, product_numbered}
 
 -- the name of the batch that a lane has

@@ -28,7 +28,7 @@ use Rattle.std.proofs.lemmas.Option.{none-some, same_Some}
 use Rattle.book_index.specs.Listed.{batch_product_number, is_lane}
 use Rattle.book_words.proofs.PlainLemmas.{in_both, some_or}
 use Rattle.book_words.proofs.PlaceLemmas.{place_is_some, AreApart, apart_more}
-use Rattle.book_index.proofs.SaidNames.{nominal_where_put, product_where_opened}
+use Rattle.book_words.proofs.SaidNames.{nominal_where_put, product_where_opened}
 
 -- what an act that no rule refuses says of names
 pub record IsActNamed (entries : List Entry) (act : Act) : Type 0 where

@@ -21,11 +21,12 @@ use Rattle.book_words.specs.Refusals as rules
 use Rattle.book_words.specs.Refusals.{same_tare, changes_tare, is_closed, is_frozen}
 use Rattle.book_words.proofs.NameLemmas.{same_name_itself}
 use Rattle.book_words.proofs.OneMoreEntry.{advance, own_reading, readings-push}
-use Rattle.book_laws.proofs.TareLaws.{started_for_it}
+use Rattle.book_words.proofs.SaidTogether.{started_for_it}
 use Rattle.book_laws.proofs.KnownLaws.{apart, silent, state_apart}
 use Rattle.book_words.proofs.AllowedActs.{IsAllowed, is_there, void_tells, measure_tells, weigh_tells}
 use Rattle.book_laws.proofs.LaneLaws.{IsOfLane, AreLanesRight}
 use Rattle.book_laws.proofs.PackLaws.{IsFound, IsPackOf, numbered, batch_is}
+use Rattle.std.proofs.Math.Bool.{or-false}
 
 -- ---- a pack of a closed batch isn't taken back and isn't measured
 
@@ -71,12 +72,8 @@ unmoved : (entries : List Entry) (act : Act) (batch : Name) → AreLanesRight en
     → (reading : Reading) → IsOfLane entries reading → IsFound entries reading → reading.batch ≡ Some batch → advance act reading ≡ reading
 unmoved entries act batch right h closed reading of_lane found of_batch =
     ap (λ o. record reading { next_prior = o; voided = reading.voided || is_void_of reading.number act }) (next reading.next_prior refl)
-    ∙ ap (λ b. record reading { voided = b }) (ap (λ b. reading.voided || b) (void_apart entries act batch reading h closed found of_batch) ∙ or_false reading.voided)
+    ∙ ap (λ b. record reading { voided = b }) (ap (λ b. reading.voided || b) (void_apart entries act batch reading h closed found of_batch) ∙ or-false reading.voided)
   where
-    or_false : (b : Bool) → (b || false) ≡ b
-    or_false true = refl
-    or_false false = refl
-
     next : (o : Option Prior) → reading.next_prior ≡ o → option_or o (prior_told reading.lane act) ≡ o
     next (Some prior) is = refl
     next None is = absurd (let wrong : Some Running ≡ Some Closed = sym (right.lanes reading.lane batch (of_lane batch of_batch is)).state ∙ closed in cc)

@@ -26,9 +26,9 @@ use Rattle.book_words.proofs.LastSaid.{last_said-push}
 use Rattle.book_words.proofs.NameLemmas.{same_name_is}
 use Rattle.book_words.proofs.RefusalLemmas.{not_refused}
 use Rattle.book_words.proofs.OneMoreEntry.{advance, own_reading, readings-push}
-use Rattle.book_laws.proofs.TareLaws.{started_for_it}
 use Rattle.std.proofs.lemmas.Option.{same_Some}
-use Rattle.book_laws.proofs.KnownLaws.{state_known, silent, moves_state, state_of_stays, state_apart}
+use Rattle.book_laws.proofs.KnownLaws.{silent, moves_state, state_of_stays, state_apart}
+use Rattle.book_words.proofs.SaidTogether.{state_known, started_for_it}
 use Rattle.book_words.proofs.AllowedActs.{IsAllowed, is_there, allowed, end_run_tells, draw_tells, close_tells, start_lane_tells, weigh_tells}
 use Rattle.book_words.proofs.LegalLemmas.{legal_steps, legal-push}
 use Rattle.book_words.proofs.DrawnOnce.{states_known}

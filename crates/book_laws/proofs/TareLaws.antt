@@ -26,11 +26,12 @@ use Rattle.book_words.specs.Answers.{IsLegal}
 use Rattle.book_words.specs.Soundness.{has_tare_and_nominal, TaresKnown}
 use Rattle.book_words.proofs.LastSaid.{last_or-cons, last_said-push}
 use Rattle.book_words.proofs.OneMoreEntry.{advance, own_reading, readings-push}
-use Rattle.book_laws.proofs.KnownLaws.{unit_known, density_known, state_known, product_of_stays}
+use Rattle.book_laws.proofs.KnownLaws.{product_of_stays}
 use Rattle.book_words.proofs.AllowedActs.{IsAllowed, is_there, allowed, start_lane_tells, open_batch_tells, weigh_tells, new_day_tells}
 use Rattle.book_words.proofs.LegalLemmas.{legal_steps}
 use Rattle.book_words.proofs.PlainLemmas.{some_of}
 use Rattle.std.proofs.lemmas.Option.{same_Some}
+use Rattle.book_words.proofs.SaidTogether.{started_for_it, unit_known, density_known, state_known}
 
 -- ---- a tare is there exactly where one is dated on the day or before it
 
@@ -229,32 +230,6 @@ products_on entries entry act batch product sound is h on = nominal_stays entrie
 weighed_on : (entries : List Entry) (entry : Entry) → IsAllowed entries entry.act → (reading : Reading) → IsWeighed entries reading → IsWeighed (entries ++ entry ∷ []) (advance entry.act reading)
 weighed_on entries entry h reading is =
     record { batch = is.batch; of_batch = is.of_batch; day = is.day; on_day = is.on_day; has = tare_on_stays entries entry is.batch is.day h is.has }
-
-last_start : (lane : ℕ) (batch : Name) (act : Act) (o : Option (Option Name)) (p : Option Name) → (option_flatten o ≡ Some batch → p ≡ Some batch)
-    → option_flatten (option_or (lane_used lane act) o) ≡ Some batch → option_or (batch_started lane act) p ≡ Some batch
-last_start lane batch (StartLane number started) o p before = either (number == lane)
-  where
-    either : (b : Bool) → option_flatten (option_or (cond b (Some (Some started)) None) o) ≡ Some batch → option_or (cond b (Some started) None) p ≡ Some batch
-    either true k = k
-    either false k = before k
-last_start lane batch (StopLane number prior) o p before = either (number == lane)
-  where
-    either : (b : Bool) → option_flatten (option_or (cond b (Some None) None) o) ≡ Some batch → p ≡ Some batch
-    either true k = absurd (cc)
-    either false k = before k
-last_start lane batch act o p before = before
-
-started_from : (lane : ℕ) (batch : Name) (entries : List Entry) (o : Option (Option Name)) (p : Option Name) → (option_flatten o ≡ Some batch → p ≡ Some batch)
-    → option_flatten (last_or o (said (lane_used lane) entries)) ≡ Some batch → last_or p (said (batch_started lane) entries) ≡ Some batch
-started_from lane batch [] o p before k = before k
-started_from lane batch (e ∷ es) o p before k =
-    last_or-cons p (batch_started lane e.act) (said (batch_started lane) es)
-    ∙ started_from lane batch es (option_or (lane_used lane e.act) o) (option_or (batch_started lane e.act) p) (last_start lane batch e.act o p before)
-    (sym (ap (λ (x : Option (Option Name)). option_flatten x) (last_or-cons o (lane_used lane e.act) (said (lane_used lane) es))) ∙ k)
-
--- a lane that has a batch was started for that one last
-pub started_for_it : (entries : List Entry) (lane : ℕ) (batch : Name) → lane_batch entries lane ≡ Some batch → last_batch entries lane ≡ Some batch
-started_for_it entries lane batch on = started_from lane batch entries None None (λ k. absurd (cc)) on
 
 own_weighed : (entries : List Entry) (entry : Entry) (act : Act) → IsTared entries → entry.act ≡ act → IsAllowed entries entry.act → All (IsWeighed (entries ++ entry ∷ [])) (cons_option (weighed_reading (length entries + 1) entries act entry.signal []) [])
 own_weighed entries entry (Weigh lane gross prior) sound is h =

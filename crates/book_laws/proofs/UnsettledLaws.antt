@@ -25,6 +25,7 @@ use Rattle.book_laws.proofs.ReadingLaws.{IsOneOf, each_is_one, of_reading}
 use Rattle.book_words.proofs.LegalLemmas.{legal_steps}
 use Rattle.book_laws.proofs.BatchLaws.{IsOrderly, orderly, state_of-push, lane_batch-push, lane_runs}
 use Rattle.book_laws.proofs.LaneLaws.{lane_stays}
+use Rattle.book_words.proofs.PlainLemmas.{or_none}
 
 -- what holds of a reading of a legal list: it has a batch, which has a state; and while it is
 -- unsettled, its lane has that batch, and it isn't taken back
@@ -59,18 +60,7 @@ voids_settled entries (Void pack) reading h one unsettled = either (pack == read
         (sym (ap (option_and_then (λ (r : Reading). refused_if (is_unsettled r) (why.Unsettled r.lane))) found) ∙ (void_tells entries pack h).settled) in
         absurd (both_ways _ settled unsettled)
     either false is = refl
-voids_settled entries (NewDay day) reading h one unsettled = refl
-voids_settled entries (PutProduct name nominal unit) reading h one unsettled = refl
-voids_settled entries (PutTare product day tare) reading h one unsettled = refl
-voids_settled entries (OpenBatch name product density) reading h one unsettled = refl
-voids_settled entries (StartLane lane name) reading h one unsettled = refl
-voids_settled entries (Weigh lane gross prior) reading h one unsettled = refl
-voids_settled entries (StopLane lane prior) reading h one unsettled = refl
-voids_settled entries (EndRun name) reading h one unsettled = refl
-voids_settled entries (Draw name mode word) reading h one unsettled = refl
-voids_settled entries (Measure pack gross empty) reading h one unsettled = refl
-voids_settled entries (DrawSecond name word) reading h one unsettled = refl
-voids_settled entries (Close name) reading h one unsettled = refl
+voids_settled entries act reading h one unsettled = refl
 
 some_of : {A : Type 0} (o p : Option A) → is_some p ≡ true → is_some (option_or o p) ≡ true
 some_of None p h = h
@@ -112,18 +102,7 @@ own_belongs entries entry (Weigh lane gross prior) good is h =
           lane = λ now. lane_batch-push entries entry lane ∙ ap (λ (a : Act). option_flatten (option_or (lane_used lane a) (last_said (lane_used lane) entries))) is ∙ on;
           kept = λ now. refl;
         }
-own_belongs entries entry (NewDay day) good is h = All-nil (Belongs (entries ++ entry ∷ []))
-own_belongs entries entry (PutProduct name nominal unit) good is h = All-nil (Belongs (entries ++ entry ∷ []))
-own_belongs entries entry (PutTare product day tare) good is h = All-nil (Belongs (entries ++ entry ∷ []))
-own_belongs entries entry (OpenBatch name product density) good is h = All-nil (Belongs (entries ++ entry ∷ []))
-own_belongs entries entry (StartLane lane name) good is h = All-nil (Belongs (entries ++ entry ∷ []))
-own_belongs entries entry (StopLane lane prior) good is h = All-nil (Belongs (entries ++ entry ∷ []))
-own_belongs entries entry (Void pack) good is h = All-nil (Belongs (entries ++ entry ∷ []))
-own_belongs entries entry (EndRun name) good is h = All-nil (Belongs (entries ++ entry ∷ []))
-own_belongs entries entry (Draw name mode word) good is h = All-nil (Belongs (entries ++ entry ∷ []))
-own_belongs entries entry (Measure pack gross empty) good is h = All-nil (Belongs (entries ++ entry ∷ []))
-own_belongs entries entry (DrawSecond name word) good is h = All-nil (Belongs (entries ++ entry ∷ []))
-own_belongs entries entry (Close name) good is h = All-nil (Belongs (entries ++ entry ∷ []))
+own_belongs entries entry act good is h = All-nil (Belongs (entries ++ entry ∷ []))
 
 abbrev AllBelong : List Entry → Type 0
 AllBelong entries = All (Belongs entries) (readings entries)
@@ -180,18 +159,7 @@ own_elsewhere entries (Weigh number gross prior) signal lane told = either (numb
     either : (b : Bool) → cond b (Some prior) None ≡ None → (c : Bool) (reading : Reading) → cond (b && (c && true)) (reading ∷ []) [] ≡ []
     either true k c reading = absurd (cc)
     either false k c reading = refl
-own_elsewhere entries (NewDay day) signal lane told = refl
-own_elsewhere entries (PutProduct name nominal unit) signal lane told = refl
-own_elsewhere entries (PutTare product day tare) signal lane told = refl
-own_elsewhere entries (OpenBatch name product density) signal lane told = refl
-own_elsewhere entries (StartLane number name) signal lane told = refl
-own_elsewhere entries (StopLane number prior) signal lane told = refl
-own_elsewhere entries (Void pack) signal lane told = refl
-own_elsewhere entries (EndRun name) signal lane told = refl
-own_elsewhere entries (Draw name mode word) signal lane told = refl
-own_elsewhere entries (Measure pack gross empty) signal lane told = refl
-own_elsewhere entries (DrawSecond name word) signal lane told = refl
-own_elsewhere entries (Close name) signal lane told = refl
+own_elsewhere entries act signal lane told = refl
 
 abbrev OneWaiting : List Entry → Type 0
 OneWaiting entries = (lane : ℕ) → length (filter (waits_on_lane lane) (readings entries)) ≤ 1
@@ -305,10 +273,6 @@ filter_mapped test change (r ∷ rs) same =
     either : (b : Bool) → cond b (change r ∷ map change (filter test rs)) (map change (filter test rs)) ≡ map change (cond b (r ∷ filter test rs) (filter test rs))
     either true = refl
     either false = refl
-
-or_none : {A : Type 0} (o : Option A) → option_or o None ≡ o
-or_none None = refl
-or_none (Some x) = refl
 
 -- an act that says nothing of a lane's gate leaves its readings open or shut
 waits_alike : (act : Act) (lane : ℕ) → prior_told lane act ≡ None → (reading : Reading) → waits_on_lane lane (advance act reading) ≡ waits_on_lane lane reading

@@ -24,7 +24,9 @@ use Rattle.book_words.proofs.OneMoreEntry.{advance, own_reading, readings-push}
 use Rattle.book_packs.proofs.Lists.{all_then, all-append, all-map}
 use Rattle.book_words.proofs.LegalLemmas.{legal_steps}
 use Rattle.book_words.proofs.AllowedActs.{IsAllowed, allowed, put_tare_tells, new_day_tells, open_batch_tells, start_lane_tells, weigh_tells}
-use Rattle.book_packs.proofs.Numbered.{product_is_known, batch_is_known, product_keeps, batch_keeps, was_started}
+use Rattle.book_packs.proofs.KeptNumbers.{product_keeps, batch_keeps}
+use Rattle.book_words.proofs.SaidNames.{nominal_where_put, product_where_opened}
+use Rattle.book_words.proofs.SaidTogether.{was_started}
 use Rattle.std.proofs.lemmas.Option.{same_Some}
 use Rattle.book_words.proofs.PlaceLemmas.{apart_more}
 
@@ -64,88 +66,33 @@ product_ruled entries (OpenBatch name other density) h batch product is =
     elim (cases_Bool (same_name name batch)) [
       | inl t ↦
           let same : other ≡ product = same_Some _ _ (sym (ap (λ b. cond b (Some other) None) t) ∙ is) in
-          subst (λ (p : Name). is_some (product_number entries p) ≡ true) same (sym (product_is_known entries other) ∙ (open_batch_tells entries name other density h).known)
+          subst (λ (p : Name). is_some (product_number entries p) ≡ true) same (sym (nominal_where_put entries other) ∙ (open_batch_tells entries name other density h).known)
       | inr f ↦ absurd (let wrong = sym (ap (λ b. cond b (Some other) None) f) ∙ is in cc)
     ]
-product_ruled entries (NewDay day) h batch product is = absurd (cc)
-product_ruled entries (PutProduct other nominal unit) h batch product is = absurd (cc)
-product_ruled entries (PutTare other day tare) h batch product is = absurd (cc)
-product_ruled entries (StartLane lane other) h batch product is = absurd (cc)
-product_ruled entries (Weigh lane gross prior) h batch product is = absurd (cc)
-product_ruled entries (StopLane lane prior) h batch product is = absurd (cc)
-product_ruled entries (Void pack) h batch product is = absurd (cc)
-product_ruled entries (EndRun other) h batch product is = absurd (cc)
-product_ruled entries (Draw other mode word) h batch product is = absurd (cc)
-product_ruled entries (Measure pack gross empty) h batch product is = absurd (cc)
-product_ruled entries (DrawSecond other word) h batch product is = absurd (cc)
-product_ruled entries (Close other) h batch product is = absurd (cc)
+product_ruled entries act h batch product is = absurd (cc)
 
 lane_ruled : (entries : List Entry) (act : Act) → IsAllowed entries act → (lane : ℕ) (batch : Name) → batch_started lane act ≡ Some batch → is_some (batch_number entries batch) ≡ true
 lane_ruled entries (StartLane number name) h lane batch is =
     elim (cases_Bool (number == lane)) [
       | inl t ↦
           let same : name ≡ batch = same_Some _ _ (sym (ap (λ b. cond b (Some name) None) t) ∙ is) in
-          subst (λ (b : Name). is_some (batch_number entries b) ≡ true) same (sym (batch_is_known entries name) ∙ (start_lane_tells entries number name h).known)
+          subst (λ (b : Name). is_some (batch_number entries b) ≡ true) same (sym (product_where_opened entries name) ∙ (start_lane_tells entries number name h).known)
       | inr f ↦ absurd (let wrong = sym (ap (λ b. cond b (Some name) None) f) ∙ is in cc)
     ]
-lane_ruled entries (NewDay day) h lane batch is = absurd (cc)
-lane_ruled entries (PutProduct other nominal unit) h lane batch is = absurd (cc)
-lane_ruled entries (PutTare other day tare) h lane batch is = absurd (cc)
-lane_ruled entries (OpenBatch name other density) h lane batch is = absurd (cc)
-lane_ruled entries (Weigh number gross prior) h lane batch is = absurd (cc)
-lane_ruled entries (StopLane number prior) h lane batch is = absurd (cc)
-lane_ruled entries (Void pack) h lane batch is = absurd (cc)
-lane_ruled entries (EndRun other) h lane batch is = absurd (cc)
-lane_ruled entries (Draw other mode word) h lane batch is = absurd (cc)
-lane_ruled entries (Measure pack gross empty) h lane batch is = absurd (cc)
-lane_ruled entries (DrawSecond other word) h lane batch is = absurd (cc)
-lane_ruled entries (Close other) h lane batch is = absurd (cc)
+lane_ruled entries act h lane batch is = absurd (cc)
 
 day_ruled : (entries : List Entry) (act : Act) → IsAllowed entries act → (day : ℤ) → day_set act ≡ Some day → IsUpTo MAX_DAY day
 day_ruled entries (NewDay new) h day is = subst (λ (d : ℤ). IsUpTo MAX_DAY d) (same_Some _ _ is) (up_to MAX_DAY new (new_day_tells entries new h).range)
-day_ruled entries (PutProduct other nominal unit) h day is = absurd (cc)
-day_ruled entries (PutTare other date tare) h day is = absurd (cc)
-day_ruled entries (OpenBatch name other density) h day is = absurd (cc)
-day_ruled entries (StartLane lane name) h day is = absurd (cc)
-day_ruled entries (Weigh number gross prior) h day is = absurd (cc)
-day_ruled entries (StopLane number prior) h day is = absurd (cc)
-day_ruled entries (Void pack) h day is = absurd (cc)
-day_ruled entries (EndRun other) h day is = absurd (cc)
-day_ruled entries (Draw other mode word) h day is = absurd (cc)
-day_ruled entries (Measure pack gross empty) h day is = absurd (cc)
-day_ruled entries (DrawSecond other word) h day is = absurd (cc)
-day_ruled entries (Close other) h day is = absurd (cc)
+day_ruled entries act h day is = absurd (cc)
 
 tare_ruled : (entries : List Entry) (act : Act) → IsAllowed entries act → AllByRecursion (λ name. is_some (product_number entries name) ≡ true) (cons_option (tare_named act) [])
-tare_ruled entries (PutTare other date tare) h = (sym (product_is_known entries other) ∙ (put_tare_tells entries other date tare h).known, tt)
-tare_ruled entries (NewDay new) h = tt
-tare_ruled entries (PutProduct other nominal unit) h = tt
-tare_ruled entries (OpenBatch name other density) h = tt
-tare_ruled entries (StartLane lane name) h = tt
-tare_ruled entries (Weigh number gross prior) h = tt
-tare_ruled entries (StopLane number prior) h = tt
-tare_ruled entries (Void pack) h = tt
-tare_ruled entries (EndRun other) h = tt
-tare_ruled entries (Draw other mode word) h = tt
-tare_ruled entries (Measure pack gross empty) h = tt
-tare_ruled entries (DrawSecond other word) h = tt
-tare_ruled entries (Close other) h = tt
+tare_ruled entries (PutTare other date tare) h = (sym (nominal_where_put entries other) ∙ (put_tare_tells entries other date tare h).known, tt)
+tare_ruled entries act h = tt
 
 opened_new : (entries : List Entry) (act : Act) → IsAllowed entries act → (batch : Name) → batch_opened act ≡ Some batch → is_some (batch_number entries batch) ≡ false
 opened_new entries (OpenBatch name other density) h batch is =
-    subst (λ (b : Name). is_some (batch_number entries b) ≡ false) (same_Some _ _ is) (sym (batch_is_known entries name) ∙ ap is_some (open_batch_tells entries name other density h).new)
-opened_new entries (NewDay day) h batch is = absurd (cc)
-opened_new entries (PutProduct other nominal unit) h batch is = absurd (cc)
-opened_new entries (PutTare other day tare) h batch is = absurd (cc)
-opened_new entries (StartLane lane other) h batch is = absurd (cc)
-opened_new entries (Weigh lane gross prior) h batch is = absurd (cc)
-opened_new entries (StopLane lane prior) h batch is = absurd (cc)
-opened_new entries (Void pack) h batch is = absurd (cc)
-opened_new entries (EndRun other) h batch is = absurd (cc)
-opened_new entries (Draw other mode word) h batch is = absurd (cc)
-opened_new entries (Measure pack gross empty) h batch is = absurd (cc)
-opened_new entries (DrawSecond other word) h batch is = absurd (cc)
-opened_new entries (Close other) h batch is = absurd (cc)
+    subst (λ (b : Name). is_some (batch_number entries b) ≡ false) (same_Some _ _ is) (sym (product_where_opened entries name) ∙ ap is_some (open_batch_tells entries name other density h).new)
+opened_new entries act h batch is = absurd (cc)
 
 -- either the last act said it, or it was said before
 last_is : {A : Type 0} {P : Type 0} (x : A) (own before : Option A) → option_or own before ≡ Some x → (own ≡ Some x → P) → (before ≡ Some x → P) → P
@@ -188,18 +135,7 @@ module _ (entries : List Entry) (entry : Entry) where
           with_number None none k = absurd (let wrong = sym (ap is_some none) ∙ k in cc)
           with_number (Some number) numbered k =
               record { batch = batch; of_batch = of; number = number; numbered = batch_keeps entries entry batch k ∙ numbered; day = day; on_day = is }
-  own_weighed (NewDay new) known h = tt
-  own_weighed (PutProduct other nominal unit) known h = tt
-  own_weighed (PutTare other date tare) known h = tt
-  own_weighed (OpenBatch name other density) known h = tt
-  own_weighed (StartLane lane name) known h = tt
-  own_weighed (StopLane number prior) known h = tt
-  own_weighed (Void pack) known h = tt
-  own_weighed (EndRun other) known h = tt
-  own_weighed (Draw other mode word) known h = tt
-  own_weighed (Measure pack gross empty) known h = tt
-  own_weighed (DrawSecond other word) known h = tt
-  own_weighed (Close other) known h = tt
+  own_weighed act known h = tt
 
   pub known-push : Known entries → IsAllowed entries entry.act → Known (entries ++ entry ∷ [])
   known-push known h =

@@ -34,15 +34,15 @@ use Rattle.book_packs.specs.Entering.{IsNext, IsWeighing, IsStop, IsVoid, newly_
 use Rattle.book_packs.proofs.Lists.{map-map, map-within, all_then, all-map}
 use Rattle.book_words.proofs.PlaceLemmas.{place_of-name}
 use Rattle.book_words.proofs.AllowedActs.{IsAllowed, allowed, weigh_tells, stop_lane_tells, void_tells}
-use Rattle.book_packs.proofs.Numbered.{batch_keeps}
+use Rattle.book_packs.proofs.KeptNumbers.{batch_keeps}
 use Rattle.book_packs.proofs.Known.{Known, known_of, IsWeighed, tare_named, is_there, up_to}
-use Rattle.book_packs.proofs.Registering.{lane_at}
+use Rattle.book_packs.proofs.TareRegisters.{lane_at}
 use Rattle.book_packs.proofs.Lone.{is_lane_unsettled, list_settled, number_kept}
-use Rattle.book_packs.proofs.Sampling.{is_draw, holds, holds_no_next, sampled_stays}
-use Rattle.book_packs.proofs.Staying.{tares_keep, batches_keep, packs-push, pack_kept, tare_keeps}
-use Rattle.book_packs.proofs.Settled.{IsLaneAct, settled_is}
-use Rattle.book_packs.proofs.Adding.{range_set, reading_is_added, not_added}
-use Rattle.book_packs.proofs.Tared.{light_reading}
+use Rattle.book_packs.proofs.SampleNumbers.{is_draw, holds, holds_no_next, sampled_stays}
+use Rattle.book_packs.proofs.StandingTerms.{tares_keep, batches_keep, packs-push, pack_kept, tare_keeps}
+use Rattle.book_packs.proofs.LaneSettlement.{IsLaneAct, settled_is}
+use Rattle.book_packs.proofs.AddedNumbers.{range_set, reading_is_added, not_added}
+use Rattle.book_packs.proofs.TareLimits.{light_reading}
 use Rattle.book_words.proofs.PlainLemmas.{eqb-swap}
 use Rattle.std.proofs.lemmas.Option.{same_Some}
 

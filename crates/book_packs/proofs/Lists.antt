@@ -2,7 +2,7 @@
 use Rattle.std.proofs.Common.{◌≡◌, ℕ, zero, suc, ◌+◌, ◌==◌, Bool, true, false, ◌&&◌, cond, List, [], ◌∷◌, ◌++◌, length, map, Option, Some, None, option_map, is_some, refl, sym, ◌∙◌, ap, arith, inl, inr, ◌⊎◌, append-nil}
 use Rattle.std.specs.List.{AllByRecursion, filter, find, cons_option, slice_get, count_by}
 use Rattle.std.proofs.lemmas.Bool.{eqb-true, eq-eqb, cases_Bool}
-use Rattle.batch_sums.proofs.Adding.{sum_by-map}
+use Rattle.batch_sums.proofs.PackSums.{sum_by-map}
 use Rattle.book_words.specs.declared.name.Name.{Name}
 use Rattle.book_words.specs.Names.{same_name}
 use Rattle.book_words.specs.Order.{place_of}

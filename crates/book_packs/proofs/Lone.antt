@@ -20,7 +20,7 @@ use Rattle.book_packs.specs.Stand.{unsettled_number}
 use Rattle.book_packs.proofs.Lists.{filter-map}
 use Rattle.book_words.specs.Samples.{numbers_of}
 use Rattle.book_words.proofs.DrawnPacks.{AscendWithin, readings_ascend}
-use Rattle.book_packs.proofs.Ascending.{later}
+use Rattle.book_packs.proofs.NumberOrder.{later}
 use Rattle.std.proofs.Math.Bool.{and-true, and-false}
 
 -- whether a number is the one that is there, if any
@@ -130,18 +130,7 @@ away prior rest own false h = refl
 -- the own reading of an act that doesn't settle a lane is none of the lane's
 own_elsewhere : (lane number : ℕ) (before : List Entry) (act : Act) (signal : Option Signal) → is_none (prior_told lane act) ≡ true → filter (is_lane_unsettled lane) (cons_option (weighed_reading number before act signal []) []) ≡ []
 own_elsewhere lane number before (Weigh other gross prior) signal h = away prior (is_pass signal && true) (own_of number before other gross signal) (other == lane) h
-own_elsewhere lane number before (NewDay day) signal h = refl
-own_elsewhere lane number before (PutProduct name nominal unit) signal h = refl
-own_elsewhere lane number before (PutTare product day tare) signal h = refl
-own_elsewhere lane number before (OpenBatch batch product density) signal h = refl
-own_elsewhere lane number before (StartLane other batch) signal h = refl
-own_elsewhere lane number before (StopLane other prior) signal h = refl
-own_elsewhere lane number before (Void pack) signal h = refl
-own_elsewhere lane number before (EndRun batch) signal h = refl
-own_elsewhere lane number before (Draw batch mode word) signal h = refl
-own_elsewhere lane number before (Measure pack gross empty) signal h = refl
-own_elsewhere lane number before (DrawSecond batch word) signal h = refl
-own_elsewhere lane number before (Close batch) signal h = refl
+own_elsewhere lane number before act signal h = refl
 
 module _ (entries : List Entry) (entry : Entry) (lane : ℕ) where
   both_parts : filter (is_lane_unsettled lane) (readings (entries ++ entry ∷ []))

@@ -33,12 +33,12 @@ use Rattle.book_packs.specs.Stand.{Standing, IsPacksOf, tares_in, terms_of_batch
 use Rattle.book_packs.specs.Entering.{IsNext, IsTarePut, IsOpening, leaves_packs}
 use Rattle.book_packs.proofs.Lists.{map-map, map-within, all_then}
 use Rattle.book_words.proofs.AllowedActs.{IsAllowed, allowed, put_tare_tells}
-use Rattle.book_packs.proofs.Numbered.{product_keeps}
+use Rattle.book_packs.proofs.KeptNumbers.{product_keeps}
 use Rattle.book_packs.proofs.Known.{Known, known_of, IsWeighed, tare_named, is_there, up_to}
-use Rattle.book_packs.proofs.Retaring.{own_entry_is, reading_retared}
+use Rattle.book_packs.proofs.ReadingTares.{own_entry_is, reading_retared}
 use Rattle.book_packs.proofs.Lone.{number_kept}
-use Rattle.book_packs.proofs.Sampling.{is_draw, sampled_stays}
-use Rattle.book_packs.proofs.Staying.{built, tares_keep, batches-push, batches_keep, packs-push, pack_kept, pack_tared}
+use Rattle.book_packs.proofs.SampleNumbers.{is_draw, sampled_stays}
+use Rattle.book_packs.proofs.StandingTerms.{built, tares_keep, batches-push, batches_keep, packs-push, pack_kept, pack_tared}
 use Rattle.book_words.proofs.PlainLemmas.{eqb-swap, or_none}
 use Rattle.std.proofs.Math.Bool.{or-false}
 
@@ -67,13 +67,7 @@ quiet (StartLane lane name) h = record { still = record { told = λ lane. refl; 
 quiet (EndRun name) h = record { still = record { told = λ lane. refl; voids = λ number. refl; draws = refl; own = λ number before signal. refl }; tares = refl; opens = refl }
 quiet (Measure pack gross empty) h = record { still = record { told = λ lane. refl; voids = λ number. refl; draws = refl; own = λ number before signal. refl }; tares = refl; opens = refl }
 quiet (Close name) h = record { still = record { told = λ lane. refl; voids = λ number. refl; draws = refl; own = λ number before signal. refl }; tares = refl; opens = refl }
-quiet (PutTare name day tare) h = absurd (cc)
-quiet (OpenBatch batch name density) h = absurd (cc)
-quiet (Weigh lane gross prior) h = absurd (cc)
-quiet (StopLane lane prior) h = absurd (cc)
-quiet (Void pack) h = absurd (cc)
-quiet (Draw name mode word) h = absurd (cc)
-quiet (DrawSecond name word) h = absurd (cc)
+quiet act h = absurd (cc)
 
 module _ (entries : List Entry) (entry : Entry) (still : IsStill entry.act) where
   pub pile_still : (reading : Reading) → pile_of (entries ++ entry ∷ []) (advance entry.act reading) ≡ pile_of entries reading

@@ -21,7 +21,7 @@ use Rattle.book_words.specs.Verdicts.{verdict_of}
 use Rattle.book_words.specs.Refusals as rules
 use Rattle.book_words.specs.Answers.{judged_or_done, reply_behind, IsLegal}
 use Rattle.book_words.proofs.RefusalLemmas.{none_of_two}
-use Rattle.book_words.proofs.AllowedActs.{IsAllowed, allowed, is_there}
+use Rattle.book_words.proofs.AllowedActs.{IsAllowed, allowed, is_there, close_tells}
 use Rattle.book_laws.proofs.VerdictLaws.{verdicts_stay}
 use Rattle.book_state.specs.Told.{entry_numbered}
 use Rattle.book_rules.specs.Replying.{reply_with}
@@ -101,18 +101,15 @@ product_later before after batch h =
 
 -- a batch that an allowed act closes is there
 pub closes_known : (entries : List Entry) (batch : Name) → IsAllowed entries (Close batch) → is_some (product_of entries batch) ≡ true
-closes_known entries batch h =
-    let a = none_of_two (rules.day_unset entries) _ h in
-    let b = none_of_two (rules.batch_unknown entries batch) _ a.1 in
-    is_there (product_of entries batch) _ b.0
+closes_known entries batch h = (close_tells entries batch h).known
 
 -- a batch whose closing a legal list holds is there
 pub held_known : (entries : List Entry) (row : ℕ) (act : Act) (batch : Name) → IsLegal entries → HoldsAct entries row act → act ≡ Close batch → is_some (product_of entries batch) ≡ true
 held_known entries row act batch legal holds is =
     let at = parts_at entries row holds.entry holds.numbered in
     let before = take (row - 1) entries in
-    let allowed = allowed before holds.entry (legal before holds.entry at.after at.parts) in
-    let closing : IsAllowed before (Close batch) = subst (IsAllowed before) (holds.same ∙ is) allowed in
+    let free = allowed before holds.entry (legal before holds.entry at.after at.parts) in
+    let closing : IsAllowed before (Close batch) = subst (IsAllowed before) (holds.same ∙ is) free in
     subst (λ (es : List Entry). is_some (product_of es batch) ≡ true) (sym at.parts) (product_later before (holds.entry ∷ at.after) batch (closes_known before batch closing))
 
 -- an act whose row a legal list holds is told what its row was told

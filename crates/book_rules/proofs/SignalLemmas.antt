@@ -21,7 +21,7 @@ use Rattle.book_packs.specs.Densities.{limit_at, limits_at}
 use Rattle.book_packs.specs.declared.types.AtWeighing.{AtWeighing}
 use Rattle.book_packs.specs.Told.{met_at}
 use Rattle.book_packs.proofs.Below.{class_is}
-use Rattle.book_laws.proofs.TareLaws.{started_for_it}
+use Rattle.book_words.proofs.SaidTogether.{started_for_it}
 
 -- the signal by the limits in mg is the one by the density
 signal_is : (density : ℕ) (limits : Limits) (net : ℤ) (held : Bool) (population nonstandard : ℕ)

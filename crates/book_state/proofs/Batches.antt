@@ -17,11 +17,11 @@ use Rattle.book_words.specs.Answers.{IsLegal}
 use Rattle.book_packs.specs.Stand.{Standing, IsPacksOf, terms_of_batch}
 use Rattle.book_index.proofs.LegalNames.{legal_named}
 use Rattle.book_words.proofs.PlaceLemmas.{place_of-name}
-use Rattle.book_index.proofs.SaidNames.{product_where_opened}
+use Rattle.book_words.proofs.SaidNames.{product_where_opened}
 use Rattle.book_laws.proofs.BatchLaws.{orderly, is_fixed, no_sample}
 use Rattle.book_laws.proofs.UnsettledLaws.{Belongs, each_belongs}
 use Rattle.book_laws.proofs.PopulationLaws.{batch_of}
-use Rattle.book_state.proofs.Named.{none_of}
+use Rattle.book_words.proofs.PlainLemmas.{none_of}
 
 -- a batch without a number isn't one
 pub no_batch : (entries : List Entry) (batch : Name) → None ≡ batch_number entries batch → product_of entries batch ≡ None

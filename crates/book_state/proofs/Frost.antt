@@ -25,7 +25,7 @@ use Rattle.book_words.proofs.LastSaid.{last_said-push}
 use Rattle.book_words.proofs.NameLemmas.{same_name_itself}
 use Rattle.book_index.proofs.LegalNames.{legal_named}
 use Rattle.book_words.proofs.PlaceLemmas.{place_of-name}
-use Rattle.book_index.proofs.SaidNames.{nominal_where_put}
+use Rattle.book_words.proofs.SaidNames.{nominal_where_put}
 use Rattle.book_laws.proofs.KnownLaws.{apart}
 use Rattle.book_laws.proofs.FrozenLaws.{put_push, and_then_agree}
 use Rattle.book_laws.proofs.UnsettledLaws.{Belongs, each_belongs}

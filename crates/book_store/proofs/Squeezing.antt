@@ -12,7 +12,7 @@ use Rattle.book_words.specs.Answers.{IsLegal}
 use Rattle.book_state.specs.Told.{entry_numbered}
 use Rattle.book_snapshot.specs.declared.layout.TheConstants.{ROW_BYTES, KIND_PLACE, FIELDS_PLACE, LEFT_OUT}
 use Rattle.book_snapshot.specs.DenseRows.{dense, content}
-use Rattle.book_snapshot.proofs.Trimmed.{trimmed_no_longer}
+use Rattle.book_snapshot.proofs.EndZeros.{trimmed_no_longer}
 use Rattle.row_format.specs.Spelling.{new_layout, row_bytes}
 use Rattle.row_format.specs.Allowed.{IsAllowed, IsAllowedWhereLawful}
 use Rattle.row_format.specs.Rows.{Spells}

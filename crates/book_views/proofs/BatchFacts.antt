@@ -18,15 +18,15 @@ use Rattle.book_words.specs.Refusals as rules
 use Rattle.book_words.specs.Refusals.{refused_if, suits_unit}
 use Rattle.book_words.specs.Answers.{IsLegal}
 use Rattle.book_words.proofs.LastSaid.{last_said-push}
-use Rattle.book_words.proofs.RefusalLemmas.{none_of_two, not_refused}
-use Rattle.book_words.proofs.LegalLemmas.{legal-prefix}
+use Rattle.book_words.proofs.RefusalLemmas.{not_refused}
+use Rattle.book_words.proofs.LegalLemmas.{legal_steps}
 use Rattle.book_words.specs.declared.views.TheConstants.{MAX_DRAWN}
 use Rattle.book_words.specs.Samples.{Sample, sample_of}
 use Rattle.book_words.specs.Verdicts.{second_packs}
 use Rattle.book_words.specs.Ranges.{IsSampleInRange}
 use Rattle.book_laws.proofs.RangeLaws.{sample_within}
 use Rattle.book_laws.proofs.KnownLaws.{put_apart}
-use Rattle.book_words.proofs.AllowedActs.{IsAllowed, allowed}
+use Rattle.book_words.proofs.AllowedActs.{IsAllowed, allowed, open_batch_tells}
 use Rattle.book_laws.proofs.TareLaws.{IsTared, tared_of}
 use Rattle.std.proofs.lemmas.Option.{same_Some}
 
@@ -62,37 +62,23 @@ suits_by_act entries (OpenBatch name other dense) tared suits h batch product de
     each : (b : Bool) → option_or (cond b (Some other) None) (product_of entries batch) ≡ Some product → option_or (cond b (Some dense) None) (density_of entries batch) ≡ Some density → suits_unit unit density ≡ true
     each false p q = suits batch product density unit p q measured
     each true p q =
-        let a = none_of_two (rules.day_unset entries) _ h in
-        let b = none_of_two (rules.product_unknown entries other) _ a.1 in
-        let c = none_of_two (rules.name_shape name) _ b.1 in
-        let d = none_of_two (rules.batch_known entries name) _ c.1 in
-        let e = none_of_two (rules.density_range entries other dense) None d.1 in
         let same : other ≡ product = same_Some other product p in
         let found : unit_of entries other ≡ Some unit = ap (unit_of entries) same ∙ measured in
-        subst (λ n. suits_unit unit n ≡ true) (same_Some dense density q) (not_unsuited unit (unit_of entries other) dense found e.0)
+        subst (λ n. suits_unit unit n ≡ true) (same_Some dense density q) (not_unsuited unit (unit_of entries other) dense found (open_batch_tells entries name other dense h).suits)
 suits_by_act entries (PutProduct name nominal put) tared suits h batch product density unit given recorded measured =
     let other = put_apart entries name product nominal put h (tared.products batch product given) in
     suits batch product density unit given recorded (sym (ap (λ b. option_or (cond b (Some put) None) (unit_of entries product)) other) ∙ measured)
 suits_by_act entries act tared suits h batch product density unit given recorded measured = suits batch product density unit given recorded measured
 
-suits_behind : (before after : List Entry) → DensitiesSuit before → IsLegal (before ++ after) → DensitiesSuit (before ++ after)
-suits_behind before [] suits legal = subst DensitiesSuit (sym (append-nil before)) suits
-suits_behind before (entry ∷ after) suits legal =
-    let whole : (before ++ entry ∷ []) ++ after ≡ before ++ entry ∷ after = append_assoc before (entry ∷ []) after in
-    let front = legal-prefix before (entry ∷ after) legal in
-    let allowed = allowed before entry (legal before entry after refl) in
-    subst DensitiesSuit whole
-    (suits_behind (before ++ entry ∷ []) after
-    (λ batch product density unit given recorded measured.
-    suits_by_act before entry.act (tared_of before front) suits allowed batch product density unit
+-- so it is in each legal list
+pub density_suits : (entries : List Entry) → IsLegal entries → DensitiesSuit entries
+density_suits =
+    legal_steps DensitiesSuit (λ batch product density unit given recorded measured. absurd (cc))
+    (λ before entry legal lawful suits batch product density unit given recorded measured.
+    suits_by_act before entry.act (tared_of before legal) suits (allowed before entry lawful) batch product density unit
     (sym (last_said-push (product_given batch) before entry) ∙ given)
     (sym (last_said-push (density_given batch) before entry) ∙ recorded)
     (sym (last_said-push (unit_put product) before entry) ∙ measured))
-    (subst IsLegal (sym whole) legal))
-
--- so it is in each legal list
-pub density_suits : (entries : List Entry) → IsLegal entries → DensitiesSuit entries
-density_suits entries legal = suits_behind [] entries (λ batch product density unit given recorded measured. absurd (cc)) legal
 
 -- a density that suits goods by volume is within its limits
 pub volume_within : (unit : units.Unit) (density : ℕ) → unit ≡ Volume → suits_unit unit density ≡ true → (MIN_DENSITY ≤ density) × (density ≤ MAX_DENSITY)

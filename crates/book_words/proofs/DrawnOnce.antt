@@ -58,15 +58,7 @@ states_step entries (Draw n mode word) h have name =
 states_step entries (Close n) h have name =
     known_stays n name Closed (state_of entries name) (product_of entries name) (have name)
     (moved_name entries n name (close_tells entries n h).known) (same_name n name) refl
-states_step entries (NewDay day) h have name = have name
-states_step entries (PutProduct product nominal unit) h have name = have name
-states_step entries (PutTare product day tare) h have name = have name
-states_step entries (StartLane lane n) h have name = have name
-states_step entries (Weigh lane gross prior) h have name = have name
-states_step entries (StopLane lane prior) h have name = have name
-states_step entries (Void pack) h have name = have name
-states_step entries (Measure pack gross empty) h have name = have name
-states_step entries (DrawSecond n word) h have name = have name
+states_step entries act h have name = have name
 
 -- in a legal list a batch has a state exactly where it has a product
 pub states_known : (entries : List Entry) → IsLegal entries → (batch : Name) → is_some (state_of entries batch) ≡ is_some (product_of entries batch)
@@ -154,14 +146,7 @@ undrawn_step entries (Close n) legal h name undrawn = either (same_name n name) 
     either : (test : Bool) → same_name n name ≡ test → is_undrawn (option_or (if test then Some Closed else None) (state_of entries name)) ≡ true → DrawsNothing entries name (Close n)
     either true same u = absurd (true_is_not_false (sym u))
     either false same u = record { state = u; first = refl; second = refl }
-undrawn_step entries (NewDay day) legal h name undrawn = record { state = undrawn; first = refl; second = refl }
-undrawn_step entries (PutProduct product nominal unit) legal h name undrawn = record { state = undrawn; first = refl; second = refl }
-undrawn_step entries (PutTare product day tare) legal h name undrawn = record { state = undrawn; first = refl; second = refl }
-undrawn_step entries (StartLane lane n) legal h name undrawn = record { state = undrawn; first = refl; second = refl }
-undrawn_step entries (Weigh lane gross prior) legal h name undrawn = record { state = undrawn; first = refl; second = refl }
-undrawn_step entries (StopLane lane prior) legal h name undrawn = record { state = undrawn; first = refl; second = refl }
-undrawn_step entries (Void pack) legal h name undrawn = record { state = undrawn; first = refl; second = refl }
-undrawn_step entries (Measure pack gross empty) legal h name undrawn = record { state = undrawn; first = refl; second = refl }
+undrawn_step entries act legal h name undrawn = record { state = undrawn; first = refl; second = refl }
 
 abbrev UndrawnByState : List Entry → Type 0
 UndrawnByState entries = (batch : Name) → is_undrawn (state_of entries batch) ≡ true → IsUndrawn entries batch
@@ -201,18 +186,7 @@ undrawn_at_draw entries entry batch drawing legal lawful draws = by_act entry.ac
             (ap (λ (b : Name). is_undrawn (state_of entries b)) (sym (same_name_is n batch same))
             ∙ by_states (Ended ∷ []) (state_of entries n) (draw_tells entries n mode word h).state refl refl)
         either false same d = absurd (no_drawing drawing d)
-    by_act (NewDay day) h draws = absurd (no_drawing drawing draws)
-    by_act (PutProduct product nominal unit) h draws = absurd (no_drawing drawing draws)
-    by_act (PutTare product day tare) h draws = absurd (no_drawing drawing draws)
-    by_act (OpenBatch n product density) h draws = absurd (no_drawing drawing draws)
-    by_act (StartLane lane n) h draws = absurd (no_drawing drawing draws)
-    by_act (Weigh lane gross prior) h draws = absurd (no_drawing drawing draws)
-    by_act (StopLane lane prior) h draws = absurd (no_drawing drawing draws)
-    by_act (Void pack) h draws = absurd (no_drawing drawing draws)
-    by_act (EndRun n) h draws = absurd (no_drawing drawing draws)
-    by_act (Measure pack gross empty) h draws = absurd (no_drawing drawing draws)
-    by_act (DrawSecond n word) h draws = absurd (no_drawing drawing draws)
-    by_act (Close n) h draws = absurd (no_drawing drawing draws)
+    by_act act h draws = absurd (no_drawing drawing draws)
 
 -- the draw of a batch, once made, stays the one behind each lawful entry
 pub drawing_stays : (entries : List Entry) (entry : Entry) (batch : Name) (drawing : Drawing) → IsLegal entries → IsLawful entries entry
@@ -257,15 +231,7 @@ drawn_by entries (Close n) batch h before = either (same_name n batch) h
     either : (test : Bool) → option_or (if test then Some Closed else None) (state_of entries batch) ≡ Some Drawn → is_some (drawing_of entries batch) ≡ true
     either true h = absurd (closed_is_not_drawn h)
     either false h = before h
-drawn_by entries (NewDay day) batch h before = before h
-drawn_by entries (PutProduct product nominal unit) batch h before = before h
-drawn_by entries (PutTare product day tare) batch h before = before h
-drawn_by entries (StartLane lane n) batch h before = before h
-drawn_by entries (Weigh lane gross prior) batch h before = before h
-drawn_by entries (StopLane lane prior) batch h before = before h
-drawn_by entries (Void pack) batch h before = before h
-drawn_by entries (Measure pack gross empty) batch h before = before h
-drawn_by entries (DrawSecond n word) batch h before = before h
+drawn_by entries act batch h before = before h
 
 -- in a legal list a batch in the state Drawn has a draw
 pub drawn_has_draw : (entries : List Entry) → IsLegal entries → (batch : Name) → state_of entries batch ≡ Some Drawn → is_some (drawing_of entries batch) ≡ true

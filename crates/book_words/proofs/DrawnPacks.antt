@@ -54,18 +54,7 @@ ascend-few least most (n ∷ ns) h k =
 -- a weighing has the number that it is given
 numbered : (number : ℕ) (before : List Entry) (act : Act) (signal : Option Signal) (after : List Entry) → IfSome (weighed_reading number before act signal after) (λ reading. reading.number ≡ number)
 numbered number before (Weigh lane gross prior) signal after = refl
-numbered number before (NewDay day) signal after = tt
-numbered number before (PutProduct product nominal unit) signal after = tt
-numbered number before (PutTare product day tare) signal after = tt
-numbered number before (OpenBatch batch product density) signal after = tt
-numbered number before (StartLane lane batch) signal after = tt
-numbered number before (StopLane lane prior) signal after = tt
-numbered number before (Void pack) signal after = tt
-numbered number before (EndRun batch) signal after = tt
-numbered number before (Draw batch mode word) signal after = tt
-numbered number before (Measure pack gross empty) signal after = tt
-numbered number before (DrawSecond batch word) signal after = tt
-numbered number before (Close batch) signal after = tt
+numbered number before act signal after = tt
 
 -- the number of a reading is one more than its place
 pub placed_reading-number : (entries : List Entry) (place : ℕ) → IfSome (placed_reading entries place) (λ reading. reading.number ≡ place + 1)
@@ -115,18 +104,7 @@ drawn_ascends entries batch (Draw name mode word) = either (same_name name batch
     either : (test : Bool) → IfSome (if test then Some (record { mode = mode; word = word; packs = numbers_of (population entries batch) }) else None) (λ (drawing : Drawing). AscendWithin 1 (length entries) drawing.packs)
     either true = population_ascends entries batch
     either false = tt
-drawn_ascends entries batch (NewDay day) = tt
-drawn_ascends entries batch (PutProduct product nominal unit) = tt
-drawn_ascends entries batch (PutTare product day tare) = tt
-drawn_ascends entries batch (OpenBatch name product density) = tt
-drawn_ascends entries batch (StartLane lane name) = tt
-drawn_ascends entries batch (Weigh lane gross prior) = tt
-drawn_ascends entries batch (StopLane lane prior) = tt
-drawn_ascends entries batch (Void pack) = tt
-drawn_ascends entries batch (EndRun name) = tt
-drawn_ascends entries batch (Measure pack gross empty) = tt
-drawn_ascends entries batch (DrawSecond name word) = tt
-drawn_ascends entries batch (Close name) = tt
+drawn_ascends entries batch act = tt
 
 draws_step : (before : List Entry) (entry : Entry) → IsLegal before → IsLawful before entry → DrawsAscend before → DrawsAscend (before ++ entry ∷ [])
 draws_step before entry legal lawful have batch =

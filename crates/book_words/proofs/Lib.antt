@@ -1,6 +1,7 @@
 pub mod NameLemmas
 pub mod PlainLemmas
 pub mod LastSaid
+pub mod SaidTogether
 pub mod OneMoreEntry
 pub mod RefusalLemmas
 pub mod AllowedActs
@@ -8,6 +9,8 @@ pub mod LegalLemmas
 pub mod DrawnLemmas
 pub mod DrawnOnce
 pub mod PlaceLemmas
+pub mod PileLemmas
+pub mod SaidNames
 pub mod OpenedOnce
 pub mod SampleSteps
 pub mod DrawnPacks

@@ -16,6 +16,7 @@ use Rattle.book_words.proofs.LastSaid.{last_or-cons}
 use Rattle.book_words.proofs.DrawnOnce.{opened_is_new}
 use Rattle.book_words.proofs.AllowedActs.{allowed}
 use Rattle.book_words.proofs.LegalLemmas.{legal_steps}
+use Rattle.std.proofs.lemmas.Bool.{or_parts}
 
 true_is_not_false : true ≡ false → ⊥
 true_is_not_false h = cc
@@ -63,18 +64,7 @@ not_given name (OpenBatch other product density) h = either (same_name other nam
         some_is_not_none : Some product ≡ None → ⊥
         some_is_not_none h = cc
     either false same h = same
-not_given name (NewDay day) h = refl
-not_given name (PutProduct product nominal unit) h = refl
-not_given name (PutTare product day tare) h = refl
-not_given name (StartLane lane other) h = refl
-not_given name (Weigh lane gross prior) h = refl
-not_given name (StopLane lane prior) h = refl
-not_given name (Void pack) h = refl
-not_given name (EndRun other) h = refl
-not_given name (Draw other mode word) h = refl
-not_given name (Measure pack gross empty) h = refl
-not_given name (DrawSecond other word) h = refl
-not_given name (Close other) h = refl
+not_given name act h = refl
 
 none_named : (name : Name) (o : Option Name) (entries : List Entry) → last_or o (said (product_given name) entries) ≡ None → (o ≡ None) × (is_named name (said batch_opened entries) ≡ false)
 none_named name o [] h = (h, refl)
@@ -94,10 +84,6 @@ not_opened entries name h = (none_named name None entries h).1
 abbrev pub AreDistinct : List Name → Type 0
 AreDistinct [] = Unit {0}
 AreDistinct (name ∷ names) = (is_named name names ≡ false) × AreDistinct names
-
-or_parts : (a b : Bool) → a || b ≡ false → (a ≡ false) × (b ≡ false)
-or_parts true b h = absurd (true_is_not_false h)
-or_parts false b h = (refl, h)
 
 or_from : (a b : Bool) → a ≡ false → b ≡ false → a || b ≡ false
 or_from a b h k = rw (h, k) refl
@@ -121,18 +107,7 @@ OpensDistinct entries = AreDistinct (said batch_opened entries)
 distinct_step : (entries : List Entry) (act : Act) → first_refusal (refusals_of entries act) ≡ None → OpensDistinct entries → AreDistinct (said batch_opened entries ++ cons_option (batch_opened act) [])
 distinct_step entries (OpenBatch name product density) h distinct =
     distinct-push (said batch_opened entries) name distinct (not_opened entries name (opened_is_new entries name product density h))
-distinct_step entries (NewDay day) h distinct = rw append-nil distinct
-distinct_step entries (PutProduct product nominal unit) h distinct = rw append-nil distinct
-distinct_step entries (PutTare product day tare) h distinct = rw append-nil distinct
-distinct_step entries (StartLane lane other) h distinct = rw append-nil distinct
-distinct_step entries (Weigh lane gross prior) h distinct = rw append-nil distinct
-distinct_step entries (StopLane lane prior) h distinct = rw append-nil distinct
-distinct_step entries (Void pack) h distinct = rw append-nil distinct
-distinct_step entries (EndRun other) h distinct = rw append-nil distinct
-distinct_step entries (Draw other mode word) h distinct = rw append-nil distinct
-distinct_step entries (Measure pack gross empty) h distinct = rw append-nil distinct
-distinct_step entries (DrawSecond other word) h distinct = rw append-nil distinct
-distinct_step entries (Close other) h distinct = rw append-nil distinct
+distinct_step entries act h distinct = rw append-nil distinct
 
 -- no two batches of a legal list have one name
 pub opened_once : (entries : List Entry) → IsLegal entries → AreDistinct (said batch_opened entries)

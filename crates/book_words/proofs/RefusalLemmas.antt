@@ -92,14 +92,7 @@ rules_in_range entries (Measure pack gross empty) h =
     in_range_of_either : (a b : Bool) → (not a || b) ≡ false → a ≡ true
     in_range_of_either true b h = refl
     in_range_of_either false b h = absurd (cc)
-rules_in_range entries (OpenBatch batch product density) h = refl
-rules_in_range entries (StartLane lane batch) h = refl
-rules_in_range entries (StopLane lane prior) h = refl
-rules_in_range entries (Void pack) h = refl
-rules_in_range entries (EndRun batch) h = refl
-rules_in_range entries (Draw batch mode word) h = refl
-rules_in_range entries (DrawSecond batch word) h = refl
-rules_in_range entries (Close batch) h = refl
+rules_in_range entries act h = refl
 
 -- a refusal, where there is one, has this number
 abbrev Numbered : ℕ → Option Refusal → Type 0

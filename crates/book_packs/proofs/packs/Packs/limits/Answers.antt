@@ -2,7 +2,7 @@ use Rattle.std.proofs.Common.{◌≡◌, sym, ◌∙◌, ap, Some, option_map}
 use Rattle.std.specs.List.{slice_get}
 use Rattle.batch_sums.specs.Totals.{Terms}
 use Rattle.book_packs.specs.Stand.{Standing}
-use Rattle.book_packs.proofs.Telling.{terms_at}
+use Rattle.book_packs.proofs.PackTotals.{terms_at}
 use Rattle.book_packs.proofs.packs.Packs.limits.Goals as goal
 use Rattle.std.proofs.lemmas.Option.{same_Some}
 

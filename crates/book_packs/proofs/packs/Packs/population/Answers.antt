@@ -4,9 +4,9 @@ use Rattle.batch_sums.specs.Totals as sums
 use Rattle.batch_sums.specs.Asked as asked
 use Rattle.book_packs.specs.Stand.{Standing}
 use Rattle.std.specs.List.Sorted.{IsStrictlyIncreasing}
-use Rattle.book_packs.proofs.Ascending.{population_increases}
+use Rattle.book_packs.proofs.NumberOrder.{population_increases}
 use Rattle.book_packs.proofs.Known.{known_of}
-use Rattle.book_packs.proofs.Telling.{numbers_are}
+use Rattle.book_packs.proofs.PackTotals.{numbers_are}
 use Rattle.book_packs.proofs.packs.Packs.population.Goals as goal
 
 if_ok : {T E : Type 0} (P Q : T → Type 0) (r : Result T E) → IfOk r P → ((x : T) → P x → Q x) → IfOk r Q

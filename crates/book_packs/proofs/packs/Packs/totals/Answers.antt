@@ -1,7 +1,7 @@
 use Rattle.std.proofs.Common.{◌≡◌, sym, ◌∙◌, ap, Some}
 use Rattle.book_packs.specs.Stand.{Standing}
 use Rattle.book_packs.proofs.Known.{known_of}
-use Rattle.book_packs.proofs.Telling.{totals_are}
+use Rattle.book_packs.proofs.PackTotals.{totals_are}
 use Rattle.book_packs.proofs.packs.Packs.totals.Goals as goal
 use Rattle.std.proofs.lemmas.Option.{same_Some}
 

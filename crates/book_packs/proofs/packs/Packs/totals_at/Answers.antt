@@ -5,9 +5,9 @@ use Rattle.book_packs.specs.Stand.{IsPacksOf, packs_in, terms_of_batch}
 use Rattle.book_packs.specs.Settling.{leaving, met_less}
 use Rattle.book_packs.specs.Told.{totals_told}
 use Rattle.book_packs.proofs.Known.{known_of}
-use Rattle.book_packs.proofs.Telling.{totals_are, terms_at}
-use Rattle.book_packs.proofs.Registering.{lane_at}
-use Rattle.book_packs.proofs.Meeting.{met_is}
+use Rattle.book_packs.proofs.PackTotals.{totals_are, terms_at}
+use Rattle.book_packs.proofs.TareRegisters.{lane_at}
+use Rattle.book_packs.proofs.MetPopulation.{met_is}
 use Rattle.book_packs.proofs.packs.Packs.totals_at.Goals as goal
 use Rattle.std.proofs.lemmas.Option.{same_Some}
 
