@@ -23,7 +23,8 @@ use Rattle.book_words.specs.Acts.{newest_day, last_batch}
 use Rattle.book_words.specs.Readings.{readings, weighed_reading, is_of_batch, net_of_reading}
 use Rattle.book_words.specs.Classes.{is_below, nominal_of_batch, density_of_batch, limits_of_batch}
 use Rattle.book_words.specs.Population.{population, counted_readings, is_counted, is_pass, nonstandard_count, inadequate_count}
-use Rattle.book_words.specs.Signals.{class_signal, signal_by_class, judged_signal, judging_population, recorded_signal}
+use Rattle.pack_judge.specs.Judge.{class_signal, signal_by_class}
+use Rattle.book_words.specs.Signals.{judged_signal, judging_population, recorded_signal}
 use Rattle.book_words.specs.Answers.{IsLegal}
 use Rattle.book_words.proofs.OneMoreEntry.{advance, own_reading}
 use Rattle.book_packs.specs.Told.{totals_told}

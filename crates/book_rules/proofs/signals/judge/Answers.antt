@@ -8,7 +8,7 @@ use Rattle.book_words.specs.declared.act.Act.TheVariants.{Weigh}
 use Rattle.book_packs.specs.Stand.{limits_told}
 use Rattle.book_packs.specs.Told.{met_at}
 use Rattle.std.proofs.lemmas.Option.{same_Some}
-use Rattle.book_rules.proofs.Judging.{judged}
+use Rattle.book_rules.proofs.SignalLemmas.{judged}
 use Rattle.book_rules.proofs.signals.judge.Goals as goal
 
 pub unreachable-requires : goal.unreachable-requires

@@ -1,7 +1,7 @@
 use Rattle.std.proofs.Common.{ℤ, w64, ◌∙◌, ap}
 use Rattle.std.proofs.lemmas.Int.{to_z-of_z}
 use Rattle.reference_test.specs.Means.{mean_accepts}
-use Rattle.book_views.proofs.Accepting.{mean_of_none}
+use Rattle.book_views.proofs.MeanLemmas.{mean_of_none}
 use Rattle.book_views.proofs.verdicts.is_mean_right.Goals as goal
 
 pub returns-else-number-eq0 : goal.returns-else-number-eq0

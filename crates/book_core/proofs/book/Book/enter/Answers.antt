@@ -6,7 +6,7 @@ use Rattle.book_words.proofs.LegalLemmas.{legal-push}
 use Rattle.book_words.proofs.AllowedActs.{allowed}
 use Rattle.book_laws.proofs.MoveLaws.{moves_only}
 use Rattle.book_core.specs.View.{BookView}
-use Rattle.book_core.proofs.Kept.{held_is, entered, entered_answer}
+use Rattle.book_core.proofs.BookLemmas.{held_is, entered, entered_answer}
 use Rattle.book_core.proofs.book.Book.enter.Goals as goal
 
 pub reply_new-reply-requires-clause-free : goal.reply_new-reply-requires-clause-free

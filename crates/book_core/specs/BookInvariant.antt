@@ -5,7 +5,7 @@ use Rattle.book_words.specs.Answers.{IsLegal}
 use Rattle.book_state.specs.View.{StateView}
 use Rattle.book_core.specs.declared.pending.Pending.{Pending}
 use Rattle.book_core.specs.View.{ReadyEntry}
-use Rattle.book_core.specs.Keeping.{IsReadyIn}
+use Rattle.book_core.specs.ReadyFacts.{IsReadyIn}
 
 -- the entry that is ready
 abbrev pub pending_entry : Option Pending → Option ReadyEntry

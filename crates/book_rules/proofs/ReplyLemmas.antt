@@ -26,8 +26,8 @@ use Rattle.book_laws.proofs.VerdictLaws.{verdicts_stay}
 use Rattle.book_state.specs.Told.{entry_numbered}
 use Rattle.book_rules.specs.Replying.{reply_with}
 use Rattle.book_rules.proofs.SameActs.{same_act_is}
-use Rattle.book_rules.proofs.Rows.{newest_is_row}
-use Rattle.book_rules.proofs.Closing.{close_keeps}
+use Rattle.book_rules.proofs.NewestRows.{newest_is_row}
+use Rattle.book_rules.proofs.ClosingLemmas.{close_keeps}
 
 -- an act that the rules allow is told over the list as it stands
 pub told_new : (entries : List Entry) (act : Act) → reply_with entries (length entries + 1) act (recorded_signal entries act) ≡ reply_behind entries act

@@ -13,9 +13,9 @@ use Rattle.book_state.specs.Prepared.{Drawn, drawn_by}
 use Rattle.book_core.specs.declared.pending.Pending.{Pending}
 use Rattle.book_core.specs.View.{ReadyEntry}
 use Rattle.book_core.specs.Steps.{asked_act, decision}
-use Rattle.book_core.specs.Keeping.{IsReadyIn}
-use Rattle.book_core.specs.Holding.{pending_entry, IsKept}
-use Rattle.book_core.proofs.Decided.{is_free, has_room, all_rules, lawful_answer}
+use Rattle.book_core.specs.ReadyFacts.{IsReadyIn}
+use Rattle.book_core.specs.BookInvariant.{pending_entry, IsKept}
+use Rattle.book_core.proofs.DecisionLemmas.{is_free, has_room, all_rules, lawful_answer}
 
 -- what is ready over a list is ready over the same list with at least as much room
 ready_on : (old new : StateView) (ready : ReadyEntry) (drawn : Drawn) → new.entries ≡ old.entries → old.spare ≤ new.spare → IsReadyIn old ready drawn → IsReadyIn new ready drawn

@@ -1,5 +1,5 @@
 -- What follows from the decision on an act.
-use Rattle.std.proofs.Common.{◌≡◌, Bool, ℕ, ◌<◌, nat_le, true, false, List, [], ◌∷◌, ◌++◌, length, Option, Some, None, Result, Ok, Err, refl, ◌∙◌, ap, arith}
+use Rattle.std.proofs.Common.{◌≡◌, Bool, ℕ, ◌<◌, nat_le, true, false, List, [], ◌∷◌, ◌++◌, length, Option, Some, None, Result, Ok, Err, refl, sym, ◌∙◌, ap, arith}
 use Rattle.std.proofs.lemmas.Bool.Decides.{nat_tests}
 use Rattle.std.specs.Option.{option_or}
 use Rattle.hall_limits.specs.declared.TheConstants.{MAX_ROWS}
@@ -14,11 +14,40 @@ use Rattle.book_words.specs.Numbers.{refusal_number, EachFrom}
 use Rattle.book_words.specs.Desks.{desk_number, request_old, request_reused, request_gap, repeated_row}
 use Rattle.book_words.specs.Refusals.{refused_if, book_full, first_refusal, desk_refusals, refusals_of, refusal_of, refusal_by_rule}
 use Rattle.book_words.specs.Signals.{recorded_signal}
-use Rattle.book_words.specs.Answers.{refused_at, accepted, desk_answer, act_answer, ask_of, IsLawful}
+use Rattle.book_words.specs.Answers.{refused_at, told_again, accepted, entry_for, entry_unless, desk_answer, act_answer, ask_of, IsLawful}
 use Rattle.book_words.proofs.RefusalLemmas.{none_of_two, none_of_parts, least_refusal}
 use Rattle.book_core.specs.declared.types.BookError.{BookError}
 use Rattle.book_core.specs.declared.types.BookError.TheVariants as error
-use Rattle.book_core.specs.Steps.{desk_decision, decision, handed_on}
+use Rattle.book_core.specs.Steps.{told_unless_new, decision, handed_on}
+
+-- a repeat is told again, any other act that isn't refused is new
+abbrev pub repeat_decision :
+    List Entry → Act → Option ℕ → Option Refusal → Result (Option Answered) BookError
+repeat_decision entries act (Some row) refusal = Ok (Some (told_again entries row act))
+repeat_decision entries act None (Some refusal) = Err (error.Refused (refused_at entries refusal))
+repeat_decision entries act None None = Ok None
+
+-- a wrong desk is refused before anything else is looked at
+abbrev pub desk_decision :
+    List Entry → Act → Option Refusal → Option ℕ → Option Refusal
+    → Result (Option Answered) BookError
+desk_decision entries act (Some by_desk) row by_rule =
+    Err (error.Refused (refused_at entries by_desk))
+desk_decision entries act None row by_rule = repeat_decision entries act row by_rule
+
+decision_parts : (entries : List Entry) (act : Act) (entry : Entry) (by_desk : Option Refusal) (row : Option ℕ) (by_rule : Option Refusal)
+    → told_unless_new (entry_unless row (option_or by_desk by_rule) entry) (desk_answer entries act by_desk row (option_or by_desk by_rule)) ≡ desk_decision entries act by_desk row (option_or by_desk by_rule)
+decision_parts entries act entry (Some refusal) None by_rule = refl
+decision_parts entries act entry (Some refusal) (Some row) by_rule = refl
+decision_parts entries act entry None (Some row) by_rule = refl
+decision_parts entries act entry None None (Some refusal) = refl
+decision_parts entries act entry None None None = refl
+
+-- the decision by its parts: a wrong desk, the row that is repeated, the first refusal
+pub decision_is : (limit : ℕ) (entries : List Entry) (ask : Ask) (act : Act) → decision limit entries ask act ≡ desk_decision entries act (desk_number ask act) (repeated_row entries ask act) (refusal_of limit entries ask act)
+decision_is limit entries ask act =
+    decision_parts entries act (entry_for entries 0 ask act) (desk_number ask act) (repeated_row entries ask act)
+    (first_refusal (request_old entries ask ∷ request_reused entries ask act ∷ request_gap entries ask ∷ book_full limit entries ∷ refusals_of entries act))
 
 -- an act that is neither refused nor known
 pub record IsFree (limit : ℕ) (entries : List Entry) (ask : Ask) (act : Act) : Type 0 where
@@ -35,12 +64,12 @@ nothing entries act None None None h = (refl, refl, refl)
 
 pub is_free : (limit : ℕ) (entries : List Entry) (ask : Ask) (act : Act) → decision limit entries ask act ≡ Ok None → IsFree limit entries ask act
 is_free limit entries ask act h =
-    let parts = nothing entries act (desk_number ask act) (repeated_row entries ask act) (refusal_of limit entries ask act) h in
+    let parts = nothing entries act (desk_number ask act) (repeated_row entries ask act) (refusal_of limit entries ask act) (sym (decision_is limit entries ask act) ∙ h) in
     record { desk = parts.0; new = parts.1; free = parts.2 }
 
 -- such an act is decided to be new
 pub free_decides : (limit : ℕ) (entries : List Entry) (ask : Ask) (act : Act) → IsFree limit entries ask act → decision limit entries ask act ≡ Ok None
-free_decides limit entries ask act free = λ i. desk_decision entries act (free.desk i) (free.new i) (free.free i)
+free_decides limit entries ask act free = decision_is limit entries ask act ∙ (λ i. desk_decision entries act (free.desk i) (free.new i) (free.free i))
 
 -- there is room in the book for it
 pub has_room : (limit : ℕ) (entries : List Entry) (ask : Ask) (act : Act) → refusal_of limit entries ask act ≡ None → length entries < limit
@@ -134,11 +163,11 @@ least_by limit entries ask act refused None None None desk rule h = absurd (cc)
 pub least_told : (limit : ℕ) (entries : List Entry) (ask : Ask) (act : Act) (refused : Refused) → decision limit entries ask act ≡ Err (error.Refused refused)
     → EachFrom (refusal_number refused.refusal) (desk_refusals entries ask act ++ book_full limit entries ∷ refusals_of entries act)
 least_told limit entries ask act refused h =
-    least_by limit entries ask act refused (desk_number ask act) (repeated_row entries ask act) (refusal_of limit entries ask act) refl refl h
+    least_by limit entries ask act refused (desk_number ask act) (repeated_row entries ask act) (refusal_of limit entries ask act) refl refl (sym (decision_is limit entries ask act) ∙ h)
 
 -- want of memory is never decided
 pub never_lacks : (limit : ℕ) (entries : List Entry) (ask : Ask) (act : Act) → decision limit entries ask act ≡ Err error.NoMemory → ⊥
-never_lacks limit entries ask act h = by_parts (desk_number ask act) (repeated_row entries ask act) (refusal_of limit entries ask act) h
+never_lacks limit entries ask act h = by_parts (desk_number ask act) (repeated_row entries ask act) (refusal_of limit entries ask act) (sym (decision_is limit entries ask act) ∙ h)
   where
     by_parts : (d : Option Refusal) (row : Option ℕ) (f : Option Refusal) → desk_decision entries act d row f ≡ Err error.NoMemory → ⊥
     by_parts (Some d) row f h = cc
@@ -161,7 +190,9 @@ answer_parts entries act None None None = refl
 
 pub answer_is : (limit : ℕ) (entries : List Entry) (ask : Ask) (act : Act)
     → handed_on (act_answer limit entries ask act) ≡ answered_by (accepted entries act) (decision limit entries ask act)
-answer_is limit entries ask act = answer_parts entries act (desk_number ask act) (repeated_row entries ask act) (refusal_of limit entries ask act)
+answer_is limit entries ask act =
+    answer_parts entries act (desk_number ask act) (repeated_row entries ask act) (refusal_of limit entries ask act)
+    ∙ ap (answered_by (accepted entries act)) (sym (decision_is limit entries ask act))
 
 -- what is decided to be new is accepted
 pub new_is_accepted : (limit : ℕ) (entries : List Entry) (ask : Ask) (act : Act) → IsFree limit entries ask act → act_answer limit entries ask act ≡ Ok (accepted entries act)

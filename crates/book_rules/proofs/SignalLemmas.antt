@@ -7,7 +7,7 @@ use Rattle.pack_judge.specs.declared.types.Class.TheVariants as classes
 use Rattle.pack_judge.specs.declared.types.Cause.TheVariants as cause
 use Rattle.pack_judge.specs.declared.types.Signal.{Signal}
 use Rattle.pack_judge.specs.declared.types.Signal.TheVariants.{Pass, Reject}
-use Rattle.pack_judge.specs.Judge.{signal_of}
+use Rattle.pack_judge.specs.Judge.{signal_by_class, signal_of}
 use Rattle.book_words.specs.declared.name.Name.{Name}
 use Rattle.book_words.specs.declared.act.Prior.{Prior}
 use Rattle.book_words.specs.declared.act.Act.{Act}
@@ -16,30 +16,18 @@ use Rattle.book_words.specs.declared.act.Entry.{Entry}
 use Rattle.book_words.specs.Acts.{newest_day, lane_batch}
 use Rattle.book_words.specs.Readings.{net_of_gross}
 use Rattle.book_words.specs.Classes.{class_by_density, limits_of_batch, density_of_batch}
-use Rattle.book_words.specs.Signals.{signal_by_class, judged_signal, recorded_signal}
+use Rattle.book_words.specs.Signals.{judged_signal, recorded_signal}
 use Rattle.book_packs.specs.Densities.{limit_at, limits_at}
 use Rattle.book_packs.specs.declared.types.AtWeighing.{AtWeighing}
 use Rattle.book_packs.specs.Told.{met_at}
 use Rattle.book_packs.proofs.Below.{class_is}
 use Rattle.book_words.proofs.SaidTogether.{started_for_it}
 
-signal_by_tests : (below2 below1 held : Bool) (population nonstandard : ℕ)
-    → (if held then Reject cause.Held else
-    (if population == MAX_POPULATION then Reject cause.Full else
-    (if below2 then Reject cause.Inadequate else
-    (if (below1 && nat_lt population (40 * nonstandard)) then Reject cause.Allowance else Pass))))
-    ≡ signal_by_class (if below2 then classes.Inadequate else (if below1 then classes.NonStandard else classes.Standard)) held population nonstandard
-signal_by_tests below2 below1 true population nonstandard = refl
-signal_by_tests true below1 false population nonstandard = refl
-signal_by_tests false true false population nonstandard = refl
-signal_by_tests false false false population nonstandard = refl
-
 -- the signal by the limits in mg is the one by the density
 signal_is : (density : ℕ) (limits : Limits) (net : ℤ) (held : Bool) (population nonstandard : ℕ)
     → signal_of net (limits_at density limits) held population nonstandard ≡ signal_by_class (class_by_density density limits net) held population nonstandard
 signal_is density limits net held population nonstandard =
-    signal_by_tests (int_lt net (limit_at density limits.t2)) (int_lt net (limit_at density limits.t1)) held population nonstandard
-    ∙ ap (λ (c : Class). signal_by_class c held population nonstandard) (class_is density limits net)
+    ap (λ (c : Class). signal_by_class c held population nonstandard) (class_is density limits net)
 
 -- a signal by the limits in mg, the net and what is met is the one of the gross
 pub judged : (entries : List Entry) (batch : Name) (gross : ℤ) (act : Act) (limits : Limits) (met : AtWeighing) (net : ℤ) (signal : Signal)
