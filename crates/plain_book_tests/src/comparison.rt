@@ -1,12 +1,10 @@
 //! The book beside a plain reading of its rules, on drawn asks.
 
-ghost use Rattle.std.specs.Prelude.{◌≤◌};
-ghost use Rattle.hall_limits.specs.declared.TheConstants.{MAX_ROWS};
-
 use crate::drawn_acts::{Draws, Names};
 use crate::met::Met;
 use crate::pair::{Pair, Stop};
 use book_words::{Name, Question};
+use hall_limits::MAX_ROWS;
 use std::alloc::Global;
 use std::test::Fail;
 
@@ -45,17 +43,6 @@ const USUAL: Course = Course {
     many: 150,
 };
 
-fn course_by(word: u64) -> Course
-    ensures least { 1 ≤ result.limit }
-    ensures most { result.limit ≤ MAX_ROWS }
-{
-    match word {
-        0 => LONG,
-        1..=5 => SHORT,
-        _ => USUAL,
-    }
-}
-
 // Gives drawn asks to both books.
 fn ask_drawn(
     alloc: Global,
@@ -83,14 +70,32 @@ fn ask_last(pair: &mut Pair, met: &mut Met, batches: &[Name]) -> Result<(), Stop
     pair.question(met, Question::Summary)
 }
 
+// Gives both books what is drawn by a word.
+fn compare_on(
+    alloc: Global,
+    pair: &mut Pair,
+    met: &mut Met,
+    draws: &mut Draws,
+    asks: u32,
+) -> Result<(), Stop> {
+    ask_drawn(alloc, pair, draws, met, asks)?;
+    ask_last(pair, met, &draws.names.batches)
+}
+
 // Compares two books on the asks that are drawn by a word.
 fn compare_by(alloc: Global, word: u64, names: &Names, met: &mut Met) -> Result<(), Stop> {
-    let course = course_by(word);
+    let course = match word {
+        0 => &LONG,
+        1..=5 => &SHORT,
+        _ => &USUAL,
+    };
+    if course.limit < 1 || course.limit > MAX_ROWS {
+        return Err(Stop::Limit);
+    }
     let mut pair = Pair::new(alloc, course.limit);
     let mut draws = Draws::begin(word, course.many, names);
-    ask_drawn(alloc, &mut pair, &mut draws, met, course.asks)?;
-    ask_last(&mut pair, met, &names.batches)?;
-    pair.close()
+    let compared = compare_on(alloc, &mut pair, met, &mut draws, course.asks);
+    pair.close(compared)
 }
 
 #[test]
@@ -101,7 +106,6 @@ fn a_plain_reading_of_the_rules_gives_the_same_answers(rt: HostRuntime) -> Resul
         let compared = compare_by(rt.alloc(), word, &names, &mut met);
         assert!(rt; compared.is_ok(), "by {word}: {compared:?}");
     }
-    println!(rt; "{met:?}")?;
-    assert!(rt; met.is_complete());
+    assert_eq!(rt; met.missing(), None);
     Ok(())
 }

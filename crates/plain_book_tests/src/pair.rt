@@ -9,9 +9,6 @@ use book_words::{Answered, Ask, Entry, PackView, Question, Want};
 use plain_book::PlainBook;
 use std::alloc::{AllocError, Global};
 
-/// What a book answers to an ask.
-pub type Taken = Result<Answered, BookError>;
-
 // Who brings the asks.
 const BY: u16 = 3;
 
@@ -19,16 +16,18 @@ const BY: u16 = 3;
 const LANES: [u8; 5] = [0, 1, 2, 3, 17];
 
 /// Why a comparison ends early.
-#[derive(Debug, Drop)]
+#[derive(Clone, Copy, Debug)]
 pub enum Stop {
     /// Memory was refused.
     NoMemory,
-    /// The plain book answers an ask so, and the book otherwise.
-    Answers { ask: Ask, plain: Taken, book: Taken },
+    /// The books answer an ask otherwise.
+    Answers { ask: Ask },
     /// The books have other rows, packs or unsettled lanes behind an ask.
     Behind { ask: Ask },
     /// The books have other rows at the end.
     Rows,
+    /// So many rows are no limit of a book.
+    Limit,
 }
 
 impl From<AllocError> for Stop {
@@ -37,15 +36,14 @@ impl From<AllocError> for Stop {
     }
 }
 
-/// A book and the plain one.
-#[derive(Drop)]
+/// A book and the plain one. It isn't let go but closed: what takes a book apart is costly to prove.
 pub struct Pair {
     book: Book,
     plain: PlainBook,
 }
 
 // The calls of the book that are compared, without their contracts: no test here needs them.
-fn ask_book(book: &mut Book, ask: &Ask) -> Taken {
+fn ask_book(book: &mut Book, ask: &Ask) -> Result<Answered, BookError> {
     book.ask(BY, ask)
 }
 
@@ -89,17 +87,21 @@ impl Pair {
     /// Gives an ask to both; their answers have to be the same, and are counted.
     pub fn ask(&mut self, met: &mut Met, ask: &Ask) -> Result<(), Stop> {
         let rows = length_of(&self.book);
-        let plain = match self.plain.take(BY, ask)? {
-            Ok(answered) => Ok(answered),
-            Err(refused) => Err(BookError::Refused(refused)),
+        let is_same = match (ask_book(&mut self.book, ask), self.plain.take(BY, ask)?) {
+            (Ok(answered), Ok(plain)) => {
+                met.note_answered(rows, ask, &answered);
+                answered == plain
+            }
+            (Err(BookError::Refused(refused)), Err(plain)) => {
+                met.note_refused(refused.refusal.number());
+                refused == plain
+            }
+            _ => false,
         };
-        let book = ask_book(&mut self.book, ask);
-        met.note(rows, ask, &book);
-        if book == plain {
+        if is_same {
             return Ok(());
         }
-        let ask = *ask;
-        Err(Stop::Answers { ask, plain, book })
+        Err(Stop::Answers { ask: *ask })
     }
 
     /// Gives an act to the book alone; the plain book takes over its newest entry.
@@ -148,11 +150,13 @@ impl Pair {
         )
     }
 
-    /// At the end both have to have the same rows.
-    pub fn close(self) -> Result<(), Stop> {
-        let rows = rows_of(self.book);
-        if rows.as_slice() == self.plain.entries() {
-            return Ok(());
+    /// At the end both have to have the same rows, if nothing was wrong before.
+    pub fn close(self, compared: Result<(), Stop>) -> Result<(), Stop> {
+        let Pair { book, plain } = self;
+        let rows = rows_of(book);
+        let is_same = rows.as_slice() == plain.entries();
+        if compared.is_err() || is_same {
+            return compared;
         }
         Err(Stop::Rows)
     }

@@ -8,7 +8,10 @@ use plain_book::{is_lane_act, newest_of_desk, unsettled_of};
 use std::fmt;
 
 fn named(bytes: &[u8]) -> Result<Name, fmt::Error> {
-    Name::new(bytes).ok_or(fmt::Error)
+    match Name::new(bytes) {
+        Some(name) => Ok(name),
+        None => Err(fmt::Error),
+    }
 }
 
 /// The names that are drawn. The last of each has not the shape of a name.
