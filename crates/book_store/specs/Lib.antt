@@ -1,4 +1,6 @@
 pub mod Adopting
+pub mod CallerLaws
+pub mod Callers
 pub mod Causes
 pub mod Images
 pub mod Listing
