@@ -9,3 +9,4 @@ pub mod OpenedOnce
 pub mod SampleSteps
 pub mod DrawnPacks
 pub mod RowLemmas
+pub mod RightAnswers
