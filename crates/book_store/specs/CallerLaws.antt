@@ -6,7 +6,7 @@ use Rattle.disk_core.specs.declared.disk.Disk as disk
 use Rattle.book_words.specs.declared.act.Ask.{Ask}
 use Rattle.book_words.specs.declared.act.Entry.{Entry}
 use Rattle.book_words.specs.Answers.{added, IsLawful}
-use Rattle.book_words.specs.Callers.{IsCourse}
+use Rattle.book_words.specs.Callers.{IsReached}
 use Rattle.book_store.specs.Images.{HoldsBook}
 use Rattle.book_store.specs.Stores.{disk_of, entries_of, limit_of, HasBook, HangsWith}
 use Rattle.book_store.specs.Callers.{CallerView, IsAskedFor, MayStandBehind, LeavesRows, KeepsRows, FailsAlike, IsReachedBy}
@@ -110,8 +110,8 @@ module _ {D : Type 0} (g : disk.Ghosts D) where
         (λ asked. inl (
           rose_behind _ _ _ one.counted asked.0,
           asked_behind _ _ some more rows entry
-          (subst (λ (n : ℕ). IsAskedFor n first.by more rows entry) one.limit
-          (subst (λ (n : ℕ). IsAskedFor (limit_of second.store) n more rows entry) one.by asked.1)),
+              (subst (λ (n : ℕ). IsAskedFor n first.by more rows entry) one.limit
+              (subst (λ (n : ℕ). IsAskedFor (limit_of second.store) n more rows entry) one.by asked.1)),
         ))
         (λ hung. stands_before rows entry
         (subst (λ (es : List Entry). MayStandBehind g first second some es entry) (sym hung.1) (keeps.hung entry hung.0)))
@@ -171,5 +171,5 @@ module _ {D : Type 0} (g : disk.Ghosts D) where
               keeps_both keeps (two.keeps keeps.has);
         }
 
-pub is_course : {D : Type 0} {g : disk.Ghosts D} → IsCourse (IsReachedBy g)
-is_course {D} {g} = record { here = reached_by_none g; onward = reached_by_both g }
+pub is_reached : {D : Type 0} {g : disk.Ghosts D} → IsReached (IsReachedBy g)
+is_reached {D} {g} = record { by_none = reached_by_none g; by_both = reached_by_both g }

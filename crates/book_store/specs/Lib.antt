@@ -3,6 +3,7 @@ pub mod CallerLaws
 pub mod Callers
 pub mod Causes
 pub mod Images
+pub mod Kept
 pub mod Listing
 pub mod Mounting
 pub mod Offers

@@ -73,14 +73,15 @@ impl<D: Disk> OneCaller<D> {
 }
 
 impl<D: Disk> Caller for OneCaller<D> {
-    ghost use Rattle.std.specs.Prelude.{◌≡◌, [], ◌∷◌, Err};
+    ghost use Rattle.std.specs.Prelude.{◌≡◌, ◌+◌, ◌≤◌, [], ◌∷◌, Err, length};
     ghost use Rattle.book_words.specs.Answers.{answer, added};
     ghost use Rattle.book_words.specs.Callers.{IsAsked};
     ghost use Rattle.book_words.specs.declared.caller.AskError.TheVariants as error;
-    ghost use Rattle.book_store.specs.Stores.{disk_of, book_of, entries_of, limit_of};
-    ghost use Rattle.book_store.specs.Offers.{GivesAnswer, list_behind};
+    ghost use Rattle.book_store.specs.Stores.{book_of, entries_of, limit_of, spare_of};
+    ghost use Rattle.book_store.specs.Offers.{GivesAnswer, LeavesDisk, list_behind, offered_behind};
+    ghost use Rattle.book_store.specs.Kept.{KeepsOn};
     ghost use Rattle.book_store.specs.Callers.{known_of, IsReachedBy};
-    ghost use Rattle.book_store.specs.CallerLaws.{is_course};
+    ghost use Rattle.book_store.specs.CallerLaws.{is_reached};
 
     ghost known = { λ caller. known_of caller };
 
@@ -97,14 +98,19 @@ impl<D: Disk> Caller for OneCaller<D> {
             (entries_of self.old.store)
             (added (limit_of self.old.store) (entries_of self.old.store) self.old.by ask.now) }
         ensures no_memory { result ≡ Err error.NoMemory →
-            disk_of self.new.store ≡ disk_of self.old.store }
+            LeavesDisk D.Disk self.old.store self.new.store }
+        ensures spare { spare_of self.old.store + length (entries_of self.old.store)
+            ≤ spare_of self.new.store + length (entries_of self.new.store) }
+        ensures kept { KeepsOn D.Disk (offered_behind result
+            (added (limit_of self.old.store) (entries_of self.old.store) self.old.by ask.now))
+            self.old.store self.new.store }
     {
         let given = self.store.ask(self.by, ask);
         self.faults = told(self.faults, &given);
         given
     }
 
-    ghost course = { is_course };
+    ghost reached = { is_reached };
 }
 
 // A count of faults behind an answer.
