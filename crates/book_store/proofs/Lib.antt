@@ -10,3 +10,5 @@ pub mod Spelled
 pub mod Hanging
 pub mod Decided
 pub mod Squeezing
+pub mod KeptLemmas
+pub mod CallerSteps

@@ -122,3 +122,6 @@ returns-in-Err-Refused-look-clause-images g c = images_hold g.D.Disk g.met.D.Dis
 
 pub returns-in-Err-NoMemory-look-clause-images : goal.returns-in-Err-NoMemory-look-clause-images
 returns-in-Err-NoMemory-look-clause-images g c = images_hold g.D.Disk g.met.D.Disk.reads_image g.met.D.Disk.only_now c.args.self.now
+
+pub returns-in-Err-NoMemory-clause-no_memory : goal.returns-in-Err-NoMemory-clause-no_memory
+returns-in-Err-NoMemory-clause-no_memory g c lacks = leaves_disk g.D.Disk c.args.self.now (record c.args.self.now { book = c.ready.new.self }) refl c.ready.ensures.entries
