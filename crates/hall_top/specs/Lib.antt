@@ -3,6 +3,7 @@ pub mod Calls
 pub mod Kept
 pub mod Migration
 pub mod Reached
+pub mod Reading
 pub mod Requests
 pub mod Run
 pub mod Runs
