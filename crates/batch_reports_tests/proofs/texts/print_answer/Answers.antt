@@ -6,7 +6,7 @@ use Rattle.book_words.specs.declared.reply.Refused.{Refused}
 use Rattle.book_core.specs.declared.types.BookError.{BookError}
 use Rattle.book_core.specs.declared.types.BookError.TheVariants as error
 use Rattle.book_core.specs.Steps.{handed_on, GivesAnswer}
-use Rattle.report_tests.proofs.texts.print_answer.Goals as goal
+use Rattle.batch_reports_tests.proofs.texts.print_answer.Goals as goal
 
 -- what the book hands on is what was wanted of it
 was_answered : (wanted : Result Answered Refused) (answered : Answered) → handed_on wanted ≡ Ok answered → wanted ≡ Ok answered

@@ -1,5 +1,5 @@
 use book_words::Name;
-use script_lines::{Allowed, Command, Line, MAX_LINE, Verb, read_ended_line, read_last_line};
+use script_lines::{Allowed, Line, MAX_LINE, read_ended_line, read_last_line};
 use std::test::Fail;
 
 /// All that a script may have.
@@ -22,18 +22,4 @@ pub fn says(line: &[u8]) -> (Line, Line) {
 /// The name of 1 to 32 bytes.
 pub fn name(bytes: &[u8]) -> Result<Name, Fail> {
     Ok(Name::new(bytes).ok_or("no name")?)
-}
-
-/// A command that names no desk.
-pub fn asks(verb: Verb) -> Line {
-    desk_asks(0, 0, verb)
-}
-
-/// A command of a desk.
-pub fn desk_asks(desk: u16, request: u32, verb: Verb) -> Line {
-    Line::Asks(Command {
-        desk,
-        request,
-        verb,
-    })
 }

@@ -5,5 +5,3 @@
 mod disks;
 #[cfg(test)]
 mod streams;
-#[cfg(test)]
-mod texts;

@@ -1,7 +1,7 @@
 use batch_reports::{answer_text, refusal_text};
 use book_core::{Book, BookError};
 use book_words::{Act, Ask, Name, Unit, Want};
-use std::alloc::AllocError;
+use std::alloc::{AllocError, Global};
 use std::fmt;
 use std::test::Fail;
 
@@ -19,30 +19,55 @@ fn print_answer(book: &mut Book, act: Act, text: &mut Vec<u8>) -> Result<(), All
     }
 }
 
-// A tare of a product from a day on.
-fn tare_on(product: Name, day: i32, tare: i64) -> Act {
-    Act::PutTare { product, day, tare }
+// Appends what some acts of the hall are answered.
+fn print_answers(book: &mut Book, acts: &[Act], text: &mut Vec<u8>) -> Result<(), AllocError> {
+    for act in acts {
+        print_answer(book, *act, text)?;
+    }
+    Ok(())
 }
 
-// Acts on days of which 9999-12-31 alone, 2 932 896, is one: a day out of its range, alone and with
-// whatever else can be wrong at the same time.
-fn acts_on(product: Name) -> [Act; 10] {
-    [
-        tare_on(product, -1, 0),
+// Appends what acts on days of which 9999-12-31 alone, 2 932 896, is one are answered: a day out of
+// its range, alone and with whatever else can be wrong at the same time. No other function owns a
+// book.
+fn print_days(alloc: Global, product: Name, text: &mut Vec<u8>) -> Result<(), AllocError> {
+    let unit = Unit::Mass;
+    let acts = [
+        Act::PutTare {
+            product,
+            day: -1,
+            tare: 0,
+        },
         Act::NewDay { day: -1 },
         Act::NewDay { day: 2_932_896 },
         Act::NewDay { day: -1 },
         Act::NewDay { day: 2_932_897 },
         Act::NewDay { day: i32::MAX },
-        tare_on(product, -1, 0),
+        Act::PutTare {
+            product,
+            day: -1,
+            tare: 0,
+        },
         Act::PutProduct {
             name: product,
             nominal: 250_000,
-            unit: Unit::Mass,
+            unit,
         },
-        tare_on(product, -1, -1),
-        tare_on(product, 2_932_897, 5_000_001),
-    ]
+        Act::PutTare {
+            product,
+            day: -1,
+            tare: -1,
+        },
+        Act::PutTare {
+            product,
+            day: 2_932_897,
+            tare: 5_000_001,
+        },
+    ];
+    let mut book = Book::new(alloc, 10);
+    let printed = print_answers(&mut book, &acts, text);
+    let _ = book.rows();
+    printed
 }
 
 const TEXT: &[u8] = b"\
@@ -63,11 +88,8 @@ refused 12 DayRange at 2
 fn a_day_out_of_its_range(rt: HostRuntime) -> Result<(), Fail> {
     let alloc = rt.alloc();
     let rice = Name::new(b"rice250".as_slice()).ok_or(fmt::Error)?;
-    let mut book = Book::new(alloc, 10);
     let mut text = Vec::new(alloc);
-    for act in &acts_on(rice) {
-        print_answer(&mut book, *act, &mut text)?;
-    }
+    print_days(alloc, rice, &mut text)?;
     assert_eq!(rt; text.as_slice(), TEXT);
     Ok(())
 }
