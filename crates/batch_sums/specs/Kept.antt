@@ -1,7 +1,6 @@
 -- What is kept of the packs, and what always holds of it.
-use Rattle.std.specs.Prelude.{◌^◌, ◌≡◌, ℕ, ℤ, pos, ◌+◌, ◌<◌, ◌≤◌, ◌≤ℤ◌, Bool, ◌&&◌, ◌==◌, List, [], ◌∷◌, ◌++◌, ◌||◌, length, take, nat_lt, slice_index, count_by, Option, Some, option_map, if◌then◌else◌}
+use Rattle.std.specs.Prelude.{◌^◌, ◌≡◌, ℕ, ℤ, pos, ◌+◌, ◌<◌, ◌≤◌, ◌≤ℤ◌, Bool, ◌&&◌, ◌==◌, List, [], ◌∷◌, ◌++◌, ◌||◌, length, take, nat_lt, slice_index, count_by, Some, if◌then◌else◌}
 use Rattle.std.specs.List.{All, sum_by, slice_get}
-use Rattle.annex_tables.specs.declared.types.Limits.{Limits}
 use Rattle.hall_limits.specs.declared.TheConstants.{MAX_GROSS, MAX_TARE, MAX_DAY}
 use Rattle.pack_judge.specs.declared.types.Pile.{Pile}
 use Rattle.batch_sums.specs.declared.batch.Batch.{Batch}
@@ -10,10 +9,9 @@ use Rattle.batch_sums.specs.declared.group.Group.{Group}
 use Rattle.batch_sums.specs.declared.group.Key.{Key}
 use Rattle.batch_sums.specs.declared.types.Held.{Held}
 use Rattle.batch_sums.specs.Rising.{IsRising, mass_of}
-use Rattle.batch_sums.specs.Totals.{Terms, is_counted, totals_of}
+use Rattle.batch_sums.specs.Totals.{Terms, is_counted}
 use Rattle.pack_judge.specs.Piles.{same_pile}
 use Rattle.batch_sums.specs.declared.types.Pack.{Pack}
-use Rattle.batch_sums.specs.declared.types.Totals.{Totals}
 use Rattle.batch_sums.specs.Groups.{Face, face_of, nth_face, faces, nth_rank, threshold, IsJudged}
 use Rattle.batch_sums.specs.Running.{sum_in, pile_sum, one_if_below}
 

@@ -1,29 +1,23 @@
 -- The states, the lanes and the draws of the batches of a legal list.
-use Rattle.std.proofs.Common.{◌≡◌, ℕ, zero, suc, ◌+◌, ◌<◌, ◌≤◌, Bool, true, false, not, ◌&&◌, ◌==◌, nat_le, cond, ◌⊎◌, inl, inr, List, [], ◌∷◌, ◌++◌, length, Option, Some, None, is_some, option_map, refl, sym, ◌∙◌, ap, subst, arith, append-nil}
-use Rattle.std.proofs.lemmas.Bool.{cases_Bool, cases_eq, and_parts, both_ways, eqb-true, leb-true}
-use Rattle.std.proofs.lemmas.Option.{same_Some}
-use Rattle.std.specs.List.{find, list_any, range_with_len, cons_option, last_or}
-use Rattle.std.specs.Option.{option_or, option_and_then, option_map_or, option_flatten}
+use Rattle.std.proofs.Common.{◌≡◌, ℕ, ◌≤◌, Bool, true, false, not, ◌&&◌, nat_le, ◌⊎◌, inl, inr, List, [], ◌∷◌, ◌++◌, length, Option, Some, None, is_some, option_map, refl, sym, ◌∙◌, ap, subst, arith, append-nil}
+use Rattle.std.proofs.lemmas.Bool.{cases_Bool}
+use Rattle.std.specs.List.{list_any, cons_option, last_or}
+use Rattle.std.specs.Option.{option_or, option_and_then, option_flatten}
 use Rattle.hall_limits.specs.declared.TheConstants.{MAX_LANE}
 use Rattle.annex_tables.specs.declared.types.Mode.{Mode}
 use Rattle.book_words.specs.declared.name.Name.{Name}
 use Rattle.book_words.specs.declared.act.BatchState as states
 use Rattle.book_words.specs.declared.act.BatchState.TheVariants.{Running, Ended, Drawn, Closed}
-use Rattle.book_words.specs.declared.act.Act.{Act}
-use Rattle.book_words.specs.declared.act.Act.TheVariants.{NewDay, PutProduct, PutTare, OpenBatch, StartLane, Weigh, StopLane, Void, EndRun, Draw, Measure, DrawSecond, Close}
+use Rattle.book_words.specs.declared.act.Act.TheVariants.{Draw, DrawSecond, Close}
 use Rattle.book_words.specs.declared.act.Entry.{Entry}
 use Rattle.book_words.specs.declared.refusal.Refusal.TheVariants as why
-use Rattle.book_words.specs.Names.{same_name}
-use Rattle.book_words.specs.Acts.{last_said, product_given, state_set, batch_started, lane_used, product_of, state_of, same_state, last_batch, lane_batch}
-use Rattle.book_words.specs.Population.{population}
-use Rattle.book_words.specs.Samples.{Drawing, numbers_of, drawing_from, drawings, drawing_of, second_word, sample_by, sample_of}
-use Rattle.book_words.specs.Refusals as rules
-use Rattle.book_words.specs.Refusals.{refused_if, first_refusal, refusals_of}
+use Rattle.book_words.specs.Acts.{last_said, state_set, lane_used, product_of, state_of, same_state, last_batch, lane_batch}
+use Rattle.book_words.specs.Samples.{Drawing, drawing_from, drawings, drawing_of, second_word, sample_by, sample_of}
+use Rattle.book_words.specs.Refusals.{refused_if}
 use Rattle.book_words.specs.Answers.{IsLawful, IsLegal}
-use Rattle.book_words.proofs.NameLemmas.{same_name_is, same_name_itself}
 use Rattle.book_words.proofs.LastSaid.{last_said-push}
 use Rattle.book_words.proofs.DrawnLemmas.{drawings-push}
-use Rattle.book_words.proofs.AllowedActs.{IsAllowed, allowed, open_batch_tells, start_lane_tells, end_run_tells, draw_tells, draw_second_tells, close_tells}
+use Rattle.book_words.proofs.AllowedActs.{IsAllowed, allowed, draw_tells, draw_second_tells, close_tells}
 use Rattle.book_words.proofs.LegalLemmas.{legal_steps}
 use Rattle.book_words.proofs.DrawnOnce.{states_known, undrawn_by_state, is_undrawn, undrawn_at_draw}
 use Rattle.book_laws.proofs.LaneLaws.{AreLanesRight, lanes_right}

@@ -23,7 +23,7 @@ use Rattle.book_words.proofs.NameLemmas.{same_name_itself}
 use Rattle.book_words.proofs.OneMoreEntry.{advance, own_reading, readings-push}
 use Rattle.book_words.proofs.SaidTogether.{started_for_it}
 use Rattle.book_laws.proofs.KnownLaws.{apart, silent, state_apart}
-use Rattle.book_words.proofs.AllowedActs.{IsAllowed, is_there, void_tells, measure_tells, weigh_tells}
+use Rattle.book_words.proofs.AllowedActs.{IsAllowed, void_tells, measure_tells, weigh_tells}
 use Rattle.book_laws.proofs.LaneLaws.{IsOfLane, AreLanesRight}
 use Rattle.book_laws.proofs.PackLaws.{IsFound, IsPackOf, numbered, batch_is}
 use Rattle.std.proofs.Math.Bool.{or-false}

@@ -16,7 +16,7 @@ use Rattle.annex_tables.specs.declared.types.PlanRefusal.{PlanRefusal}
 use Rattle.annex_tables.specs.declared.types.PlanRefusal.TheVariants as small
 use Rattle.annex_tables.specs.Plans.{plan_of, keeping_plan, plan_of_destruction}
 use Rattle.pack_judge.specs.declared.types.Pile as piles
-use Rattle.pack_judge.specs.declared.types.Pile.TheVariants.{Passed, Rejected, Sampled, Voided}
+use Rattle.pack_judge.specs.declared.types.Pile.TheVariants.{Passed, Sampled}
 use Rattle.sample_draw.specs.Draws.{packs_left}
 use Rattle.sample_draw.proofs.DrawLemmas.{AllPairs-from_ascending, AllPairs-drawn, AllPairs-packs_left, packs_left-enough, length-drawn}
 use Rattle.book_words.specs.declared.name.Name.{Name}
@@ -25,7 +25,7 @@ use Rattle.book_words.specs.declared.act.Prior.TheVariants.{Nothing, Opened, Sta
 use Rattle.book_words.specs.declared.act.BatchState as states
 use Rattle.book_words.specs.declared.act.BatchState.TheVariants.{Running, Ended, Drawn, Closed}
 use Rattle.book_words.specs.declared.act.Act.{Act}
-use Rattle.book_words.specs.declared.act.Act.TheVariants.{NewDay, PutProduct, PutTare, OpenBatch, StartLane, Weigh, StopLane, Void, EndRun, Draw, Measure, DrawSecond, Close}
+use Rattle.book_words.specs.declared.act.Act.TheVariants.{Void, Draw, Measure, DrawSecond, Close}
 use Rattle.book_words.specs.declared.act.Entry.{Entry}
 use Rattle.book_words.specs.declared.act.Reading.{Reading}
 use Rattle.book_words.specs.declared.refusal.Refusal.TheVariants as why

@@ -1,7 +1,7 @@
 -- What a lawful entry leaves as it is of the products and batches that are there.
-use Rattle.std.proofs.Common.{◌≡◌, ℕ, ℤ, pos, Bool, true, false, not, cond, List, [], ◌∷◌, ◌++◌, inl, inr, ◌⊎◌, Option, Some, None, is_some, is_none, refl, sym, ◌∙◌, ap, subst, append_assoc, append-nil}
+use Rattle.std.proofs.Common.{◌≡◌, ℕ, ℤ, pos, Bool, true, false, not, cond, List, [], ◌∷◌, ◌++◌, inl, inr, ◌⊎◌, Option, Some, None, is_some, refl, sym, ◌∙◌, ap}
 use Rattle.std.proofs.lemmas.Bool.{cases_Bool}
-use Rattle.std.specs.List.{list_any, last_or}
+use Rattle.std.specs.List.{list_any}
 use Rattle.std.specs.Option.{option_or, option_and_then, unwrap_or}
 use Rattle.annex_tables.specs.Errors.{limits_of}
 use Rattle.book_words.specs.declared.name.Name.{Name}
@@ -11,15 +11,13 @@ use Rattle.book_words.specs.declared.act.BatchState.TheVariants.{Running, Ended,
 use Rattle.book_words.specs.declared.act.Act.{Act}
 use Rattle.book_words.specs.declared.act.Act.TheVariants.{PutProduct, OpenBatch, EndRun, Draw, Close}
 use Rattle.book_words.specs.declared.act.Entry.{Entry}
-use Rattle.book_words.specs.declared.refusal.Refusal.{Refusal}
 use Rattle.book_words.specs.declared.refusal.Refusal.TheVariants as why
 use Rattle.book_words.specs.Names.{same_name}
-use Rattle.book_words.specs.Acts.{said, last_said, nominal_put, unit_put, product_given, density_given, state_set, nominal_of, unit_of, product_of, density_of, state_of, same_state}
+use Rattle.book_words.specs.Acts.{last_said, nominal_put, unit_put, product_given, density_given, state_set, nominal_of, unit_of, product_of, density_of, state_of, same_state}
 use Rattle.book_words.specs.Classes.{nominal_of_batch, limits_of_batch, density_by_unit, density_of_batch}
 use Rattle.book_words.specs.Refusals as rules
 use Rattle.book_words.specs.Refusals.{refused_if, first_refusal, refusals_of}
-use Rattle.book_words.specs.Answers.{ask_of, IsLawful, IsLegal}
-use Rattle.book_words.proofs.LastSaid.{last_or-cons, last_said-push}
+use Rattle.book_words.proofs.LastSaid.{last_said-push}
 use Rattle.book_words.proofs.NameLemmas.{same_name_is}
 use Rattle.book_words.proofs.AllowedActs.{IsAllowed, put_product_tells, open_batch_tells, end_run_tells, draw_tells, close_tells}
 

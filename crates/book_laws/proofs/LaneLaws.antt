@@ -1,6 +1,6 @@
 -- Lanes have only batches that run; and a reading that no act of its lane has followed is of the
 -- batch that the lane has.
-use Rattle.std.proofs.Common.{◌≡◌, ℕ, zero, suc, ◌+◌, ◌<◌, ◌≤◌, Bool, true, false, not, ◌&&◌, cond, ◌==◌, nat_le, List, [], ◌∷◌, ◌++◌, length, map, inl, inr, ◌⊎◌, Option, Some, None, is_some, option_map, refl, sym, ◌∙◌, ap, subst, arith}
+use Rattle.std.proofs.Common.{◌≡◌, ℕ, zero, suc, ◌+◌, ◌<◌, ◌≤◌, Bool, true, false, not, ◌&&◌, cond, ◌==◌, nat_le, List, [], ◌∷◌, ◌++◌, length, map, inl, inr, ◌⊎◌, Option, Some, None, is_some, refl, sym, ◌∙◌, ap, subst, arith}
 use Rattle.std.proofs.lemmas.Bool.{cases_Bool, cases_lt, and_parts, eqb-true}
 use Rattle.std.proofs.lemmas.Bool.Decides.{nat_tests}
 use Rattle.std.proofs.lemmas.List.Elements.{All-nil, All-cons, All-append, All-map, All-weaker}
@@ -12,24 +12,23 @@ use Rattle.book_words.specs.declared.act.Prior.{Prior}
 use Rattle.book_words.specs.declared.act.BatchState.{BatchState}
 use Rattle.book_words.specs.declared.act.BatchState.TheVariants.{Running, Ended, Drawn, Closed}
 use Rattle.book_words.specs.declared.act.Act.{Act}
-use Rattle.book_words.specs.declared.act.Act.TheVariants.{OpenBatch, StartLane, Weigh, StopLane, EndRun, Draw, Close}
+use Rattle.book_words.specs.declared.act.Act.TheVariants.{StartLane, Weigh, StopLane, EndRun, Draw, Close}
 use Rattle.book_words.specs.declared.act.Entry.{Entry}
 use Rattle.book_words.specs.declared.act.Reading.{Reading}
 use Rattle.book_words.specs.declared.refusal.Refusal.TheVariants as why
 use Rattle.book_words.specs.Names.{same_name}
-use Rattle.book_words.specs.Acts.{last_said, product_given, state_set, lane_used, prior_told, product_of, state_of, same_state, last_batch, lane_batch}
+use Rattle.book_words.specs.Acts.{last_said, state_set, lane_used, prior_told, product_of, state_of, same_state, last_batch, lane_batch}
 use Rattle.book_words.specs.Readings.{readings, weighed_reading}
 use Rattle.book_words.specs.Refusals as rules
 use Rattle.book_words.specs.Refusals.{refused_if}
 use Rattle.book_words.specs.Answers.{IsLawful, IsLegal}
 use Rattle.book_words.proofs.LastSaid.{last_said-push}
 use Rattle.book_words.proofs.NameLemmas.{same_name_is}
-use Rattle.book_words.proofs.RefusalLemmas.{not_refused}
 use Rattle.book_words.proofs.OneMoreEntry.{advance, own_reading, readings-push}
 use Rattle.std.proofs.lemmas.Option.{same_Some}
 use Rattle.book_laws.proofs.KnownLaws.{silent, moves_state, state_of_stays, state_apart}
 use Rattle.book_words.proofs.SaidTogether.{state_known, started_for_it}
-use Rattle.book_words.proofs.AllowedActs.{IsAllowed, is_there, allowed, end_run_tells, draw_tells, close_tells, start_lane_tells, weigh_tells}
+use Rattle.book_words.proofs.AllowedActs.{IsAllowed, allowed, end_run_tells, draw_tells, close_tells, start_lane_tells, weigh_tells}
 use Rattle.book_words.proofs.LegalLemmas.{legal_steps, legal-push}
 use Rattle.book_words.proofs.DrawnOnce.{states_known}
 

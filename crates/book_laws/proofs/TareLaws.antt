@@ -1,30 +1,28 @@
 -- Each reading of a legal list has a tare, and its batch's product a nominal quantity.
-use Rattle.std.proofs.Common.{◌≡◌, ℕ, ℤ, Bool, true, false, ◌||◌, cond, ◌==◌, int_le, int_lt, List, [], ◌∷◌, ◌++◌, map, length, ◌+◌, inl, inr, ◌⊎◌, Option, Some, None, is_some, is_none, option_map, refl, sym, ◌∙◌, ap, subst, arith, append_assoc, append-nil}
+use Rattle.std.proofs.Common.{◌≡◌, ℕ, ℤ, Bool, true, false, ◌||◌, cond, ◌==◌, int_le, List, [], ◌∷◌, ◌++◌, map, length, ◌+◌, inl, inr, ◌⊎◌, Option, Some, None, is_some, is_none, option_map, refl, sym, ◌∙◌, ap, subst, arith, append_assoc, append-nil}
 use Rattle.std.proofs.lemmas.Bool.{and_from, or_left, or_right, cases_Bool}
 use Rattle.std.proofs.lemmas.Int.{ints}
 use Rattle.std.proofs.lemmas.List.Elements.{All-nil, All-cons, All-head, All-tail, All-append, All-map, All-weaker, filter_map-append}
 use Rattle.std.proofs.lemmas.List.Folds.{list_any-append}
-use Rattle.std.specs.List.{All, filter, cons_option, list_any, list_all, last_or}
+use Rattle.std.specs.List.{All, filter, cons_option, list_any, list_all}
 use Rattle.std.specs.Option.{option_or, option_and_then, option_flatten}
 use Rattle.book_words.specs.declared.name.Name.{Name}
-use Rattle.book_words.specs.declared.act.BatchState.TheVariants.{Running}
 use Rattle.book_words.specs.declared.act.Act.{Act}
 use Rattle.book_words.specs.declared.act.Act.TheVariants.{NewDay, OpenBatch, StartLane, Weigh, StopLane}
 use Rattle.tare_register.specs.declared.types.DatedTare.{DatedTare}
 use Rattle.book_words.specs.declared.act.Entry.{Entry}
 use Rattle.book_words.specs.declared.act.Reading.{Reading}
-use Rattle.book_words.specs.declared.refusal.Refusal.{Refusal}
-use Rattle.book_words.specs.declared.refusal.Refusal.TheVariants.{DayBack, NoTare}
+use Rattle.book_words.specs.declared.refusal.Refusal.TheVariants.{NoTare}
 use Rattle.book_words.specs.Names.{same_name}
-use Rattle.book_words.specs.Acts.{said, last_said, day_set, nominal_put, product_given, lane_used, batch_started, newest_day, nominal_of, unit_of, product_of, density_of, state_of, last_batch, lane_batch}
+use Rattle.book_words.specs.Acts.{said, last_said, day_set, nominal_put, product_given, lane_used, newest_day, nominal_of, unit_of, product_of, density_of, state_of, last_batch, lane_batch}
 use Rattle.tare_register.specs.Tares.{latest, dated_by}
 use Rattle.tare_register.proofs.Latest.{none_greater, latest-append, latest_nothing}
 use Rattle.book_words.specs.Tares.{tare_put, tares_put, tare_of_product}
 use Rattle.book_words.specs.Readings.{readings, weighed_reading, tare_of_reading}
-use Rattle.book_words.specs.Refusals.{refused_if, day_unset, day_back, product_unknown, batch_unknown, batch_state, lane_number, lane_busy, lane_idle, no_tare}
+use Rattle.book_words.specs.Refusals.{refused_if, no_tare}
 use Rattle.book_words.specs.Answers.{IsLegal}
 use Rattle.book_words.specs.Soundness.{has_tare_and_nominal, TaresKnown}
-use Rattle.book_words.proofs.LastSaid.{last_or-cons, last_said-push}
+use Rattle.book_words.proofs.LastSaid.{last_said-push}
 use Rattle.book_words.proofs.OneMoreEntry.{advance, own_reading, readings-push}
 use Rattle.book_laws.proofs.KnownLaws.{product_of_stays}
 use Rattle.book_words.proofs.AllowedActs.{IsAllowed, is_there, allowed, start_lane_tells, open_batch_tells, weigh_tells, new_day_tells}

@@ -10,7 +10,7 @@ use Rattle.book_words.specs.declared.name.Name.{Name}
 use Rattle.book_words.specs.declared.act.Prior.{Prior}
 use Rattle.book_words.specs.declared.act.BatchState.TheVariants.{Running}
 use Rattle.book_words.specs.declared.act.Act.{Act}
-use Rattle.book_words.specs.declared.act.Act.TheVariants.{NewDay, PutProduct, PutTare, OpenBatch, StartLane, Weigh, StopLane, Void, EndRun, Draw, Measure, DrawSecond, Close}
+use Rattle.book_words.specs.declared.act.Act.TheVariants.{Weigh, Void}
 use Rattle.book_words.specs.declared.act.Entry.{Entry}
 use Rattle.book_words.specs.declared.act.Reading.{Reading}
 use Rattle.book_words.specs.declared.refusal.Refusal.TheVariants as why
@@ -20,7 +20,7 @@ use Rattle.book_words.specs.Population.{is_pass, is_unsettled, unsettled_reading
 use Rattle.book_words.specs.Refusals.{refused_if}
 use Rattle.book_words.specs.Answers.{IsLawful, IsLegal}
 use Rattle.book_words.proofs.OneMoreEntry.{advance, own_reading, readings-push}
-use Rattle.book_words.proofs.AllowedActs.{IsAllowed, allowed, not_test, start_lane_tells, weigh_tells, void_tells}
+use Rattle.book_words.proofs.AllowedActs.{IsAllowed, allowed, not_test, weigh_tells, void_tells}
 use Rattle.book_laws.proofs.ReadingLaws.{IsOneOf, each_is_one, of_reading}
 use Rattle.book_words.proofs.LegalLemmas.{legal_steps}
 use Rattle.book_laws.proofs.BatchLaws.{IsOrderly, orderly, state_of-push, lane_batch-push, lane_runs}

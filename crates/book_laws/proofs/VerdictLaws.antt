@@ -1,5 +1,5 @@
 -- The verdict of a closed batch stays.
-use Rattle.std.proofs.Common.{◌≡◌, ℕ, ℤ, pos, ◌+ℤ◌, ◌-ℤ◌, ◌*ℤ◌, ◌*◌, ◌+◌, Bool, true, false, not, ◌&&◌, cond, ◌==◌, int_le, nat_le, List, [], ◌∷◌, ◌++◌, length, take, get_or, inl, inr, Option, Some, None, is_some, option_map, refl, sym, ◌∙◌, ap, subst, append_assoc, append-nil}
+use Rattle.std.proofs.Common.{◌≡◌, ℕ, ℤ, pos, ◌+ℤ◌, ◌-ℤ◌, ◌*ℤ◌, ◌*◌, ◌+◌, Bool, true, false, not, ◌&&◌, cond, ◌==◌, int_le, nat_le, List, [], ◌∷◌, ◌++◌, length, take, get_or, inl, inr, Option, Some, None, is_some, option_map, refl, sym, ◌∙◌, ap, subst, append_assoc}
 use Rattle.std.proofs.lemmas.Bool.{and_parts}
 use Rattle.std.proofs.lemmas.List.Elements.{All-head, All-tail, All-take, All-filter, filter_passes}
 use Rattle.std.specs.List.{All, cons_option, count_by, filter_map, find, fold}
@@ -25,12 +25,11 @@ use Rattle.book_words.specs.Samples.{Drawing, Sample, numbers_of, drawing_from, 
 use Rattle.book_words.specs.Measures.{Measured, measured_of, actual_contents, contents_of_pack, contents_among, defective_count}
 use Rattle.reference_test.specs.Means.{mean_accepts}
 use Rattle.book_words.specs.Verdicts.{second_packs, first_defective, second_defective, is_accepted, contents_check_accepts, mean_check_accepts, average_accepts, fails_of, verdict_by_fails, verdict_of}
-use Rattle.book_words.specs.Refusals as rules
 use Rattle.book_words.specs.Answers.{IsLawful, IsLegal}
 use Rattle.book_words.specs.Balance.{VerdictsStay}
 use Rattle.book_words.proofs.LastSaid.{last_said-push}
 use Rattle.book_words.proofs.NameLemmas.{same_name_itself}
-use Rattle.book_words.proofs.LegalLemmas.{legal-prefix, kept_behind}
+use Rattle.book_words.proofs.LegalLemmas.{kept_behind}
 use Rattle.book_words.proofs.OneMoreEntry.{advance}
 use Rattle.book_words.proofs.DrawnLemmas.{drawing_of-push}
 use Rattle.book_laws.proofs.TareLaws.{tared_of}

@@ -3,7 +3,6 @@ use Rattle.std.proofs.Common.{◌≡◌, ℕ, ◌+◌, ◌<◌, ◌==◌, Bool, 
 use Rattle.std.specs.List.{last_or, AllByRecursion, All, find, cons_option, range_with_len}
 use Rattle.std.specs.Option.{option_or, option_and_then, option_map_or, unwrap_or}
 use Rattle.std.proofs.lemmas.Bool.{cases_Bool, eqb-true}
-use Rattle.std.proofs.lemmas.Bool.Decides.{nat_tests}
 use Rattle.std.proofs.lemmas.List.Elements.{All-from_recursion}
 use Rattle.annex_tables.specs.declared.types.Mode.{Mode}
 use Rattle.hall_limits.specs.declared.TheConstants.{MAX_LANE}
@@ -14,12 +13,10 @@ use Rattle.batch_sums.specs.declared.types.Pack.{Pack}
 use Rattle.batch_sums.specs.Totals as sums
 use Rattle.batch_sums.specs.Changes.{moved}
 use Rattle.book_words.specs.declared.name.Name.{Name}
-use Rattle.book_words.specs.declared.act.Prior.{Prior}
 use Rattle.book_words.specs.declared.act.Act.{Act}
-use Rattle.book_words.specs.declared.act.Act.TheVariants.{NewDay, PutProduct, PutTare, OpenBatch, StartLane, Weigh, StopLane, Void, EndRun, Draw, Measure, DrawSecond, Close}
+use Rattle.book_words.specs.declared.act.Act.TheVariants.{Draw, DrawSecond}
 use Rattle.book_words.specs.declared.act.Entry.{Entry}
 use Rattle.book_words.specs.declared.act.Reading.{Reading}
-use Rattle.book_words.specs.declared.refusal.Refusal.{Refusal}
 use Rattle.book_words.specs.declared.refusal.Refusal.TheVariants.{SecondNotNeeded}
 use Rattle.book_words.specs.Names.{same_name}
 use Rattle.book_words.specs.Acts.{last_said, prior_told, is_void_of, batch_opened}
@@ -29,8 +26,7 @@ use Rattle.pack_judge.specs.Piles.{same_pile}
 use Rattle.book_words.specs.Samples.{numbers_of, Drawing, Sample, drawing_from, drawing_of, first_picks, second_word, sample_by, sample_of, is_among, is_sampled}
 use Rattle.book_words.specs.Piles.{pile_of, pile_with_sample}
 use Rattle.book_words.specs.Verdicts.{second_packs, first_defective}
-use Rattle.book_words.specs.Refusals.{refused_if, day_unset, batch_unknown, batch_state, second_not_needed, is_second_not_needed}
-use Rattle.book_words.specs.declared.act.BatchState.TheVariants as state
+use Rattle.book_words.specs.Refusals.{refused_if, is_second_not_needed}
 use Rattle.book_words.proofs.NameLemmas.{same_name_is, same_name_itself}
 use Rattle.book_words.proofs.OneMoreEntry.{advance}
 use Rattle.book_words.proofs.DrawnLemmas.{sample_of-push}

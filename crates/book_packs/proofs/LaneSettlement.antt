@@ -1,9 +1,8 @@
 -- What an act of a lane does to the packs of the readings before it.
-use Rattle.std.proofs.Common.{◌≡◌, ℕ, ◌==◌, Bool, true, false, ◌&&◌, ◌||◌, cond, List, [], ◌∷◌, ◌++◌, map, Option, Some, None, option_map, is_none, refl, sym, ◌∙◌, ap, arith, inl, inr, ◌⊎◌}
+use Rattle.std.proofs.Common.{◌≡◌, ℕ, ◌==◌, Bool, true, false, ◌&&◌, ◌||◌, cond, List, [], ◌∷◌, ◌++◌, map, Option, Some, None, option_map, is_none, refl, sym, ◌∙◌, ap, inl, inr, ◌⊎◌}
 use Rattle.std.specs.List.{AllByRecursion, filter, find, slice_get}
 use Rattle.std.specs.Option.{option_or, option_and_then, option_map_or}
 use Rattle.std.proofs.lemmas.Bool.{cases_Bool}
-use Rattle.std.proofs.lemmas.Bool.Decides.{nat_tests}
 use Rattle.pack_judge.specs.declared.types.Pile.{Pile}
 use Rattle.pack_judge.specs.declared.types.Signal.{Signal}
 use Rattle.pack_judge.specs.declared.types.Signal.TheVariants.{Pass, Reject}

@@ -1,12 +1,11 @@
 -- Filters, finds and maps of lists, one after another.
-use Rattle.std.proofs.Common.{◌≡◌, ℕ, zero, suc, ◌+◌, ◌==◌, Bool, true, false, ◌&&◌, cond, List, [], ◌∷◌, ◌++◌, length, map, Option, Some, None, option_map, is_some, refl, sym, ◌∙◌, ap, arith, inl, inr, ◌⊎◌, append-nil}
-use Rattle.std.specs.List.{AllByRecursion, filter, find, cons_option, slice_get, count_by}
-use Rattle.std.proofs.lemmas.Bool.{eqb-true, eq-eqb, cases_Bool}
+use Rattle.std.proofs.Common.{◌≡◌, ℕ, ◌+◌, Bool, true, false, ◌&&◌, cond, List, [], ◌∷◌, ◌++◌, map, Option, Some, None, option_map, is_some, refl, ◌∙◌, ap}
+use Rattle.std.specs.List.{AllByRecursion, filter, find, count_by}
 use Rattle.batch_sums.proofs.PackSums.{sum_by-map}
 use Rattle.book_words.specs.declared.name.Name.{Name}
 use Rattle.book_words.specs.Names.{same_name}
 use Rattle.book_words.specs.Order.{place_of}
-use Rattle.book_words.proofs.NameLemmas.{same_name_is, same_name_itself}
+use Rattle.book_words.proofs.NameLemmas.{same_name_itself}
 
 pub filter-map : {X Y : Type 0} (p : Y → Bool) (f : X → Y) (xs : List X) → filter p (map f xs) ≡ map f (filter (λ x. p (f x)) xs)
 filter-map p f [] = refl

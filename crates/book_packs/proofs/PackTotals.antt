@@ -1,15 +1,11 @@
 -- What the packs tell is what the readings tell.
-use Rattle.std.proofs.Common.{◌≡◌, ℕ, ℤ, suc, ◌==◌, Bool, true, false, List, [], ◌∷◌, length, map, Option, Some, None, option_map, refl, sym, ◌∙◌, ap}
+use Rattle.std.proofs.Common.{◌≡◌, ℕ, ℤ, suc, ◌==◌, Bool, true, false, List, [], ◌∷◌, length, map, Some, option_map, refl, sym, ◌∙◌, ap}
 use Rattle.std.specs.Prelude.{int_lt, ◌+ℤ◌, filter, find, count_by}
 use Rattle.std.specs.List.{AllByRecursion, slice_get}
 use Rattle.std.specs.Option.{option_and_then, option_map_or, unwrap_or}
 use Rattle.std.proofs.lemmas.Option.{slice_get-map}
 use Rattle.pack_judge.specs.declared.types.Pile.{Pile}
 use Rattle.pack_judge.specs.declared.types.Pile.TheVariants.{Passed, Rejected, Sampled, Voided}
-use Rattle.pack_judge.specs.declared.types.Signal.{Signal}
-use Rattle.pack_judge.specs.declared.types.Signal.TheVariants.{Pass, Reject}
-use Rattle.book_words.specs.declared.act.Prior.{Prior}
-use Rattle.book_words.specs.declared.act.Prior.TheVariants.{Nothing, Opened, Stayed, Unknown}
 use Rattle.batch_sums.specs.declared.types.Pack.{Pack}
 use Rattle.batch_sums.specs.Totals as sums
 use Rattle.batch_sums.specs.Asked as asked
@@ -22,7 +18,7 @@ use Rattle.book_words.specs.Acts.{said, batch_opened}
 use Rattle.book_words.specs.Order.{batch_number}
 use Rattle.book_words.specs.Readings.{readings, is_of_batch}
 use Rattle.book_words.specs.Classes.{density_of_batch, limits_of_batch}
-use Rattle.book_words.specs.Population.{is_counted, settled_pile, unsampled_pile, readings_of_batch, population, count_below, net_sum}
+use Rattle.book_words.specs.Population.{is_counted, unsampled_pile, readings_of_batch, population, count_below, net_sum}
 use Rattle.pack_judge.specs.Piles.{same_pile}
 use Rattle.book_words.specs.Readings.{net_of_reading}
 use Rattle.book_words.specs.Samples.{numbers_of, is_sampled}

@@ -1,9 +1,8 @@
 -- What is kept behind acts that weigh, stop, void and draw nothing.
-use Rattle.std.proofs.Common.{◌≡◌, ℕ, ℤ, ◌+◌, ◌==◌, Bool, true, false, ◌||◌, cond, List, [], ◌∷◌, ◌++◌, length, map, Option, Some, None, is_none, refl, sym, ◌∙◌, ap, subst, arith}
+use Rattle.std.proofs.Common.{◌≡◌, ℕ, ℤ, ◌+◌, Bool, true, false, ◌||◌, cond, List, [], ◌∷◌, ◌++◌, length, map, Option, Some, None, is_none, refl, sym, ◌∙◌, ap, subst}
 use Rattle.std.specs.Prelude.{pos}
 use Rattle.std.specs.List.{cons_option, range_with_len}
 use Rattle.std.specs.Option.{option_or, option_and_then, unwrap_or}
-use Rattle.std.proofs.lemmas.Bool.Decides.{nat_tests}
 use Rattle.std.proofs.lemmas.List.{append-nil}
 use Rattle.annex_tables.specs.declared.types.Limits.{Limits}
 use Rattle.hall_limits.specs.declared.TheConstants.{MAX_TARE, MAX_LANE}
@@ -15,9 +14,8 @@ use Rattle.batch_sums.specs.declared.types.Pack.{Pack}
 use Rattle.batch_sums.specs.Totals.{Terms}
 use Rattle.batch_sums.specs.Changes.{corrected, is_concerned, IsUpTo}
 use Rattle.book_words.specs.declared.name.Name.{Name}
-use Rattle.book_words.specs.declared.act.Prior.{Prior}
 use Rattle.book_words.specs.declared.act.Act.{Act}
-use Rattle.book_words.specs.declared.act.Act.TheVariants.{NewDay, PutProduct, PutTare, OpenBatch, StartLane, Weigh, StopLane, Void, EndRun, Draw, Measure, DrawSecond, Close}
+use Rattle.book_words.specs.declared.act.Act.TheVariants.{NewDay, PutProduct, PutTare, OpenBatch, StartLane, EndRun, Measure, Close}
 use Rattle.book_words.specs.declared.act.Entry.{Entry}
 use Rattle.book_words.specs.declared.act.Reading.{Reading}
 use Rattle.book_words.specs.Acts.{prior_told, is_void_of, batch_opened, nominal_put, unit_put, product_given, density_given, nominal_of, unit_of, product_of, density_of}
@@ -39,7 +37,7 @@ use Rattle.book_packs.proofs.ReadingTares.{own_entry_is, reading_retared}
 use Rattle.book_packs.proofs.Lone.{number_kept}
 use Rattle.book_packs.proofs.SampleNumbers.{is_draw, sampled_stays}
 use Rattle.book_packs.proofs.StandingTerms.{built, tares_keep, batches-push, batches_keep, packs-push, pack_kept, pack_tared}
-use Rattle.book_words.proofs.PlainLemmas.{eqb-swap, or_none}
+use Rattle.book_words.proofs.PlainLemmas.{or_none}
 use Rattle.std.proofs.Math.Bool.{or-false}
 
 -- an act that weighs, stops, voids and draws nothing

@@ -1,9 +1,8 @@
 -- The tares of readings once a tare was put.
-use Rattle.std.proofs.Common.{◌≡◌, ℕ, ℤ, ◌==◌, true, false, ◌&&◌, cond, List, [], ◌∷◌, ◌++◌, Option, Some, None, option_map, is_some, refl, sym, ◌∙◌, ap, arith}
+use Rattle.std.proofs.Common.{◌≡◌, ℕ, ℤ, ◌==◌, true, false, ◌&&◌, cond, List, [], ◌∷◌, ◌++◌, Option, Some, None, option_map, is_some, refl, sym, ◌∙◌, ap}
 use Rattle.std.specs.Prelude.{pos}
 use Rattle.std.specs.List.{cons_option, slice_get}
 use Rattle.std.specs.Option.{option_or, option_and_then, option_map_or, unwrap_or}
-use Rattle.std.proofs.lemmas.Bool.Decides.{nat_tests}
 use Rattle.tare_register.specs.declared.types.Span.{Span}
 use Rattle.tare_register.specs.Tares.{entry_of, tare_of, covers, DecidesWithin}
 use Rattle.batch_sums.specs.Totals.{Terms}

@@ -1,5 +1,5 @@
 -- The tares of a legal list are within their limit.
-use Rattle.std.proofs.Common.{◌≡◌, ℤ, Bool, true, false, cond, List, [], ◌∷◌, ◌++◌, Option, Some, None, IfSome, option_map, refl, sym, subst, arith, append_assoc, append-nil}
+use Rattle.std.proofs.Common.{ℤ, Bool, true, false, cond, List, [], ◌∷◌, Option, Some, None, IfSome, option_map, sym, subst, arith}
 use Rattle.std.specs.Prelude.{pos, int_le}
 use Rattle.std.proofs.lemmas.Int.{ints}
 use Rattle.std.specs.List.{AllByRecursion, filter, last_or, cons_option, list_all}
@@ -11,7 +11,7 @@ use Rattle.tare_register.specs.declared.types.DatedTare.{DatedTare}
 use Rattle.tare_register.specs.Tares.{latest, dated_by, of_greatest_day, deciding_tare}
 use Rattle.book_words.specs.declared.name.Name.{Name}
 use Rattle.book_words.specs.declared.act.Act.{Act}
-use Rattle.book_words.specs.declared.act.Act.TheVariants.{NewDay, PutProduct, PutTare, OpenBatch, StartLane, Weigh, StopLane, Void, EndRun, Draw, Measure, DrawSecond, Close}
+use Rattle.book_words.specs.declared.act.Act.TheVariants.{PutTare}
 use Rattle.book_words.specs.declared.act.Entry.{Entry}
 use Rattle.book_words.specs.Names.{same_name}
 use Rattle.book_words.specs.Acts.{product_of}

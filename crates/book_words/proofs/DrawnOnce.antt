@@ -1,22 +1,20 @@
 -- In a legal list a batch is opened once, and its first sample is drawn once, before its second.
-use Rattle.std.proofs.Common.{◌≡◌, ℕ, Bool, true, false, not, List, [], ◌∷◌, ◌++◌, Option, Some, None, is_some, is_none, if◌then◌else◌, refl, sym, ◌∙◌, ap, subst, append_assoc, append-nil}
+use Rattle.std.proofs.Common.{◌≡◌, ℕ, Bool, true, false, not, List, [], ◌∷◌, ◌++◌, Option, Some, None, is_some, if◌then◌else◌, refl, sym, ◌∙◌, ap}
 use Rattle.std.specs.List.{list_any, cons_option, last_or}
 use Rattle.std.specs.Option.{option_or, option_and_then}
 use Rattle.book_words.specs.declared.name.Name.{Name}
 use Rattle.book_words.specs.declared.act.BatchState.{BatchState}
 use Rattle.book_words.specs.declared.act.BatchState.TheVariants.{Running, Ended, Drawn, Closed}
 use Rattle.book_words.specs.declared.act.Act.{Act}
-use Rattle.book_words.specs.declared.act.Act.TheVariants.{NewDay, PutProduct, PutTare, OpenBatch, StartLane, Weigh, StopLane, Void, EndRun, Draw, Measure, DrawSecond, Close}
+use Rattle.book_words.specs.declared.act.Act.TheVariants.{OpenBatch, EndRun, Draw, DrawSecond, Close}
 use Rattle.book_words.specs.declared.act.Entry.{Entry}
-use Rattle.book_words.specs.declared.refusal.Refusal.{Refusal}
 use Rattle.book_words.specs.declared.refusal.Refusal.TheVariants as why
 use Rattle.book_words.specs.Names.{same_name}
 use Rattle.book_words.specs.Acts.{last_said, product_given, product_of, state_set, state_of, same_state}
 use Rattle.book_words.specs.Samples.{Drawing, drawing_from, drawings, drawing_of, second_word, numbers_of}
 use Rattle.book_words.specs.Population.{population}
-use Rattle.book_words.specs.Refusals as rules
-use Rattle.book_words.specs.Refusals.{refused_if, first_refusal, refusals_of}
-use Rattle.book_words.specs.Answers.{ask_of, IsLawful, IsLegal}
+use Rattle.book_words.specs.Refusals.{refused_if}
+use Rattle.book_words.specs.Answers.{IsLawful, IsLegal}
 use Rattle.book_words.proofs.NameLemmas.{same_name_is}
 use Rattle.book_words.proofs.LastSaid.{last_said-push}
 use Rattle.book_words.proofs.PlainLemmas.{none_of}

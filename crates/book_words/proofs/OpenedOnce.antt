@@ -1,14 +1,13 @@
 -- In a legal list no two batches have one name, and the number of a batch tells its place.
-use Rattle.std.proofs.Common.{◌≡◌, ℕ, suc, ◌+◌, Bool, true, false, ◌||◌, List, [], ◌∷◌, ◌++◌, slice_get, Option, Some, None, option_map, if◌then◌else◌, refl, sym, ◌∙◌, ap, arith, append-nil}
+use Rattle.std.proofs.Common.{◌≡◌, Bool, true, false, ◌||◌, List, [], ◌∷◌, ◌++◌, Option, Some, None, if◌then◌else◌, refl, sym, ◌∙◌, ap, append-nil}
 use Rattle.std.specs.List.{list_any, cons_option, last_or}
 use Rattle.std.specs.Option.{option_or, option_map_or}
 use Rattle.book_words.specs.declared.name.Name.{Name}
 use Rattle.book_words.specs.declared.act.Act.{Act}
-use Rattle.book_words.specs.declared.act.Act.TheVariants.{NewDay, PutProduct, PutTare, OpenBatch, StartLane, Weigh, StopLane, Void, EndRun, Draw, Measure, DrawSecond, Close}
+use Rattle.book_words.specs.declared.act.Act.TheVariants.{OpenBatch}
 use Rattle.book_words.specs.declared.act.Entry.{Entry}
 use Rattle.book_words.specs.Names.{same_name}
 use Rattle.book_words.specs.Acts.{said, product_given, product_of, batch_opened}
-use Rattle.book_words.specs.Order.{place_of}
 use Rattle.book_words.specs.Refusals.{first_refusal, refusals_of}
 use Rattle.book_words.specs.Answers.{IsLegal}
 use Rattle.book_words.proofs.NameLemmas.{same_name_is, same_name_itself}

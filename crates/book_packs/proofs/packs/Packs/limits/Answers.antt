@@ -1,4 +1,4 @@
-use Rattle.std.proofs.Common.{◌≡◌, sym, ◌∙◌, ap, Some, option_map}
+use Rattle.std.proofs.Common.{sym, ◌∙◌, ap, option_map}
 use Rattle.std.specs.List.{slice_get}
 use Rattle.batch_sums.specs.Totals.{Terms}
 use Rattle.book_packs.specs.Stand.{Standing}

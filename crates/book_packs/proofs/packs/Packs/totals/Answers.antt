@@ -1,4 +1,4 @@
-use Rattle.std.proofs.Common.{◌≡◌, sym, ◌∙◌, ap, Some}
+use Rattle.std.proofs.Common.{sym, ◌∙◌, ap}
 use Rattle.book_packs.specs.Stand.{Standing}
 use Rattle.book_packs.proofs.Known.{known_of}
 use Rattle.book_packs.proofs.PackTotals.{totals_are}

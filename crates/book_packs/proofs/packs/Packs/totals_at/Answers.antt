@@ -1,4 +1,4 @@
-use Rattle.std.proofs.Common.{◌≡◌, ◌-◌, sym, subst, ◌∙◌, ap, Some, None, option_map, slice_index_or}
+use Rattle.std.proofs.Common.{◌≡◌, ◌-◌, sym, subst, ◌∙◌, ap, None, option_map, slice_index_or}
 use Rattle.std.specs.List.{slice_get}
 use Rattle.batch_sums.specs.Totals.{Terms}
 use Rattle.book_packs.specs.Stand.{IsPacksOf, packs_in, terms_of_batch}
