@@ -299,19 +299,27 @@ module _ {D : Type 0} (g : disk.Ghosts D) where
               (on t c (omega (arith, le, was_synced.after, was_synced.before)) was);
         }
 
-    -- at the end each image holds the rows, or the disk failed and a lawful entry hangs
+    -- what hangs at the end is lawful, and the disk failed
+    hung_on : (start : D) (last : Store D) (entry : Entry)
+        → (s.faults ≡ g.faults start) ⊎ Rose (g.faults start) s.faults
+        → FailedSince s.faults last → HasBookSince g s last → HangsWith g last entry
+        → Rose (g.faults start) (g.faults (disk_of last)) × IsLawful (entries_of last) entry
+    hung_on start last entry before (inl calm) book hangs = absurd (calm.0 hangs.row.hangs)
+    hung_on start last entry before (inr rose) book hangs = (
+      rose_behind (g.faults start) s.faults (g.faults (disk_of last)) before rose,
+      book.hung entry hangs,
+    )
+
+    -- each image holds the rows, or the disk failed and a lawful entry hangs
     end_on : (start : D) (last : Store D) (c : List ℕ)
         → (s.faults ≡ g.faults start) ⊎ Rose (g.faults start) s.faults
         → FailedSince s.faults last → HasBookSince g s last → HoldsOrHangs g last c
         → HoldsBook (entries_of last) c
         ⊎ (Rose (g.faults start) (g.faults (disk_of last)) × HoldsOrOneMore (entries_of last) c)
     end_on start last c before fault book (inl holds) = inl holds
-    end_on start last c before (inl calm) book (inr hangs) =
-        absurd (calm.0 hangs.1.row.hangs)
-    end_on start last c before (inr rose) book (inr hangs) = inr (
-      rose_behind (g.faults start) s.faults (g.faults (disk_of last)) before rose,
-      inr (hangs.0, book.hung hangs.0 hangs.1, hangs.2),
-    )
+    end_on start last c before fault book (inr hangs) =
+        let it = hung_on start last hangs.0 before fault book hangs.1 in
+        inr (it.0, inr (hangs.0, it.1, hangs.2))
 
     -- the disk's count stayed, or it rose, with the session
     faults_on : (start : D) (last : Store D)
@@ -322,7 +330,8 @@ module _ {D : Type 0} (g : disk.Ghosts D) where
     faults_on start last before (inr rose) =
         inr (rose_behind (g.faults start) s.faults (g.faults (disk_of last)) before rose)
     faults_on start last (inl same) (inl calm) = inl (calm.1 ∙ same)
-    faults_on start last (inr rose) (inl calm) = inr (subst (Rose (g.faults start)) (sym calm.1) rose)
+    faults_on start last (inr rose) (inl calm) =
+        inr (subst (Rose (g.faults start)) (sym calm.1) rose)
 
     -- the whole run with a session, from what is kept at its end
     pub run_on : (held : List Entry) (start : D) (first last : Store D)
@@ -340,6 +349,7 @@ module _ {D : Type 0} (g : disk.Ghosts D) where
           begins = begins_on held s.before (entries_of last)
               (subst (IsPrefixOf held) (sym rows) run.begins) kept.begins;
           faults = faults_on start last before kept.fault;
+          hung = λ entry hangs. hung_on start last entry before kept.fault book hangs;
           moments = moments_on held start first last rows began past run kept.begins book;
           end = λ c image. end_on start last c before kept.fault book (book.images c image);
         }
@@ -362,14 +372,16 @@ module _ {D : Type 0} (g : disk.Ghosts D) where
     pub rests_mounted : RestsOnDisk g store
     rests_mounted = record { has = has.has; images = each_image }
 
-    pub run_mounted : g.faults (disk_of store) ≡ g.faults start → KeepsRun g held start store
-    run_mounted same =
+    pub run_mounted : g.faults (disk_of store) ≡ g.faults start → ¬ Hangs store
+        → KeepsRun g held start store
+    run_mounted same calm =
         let left : (c : List ℕ) → HoldsBook held c → LeavesFrom held (entries_of store) c =
         λ c holds. leaves_held held (entries_of store) c has.same holds in
         record {
           has = has.has;
           begins = begins_same held (entries_of store) has.same;
           faults = inl same;
+          hung = λ entry hangs. absurd (calm hangs.row.hangs);
           moments = record {
             synced = has.moments.synced;
             after = has.moments.after;

@@ -65,16 +65,20 @@ pub record IsKeptSince {D N : Type 0} (disk : disk.Ghosts D) (session : session.
       ⊎ Rose session.faults (disk.faults (disk_of store))
   pub book : session.rests → HasBookSince disk session store
 
--- A whole run over a disk that held these rows at the start: they are still there. Each crash from
--- the first sync on leaves what it may; at the end it leaves all rows, or, only where the disk
--- failed, these and one lawful entry more.
+-- A whole run over a disk that held these rows at the start: they are still there. What hangs is
+-- lawful, and hangs only where the disk failed. Each crash from the first sync on leaves what it
+-- may; at the end it leaves all rows, or, only where the disk failed, these and one lawful entry
+-- more.
 pub record KeepsRun {D : Type 0} (disk : disk.Ghosts D) (held : List Entry) (start : D)
     (store : Store D) : Type 0 where
   pub has : HasBook disk store
   pub begins : IsPrefixOf held (entries_of store)
   pub faults : (disk.faults (disk_of store) ≡ disk.faults start)
       ⊎ Rose (disk.faults start) (disk.faults (disk_of store))
+  pub hung : (entry : Entry) → HangsWith disk store entry
+      → Rose (disk.faults start) (disk.faults (disk_of store)) × IsLawful (entries_of store) entry
   pub moments : KeepsFromSync disk start (disk_of store) (LeavesFrom held (entries_of store))
   pub end : (c : List ℕ) → disk.image (disk_of store) c
       → HoldsBook (entries_of store) c
-      ⊎ (Rose (disk.faults start) (disk.faults (disk_of store)) × HoldsOrOneMore (entries_of store) c)
+      ⊎ (Rose (disk.faults start) (disk.faults (disk_of store))
+      × HoldsOrOneMore (entries_of store) c)

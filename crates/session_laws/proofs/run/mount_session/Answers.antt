@@ -11,5 +11,5 @@ returns-in-Ok g c = record {
       c.hold_session.ensures.kept
       (rests_mounted g.D.Disk g.met.D.Disk.counts_now held c.args.disk store has) held c.args.disk
       (run_mounted g.D.Disk g.met.D.Disk.counts_now held c.args.disk store has
-      c.in-Ok.ensures.cause);
+      c.in-Ok.ensures.cause c.in-Ok.ensures.calm);
 }
