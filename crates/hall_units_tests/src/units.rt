@@ -2,6 +2,7 @@ use hall_units::{
     DayText, GramText, get_u16, get_u32, get_u64, print_day, print_grams, push_count, push_decimal,
     push_number, put_u16, put_u32, put_u64, read_bounded, read_day, read_grams, read_number,
 };
+use std::alloc::{AllocError, Global};
 use std::test::Fail;
 
 const GRAMS: [(&str, Result<i64, GramText>); 11] = [
@@ -53,20 +54,49 @@ const BOUNDED: [(&str, Option<u64>); 10] = [
     ("1/2", None),
 ];
 
+// The first text of each table that is read as something else.
+fn wrong_grams() -> Option<&'static str> {
+    for (text, mg) in GRAMS {
+        if read_grams(text.as_bytes()) != mg {
+            return Some(text);
+        }
+    }
+    None
+}
+
+fn wrong_day() -> Option<&'static str> {
+    for (text, day) in DAYS {
+        if read_day(text.as_bytes()) != day {
+            return Some(text);
+        }
+    }
+    None
+}
+
+fn wrong_number() -> Option<&'static str> {
+    for (text, number) in NUMBERS {
+        if read_number(text.as_bytes()) != number {
+            return Some(text);
+        }
+    }
+    None
+}
+
+fn wrong_bounded() -> Option<&'static str> {
+    for (text, number) in BOUNDED {
+        if read_bounded(5, 99_990, text.as_bytes()) != number {
+            return Some(text);
+        }
+    }
+    None
+}
+
 #[test]
 fn texts_are_read(rt: HostRuntime) {
-    for (text, mg) in GRAMS {
-        assert_eq!(rt; read_grams(text.as_bytes()), mg, "{text}");
-    }
-    for (text, day) in DAYS {
-        assert_eq!(rt; read_day(text.as_bytes()), day, "{text}");
-    }
-    for (text, number) in NUMBERS {
-        assert_eq!(rt; read_number(text.as_bytes()), number, "{text}");
-    }
-    for (text, number) in BOUNDED {
-        assert_eq!(rt; read_bounded(5, 99_990, text.as_bytes()), number, "{text}");
-    }
+    assert_eq!(rt; wrong_grams(), None);
+    assert_eq!(rt; wrong_day(), None);
+    assert_eq!(rt; wrong_number(), None);
+    assert_eq!(rt; wrong_bounded(), None);
 }
 
 const COUNT_TEXTS: [(u32, &str); 3] = [(0, "0"), (10_000, "10000"), (u32::MAX, "4294967295")];
@@ -89,40 +119,71 @@ const DAY_TEXTS: [(i32, &str); 3] = [
     (2_932_896, "9999-12-31"),
 ];
 
-// A text begins without room.
-#[test]
-fn texts_are_printed(rt: HostRuntime) -> Result<(), Fail> {
-    let alloc = rt.alloc();
-    let mut all = Vec::new(alloc);
-    print_grams(-1_500, &mut all)?;
-    all.push(b' ')?;
-    print_grams(251_000, &mut all)?;
-    all.push(b' ')?;
-    print_grams(1_000_000_000_000_000, &mut all)?;
-    all.push(b' ')?;
-    print_day(20_150, &mut all)?;
-    assert!(rt; all.as_slice() == b"-1.500 251.000 1000000000000.000 2025-03-03".as_slice());
+// The first text of each table that is printed otherwise, where it begins without room.
+fn wrong_day_text(alloc: Global) -> Result<Option<&'static str>, AllocError> {
     for (day, wanted) in DAY_TEXTS {
         let mut text = Vec::new(alloc);
         print_day(day, &mut text)?;
-        assert!(rt; text.as_slice() == wanted.as_bytes(), "{day}");
+        if text.as_slice() != wanted.as_bytes() {
+            return Ok(Some(wanted));
+        }
     }
+    Ok(None)
+}
+
+fn wrong_count_text(alloc: Global) -> Result<Option<&'static str>, AllocError> {
     for (count, wanted) in COUNT_TEXTS {
         let mut text = Vec::new(alloc);
         push_count(&mut text, count)?;
-        assert!(rt; text.as_slice() == wanted.as_bytes(), "{count}");
+        if text.as_slice() != wanted.as_bytes() {
+            return Ok(Some(wanted));
+        }
     }
+    Ok(None)
+}
+
+fn wrong_number_text(alloc: Global) -> Result<Option<&'static str>, AllocError> {
     for (number, wanted) in NUMBER_TEXTS {
         let mut text = Vec::new(alloc);
         push_number(&mut text, number)?;
-        assert!(rt; text.as_slice() == wanted.as_bytes(), "{number}");
+        if text.as_slice() != wanted.as_bytes() {
+            return Ok(Some(wanted));
+        }
     }
+    Ok(None)
+}
+
+fn wrong_decimal_text(alloc: Global) -> Result<Option<&'static str>, AllocError> {
     for (number, wanted) in DECIMAL_TEXTS {
         let mut text = Vec::new(alloc);
         text.extend_from_slice(b"of ")?;
         push_decimal(&mut text, number)?;
-        assert!(rt; text.as_slice() == wanted.as_bytes(), "{number}");
+        if text.as_slice() != wanted.as_bytes() {
+            return Ok(Some(wanted));
+        }
     }
+    Ok(None)
+}
+
+// Appends three masses and a day, with blanks between them.
+fn print_all(text: &mut Vec<u8>) -> Result<(), AllocError> {
+    for grams in [-1_500, 251_000, 1_000_000_000_000_000] {
+        print_grams(grams, text)?;
+        text.push(b' ')?;
+    }
+    print_day(20_150, text)
+}
+
+#[test]
+fn texts_are_printed(rt: HostRuntime) -> Result<(), Fail> {
+    let alloc = rt.alloc();
+    assert_eq!(rt; wrong_day_text(alloc)?, None);
+    assert_eq!(rt; wrong_count_text(alloc)?, None);
+    assert_eq!(rt; wrong_number_text(alloc)?, None);
+    assert_eq!(rt; wrong_decimal_text(alloc)?, None);
+    let mut all = Vec::new(alloc);
+    print_all(&mut all)?;
+    assert!(rt; all.as_slice() == b"-1.500 251.000 1000000000000.000 2025-03-03".as_slice());
     Ok(())
 }
 

@@ -165,11 +165,19 @@ const BAD: [&str; 7] = [
     TOO_MANY_WORDS,
 ];
 
+// The first of some lines that isn't bad.
+fn first_good(lines: &'static str) -> Option<&'static str> {
+    for line in lines.lines() {
+        if says(line.as_bytes()) != (Line::Bad, Line::Bad) {
+            return Some(line);
+        }
+    }
+    None
+}
+
 #[test]
 fn lines_out_of_form_are_bad(rt: HostRuntime) {
     for lines in BAD {
-        for line in lines.lines() {
-            assert!(rt; says(line.as_bytes()) == (Line::Bad, Line::Bad), "{line:?}");
-        }
+        assert_eq!(rt; first_good(lines), None);
     }
 }
