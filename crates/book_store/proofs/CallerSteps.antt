@@ -1,17 +1,16 @@
 -- What an ask makes of a caller that has a store for itself.
-use Rattle.std.proofs.Common.{◌≡◌, ◌⊎◌, inl, inr, ⊎_elim, ℕ, ◌+◌, ◌-◌, ◌^◌, ◌≤◌, min, Bool, true, ◌==◌, List, [], ◌∷◌, ◌++◌, length, Option, Some, None, option_map, IsSome, Result, Ok, Err, OnOk, refl, sym, ap, ◌∙◌, subst, arith, append-nil, length-append}
+use Rattle.std.proofs.Common.{◌≡◌, ◌⊎◌, inl, inr, ⊎_elim, ℕ, ◌+◌, ◌≤◌, min, true, ◌==◌, List, [], ◌∷◌, ◌++◌, length, Option, Some, None, option_map, IsSome, Result, Ok, Err, OnOk, refl, sym, ap, ◌∙◌, subst, arith, append-nil, length-append}
 use Rattle.std.specs.List.{cons_option, filter}
 use Rattle.std.proofs.lemmas.Bool.Decides.{nat_tests}
 use Rattle.std.specs.Option.{option_or}
 use Rattle.std.proofs.lemmas.List.Elements.{filter-append}
-use Rattle.device_facts.specs.Count.{Counted, Rose, Calm}
+use Rattle.device_facts.specs.Count.{Rose, Calm}
 use Rattle.device_facts.specs.Prefix.{IsPrefixOf}
 use Rattle.disk_core.specs.Disk.{WhereTold}
 use Rattle.disk_core.specs.declared.disk.Disk as disk
 use Rattle.book_words.specs.declared.act.Act.{Act}
 use Rattle.book_words.specs.declared.act.Ask.{Ask}
 use Rattle.book_words.specs.declared.act.Entry.{Entry}
-use Rattle.book_words.specs.declared.act.Question.{Question}
 use Rattle.book_words.specs.declared.act.Question.TheVariants as question
 use Rattle.book_words.specs.declared.act.Want.{Want}
 use Rattle.book_words.specs.declared.act.Want.TheVariants as want
@@ -27,11 +26,9 @@ use Rattle.book_words.specs.Refusals.{first_refusal, book_full, refusals_of}
 use Rattle.book_words.proofs.RowLemmas.{rows_push}
 use Rattle.book_core.specs.View.{BookView}
 use Rattle.book_core.specs.Steps.{MayLackMemory}
-use Rattle.book_store.specs.declared.store.Store.{Store}
-use Rattle.book_store.specs.Images.{HoldsBook}
-use Rattle.book_store.specs.Stores.{disk_of, book_of, entries_of, limit_of, held_of, Hangs, HasBook, HangsWith, HoldsOrHangs}
+use Rattle.book_store.specs.Stores.{disk_of, book_of, entries_of, limit_of, held_of, Hangs, HasBook, HoldsOrHangs}
 use Rattle.book_store.specs.Offers.{Offers, OffersEntry, LeavesDisk, GivesAnswer, list_behind, CountsDiskFault}
-use Rattle.book_store.specs.Callers.{CallerView, own_rows, known_of, IsAskedFor, MayStandBehind, LeavesRows, KeepsRows, FailsAlike, IsReachedBy}
+use Rattle.book_store.specs.Callers.{CallerView, own_rows, known_of, MayStandBehind, LeavesRows, KeepsRows, FailsAlike, IsReachedBy}
 use Rattle.book_store.proofs.StoreFacts.{images_hold}
 use Rattle.book_store.proofs.KeptLemmas.{same_begins, asked_begins}
 

@@ -1,14 +1,12 @@
 -- A caller is reached from itself by no ask, and by two lists of asks one after the other.
-use Rattle.std.proofs.Common.{◌≡◌, ◌⊎◌, inl, inr, ⊎_elim, ℕ, ◌+◌, ◌≤◌, List, [], ◌∷◌, ◌++◌, length, Some, refl, sym, ◌∙◌, ap, subst, arith, append_assoc, append-nil, length-append}
-use Rattle.device_facts.specs.Count.{Rose, Calm}
+use Rattle.std.proofs.Common.{inl, inr, ⊎_elim, ℕ, ◌≤◌, List, [], ◌∷◌, ◌++◌, length, refl, sym, ◌∙◌, ap, subst, arith, append_assoc, append-nil, length-append}
+use Rattle.device_facts.specs.Count.{Rose}
 use Rattle.device_facts.specs.Prefix.{IsPrefixOf}
 use Rattle.disk_core.specs.declared.disk.Disk as disk
 use Rattle.book_words.specs.declared.act.Ask.{Ask}
 use Rattle.book_words.specs.declared.act.Entry.{Entry}
-use Rattle.book_words.specs.Answers.{added, IsLawful}
 use Rattle.book_words.specs.Callers.{IsReached}
-use Rattle.book_store.specs.Images.{HoldsBook}
-use Rattle.book_store.specs.Stores.{disk_of, entries_of, limit_of, HasBook, HangsWith}
+use Rattle.book_store.specs.Stores.{disk_of, entries_of, limit_of}
 use Rattle.book_store.specs.Callers.{CallerView, IsAskedFor, MayStandBehind, LeavesRows, KeepsRows, FailsAlike, IsReachedBy}
 
 begins_itself : (a : List Entry) → IsPrefixOf a a
