@@ -1,16 +1,16 @@
 -- What an ask makes of a caller that has a store for itself.
-use Rattle.std.proofs.Common.{◌≡◌, ◌⊎◌, inl, inr, ⊎_elim, ℕ, ◌+◌, ◌-◌, ◌^◌, ◌≤◌, min, Bool, true, ◌==◌, List, [], ◌∷◌, ◌++◌, length, Option, Some, None, option_map, IsSome, Result, Ok, Err, OnOk, refl, sym, ap, ◌∙◌, subst, arith, append-nil, length-append}
+use Rattle.std.proofs.Common.{◌≡◌, ◌⊎◌, inl, inr, ⊎_elim, ℕ, ◌+◌, ◌≤◌, min, true, ◌==◌, List, [], ◌∷◌, ◌++◌, length, Option, Some, None, option_map, IsSome, Result, Ok, Err, OnOk, refl, sym, ap, ◌∙◌, subst, arith, append-nil, length-append}
 use Rattle.std.specs.List.{cons_option, filter}
 use Rattle.std.proofs.lemmas.Bool.Decides.{nat_tests}
 use Rattle.std.specs.Option.{option_or}
 use Rattle.std.proofs.lemmas.List.Elements.{filter-append}
-use Rattle.device_facts.specs.Count.{Counted, Rose, Calm}
+use Rattle.device_facts.specs.Count.{Rose, Calm}
 use Rattle.device_facts.specs.Prefix.{IsPrefixOf}
+use Rattle.disk_core.specs.Disk.{WhereTold}
 use Rattle.disk_core.specs.declared.disk.Disk as disk
 use Rattle.book_words.specs.declared.act.Act.{Act}
 use Rattle.book_words.specs.declared.act.Ask.{Ask}
 use Rattle.book_words.specs.declared.act.Entry.{Entry}
-use Rattle.book_words.specs.declared.act.Question.{Question}
 use Rattle.book_words.specs.declared.act.Question.TheVariants as question
 use Rattle.book_words.specs.declared.act.Want.{Want}
 use Rattle.book_words.specs.declared.act.Want.TheVariants as want
@@ -26,11 +26,10 @@ use Rattle.book_words.specs.Refusals.{first_refusal, book_full, refusals_of}
 use Rattle.book_words.proofs.RowLemmas.{rows_push}
 use Rattle.book_core.specs.View.{BookView}
 use Rattle.book_core.specs.Steps.{MayLackMemory}
-use Rattle.book_store.specs.declared.store.Store.{Store}
-use Rattle.book_store.specs.Images.{HoldsBook}
-use Rattle.book_store.specs.Stores.{disk_of, book_of, entries_of, limit_of, held_of, Hangs, HasBook, HangsWith, HoldsOrHangs}
+use Rattle.book_store.specs.Stores.{disk_of, book_of, entries_of, limit_of, held_of, Hangs, HasBook, HoldsOrHangs}
 use Rattle.book_store.specs.Offers.{Offers, OffersEntry, LeavesDisk, GivesAnswer, list_behind, CountsDiskFault}
-use Rattle.book_store.specs.Callers.{CallerView, own_rows, known_of, IsAskedFor, MayStandBehind, LeavesRows, KeepsRows, FailsAlike, IsReachedBy}
+use Rattle.book_store.specs.Callers.{CallerView, own_rows, known_of, MayStandBehind, LeavesRows, KeepsRows, FailsAlike, IsReachedBy}
+use Rattle.book_store.proofs.StoreFacts.{images_hold}
 use Rattle.book_store.proofs.KeptLemmas.{same_begins, asked_begins}
 
 -- ---- what isn't answered adds nothing
@@ -299,3 +298,15 @@ module _ {D : Type 0} (g : disk.Ghosts D) (old new : CallerView D) (ask : Ask) (
         still = still_asked result offered is offers (λ why told. refused why gives told) lacks rose;
         keeps = keeps_asked result offered refl is offers (λ why told. refused why gives told) failed lacks settled rose;
       }
+
+-- a crash between two states of a caller leaves rows of its own
+pub crash_between : {D : Type 0} (g : disk.Ghosts D) → ((d : D) → WhereTold (g.reads d) (g.image d)) → ((d : D) (c : List ℕ) → g.since d (g.time d) c → g.image d c)
+    → (old new : CallerView D) (asks : List Ask) → IsReachedBy g old new asks → HasBook g old.store → (c : List ℕ) → g.since (disk_of new.store) (g.time (disk_of old.store)) c → LeavesRows g old new asks c
+crash_between g reads_image only_now old new asks reached has c was = ⊎_elim
+    (λ past. begun (images_hold g reads_image only_now old.store has c (only_now (disk_of old.store) c past)))
+    (λ left. left)
+    ((reached.keeps has).moments (g.time (disk_of old.store)) c (omega arith) was)
+  where
+    begun : HoldsOrHangs g old.store c → LeavesRows g old new asks c
+    begun (inl holds) = record { rows = entries_of old.store; least = same_begins _ _ refl; most = reached.begins; holds = inl holds }
+    begun (inr hangs) = record { rows = entries_of old.store; least = same_begins _ _ refl; most = reached.begins; holds = inr (hangs.0, inr (hangs.1, refl), hangs.2) }

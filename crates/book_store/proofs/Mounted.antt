@@ -230,7 +230,7 @@ module _ {D : Type 0} (g : disk.Ghosts D) where
       counts ∙ calm,
     )
     cause_by DiskFault new calm unmoved counts stops = subst (λ (n : ℕ). Counted n (g.faults new) 1) calm counts
-    cause_by NoMemory new calm unmoved counts stops = (λ bytes told. read_mounted journal bytes new unmoved.reads (mounted bytes told), counts ∙ calm)
+    cause_by NoMemory new calm unmoved counts stops = (inr (λ bytes told. read_mounted journal bytes new unmoved.reads (mounted bytes told)), counts ∙ calm)
 
     pub caused : (limit : ℕ) (result : Result (Store D) (Unmounted D)) → g.faults (journals.disk_of journal) ≡ g.faults old → Opens g journal limit result
         → MatchResult result (λ store. g.faults (disk_of store) ≡ g.faults old) (λ refused. IsCauseOf g refused.why old refused.disk)

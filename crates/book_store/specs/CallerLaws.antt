@@ -1,14 +1,12 @@
 -- A caller is reached from itself by no ask, and by two lists of asks one after the other.
-use Rattle.std.proofs.Common.{◌≡◌, ◌⊎◌, inl, inr, ⊎_elim, ℕ, ◌+◌, ◌≤◌, List, [], ◌∷◌, ◌++◌, length, Some, refl, sym, ◌∙◌, ap, subst, arith, append_assoc, append-nil, length-append}
-use Rattle.device_facts.specs.Count.{Rose, Calm}
+use Rattle.std.proofs.Common.{inl, inr, ⊎_elim, ℕ, ◌≤◌, List, [], ◌∷◌, ◌++◌, length, refl, sym, ◌∙◌, ap, subst, arith, append_assoc, append-nil, length-append}
+use Rattle.device_facts.specs.Count.{Rose}
 use Rattle.device_facts.specs.Prefix.{IsPrefixOf}
 use Rattle.disk_core.specs.declared.disk.Disk as disk
 use Rattle.book_words.specs.declared.act.Ask.{Ask}
 use Rattle.book_words.specs.declared.act.Entry.{Entry}
-use Rattle.book_words.specs.Answers.{added, IsLawful}
 use Rattle.book_words.specs.Callers.{IsReached}
-use Rattle.book_store.specs.Images.{HoldsBook}
-use Rattle.book_store.specs.Stores.{disk_of, entries_of, limit_of, HasBook, HangsWith}
+use Rattle.book_store.specs.Stores.{disk_of, entries_of, limit_of}
 use Rattle.book_store.specs.Callers.{CallerView, IsAskedFor, MayStandBehind, LeavesRows, KeepsRows, FailsAlike, IsReachedBy}
 
 begins_itself : (a : List Entry) → IsPrefixOf a a
@@ -77,7 +75,8 @@ module _ {D : Type 0} (g : disk.Ghosts D) where
         };
       }
 
-  module _ (first second third : CallerView D) (some more : List Ask) (one : IsReachedBy g first second some) (two : IsReachedBy g second third more) where
+  module _ (first second third : CallerView D) (some more : List Ask)
+      (one : IsReachedBy g first second some) (two : IsReachedBy g second third more) where
     alike_both : FailsAlike g first third
     alike_both = ⊎_elim
         (λ stays. ⊎_elim
@@ -97,33 +96,42 @@ module _ {D : Type 0} (g : disk.Ghosts D) where
         one.alike
 
     -- what may stand behind rows after the first asks, or after the others
-    stands_before : (rows : List Entry) (entry : Entry) → MayStandBehind g first second some rows entry
+    stands_before : (rows : List Entry) (entry : Entry)
+        → MayStandBehind g first second some rows entry
         → MayStandBehind g first third (some ++ more) rows entry
     stands_before rows entry stands = ⊎_elim
-        (λ asked. inl (rose_before _ _ _ asked.0 two.counted, asked_before _ _ some more rows entry asked.1))
+        (λ asked. inl (
+          rose_before _ _ _ asked.0 two.counted,
+          asked_before _ _ some more rows entry asked.1,
+        ))
         (λ hung. inr hung)
         stands
 
     stands_behind : (rows : List Entry) (entry : Entry) → KeepsRows g first second some
-        → MayStandBehind g second third more rows entry → MayStandBehind g first third (some ++ more) rows entry
+        → MayStandBehind g second third more rows entry
+        → MayStandBehind g first third (some ++ more) rows entry
     stands_behind rows entry keeps stands = ⊎_elim
         (λ asked. inl (
           rose_behind _ _ _ one.counted asked.0,
           asked_behind _ _ some more rows entry
               (subst (λ (n : ℕ). IsAskedFor n first.by more rows entry) one.limit
-              (subst (λ (n : ℕ). IsAskedFor (limit_of second.store) n more rows entry) one.by asked.1)),
+              (subst (λ (n : ℕ). IsAskedFor (limit_of second.store) n more rows entry)
+              one.by asked.1)),
         ))
         (λ hung. stands_before rows entry
-        (subst (λ (es : List Entry). MayStandBehind g first second some es entry) (sym hung.1) (keeps.hung entry hung.0)))
+        (subst (λ (es : List Entry). MayStandBehind g first second some es entry)
+        (sym hung.1) (keeps.hung entry hung.0)))
         stands
 
-    leaves_before : (c : List ℕ) → LeavesRows g first second some c → LeavesRows g first third (some ++ more) c
+    leaves_before : (c : List ℕ) → LeavesRows g first second some c
+        → LeavesRows g first third (some ++ more) c
     leaves_before c left =
         record {
           rows = left.rows;
           least = left.least;
           most = begins_on _ _ _ left.most two.begins;
-          holds = ⊎_elim (λ is. inl is) (λ is. inr (is.0, stands_before left.rows is.0 is.1, is.2)) left.holds;
+          holds = ⊎_elim (λ is. inl is)
+              (λ is. inr (is.0, stands_before left.rows is.0 is.1, is.2)) left.holds;
         }
 
     leaves_behind : (c : List ℕ) → KeepsRows g first second some → LeavesRows g second third more c
@@ -133,17 +141,21 @@ module _ {D : Type 0} (g : disk.Ghosts D) where
           rows = left.rows;
           least = begins_on _ _ _ one.begins left.least;
           most = left.most;
-          holds = ⊎_elim (λ is. inl is) (λ is. inr (is.0, stands_behind left.rows is.0 keeps is.1, is.2)) left.holds;
+          holds = ⊎_elim (λ is. inl is)
+              (λ is. inr (is.0, stands_behind left.rows is.0 keeps is.1, is.2)) left.holds;
         }
 
-    keeps_both : KeepsRows g first second some → KeepsRows g second third more → KeepsRows g first third (some ++ more)
+    keeps_both : KeepsRows g first second some → KeepsRows g second third more
+        → KeepsRows g first third (some ++ more)
     keeps_both keeps then =
         record {
           has = then.has;
-          hung = λ entry hangs. stands_behind (entries_of third.store) entry keeps (then.hung entry hangs);
+          hung = λ entry hangs.
+              stands_behind (entries_of third.store) entry keeps (then.hung entry hangs);
           later = omega (arith, keeps.later, then.later);
           moments = λ t c le was. ⊎_elim
-              (λ past. ⊎_elim (λ is. inl is) (λ is. inr (leaves_before c is)) (keeps.moments t c le past))
+              (λ past. ⊎_elim (λ is. inl is) (λ is. inr (leaves_before c is))
+              (keeps.moments t c le past))
               (λ is. inr (leaves_behind c keeps is))
               (then.moments t c (omega (arith, le, keeps.later)) was);
         }
@@ -158,7 +170,8 @@ module _ {D : Type 0} (g : disk.Ghosts D) where
           counted = omega (arith, one.counted, two.counted);
           alike = alike_both;
           hangs = λ hangs. ⊎_elim
-              (λ was. ⊎_elim (λ is. inl is) (λ rose. inr (rose_before _ _ _ rose two.counted)) (one.hangs was))
+              (λ was. ⊎_elim (λ is. inl is) (λ rose. inr (rose_before _ _ _ rose two.counted))
+              (one.hangs was))
               (λ rose. inr (rose_behind _ _ _ one.counted rose))
               (two.hangs hangs);
           still = λ few calm.

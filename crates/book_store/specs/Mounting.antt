@@ -44,8 +44,8 @@ abbrev pub ReadsMounted : {D : Type 0} → disk.Ghosts D → List ℕ → D → 
 ReadsMounted disk bytes now = ReadsClosed disk bytes now ⊎ ReadsNew disk bytes now
 
 -- Why a disk wasn't mounted, its count of faults then, and what it reads: it isn't a journal and is
--- as it was; a row is damaged, and at most a gate was closed; it failed; or there was no memory, and
--- it reads as if it had been mounted.
+-- as it was; a row is damaged, and at most a gate was closed; it failed; or there was no memory,
+-- and it is as it was, or reads what it would if it had been mounted.
 abbrev pub IsCauseOf : {D : Type 0} → disk.Ghosts D → MountError → D → D → Type 0
 IsCauseOf disk (NotJournal place) old new =
     WhereTold (disk.reads old) (λ bytes. IsForeignAt bytes place)
@@ -55,7 +55,7 @@ IsCauseOf disk (Damaged row) old new =
     × (disk.faults new ≡ disk.faults old)
 IsCauseOf disk DiskFault old new = Counted (disk.faults old) (disk.faults new) 1
 IsCauseOf disk NoMemory old new =
-    WhereTold (disk.reads old) (λ bytes. ReadsMounted disk bytes new)
+    (IsUnmoved disk old new ⊎ WhereTold (disk.reads old) (λ bytes. ReadsMounted disk bytes new))
     × (disk.faults new ≡ disk.faults old)
 
 -- the causes that a disk which holds a book may have

@@ -229,13 +229,13 @@ module _ {D : Type 0} (g : disk.Ghosts D) where
   grows entry old new is opened few = omega (arith, opened, few, ap length is, length-append (entries_of old) (entry ∷ []))
 
   still_asked : (old new : Store D) (result : Result Answered AskError) (offered : Option Entry) → IsSettled result offered → entries_of new ≡ list_behind result (entries_of old) offered → Offers g offered old new
-      → (result ≡ Err error.NoMemory → disk_of new ≡ disk_of old) → held_of new ≡ held_of old → held_of old ≤ length (entries_of old) → ¬ HasAddedRows new → disk_of new ≡ disk_of old
+      → (result ≡ Err error.NoMemory → LeavesDisk g old new) → held_of new ≡ held_of old → held_of old ≤ length (entries_of old) → ¬ HasAddedRows new → disk_of new ≡ disk_of old
   still_asked old new (Ok answered) None settled is offers lacks opened few small = offers.same
   still_asked old new (Ok answered) (Some entry) settled is offers lacks opened few small = absurd (small (grows entry old new is opened few))
   still_asked old new (Err (error.Refused refused)) None settled is offers lacks opened few small = offers.same
   still_asked old new (Err (error.Refused refused)) (Some entry) settled is offers lacks opened few small = absurd (cc)
   still_asked old new (Err error.DiskFault) offered settled is offers lacks opened few small = absurd settled
-  still_asked old new (Err error.NoMemory) offered settled is offers lacks opened few small = lacks refl
+  still_asked old new (Err error.NoMemory) offered settled is offers lacks opened few small = (lacks refl).same
 
   calm_asked : (old new : Store D) (result : Result Answered AskError) (offered : Option Entry) → IsSettled result offered → (result ≡ Err error.DiskFault) ⊎ Hangs old → Hangs old
   calm_asked old new (Ok answered) offered settled hangs = ⊎_elim (λ is. absurd (cc)) (λ was. was) hangs
@@ -247,7 +247,7 @@ module _ {D : Type 0} (g : disk.Ghosts D) where
   pub goes_asked : {T : Type 0} (old new : Store D) (result : Result Answered AskError) (given : Result T Stop) (offered : Option Entry) → entries_of new ≡ list_behind result (entries_of old) offered
       → Offers g offered old new → (IsSome offered → OnOk result (¬ Hangs new)) → ImagesHoldBook g new → (Hangs new → (result ≡ Err error.DiskFault) ⊎ Hangs old)
       → CountsDiskFault (g.faults (disk_of old)) (g.faults (disk_of new)) result → IsSound g new → IsLegal (entries_of new) → limit_of new ≡ limit_of old → held_of new ≡ held_of old
-      → CountsStep (g.faults (disk_of old)) (g.faults (disk_of new)) given → (result ≡ Err error.NoMemory → disk_of new ≡ disk_of old) → (IfErr given SparesDisk → IsSettled result offered) → given ≢ Err Finished → Goes g given old new
+      → CountsStep (g.faults (disk_of old)) (g.faults (disk_of new)) given → (result ≡ Err error.NoMemory → LeavesDisk g old new) → (IfErr given SparesDisk → IsSettled result offered) → given ≢ Err Finished → Goes g given old new
   goes_asked old new result given offered is offers settled images hangs counts sound legal limit opened cause lacks unfailing unfinished =
       record {
         sound = sound;
@@ -304,11 +304,11 @@ module _ {D : Type 0} (g : disk.Ghosts D) where
       kept_offer held start entry old new kept (offers adopts.0 kept.has) (same_begins (entries_of old) (entries_of new) is) (λ hangs. is) images
 
   still_adopted : (old new : Store D) (entry : Entry) (result : Result ℕ AdoptError) → IsAdopted result → entries_of new ≡ list_adopted result (entries_of old) entry → (result ≡ Err adopt.Unlawful → LeavesDisk g old new)
-      → (result ≡ Err adopt.NoMemory → disk_of new ≡ disk_of old) → held_of new ≡ held_of old → held_of old ≤ length (entries_of old) → ¬ HasAddedRows new → disk_of new ≡ disk_of old
+      → (result ≡ Err adopt.NoMemory → LeavesDisk g old new) → held_of new ≡ held_of old → held_of old ≤ length (entries_of old) → ¬ HasAddedRows new → disk_of new ≡ disk_of old
   still_adopted old new entry (Ok number) settled is leaves lacks opened few small = absurd (small (grows entry old new is opened few))
   still_adopted old new entry (Err adopt.Unlawful) settled is leaves lacks opened few small = (leaves refl).same
   still_adopted old new entry (Err adopt.DiskFault) settled is leaves lacks opened few small = absurd settled
-  still_adopted old new entry (Err adopt.NoMemory) settled is leaves lacks opened few small = lacks refl
+  still_adopted old new entry (Err adopt.NoMemory) settled is leaves lacks opened few small = (lacks refl).same
 
   calm_adopted : (old new : Store D) (result : Result ℕ AdoptError) → IsAdopted result → (result ≡ Err adopt.DiskFault) ⊎ Hangs old → Hangs old
   calm_adopted old new (Ok number) settled hangs = ⊎_elim (λ is. absurd (cc)) (λ was. was) hangs
@@ -320,7 +320,7 @@ module _ {D : Type 0} (g : disk.Ghosts D) where
       → (IsLawful (entries_of old) entry → HasBook g old → OffersEntry g entry old new) → (result ≡ Err adopt.Unlawful → LeavesDisk g old new) → OnOk result (¬ Hangs new) → ImagesHoldBook g new
       → (Hangs new → (result ≡ Err adopt.DiskFault) ⊎ Hangs old) → CountsAdoptFault (g.faults (disk_of old)) (g.faults (disk_of new)) result
       → IsSound g new → IsLegal (entries_of new) → limit_of new ≡ limit_of old → held_of new ≡ held_of old → CountsStep (g.faults (disk_of old)) (g.faults (disk_of new)) given
-      → (result ≡ Err adopt.NoMemory → disk_of new ≡ disk_of old) → (IfErr given SparesDisk → IsAdopted result) → given ≢ Err Finished → Goes g given old new
+      → (result ≡ Err adopt.NoMemory → LeavesDisk g old new) → (IfErr given SparesDisk → IsAdopted result) → given ≢ Err Finished → Goes g given old new
   goes_adopted old new entry result given is adopts offers leaves settled images hangs counts sound legal limit opened cause lacks unfailing unfinished =
       record {
         sound = sound;

@@ -1,5 +1,5 @@
-use Rattle.std.proofs.Common.{◌≡◌, ◌≤◌, [], ◌∷◌, refl, subst, arith}
-use Rattle.book_words.specs.Answers.{answer, added}
+use Rattle.std.proofs.Common.{◌≤◌, [], ◌∷◌, refl, subst, arith}
+use Rattle.book_words.specs.Answers.{added}
 use Rattle.book_words.specs.Callers.{FAULTS_END, IsAsked}
 use Rattle.book_store.specs.Callers.{CallerView, known_of, IsReachedBy}
 use Rattle.book_store.specs.Kept.{KeepsOn}
