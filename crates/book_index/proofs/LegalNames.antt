@@ -1,9 +1,8 @@
 -- What every legal list says of names: no product or batch is named twice, the product of a batch is
 -- a product, a batch has a state just where it has a product, and a lane has a batch that is there.
-use Rattle.std.proofs.Common.{◌≡◌, ℕ, zero, suc, ◌+◌, Bool, true, false, ◌||◌, ◌⊎◌, inl, inr, ◌==◌, List, [], ◌∷◌, ◌++◌, length, slice_get, Option, Some, None, is_some, is_none, option_map, refl, sym, ◌∙◌, ap, subst, arith, append_assoc, append-nil, if◌then◌else◌}
+use Rattle.std.proofs.Common.{◌≡◌, ℕ, Bool, true, false, ◌||◌, ◌==◌, List, [], ◌∷◌, ◌++◌, Option, Some, None, is_some, refl, sym, ◌∙◌, ap, subst, if◌then◌else◌}
 use Rattle.std.proofs.lemmas.Bool.{eqb-true}
 use Rattle.std.proofs.lemmas.List.Elements.{filter_map-append}
-use Rattle.std.specs.List.{cons_option}
 use Rattle.std.specs.Option.{option_or, option_flatten, option_and_then}
 use Rattle.book_words.specs.declared.name.Name.{Name}
 use Rattle.book_words.specs.declared.act.BatchState as states
@@ -11,15 +10,11 @@ use Rattle.book_words.specs.declared.act.BatchState.TheVariants.{Running, Ended,
 use Rattle.book_words.specs.declared.act.Act.{Act}
 use Rattle.book_words.specs.declared.act.Act.TheVariants.{NewDay, PutProduct, PutTare, OpenBatch, StartLane, Weigh, StopLane, Void, EndRun, Draw, Measure, DrawSecond, Close}
 use Rattle.book_words.specs.declared.act.Entry.{Entry}
-use Rattle.book_words.specs.declared.refusal.Refusal.{Refusal}
-use Rattle.book_words.specs.declared.refusal.Refusal.TheVariants as why
 use Rattle.book_words.specs.Names.{same_name}
 use Rattle.book_words.specs.Acts.{said, last_said, batch_opened, product_given, state_set, lane_used, nominal_put, nominal_of, product_of, state_of, lane_batch}
 use Rattle.book_words.specs.Order.{place_of, product_named, product_number}
-use Rattle.book_words.specs.Refusals as rules
-use Rattle.book_words.specs.Refusals.{refused_if, first_refusal, refusals_of}
-use Rattle.book_words.specs.Answers.{ask_of, IsLawful, IsLegal}
-use Rattle.book_words.proofs.NameLemmas.{same_name_is, same_name_itself}
+use Rattle.book_words.specs.Answers.{IsLawful, IsLegal}
+use Rattle.book_words.proofs.NameLemmas.{same_name_is}
 use Rattle.book_words.proofs.LastSaid.{last_said-push}
 use Rattle.book_words.proofs.LegalLemmas.{legal_steps}
 use Rattle.book_words.proofs.AllowedActs.{IsAllowed, allowed, put_product_tells, open_batch_tells, start_lane_tells, stop_lane_tells, end_run_tells, draw_tells, close_tells}
@@ -27,7 +22,7 @@ use Rattle.std.proofs.Math.Bool.{or-true}
 use Rattle.std.proofs.lemmas.Option.{none-some, same_Some}
 use Rattle.book_index.specs.Listed.{batch_product_number, is_lane}
 use Rattle.book_words.proofs.PlainLemmas.{in_both, some_or}
-use Rattle.book_words.proofs.PlaceLemmas.{place_is_some, AreApart, apart_more}
+use Rattle.book_words.proofs.PlaceLemmas.{AreApart, apart_more}
 use Rattle.book_words.proofs.SaidNames.{nominal_where_put, product_where_opened}
 
 -- what an act that no rule refuses says of names

@@ -1,5 +1,5 @@
 -- Names that the index's maps take for one are the same.
-use Rattle.std.proofs.Common.{◌≡◌, Bool, true, false, ◌==◌, take, refl, sym, ◌∙◌, ap, subst}
+use Rattle.std.proofs.Common.{◌≡◌, Bool, true, ◌==◌, take, refl, ◌∙◌, ap, subst}
 use Rattle.std.proofs.lemmas.Bool.{and_parts, and_from, eqb-true, eq-eqb}
 use Rattle.std.proofs.lemmas.Slice.Eq.{bytes_eq-Decides}
 use Rattle.std.specs.Str.{bytes_eq}

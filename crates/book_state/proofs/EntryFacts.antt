@@ -10,7 +10,7 @@ use Rattle.sample_draw.proofs.DrawLemmas.{length-drawn}
 use Rattle.sample_draw.specs.Draws.{packs_left}
 use Rattle.book_words.specs.declared.name.Name.{Name}
 use Rattle.book_words.specs.declared.act.Act.{Act}
-use Rattle.book_words.specs.declared.act.Act.TheVariants.{NewDay, PutProduct, PutTare, OpenBatch, StartLane, Weigh, StopLane, Void, EndRun, Draw, Measure, DrawSecond, Close}
+use Rattle.book_words.specs.declared.act.Act.TheVariants.{PutTare, OpenBatch, Weigh, Draw, DrawSecond}
 use Rattle.book_words.specs.declared.act.Entry.{Entry}
 use Rattle.book_words.specs.declared.act.Reading.{Reading}
 use Rattle.book_words.specs.Acts.{last_said, newest_day, nominal_of, product_of, last_batch, lane_batch}

@@ -1,5 +1,5 @@
 -- What is named by a number is there.
-use Rattle.std.proofs.Common.{◌≡◌, ℕ, true, false, List, Option, Some, None, is_some, slice_get, sym, ◌∙◌, ap, refl, option_and_then}
+use Rattle.std.proofs.Common.{◌≡◌, ℕ, true, List, Option, Some, None, is_some, slice_get, sym, ◌∙◌, ap, refl, option_and_then}
 use Rattle.book_words.specs.declared.name.Name.{Name}
 use Rattle.book_words.specs.declared.act.Entry.{Entry}
 use Rattle.book_words.specs.Acts.{said, product_of, lane_batch}

@@ -8,7 +8,7 @@ use Rattle.hall_limits.specs.declared.TheConstants.{MAX_GROSS}
 use Rattle.pack_judge.specs.declared.types.Signal.{Signal}
 use Rattle.book_words.specs.declared.name.Name.{Name}
 use Rattle.book_words.specs.declared.act.Act.{Act}
-use Rattle.book_words.specs.declared.act.Act.TheVariants.{NewDay, PutProduct, PutTare, OpenBatch, StartLane, Weigh, StopLane, Void, EndRun, Draw, Measure, DrawSecond, Close}
+use Rattle.book_words.specs.declared.act.Act.TheVariants.{Weigh}
 use Rattle.book_words.specs.declared.act.Entry.{Entry}
 use Rattle.book_words.specs.declared.act.Reading.{Reading}
 use Rattle.book_words.specs.Acts.{last_batch}

@@ -1,5 +1,5 @@
 -- What is lawful behind some list may stand in a row.
-use Rattle.std.proofs.Common.{◌≡◌, inl, inr, ℕ, ℤ, pos, ◌≤◌, ◌==◌, true, not, ◌&&◌, nat_le, List, [], ◌∷◌, Option, Some, None, IsSome, is_some, is_none, option_map, int_le, length, refl, sym, subst, arith, length-take}
+use Rattle.std.proofs.Common.{◌≡◌, inl, inr, ℕ, ℤ, pos, ◌≤◌, ◌==◌, true, not, ◌&&◌, nat_le, List, Option, Some, None, IsSome, is_some, option_map, int_le, length, refl, sym, subst, arith, length-take}
 use Rattle.std.proofs.lemmas.Int.{ints}
 use Rattle.std.proofs.lemmas.Bool.{and_parts}
 use Rattle.std.proofs.lemmas.Bool.Decides.{nat_tests}
@@ -9,19 +9,15 @@ use Rattle.pack_judge.specs.declared.types.Signal.{Signal}
 use Rattle.book_words.specs.declared.name.Name.{Name}
 use Rattle.book_words.specs.declared.act.Unit as units
 use Rattle.book_words.specs.declared.act.Unit.TheVariants.{Mass, Volume}
-use Rattle.book_words.specs.declared.act.BatchState.TheVariants.{Running}
 use Rattle.book_words.specs.declared.act.Act.{Act}
 use Rattle.book_words.specs.declared.act.Act.TheVariants.{NewDay, PutProduct, PutTare, OpenBatch, StartLane, Weigh, StopLane, Void, EndRun, Draw, Measure, DrawSecond, Close}
 use Rattle.book_words.specs.declared.act.Entry.{Entry}
-use Rattle.book_words.specs.declared.refusal.Refusal.{Refusal}
 use Rattle.book_words.specs.declared.refusal.Refusal.TheVariants as why
 use Rattle.book_words.specs.NamePlaces.{is_name_length}
-use Rattle.book_words.specs.Acts.{nominal_of, unit_of, lane_batch, last_batch}
+use Rattle.book_words.specs.Acts.{unit_of, last_batch}
 use Rattle.book_words.specs.Signals.{judged_signal, recorded_signal}
 use Rattle.book_words.specs.Ranges.{IsBetween, is_act_in_range}
-use Rattle.book_words.specs.Refusals as rules
-use Rattle.book_words.specs.Refusals.{refused_if, first_refusal, refusals_of, suits_unit, is_within}
-use Rattle.book_words.specs.Answers.{ask_of}
+use Rattle.book_words.specs.Refusals.{refused_if, suits_unit, is_within}
 use Rattle.book_words.proofs.RefusalLemmas.{not_refused, rules_in_range}
 use Rattle.book_words.proofs.AllowedActs.{IsAllowed, allowed, open_batch_tells, start_lane_tells, weigh_tells, stop_lane_tells}
 use Rattle.book_words.proofs.SaidTogether.{unit_known, was_started}
