@@ -1,4 +1,4 @@
-use crate::begun::{Line, MARCH_3, line_of, pass, setup, take, take_all, take_from, weigh};
+use crate::begun::{MARCH_3, entry_of, named, pass, setup, take_all, take_from, weigh};
 use book_core::{Book, ReplayError};
 use book_words::{Act, Entry, Prior};
 use pack_judge::{Cause, Signal};
@@ -9,18 +9,7 @@ use std::test::Fail;
 fn take_day(book: &mut Book, acts: &[Act]) {
     take_all(book, acts);
     take_from(book, 101, 1, &Act::NewDay { day: MARCH_3 });
-    take(book, &weigh(260_000, Prior::Nothing));
-}
-
-// A weighing behind that day, with a signal.
-fn weighed(signal: Signal) -> Entry {
-    Entry {
-        by: 1,
-        desk: 0,
-        request: 0,
-        act: weigh(262_000, Prior::Opened),
-        signal: Some(signal),
-    }
+    take_from(book, 0, 0, &weigh(260_000, Prior::Nothing));
 }
 
 // Whether another book takes each entry of a book.
@@ -51,11 +40,11 @@ fn is_unlawful(book: &mut Book, entry: Entry) -> bool {
     book.replay(entry) == Err(ReplayError::Unlawful) && book.admit(&entry).is_err()
 }
 
-// What an entry is told that is admitted and entered.
-fn enter_admitted(book: &mut Book, entry: &Entry) -> Option<Line> {
+// Whether an entry is admitted, and passes as the row 8.
+fn is_admitted(book: &mut Book, entry: &Entry) -> bool {
     match book.admit(entry) {
-        Ok(ready) => Some(line_of(Ok(book.enter(ready)))),
-        Err(_) => None,
+        Ok(ready) => book.enter(ready) == pass(8),
+        Err(_) => false,
     }
 }
 
@@ -66,23 +55,29 @@ fn is_replayed(book: &mut Book, other: &mut Book, acts: &[Act]) -> bool {
     let Some(asked) = book.entry(6) else {
         return false;
     };
-    let rejected = weighed(Signal::Reject(Cause::Inadequate));
+    let behind = weigh(262_000, Prior::Opened);
+    let rejected = entry_of(behind, Signal::Reject(Cause::Inadequate));
     replay_all(book, other)
         && is_unlawful(other, asked)
         && is_unlawful(other, rejected)
         && have_same(book, other)
-        && enter_admitted(other, &weighed(Signal::Pass)) == Some(pass(8))
+        && is_admitted(other, &entry_of(behind, Signal::Pass))
 }
 
-// Replays a day into a book of one row at most. No other function owns a book.
+// Replays a day into a book of one row at most; both give back their rows. No other function owns a
+// book.
 fn replayed_day(alloc: Global, acts: &[Act]) -> bool {
     let mut book = Book::new(alloc, 100);
     let mut other = Book::new(alloc, 1);
-    is_replayed(&mut book, &mut other, acts)
+    let replayed = is_replayed(&mut book, &mut other, acts);
+    let rows = book.rows();
+    let others = other.rows();
+    replayed && rows.as_slice().len() == 7 && others.as_slice().len() == 8
 }
 
 #[test]
 fn a_replayed_day(rt: HostRuntime) -> Result<(), Fail> {
-    assert!(rt; replayed_day(rt.alloc(), &setup()?));
+    let acts = setup(named(b"rice250".as_slice())?, named(b"A".as_slice())?);
+    assert!(rt; replayed_day(rt.alloc(), &acts));
     Ok(())
 }

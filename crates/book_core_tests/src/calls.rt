@@ -1,7 +1,4 @@
-use crate::begun::{
-    Line, MARCH_3, draw, is_answered, line_of, named, pass, setup, stop, take, take_all, take_from,
-    weigh,
-};
+use crate::begun::{MARCH_3, entry_of, named, pass, setup, take_all, take_from, weigh};
 use annex_tables::Mode;
 use book_core::{Book, BookError, Step};
 use book_words::{
@@ -19,86 +16,64 @@ const BOTH: Tally = Tally {
     gross: 522_000,
 };
 
-// The number and the entry of an act that is made ready.
-fn read_step(step: &Step) -> Option<(u32, Entry)> {
+// Whether an act was made ready as this row, with this entry.
+fn is_new(step: &Step, row: u32, entry: &Entry) -> bool {
     match step {
-        Step::New(ready) => Some((ready.number(), *ready.entry())),
-        Step::Known(_) => None,
+        Step::New(ready) => ready.number() == row && *ready.entry() == *entry,
+        Step::Known(_) => false,
     }
 }
 
-// Makes an act of the lane 1 ready, and tells its number and its entry.
-fn read_ready(book: &mut Book, act: &Act) -> Result<Option<(u32, Entry)>, BookError> {
+// Whether a weighing on the lane 1 is made ready as this row.
+fn is_ready(book: &mut Book, act: &Act, row: u32) -> Result<bool, BookError> {
     let step = book.ready(1, 0, 0, act)?;
-    Ok(read_step(&step))
+    Ok(is_new(&step, row, &entry_of(*act, Signal::Pass)))
 }
 
 // What an act of the lane 1 is told that is made ready and entered.
-fn enter_ready(book: &mut Book, act: &Act) -> Result<Line, BookError> {
+fn enter_ready(book: &mut Book, act: &Act) -> Result<Answered, BookError> {
     match book.ready(1, 0, 0, act)? {
-        Step::New(ready) => Ok(line_of(Ok(book.enter(ready)))),
-        Step::Known(answered) => Ok(line_of(Ok(answered))),
+        Step::New(ready) => Ok(book.enter(ready)),
+        Step::Known(answered) => Ok(answered),
     }
 }
 
-// The entry of a weighing of the lane 1 that passed.
-fn passed(act: Act) -> Entry {
-    Entry {
-        by: 1,
-        desk: 0,
-        request: 0,
-        act,
-        signal: Some(Signal::Pass),
-    }
+// Takes room for two weighings, makes the first ready and enters both; says whether each call
+// answers what it has to.
+fn are_weighed(book: &mut Book, first: &Act, second: &Act) -> bool {
+    book.reserve(2).is_ok()
+        && is_ready(book, first, 6) == Ok(true)
+        && enter_ready(book, first) == Ok(pass(6))
+        && enter_ready(book, second) == Ok(pass(7))
 }
 
-// What is seen of a book of which room was taken for two weighings more.
-#[derive(Clone, Copy, Debug, PartialEq, Eq)]
-struct Seen {
-    ready: Option<(u32, Entry)>,
-    lines: [Line; 2],
-    len: u32,
-    unsettled: Option<u32>,
-    entries: [Option<Entry>; 2],
-    pack: Option<Pile>,
-    readings: Tally,
+// Whether both are seen in the book.
+fn are_seen(book: &Book, second: Act) -> bool {
+    let Some(pack) = book.pack(7) else {
+        return false;
+    };
+    pack.pile == Pile::Passed
+        && book.len() == 7
+        && book.unsettled(1) == Some(7)
+        && book.entry(7) == Some(entry_of(second, Signal::Pass))
+        && book.entry(8).is_none()
+        && book.summary().readings == BOTH
 }
 
-// Takes room for two weighings, makes the first ready and enters both.
-fn see_weighings(book: &mut Book, first: &Act, second: &Act) -> Option<Seen> {
-    book.reserve(2).ok()?;
-    let ready = read_ready(book, first).ok()?;
-    let line = enter_ready(book, first).ok()?;
-    let lines = [line, enter_ready(book, second).ok()?];
-    Some(Seen {
-        ready,
-        lines,
-        len: book.len(),
-        unsettled: book.unsettled(1),
-        entries: [book.entry(7), book.entry(8)],
-        pack: book.pack(7).map(|pack| pack.pile),
-        readings: book.summary().readings,
-    })
-}
-
-// What is to be seen of these weighings.
-fn seen_of(first: Act, second: Act) -> Seen {
-    Seen {
-        ready: Some((6, passed(first))),
-        lines: [pass(6), pass(7)],
-        len: 7,
-        unsettled: Some(7),
-        entries: [Some(passed(second)), None],
-        pack: Some(Pile::Passed),
-        readings: BOTH,
-    }
-}
-
-// Stops the lane, ends the batch and draws its two packs.
+// Stops the lane, ends the batch and draws its two packs by the word 0.
 fn draw_pair(book: &mut Book, batch: Name) {
-    take(book, &stop(1, Prior::Opened));
-    take(book, &Act::EndRun { batch });
-    take(book, &draw(batch));
+    let prior = Prior::Opened;
+    let mode = Mode::Keep;
+    let acts = [
+        Act::StopLane { lane: 1, prior },
+        Act::EndRun { batch },
+        Act::Draw {
+            batch,
+            mode,
+            word: 0,
+        },
+    ];
+    take_all(book, &acts);
 }
 
 // The second pack of two, of 262 g, on the lane 1.
@@ -178,6 +153,14 @@ fn is_sample(book: &Book, batch: Name, packs: &[u64]) -> bool {
     }
 }
 
+// Whether a question on the drawn batch is told this reply.
+fn is_told(book: &Book, question: &Question, reply: &Reply) -> bool {
+    match book.look(question) {
+        Ok(answered) => answered.at == 10 && answered.reply == *reply,
+        Err(_) => false,
+    }
+}
+
 // Whether each question on the drawn batch is told what it has to be.
 fn are_told(book: &Book, batch: Name, product: Name) -> bool {
     let idle = LaneView {
@@ -187,13 +170,12 @@ fn are_told(book: &Book, batch: Name, product: Name) -> bool {
     };
     let sheet = Reply::SheetIs(sheet_of_both(batch, product));
     let pack = Reply::PackIs(second_pack(batch, product));
-    is_answered(book, &Question::Sheet { batch }, 10, &sheet)
-        && is_answered(book, &Question::Pack { pack: 7 }, 10, &pack)
-        && is_answered(book, &Question::Lane { lane: 1 }, 10, &Reply::LaneIs(idle))
-        && is_answered(
+    is_told(book, &Question::Sheet { batch }, &sheet)
+        && is_told(book, &Question::Pack { pack: 7 }, &pack)
+        && is_told(book, &Question::Lane { lane: 1 }, &Reply::LaneIs(idle))
+        && is_told(
             book,
             &Question::Summary,
-            10,
             &Reply::SummaryIs(summary_of_both()),
         )
 }
@@ -201,11 +183,11 @@ fn are_told(book: &Book, batch: Name, product: Name) -> bool {
 // Asks a book all that it can be asked, and says whether each call answers what it has to. The word
 // 0 becomes 1442695040888963407, whose upper 31 bits are the odd number 167951807: of two packs the
 // second is drawn first.
-fn is_right(book: &mut Book, acts: &[Act], batch: Name, product: Name) -> bool {
+fn is_right(book: &mut Book, batch: Name, product: Name) -> bool {
     let first = weigh(260_000, Prior::Nothing);
     let second = weigh(262_000, Prior::Opened);
-    take_all(book, acts);
-    if see_weighings(book, &first, &second) != Some(seen_of(first, second)) {
+    take_all(book, &setup(product, batch));
+    if !are_weighed(book, &first, &second) || !are_seen(book, second) {
         return false;
     }
     draw_pair(book, batch);
@@ -228,14 +210,14 @@ fn is_told_again(book: &mut Book) -> bool {
     let day = Act::NewDay { day: MARCH_3 };
     take_from(book, 101, 1, &day);
     let once = is_known(book, &day, 11);
-    take(book, &day);
+    take_from(book, 0, 0, &day);
     once && is_known(book, &day, 12)
 }
 
 // Asks a new book so, and tells how many rows it gives back. No other function owns a book.
-fn rows_given_back(alloc: Global, acts: &[Act], batch: Name, product: Name) -> (bool, usize) {
+fn rows_given_back(alloc: Global, batch: Name, product: Name) -> (bool, usize) {
     let mut book = Book::new(alloc, 100);
-    let right = is_right(&mut book, acts, batch, product) && is_told_again(&mut book);
+    let right = is_right(&mut book, batch, product) && is_told_again(&mut book);
     (right, book.rows().as_slice().len())
 }
 
@@ -243,8 +225,6 @@ fn rows_given_back(alloc: Global, acts: &[Act], batch: Name, product: Name) -> (
 fn each_call_of_a_book(rt: HostRuntime) -> Result<(), Fail> {
     let rice = named(b"rice250".as_slice())?;
     let batch = named(b"A".as_slice())?;
-    let (right, rows) = rows_given_back(rt.alloc(), &setup()?, batch, rice);
-    assert!(rt; right);
-    assert_eq!(rt; rows, 12);
+    assert!(rt; rows_given_back(rt.alloc(), batch, rice) == (true, 12));
     Ok(())
 }
