@@ -4,7 +4,7 @@ use Rattle.balanced_tree.specs.Trees.{items, IsRootBetween}
 use Rattle.balanced_tree.specs.declared.tree.Tree.{Tree}
 use Rattle.balanced_tree.proofs.Heights.{count_is}
 use Rattle.batch_sums.specs.Rising.{IsRising}
-use Rattle.batch_sums.proofs.Rising.{below, IsRising-front, IsRising_behind, below_past, below_before}
+use Rattle.batch_sums.proofs.OrderLemmas.{below, IsRising-front, IsRising_behind, below_past, below_before}
 
 pub rising_left : {T : Type 0} (rank : T → ℕ) {left right tree : Tree T} {item : T} → IsRootBetween left item right tree → IsRising rank (items tree) → IsRising rank (items left)
 rising_left rank {left} {right} {tree} {item} root up = IsRising-front rank (items left) (item ∷ items right) (subst (IsRising rank) root.items up)

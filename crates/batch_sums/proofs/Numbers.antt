@@ -17,7 +17,7 @@ use Rattle.batch_sums.specs.Kept.{Sound, IsIndex, seen}
 use Rattle.batch_sums.specs.Changes.{is_added}
 use Rattle.batch_sums.specs.Invariant.{IsSettled, inside, outside, reaches_of, homes_of}
 use Rattle.batch_sums.proofs.Homes.{homes-seen, map-set_unseen, chained_as}
-use Rattle.batch_sums.proofs.Moving.{in_pile}
+use Rattle.batch_sums.proofs.PileMoves.{in_pile}
 
 -- a number is looked for among the packs or among their numbers
 pub added_is : (some : List Face) (number : ℕ) (held : List Held) → is_added (map (seen some) held) number ≡ list_any (λ other. eqb number other) (map (λ p. p.number) held)

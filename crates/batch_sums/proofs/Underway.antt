@@ -24,9 +24,9 @@ use Rattle.batch_sums.specs.Running.{HasShare, IsCorrected}
 use Rattle.batch_sums.specs.Kept.{Sound, IsGroup, is_member, seen, terms_of}
 use Rattle.batch_sums.specs.Changes.{HasFewPerGroup, group_population}
 use Rattle.batch_sums.specs.Invariant.{reaches_of}
-use Rattle.batch_sums.proofs.Adding.{sum_by-map}
-use Rattle.batch_sums.proofs.Sounding.{face-found, set_same}
-use Rattle.batch_sums.proofs.Correcting.{share, members, sound_corrected, face-same, face-other}
+use Rattle.batch_sums.proofs.PackSums.{sum_by-map}
+use Rattle.batch_sums.proofs.SoundLemmas.{face-found, set_same}
+use Rattle.batch_sums.proofs.NewTares.{share, members, sound_corrected, face-same, face-other}
 
 pub int_same : (x : ℤ) → int_eq x x ≡ true
 int_same x = int_eq_equiv.refl x

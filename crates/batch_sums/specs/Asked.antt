@@ -6,8 +6,7 @@ use Rattle.pack_judge.specs.declared.types.Pile.TheVariants.{Passed, Rejected, S
 use Rattle.tare_register.specs.declared.types.Span.{Span}
 use Rattle.batch_sums.specs.declared.types.Pack.{Pack}
 use Rattle.batch_sums.specs.declared.types.Piles.{Piles}
-use Rattle.batch_sums.specs.Totals.{in_pile, tally}
-use Rattle.batch_sums.specs.Kept.{Sums}
+use Rattle.batch_sums.specs.Totals.{in_pile, tally, Sums}
 use Rattle.batch_sums.specs.Changes.{concerned}
 
 -- the tallies of some packs, a pile each

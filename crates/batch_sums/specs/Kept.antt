@@ -1,7 +1,6 @@
 -- What is kept of the packs, and what always holds of it.
-use Rattle.std.specs.Prelude.{◌^◌, ◌≡◌, ℕ, ℤ, pos, ◌+◌, ◌<◌, ◌≤◌, ◌≤ℤ◌, Bool, ◌&&◌, ◌==◌, List, [], ◌∷◌, ◌++◌, ◌||◌, length, take, nat_lt, slice_index, count_by, Option, Some, option_map, if◌then◌else◌}
+use Rattle.std.specs.Prelude.{◌^◌, ◌≡◌, ℕ, ℤ, pos, ◌+◌, ◌<◌, ◌≤◌, ◌≤ℤ◌, Bool, ◌&&◌, ◌==◌, List, [], ◌∷◌, ◌++◌, ◌||◌, length, take, nat_lt, slice_index, count_by, Some, if◌then◌else◌}
 use Rattle.std.specs.List.{All, sum_by, slice_get}
-use Rattle.annex_tables.specs.declared.types.Limits.{Limits}
 use Rattle.hall_limits.specs.declared.TheConstants.{MAX_GROSS, MAX_TARE, MAX_DAY}
 use Rattle.pack_judge.specs.declared.types.Pile.{Pile}
 use Rattle.batch_sums.specs.declared.batch.Batch.{Batch}
@@ -10,27 +9,11 @@ use Rattle.batch_sums.specs.declared.group.Group.{Group}
 use Rattle.batch_sums.specs.declared.group.Key.{Key}
 use Rattle.batch_sums.specs.declared.types.Held.{Held}
 use Rattle.batch_sums.specs.Rising.{IsRising, mass_of}
-use Rattle.batch_sums.specs.Totals.{Terms, same_pile, is_counted, totals_of}
+use Rattle.batch_sums.specs.Totals.{Terms, is_counted}
+use Rattle.pack_judge.specs.Piles.{same_pile}
 use Rattle.batch_sums.specs.declared.types.Pack.{Pack}
-use Rattle.batch_sums.specs.declared.types.Totals.{Totals}
 use Rattle.batch_sums.specs.Groups.{Face, face_of, nth_face, faces, nth_rank, threshold, IsJudged}
 use Rattle.batch_sums.specs.Running.{sum_in, pile_sum, one_if_below}
-
--- what contracts see: the batches and the packs in the order in which they were added, and how many
--- more are sure to find room
-pub record Sums : Type 0 where
-  pub batches : List Terms
-  pub packs : List Pack
-  pub spare : ℕ
-
--- the totals of a batch that was added
-abbrev pub kept_totals : Sums → ℕ → Option Totals
-kept_totals sums batch =
-    option_map (λ terms. totals_of terms.limits sums.packs batch) (slice_get sums.batches batch)
-
--- the limits of a batch that was added
-abbrev pub kept_limits : Sums → ℕ → Option Limits
-kept_limits sums batch = option_map (λ terms. terms.limits) (slice_get sums.batches batch)
 
 abbrev pub terms_of : Batch → Terms
 terms_of batch = record { product = batch.product; limits = batch.limits }

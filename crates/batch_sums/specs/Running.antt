@@ -10,7 +10,8 @@ use Rattle.batch_sums.specs.declared.batch.PileSum.{PileSum}
 use Rattle.batch_sums.specs.declared.batch.PileSums.{PileSums}
 use Rattle.batch_sums.specs.declared.group.Group.{Group}
 use Rattle.batch_sums.specs.Groups.{threshold}
-use Rattle.batch_sums.specs.Totals.{same_pile, is_counted}
+use Rattle.batch_sums.specs.Totals.{is_counted}
+use Rattle.pack_judge.specs.Piles.{same_pile}
 
 -- the sums of a pile
 abbrev pub sum_in : PileSums → Pile → PileSum

@@ -1,10 +1,12 @@
 -- Packs as a caller sees them, and the totals of a batch: filters and sums over the packs that were
 -- added. All masses are mg.
-use Rattle.std.specs.Prelude.{ℕ, ℤ, pos, ◌+ℤ◌, ◌-ℤ◌, Bool, true, false, ◌==◌, List, [], ◌∷◌, length, filter, count_by, int_lt}
+use Rattle.std.specs.Prelude.{ℕ, ℤ, ◌-ℤ◌, Bool, true, false, ◌==◌, List, length, filter, count_by, int_lt, Option, option_map}
+use Rattle.std.specs.List.{slice_get}
 use Rattle.annex_tables.specs.declared.types.Limits.{Limits}
 use Rattle.pack_judge.specs.declared.types.Pile.{Pile}
 use Rattle.pack_judge.specs.declared.types.Pile.TheVariants.{Passed, Rejected, Sampled, Voided}
 use Rattle.pack_judge.specs.declared.types.Tally.{Tally}
+use Rattle.pack_judge.specs.Piles.{pile_members, mass_sum, pile_tally}
 use Rattle.batch_sums.specs.declared.types.Pack.{Pack}
 use Rattle.batch_sums.specs.declared.types.Totals.{Totals}
 
@@ -12,13 +14,6 @@ use Rattle.batch_sums.specs.declared.types.Totals.{Totals}
 pub record Terms : Type 0 where
   pub product : ℕ
   pub limits : Limits
-
-abbrev pub same_pile : Pile → Pile → Bool
-same_pile Passed Passed = true
-same_pile Rejected Rejected = true
-same_pile Sampled Sampled = true
-same_pile Voided Voided = true
-same_pile _ _ = false
 
 -- a pack counts for the population where it passed or was sampled
 abbrev pub is_counted : Pile → Bool
@@ -36,23 +31,23 @@ of_batch batch packs = filter (λ pack. pack.batch == batch) packs
 
 -- those of some packs that lie in a pile
 abbrev pub in_pile : Pile → List Pack → List Pack
-in_pile pile packs = filter (λ pack. same_pile pack.pile pile) packs
+in_pile pile packs = pile_members (λ pack. pack.pile) pile packs
 
 -- those of some packs that count for the population
 abbrev pub population : List Pack → List Pack
 population packs = filter (λ pack. is_counted pack.pile) packs
 
+-- the sum of their grosses
 abbrev pub gross_sum : List Pack → ℤ
-gross_sum [] = pos 0
-gross_sum (pack ∷ packs) = pack.gross +ℤ gross_sum packs
+gross_sum packs = mass_sum (λ pack. pack.gross) packs
 
+-- the sum of their nets
 abbrev pub net_sum : List Pack → ℤ
-net_sum [] = pos 0
-net_sum (pack ∷ packs) = net_of pack +ℤ net_sum packs
+net_sum packs = mass_sum net_of packs
 
 -- how many packs there are, and the sum of their grosses
 abbrev pub tally : List Pack → Tally
-tally packs = record { count = length packs; gross = gross_sum packs }
+tally packs = pile_tally (λ pack. pack.gross) packs
 
 -- how many of some packs have a net below a limit
 abbrev pub count_below : ℤ → List Pack → ℕ
@@ -75,3 +70,20 @@ pack_totals limits packs =
 -- the totals of a batch
 abbrev pub totals_of : Limits → List Pack → ℕ → Totals
 totals_of limits packs batch = pack_totals limits (of_batch batch packs)
+
+-- what contracts see: the batches and the packs in the order in which they were added, how many
+-- more are sure to find room, and how many nodes lie ready for grosses
+pub record Sums : Type 0 where
+  pub batches : List Terms
+  pub packs : List Pack
+  pub spare : ℕ
+  pub nodes : ℕ
+
+-- the totals of a batch that was added
+abbrev pub kept_totals : Sums → ℕ → Option Totals
+kept_totals sums batch =
+    option_map (λ terms. totals_of terms.limits sums.packs batch) (slice_get sums.batches batch)
+
+-- the limits of a batch that was added
+abbrev pub kept_limits : Sums → ℕ → Option Limits
+kept_limits sums batch = option_map (λ terms. terms.limits) (slice_get sums.batches batch)

@@ -49,6 +49,7 @@ pub fn reserve_nodes(
     ensures ok_gross { OnOk result (vec_len gross_nodes.new ≡ vec_len gross_nodes.old + more) }
     ensures ok_order { OnOk result (spare ≤ vec_len order_nodes.new) }
     ensures gross { vec_len gross_nodes.old ≤ vec_len gross_nodes.new }
+    ensures most { vec_len gross_nodes.new ≤ vec_len gross_nodes.old + more }
     ensures order { vec_len order_nodes.old ≤ vec_len order_nodes.new }
     ensures back { (used : ℕ) → used ≤ packs
         → vec_len gross_nodes.old + used ≤ vec_capacity gross_nodes.old

@@ -1,6 +1,6 @@
-ghost use Rattle.std.specs.Prelude.{◌≡◌, ℕ, List, pos, find, map, ◌==◌, ◌*◌, Some, IsTrue, true, false, ◌≤ℤ◌, ◌+◌, ◌<◌, ◌≤◌, [], ◌∷◌, ◌++◌, length, IsOk, IfOk, OnOk, OnErr, if◌then◌else◌};
-ghost use Rattle.batch_sums.specs.Kept.{kept_totals, kept_limits, counted_number};
-ghost use Rattle.batch_sums.specs.Totals.{is_counted, population, of_batch};
+ghost use Rattle.std.specs.Prelude.{◌≡◌, ℕ, List, pos, find, map, ◌==◌, ◌*◌, Some, IsTrue, true, false, ◌≤ℤ◌, ◌+◌, ◌-◌, ◌<◌, ◌≤◌, [], ◌∷◌, ◌++◌, length, IsOk, IfOk, OnOk, OnErr, if◌then◌else◌};
+ghost use Rattle.batch_sums.specs.Kept.{counted_number};
+ghost use Rattle.batch_sums.specs.Totals.{is_counted, population, of_batch, kept_totals, kept_limits};
 ghost use Rattle.batch_sums.specs.Asked.{numbers_of, piles_of, concerned_in, chosen_batches, IsLeast, IsLeastWith};
 ghost use Rattle.batch_sums.specs.Changes.{is_added, moved, corrected, concerned, group_count, IsUpTo, IsTareOf, HasFewPerGroup};
 
@@ -43,8 +43,8 @@ pub struct BatchSums {
 }
 
 impl Model for BatchSums {
-    ghost use Rattle.std.specs.Prelude.{map};
-    ghost use Rattle.batch_sums.specs.Kept.{Sums};
+    ghost use Rattle.std.specs.Prelude.{map, vec_len};
+    ghost use Rattle.batch_sums.specs.Totals.{Sums};
 
     ghost Value = { Sums };
 
@@ -56,6 +56,7 @@ impl Model for BatchSums {
       batches = map terms_of s.batches.items;
       packs = map (seen (faces s.groups.items)) s.packs.items;
       spare = s.spare;
+      nodes = vec_len s.gross_nodes;
     } };
 
     ghost invariant = { IsKept };
@@ -104,11 +105,13 @@ impl BatchSums {
         Ok(batch)
     }
 
-    /// Reserves places for `more` further packs and batches.
+    /// Reserves places for `more` further packs and batches. It takes nodes for the lacking places
+    /// alone, so that memory doesn't grow with each call.
     pub fn reserve(&mut self, more: u32) -> Result<(), NoMemory>
         ensures ok { OnOk result (more ≤ self.new.spare) }
         ensures spare { self.old.spare ≤ self.new.spare }
         ensures room { more ≤ self.old.spare → IsOk result }
+        ensures nodes { self.new.nodes ≤ self.old.nodes + (more - self.old.spare) }
         ensures batches { self.new.batches ≡ self.old.batches }
         ensures packs { self.new.packs ≡ self.old.packs }
     {

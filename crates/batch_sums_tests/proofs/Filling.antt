@@ -7,9 +7,8 @@ use Rattle.std.proofs.lemmas.Int.{ints}
 use Rattle.std.proofs.lemmas.List.Elements.{All-nil, All-head, All-tail, All-push}
 use Rattle.std.proofs.lemmas.List.Sums.{count_by-le-length}
 use Rattle.hall_limits.specs.declared.TheConstants.{MAX_DAY, MAX_POPULATION, MAX_TARE}
-use Rattle.batch_sums.specs.Totals.{Terms, is_counted}
+use Rattle.batch_sums.specs.Totals.{Terms, is_counted, Sums}
 use Rattle.batch_sums.specs.declared.types.Pack.{Pack}
-use Rattle.batch_sums.specs.Kept.{Sums}
 use Rattle.batch_sums.specs.Changes.{same_group, group_count, HasFewPerGroup}
 use Rattle.batch_sums_tests.specs.Halls.{Fits, IsKept}
 use Rattle.batch_sums_tests.specs.Rows.{IsOneGroup, IsFilled}

@@ -1,9 +1,8 @@
 -- Packs of one batch and day.
 use Rattle.std.specs.Prelude.{◌≡◌, ℕ, ℤ, List, length}
 use Rattle.std.specs.List.{All}
-use Rattle.batch_sums.specs.Totals.{Terms}
+use Rattle.batch_sums.specs.Totals.{Terms, Sums}
 use Rattle.batch_sums.specs.declared.types.Pack.{Pack}
-use Rattle.batch_sums.specs.Kept.{Sums}
 use Rattle.batch_sums_tests.specs.Halls.{IsKept}
 
 abbrev pub IsOneGroup : ℕ → ℤ → List Pack → Type 0

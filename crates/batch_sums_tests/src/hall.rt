@@ -5,7 +5,7 @@ ghost use Rattle.batch_sums.specs.Changes.{IsUpTo};
 
 use crate::plain::{PlainPack, plain_totals};
 use annex_tables::Limits;
-use batch_sums::{BatchSums, NoMemory, Pack, Piles, Steps, Totals};
+use batch_sums::{BatchSums, NoMemory, Steps, Totals};
 use hall_limits::{MAX_DAY, MAX_GROSS, MAX_TARE};
 use pack_judge::Pile;
 use std::alloc::Global;
@@ -24,18 +24,19 @@ struct PlainBatch {
 /// they are added, and a correction ends the day.
 #[derive(Drop)]
 pub struct Hall {
-    sums: BatchSums,
+    pub sums: BatchSums,
     batches: Vec<PlainBatch>,
     packs: Vec<PlainPack>,
     // The number of the next pack.
     next: u32,
-    day: i32,
+    /// The day today.
+    pub day: i32,
     tare: i64,
 }
 
 impl Model for Hall {
     ghost use Rattle.std.specs.Prelude.{◌≡◌, length};
-    ghost use Rattle.batch_sums.specs.Kept.{Sums};
+    ghost use Rattle.batch_sums.specs.Totals.{Sums};
     ghost use Rattle.batch_sums_tests.specs.Halls.{IsKept};
 
     ghost Value = { Sums };
@@ -60,6 +61,13 @@ impl Hall {
             day: 0,
             tare,
         }
+    }
+
+    /// Begins anew.
+    pub fn empty(&mut self, alloc: Global, tare: i64)
+        requires { IsUpTo MAX_TARE tare }
+    {
+        *self = Hall::new(alloc, tare);
     }
 
     /// Adds a batch.
@@ -132,22 +140,12 @@ impl Hall {
         self.sums.reserve(more)
     }
 
-    /// The day today.
-    pub fn today(&self) -> i32 {
-        self.day
-    }
-
     /// The totals of a batch, if it is there.
     pub fn totals(&self, batch: u32) -> Option<Totals> {
         if batch as usize >= self.batches.len() {
             return None;
         }
         Some(self.sums.totals(batch))
-    }
-
-    /// The pack of a number, if it is there.
-    pub fn pack(&self, number: u32) -> Option<Pack> {
-        self.sums.pack(number)
     }
 
     /// The numbers of the packs in the population of a batch, if it is there.
@@ -165,11 +163,6 @@ impl Hall {
             return None;
         }
         self.sums.first_concerned(product, span, chosen)
-    }
-
-    /// The tallies of all packs, a pile each.
-    pub fn piles(&self) -> Piles {
-        self.sums.piles()
     }
 
     /// Whether the totals of each batch are those of the plain list.

@@ -2,13 +2,11 @@
 //! in mg.
 #![tactic(auto)]
 
+#[cfg(test)]
 mod hall;
+#[cfg(test)]
 mod plain;
+#[cfg(test)]
 mod row;
-
-pub use hall::Hall;
-pub use plain::{PlainPack, plain_totals};
-pub use row::corrected_totals;
-
 #[cfg(test)]
 mod tests;

@@ -15,17 +15,6 @@ pub struct PlainPack {
     pub pile: Pile,
 }
 
-impl PlainPack {
-    fn net(&self) -> i64 {
-        self.gross.saturating_sub(self.tare)
-    }
-
-    // Whether it counts for the population of a batch.
-    fn counts(&self, batch: u32) -> bool {
-        self.batch == batch && (self.pile == Pile::Passed || self.pile == Pile::Sampled)
-    }
-}
-
 fn tally(packs: &[PlainPack], batch: u32, pile: Pile) -> Tally {
     let mut tally = Tally { count: 0, gross: 0 };
     for pack in packs {
@@ -37,38 +26,35 @@ fn tally(packs: &[PlainPack], batch: u32, pile: Pile) -> Tally {
     tally
 }
 
-fn net_sum(packs: &[PlainPack], batch: u32) -> i64 {
+// The sum of the nets in the population of a batch, and how many of them are below a limit.
+fn nets(packs: &[PlainPack], batch: u32, limit: i64) -> (i64, u32) {
     let mut sum = 0i64;
+    let mut below = 0u32;
     for pack in packs {
-        if pack.counts(batch) {
-            sum = sum.saturating_add(pack.net());
+        let net = pack.gross.saturating_sub(pack.tare);
+        let is_in = pack.pile == Pile::Passed || pack.pile == Pile::Sampled;
+        if pack.batch == batch && is_in {
+            sum = sum.saturating_add(net);
+            below = below.saturating_add(u32::from(net < limit));
         }
     }
-    sum
-}
-
-fn count_below(packs: &[PlainPack], batch: u32, limit: i64) -> u32 {
-    let mut count = 0u32;
-    for pack in packs {
-        if pack.counts(batch) && pack.net() < limit {
-            count = count.saturating_add(1);
-        }
-    }
-    count
+    (sum, below)
 }
 
 /// The totals of a batch of these limits over a list of packs.
 pub fn plain_totals(packs: &[PlainPack], batch: u32, limits: &Limits) -> Totals {
     let passed = tally(packs, batch, Pile::Passed);
     let sampled = tally(packs, batch, Pile::Sampled);
+    let (net, nonstandard) = nets(packs, batch, limits.t1);
+    let (_, inadequate) = nets(packs, batch, limits.t2);
     Totals {
         passed,
         rejected: tally(packs, batch, Pile::Rejected),
         sampled,
         voided: tally(packs, batch, Pile::Voided),
         population: passed.count.saturating_add(sampled.count),
-        net: net_sum(packs, batch),
-        nonstandard: count_below(packs, batch, limits.t1),
-        inadequate: count_below(packs, batch, limits.t2),
+        net,
+        nonstandard,
+        inadequate,
     }
 }

@@ -1,6 +1,6 @@
 //! A batch of one day, corrected once.
 
-ghost use Rattle.std.specs.Prelude.{◌≡◌, pos, ◌+◌, ◌<◌, ◌≤◌, [], length, IfOk};
+ghost use Rattle.std.specs.Prelude.{◌≡◌, pos, ◌+◌, ◌<◌, ◌≤◌, [], length};
 ghost use Rattle.batch_sums_tests.specs.Rows.{IsOneGroup};
 
 use annex_tables::Limits;
@@ -28,14 +28,13 @@ fn add_packs(sums: &mut BatchSums, batch: u32) -> Result<(), NoMemory>
 }
 
 // Adds a batch of 10 000 packs of one day at 260 g to sums that have no packs, and corrects their
-// tare from 10 g to 20 g. It takes the steps of one group.
+// tare from 10 g to 20 g. It takes the steps of one group. The totals of the batch are told.
 fn correct_full_batch<L: Ledger>(
     sums: &mut BatchSums,
     limits: Limits,
     steps: &mut Steps<L>,
-) -> Result<u32, NoMemory>
+) -> Result<Totals, NoMemory>
     requires empty { sums.old.packs ≡ [] }
-    ensures batch { IfOk result (λ batch. batch < length sums.new.batches) }
     ensures cost { steps.new ≤ steps.old + STEPS_PER_GROUP }
 {
     let batch = sums.add_batch(7, limits)?;
@@ -45,7 +44,7 @@ fn correct_full_batch<L: Ledger>(
         until: None,
     };
     sums.rejudge(7, span, 20_000, steps);
-    Ok(batch)
+    Ok(sums.totals(batch))
 }
 
 /// The totals of 10 000 packs of one batch and day at 260 g after their tare was corrected from 10
@@ -61,6 +60,5 @@ pub fn corrected_totals<L: Ledger>(
 {
     let mut sums = BatchSums::new(alloc);
     let mut steps: Steps<L> = Steps::new(blank);
-    let batch = correct_full_batch(&mut sums, limits, &mut steps)?;
-    Ok(sums.totals(batch))
+    correct_full_batch(&mut sums, limits, &mut steps)
 }

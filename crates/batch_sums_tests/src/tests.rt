@@ -1,4 +1,7 @@
-//! Worked numbers, grosses in all orders, drawn calls, and places that were reserved.
+//! Worked numbers, grosses in all orders, drawn calls, and places that were reserved. What owns a
+//! hall is costly to prove, so most cases share one, and each tells what is wrong first.
+
+ghost use Rattle.std.specs.Prelude.{◌<◌};
 
 use crate::hall::Hall;
 use crate::row::corrected_totals;
@@ -35,48 +38,49 @@ fn a_corrected_tare_reaches_10_000_packs(rt: HostRuntime) -> Result<(), Fail> {
         count: 10_000,
         gross: 2_600_000_000,
     };
-    assert_eq!(rt; (after.passed, after.population), (passed, 10_000));
-    assert_eq!(rt;
-        (after.net, after.nonstandard, after.inadequate),
-        (2_400_000_000, 10_000, 0)
-    );
+    assert!(rt; after.passed == passed && after.population == 10_000);
+    assert!(rt; after.net == 2_400_000_000 && after.nonstandard == 10_000 && after.inadequate == 0);
     Ok(())
 }
 
-#[test]
-fn a_net_equal_to_a_limit_is_not_below_it(rt: HostRuntime) -> Result<(), Fail> {
-    let (least, most) = (i64::MIN, i64::MAX);
-    for (gross, tare, t1, t2, nonstandard, inadequate) in [
-        (251_000, 10_000, 241_000, 232_000, 0, 0),
-        (250_999, 10_000, 241_000, 232_000, 2, 0),
-        (242_000, 10_000, 241_000, 232_000, 2, 0),
-        (241_999, 10_000, 241_000, 232_000, 2, 2),
-        (0, MAX_TARE, -MAX_TARE, -MAX_TARE, 0, 0),
-        (0, MAX_TARE, 1 - MAX_TARE, -MAX_TARE, 2, 0),
-        (MAX_GROSS, 0, MAX_GROSS, MAX_GROSS, 0, 0),
-        (MAX_GROSS, 0, MAX_GROSS + 1, MAX_GROSS, 2, 0),
-        (MAX_GROSS, MAX_TARE, most, least, 2, 0),
-        (0, 0, least, most, 0, 2),
-    ] {
-        let mut hall = Hall::new(rt.alloc(), 1);
+// Gross, tare, the two limits, and how many of two packs are below each.
+const NETS: [(i64, i64, i64, i64, u32, u32); 10] = [
+    (251_000, 10_000, 241_000, 232_000, 0, 0),
+    (250_999, 10_000, 241_000, 232_000, 2, 0),
+    (242_000, 10_000, 241_000, 232_000, 2, 0),
+    (241_999, 10_000, 241_000, 232_000, 2, 2),
+    (0, MAX_TARE, -MAX_TARE, -MAX_TARE, 0, 0),
+    (0, MAX_TARE, 1 - MAX_TARE, -MAX_TARE, 2, 0),
+    (MAX_GROSS, 0, MAX_GROSS, MAX_GROSS, 0, 0),
+    (MAX_GROSS, 0, MAX_GROSS + 1, MAX_GROSS, 2, 0),
+    (MAX_GROSS, MAX_TARE, i64::MAX, i64::MIN, 2, 0),
+    (0, 0, i64::MIN, i64::MAX, 0, 2),
+];
+
+// A net that is equal to a limit is not below it. Tells the first row that is wrong.
+fn wrong_net(hall: &mut Hall, alloc: Global) -> Result<Option<u32>, NoMemory> {
+    let mut place = 0u32;
+    for (gross, tare, t1, t2, nonstandard, inadequate) in NETS {
+        hall.empty(alloc, 1);
         let batch = hall.add_batch(0, Limits { t1, t2, tne: 0 })?;
         hall.add(batch, gross, Pile::Sampled)?;
         hall.correct(0, ALL_DAYS, tare);
         hall.add(batch, gross, Pile::Passed)?;
-        let totals = hall.totals(batch).expect(&rt, "the batch");
-        assert_eq!(rt;
-            (totals.nonstandard, totals.inadequate),
-            (nonstandard, inadequate),
-            "{gross} less {tare} by {t1} and {t2}"
-        );
+        let Some(totals) = hall.totals(batch) else {
+            return Ok(Some(place));
+        };
+        if totals.nonstandard != nonstandard || totals.inadequate != inadequate {
+            return Ok(Some(place));
+        }
+        place = place.wrapping_add(1);
     }
-    Ok(())
+    Ok(None)
 }
 
 // Three batches of two products, and packs of two days. At the end of the first the tare of product
 // 1 was corrected, and that of product 2 was not; at the end three packs went to another pile.
-fn two_days(alloc: Global) -> Result<Hall, NoMemory> {
-    let mut hall = Hall::new(alloc, 10_000);
+fn take_two_days(hall: &mut Hall, alloc: Global) -> Result<(), NoMemory> {
+    hall.empty(alloc, 10_000);
     for product in [1, 2, 1] {
         hall.add_batch(product, LIMITS)?;
     }
@@ -90,19 +94,21 @@ fn two_days(alloc: Global) -> Result<Hall, NoMemory> {
     hall.shift(2, Pile::Voided);
     hall.shift(3, Pile::Sampled);
     hall.shift(5, Pile::Passed);
-    Ok(hall)
+    Ok(())
 }
 
-#[test]
-fn a_pack_is_told_as_it_now_is(rt: HostRuntime) -> Result<(), Fail> {
-    let hall = two_days(rt.alloc())?;
-    for (number, batch, day, gross, tare, pile) in [
-        (0, 2, 0, 260_000, 9_000, Pile::Passed),
-        (1, 0, 0, 250_000, 9_000, Pile::Rejected),
-        (2, 2, 0, 240_000, 9_000, Pile::Voided),
-        (3, 1, 0, 255_000, 10_000, Pile::Sampled),
-        (5, 2, 1, 245_000, 9_000, Pile::Passed),
-    ] {
+// Number, batch, day, gross, tare and pile of packs of the two days.
+const PACKS: [(u32, u32, i32, i64, i64, Pile); 5] = [
+    (0, 2, 0, 260_000, 9_000, Pile::Passed),
+    (1, 0, 0, 250_000, 9_000, Pile::Rejected),
+    (2, 2, 0, 240_000, 9_000, Pile::Voided),
+    (3, 1, 0, 255_000, 10_000, Pile::Sampled),
+    (5, 2, 1, 245_000, 9_000, Pile::Passed),
+];
+
+// Whether each pack is told as it now is, and the piles are those of all batches.
+fn are_packs_told(hall: &Hall) -> bool {
+    for (number, batch, day, gross, tare, pile) in PACKS {
         let pack = Pack {
             number,
             batch,
@@ -111,140 +117,161 @@ fn a_pack_is_told_as_it_now_is(rt: HostRuntime) -> Result<(), Fail> {
             tare,
             pile,
         };
-        assert_eq!(rt; hall.pack(number), Some(pack));
+        if hall.sums.pack(number) != Some(pack) {
+            return false;
+        }
     }
-    assert!(rt; hall.pack(6).is_none());
-    Ok(())
+    let piles = hall.sums.piles();
+    hall.sums.pack(6).is_none()
+        && piles.passed.count == 3
+        && piles.passed.gross == 756_000
+        && piles.rejected.count == 1
+        && piles.rejected.gross == 250_000
+        && piles.sampled.count == 1
+        && piles.sampled.gross == 255_000
+        && piles.voided.count == 1
+        && piles.voided.gross == 240_000
 }
 
-#[test]
-fn a_population_is_told_in_the_order_of_its_packs(rt: HostRuntime) -> Result<(), Fail> {
-    let hall = two_days(rt.alloc())?;
-    let none: &[u64] = &[];
-    for (batch, numbers) in [(0, none), (1, &[3]), (2, &[0, 4, 5])] {
-        let told = hall.population(rt.alloc(), batch)?.expect(&rt, "the batch");
-        assert_eq!(rt; told.as_slice(), numbers, "batch {batch}");
+const POPULATIONS: [(u32, &[u64]); 3] = [(0, &[]), (1, &[3]), (2, &[0, 4, 5])];
+
+// Whether each population is told in the order of its packs.
+fn are_populations_told(hall: &Hall, alloc: Global) -> Result<bool, NoMemory> {
+    for (batch, numbers) in POPULATIONS {
+        let Some(told) = hall.population(alloc, batch)? else {
+            return Ok(false);
+        };
+        if told.as_slice() != numbers {
+            return Ok(false);
+        }
     }
-    Ok(())
+    Ok(true)
 }
 
-#[test]
-fn the_first_chosen_batch_is_told_whatever_the_pile(rt: HostRuntime) -> Result<(), Fail> {
-    let hall = two_days(rt.alloc())?;
-    let all: &[bool] = &[true, true, true];
-    let later: &[bool] = &[false, true, true];
-    for (product, from, until, chosen, first) in [
-        (1, 0, None, all, Some(0)),
-        (1, 0, None, later, Some(2)),
-        (1, 0, None, &[false, true, false], None),
-        (1, 1, None, all, Some(2)),
-        (1, 2, None, all, None),
-        (1, 0, Some(0), all, None),
-        (1, -5, Some(1), all, Some(0)),
-        (2, 0, Some(1), all, Some(1)),
-        (3, 0, None, all, None),
-    ] {
+const ALL: &[bool] = &[true, true, true];
+
+const LATER: &[bool] = &[false, true, true];
+
+const SECOND: &[bool] = &[false, true, false];
+
+// A product, the days of a span, the chosen batches, and the first of them that is concerned.
+const CONCERNED: [(u32, i32, Option<i32>, &[bool], Option<u32>); 9] = [
+    (1, 0, None, ALL, Some(0)),
+    (1, 0, None, LATER, Some(2)),
+    (1, 0, None, SECOND, None),
+    (1, 1, None, ALL, Some(2)),
+    (1, 2, None, ALL, None),
+    (1, 0, Some(0), ALL, None),
+    (1, -5, Some(1), ALL, Some(0)),
+    (2, 0, Some(1), ALL, Some(1)),
+    (3, 0, None, ALL, None),
+];
+
+// Whether the first chosen batch is told, whatever the pile.
+fn are_batches_told(hall: &Hall) -> bool {
+    for (product, from, until, chosen, first) in CONCERNED {
         let span = Span { from, until };
-        let told = hall.first_concerned(product, &span, chosen);
-        assert_eq!(rt; told, first, "product {product}, {span:?}, {chosen:?}");
+        if hall.first_concerned(product, &span, chosen) != first {
+            return false;
+        }
     }
-    Ok(())
-}
-
-#[test]
-fn the_piles_are_those_of_all_batches(rt: HostRuntime) -> Result<(), Fail> {
-    let hall = two_days(rt.alloc())?;
-    let piles = hall.piles();
-    for (tally, count, gross) in [
-        (piles.passed, 3, 756_000),
-        (piles.rejected, 1, 250_000),
-        (piles.sampled, 1, 255_000),
-        (piles.voided, 1, 240_000),
-    ] {
-        assert_eq!(rt; tally, Tally { count, gross });
-    }
-    Ok(())
+    true
 }
 
 // How many packs are added in each order, and shifted by drawn calls.
 const COUNT: u32 = 500;
 
-// The order in which grosses come.
-#[derive(Clone, Copy, Debug)]
-enum Order {
-    Ascending,
-    Descending,
-    Equal,
-    Drawn,
+// The order in which grosses come: the first, what each is above the one before it, and below what
+// a drawn part of it is.
+#[derive(Clone, Copy)]
+struct Order {
+    first: i64,
+    step: i64,
+    drawn: u32,
 }
 
-fn gross_at(order: Order, place: u32, draws: &mut Pcg32) -> i64 {
-    let word = draws.next_word() % 40_000;
-    match order {
-        Order::Ascending => 230_000 + 100 * i64::from(place),
-        Order::Descending => 280_000 - 100 * i64::from(place),
-        Order::Equal => 250_000,
-        Order::Drawn => 230_000 + i64::from(word),
-    }
-}
+// Ascending, descending, equal and drawn.
+const ORDERS: [Order; 4] = [
+    Order {
+        first: 230_000,
+        step: 100,
+        drawn: 1,
+    },
+    Order {
+        first: 280_000,
+        step: -100,
+        drawn: 1,
+    },
+    Order {
+        first: 250_000,
+        step: 0,
+        drawn: 1,
+    },
+    Order {
+        first: 230_000,
+        step: 0,
+        drawn: 40_000,
+    },
+];
 
-fn add_all(hall: &mut Hall, batch: u32, order: Order) -> Result<(), NoMemory> {
+fn add_all(hall: &mut Hall, batch: u32, order: &Order) -> Result<(), NoMemory> {
     let mut draws = Pcg32::new(1, 1);
-    for place in 0..COUNT {
-        hall.add(batch, gross_at(order, place, &mut draws), Pile::Passed)?;
+    let mut next = order.first;
+    for _place in 0..COUNT {
+        let drawn = draws.next_word().checked_rem(order.drawn).unwrap_or(0);
+        hall.add(batch, next.saturating_add(i64::from(drawn)), Pile::Passed)?;
+        next = next.saturating_add(order.step);
     }
     Ok(())
 }
 
 // Shifts each pack of so many, from the first on.
-fn shift_each(hall: &mut Hall, step: u32, to: Pile) {
+fn shift_each(hall: &mut Hall, step: u32, to: Pile)
+    requires { 0 < step }
+{
     for place in 0..COUNT {
-        if place.checked_rem(step) == Some(0) {
+        if place % step == 0 {
             hall.shift(place, to);
         }
     }
 }
 
-#[test]
-fn packs_go_out_and_come_back_in_any_order(rt: HostRuntime) -> Result<(), Fail> {
-    for order in [
-        Order::Ascending,
-        Order::Descending,
-        Order::Equal,
-        Order::Drawn,
-    ] {
-        let mut hall = Hall::new(rt.alloc(), 10_000);
+// Packs go out and come back in any order. Tells the first gross of an order that is wrong.
+fn wrong_order(hall: &mut Hall, alloc: Global) -> Result<Option<i64>, NoMemory> {
+    for order in &ORDERS {
+        hall.empty(alloc, 10_000);
         let batch = hall.add_batch(1, LIMITS)?;
-        add_all(&mut hall, batch, order)?;
-        assert!(rt; hall.agrees(), "{order:?}, added");
-        shift_each(&mut hall, 1, Pile::Rejected);
-        assert!(rt; hall.agrees(), "{order:?}, all out");
+        add_all(hall, batch, order)?;
+        let added = hall.agrees();
+        shift_each(hall, 1, Pile::Rejected);
+        let all_out = hall.agrees();
         hall.correct(1, ALL_DAYS, 12_500);
-        shift_each(&mut hall, 1, Pile::Sampled);
-        assert!(rt; hall.agrees(), "{order:?}, back with another tare");
-        shift_each(&mut hall, 3, Pile::Voided);
+        shift_each(hall, 1, Pile::Sampled);
+        let with_another_tare = hall.agrees();
+        shift_each(hall, 3, Pile::Voided);
         hall.correct(1, ALL_DAYS, 9_000);
-        shift_each(&mut hall, 6, Pile::Passed);
-        assert!(rt; hall.agrees(), "{order:?}, some out and back");
+        shift_each(hall, 6, Pile::Passed);
+        if !added || !all_out || !with_another_tare || !hall.agrees() {
+            return Ok(Some(order.first));
+        }
     }
-    Ok(())
+    Ok(None)
 }
 
 fn drawn_pile(draws: &mut Pcg32) -> Pile {
     PILES[draws.next_word() as usize % 4]
 }
 
+const DAYS: [i32; 8] = [0, 1, 2, 3, 4, 5, 6, 7];
+
 // A span of days up to today, after it, or round it.
 fn drawn_span(today: i32, draws: &mut Pcg32) -> Span {
-    let from = today.saturating_sub((draws.next_word() % 8) as i32);
-    let days = (draws.next_word() % 6) as i32;
+    let from = today.saturating_sub(DAYS[draws.next_word() as usize % 8]);
+    let days = DAYS[draws.next_word() as usize % 6];
+    let until = from.saturating_add(days);
     Span {
         from,
-        until: if days == 0 {
-            None
-        } else {
-            Some(from.saturating_add(days))
-        },
+        until: if days == 0 { None } else { Some(until) },
     }
 }
 
@@ -253,12 +280,9 @@ fn take_drawn(hall: &mut Hall, draws: &mut Pcg32) -> Result<(), NoMemory> {
     let word = draws.next_word();
     match draws.next_word() % 16 {
         0 => {
-            let span = drawn_span(hall.today(), draws);
-            hall.correct(
-                word % 2,
-                span,
-                9_000 + 500 * i64::from(draws.next_word() % 8),
-            );
+            let span = drawn_span(hall.day, draws);
+            let tare = 9_000 + 500 * i64::from(draws.next_word() % 8);
+            hall.correct(word % 2, span, tare);
             Ok(())
         }
         1..=7 => {
@@ -273,41 +297,96 @@ fn take_drawn(hall: &mut Hall, draws: &mut Pcg32) -> Result<(), NoMemory> {
     }
 }
 
-#[test]
-fn drawn_calls_agree_with_a_plain_list(rt: HostRuntime) -> Result<(), Fail> {
-    for seed in 0..4 {
-        let mut draws = Pcg32::new(seed, 54);
-        let mut hall = Hall::new(rt.alloc(), 10_000);
-        hall.add_batch(0, LIMITS)?;
-        hall.add_batch(1, LIMITS)?;
-        hall.add_batch(
-            1,
-            Limits {
-                t1: 240_000,
-                ..LIMITS
-            },
-        )?;
-        for call in 0..1_200 {
-            take_drawn(&mut hall, &mut draws)?;
-            assert!(rt; hall.agrees(), "seed {seed}, call {call}");
+// Drawn calls agree with a plain list. Tells the first call that doesn't.
+fn wrong_call(hall: &mut Hall, alloc: Global, seed: u64) -> Result<Option<u32>, NoMemory> {
+    let mut draws = Pcg32::new(seed, 54);
+    let other = Limits {
+        t1: 240_000,
+        ..LIMITS
+    };
+    hall.empty(alloc, 10_000);
+    hall.add_batch(0, LIMITS)?;
+    hall.add_batch(1, LIMITS)?;
+    hall.add_batch(1, other)?;
+    for call in 0..1_200u32 {
+        take_drawn(hall, &mut draws)?;
+        if !hall.agrees() {
+            return Ok(Some(call));
         }
     }
-    Ok(())
+    Ok(None)
+}
+
+// As many calls as were reserved are not refused. Whether this and the totals are right.
+fn are_reserved(hall: &mut Hall, alloc: Global, count: u32) -> Result<bool, NoMemory> {
+    hall.empty(alloc, 10_000);
+    hall.reserve(count)?;
+    for place in 0..count {
+        let is_taken = if place % 4 == 0 {
+            hall.add_batch(place % 3, LIMITS).is_ok()
+        } else {
+            hall.add(place % 4, i64::from(place), Pile::Passed).is_ok()
+        };
+        if !is_taken {
+            return Ok(false);
+        }
+    }
+    Ok(hall.agrees())
+}
+
+// What is told of all these.
+#[derive(Clone, Copy, Debug, PartialEq)]
+struct Found {
+    net: Option<u32>,
+    told: [bool; 3],
+    order: Option<i64>,
+    calls: [Option<u32>; 4],
+    reserved: [bool; 5],
+}
+
+const RIGHT: Found = Found {
+    net: None,
+    told: [true; 3],
+    order: None,
+    calls: [None; 4],
+    reserved: [true; 5],
+};
+
+fn take_cases(hall: &mut Hall, alloc: Global) -> Result<Found, NoMemory> {
+    let net = wrong_net(hall, alloc)?;
+    take_two_days(hall, alloc)?;
+    Ok(Found {
+        net,
+        told: [
+            are_packs_told(hall),
+            are_populations_told(hall, alloc)?,
+            are_batches_told(hall),
+        ],
+        order: wrong_order(hall, alloc)?,
+        calls: [
+            wrong_call(hall, alloc, 0)?,
+            wrong_call(hall, alloc, 1)?,
+            wrong_call(hall, alloc, 2)?,
+            wrong_call(hall, alloc, 3)?,
+        ],
+        reserved: [
+            are_reserved(hall, alloc, 1)?,
+            are_reserved(hall, alloc, 2)?,
+            are_reserved(hall, alloc, 3)?,
+            are_reserved(hall, alloc, 64)?,
+            are_reserved(hall, alloc, 1_000)?,
+        ],
+    })
+}
+
+// No other function owns a hall.
+fn take_all(alloc: Global) -> Result<Found, NoMemory> {
+    let mut hall = Hall::new(alloc, 1);
+    take_cases(&mut hall, alloc)
 }
 
 #[test]
-fn as_many_calls_as_were_reserved_are_not_refused(rt: HostRuntime) -> Result<(), Fail> {
-    for count in [1, 2, 3, 64, 1_000] {
-        let mut hall = Hall::new(rt.alloc(), 10_000);
-        hall.reserve(count)?;
-        for place in 0..count {
-            if place % 4 == 0 {
-                assert!(rt; hall.add_batch(place % 3, LIMITS).is_ok());
-            } else {
-                assert!(rt; hall.add(place % 4, i64::from(place), Pile::Passed).is_ok());
-            }
-        }
-        assert!(rt; hall.agrees(), "{count} calls");
-    }
+fn sums_are_those_of_a_plain_list(rt: HostRuntime) -> Result<(), Fail> {
+    assert_eq!(rt; take_all(rt.alloc())?, RIGHT);
     Ok(())
 }

@@ -19,8 +19,8 @@ use Rattle.book_core.specs.declared.types.Step.TheVariants.{New, Known}
 use Rattle.book_core.specs.declared.types.BookError.{BookError}
 use Rattle.book_core.specs.declared.types.BookError.TheVariants as error
 use Rattle.book_core.specs.View.{ReadyEntry, BookView}
-use Rattle.book_core.specs.Steps.{asked_act, numbered_entry, decided_step, step_for, desk_decision, decision, GivesUnlessNoMemory, HasNoRoom, MayLackMemory, handed_on, GivesAnswer, TellsLeast, list_behind}
-use Rattle.book_core.proofs.Decided.{answered_by, answer_is, never_lacks, least_told, lawful_answer}
+use Rattle.book_core.specs.Steps.{asked_act, numbered_entry, decided_step, step_for, decision, GivesUnlessNoMemory, HasNoRoom, MayLackMemory, handed_on, GivesAnswer, TellsLeast, list_behind}
+use Rattle.book_core.proofs.DecisionLemmas.{desk_decision, decision_is, answered_by, answer_is, never_lacks, least_told, lawful_answer}
 
 -- the entry that a decision adds
 abbrev added_by : Entry → Result (Option Answered) BookError → Option Entry
@@ -47,6 +47,7 @@ added_is : (limit by : ℕ) (entries : List Entry) (ask : Ask) (act : Act) → a
 added_is limit by entries ask act wants =
     ap (λ (w : Want). want_added limit entries by ask w) wants
     ∙ added_parts limit by entries ask act (entry_for entries by ask act) (desk_number ask act) (repeated_row entries ask act) (refusal_of limit entries ask act) refl refl
+    ∙ ap (added_by (entry_for entries by ask act)) (sym (decision_is limit entries ask act))
 
 -- it is answered by what is decided
 told_is : (limit : ℕ) (entries : List Entry) (ask : Ask) (act : Act) → ask.want ≡ want.Act act

@@ -1,3 +1,3 @@
-mod Decided
-mod Kept
+pub mod DecisionLemmas
+mod BookLemmas
 mod AskLemmas

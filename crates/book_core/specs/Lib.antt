@@ -1,4 +1,4 @@
 pub mod View
 pub mod Steps
-pub mod Keeping
-pub mod Holding
+pub mod ReadyFacts
+pub mod BookInvariant

@@ -11,11 +11,9 @@ use Rattle.book_words.specs.declared.act.Ask.{Ask}
 use Rattle.book_words.specs.declared.act.Entry.{Entry}
 use Rattle.book_words.specs.declared.reply.Answered.{Answered}
 use Rattle.book_words.specs.declared.reply.Refused.{Refused}
-use Rattle.book_words.specs.declared.refusal.Refusal.{Refusal}
-use Rattle.book_words.specs.Desks.{desk_number, repeated_row}
-use Rattle.book_words.specs.Refusals.{book_full, desk_refusals, refusals_of, refusal_of}
+use Rattle.book_words.specs.Refusals.{book_full, desk_refusals, refusals_of}
 use Rattle.book_words.specs.Numbers.{refusal_number, EachFrom}
-use Rattle.book_words.specs.Answers.{entry_for, refused_at, told_again, added}
+use Rattle.book_words.specs.Answers.{entry_for, act_answer, want_added, added}
 use Rattle.book_state.specs.Prepared.{is_for_sample}
 use Rattle.book_core.specs.declared.types.Step.{Step}
 use Rattle.book_core.specs.declared.types.Step.TheVariants.{New, Known}
@@ -36,26 +34,19 @@ abbrev pub numbered_entry : List Entry → ℕ → Ask → Act → ReadyEntry
 numbered_entry entries by ask act =
     record { number = length entries + 1; entry = entry_for entries by ask act }
 
--- a repeat is told again, any other act that isn't refused is new
-abbrev pub repeat_decision :
-    List Entry → Act → Option ℕ → Option Refusal → Result (Option Answered) BookError
-repeat_decision entries act (Some row) refusal = Ok (Some (told_again entries row act))
-repeat_decision entries act None (Some refusal) = Err (error.Refused (refused_at entries refusal))
-repeat_decision entries act None None = Ok None
+-- what is told of an act that adds no entry: its answer
+abbrev pub told_unless_new :
+    Option Entry → Result Answered Refused → Result (Option Answered) BookError
+told_unless_new (Some entry) answered = Ok None
+told_unless_new None (Ok answered) = Ok (Some answered)
+told_unless_new None (Err refused) = Err (error.Refused refused)
 
--- a wrong desk is refused before anything else is looked at
-abbrev pub desk_decision :
-    List Entry → Act → Option Refusal → Option ℕ → Option Refusal
-    → Result (Option Answered) BookError
-desk_decision entries act (Some by_desk) row by_rule =
-    Err (error.Refused (refused_at entries by_desk))
-desk_decision entries act None row by_rule = repeat_decision entries act row by_rule
-
--- whether an act is refused, and what it is told where it is a repeat
+-- whether an act is refused, and what it is told where it is a repeat: it is its answer, unless the
+-- act adds an entry, whoever asks
 abbrev pub decision : ℕ → List Entry → Ask → Act → Result (Option Answered) BookError
 decision limit entries ask act =
-    desk_decision entries act (desk_number ask act) (repeated_row entries ask act)
-    (refusal_of limit entries ask act)
+    told_unless_new (want_added limit entries 0 ask (want.Act act))
+    (act_answer limit entries ask act)
 
 -- a refused act is answered its refusal, a repeat is known, and any other act is ready
 abbrev pub decided_step : ReadyEntry → Result (Option Answered) BookError → Result Step BookError

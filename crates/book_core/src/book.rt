@@ -41,7 +41,7 @@ impl Model for Book {
 
     ghost Value = { BookView };
 
-    ghost use Rattle.book_core.specs.Holding.{pending_entry, IsKept};
+    ghost use Rattle.book_core.specs.BookInvariant.{pending_entry, IsKept};
 
     ghost view = { λ b. record {
       entries = b.state.entries;

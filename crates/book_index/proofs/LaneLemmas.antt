@@ -1,5 +1,5 @@
 -- What the lanes of an index tell.
-use Rattle.std.proofs.Common.{◌≡◌, ℕ, zero, suc, ◌+◌, Bool, true, false, ◌==◌, cond, List, [], ◌∷◌, map, find, slice_get, Option, Some, None, is_some, option_map, refl, sym, ◌∙◌, ap, subst, arith, if◌then◌else◌}
+use Rattle.std.proofs.Common.{◌≡◌, ℕ, zero, suc, ◌+◌, Bool, true, false, ◌==◌, List, [], ◌∷◌, map, find, slice_get, Option, Some, None, is_some, option_map, refl, sym, ◌∙◌, ap, subst, if◌then◌else◌}
 use Rattle.std.proofs.lemmas.Bool.{eqb-true, eq-eqb}
 use Rattle.std.proofs.lemmas.Option.{slice_get-map}
 use Rattle.std.specs.List.{range_with_len}
@@ -11,43 +11,26 @@ use Rattle.book_words.specs.declared.act.BatchState.TheVariants.{Running}
 use Rattle.book_words.specs.declared.act.Entry.{Entry}
 use Rattle.book_words.specs.Names.{same_name}
 use Rattle.book_words.specs.Acts.{said, batch_opened, lane_batch}
-use Rattle.book_words.specs.Order.{place_of, batch_number}
+use Rattle.book_words.specs.Order.{batch_number}
 use Rattle.book_words.specs.Refusals.{is_closed, lane_running}
 use Rattle.book_words.proofs.NameLemmas.{same_name_is, same_name_itself}
 use Rattle.book_index.specs.declared.types.BatchTerms.{BatchTerms}
 use Rattle.book_index.specs.Known.{Known}
 use Rattle.book_index.specs.Lanes.{has_number, lane_of_number}
 use Rattle.book_index.specs.Listed.{IsIndexOf, terms_of_batch, batch_product_number, lane_batch_number}
-use Rattle.book_index.proofs.SameNames.{in_both, bool_same}
-use Rattle.book_index.proofs.SaidNames.{product_where_opened}
+use Rattle.book_words.proofs.PlaceLemmas.{place_of-name}
+use Rattle.book_words.proofs.PlainLemmas.{in_both, bool_same}
+use Rattle.std.proofs.lemmas.Option.{none-some, same_Some}
+use Rattle.book_words.proofs.SaidNames.{product_where_opened}
 use Rattle.book_index.proofs.LegalNames.{AreNamed, product_numbered}
-
-some_same : {A : Type 0} {x y : A} → Some x ≡ Some y → x ≡ y
-some_same h = cc
-
-none_is_no : {A : Type 0} {x : A} → None ≡ Some x → ⊥
-none_is_no h = cc
-
--- at the place of a name stands that name
-pub name_at_place : (names : List Name) (name : Name) (place : ℕ) → place_of names name ≡ Some place → slice_get names place ≡ Some name
-name_at_place [] name place h = absurd (none_is_no h)
-name_at_place (first ∷ names) name place h =
-    in_both (same_name first name)
-    (λ k. subst (λ n. slice_get (first ∷ names) n ≡ Some name) (some_same (sym (ap (λ b. cond b (Some 0) (option_map (λ p. p + 1) (place_of names name))) k) ∙ h)) (ap Some (same_name_is first name k)))
-    (λ k. deeper (place_of names name) refl (sym (ap (λ b. cond b (Some 0) (option_map (λ p. p + 1) (place_of names name))) k) ∙ h) (name_at_place names name))
-  where
-    deeper : (o : Option ℕ) → place_of names name ≡ o → option_map (λ p. p + 1) o ≡ Some place → ((rest : ℕ) → place_of names name ≡ Some rest → slice_get names rest ≡ Some name) → slice_get (first ∷ names) place ≡ Some name
-    deeper None found k again = absurd (none_is_no k)
-    deeper (Some rest) found k again =
-        subst (λ n. slice_get (first ∷ names) n ≡ Some name) ((let longer : suc rest ≡ rest + 1 = omega arith in longer) ∙ some_same k) (again rest found)
 
 -- the name of the batch that a lane has
 pub lane_is : (entries : List Entry) (lane number : ℕ) → lane_batch_number entries lane ≡ Some number → slice_get (said batch_opened entries) number ≡ lane_batch entries lane
 lane_is entries lane number = either (lane_batch entries lane)
   where
     either : (o : Option Name) → option_and_then (batch_number entries) o ≡ Some number → slice_get (said batch_opened entries) number ≡ o
-    either None h = absurd (none_is_no h)
-    either (Some batch) h = name_at_place (said batch_opened entries) batch number h
+    either None h = absurd (none-some _ h)
+    either (Some batch) h = place_of-name (said batch_opened entries) batch number h
 
 there : (entries : List Entry) → AreNamed entries → (lane : ℕ) (batch : Name) → lane_batch entries lane ≡ Some batch → is_some (batch_number entries batch) ≡ true
 there entries named lane batch h = sym (product_where_opened entries batch) ∙ named.on_lane lane batch h
@@ -79,9 +62,9 @@ lane_test entries named batch number lane is = either (lane_batch entries lane) 
         bool_same (place == number) (same_name name batch)
         (λ k.
         let same : place ≡ number = eqb-true place number k in
-        let one : name ≡ batch = some_same (sym (name_at_place (said batch_opened entries) name place found) ∙ ap (slice_get (said batch_opened entries)) same ∙ name_at_place (said batch_opened entries) batch number is) in
+        let one : name ≡ batch = same_Some _ _ (sym (place_of-name (said batch_opened entries) name place found) ∙ ap (slice_get (said batch_opened entries)) same ∙ place_of-name (said batch_opened entries) batch number is) in
         subst (λ n. same_name name n ≡ true) one (same_name_itself name))
-        (λ k. eq-eqb place number (some_same (sym found ∙ ap (batch_number entries) (same_name_is name batch k) ∙ is)))
+        (λ k. eq-eqb place number (same_Some _ _ (sym found ∙ ap (batch_number entries) (same_name_is name batch k) ∙ is)))
 
     either : (o : Option Name) → lane_batch entries lane ≡ o → has_number number (option_and_then (batch_number entries) o) ≡ option_map_or (λ name. same_name name batch) o false
     either None h = refl

@@ -1,9 +1,8 @@
 -- What every legal list says of names: no product or batch is named twice, the product of a batch is
 -- a product, a batch has a state just where it has a product, and a lane has a batch that is there.
-use Rattle.std.proofs.Common.{◌≡◌, ℕ, zero, suc, ◌+◌, Bool, true, false, ◌||◌, ◌⊎◌, inl, inr, ◌==◌, List, [], ◌∷◌, ◌++◌, length, slice_get, Option, Some, None, is_some, is_none, option_map, refl, sym, ◌∙◌, ap, subst, arith, append_assoc, append-nil, if◌then◌else◌}
+use Rattle.std.proofs.Common.{◌≡◌, ℕ, Bool, true, false, ◌||◌, ◌==◌, List, [], ◌∷◌, ◌++◌, Option, Some, None, is_some, refl, sym, ◌∙◌, ap, subst, if◌then◌else◌}
 use Rattle.std.proofs.lemmas.Bool.{eqb-true}
 use Rattle.std.proofs.lemmas.List.Elements.{filter_map-append}
-use Rattle.std.specs.List.{cons_option}
 use Rattle.std.specs.Option.{option_or, option_flatten, option_and_then}
 use Rattle.book_words.specs.declared.name.Name.{Name}
 use Rattle.book_words.specs.declared.act.BatchState as states
@@ -11,21 +10,20 @@ use Rattle.book_words.specs.declared.act.BatchState.TheVariants.{Running, Ended,
 use Rattle.book_words.specs.declared.act.Act.{Act}
 use Rattle.book_words.specs.declared.act.Act.TheVariants.{NewDay, PutProduct, PutTare, OpenBatch, StartLane, Weigh, StopLane, Void, EndRun, Draw, Measure, DrawSecond, Close}
 use Rattle.book_words.specs.declared.act.Entry.{Entry}
-use Rattle.book_words.specs.declared.refusal.Refusal.{Refusal}
-use Rattle.book_words.specs.declared.refusal.Refusal.TheVariants as why
 use Rattle.book_words.specs.Names.{same_name}
 use Rattle.book_words.specs.Acts.{said, last_said, batch_opened, product_given, state_set, lane_used, nominal_put, nominal_of, product_of, state_of, lane_batch}
 use Rattle.book_words.specs.Order.{place_of, product_named, product_number}
-use Rattle.book_words.specs.Refusals as rules
-use Rattle.book_words.specs.Refusals.{refused_if, first_refusal, refusals_of}
-use Rattle.book_words.specs.Answers.{ask_of, IsLawful, IsLegal}
-use Rattle.book_words.proofs.NameLemmas.{same_name_is, same_name_itself}
+use Rattle.book_words.specs.Answers.{IsLawful, IsLegal}
+use Rattle.book_words.proofs.NameLemmas.{same_name_is}
 use Rattle.book_words.proofs.LastSaid.{last_said-push}
-use Rattle.book_words.proofs.RefusalLemmas.{none_of_two, not_refused, act_rules}
+use Rattle.book_words.proofs.LegalLemmas.{legal_steps}
+use Rattle.book_words.proofs.AllowedActs.{IsAllowed, allowed, put_product_tells, open_batch_tells, start_lane_tells, stop_lane_tells, end_run_tells, draw_tells, close_tells}
+use Rattle.std.proofs.Math.Bool.{or-true}
+use Rattle.std.proofs.lemmas.Option.{none-some, same_Some}
 use Rattle.book_index.specs.Listed.{batch_product_number, is_lane}
-use Rattle.book_index.proofs.SameNames.{in_both}
-use Rattle.book_index.proofs.Places.{place_is_some}
-use Rattle.book_index.proofs.SaidNames.{nominal_where_put, product_where_opened}
+use Rattle.book_words.proofs.PlainLemmas.{in_both, some_or}
+use Rattle.book_words.proofs.PlaceLemmas.{AreApart, apart_more}
+use Rattle.book_words.proofs.SaidNames.{nominal_where_put, product_where_opened}
 
 -- what an act that no rule refuses says of names
 pub record IsActNamed (entries : List Entry) (act : Act) : Type 0 where
@@ -36,38 +34,24 @@ pub record IsActNamed (entries : List Entry) (act : Act) : Type 0 where
   pub on_lane : (lane : ℕ) (batch : Name) → lane_used lane act ≡ Some (Some batch) → is_some (product_of entries batch) ≡ true
   pub off_lanes : (lane : ℕ) → is_lane lane ≡ false → lane_used lane act ≡ None
 
-none_is_no : {A : Type 0} {x : A} → None ≡ Some x → ⊥
-none_is_no h = cc
-
 nothing : (entries : List Entry) (act : Act) → product_named act ≡ None → batch_opened act ≡ None → ((batch : Name) → product_given batch act ≡ None) → ((batch : Name) → state_set batch act ≡ None) → ((lane : ℕ) → lane_used lane act ≡ None) → IsActNamed entries act
 nothing entries act no_product no_batch no_given no_state no_lane =
     record {
-      new_product = λ name h. absurd (none_is_no (sym no_product ∙ h));
-      new_batch = λ name h. absurd (none_is_no (sym no_batch ∙ h));
-      product = λ batch product h. absurd (none_is_no (sym (no_given batch) ∙ h));
+      new_product = λ name h. absurd (none-some _ (sym no_product ∙ h));
+      new_batch = λ name h. absurd (none-some _ (sym no_batch ∙ h));
+      product = λ batch product h. absurd (none-some _ (sym (no_given batch) ∙ h));
       state = λ batch. ap (λ o. is_some o || is_some (product_of entries batch)) (no_state batch) ∙ sym (ap (λ o. is_some o || is_some (product_of entries batch)) (no_given batch));
-      on_lane = λ lane batch h. absurd (none_is_no (sym (no_lane lane) ∙ h));
+      on_lane = λ lane batch h. absurd (none-some _ (sym (no_lane lane) ∙ h));
       off_lanes = λ lane h. no_lane lane;
     }
-
-isnt_there : {A : Type 0} (o : Option A) (refusal : Refusal) → refused_if (is_some o) refusal ≡ None → o ≡ None
-isnt_there None refusal h = refl
-isnt_there (Some x) refusal h = absurd (cc)
-
-is_there : {A : Type 0} (o : Option A) (refusal : Refusal) → refused_if (is_none o) refusal ≡ None → is_some o ≡ true
-is_there (Some x) refusal h = refl
-is_there None refusal h = absurd (cc)
-
-some_same : {A : Type 0} {x y : A} → Some x ≡ Some y → x ≡ y
-some_same h = cc
 
 given : {A : Type 0} (b : Bool) (x : A) → is_some (if b then Some x else None) ≡ b
 given true x = refl
 given false x = refl
 
 given_is : {A : Type 0} (b : Bool) (x y : A) → (if b then Some x else None) ≡ Some y → (b ≡ true) × (x ≡ y)
-given_is true x y h = (refl, some_same h)
-given_is false x y h = absurd (none_is_no h)
+given_is true x y h = (refl, same_Some _ _ h)
+given_is false x y h = absurd (none-some _ h)
 
 -- a batch that is there gets a state
 state_of_known : (entries : List Entry) (name batch : Name) (state : states.BatchState) → is_some (product_of entries name) ≡ true
@@ -84,11 +68,11 @@ in_state : (entries : List Entry) (act : Act) (name : Name) (state : states.Batc
     → ((batch : Name) → state_set batch act ≡ (if same_name name batch then Some state else None)) → ((lane : ℕ) → lane_used lane act ≡ None) → IsActNamed entries act
 in_state entries act name state there no_product no_batch no_given sets no_lane =
     record {
-      new_product = λ other h. absurd (none_is_no (sym no_product ∙ h));
-      new_batch = λ other h. absurd (none_is_no (sym no_batch ∙ h));
-      product = λ batch product h. absurd (none_is_no (sym (no_given batch) ∙ h));
+      new_product = λ other h. absurd (none-some _ (sym no_product ∙ h));
+      new_batch = λ other h. absurd (none-some _ (sym no_batch ∙ h));
+      product = λ batch product h. absurd (none-some _ (sym (no_given batch) ∙ h));
       state = λ batch. ap (λ o. is_some o || is_some (product_of entries batch)) (sets batch) ∙ state_of_known entries name batch state there ∙ sym (ap (λ o. is_some o || is_some (product_of entries batch)) (no_given batch));
-      on_lane = λ lane batch h. absurd (none_is_no (sym (no_lane lane) ∙ h));
+      on_lane = λ lane batch h. absurd (none-some _ (sym (no_lane lane) ∙ h));
       off_lanes = λ lane h. no_lane lane;
     }
 
@@ -102,73 +86,57 @@ other_lane number lane x one off = in_both (number == lane) same other
     other : (number == lane) ≡ false → (if number == lane then Some x else None) ≡ None
     other h = rw h refl
 
-pub act_named : (entries : List Entry) (act : Act) → first_refusal (refusals_of entries act) ≡ None → IsActNamed entries act
+pub act_named : (entries : List Entry) (act : Act) → IsAllowed entries act → IsActNamed entries act
 act_named entries (PutProduct name nominal unit) h =
-    let a = none_of_two (rules.day_unset entries) _ h in
-    let b = none_of_two (rules.product_known entries name) _ a.1 in
-    let new = isnt_there (nominal_of entries name) why.ProductKnown b.0 in
+    let new = (put_product_tells entries name nominal unit h).new in
     record {
-      new_product = λ other k. subst (λ n. nominal_of entries n ≡ None) (some_same k) new;
-      new_batch = λ other k. absurd (none_is_no k);
-      product = λ batch product k. absurd (none_is_no k);
+      new_product = λ other k. subst (λ n. nominal_of entries n ≡ None) (same_Some _ _ k) new;
+      new_batch = λ other k. absurd (none-some _ k);
+      product = λ batch product k. absurd (none-some _ k);
       state = λ batch. refl;
-      on_lane = λ lane batch k. absurd (none_is_no k);
+      on_lane = λ lane batch k. absurd (none-some _ k);
       off_lanes = λ lane k. refl;
     }
 act_named entries (OpenBatch name product density) h =
-    let a = none_of_two (rules.day_unset entries) _ h in
-    let b = none_of_two (rules.product_unknown entries product) _ a.1 in
-    let c = none_of_two (rules.name_shape name) _ b.1 in
-    let d = none_of_two (rules.batch_known entries name) _ c.1 in
-    let there = is_there (nominal_of entries product) why.ProductUnknown b.0 in
-    let new = isnt_there (product_of entries name) why.BatchKnown d.0 in
+    let tells = open_batch_tells entries name product density h in
+    let there = tells.known in
+    let new = tells.new in
     record {
-      new_product = λ other k. absurd (none_is_no k);
-      new_batch = λ other k. subst (λ n. product_of entries n ≡ None) (some_same k) new;
+      new_product = λ other k. absurd (none-some _ k);
+      new_batch = λ other k. subst (λ n. product_of entries n ≡ None) (same_Some _ _ k) new;
       product = λ batch other k. subst (λ n. is_some (nominal_of entries n) ≡ true) (given_is (same_name name batch) product other k).1 there;
       state = λ batch. ap (λ b. b || is_some (product_of entries batch)) (given (same_name name batch) Running ∙ sym (given (same_name name batch) product));
-      on_lane = λ lane batch k. absurd (none_is_no k);
+      on_lane = λ lane batch k. absurd (none-some _ k);
       off_lanes = λ lane k. refl;
     }
 act_named entries (StartLane number name) h =
-    let a = none_of_two (rules.day_unset entries) _ h in
-    let b = none_of_two (rules.batch_unknown entries name) _ a.1 in
-    let c = none_of_two (rules.batch_state (Running ∷ []) entries name) _ b.1 in
-    let d = none_of_two (rules.lane_number number) _ c.1 in
-    let there = is_there (product_of entries name) why.BatchUnknown b.0 in
-    let one : is_lane number ≡ true = not_refused (is_lane number) why.LaneNumber d.0 in
+    let tells = start_lane_tells entries number name h in
+    let there = tells.known in
+    let one : is_lane number ≡ true = tells.number in
     record {
-      new_product = λ other k. absurd (none_is_no k);
-      new_batch = λ other k. absurd (none_is_no k);
-      product = λ batch product k. absurd (none_is_no k);
+      new_product = λ other k. absurd (none-some _ k);
+      new_batch = λ other k. absurd (none-some _ k);
+      product = λ batch product k. absurd (none-some _ k);
       state = λ batch. refl;
-      on_lane = λ lane batch k. subst (λ n. is_some (product_of entries n) ≡ true) (some_same (given_is (number == lane) (Some name) (Some batch) k).1) there;
+      on_lane = λ lane batch k. subst (λ n. is_some (product_of entries n) ≡ true) (same_Some _ _ (given_is (number == lane) (Some name) (Some batch) k).1) there;
       off_lanes = λ lane k. other_lane number lane (Some name) one k;
     }
 act_named entries (StopLane number prior) h =
-    let a = none_of_two (rules.day_unset entries) _ h in
-    let b = none_of_two (rules.lane_number number) _ a.1 in
-    let one : is_lane number ≡ true = not_refused (is_lane number) why.LaneNumber b.0 in
+    let one : is_lane number ≡ true = (stop_lane_tells entries number prior h).number in
     record {
-      new_product = λ other k. absurd (none_is_no k);
-      new_batch = λ other k. absurd (none_is_no k);
-      product = λ batch product k. absurd (none_is_no k);
+      new_product = λ other k. absurd (none-some _ k);
+      new_batch = λ other k. absurd (none-some _ k);
+      product = λ batch product k. absurd (none-some _ k);
       state = λ batch. refl;
-      on_lane = λ lane batch k. absurd (none_is_no (given_is (number == lane) None (Some batch) k).1);
+      on_lane = λ lane batch k. absurd (none-some _ (given_is (number == lane) None (Some batch) k).1);
       off_lanes = λ lane k. other_lane number lane None one k;
     }
 act_named entries (EndRun name) h =
-    let a = none_of_two (rules.day_unset entries) _ h in
-    let b = none_of_two (rules.batch_unknown entries name) _ a.1 in
-    in_state entries (EndRun name) name Ended (is_there (product_of entries name) why.BatchUnknown b.0) refl refl (λ batch. refl) (λ batch. refl) (λ lane. refl)
+    in_state entries (EndRun name) name Ended (end_run_tells entries name h).known refl refl (λ batch. refl) (λ batch. refl) (λ lane. refl)
 act_named entries (Draw name mode word) h =
-    let a = none_of_two (rules.day_unset entries) _ h in
-    let b = none_of_two (rules.batch_unknown entries name) _ a.1 in
-    in_state entries (Draw name mode word) name Drawn (is_there (product_of entries name) why.BatchUnknown b.0) refl refl (λ batch. refl) (λ batch. refl) (λ lane. refl)
+    in_state entries (Draw name mode word) name Drawn (draw_tells entries name mode word h).known refl refl (λ batch. refl) (λ batch. refl) (λ lane. refl)
 act_named entries (Close name) h =
-    let a = none_of_two (rules.day_unset entries) _ h in
-    let b = none_of_two (rules.batch_unknown entries name) _ a.1 in
-    in_state entries (Close name) name Closed (is_there (product_of entries name) why.BatchUnknown b.0) refl refl (λ batch. refl) (λ batch. refl) (λ lane. refl)
+    in_state entries (Close name) name Closed (close_tells entries name h).known refl refl (λ batch. refl) (λ batch. refl) (λ lane. refl)
 act_named entries (NewDay day) h = nothing entries (NewDay day) refl refl (λ batch. refl) (λ batch. refl) (λ lane. refl)
 act_named entries (PutTare product day tare) h = nothing entries (PutTare product day tare) refl refl (λ batch. refl) (λ batch. refl) (λ lane. refl)
 act_named entries (Weigh lane gross prior) h = nothing entries (Weigh lane gross prior) refl refl (λ batch. refl) (λ batch. refl) (λ lane. refl)
@@ -178,58 +146,7 @@ act_named entries (DrawSecond batch word) h = nothing entries (DrawSecond batch 
 
 -- the act of a lawful entry
 pub lawful_named : (entries : List Entry) (entry : Entry) → IsLawful entries entry → IsActNamed entries entry.act
-lawful_named entries entry lawful = act_named entries entry.act (act_rules entries (ask_of entry) entry.act lawful.rules)
-
--- no name stands twice among some: each has its place as its number
-abbrev pub AreApart : List Name → Type 0
-AreApart names = (place : ℕ) (name : Name) → slice_get names place ≡ Some name → place_of names name ≡ Some place
-
--- a name that is among some has the same place among more
-pub place_among_more : (names more : List Name) (name : Name) → is_some (place_of names name) ≡ true → place_of (names ++ more) name ≡ place_of names name
-place_among_more [] more name h = absurd (let clash : false ≡ true = h in cc)
-place_among_more (first ∷ names) more name h = in_both (same_name first name) same (other (place_among_more names more name))
-  where
-    same : same_name first name ≡ true → place_of (first ∷ (names ++ more)) name ≡ place_of (first ∷ names) name
-    same k = rw k refl
-
-    other : (is_some (place_of names name) ≡ true → place_of (names ++ more) name ≡ place_of names name) → same_name first name ≡ false → place_of (first ∷ (names ++ more)) name ≡ place_of (first ∷ names) name
-    other rest k =
-        let there : is_some (place_of names name) ≡ true = ap (λ b. b || is_some (place_of names name)) (sym k) ∙ sym (place_is_some first names name) ∙ h in
-        rw k (ap (option_map (λ place. place + 1)) (rest there))
-
--- a new name behind some has their number as its place
-pub place_of_new : (names : List Name) (name : Name) → is_some (place_of names name) ≡ false → place_of (names ++ name ∷ []) name ≡ Some (length names)
-place_of_new [] name h = rw (same_name_itself name) refl
-place_of_new (first ∷ names) name h = in_both (same_name first name) same (other (place_of_new names name))
-  where
-    same : same_name first name ≡ true → place_of (first ∷ (names ++ name ∷ [])) name ≡ Some (suc (length names))
-    same k =
-        let there : true ≡ false = ap (λ b. b || is_some (place_of names name)) (sym k) ∙ sym (place_is_some first names name) ∙ h in
-        absurd (cc)
-
-    other : (is_some (place_of names name) ≡ false → place_of (names ++ name ∷ []) name ≡ Some (length names)) → same_name first name ≡ false → place_of (first ∷ (names ++ name ∷ [])) name ≡ Some (suc (length names))
-    other rest k =
-        let there : is_some (place_of names name) ≡ false = ap (λ b. b || is_some (place_of names name)) (sym k) ∙ sym (place_is_some first names name) ∙ h in
-        let next : length names + 1 ≡ suc (length names) = omega arith in
-        rw k (ap (option_map (λ place. place + 1)) (rest there) ∙ ap Some next)
-
-last_or_before : (names : List Name) (name : Name) (place : ℕ) (other : Name) → slice_get (names ++ name ∷ []) place ≡ Some other → (slice_get names place ≡ Some other) ⊎ ((place ≡ length names) × (name ≡ other))
-last_or_before [] name zero other h = inr (refl, some_same h)
-last_or_before [] name (suc place) other h = absurd (none_is_no h)
-last_or_before (first ∷ names) name zero other h = inl h
-last_or_before (first ∷ names) name (suc place) other h =
-    elim (last_or_before names name place other h) [
-      | inl before ↦ inl before
-      | inr last ↦ inr (ap suc last.0, last.1)
-    ]
-
--- a new name behind names that are apart leaves them apart
-pub apart_push : (names : List Name) (name : Name) → AreApart names → is_some (place_of names name) ≡ false → AreApart (names ++ name ∷ [])
-apart_push names name apart new place other at =
-    elim (last_or_before names name place other at) [
-      | inl before ↦ place_among_more names (name ∷ []) other (ap is_some (apart place other before)) ∙ apart place other before
-      | inr last ↦ ap (place_of (names ++ name ∷ [])) (sym last.1) ∙ place_of_new names name new ∙ ap Some (sym last.0)
-    ]
+lawful_named entries entry lawful = act_named entries entry.act (allowed entries entry lawful)
 
 -- what every legal list says of names
 pub record AreNamed (entries : List Entry) : Type 0 where
@@ -240,26 +157,15 @@ pub record AreNamed (entries : List Entry) : Type 0 where
   pub on_lane : (lane : ℕ) (batch : Name) → lane_batch entries lane ≡ Some batch → is_some (product_of entries batch) ≡ true
   pub off_lanes : (lane : ℕ) → is_lane lane ≡ false → lane_batch entries lane ≡ None
 
-some_or : {A : Type 0} (o p : Option A) → is_some (option_or o p) ≡ is_some o || is_some p
-some_or None p = refl
-some_or (Some x) p = refl
-
-or_true : (b : Bool) → b || true ≡ true
-or_true true = refl
-or_true false = refl
-
 -- what is said of a name goes on being said
 pub still_said : {A : Type 0} (says : Act → Option A) (entries : List Entry) (entry : Entry) → is_some (last_said says entries) ≡ true → is_some (last_said says (entries ++ entry ∷ [])) ≡ true
 still_said says entries entry h =
-    ap is_some (last_said-push says entries entry) ∙ some_or (says entry.act) (last_said says entries) ∙ ap (λ b. is_some (says entry.act) || b) h ∙ or_true (is_some (says entry.act))
+    ap is_some (last_said-push says entries entry) ∙ some_or (says entry.act) (last_said says entries) ∙ ap (λ b. is_some (says entry.act) || b) h ∙ or-true (is_some (says entry.act))
 
-apart_more : (named : Act → Option Name) (entries : List Entry) (entry : Entry) → AreApart (said named entries) → ((name : Name) → named entry.act ≡ Some name → is_some (place_of (said named entries) name) ≡ false) → AreApart (said named (entries ++ entry ∷ []))
-apart_more named entries entry apart new =
-    subst AreApart (sym (filter_map-append (λ (e : Entry). named e.act) entries (entry ∷ []))) (either (named entry.act) new)
-  where
-    either : (o : Option Name) → ((name : Name) → o ≡ Some name → is_some (place_of (said named entries) name) ≡ false) → AreApart (said named entries ++ cons_option o [])
-    either None new = subst AreApart (sym (append-nil (said named entries))) apart
-    either (Some name) new = apart_push (said named entries) name apart (new name refl)
+apart_said : (named : Act → Option Name) (entries : List Entry) (entry : Entry) → AreApart (said named entries) → ((name : Name) → named entry.act ≡ Some name → is_some (place_of (said named entries) name) ≡ false) → AreApart (said named (entries ++ entry ∷ []))
+apart_said named entries entry apart new =
+    subst AreApart (sym (filter_map-append (λ (e : Entry). named e.act) entries (entry ∷ [])))
+    (apart_more (said named entries) (named entry.act) apart new)
 
 product_more : (entries : List Entry) (entry : Entry) → IsActNamed entries entry.act → AreNamed entries → (batch product : Name) → product_of (entries ++ entry ∷ []) batch ≡ Some product → is_some (nominal_of (entries ++ entry ∷ []) product) ≡ true
 product_more entries entry act named batch product h =
@@ -282,7 +188,7 @@ on_lane_more entries entry act named lane batch h =
   where
     either : (o : Option (Option Name)) → lane_used lane entry.act ≡ o → option_flatten (option_or o (last_said (lane_used lane) entries)) ≡ Some batch → is_some (product_of entries batch) ≡ true
     either None is k = named.on_lane lane batch k
-    either (Some None) is k = absurd (none_is_no k)
+    either (Some None) is k = absurd (none-some _ k)
     either (Some (Some other)) is k = act.on_lane lane batch (is ∙ ap Some k)
 
 off_lanes_more : (entries : List Entry) (entry : Entry) → IsActNamed entries entry.act → AreNamed entries → (lane : ℕ) → is_lane lane ≡ false → lane_batch (entries ++ entry ∷ []) lane ≡ None
@@ -293,33 +199,27 @@ off_lanes_more entries entry act named lane h =
 pub named_more : (entries : List Entry) (entry : Entry) → IsActNamed entries entry.act → AreNamed entries → AreNamed (entries ++ entry ∷ [])
 named_more entries entry act named =
     record {
-      products = apart_more product_named entries entry named.products (λ name h. sym (nominal_where_put entries name) ∙ ap is_some (act.new_product name h));
-      batches = apart_more batch_opened entries entry named.batches (λ name h. sym (product_where_opened entries name) ∙ ap is_some (act.new_batch name h));
+      products = apart_said product_named entries entry named.products (λ name h. sym (nominal_where_put entries name) ∙ ap is_some (act.new_product name h));
+      batches = apart_said batch_opened entries entry named.batches (λ name h. sym (product_where_opened entries name) ∙ ap is_some (act.new_batch name h));
       product = product_more entries entry act named;
       state = state_more entries entry act named;
       on_lane = on_lane_more entries entry act named;
       off_lanes = off_lanes_more entries entry act named;
     }
 
-named_from : (before after : List Entry) → IsLegal (before ++ after) → AreNamed before → AreNamed (before ++ after)
-named_from before [] legal named = subst AreNamed (sym (append-nil before)) named
-named_from before (e ∷ es) legal named =
-    let whole : (before ++ e ∷ []) ++ es ≡ before ++ e ∷ es = append_assoc before (e ∷ []) es in
-    subst AreNamed whole
-    (named_from (before ++ e ∷ []) es (subst IsLegal (sym whole) legal) (named_more before e (lawful_named before e (legal before e es refl)) named))
-
 -- every legal list says of names what it should
 pub legal_named : (entries : List Entry) → IsLegal entries → AreNamed entries
-legal_named entries legal =
-    named_from [] entries legal
+legal_named =
+    legal_steps AreNamed
     (record {
-      products = λ place name h. absurd (none_is_no h);
-      batches = λ place name h. absurd (none_is_no h);
-      product = λ batch product h. absurd (none_is_no h);
+      products = λ place name h. absurd (none-some _ h);
+      batches = λ place name h. absurd (none-some _ h);
+      product = λ batch product h. absurd (none-some _ h);
       state = λ batch. refl;
-      on_lane = λ lane batch h. absurd (none_is_no h);
+      on_lane = λ lane batch h. absurd (none-some _ h);
       off_lanes = λ lane h. refl;
     })
+    (λ before entry legal lawful named. named_more before entry (lawful_named before entry lawful) named)
 
 -- of a list whose names are in order, a batch whose product is known has its number
 pub product_numbered : (entries : List Entry) → AreNamed entries → (batch : Name) → is_some (batch_product_number entries batch) ≡ is_some (product_of entries batch)

@@ -1,10 +1,9 @@
 pub mod SameNames
 pub mod Places
-pub mod SaidNames
 pub mod LookUps
 pub mod LegalNames
-pub mod Stepping
-pub mod Numbered
-pub mod Stored
+pub mod EntrySteps
+pub mod FirstNumbers
+pub mod MapLemmas
 pub mod LaneLemmas
-pub mod Counting
+pub mod StateCounts

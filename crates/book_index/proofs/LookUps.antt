@@ -14,7 +14,7 @@ use Rattle.book_index.specs.Known.{Known, names_of}
 use Rattle.book_index.specs.Listed.{IsIndexOf, terms_of_product, terms_of_batch, batch_product_number}
 use Rattle.book_index.proofs.SameNames.{is_one}
 use Rattle.book_index.proofs.Places.{names_kept, found}
-use Rattle.book_index.proofs.SaidNames.{nominal_where_put, unit_where_put, product_where_opened, density_where_opened}
+use Rattle.book_words.proofs.SaidNames.{nominal_where_put, unit_where_put, product_where_opened, density_where_opened}
 
 -- what is kept with a name is what is said of it, where it is kept just where something is said
 pub kept_is_said : {A B C : Type 0} (o : Option C) (f : A → B) (x : A) (said : Option B) (other : B) → is_some o ≡ is_some said → f x ≡ unwrap_or said other → option_map f (option_map (λ _. x) o) ≡ said

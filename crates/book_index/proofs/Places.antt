@@ -1,5 +1,5 @@
 -- The places of names in a list, and what is kept with them.
-use Rattle.std.proofs.Common.{◌≡◌, ℕ, suc, ◌+◌, Bool, true, false, ◌||◌, cond, List, [], ◌∷◌, length, map, position, nat_lt, Option, Some, None, is_some, option_map, refl, ◌∙◌, ap, arith}
+use Rattle.std.proofs.Common.{◌≡◌, ℕ, suc, ◌+◌, Bool, true, false, cond, List, [], ◌∷◌, length, map, position, nat_lt, Option, Some, None, option_map, refl, ◌∙◌, ap, arith}
 use Rattle.std.proofs.lemmas.Bool.Decides.{nat_tests}
 use Rattle.std.specs.List.{position_or_len}
 use Rattle.std.specs.Map.{lookup}
@@ -8,7 +8,8 @@ use Rattle.book_words.specs.Names.{same_name}
 use Rattle.book_words.specs.Order.{place_of}
 use Rattle.book_words.proofs.NameLemmas.{same_name_is}
 use Rattle.book_index.specs.Known.{names_of}
-use Rattle.book_index.proofs.SameNames.{is_one, one_is_same, same_name_swap, bool_same}
+use Rattle.book_index.proofs.SameNames.{is_one, one_is_same, same_name_swap}
+use Rattle.book_words.proofs.PlainLemmas.{bool_same}
 
 both_less : (n m : ℕ) → nat_lt (n + 1) (m + 1) ≡ nat_lt n m
 both_less n m = bool_same (nat_lt (n + 1) (m + 1)) (nat_lt n m) (λ h. grind (arith, nat_tests)) (λ h. grind (arith, nat_tests))
@@ -62,12 +63,3 @@ found {A} f name (first ∷ names) = ap (λ b. cond b (Some (f first)) (lookup (
         again : (o : Option ℕ) → option_map (λ _. f name) o ≡ option_map (λ _. f name) (option_map (λ place. place + 1) o)
         again None = refl
         again (Some place) = refl
-
--- whether a name is among those behind a first one
-pub place_is_some : (first : Name) (names : List Name) (name : Name) → is_some (place_of (first ∷ names) name) ≡ same_name first name || is_some (place_of names name)
-place_is_some first names name = either (same_name first name) (place_of names name)
-  where
-    either : (b : Bool) (o : Option ℕ) → is_some (cond b (Some 0) (option_map (λ place. place + 1) o)) ≡ b || is_some o
-    either true o = refl
-    either false None = refl
-    either false (Some place) = refl

@@ -1,28 +1,17 @@
 -- Names that the index's maps take for one are the same.
-use Rattle.std.proofs.Common.{◌≡◌, Bool, true, false, ◌==◌, take, refl, sym, ◌∙◌, ap, subst}
+use Rattle.std.proofs.Common.{◌≡◌, Bool, true, ◌==◌, take, refl, ◌∙◌, ap, subst}
 use Rattle.std.proofs.lemmas.Bool.{and_parts, and_from, eqb-true, eq-eqb}
 use Rattle.std.proofs.lemmas.Slice.Eq.{bytes_eq-Decides}
 use Rattle.std.specs.Str.{bytes_eq}
 use Rattle.book_words.specs.declared.name.Name.{Name}
 use Rattle.book_words.specs.Names.{bytes_of, same_name}
 use Rattle.book_words.specs.contracts.name.NamePartialEq.TheImpl as derived
+use Rattle.book_words.proofs.PlainLemmas.{bool_same}
 use Rattle.book_words.proofs.NameLemmas.{same_name_is, same_name_itself}
 
 -- whether two names are one, as the maps ask it
 abbrev pub is_one : Name → Name → Bool
 is_one a b = derived.eq-value.it a b
-
--- of two tests each holds where the other does
-pub bool_same : (a b : Bool) → (a ≡ true → b ≡ true) → (b ≡ true → a ≡ true) → a ≡ b
-bool_same true true f g = refl
-bool_same false false f g = refl
-bool_same true false f g = sym (f refl)
-bool_same false true f g = g refl
-
--- what holds where a test does and where it doesn't
-pub in_both : {P : Type 0} (test : Bool) → (test ≡ true → P) → (test ≡ false → P) → P
-in_both true f g = f refl
-in_both false f g = g refl
 
 one_then_same : (a b : Name) → is_one a b ≡ true → same_name a b ≡ true
 one_then_same a b h =

@@ -149,7 +149,7 @@ impl Index {
     }
 
     /// The number of the batch that a lane has. No name is looked for.
-    pub fn lane_number(&self, lane: u8) -> Option<u32>
+    pub fn lane_batch_number(&self, lane: u8) -> Option<u32>
         ensures { (entries : List Entry) → IsIndexOf entries self.now → IsLegal entries
             → result ≡ lane_batch_number entries lane }
     {
@@ -162,7 +162,7 @@ impl Index {
             → option_map (λ terms. terms.product) result
             ≡ option_and_then (batch_product_number entries) (lane_batch entries lane) }
     {
-        let number = self.lane_number(lane)?;
+        let number = self.lane_batch_number(lane)?;
         let (_, terms) = self.batches.get_index(number as usize)?;
         Some(*terms)
     }

@@ -13,7 +13,7 @@ use Rattle.book_journal.specs.declared.blocks.TheConstants.{CALL_BLOCKS, BLOCKS_
 use Rattle.book_journal.specs.Rows.{gate_behind}
 use Rattle.book_journal.specs.Journal.{HasGate}
 use Rattle.book_journal.specs.Laying.{KeptBefore, WritesBehind, all_done}
-use Rattle.book_journal.proofs.Overwritten.{overwritten_on}
+use Rattle.book_journal.proofs.ByteWrites.{overwritten_on}
 use Rattle.book_journal.proofs.Moments.{elapses_in, elapses_on}
 use Rattle.book_journal.proofs.Results.{ok_at_err, ok_in}
 

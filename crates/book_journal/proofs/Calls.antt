@@ -14,9 +14,9 @@ use Rattle.book_journal.specs.Appending.{cleared, KeepsRows}
 use Rattle.book_journal.specs.Laying.{WritesBehind}
 use Rattle.book_journal.specs.Marking.{AreMarked}
 use Rattle.book_journal.proofs.Journals.{true_or_false, stands_at, image_keeps}
-use Rattle.book_journal.proofs.Standing.{first_stands, first_rows, first_moments, staged_stands, staged_row, gate_stands, gate_rows, gate_row, gate_moments, closed_gate_stands, open_gate_rows, open_gate_stands}
+use Rattle.book_journal.proofs.JournalSteps.{first_stands, first_rows, first_moments, staged_stands, staged_row, gate_stands, gate_rows, gate_row, gate_moments, closed_gate_stands, open_gate_rows, open_gate_stands}
 use Rattle.book_journal.proofs.Signs.{sign_stands, sign_rows, sign_moments, sign_is, unmarked_stands, laid_stands, laid_rows, laid_moments, markable_stands}
-use Rattle.book_journal.proofs.Overwritten.{overwritten_again, overwritten_apart, overwritten_size}
+use Rattle.book_journal.proofs.ByteWrites.{overwritten_again, overwritten_apart, overwritten_size}
 use Rattle.book_journal.proofs.Moments.{started, leaves_in, leaves_on}
 use Rattle.book_journal.proofs.Results.{ok_in}
 

@@ -15,11 +15,11 @@ use Rattle.book_journal.specs.Journal.{HasGate, StandsAs, IsClosedAs, MarkedAs, 
 use Rattle.book_journal.specs.Mounting.{new_journal, IsSnapshotOf, rows_before, slots_behind, stands_closed, closed_behind, IsMounted}
 use Rattle.book_journal.proofs.OpenRows.{rows_fit, open_rows-none, padded}
 use Rattle.book_journal.proofs.OpenEnds.{rows_counted, first_within, journal_of, journal_rows, journal_fits, journal_ends, rows_are_counted, short_none, no_snapshot_cut, cut_unless, closed_is}
-use Rattle.book_journal.proofs.Ending.{closed_written}
+use Rattle.book_journal.proofs.EndGates.{closed_written}
 use Rattle.book_journal.proofs.Journals.{stands_at}
 use Rattle.book_journal.proofs.Gates.{header_same, rows_kept}
-use Rattle.book_journal.proofs.Standing.{closed_stands}
-use Rattle.book_journal.proofs.Overwritten.{written_at, kept_below, overwritten_size}
+use Rattle.book_journal.proofs.JournalSteps.{closed_stands}
+use Rattle.book_journal.proofs.ByteWrites.{written_at, kept_below, overwritten_size}
 
 -- the front as it was read
 pub front_read : (b front : List ℕ) (got : ℕ) → length front ≡ ROW_BYTES → ROW_BYTES ≤ length b → got ≡ min (length front) (length b - 0) → take got front ≡ take got (drop 0 b) → (k : ℕ) → k < ROW_BYTES → get_or front k 0 ≡ get_or b k 0

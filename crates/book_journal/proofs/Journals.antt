@@ -12,7 +12,7 @@ use Rattle.book_journal.specs.Journal.{StandsAs, HasGate, HasRows, RecoversOrHan
 use Rattle.book_journal.specs.Appending.{TouchesSlot}
 use Rattle.book_journal.specs.declared.journal.Journal.{Journal}
 use Rattle.book_journal.proofs.Gates.{recovers_closed, mark_agrees}
-use Rattle.book_journal.proofs.Standing.{either_now}
+use Rattle.book_journal.proofs.JournalSteps.{either_now}
 
 -- a disk that tells now has told before
 pub told_before : (old new : Option (List ℕ)) (now : List ℕ) → TellsAsBefore old new → new ≡ Some now → (b : List ℕ) × (old ≡ Some b)

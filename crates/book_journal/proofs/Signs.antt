@@ -17,8 +17,8 @@ use Rattle.book_journal.specs.Settles.{TornFrom, Settles}
 use Rattle.book_journal.specs.Laying.{KeptBefore, WritesBehind}
 use Rattle.book_journal.specs.Marking.{behind_closed_gate, with_snapshot, HoldsSnapshot}
 use Rattle.book_journal.proofs.Gates.{rows_kept, recovers_closed, torn_mark, no_mark}
-use Rattle.book_journal.proofs.Overwritten.{written_at, kept_below, kept_above, overwritten_end, overwritten_size}
-use Rattle.book_journal.proofs.Standing.{closed_stands}
+use Rattle.book_journal.proofs.ByteWrites.{written_at, kept_below, kept_above, overwritten_end, overwritten_size}
+use Rattle.book_journal.proofs.JournalSteps.{closed_stands}
 use Rattle.book_journal.proofs.Moments.{started, goes_on}
 
 -- what stands from a place on, where all from there on is the same

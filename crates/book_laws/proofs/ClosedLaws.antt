@@ -20,12 +20,13 @@ use Rattle.book_words.specs.Measures.{measured_by, measured_of}
 use Rattle.book_words.specs.Refusals as rules
 use Rattle.book_words.specs.Refusals.{same_tare, changes_tare, is_closed, is_frozen}
 use Rattle.book_words.proofs.NameLemmas.{same_name_itself}
-use Rattle.book_words.proofs.RefusalLemmas.{none_of_two}
 use Rattle.book_words.proofs.OneMoreEntry.{advance, own_reading, readings-push}
-use Rattle.book_laws.proofs.TareLaws.{started_for_it}
-use Rattle.book_laws.proofs.KnownLaws.{IsAllowed, apart, is_there, silent, state_apart}
+use Rattle.book_words.proofs.SaidTogether.{started_for_it}
+use Rattle.book_laws.proofs.KnownLaws.{apart, silent, state_apart}
+use Rattle.book_words.proofs.AllowedActs.{IsAllowed, void_tells, measure_tells, weigh_tells}
 use Rattle.book_laws.proofs.LaneLaws.{IsOfLane, AreLanesRight}
 use Rattle.book_laws.proofs.PackLaws.{IsFound, IsPackOf, numbered, batch_is}
+use Rattle.std.proofs.Math.Bool.{or-false}
 
 -- ---- a pack of a closed batch isn't taken back and isn't measured
 
@@ -45,9 +46,7 @@ void_apart entries (Void pack) batch reading h closed found of_batch = each (cas
   where
     each : ((pack == reading.number) ≡ true) ⊎ ((pack == reading.number) ≡ false) → (pack == reading.number) ≡ false
     each (inl t) =
-        let a = none_of_two (rules.day_unset entries) _ h in
-        let b = none_of_two (rules.pack_state (Running ∷ Ended ∷ []) entries pack) _ a.1 in
-        absurd (state_refused entries (Running ∷ Ended ∷ []) pack batch Closed reading b.0 (ap (reading_of entries) (eqb-true pack reading.number t) ∙ found) of_batch closed refl)
+        absurd (state_refused entries (Running ∷ Ended ∷ []) pack batch Closed reading (void_tells entries pack h).state (ap (reading_of entries) (eqb-true pack reading.number t) ∙ found) of_batch closed refl)
     each (inr f) = f
 void_apart entries act batch reading h closed found of_batch = refl
 
@@ -57,9 +56,7 @@ measured_none entries (Measure number gross empty) batch pack reading h closed f
   where
     each : ((number == pack) ≡ true) ⊎ ((number == pack) ≡ false) → measured_by pack (Measure number gross empty) ≡ None
     each (inl t) =
-        let a = none_of_two (rules.day_unset entries) _ h in
-        let b = none_of_two (rules.pack_state (Drawn ∷ []) entries number) _ a.1 in
-        absurd (state_refused entries (Drawn ∷ []) number batch Closed reading b.0 (ap (reading_of entries) (eqb-true number pack t) ∙ found) of_batch closed refl)
+        absurd (state_refused entries (Drawn ∷ []) number batch Closed reading (measure_tells entries number gross empty h).state (ap (reading_of entries) (eqb-true number pack t) ∙ found) of_batch closed refl)
     each (inr f) = ap (λ b. cond b (Some (record { gross = gross; empty = empty })) None) f
 measured_none entries act batch pack reading h closed found of_batch = refl
 
@@ -75,12 +72,8 @@ unmoved : (entries : List Entry) (act : Act) (batch : Name) → AreLanesRight en
     → (reading : Reading) → IsOfLane entries reading → IsFound entries reading → reading.batch ≡ Some batch → advance act reading ≡ reading
 unmoved entries act batch right h closed reading of_lane found of_batch =
     ap (λ o. record reading { next_prior = o; voided = reading.voided || is_void_of reading.number act }) (next reading.next_prior refl)
-    ∙ ap (λ b. record reading { voided = b }) (ap (λ b. reading.voided || b) (void_apart entries act batch reading h closed found of_batch) ∙ or_false reading.voided)
+    ∙ ap (λ b. record reading { voided = b }) (ap (λ b. reading.voided || b) (void_apart entries act batch reading h closed found of_batch) ∙ or-false reading.voided)
   where
-    or_false : (b : Bool) → (b || false) ≡ b
-    or_false true = refl
-    or_false false = refl
-
     next : (o : Option Prior) → reading.next_prior ≡ o → option_or o (prior_told reading.lane act) ≡ o
     next (Some prior) is = refl
     next None is = absurd (let wrong : Some Running ≡ Some Closed = sym (right.lanes reading.lane batch (of_lane batch of_batch is)).state ∙ closed in cc)
@@ -98,10 +91,7 @@ all_unmoved entries act batch right h closed k d less of_batch =
 own_apart : (entries : List Entry) (entry : Entry) (act : Act) (batch : Name) → AreLanesRight entries → IsAllowed entries act → state_of entries batch ≡ Some Closed
     → All (λ reading. is_of_batch batch reading ≡ false) (cons_option (weighed_reading (length entries + 1) entries act entry.signal []) [])
 own_apart entries entry (Weigh lane gross prior) batch right h closed =
-    let a = none_of_two (rules.day_unset entries) _ h in
-    let b = none_of_two (rules.lane_number lane) _ a.1 in
-    let c = none_of_two (rules.lane_idle entries lane) _ b.1 in
-    All-cons (λ (r : Reading). is_of_batch batch r ≡ false) _ [] (other (lane_batch entries lane) refl (is_there (lane_batch entries lane) _ c.0)) (All-nil (λ (r : Reading). is_of_batch batch r ≡ false))
+    All-cons (λ (r : Reading). is_of_batch batch r ≡ false) _ [] (other (lane_batch entries lane) refl (weigh_tells entries lane gross prior h).runs) (All-nil (λ (r : Reading). is_of_batch batch r ≡ false))
   where
     other : (o : Option Name) → lane_batch entries lane ≡ o → is_some o ≡ true → option_map_or (λ (name : Name). same_name name batch) (last_batch entries lane) false ≡ false
     other None on there = absurd (cc)

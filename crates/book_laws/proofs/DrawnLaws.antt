@@ -16,23 +16,24 @@ use Rattle.annex_tables.specs.declared.types.PlanRefusal.{PlanRefusal}
 use Rattle.annex_tables.specs.declared.types.PlanRefusal.TheVariants as small
 use Rattle.annex_tables.specs.Plans.{plan_of, keeping_plan, plan_of_destruction}
 use Rattle.pack_judge.specs.declared.types.Pile as piles
-use Rattle.pack_judge.specs.declared.types.Pile.TheVariants.{Passed, Rejected, Sampled, Voided}
+use Rattle.pack_judge.specs.declared.types.Pile.TheVariants.{Passed, Sampled}
 use Rattle.sample_draw.specs.Draws.{packs_left}
-use Rattle.sample_draw.proofs.Drawing.{AllPairs-from_ascending, AllPairs-drawn, AllPairs-packs_left, packs_left-enough, length-drawn}
+use Rattle.sample_draw.proofs.DrawLemmas.{AllPairs-from_ascending, AllPairs-drawn, AllPairs-packs_left, packs_left-enough, length-drawn}
 use Rattle.book_words.specs.declared.name.Name.{Name}
 use Rattle.book_words.specs.declared.act.Prior.{Prior}
 use Rattle.book_words.specs.declared.act.Prior.TheVariants.{Nothing, Opened, Stayed, Unknown}
 use Rattle.book_words.specs.declared.act.BatchState as states
 use Rattle.book_words.specs.declared.act.BatchState.TheVariants.{Running, Ended, Drawn, Closed}
 use Rattle.book_words.specs.declared.act.Act.{Act}
-use Rattle.book_words.specs.declared.act.Act.TheVariants.{NewDay, PutProduct, PutTare, OpenBatch, StartLane, Weigh, StopLane, Void, EndRun, Draw, Measure, DrawSecond, Close}
+use Rattle.book_words.specs.declared.act.Act.TheVariants.{Void, Draw, Measure, DrawSecond, Close}
 use Rattle.book_words.specs.declared.act.Entry.{Entry}
 use Rattle.book_words.specs.declared.act.Reading.{Reading}
 use Rattle.book_words.specs.declared.refusal.Refusal.TheVariants as why
 use Rattle.book_words.specs.Names.{same_name}
 use Rattle.book_words.specs.Acts.{last_said, same_state, state_of}
 use Rattle.book_words.specs.Readings.{readings, reading_of, is_of_batch}
-use Rattle.book_words.specs.Population.{same_pile, is_unsettled, unsettled_reading, is_counted, population}
+use Rattle.book_words.specs.Population.{is_unsettled, unsettled_reading, is_counted, population}
+use Rattle.pack_judge.specs.Piles.{same_pile}
 use Rattle.book_words.specs.Samples.{Drawing, Sample, numbers_of, drawing_from, drawing_of, plan_of_drawing, first_picks, second_picks, second_word, sample_by, sample_of, is_among}
 use Rattle.book_words.specs.Piles.{pile_of}
 use Rattle.book_words.specs.Measures.{measured_of, first_unmeasured}
@@ -44,13 +45,17 @@ use Rattle.book_words.specs.Answers.{IsLawful, IsLegal}
 use Rattle.book_words.proofs.NameLemmas.{same_name_is, same_name_itself}
 use Rattle.book_words.proofs.RefusalLemmas.{not_refused}
 use Rattle.book_words.proofs.DrawnLemmas.{drawing_of-push, sample_of-push}
-use Rattle.book_laws.proofs.LawfulActs.{IsAllowed, allowed, allowed_act, not_test, is_absent, void_tells, draw_tells, measure_tells, draw_second_tells, close_tells}
-use Rattle.book_laws.proofs.ReadingLaws.{by_entries, IsOneOf, each_is_one, of_reading, numbers_increase}
-use Rattle.book_laws.proofs.BatchLaws.{orderly, is_fixed, draw_state, draw_second_state, close_state}
+use Rattle.book_words.proofs.AllowedActs.{IsAllowed, allowed, allowed_act, not_test, is_absent, void_tells, draw_tells, measure_tells, draw_second_tells, close_tells}
+use Rattle.book_laws.proofs.ReadingLaws.{IsOneOf, each_is_one, of_reading, numbers_increase}
+use Rattle.book_words.proofs.LegalLemmas.{legal_steps}
+use Rattle.book_laws.proofs.BatchLaws.{orderly, is_fixed, draw_state, draw_second_state, close_state, only_drawn}
 use Rattle.book_laws.proofs.UnsettledLaws.{Belongs, each_belongs}
-use Rattle.book_laws.proofs.PopulationLaws.{drawn_from_all, drawn_has}
+use Rattle.book_laws.proofs.PopulationLaws.{drawn_from_all}
 use Rattle.book_laws.proofs.MoveLaws.{sample_after}
 use Rattle.book_laws.proofs.SampleLaws.{first_among, second_among, plan_fits}
+use Rattle.book_words.proofs.DrawnOnce.{drawn_has_draw}
+use Rattle.book_words.proofs.PlainLemmas.{none_mapped, is_mapped}
+use Rattle.book_words.proofs.PileLemmas.{same_pile_is}
 
 -- ---- what is said of the gate
 
@@ -70,31 +75,6 @@ running_or_ended (Some Running) there h = inl refl
 running_or_ended (Some Ended) there h = inr refl
 running_or_ended (Some Drawn) there h = absurd (cc)
 running_or_ended (Some Closed) there h = absurd (cc)
-
-only_drawn : (o : Option states.BatchState) → is_some o ≡ true → option_and_then (λ (s : states.BatchState). refused_if (not (list_any (same_state s) (Drawn ∷ []))) (why.BatchState s)) o ≡ None → o ≡ Some Drawn
-only_drawn None there h = absurd (cc)
-only_drawn (Some Drawn) there h = refl
-only_drawn (Some Running) there h = absurd (cc)
-only_drawn (Some Ended) there h = absurd (cc)
-only_drawn (Some Closed) there h = absurd (cc)
-
-same_pile_is : (a b : piles.Pile) → same_pile a b ≡ true → a ≡ b
-same_pile_is Passed Passed h = refl
-same_pile_is Rejected Rejected h = refl
-same_pile_is Sampled Sampled h = refl
-same_pile_is Voided Voided h = refl
-same_pile_is Passed Rejected h = absurd (cc)
-same_pile_is Passed Sampled h = absurd (cc)
-same_pile_is Passed Voided h = absurd (cc)
-same_pile_is Rejected Passed h = absurd (cc)
-same_pile_is Rejected Sampled h = absurd (cc)
-same_pile_is Rejected Voided h = absurd (cc)
-same_pile_is Sampled Passed h = absurd (cc)
-same_pile_is Sampled Rejected h = absurd (cc)
-same_pile_is Sampled Voided h = absurd (cc)
-same_pile_is Voided Passed h = absurd (cc)
-same_pile_is Voided Rejected h = absurd (cc)
-same_pile_is Voided Sampled h = absurd (cc)
 
 pile_is : (entries : List Entry) (pack : ℕ) (reading : Reading) (wanted : piles.Pile) → reading_of entries pack ≡ Some reading → rules.pack_pile wanted entries pack ≡ None → pile_of entries reading ≡ wanted
 pile_is entries pack reading wanted found h =
@@ -163,10 +143,6 @@ measures entries pack gross empty legal h = each (reading_of entries pack) refl 
 
 -- ---- what is said of the samples
 
-no_pack : (o : Option ℕ) → option_map (λ pack. why.Unmeasured pack) o ≡ None → o ≡ None
-no_pack None h = refl
-no_pack (Some x) h = absurd (cc)
-
 no_word : {A : Type 0} (f : ℕ → A) (o : Option ℕ) → is_some (option_map f o) ≡ false → o ≡ None
 no_word f None h = refl
 no_word f (Some x) h = absurd (cc)
@@ -187,7 +163,7 @@ pub record DrawsSecond (entries : List Entry) (batch : Name) : Type 0 where
 
 -- so each lawful second draw
 pub draws_second : (entries : List Entry) (batch : Name) (word : ℕ) → IsLegal entries → IsAllowed entries (DrawSecond batch word) → DrawsSecond entries batch
-draws_second entries batch word legal h = each (drawing_of entries batch) refl (drawn_has entries batch legal (draw_second_state entries batch word (orderly entries legal) h))
+draws_second entries batch word legal h = each (drawing_of entries batch) refl (drawn_has_draw entries legal batch (draw_second_state entries batch word (orderly entries legal) h))
   where
     each : (o : Option Drawing) → drawing_of entries batch ≡ o → is_some o ≡ true → DrawsSecond entries batch
     each None is there = absurd (cc)
@@ -202,7 +178,7 @@ draws_second entries batch word legal h = each (drawing_of entries batch) refl (
         let firsts = or_parts (sample.plan.second == 0) (is_some sample.second) parts.0 in
         let none : last_said (second_word batch) entries ≡ None = no_word (second_picks drawing) (last_said (second_word batch) entries) firsts.1 in
         let all : first_unmeasured entries (first_picks drawing) ≡ None =
-        no_pack (first_unmeasured entries (first_picks drawing))
+        none_mapped (λ pack. why.Unmeasured pack) (first_unmeasured entries (first_picks drawing))
         (sym (ap (option_and_then (λ (s : Sample). option_map (λ pack. why.Unmeasured pack) (first_unmeasured entries s.first))) has) ∙ tells.measured) in
         record {
           drawing = drawing;
@@ -223,10 +199,6 @@ pub record Closes (entries : List Entry) (batch : Name) : Type 0 where
   pub measured : (sample : Sample) → sample_of entries batch ≡ Some sample → first_unmeasured entries (rules.needed_packs entries batch sample) ≡ None
   pub whole : (sample : Sample) → sample_of entries batch ≡ Some sample → rules.is_second_needed entries batch sample ≡ false
 
-mapped_some : {A B : Type 0} (f : A → B) (o : Option A) → is_some o ≡ true → is_some (option_map f o) ≡ true
-mapped_some f None h = absurd (cc)
-mapped_some f (Some x) h = refl
-
 no_readings : (some : List Reading) → nat_lt 0 (length some) ≡ false → some ≡ []
 no_readings [] k = refl
 no_readings (r ∷ rs) k = absurd (omega (arith, ltb-false 0 (length (r ∷ rs)) k))
@@ -239,10 +211,10 @@ closes entries batch legal h =
       drawn =
           elim (close_state entries batch (orderly entries legal) h) [
             | inl ended ↦ inl (no_readings (population entries batch) (sym (ap (λ (o : Option states.BatchState). rules.is_ended o && nat_lt 0 (length (population entries batch))) ended) ∙ (close_tells entries batch h).drawn))
-            | inr drawn ↦ inr (mapped_some (λ (d : Drawing). sample_by d (last_said (second_word batch) entries)) (drawing_of entries batch) (drawn_has entries batch legal drawn))
+            | inr drawn ↦ inr (is_mapped (λ (d : Drawing). sample_by d (last_said (second_word batch) entries)) (drawing_of entries batch) ∙ drawn_has_draw entries legal batch drawn)
           ];
       measured = λ sample is.
-          no_pack (first_unmeasured entries (rules.needed_packs entries batch sample))
+          none_mapped (λ pack. why.Unmeasured pack) (first_unmeasured entries (rules.needed_packs entries batch sample))
           (sym (ap (option_and_then (λ (s : Sample). option_map (λ pack. why.Unmeasured pack) (first_unmeasured entries (rules.needed_packs entries batch s)))) is) ∙ (close_tells entries batch h).measured);
       whole = λ sample is.
           not_test (rules.is_second_needed entries batch sample) (why.SecondNeeded (first_defective entries batch sample))
@@ -370,18 +342,7 @@ plan_now entries (Draw name mode word) batch drawing h is = either (same_name na
     either : (b : Bool) → same_name name batch ≡ b → cond {A = Option Drawing} b (Some (record { mode = mode; word = word; packs = numbers_of (population entries batch) })) None ≡ Some drawing → HasPlan drawing
     either true same k = subst HasPlan (same_Some _ _ k) (plan batch (subst (λ (n : Name). is_ok (plan_of (length (population entries n)) mode) ≡ true) (same_name_is name batch same) (draw_has_plan entries name mode word h)))
     either false same k = absurd (cc)
-plan_now entries (NewDay day) batch drawing h is = absurd (cc)
-plan_now entries (PutProduct name nominal unit) batch drawing h is = absurd (cc)
-plan_now entries (PutTare product day tare) batch drawing h is = absurd (cc)
-plan_now entries (OpenBatch name product density) batch drawing h is = absurd (cc)
-plan_now entries (StartLane lane name) batch drawing h is = absurd (cc)
-plan_now entries (Weigh lane gross prior) batch drawing h is = absurd (cc)
-plan_now entries (StopLane lane prior) batch drawing h is = absurd (cc)
-plan_now entries (Void pack) batch drawing h is = absurd (cc)
-plan_now entries (EndRun name) batch drawing h is = absurd (cc)
-plan_now entries (Measure pack gross empty) batch drawing h is = absurd (cc)
-plan_now entries (DrawSecond name word) batch drawing h is = absurd (cc)
-plan_now entries (Close name) batch drawing h is = absurd (cc)
+plan_now entries act batch drawing h is = absurd (cc)
 
 some_of_two : {A : Type 0} (o p : Option A) (x : A) → option_or o p ≡ Some x → (o ≡ Some x) ⊎ (p ≡ Some x)
 some_of_two None p x h = inr h
@@ -390,7 +351,7 @@ some_of_two (Some y) p x h = inl h
 -- each draw of a legal list has a plan
 pub drawing_has_plan : (entries : List Entry) (batch : Name) (drawing : Drawing) → IsLegal entries → drawing_of entries batch ≡ Some drawing → is_ok (plan_of (length drawing.packs) drawing.mode) ≡ true
 drawing_has_plan entries batch drawing legal =
-    by_entries (λ (es : List Entry). (b : Name) (d : Drawing) → drawing_of es b ≡ Some d → HasPlan d) (λ b d is. absurd (cc))
+    legal_steps (λ (es : List Entry). (b : Name) (d : Drawing) → drawing_of es b ≡ Some d → HasPlan d) (λ b d is. absurd (cc))
     (λ es e _ lawful all b d is.
     elim (some_of_two (drawing_from b es e.act) (drawing_of es b) d (sym (drawing_of-push es e b) ∙ is)) [
       | inl now ↦ plan_now es e.act b d (allowed es e lawful) now
@@ -411,17 +372,7 @@ undrawn_sample entries (Draw name mode word) batch h =
     ap (λ b. option_map (λ (d : Drawing). sample_by d (last_said (second_word batch) entries)) (option_or (cond b (Some (record { mode = mode; word = word; packs = numbers_of (population entries batch) })) None) (drawing_of entries batch))) h
 undrawn_sample entries (DrawSecond name word) batch h =
     ap (λ b. option_map (λ (d : Drawing). sample_by d (option_or (cond b (Some word) None) (last_said (second_word batch) entries))) (drawing_of entries batch)) h
-undrawn_sample entries (NewDay day) batch h = refl
-undrawn_sample entries (PutProduct name nominal unit) batch h = refl
-undrawn_sample entries (PutTare product day tare) batch h = refl
-undrawn_sample entries (OpenBatch name product density) batch h = refl
-undrawn_sample entries (StartLane lane name) batch h = refl
-undrawn_sample entries (Weigh lane gross prior) batch h = refl
-undrawn_sample entries (StopLane lane prior) batch h = refl
-undrawn_sample entries (Void pack) batch h = refl
-undrawn_sample entries (EndRun name) batch h = refl
-undrawn_sample entries (Measure pack gross empty) batch h = refl
-undrawn_sample entries (Close name) batch h = refl
+undrawn_sample entries act batch h = refl
 
 -- an act that draws none of a batch leaves its samples
 pub sample_stays : (entries : List Entry) (entry : Entry) (batch : Name) → is_draw_of batch entry.act ≡ false → sample_of (entries ++ entry ∷ []) batch ≡ sample_of entries batch

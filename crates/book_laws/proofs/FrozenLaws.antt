@@ -1,5 +1,5 @@
 -- The tare of each reading of a closed batch stays.
-use Rattle.std.proofs.Common.{◌≡◌, ℤ, Bool, true, false, not, ◌&&◌, cond, List, [], ◌∷◌, ◌++◌, get_or, filter, inl, inr, ◌⊎◌, Option, Some, None, is_some, option_map, refl, sym, ◌∙◌, ap, arith, append-nil}
+use Rattle.std.proofs.Common.{◌≡◌, ℤ, Bool, true, false, not, ◌&&◌, cond, List, [], ◌∷◌, ◌++◌, get_or, filter, inl, inr, ◌⊎◌, Option, Some, None, is_some, refl, sym, ◌∙◌, ap, arith, append-nil}
 use Rattle.std.proofs.lemmas.Bool.{cases_Bool, or_parts}
 use Rattle.std.proofs.lemmas.Int.{ints}
 use Rattle.std.proofs.lemmas.List.Elements.{All-nil, All-cons, All-head, All-tail, filter_map-append}
@@ -13,7 +13,6 @@ use Rattle.book_words.specs.declared.act.Act.{Act}
 use Rattle.book_words.specs.declared.act.Act.TheVariants.{PutTare, OpenBatch}
 use Rattle.book_words.specs.declared.act.Entry.{Entry}
 use Rattle.book_words.specs.declared.act.Reading.{Reading}
-use Rattle.book_words.specs.declared.refusal.Refusal.TheVariants as why
 use Rattle.book_words.specs.Names.{same_name}
 use Rattle.book_words.specs.Acts.{said, batch_opened, product_given, product_of, state_of}
 use Rattle.book_words.specs.Tares.{tare_put, tares_put, tare_of_product}
@@ -25,8 +24,8 @@ use Rattle.book_words.specs.Refusals as rules
 use Rattle.book_words.specs.Refusals.{same_tare, changes_tare, is_closed, is_frozen}
 use Rattle.book_words.proofs.LastSaid.{last_said-push}
 use Rattle.book_words.proofs.NameLemmas.{same_name_is}
-use Rattle.book_words.proofs.RefusalLemmas.{none_of_two}
-use Rattle.book_laws.proofs.KnownLaws.{IsAllowed, product_of_stays}
+use Rattle.book_laws.proofs.KnownLaws.{product_of_stays}
+use Rattle.book_words.proofs.AllowedActs.{IsAllowed, put_tare_tells}
 use Rattle.book_laws.proofs.PackLaws.{batch_is}
 
 -- ---- what no batch is, a batch that is there isn't
@@ -127,18 +126,9 @@ frozen : (entries : List Entry) (product : Name) (day tare : ℤ) (batch : Name)
     → list_any (changes_tare entries (PutTare product day tare)) (readings_of_batch entries batch) ≡ false
 frozen entries product day tare batch h known closed =
     let act = PutTare product day tare in
-    let a = none_of_two (rules.day_unset entries) _ h in
-    let b = none_of_two (rules.product_unknown entries product) _ a.1 in
-    let c = none_of_two (rules.day_range day) _ b.1 in
-    let d = none_of_two (rules.tare_range tare) _ c.1 in
-    let e = none_of_two (rules.tare_frozen entries act) None d.1 in
-    let free : find (is_frozen entries act) (said batch_opened entries) ≡ None = not_mapped (λ n. why.TareFrozen n) (find (is_frozen entries act) (said batch_opened entries)) e.0 in
+    let free = (put_tare_tells entries product day tare h).thawed in
     let other : is_frozen entries act batch ≡ false = none_opened (is_frozen entries act) entries batch free known in
     sym (ap (λ b. b && list_any (changes_tare entries act) (readings_of_batch entries batch)) (ap is_closed closed)) ∙ other
-  where
-    not_mapped : {A B : Type 0} (f : A → B) (o : Option A) → option_map f o ≡ None → o ≡ None
-    not_mapped f None h = refl
-    not_mapped f (Some x) h = absurd (cc)
 
 tares_stay : (entries : List Entry) (entry : Entry) (act : Act) (batch : Name) → entry.act ≡ act → IsAllowed entries entry.act → is_some (product_of entries batch) ≡ true → state_of entries batch ≡ Some Closed
     → All (TareStays entries entry batch) (readings entries)

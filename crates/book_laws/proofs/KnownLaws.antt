@@ -1,7 +1,7 @@
 -- What a lawful entry leaves as it is of the products and batches that are there.
-use Rattle.std.proofs.Common.{◌≡◌, ℕ, ℤ, pos, Bool, true, false, not, cond, List, [], ◌∷◌, ◌++◌, inl, inr, ◌⊎◌, Option, Some, None, is_some, is_none, refl, sym, ◌∙◌, ap, subst, append_assoc, append-nil}
+use Rattle.std.proofs.Common.{◌≡◌, ℕ, ℤ, pos, Bool, true, false, not, cond, List, [], ◌∷◌, ◌++◌, inl, inr, ◌⊎◌, Option, Some, None, is_some, refl, sym, ◌∙◌, ap}
 use Rattle.std.proofs.lemmas.Bool.{cases_Bool}
-use Rattle.std.specs.List.{list_any, last_or}
+use Rattle.std.specs.List.{list_any}
 use Rattle.std.specs.Option.{option_or, option_and_then, unwrap_or}
 use Rattle.annex_tables.specs.Errors.{limits_of}
 use Rattle.book_words.specs.declared.name.Name.{Name}
@@ -11,86 +11,15 @@ use Rattle.book_words.specs.declared.act.BatchState.TheVariants.{Running, Ended,
 use Rattle.book_words.specs.declared.act.Act.{Act}
 use Rattle.book_words.specs.declared.act.Act.TheVariants.{PutProduct, OpenBatch, EndRun, Draw, Close}
 use Rattle.book_words.specs.declared.act.Entry.{Entry}
-use Rattle.book_words.specs.declared.refusal.Refusal.{Refusal}
 use Rattle.book_words.specs.declared.refusal.Refusal.TheVariants as why
 use Rattle.book_words.specs.Names.{same_name}
-use Rattle.book_words.specs.Acts.{said, last_said, nominal_put, unit_put, product_given, density_given, state_set, nominal_of, unit_of, product_of, density_of, state_of, same_state}
+use Rattle.book_words.specs.Acts.{last_said, nominal_put, unit_put, product_given, density_given, state_set, nominal_of, unit_of, product_of, density_of, state_of, same_state}
 use Rattle.book_words.specs.Classes.{nominal_of_batch, limits_of_batch, density_by_unit, density_of_batch}
 use Rattle.book_words.specs.Refusals as rules
 use Rattle.book_words.specs.Refusals.{refused_if, first_refusal, refusals_of}
-use Rattle.book_words.specs.Answers.{ask_of, IsLawful, IsLegal}
-use Rattle.book_words.proofs.LastSaid.{last_or-cons, last_said-push}
+use Rattle.book_words.proofs.LastSaid.{last_said-push}
 use Rattle.book_words.proofs.NameLemmas.{same_name_is}
-use Rattle.book_words.proofs.RefusalLemmas.{none_of_two, act_rules}
-
--- no rule of its own refuses an act behind some entries
-abbrev pub IsAllowed : List Entry → Act → Type 0
-IsAllowed entries act = first_refusal (refusals_of entries act) ≡ None
-
--- what a lawful entry does is so
-pub lawful_allowed : (entries : List Entry) (entry : Entry) → IsLawful entries entry → IsAllowed entries entry.act
-lawful_allowed entries entry lawful = act_rules entries (ask_of entry) entry.act lawful.rules
-
-behind : (P : List Entry → Type 0) → ((entries : List Entry) (entry : Entry) → P entries → IsAllowed entries entry.act → P (entries ++ entry ∷ []))
-    → (before after : List Entry) → P before → IsLegal (before ++ after) → P (before ++ after)
-behind P step before [] holds legal = subst P (sym (append-nil before)) holds
-behind P step before (entry ∷ after) holds legal =
-    let whole : (before ++ entry ∷ []) ++ after ≡ before ++ entry ∷ after = append_assoc before (entry ∷ []) after in
-    subst P whole (behind P step (before ++ entry ∷ []) after (step before entry holds (lawful_allowed before entry (legal before entry after refl))) (subst IsLegal (sym whole) legal))
-
--- what each allowed act keeps holds of a legal list where it holds of its first entries
-pub kept_behind : (P : List Entry → Type 0) → ((entries : List Entry) (entry : Entry) → P entries → IsAllowed entries entry.act → P (entries ++ entry ∷ []))
-    → (before after : List Entry) → P before → IsLegal (before ++ after) → P (before ++ after)
-kept_behind P step before after holds legal = behind P step before after holds legal
-
--- ---- what is said of a name together with another thing
-
-more_said : {A B : Type 0} (f : Act → Option A) (g : Act → Option B) → ((act : Act) → is_some (f act) ≡ true → is_some (g act) ≡ true)
-    → (entries : List Entry) (o : Option A) (p : Option B) → (is_some o ≡ true → is_some p ≡ true)
-    → is_some (last_or o (said f entries)) ≡ true → is_some (last_or p (said g entries)) ≡ true
-more_said f g each [] o p before h = before h
-more_said {A} {B} f g each (e ∷ es) o p before h =
-    ap is_some (last_or-cons p (g e.act) (said g es))
-    ∙ more_said f g each es (option_or (f e.act) o) (option_or (g e.act) p) (joined (f e.act) (g e.act) (each e.act))
-    (sym (ap is_some (last_or-cons o (f e.act) (said f es))) ∙ h)
-  where
-    joined : (a : Option A) (b : Option B) → (is_some a ≡ true → is_some b ≡ true) → is_some (option_or a o) ≡ true → is_some (option_or b p) ≡ true
-    joined a (Some y) k t = refl
-    joined None None k t = before t
-    joined (Some x) None k t = absurd (let wrong : is_some {T = B} None ≡ true = k refl in cc)
-
--- where each act that says one thing says another too, the other is there where the one is
-pub said_too : {A B : Type 0} (f : Act → Option A) (g : Act → Option B) → ((act : Act) → is_some (f act) ≡ true → is_some (g act) ≡ true)
-    → (entries : List Entry) → is_some (last_said f entries) ≡ true → is_some (last_said g entries) ≡ true
-said_too f g each entries h = more_said f g each entries None None (λ k. k) h
-
-one_test : {A B : Type 0} (test : Bool) (x : A) (y : B) → is_some (cond test (Some x) None) ≡ true → is_some (cond test (Some y) None) ≡ true
-one_test true x y h = refl
-one_test false x y h = h
-
--- a product with a nominal quantity has a unit
-pub unit_known : (entries : List Entry) (product : Name) → is_some (nominal_of entries product) ≡ true → is_some (unit_of entries product) ≡ true
-unit_known entries product h = said_too (nominal_put product) (unit_put product) each entries h
-  where
-    each : (act : Act) → is_some (nominal_put product act) ≡ true → is_some (unit_put product act) ≡ true
-    each (PutProduct name nominal unit) k = one_test (same_name name product) nominal unit k
-    each act k = k
-
--- a batch with a product has a density
-pub density_known : (entries : List Entry) (batch : Name) → is_some (product_of entries batch) ≡ true → is_some (density_of entries batch) ≡ true
-density_known entries batch h = said_too (product_given batch) (density_given batch) each entries h
-  where
-    each : (act : Act) → is_some (product_given batch act) ≡ true → is_some (density_given batch act) ≡ true
-    each (OpenBatch name product density) k = one_test (same_name name batch) product density k
-    each act k = k
-
--- a batch with a product has a state
-pub state_known : (entries : List Entry) (batch : Name) → is_some (product_of entries batch) ≡ true → is_some (state_of entries batch) ≡ true
-state_known entries batch h = said_too (product_given batch) (state_set batch) each entries h
-  where
-    each : (act : Act) → is_some (product_given batch act) ≡ true → is_some (state_set batch act) ≡ true
-    each (OpenBatch name product density) k = one_test (same_name name batch) product Running k
-    each act k = absurd (cc)
+use Rattle.book_words.proofs.AllowedActs.{IsAllowed, put_product_tells, open_batch_tells, end_run_tells, draw_tells, close_tells}
 
 -- ---- names apart
 
@@ -102,16 +31,6 @@ apart holds name other f t = each (cases_Bool (same_name name other))
     each (inl same) = absurd (let wrong : true ≡ false = sym t ∙ sym (ap holds (same_name_is name other same)) ∙ f in cc)
     each (inr no_more) = no_more
 
--- what isn't refused where it is there isn't there
-pub not_there : {A : Type 0} (o : Option A) (refusal : Refusal) → refused_if (is_some o) refusal ≡ None → is_some o ≡ false
-not_there None refusal h = refl
-not_there (Some x) refusal h = absurd (cc)
-
--- what isn't refused where it isn't there is there
-pub is_there : {A : Type 0} (o : Option A) (refusal : Refusal) → refused_if (is_none o) refusal ≡ None → is_some o ≡ true
-is_there None refusal h = absurd (cc)
-is_there (Some x) refusal h = refl
-
 none_is_not_some : {A : Type 0} (o : Option A) → o ≡ None → is_some o ≡ false
 none_is_not_some o h = ap is_some h
 
@@ -119,19 +38,13 @@ none_is_not_some o h = ap is_some h
 pub put_apart : (entries : List Entry) (name product : Name) (nominal : ℤ) (unit : units.Unit) → IsAllowed entries (PutProduct name nominal unit)
     → is_some (nominal_of entries product) ≡ true → same_name name product ≡ false
 put_apart entries name product nominal unit h known =
-    let a = none_of_two (rules.day_unset entries) _ h in
-    let b = none_of_two (rules.product_known entries name) _ a.1 in
-    apart (λ n. is_some (nominal_of entries n)) name product (not_there (nominal_of entries name) _ b.0) known
+    apart (λ n. is_some (nominal_of entries n)) name product (ap is_some (put_product_tells entries name nominal unit h).new) known
 
 -- a batch that is opened wasn't there
 pub opened_apart : (entries : List Entry) (name batch product : Name) (density : ℕ) → IsAllowed entries (OpenBatch name product density)
     → is_some (product_of entries batch) ≡ true → same_name name batch ≡ false
 opened_apart entries name batch product density h known =
-    let a = none_of_two (rules.day_unset entries) _ h in
-    let b = none_of_two (rules.product_unknown entries product) _ a.1 in
-    let c = none_of_two (rules.name_shape name) _ b.1 in
-    let d = none_of_two (rules.batch_known entries name) _ c.1 in
-    apart (λ n. is_some (product_of entries n)) name batch (not_there (product_of entries name) _ d.0) known
+    apart (λ n. is_some (product_of entries n)) name batch (ap is_some (open_batch_tells entries name product density h).new) known
 
 -- ---- what stays
 
@@ -256,21 +169,9 @@ state_apart entries allowed name batch state free is others =
 
 -- a closed batch isn't moved to another state
 pub closed_is_last : (entries : List Entry) (act : Act) (batch : Name) → IsAllowed entries act → state_of entries batch ≡ Some Closed → moves_state batch act ≡ false
-closed_is_last entries (EndRun name) batch h closed =
-    let a = none_of_two (rules.day_unset entries) _ h in
-    let b = none_of_two (rules.batch_unknown entries name) _ a.1 in
-    let c = none_of_two (rules.batch_state (Running ∷ []) entries name) _ b.1 in
-    state_apart entries (Running ∷ []) name batch Closed c.0 closed refl
-closed_is_last entries (Draw name mode word) batch h closed =
-    let a = none_of_two (rules.day_unset entries) _ h in
-    let b = none_of_two (rules.batch_unknown entries name) _ a.1 in
-    let c = none_of_two (rules.batch_state (Ended ∷ []) entries name) _ b.1 in
-    state_apart entries (Ended ∷ []) name batch Closed c.0 closed refl
-closed_is_last entries (Close name) batch h closed =
-    let a = none_of_two (rules.day_unset entries) _ h in
-    let b = none_of_two (rules.batch_unknown entries name) _ a.1 in
-    let c = none_of_two (rules.batch_state (Ended ∷ Drawn ∷ []) entries name) _ b.1 in
-    state_apart entries (Ended ∷ Drawn ∷ []) name batch Closed c.0 closed refl
+closed_is_last entries (EndRun name) batch h closed = state_apart entries (Running ∷ []) name batch Closed (end_run_tells entries name h).state closed refl
+closed_is_last entries (Draw name mode word) batch h closed = state_apart entries (Ended ∷ []) name batch Closed (draw_tells entries name mode word h).state closed refl
+closed_is_last entries (Close name) batch h closed = state_apart entries (Ended ∷ Drawn ∷ []) name batch Closed (close_tells entries name h).state closed refl
 closed_is_last entries act batch h closed = refl
 
 -- a closed batch stays closed

@@ -1,6 +1,6 @@
 -- Lanes have only batches that run; and a reading that no act of its lane has followed is of the
 -- batch that the lane has.
-use Rattle.std.proofs.Common.{◌≡◌, ℕ, zero, suc, ◌+◌, ◌<◌, ◌≤◌, Bool, true, false, not, ◌&&◌, cond, ◌==◌, nat_le, List, [], ◌∷◌, ◌++◌, length, map, inl, inr, ◌⊎◌, Option, Some, None, is_some, option_map, refl, sym, ◌∙◌, ap, subst, arith}
+use Rattle.std.proofs.Common.{◌≡◌, ℕ, zero, suc, ◌+◌, ◌<◌, ◌≤◌, Bool, true, false, not, ◌&&◌, cond, ◌==◌, nat_le, List, [], ◌∷◌, ◌++◌, length, map, inl, inr, ◌⊎◌, Option, Some, None, is_some, refl, sym, ◌∙◌, ap, subst, arith}
 use Rattle.std.proofs.lemmas.Bool.{cases_Bool, cases_lt, and_parts, eqb-true}
 use Rattle.std.proofs.lemmas.Bool.Decides.{nat_tests}
 use Rattle.std.proofs.lemmas.List.Elements.{All-nil, All-cons, All-append, All-map, All-weaker}
@@ -12,22 +12,25 @@ use Rattle.book_words.specs.declared.act.Prior.{Prior}
 use Rattle.book_words.specs.declared.act.BatchState.{BatchState}
 use Rattle.book_words.specs.declared.act.BatchState.TheVariants.{Running, Ended, Drawn, Closed}
 use Rattle.book_words.specs.declared.act.Act.{Act}
-use Rattle.book_words.specs.declared.act.Act.TheVariants.{OpenBatch, StartLane, Weigh, StopLane, EndRun, Draw, Close}
+use Rattle.book_words.specs.declared.act.Act.TheVariants.{StartLane, Weigh, StopLane, EndRun, Draw, Close}
 use Rattle.book_words.specs.declared.act.Entry.{Entry}
 use Rattle.book_words.specs.declared.act.Reading.{Reading}
 use Rattle.book_words.specs.declared.refusal.Refusal.TheVariants as why
 use Rattle.book_words.specs.Names.{same_name}
-use Rattle.book_words.specs.Acts.{last_said, product_given, state_set, lane_used, prior_told, product_of, state_of, same_state, last_batch, lane_batch}
+use Rattle.book_words.specs.Acts.{last_said, state_set, lane_used, prior_told, product_of, state_of, same_state, last_batch, lane_batch}
 use Rattle.book_words.specs.Readings.{readings, weighed_reading}
 use Rattle.book_words.specs.Refusals as rules
 use Rattle.book_words.specs.Refusals.{refused_if}
-use Rattle.book_words.specs.Answers.{IsLegal}
+use Rattle.book_words.specs.Answers.{IsLawful, IsLegal}
 use Rattle.book_words.proofs.LastSaid.{last_said-push}
 use Rattle.book_words.proofs.NameLemmas.{same_name_is}
-use Rattle.book_words.proofs.RefusalLemmas.{none_of_two, not_refused}
 use Rattle.book_words.proofs.OneMoreEntry.{advance, own_reading, readings-push}
-use Rattle.book_laws.proofs.TareLaws.{some_is, started_for_it}
-use Rattle.book_laws.proofs.KnownLaws.{IsAllowed, kept_behind, state_known, is_there, silent, moves_state, state_of_stays, state_apart}
+use Rattle.std.proofs.lemmas.Option.{same_Some}
+use Rattle.book_laws.proofs.KnownLaws.{silent, moves_state, state_of_stays, state_apart}
+use Rattle.book_words.proofs.SaidTogether.{state_known, started_for_it}
+use Rattle.book_words.proofs.AllowedActs.{IsAllowed, allowed, end_run_tells, draw_tells, close_tells, start_lane_tells, weigh_tells}
+use Rattle.book_words.proofs.LegalLemmas.{legal_steps, legal-push}
+use Rattle.book_words.proofs.DrawnOnce.{states_known}
 
 -- a lane is one of the hall's, and its batch runs
 pub record RunsOn (entries : List Entry) (lane : ℕ) (batch : Name) : Type 0 where
@@ -43,37 +46,6 @@ pub record AreLanesRight (entries : List Entry) : Type 0 where
   pub opened : (batch : Name) → is_some (state_of entries batch) ≡ true → is_some (product_of entries batch) ≡ true
   pub lanes : (lane : ℕ) (batch : Name) → lane_batch entries lane ≡ Some batch → RunsOn entries lane batch
   pub waiting : All (IsOfLane entries) (readings entries)
-
--- ---- a batch with a state has a product
-
-moved : (entries : List Entry) (name batch : Name) (state : BatchState) → AreLanesRight entries → rules.batch_unknown entries name ≡ None
-    → is_some (option_or (cond (same_name name batch) (Some state) None) (state_of entries batch)) ≡ true → is_some (product_of entries batch) ≡ true
-moved entries name batch state right known k = each (cases_Bool (same_name name batch))
-  where
-    each : (same_name name batch ≡ true) ⊎ (same_name name batch ≡ false) → is_some (product_of entries batch) ≡ true
-    each (inl t) = ap (λ (n : Name). is_some (product_of entries n)) (sym (same_name_is name batch t)) ∙ is_there (product_of entries name) _ known
-    each (inr f) = right.opened batch (sym (ap (λ b. is_some (option_or (cond b (Some state) None) (state_of entries batch))) f) ∙ k)
-
-opened_on : (entries : List Entry) (act : Act) (batch : Name) → AreLanesRight entries → IsAllowed entries act
-    → is_some (option_or (state_set batch act) (state_of entries batch)) ≡ true → is_some (option_or (product_given batch act) (product_of entries batch)) ≡ true
-opened_on entries (OpenBatch name product density) batch right h k = one (same_name name batch) k
-  where
-    one : (b : Bool) → is_some (option_or (cond b (Some Running) None) (state_of entries batch)) ≡ true → is_some (option_or (cond b (Some product) None) (product_of entries batch)) ≡ true
-    one true k = refl
-    one false k = right.opened batch k
-opened_on entries (EndRun name) batch right h k =
-    let a = none_of_two (rules.day_unset entries) _ h in
-    let b = none_of_two (rules.batch_unknown entries name) _ a.1 in
-    moved entries name batch Ended right b.0 k
-opened_on entries (Draw name mode word) batch right h k =
-    let a = none_of_two (rules.day_unset entries) _ h in
-    let b = none_of_two (rules.batch_unknown entries name) _ a.1 in
-    moved entries name batch Drawn right b.0 k
-opened_on entries (Close name) batch right h k =
-    let a = none_of_two (rules.day_unset entries) _ h in
-    let b = none_of_two (rules.batch_unknown entries name) _ a.1 in
-    moved entries name batch Closed right b.0 k
-opened_on entries act batch right h k = right.opened batch k
 
 -- ---- a batch that a lane has goes on running
 
@@ -93,10 +65,6 @@ find_none test from zero k h low high = absurd (omega arith)
 find_none test from (suc many) k h low high =
     find_step test from k (find test (range_with_len (from + 1) many)) (λ none less. find_none test (from + 1) many k none (omega (arith, less)) (omega (arith, high))) low h
 
-not_mapped : {A B : Type 0} (f : A → B) (o : Option A) → option_map f o ≡ None → o ≡ None
-not_mapped f None h = refl
-not_mapped f (Some x) h = absurd (cc)
-
 -- a batch that a lane has isn't moved to another state
 pub running_kept : (entries : List Entry) (act : Act) (lane : ℕ) (batch : Name) → AreLanesRight entries → IsAllowed entries act → lane_batch entries lane ≡ Some batch
     → moves_state batch act ≡ false
@@ -112,24 +80,14 @@ running_kept entries (EndRun name) lane batch right h on = each (cases_Bool (sam
 
     each : (same_name name batch ≡ true) ⊎ (same_name name batch ≡ false) → same_name name batch ≡ false
     each (inl t) =
-        let a = none_of_two (rules.day_unset entries) _ h in
-        let b = none_of_two (rules.batch_unknown entries name) _ a.1 in
-        let c = none_of_two (rules.batch_state (Running ∷ []) entries name) _ b.1 in
-        let d = none_of_two (rules.lanes_running entries name) None c.1 in
-        let free : rules.lane_running entries name ≡ None = not_mapped (λ l. why.LanesRunning l) (rules.lane_running entries name) d.0 in
+        let free = (end_run_tells entries name h).idle in
         let other = has name free in
         ap (λ (n : Name). same_name n batch) (same_name_is name batch t) ∙ sym (ap (same_name batch) (same_name_is name batch t)) ∙ other
     each (inr f) = f
 running_kept entries (Draw name mode word) lane batch right h on =
-    let a = none_of_two (rules.day_unset entries) _ h in
-    let b = none_of_two (rules.batch_unknown entries name) _ a.1 in
-    let c = none_of_two (rules.batch_state (Ended ∷ []) entries name) _ b.1 in
-    state_apart entries (Ended ∷ []) name batch Running c.0 (right.lanes lane batch on).state refl
+    state_apart entries (Ended ∷ []) name batch Running (draw_tells entries name mode word h).state (right.lanes lane batch on).state refl
 running_kept entries (Close name) lane batch right h on =
-    let a = none_of_two (rules.day_unset entries) _ h in
-    let b = none_of_two (rules.batch_unknown entries name) _ a.1 in
-    let c = none_of_two (rules.batch_state (Ended ∷ Drawn ∷ []) entries name) _ b.1 in
-    state_apart entries (Ended ∷ Drawn ∷ []) name batch Running c.0 (right.lanes lane batch on).state refl
+    state_apart entries (Ended ∷ Drawn ∷ []) name batch Running (close_tells entries name h).state (right.lanes lane batch on).state refl
 running_kept entries act lane batch right h on = refl
 
 runs_on : (entries : List Entry) (entry : Entry) (lane : ℕ) (batch : Name) → AreLanesRight entries → IsAllowed entries entry.act → lane_batch entries lane ≡ Some batch
@@ -153,15 +111,11 @@ only_running (Some Closed) there h = absurd (cc)
 start_runs : (entries : List Entry) (entry : Entry) (lane : ℕ) (batch : Name) → entry.act ≡ StartLane lane batch → IsAllowed entries entry.act
     → RunsOn (entries ++ entry ∷ []) lane batch
 start_runs entries entry lane batch is h =
-    let allowed : IsAllowed entries (StartLane lane batch) = subst (IsAllowed entries) is h in
-    let a = none_of_two (rules.day_unset entries) _ allowed in
-    let b = none_of_two (rules.batch_unknown entries batch) _ a.1 in
-    let c = none_of_two (rules.batch_state (Running ∷ []) entries batch) _ b.1 in
-    let d = none_of_two (rules.lane_number lane) _ c.1 in
-    let known = state_known entries batch (is_there (product_of entries batch) _ b.0) in
+    let tells = start_lane_tells entries lane batch (subst (IsAllowed entries) is h) in
+    let known = state_known entries batch tells.known in
     record {
-      fits = not_refused _ _ d.0;
-      state = silent (state_set batch) entries entry (ap (state_set batch) is) ∙ only_running (state_of entries batch) known c.0;
+      fits = tells.number;
+      state = silent (state_set batch) entries entry (ap (state_set batch) is) ∙ only_running (state_of entries batch) known tells.state;
     }
 
 lanes_on : (entries : List Entry) (entry : Entry) (act : Act) (lane : ℕ) (batch : Name) → AreLanesRight entries → entry.act ≡ act → IsAllowed entries entry.act
@@ -170,7 +124,7 @@ lanes_on entries entry (StartLane number started) lane batch right is h on = eit
   where
     either : ((number == lane) ≡ true) ⊎ ((number == lane) ≡ false) → RunsOn (entries ++ entry ∷ []) lane batch
     either (inl t) =
-        let same : started ≡ batch = some_is started batch (sym (ap (λ b. option_flatten (option_or (cond b (Some (Some started)) None) (last_said (lane_used lane) entries))) t) ∙ on) in
+        let same : started ≡ batch = same_Some started batch (sym (ap (λ b. option_flatten (option_or (cond b (Some (Some started)) None) (last_said (lane_used lane) entries))) t) ∙ on) in
         subst (λ (l : ℕ). RunsOn (entries ++ entry ∷ []) l batch) (eqb-true number lane t) (subst (λ (b : Name). RunsOn (entries ++ entry ∷ []) number b) same (start_runs entries entry number started is h))
     either (inr f) = runs_on entries entry lane batch right h (sym (ap (λ b. option_flatten (option_or (cond b (Some (Some started)) None) (last_said (lane_used lane) entries))) f) ∙ on)
 lanes_on entries entry (StopLane number prior) lane batch right is h on = either (cases_Bool (number == lane))
@@ -186,18 +140,14 @@ both_none : {A : Type 0} (a b : Option A) → option_or a b ≡ None → (a ≡ 
 both_none None b h = (refl, h)
 both_none (Some x) b h = absurd (cc)
 
-lane_stays : (entries : List Entry) (act : Act) (lane : ℕ) (batch : Name) → IsAllowed entries act → lane_batch entries lane ≡ Some batch → prior_told lane act ≡ None
+-- an allowed act that says nothing of the gate of a lane with a batch leaves it its batch
+pub lane_stays : (entries : List Entry) (act : Act) (lane : ℕ) (batch : Name) → IsAllowed entries act → lane_batch entries lane ≡ Some batch → prior_told lane act ≡ None
     → lane_used lane act ≡ None
 lane_stays entries (StartLane number started) lane batch h on told = each (cases_Bool (number == lane))
   where
     each : ((number == lane) ≡ true) ⊎ ((number == lane) ≡ false) → cond (number == lane) (Some (Some started)) None ≡ None
     each (inl t) =
-        let a = none_of_two (rules.day_unset entries) _ h in
-        let b = none_of_two (rules.batch_unknown entries started) _ a.1 in
-        let c = none_of_two (rules.batch_state (Running ∷ []) entries started) _ b.1 in
-        let d = none_of_two (rules.lane_number number) _ c.1 in
-        let e = none_of_two (rules.lane_busy entries number) _ d.1 in
-        let free : lane_batch entries number ≡ None = not_mapped (λ n. why.LaneBusy n) (lane_batch entries number) e.0 in
+        let free = (start_lane_tells entries number started h).idle in
         absurd (let wrong : Some batch ≡ None = sym on ∙ sym (ap (lane_batch entries) (eqb-true number lane t)) ∙ free in cc)
     each (inr f) = ap (λ b. cond b (Some (Some started)) None) f
 lane_stays entries (StopLane number prior) lane batch h on told = each (number == lane) told
@@ -223,20 +173,17 @@ own_waits entries entry (Weigh lane gross prior) is h = All-cons (IsOfLane (entr
 
     own : (batch : Name) → last_batch entries lane ≡ Some batch → lane_batch (entries ++ entry ∷ []) lane ≡ Some batch
     own batch last =
-        let allowed : IsAllowed entries (Weigh lane gross prior) = subst (IsAllowed entries) is h in
-        let a = none_of_two (rules.day_unset entries) _ allowed in
-        let b = none_of_two (rules.lane_number lane) _ a.1 in
-        let c = none_of_two (rules.lane_idle entries lane) _ b.1 in
+        let tells = weigh_tells entries lane gross prior (subst (IsAllowed entries) is h) in
         ap (λ (o : Option (Option Name)). option_flatten o) (silent (lane_used lane) entries entry (ap (lane_used lane) is))
-        ∙ started (lane_batch entries lane) refl (is_there (lane_batch entries lane) _ c.0) batch last
+        ∙ started (lane_batch entries lane) refl tells.runs batch last
 own_waits entries entry act is h = All-nil (IsOfLane (entries ++ entry ∷ []))
 
-lanes_right-push : (entries : List Entry) (entry : Entry) → AreLanesRight entries → IsAllowed entries entry.act → AreLanesRight (entries ++ entry ∷ [])
-lanes_right-push entries entry right h =
+lanes_right-push : (entries : List Entry) (entry : Entry) → IsLegal entries → IsLawful entries entry → AreLanesRight entries → AreLanesRight (entries ++ entry ∷ [])
+lanes_right-push entries entry legal lawful right =
+    let h = allowed entries entry lawful in
     let Waits : Reading → Type 0 = IsOfLane (entries ++ entry ∷ []) in
     record {
-      opened = λ batch there. ap is_some (last_said-push (product_given batch) entries entry)
-          ∙ opened_on entries entry.act batch right h (sym (ap is_some (last_said-push (state_set batch) entries entry)) ∙ there);
+      opened = λ batch there. sym (states_known (entries ++ entry ∷ []) (legal-push entries entry legal lawful) batch) ∙ there;
       lanes = λ lane batch on. lanes_on entries entry entry.act lane batch right refl h (sym (ap (λ (o : Option (Option Name)). option_flatten o) (last_said-push (lane_used lane) entries entry)) ∙ on);
       waiting = subst (All Waits) (sym (readings-push entries entry))
           (All-append Waits (map (advance entry.act) (readings entries)) (cons_option (own_reading entries entry) [])
@@ -247,7 +194,8 @@ lanes_right-push entries entry right h =
 
 -- the lanes of a legal list are right
 pub lanes_right : (entries : List Entry) → IsLegal entries → AreLanesRight entries
-lanes_right entries legal = kept_behind AreLanesRight lanes_right-push [] entries nothing legal
+lanes_right =
+    legal_steps AreLanesRight nothing lanes_right-push
   where
     nothing : AreLanesRight []
     nothing = record { opened = λ batch there. absurd (cc); lanes = λ lane batch on. absurd (cc); waiting = All-nil (IsOfLane []) }
@@ -261,5 +209,5 @@ followed entries batch state right is other reading of_lane of_batch = each read
     each (Some prior) next = refl
     each None next =
         let runs = (right.lanes reading.lane batch (of_lane batch of_batch next)).state in
-        let same : state ≡ Running = some_is state Running (sym is ∙ runs) in
+        let same : state ≡ Running = same_Some state Running (sym is ∙ runs) in
         absurd (let wrong : true ≡ false = sym (ap (λ (s : BatchState). same_state s Running) same) ∙ other in cc)

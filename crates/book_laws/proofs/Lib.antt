@@ -7,7 +7,6 @@ pub mod ClosedLaws
 pub mod FrozenLaws
 pub mod VerdictLaws
 pub mod RangeLaws
-pub mod LawfulActs
 pub mod ReadingLaws
 pub mod BatchLaws
 pub mod UnsettledLaws

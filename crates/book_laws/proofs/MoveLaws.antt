@@ -15,14 +15,15 @@ use Rattle.pack_judge.specs.declared.types.Pile.TheVariants.{Passed, Rejected, S
 use Rattle.book_words.specs.declared.name.Name.{Name}
 use Rattle.book_words.specs.declared.act.Prior.{Prior}
 use Rattle.book_words.specs.declared.act.Act.{Act}
-use Rattle.book_words.specs.declared.act.Act.TheVariants.{NewDay, PutProduct, PutTare, OpenBatch, StartLane, Weigh, StopLane, Void, EndRun, Draw, Measure, DrawSecond, Close}
+use Rattle.book_words.specs.declared.act.Act.TheVariants.{Weigh, StopLane, Void, Draw, DrawSecond}
 use Rattle.book_words.specs.declared.act.Entry.{Entry}
 use Rattle.book_words.specs.declared.act.Reading.{Reading}
 use Rattle.book_words.specs.declared.refusal.Refusal.TheVariants as why
 use Rattle.book_words.specs.Names.{same_name}
 use Rattle.book_words.specs.Acts.{last_said, state_of, newest_day, last_batch, lane_batch}
 use Rattle.book_words.specs.Readings.{weighed_reading, readings, reading_of, is_of_batch}
-use Rattle.book_words.specs.Population.{settled_pile, unsampled_pile, same_pile, is_pass, is_unsettled, is_counted, readings_of_batch, population}
+use Rattle.book_words.specs.Population.{settled_pile, unsampled_pile, is_pass, is_unsettled, is_counted, readings_of_batch, population}
+use Rattle.pack_judge.specs.Piles.{same_pile}
 use Rattle.book_words.specs.Samples.{Drawing, Sample, numbers_of, drawing_from, drawing_of, first_picks, second_picks, second_word, sample_by, sample_of, is_among, holds_pack, is_sampled}
 use Rattle.book_words.specs.Piles.{pile_with_sample, pile_of, in_pile, gross_sum, tally}
 use Rattle.book_words.specs.Verdicts.{first_defective}
@@ -35,12 +36,13 @@ use Rattle.book_words.proofs.RefusalLemmas.{not_refused}
 use Rattle.book_words.proofs.LegalLemmas.{legal-prefix}
 use Rattle.book_words.proofs.OneMoreEntry.{advance, own_reading, readings-push}
 use Rattle.book_words.proofs.DrawnLemmas.{sample_of-push}
-use Rattle.book_laws.proofs.LawfulActs.{IsAllowed, allowed, not_test, weigh_tells, void_tells, draw_second_tells}
+use Rattle.book_words.proofs.AllowedActs.{IsAllowed, allowed, not_test, weigh_tells, void_tells, draw_second_tells}
 use Rattle.book_laws.proofs.ReadingLaws.{IsOneOf, each_is_one, of_reading, numbers_increase}
 use Rattle.book_laws.proofs.BatchLaws.{IsOrderly, orderly, is_fixed, no_sample, draw_state}
 use Rattle.book_laws.proofs.UnsettledLaws.{Belongs, each_belongs}
 use Rattle.book_laws.proofs.PopulationLaws.{settled_after, unsampled_on, batch_of, unsettled_is_free, DrawnFromAll, drawn_from_all}
 use Rattle.book_laws.proofs.SampleLaws.{first_among, second_among, counted_if_among}
+use Rattle.book_words.proofs.PileLemmas.{same_itself}
 
 -- ---- the samples with one entry more
 
@@ -83,12 +85,6 @@ is_passed Passed h = refl
 is_passed Rejected h = absurd (cc)
 is_passed Sampled h = absurd (cc)
 is_passed Voided h = absurd (cc)
-
-same_itself : (pile : Pile) → same_pile pile pile ≡ true
-same_itself Passed = refl
-same_itself Rejected = refl
-same_itself Sampled = refl
-same_itself Voided = refl
 
 -- what is unsettled and not taken back lies among the passed
 pub unsettled_passed : (voided : Bool) (signal : Option Signal) (next : Option Prior) → (is_pass signal && is_none next) ≡ true → voided ≡ false → settled_pile voided signal next ≡ Passed
@@ -338,14 +334,7 @@ act_moves entries (DrawSecond batch word) reading good h all one has =
           let lies = second_lies entries reading batch word h all one has c in
           ap (λ (n : Name). pile_with_sample (unsampled_pile reading) (do_hold (sample_of entries n) reading.number)) lies.0 ∙ lies_passed entries reading batch lies.1);
     }
-act_moves entries (NewDay day) reading good h all one has = record { pile = refl; from = stays _ }
-act_moves entries (PutProduct name nominal unit) reading good h all one has = record { pile = refl; from = stays _ }
-act_moves entries (PutTare product day tare) reading good h all one has = record { pile = refl; from = stays _ }
-act_moves entries (OpenBatch name product density) reading good h all one has = record { pile = refl; from = stays _ }
-act_moves entries (StartLane lane name) reading good h all one has = record { pile = refl; from = stays _ }
-act_moves entries (EndRun name) reading good h all one has = record { pile = refl; from = stays _ }
-act_moves entries (Measure pack gross empty) reading good h all one has = record { pile = refl; from = stays _ }
-act_moves entries (Close name) reading good h all one has = record { pile = refl; from = stays _ }
+act_moves entries act reading good h all one has = record { pile = refl; from = stays _ }
 
 -- a reading of a legal list lies, behind a lawful entry, in the pile to which the entry's act moves it
 pub moved : (entries : List Entry) (entry : Entry) (reading : Reading) → IsLegal entries → IsLawful entries entry → IsOneOf entries reading → Belongs entries reading
@@ -399,18 +388,7 @@ own_pile_is entries entry (Weigh lane gross prior) is good h =
         ∙ no_sample entries batch good (ap is_fixed (good.lanes lane batch on)) in
         ap (λ (pile : Pile). pile ∷ []) (settled_alone entry.signal (is_sampled (entries ++ entry ∷ []) own)
         (sampled_in (entries ++ entry ∷ []) own batch (good.started lane batch on) ∙ ap (λ (o : Option Sample). do_hold o (length entries + 1)) none))
-own_pile_is entries entry (NewDay day) is good h = refl
-own_pile_is entries entry (PutProduct name nominal unit) is good h = refl
-own_pile_is entries entry (PutTare product day tare) is good h = refl
-own_pile_is entries entry (OpenBatch name product density) is good h = refl
-own_pile_is entries entry (StartLane lane name) is good h = refl
-own_pile_is entries entry (StopLane lane prior) is good h = refl
-own_pile_is entries entry (Void pack) is good h = refl
-own_pile_is entries entry (EndRun name) is good h = refl
-own_pile_is entries entry (Draw name mode word) is good h = refl
-own_pile_is entries entry (Measure pack gross empty) is good h = refl
-own_pile_is entries entry (DrawSecond name word) is good h = refl
-own_pile_is entries entry (Close name) is good h = refl
+own_pile_is entries entry act is good h = refl
 
 -- a lawful entry behind a legal list moves the packs as it may, and no others
 pub moves_only : (entries : List Entry) (entry : Entry) → IsLegal entries → IsLawful entries entry → MovesOnly entries entry

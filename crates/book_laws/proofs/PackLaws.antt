@@ -20,7 +20,7 @@ use Rattle.book_words.specs.Verdicts.{second_packs}
 use Rattle.book_words.proofs.NameLemmas.{same_name_is}
 use Rattle.book_words.proofs.OneMoreEntry.{advance, own_reading, readings-push}
 use Rattle.book_words.proofs.DrawnLemmas.{drawing_of-push}
-use Rattle.book_laws.proofs.TareLaws.{some_is}
+use Rattle.std.proofs.lemmas.Option.{same_Some}
 
 -- ---- a reading by its number
 
@@ -144,7 +144,7 @@ drawn_packs : (entries : List Entry) (act : Act) (batch : Name) (drawing : Drawi
 drawn_packs entries (Draw name mode word) batch drawing h = each (same_name name batch) h
   where
     each : (b : Bool) → cond b (Some (record { mode = mode; word = word; packs = numbers_of (population entries batch) })) None ≡ Some drawing → numbers_of (population entries batch) ≡ drawing.packs
-    each true k = ap (λ (d : Drawing). d.packs) (some_is _ drawing k)
+    each true k = ap (λ (d : Drawing). d.packs) (same_Some _ drawing k)
     each false k = absurd (cc)
 drawn_packs entries act batch drawing h = absurd (cc)
 
@@ -159,7 +159,7 @@ draws_own-push entries entry batch own drawing h = later (each (drawing_from bat
 
     each : (o : Option Drawing) → drawing_from batch entries entry.act ≡ o → option_or o (drawing_of entries batch) ≡ Some drawing → All (IsPackOf entries batch) drawing.packs
     each None is k = own drawing k
-    each (Some new) is k = subst (All (IsPackOf entries batch)) (drawn_packs entries entry.act batch new is ∙ ap (λ (d : Drawing). d.packs) (some_is new drawing k)) (population_is_own entries batch)
+    each (Some new) is k = subst (All (IsPackOf entries batch)) (drawn_packs entries entry.act batch new is ∙ ap (λ (d : Drawing). d.packs) (same_Some new drawing k)) (population_is_own entries batch)
 
 draws_own_behind : (batch : Name) (before after : List Entry) → DrawsOwn before batch → DrawsOwn (before ++ after) batch
 draws_own_behind batch before [] own = subst (λ (es : List Entry). DrawsOwn es batch) (sym (append-nil before)) own
@@ -217,4 +217,4 @@ picks_own entries batch sample h = each (drawing_of entries batch) refl h
   where
     each : (o : Option Drawing) → drawing_of entries batch ≡ o → option_map (λ (d : Drawing). sample_by d (last_said (second_word batch) entries)) o ≡ Some sample → PicksOwn entries batch sample
     each None is k = absurd (cc)
-    each (Some drawing) is k = subst (PicksOwn entries batch) (some_is _ sample k) (picks_by entries batch drawing (last_said (second_word batch) entries) (draws_own entries batch drawing is))
+    each (Some drawing) is k = subst (PicksOwn entries batch) (same_Some _ sample k) (picks_by entries batch drawing (last_said (second_word batch) entries) (draws_own entries batch drawing is))

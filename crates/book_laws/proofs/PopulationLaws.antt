@@ -1,6 +1,6 @@
 -- What an act makes of the packs that count for a batch; once a batch is drawn or closed they stay.
 use Rattle.std.proofs.Common.{◌≡◌, ℕ, ◌+◌, Bool, true, false, not, ◌&&◌, ◌||◌, ◌==◌, nat_lt, cond, if◌then◌else◌, ◌⊎◌, inl, inr, List, [], ◌∷◌, ◌++◌, length, map, Option, Some, None, is_some, is_none, refl, sym, ◌∙◌, ap, subst, arith, append-nil}
-use Rattle.std.proofs.lemmas.Bool.{cases_Bool, cases_eq, and_parts, both_ways, eqb-true, eq-eqb, ne_eqb, ltb-false}
+use Rattle.std.proofs.lemmas.Bool.{cases_Bool, and_parts, both_ways, eqb-true, ltb-false}
 use Rattle.std.proofs.lemmas.List.{map-append}
 use Rattle.std.proofs.lemmas.List.Elements.{All-head, All-tail, All-weaker, filter-append, filter_agree}
 use Rattle.std.proofs.lemmas.Option.{same_Some}
@@ -16,14 +16,15 @@ use Rattle.book_words.specs.declared.act.Prior.TheVariants.{Nothing, Opened, Sta
 use Rattle.book_words.specs.declared.act.BatchState as states
 use Rattle.book_words.specs.declared.act.BatchState.TheVariants.{Running, Ended, Drawn, Closed}
 use Rattle.book_words.specs.declared.act.Act.{Act}
-use Rattle.book_words.specs.declared.act.Act.TheVariants.{NewDay, PutProduct, PutTare, OpenBatch, StartLane, Weigh, StopLane, Void, EndRun, Draw, Measure, DrawSecond, Close}
+use Rattle.book_words.specs.declared.act.Act.TheVariants.{OpenBatch, Weigh, StopLane, Void, EndRun, Draw, Close}
 use Rattle.book_words.specs.declared.act.Entry.{Entry}
 use Rattle.book_words.specs.declared.act.Reading.{Reading}
 use Rattle.book_words.specs.declared.refusal.Refusal.TheVariants as why
 use Rattle.book_words.specs.Names.{same_name}
 use Rattle.book_words.specs.Acts.{state_set, same_state, state_of, last_batch, lane_batch}
 use Rattle.book_words.specs.Readings.{weighed_reading, readings, reading_of, is_of_batch}
-use Rattle.book_words.specs.Population.{settled_pile, unsampled_pile, same_pile, is_pass, is_unsettled, is_counted, readings_of_batch, counted_readings, population}
+use Rattle.book_words.specs.Population.{settled_pile, unsampled_pile, is_pass, is_unsettled, is_counted, readings_of_batch, counted_readings, population}
+use Rattle.pack_judge.specs.Piles.{same_pile}
 use Rattle.book_words.specs.Samples.{Drawing, numbers_of, drawing_from, drawing_of, is_sampled}
 use Rattle.book_words.specs.Piles.{pile_with_sample, pile_of}
 use Rattle.book_words.specs.Signals.{judging_population}
@@ -34,10 +35,15 @@ use Rattle.book_words.specs.Answers.{IsLawful, IsLegal}
 use Rattle.book_words.proofs.NameLemmas.{same_name_is}
 use Rattle.book_words.proofs.OneMoreEntry.{advance, own_reading, readings-push, first_readings-push}
 use Rattle.book_words.proofs.DrawnLemmas.{drawing_of-push}
-use Rattle.book_laws.proofs.LawfulActs.{IsAllowed, allowed, weigh_tells, void_tells, close_tells}
-use Rattle.book_laws.proofs.ReadingLaws.{by_entries, IsOneOf, each_is_one}
+use Rattle.book_words.proofs.AllowedActs.{IsAllowed, allowed, weigh_tells, void_tells, close_tells}
+use Rattle.book_laws.proofs.ReadingLaws.{IsOneOf, each_is_one}
+use Rattle.book_words.proofs.LegalLemmas.{legal_steps}
 use Rattle.book_laws.proofs.BatchLaws.{IsOrderly, orderly, state_of-push, drawn_is_fixed, is_fixed, close_state}
 use Rattle.book_laws.proofs.UnsettledLaws.{Belongs, each_belongs}
+use Rattle.book_words.proofs.PlainLemmas.{some_of, or_none, eqb-swap}
+use Rattle.book_words.proofs.DrawnOnce.{drawn_has_draw}
+use Rattle.std.proofs.Math.Bool.{or-false}
+use Rattle.book_words.proofs.PileLemmas.{unsampled}
 
 -- ---- where a reading lies before samples are looked at, once an act came
 
@@ -49,14 +55,6 @@ settled_after (StopLane lane prior) reading pile =
     if ((reading.lane == lane) && is_unsettled reading) then pile_by_gate prior pile else pile
 settled_after (Void pack) reading pile = if reading.number == pack then Voided else pile
 settled_after act reading pile = pile
-
--- two numbers are the same, whichever stands first
-pub same_either_way : (a b : ℕ) → (a == b) ≡ (b == a)
-same_either_way a b =
-    elim (cases_eq a b) [
-      | inl same ↦ eq-eqb a b same ∙ sym (eq-eqb b a (sym same))
-      | inr differ ↦ ne_eqb a b differ ∙ sym (ne_eqb b a (λ same. differ (sym same)))
-    ]
 
 by_gate : (voided : Bool) (signal : Option Signal) (next : Option Prior) (prior : Prior) → ((is_pass signal && is_none next) ≡ true → voided ≡ false)
     → settled_pile voided signal (option_or next (Some prior)) ≡ cond (is_pass signal && is_none next) (pile_by_gate prior (settled_pile voided signal next)) (settled_pile voided signal next)
@@ -72,20 +70,12 @@ by_gate false (Some Pass) None Unknown h = refl
 by_gate false (Some Pass) (Some p) prior h = refl
 by_gate false (Some (Reject cause)) next prior h = refl
 
-or_false : (b : Bool) → (b || false) ≡ b
-or_false true = refl
-or_false false = refl
-
-or_none : {A : Type 0} (o : Option A) → option_or o None ≡ o
-or_none None = refl
-or_none (Some x) = refl
-
 at_gate : (voided : Bool) (signal : Option Signal) (next : Option Prior) (lane number : ℕ) (prior : Prior) → ((is_pass signal && is_none next) ≡ true → voided ≡ false)
     → settled_pile (voided || false) signal (option_or next (cond (number == lane) (Some prior) None))
     ≡ cond ((lane == number) && (is_pass signal && is_none next)) (pile_by_gate prior (settled_pile voided signal next)) (settled_pile voided signal next)
 at_gate voided signal next lane number prior h =
-    ap (λ b. settled_pile b signal (option_or next (cond (number == lane) (Some prior) None))) (or_false voided)
-    ∙ ap (λ b. settled_pile voided signal (option_or next (cond b (Some prior) None))) (same_either_way number lane)
+    ap (λ b. settled_pile b signal (option_or next (cond (number == lane) (Some prior) None))) (or-false voided)
+    ∙ ap (λ b. settled_pile voided signal (option_or next (cond b (Some prior) None))) (eqb-swap number lane)
     ∙ either (lane == number)
   where
     either : (b : Bool) → settled_pile voided signal (option_or next (cond b (Some prior) None))
@@ -94,13 +84,13 @@ at_gate voided signal next lane number prior h =
     either false = ap (settled_pile voided signal) (or_none next)
 
 unmoved : (voided : Bool) (signal : Option Signal) (next : Option Prior) → settled_pile (voided || false) signal (option_or next None) ≡ settled_pile voided signal next
-unmoved voided signal next = ap (λ b. settled_pile b signal (option_or next None)) (or_false voided) ∙ ap (settled_pile voided signal) (or_none next)
+unmoved voided signal next = ap (λ b. settled_pile b signal (option_or next None)) (or-false voided) ∙ ap (settled_pile voided signal) (or_none next)
 
 taken_back : (voided : Bool) (signal : Option Signal) (next : Option Prior) (pack number : ℕ)
     → settled_pile (voided || (pack == number)) signal (option_or next None) ≡ cond (number == pack) Voided (settled_pile voided signal next)
 taken_back voided signal next pack number =
     ap (settled_pile (voided || (pack == number)) signal) (or_none next)
-    ∙ ap (λ b. settled_pile (voided || b) signal next) (same_either_way pack number) ∙ either voided (number == pack)
+    ∙ ap (λ b. settled_pile (voided || b) signal next) (eqb-swap pack number) ∙ either voided (number == pack)
   where
     either : (v b : Bool) → settled_pile (v || b) signal next ≡ cond b Voided (settled_pile v signal next)
     either true true = refl
@@ -113,16 +103,7 @@ pub unsampled_on : (act : Act) (reading : Reading) → (is_unsettled reading ≡
 unsampled_on (Weigh lane gross prior) reading kept = at_gate reading.voided reading.signal reading.next_prior reading.lane lane prior kept
 unsampled_on (StopLane lane prior) reading kept = at_gate reading.voided reading.signal reading.next_prior reading.lane lane prior kept
 unsampled_on (Void pack) reading kept = taken_back reading.voided reading.signal reading.next_prior pack reading.number
-unsampled_on (NewDay day) reading kept = unmoved reading.voided reading.signal reading.next_prior
-unsampled_on (PutProduct name nominal unit) reading kept = unmoved reading.voided reading.signal reading.next_prior
-unsampled_on (PutTare product day tare) reading kept = unmoved reading.voided reading.signal reading.next_prior
-unsampled_on (OpenBatch name product density) reading kept = unmoved reading.voided reading.signal reading.next_prior
-unsampled_on (StartLane lane name) reading kept = unmoved reading.voided reading.signal reading.next_prior
-unsampled_on (EndRun name) reading kept = unmoved reading.voided reading.signal reading.next_prior
-unsampled_on (Draw name mode word) reading kept = unmoved reading.voided reading.signal reading.next_prior
-unsampled_on (Measure pack gross empty) reading kept = unmoved reading.voided reading.signal reading.next_prior
-unsampled_on (DrawSecond name word) reading kept = unmoved reading.voided reading.signal reading.next_prior
-unsampled_on (Close name) reading kept = unmoved reading.voided reading.signal reading.next_prior
+unsampled_on act reading kept = unmoved reading.voided reading.signal reading.next_prior
 
 -- ---- the packs that count for a batch
 
@@ -211,16 +192,7 @@ settled_fixed entries (Void pack) reading batch good h one has fixed of_it = eit
         let found : reading_of entries pack ≡ Some reading = ap (reading_of entries) (sym (eqb-true reading.number pack is)) ∙ one in
         absurd (both_ways _ (subst (λ (n : Name). is_fixed (state_of entries n) ≡ false) (batch_of entries reading batch has of_it) (voided_is_free entries pack reading h has found)) fixed)
     either false is = refl
-settled_fixed entries (NewDay day) reading batch good h one has fixed of_it = refl
-settled_fixed entries (PutProduct name nominal unit) reading batch good h one has fixed of_it = refl
-settled_fixed entries (PutTare product day tare) reading batch good h one has fixed of_it = refl
-settled_fixed entries (OpenBatch name product density) reading batch good h one has fixed of_it = refl
-settled_fixed entries (StartLane lane name) reading batch good h one has fixed of_it = refl
-settled_fixed entries (EndRun name) reading batch good h one has fixed of_it = refl
-settled_fixed entries (Draw name mode word) reading batch good h one has fixed of_it = refl
-settled_fixed entries (Measure pack gross empty) reading batch good h one has fixed of_it = refl
-settled_fixed entries (DrawSecond name word) reading batch good h one has fixed of_it = refl
-settled_fixed entries (Close name) reading batch good h one has fixed of_it = refl
+settled_fixed entries act reading batch good h one has fixed of_it = refl
 
 -- no pack is weighed of it
 own_not_fixed : (entries : List Entry) (act : Act) (signal : Option Signal) (batch : Name) → IsOrderly entries → IsAllowed entries act → is_fixed (state_of entries batch) ≡ true
@@ -247,18 +219,7 @@ own_not_fixed entries (Weigh lane gross prior) signal batch good h fixed =
               absurd (both_ways _ (ap is_fixed (subst (λ (n : Name). state_of entries n ≡ Some Running) same (good.lanes lane other on))) fixed)
           | inr f ↦ f
         ])
-own_not_fixed entries (NewDay day) signal batch good h fixed = refl
-own_not_fixed entries (PutProduct name nominal unit) signal batch good h fixed = refl
-own_not_fixed entries (PutTare product day tare) signal batch good h fixed = refl
-own_not_fixed entries (OpenBatch name product density) signal batch good h fixed = refl
-own_not_fixed entries (StartLane lane name) signal batch good h fixed = refl
-own_not_fixed entries (StopLane lane prior) signal batch good h fixed = refl
-own_not_fixed entries (Void pack) signal batch good h fixed = refl
-own_not_fixed entries (EndRun name) signal batch good h fixed = refl
-own_not_fixed entries (Draw name mode word) signal batch good h fixed = refl
-own_not_fixed entries (Measure pack gross empty) signal batch good h fixed = refl
-own_not_fixed entries (DrawSecond name word) signal batch good h fixed = refl
-own_not_fixed entries (Close name) signal batch good h fixed = refl
+own_not_fixed entries act signal batch good h fixed = refl
 
 -- the population of a batch that is drawn or closed stays
 pub fixed_population : (entries : List Entry) (entry : Entry) (batch : Name) → IsLegal entries → IsLawful entries entry → is_fixed (state_of entries batch) ≡ true
@@ -296,18 +257,7 @@ draw_packs entries (Draw name mode word) signal batch drawing h = (either (same_
     either : (b : Bool) → cond {A = Option Drawing} b (Some (record { mode = mode; word = word; packs = numbers_of (population entries batch) })) None ≡ Some drawing → drawing.packs ≡ numbers_of (population entries batch)
     either true k = ap (λ (d : Drawing). d.packs) (sym (same_Some _ _ k))
     either false k = absurd (cc)
-draw_packs entries (NewDay day) signal batch drawing h = absurd (cc)
-draw_packs entries (PutProduct name nominal unit) signal batch drawing h = absurd (cc)
-draw_packs entries (PutTare product day tare) signal batch drawing h = absurd (cc)
-draw_packs entries (OpenBatch name product density) signal batch drawing h = absurd (cc)
-draw_packs entries (StartLane lane name) signal batch drawing h = absurd (cc)
-draw_packs entries (Weigh lane gross prior) signal batch drawing h = absurd (cc)
-draw_packs entries (StopLane lane prior) signal batch drawing h = absurd (cc)
-draw_packs entries (Void pack) signal batch drawing h = absurd (cc)
-draw_packs entries (EndRun name) signal batch drawing h = absurd (cc)
-draw_packs entries (Measure pack gross empty) signal batch drawing h = absurd (cc)
-draw_packs entries (DrawSecond name word) signal batch drawing h = absurd (cc)
-draw_packs entries (Close name) signal batch drawing h = absurd (cc)
+draw_packs entries act signal batch drawing h = absurd (cc)
 
 -- a sample is drawn from the population as it still is
 abbrev pub DrawnFromAll : List Entry → Type 0
@@ -326,7 +276,7 @@ drawn_from-push entries entry legal lawful all batch drawing is =
 
 -- in a legal list each sample is drawn from the population of its batch
 pub drawn_from_all : (entries : List Entry) → IsLegal entries → DrawnFromAll entries
-drawn_from_all entries legal = by_entries DrawnFromAll (λ batch drawing is. absurd (cc)) drawn_from-push entries legal
+drawn_from_all entries legal = legal_steps DrawnFromAll (λ batch drawing is. absurd (cc)) drawn_from-push entries legal
 
 -- ---- the population as a list of readings
 
@@ -376,16 +326,7 @@ quiet : (entries : List Entry) (act : Act) (signal : Option Signal) (batch : Nam
 quiet entries (Weigh lane gross prior) signal batch h = absurd (cc)
 quiet entries (StopLane lane prior) signal batch h = absurd (cc)
 quiet entries (Void pack) signal batch h = absurd (cc)
-quiet entries (NewDay day) signal batch h = append-nil (population entries batch)
-quiet entries (PutProduct name nominal unit) signal batch h = append-nil (population entries batch)
-quiet entries (PutTare product day tare) signal batch h = append-nil (population entries batch)
-quiet entries (OpenBatch name product density) signal batch h = append-nil (population entries batch)
-quiet entries (StartLane lane name) signal batch h = append-nil (population entries batch)
-quiet entries (EndRun name) signal batch h = append-nil (population entries batch)
-quiet entries (Draw name mode word) signal batch h = append-nil (population entries batch)
-quiet entries (Measure pack gross empty) signal batch h = append-nil (population entries batch)
-quiet entries (DrawSecond name word) signal batch h = append-nil (population entries batch)
-quiet entries (Close name) signal batch h = append-nil (population entries batch)
+quiet entries act signal batch h = append-nil (population entries batch)
 
 -- any other act leaves each population as it is
 pub quiet_population : (entries : List Entry) (entry : Entry) (batch : Name) → IsLegal entries → moves_population entry.act ≡ false
@@ -396,16 +337,6 @@ quiet_population entries entry batch legal h =
     ∙ ap numbers_of (quiet entries entry.act entry.signal batch h)
 
 -- ---- the population lies among the passed and the sampled
-
-not_sampled_yet : (voided : Bool) (signal : Option Signal) (next : Option Prior) → same_pile (settled_pile voided signal next) Sampled ≡ false
-not_sampled_yet true signal next = refl
-not_sampled_yet false None next = refl
-not_sampled_yet false (Some (Reject cause)) next = refl
-not_sampled_yet false (Some Pass) None = refl
-not_sampled_yet false (Some Pass) (Some Nothing) = refl
-not_sampled_yet false (Some Pass) (Some Opened) = refl
-not_sampled_yet false (Some Pass) (Some Stayed) = refl
-not_sampled_yet false (Some Pass) (Some Unknown) = refl
 
 counted_pile : (pile : Pile) (sampled : Bool) → same_pile pile Sampled ≡ false → same_pile pile Passed ≡ (same_pile (pile_with_sample pile sampled) Passed || same_pile (pile_with_sample pile sampled) Sampled)
 counted_pile Passed true h = refl
@@ -420,7 +351,7 @@ is_in_stock entries reading = same_pile (pile_of entries reading) Passed || same
 
 -- a reading counts where it lies among the passed or the sampled
 pub counted_is_in_stock : (entries : List Entry) (reading : Reading) → is_counted reading ≡ is_in_stock entries reading
-counted_is_in_stock entries reading = counted_pile (unsampled_pile reading) (is_sampled entries reading) (not_sampled_yet reading.voided reading.signal reading.next_prior)
+counted_is_in_stock entries reading = counted_pile (unsampled_pile reading) (is_sampled entries reading) (unsampled reading.voided reading.signal reading.next_prior)
 
 filter_twice : (first second : Reading → Bool) (some : List Reading) → filter (λ (r : Reading). first r && second r) some ≡ filter second (filter first some)
 filter_twice first second [] = refl
@@ -439,57 +370,8 @@ population_in_stock entries batch =
 
 -- ---- which batches have a draw
 
-some_of : {A : Type 0} (o p : Option A) → is_some p ≡ true → is_some (option_or o p) ≡ true
-some_of None p h = h
-some_of (Some x) p h = refl
-
--- an act that makes a batch drawn draws it
-drawn_by : (entries : List Entry) (act : Act) (batch : Name) → (state_of entries batch ≡ Some Drawn → is_some (drawing_of entries batch) ≡ true)
-    → option_or (state_set batch act) (state_of entries batch) ≡ Some Drawn → is_some (option_or (drawing_from batch entries act) (drawing_of entries batch)) ≡ true
-drawn_by entries (Draw name mode word) batch before = either (same_name name batch) (record { mode = mode; word = word; packs = numbers_of (population entries batch) })
-  where
-    either : (b : Bool) (drawing : Drawing) → option_or (cond b (Some Drawn) None) (state_of entries batch) ≡ Some Drawn → is_some (option_or (cond b (Some drawing) None) (drawing_of entries batch)) ≡ true
-    either true drawing is = refl
-    either false drawing is = before is
-drawn_by entries (OpenBatch name product density) batch before = either (same_name name batch)
-  where
-    either : (b : Bool) → option_or (cond b (Some Running) None) (state_of entries batch) ≡ Some Drawn → is_some (drawing_of entries batch) ≡ true
-    either true is = absurd (cc)
-    either false is = before is
-drawn_by entries (EndRun name) batch before = either (same_name name batch)
-  where
-    either : (b : Bool) → option_or (cond b (Some Ended) None) (state_of entries batch) ≡ Some Drawn → is_some (drawing_of entries batch) ≡ true
-    either true is = absurd (cc)
-    either false is = before is
-drawn_by entries (Close name) batch before = either (same_name name batch)
-  where
-    either : (b : Bool) → option_or (cond b (Some Closed) None) (state_of entries batch) ≡ Some Drawn → is_some (drawing_of entries batch) ≡ true
-    either true is = absurd (cc)
-    either false is = before is
-drawn_by entries (NewDay day) batch before = before
-drawn_by entries (PutProduct name nominal unit) batch before = before
-drawn_by entries (PutTare product day tare) batch before = before
-drawn_by entries (StartLane lane name) batch before = before
-drawn_by entries (Weigh lane gross prior) batch before = before
-drawn_by entries (StopLane lane prior) batch before = before
-drawn_by entries (Void pack) batch before = before
-drawn_by entries (Measure pack gross empty) batch before = before
-drawn_by entries (DrawSecond name word) batch before = before
-
--- a drawn batch has a draw
-abbrev DrawnHave : List Entry → Type 0
-DrawnHave entries = (batch : Name) → state_of entries batch ≡ Some Drawn → is_some (drawing_of entries batch) ≡ true
-
--- so each drawn batch of a legal list
-pub drawn_has : (entries : List Entry) (batch : Name) → IsLegal entries → state_of entries batch ≡ Some Drawn → is_some (drawing_of entries batch) ≡ true
-drawn_has entries batch legal =
-    by_entries DrawnHave (λ batch is. absurd (cc))
-    (λ entries entry legal lawful all batch is.
-    ap is_some (drawing_of-push entries entry batch) ∙ drawn_by entries entry.act batch (all batch) (sym (state_of-push entries entry batch) ∙ is))
-    entries legal batch
-
 -- a batch that an act closes undrawn has no pack
-closed_by : (entries : List Entry) (act : Act) (batch : Name) → IsOrderly entries → DrawnHave entries → IsAllowed entries act → is_fixed (state_of entries batch) ≡ false
+closed_by : (entries : List Entry) (act : Act) (batch : Name) → IsOrderly entries → ((b : Name) → state_of entries b ≡ Some Drawn → is_some (drawing_of entries b) ≡ true) → IsAllowed entries act → is_fixed (state_of entries batch) ≡ false
     → is_fixed (option_or (state_set batch act) (state_of entries batch)) ≡ true → (is_some (option_or (drawing_from batch entries act) (drawing_of entries batch)) ≡ true) ⊎ ((moves_population act ≡ false) × (population entries batch ≡ []))
 closed_by entries (Draw name mode word) batch good have h free closed = either (same_name name batch) (record { mode = mode; word = word; packs = numbers_of (population entries batch) }) closed
   where
@@ -527,15 +409,7 @@ closed_by entries (EndRun name) batch good have h free closed = either (same_nam
     either : (b : Bool) → is_fixed (option_or (cond b (Some Ended) None) (state_of entries batch)) ≡ true → (is_some (drawing_of entries batch) ≡ true) ⊎ ((false ≡ false) × (population entries batch ≡ []))
     either true fixed = absurd (cc)
     either false fixed = absurd (both_ways _ free fixed)
-closed_by entries (NewDay day) batch good have h free fixed = absurd (both_ways _ free fixed)
-closed_by entries (PutProduct name nominal unit) batch good have h free fixed = absurd (both_ways _ free fixed)
-closed_by entries (PutTare product day tare) batch good have h free fixed = absurd (both_ways _ free fixed)
-closed_by entries (StartLane lane name) batch good have h free fixed = absurd (both_ways _ free fixed)
-closed_by entries (Weigh lane gross prior) batch good have h free fixed = absurd (both_ways _ free fixed)
-closed_by entries (StopLane lane prior) batch good have h free fixed = absurd (both_ways _ free fixed)
-closed_by entries (Void pack) batch good have h free fixed = absurd (both_ways _ free fixed)
-closed_by entries (Measure pack gross empty) batch good have h free fixed = absurd (both_ways _ free fixed)
-closed_by entries (DrawSecond name word) batch good have h free fixed = absurd (both_ways _ free fixed)
+closed_by entries act batch good have h free fixed = absurd (both_ways _ free fixed)
 
 -- a drawn or a closed batch has a draw, or no pack
 abbrev pub DrawnOrEmpty : List Entry → Type 0
@@ -554,14 +428,14 @@ drawn_or_empty-push entries entry legal lawful all batch fixed = each (cases_Boo
           | inr none ↦ inr (fixed_population entries entry batch legal lawful before ∙ none)
         ]
     each (inr free) =
-        elim (closed_by entries entry.act batch (orderly entries legal) (λ b. drawn_has entries b legal) (allowed entries entry lawful) free now) [
+        elim (closed_by entries entry.act batch (orderly entries legal) (drawn_has_draw entries legal) (allowed entries entry lawful) free now) [
           | inl has ↦ inl (ap is_some (drawing_of-push entries entry batch) ∙ has)
           | inr none ↦ inr (quiet_population entries entry batch legal none.0 ∙ ap numbers_of none.1)
         ]
 
 -- so in each legal list
 pub drawn_or_empty : (entries : List Entry) → IsLegal entries → DrawnOrEmpty entries
-drawn_or_empty entries legal = by_entries DrawnOrEmpty (λ batch fixed. absurd (cc)) drawn_or_empty-push entries legal
+drawn_or_empty entries legal = legal_steps DrawnOrEmpty (λ batch fixed. absurd (cc)) drawn_or_empty-push entries legal
 
 -- ---- how packs come and go
 
@@ -640,13 +514,4 @@ pub counts_after_quiet : (entries : List Entry) (batch : Name) (act : Act) → m
 counts_after_quiet entries batch (Weigh lane gross prior) h = absurd (cc)
 counts_after_quiet entries batch (StopLane lane prior) h = absurd (cc)
 counts_after_quiet entries batch (Void pack) h = absurd (cc)
-counts_after_quiet entries batch (NewDay day) h = refl
-counts_after_quiet entries batch (PutProduct name nominal unit) h = refl
-counts_after_quiet entries batch (PutTare product day tare) h = refl
-counts_after_quiet entries batch (OpenBatch name product density) h = refl
-counts_after_quiet entries batch (StartLane lane name) h = refl
-counts_after_quiet entries batch (EndRun name) h = refl
-counts_after_quiet entries batch (Draw name mode word) h = refl
-counts_after_quiet entries batch (Measure pack gross empty) h = refl
-counts_after_quiet entries batch (DrawSecond name word) h = refl
-counts_after_quiet entries batch (Close name) h = refl
+counts_after_quiet entries batch act h = refl

@@ -11,7 +11,7 @@ use Rattle.annex_tables.specs.declared.types.Mode.TheVariants.{Keep, Destroy}
 use Rattle.annex_tables.specs.Errors.{error_of, tolerable_error}
 use Rattle.annex_tables.specs.Plans.{plan_of, keeping_plan}
 use Rattle.sample_draw.specs.Draws.{packs_left}
-use Rattle.sample_draw.proofs.Drawing.{length-drawn}
+use Rattle.sample_draw.proofs.DrawLemmas.{length-drawn}
 use Rattle.tare_register.specs.declared.types.DatedTare.{DatedTare}
 use Rattle.tare_register.specs.Tares.{latest, dated_by}
 use Rattle.pack_judge.specs.declared.types.Pile as piles
@@ -46,7 +46,8 @@ use Rattle.book_words.specs.Names.{same_name}
 use Rattle.book_words.specs.Tares.{tare_put, tares_put, tare_of_product}
 use Rattle.book_words.specs.Readings.{readings, weighed_reading, placed_reading, reading_of, tare_of_batch, tare_of_reading, net_of_reading, is_of_batch}
 use Rattle.book_words.specs.Classes.{nominal_of_batch}
-use Rattle.book_words.specs.Population.{is_counted, same_pile, is_unsettled, readings_of_batch, population, net_sum}
+use Rattle.book_words.specs.Population.{is_counted, is_unsettled, readings_of_batch, population, net_sum}
+use Rattle.pack_judge.specs.Piles.{same_pile}
 use Rattle.book_words.specs.Samples as samples
 use Rattle.book_words.specs.Samples.{Drawing, drawing_of, first_picks, second_picks, sample_by, plan_of_drawing, plan_or_empty, second_word, numbers_of}
 use Rattle.book_words.specs.Piles.{pile_of, in_pile, gross_sum, tally}
@@ -166,36 +167,14 @@ IsFitNominal nominal = IsBetween MIN_NOMINAL MAX_NOMINAL nominal
 
 day_fits : (act : Act) → is_act_in_range act ≡ true → IfSome (day_set act) IsFitDay
 day_fits (NewDay day) h = within_limits (pos 0) MAX_DAY day h
-day_fits (PutProduct name nominal unit) h = tt
-day_fits (PutTare product day tare) h = tt
-day_fits (OpenBatch batch product density) h = tt
-day_fits (StartLane lane batch) h = tt
-day_fits (Weigh lane gross prior) h = tt
-day_fits (StopLane lane prior) h = tt
-day_fits (Void pack) h = tt
-day_fits (EndRun batch) h = tt
-day_fits (Draw batch mode word) h = tt
-day_fits (Measure pack gross empty) h = tt
-day_fits (DrawSecond batch word) h = tt
-day_fits (Close batch) h = tt
+day_fits act h = tt
 
 newest_fits : (entries : List Entry) → AllByRecursion IsFit entries → IfSome (newest_day entries) IsFitDay
 newest_fits entries all = last_said_has IsFitDay day_set day_fits entries all
 
 nominal_fits : (product : Name) (act : Act) → is_act_in_range act ≡ true → IfSome (nominal_put product act) IsFitNominal
 nominal_fits product (PutProduct name nominal unit) h = where_has IsFitNominal (same_name name product) nominal (within_limits MIN_NOMINAL MAX_NOMINAL nominal h)
-nominal_fits product (NewDay day) h = tt
-nominal_fits product (PutTare other day tare) h = tt
-nominal_fits product (OpenBatch batch other density) h = tt
-nominal_fits product (StartLane lane batch) h = tt
-nominal_fits product (Weigh lane gross prior) h = tt
-nominal_fits product (StopLane lane prior) h = tt
-nominal_fits product (Void pack) h = tt
-nominal_fits product (EndRun batch) h = tt
-nominal_fits product (Draw batch mode word) h = tt
-nominal_fits product (Measure pack gross empty) h = tt
-nominal_fits product (DrawSecond batch word) h = tt
-nominal_fits product (Close batch) h = tt
+nominal_fits product act h = tt
 
 nominal_known : (entries : List Entry) (product : Name) → AllByRecursion IsFit entries → IfSome (nominal_of entries product) IsFitNominal
 nominal_known entries product all = last_said_has IsFitNominal (nominal_put product) (nominal_fits product) entries all
@@ -207,18 +186,7 @@ tare_fits : (product : Name) (act : Act) → is_act_in_range act ≡ true → If
 tare_fits product (PutTare name day tare) h =
     let parts = and_parts (is_within (pos 0) MAX_DAY day) (is_within (pos 0) MAX_TARE tare) h in
     where_has IsFitDated (same_name name product) (record { day = day; tare = tare }) (within_limits (pos 0) MAX_TARE tare parts.1)
-tare_fits product (NewDay day) h = tt
-tare_fits product (PutProduct name nominal unit) h = tt
-tare_fits product (OpenBatch batch other density) h = tt
-tare_fits product (StartLane lane batch) h = tt
-tare_fits product (Weigh lane gross prior) h = tt
-tare_fits product (StopLane lane prior) h = tt
-tare_fits product (Void pack) h = tt
-tare_fits product (EndRun batch) h = tt
-tare_fits product (Draw batch mode word) h = tt
-tare_fits product (Measure pack gross empty) h = tt
-tare_fits product (DrawSecond batch word) h = tt
-tare_fits product (Close batch) h = tt
+tare_fits product act h = tt
 
 latest_fits : (tares : List DatedTare) → AllByRecursion IsFitDated tares → IfSome (latest tares) IsFitDated
 unfolding latest
@@ -244,18 +212,7 @@ measured_fits : (pack : ℕ) (act : Act) → is_act_in_range act ≡ true → If
 measured_fits pack (Measure number gross empty) h =
     let parts = and_parts (is_within (pos 0) MAX_GROSS gross) (is_within (pos 0) MAX_TARE empty) h in
     where_has IsFitMeasured (number == pack) (record { gross = gross; empty = empty }) (within_limits (pos 0) MAX_GROSS gross parts.0, within_limits (pos 0) MAX_TARE empty parts.1)
-measured_fits pack (NewDay day) h = tt
-measured_fits pack (PutProduct name nominal unit) h = tt
-measured_fits pack (PutTare product day tare) h = tt
-measured_fits pack (OpenBatch batch other density) h = tt
-measured_fits pack (StartLane lane batch) h = tt
-measured_fits pack (Weigh lane gross prior) h = tt
-measured_fits pack (StopLane lane prior) h = tt
-measured_fits pack (Void number) h = tt
-measured_fits pack (EndRun batch) h = tt
-measured_fits pack (Draw batch mode word) h = tt
-measured_fits pack (DrawSecond batch word) h = tt
-measured_fits pack (Close batch) h = tt
+measured_fits pack act h = tt
 
 -- ---- what a legal list says
 
@@ -287,18 +244,7 @@ IsFitReading reading = IsFitGross reading.gross × IfSome reading.day IsFitDay
 reading_fits : (number : ℕ) (before : List Entry) (act : Act) (signal : Option Signal) (after : List Entry) → AllByRecursion IsFit before → is_act_in_range act ≡ true
     → IfSome (weighed_reading number before act signal after) IsFitReading
 reading_fits number before (Weigh lane gross prior) signal after all h = (within_limits (pos 0) MAX_GROSS gross h, newest_fits before all)
-reading_fits number before (NewDay day) signal after all h = tt
-reading_fits number before (PutProduct name nominal unit) signal after all h = tt
-reading_fits number before (PutTare product day tare) signal after all h = tt
-reading_fits number before (OpenBatch batch product density) signal after all h = tt
-reading_fits number before (StartLane lane batch) signal after all h = tt
-reading_fits number before (StopLane lane prior) signal after all h = tt
-reading_fits number before (Void pack) signal after all h = tt
-reading_fits number before (EndRun batch) signal after all h = tt
-reading_fits number before (Draw batch mode word) signal after all h = tt
-reading_fits number before (Measure pack gross empty) signal after all h = tt
-reading_fits number before (DrawSecond batch word) signal after all h = tt
-reading_fits number before (Close batch) signal after all h = tt
+reading_fits number before act signal after all h = tt
 
 reading_at_fits : (entries : List Entry) (place : ℕ) → AllByRecursion IsFit entries → IfSome (placed_reading entries place) IsFitReading
 reading_at_fits entries place all =
@@ -703,19 +649,8 @@ row_told row None = tt
 row_told row (Some signal) = tt
 
 behind_told : (entries : List Entry) (act : Act) → IsReplyInRange (reply_behind entries act)
-behind_told entries (Close batch) = tt
 behind_told entries (Weigh lane gross prior) = row_told (length entries + 1) (recorded_signal entries (Weigh lane gross prior))
-behind_told entries (NewDay day) = tt
-behind_told entries (PutProduct name nominal unit) = tt
-behind_told entries (PutTare product day tare) = tt
-behind_told entries (OpenBatch batch product density) = tt
-behind_told entries (StartLane lane batch) = tt
-behind_told entries (StopLane lane prior) = tt
-behind_told entries (Void pack) = tt
-behind_told entries (EndRun batch) = tt
-behind_told entries (Draw batch mode word) = tt
-behind_told entries (Measure pack gross empty) = tt
-behind_told entries (DrawSecond batch word) = tt
+behind_told entries act = tt
 
 act_told : (entries : List Entry) (act : Act) (desk : Option Refusal) (row : Option ℕ) (refusal : Option Refusal) → ToldInRange desk → ToldInRange refusal
     → OutcomeInRange (desk_answer entries act desk row refusal)

@@ -1,63 +1,25 @@
--- The numbers of the readings of a list, and induction over lists from the end.
-use Rattle.std.proofs.Common.{◌≡◌, ℕ, zero, suc, ◌+◌, ◌<◌, ◌≤◌, Bool, true, false, ◌==◌, cond, ◌⊎◌, inl, inr, List, [], ◌∷◌, ◌++◌, length, take, drop, slice_get, Option, Some, None, option_map, refl, sym, ◌∙◌, ap, subst, arith, append_assoc, append-nil, length-append}
+-- The readings of a list by their numbers.
+use Rattle.std.proofs.Common.{◌≡◌, ℕ, zero, suc, ◌+◌, ◌<◌, ◌≤◌, Bool, true, false, ◌==◌, cond, ◌⊎◌, inl, inr, List, [], ◌∷◌, ◌++◌, length, take, drop, Option, Some, None, IfSome, option_map, refl, sym, ◌∙◌, ap, subst, arith, length-append}
 use Rattle.std.proofs.lemmas.Bool.{cases_Bool, cases_eq, eq-eqb, ne_eqb, eqb-true}
 use Rattle.std.proofs.lemmas.List.Elements.{All-nil, All-cons, All-head, All-tail, All-weaker}
 use Rattle.std.proofs.lemmas.Option.{same_Some}
 use Rattle.std.proofs.Math.Seq.{take-append_seam}
-use Rattle.std.specs.List.{All, filter, filter_map, find, range_with_len, cons_option, slice_index}
+use Rattle.std.specs.List.{All, filter, filter_map, find, range_with_len, cons_option}
 use Rattle.std.specs.List.Sorted.{IsStrictlyIncreasing}
 use Rattle.std.specs.Option.{option_and_then}
-use Rattle.pack_judge.specs.declared.types.Signal.{Signal}
-use Rattle.book_words.specs.declared.act.Act.{Act}
-use Rattle.book_words.specs.declared.act.Act.TheVariants.{NewDay, PutProduct, PutTare, OpenBatch, StartLane, Weigh, StopLane, Void, EndRun, Draw, Measure, DrawSecond, Close}
 use Rattle.book_words.specs.declared.act.Entry.{Entry}
 use Rattle.book_words.specs.declared.act.Reading.{Reading}
 use Rattle.book_words.specs.Readings.{weighed_reading, placed_reading, readings, reading_of}
 use Rattle.book_words.specs.Samples.{numbers_of}
-use Rattle.book_words.specs.Answers.{IsLawful, IsLegal}
+use Rattle.book_words.proofs.DrawnPacks.{placed_reading-number, ascend-increasing, readings_ascend, filter_ascends}
+use Rattle.book_words.proofs.RowLemmas.{at_last}
 use Rattle.book_words.proofs.OneMoreEntry.{advance, placed_reading-push, own_reading}
-
--- ---- induction from the end
-
--- what holds of the empty list, and of each legal list with one lawful entry more, holds of all
-pub by_entries : (P : List Entry → Type 0) → P [] → ((entries : List Entry) (entry : Entry) → IsLegal entries → IsLawful entries entry → P entries → P (entries ++ entry ∷ []))
-    → (entries : List Entry) → IsLegal entries → P entries
-by_entries P none more entries legal = from [] entries none legal
-  where
-    prefix : (before rest : List Entry) → IsLegal (before ++ rest) → IsLegal before
-    prefix before rest legal first e after parts =
-        legal first e (after ++ rest) (ap (λ es. es ++ rest) parts ∙ append_assoc first (e ∷ after) rest)
-
-    from : (before after : List Entry) → P before → IsLegal (before ++ after) → P (before ++ after)
-    from before [] holds legal = subst P (sym (append-nil before)) holds
-    from before (e ∷ es) holds legal =
-        let whole : (before ++ e ∷ []) ++ es ≡ before ++ e ∷ es = append_assoc before (e ∷ []) es in
-        subst P whole (from (before ++ e ∷ []) es (more before e (prefix before (e ∷ es) legal) (legal before e es refl) holds) (subst IsLegal (sym whole) legal))
 
 -- ---- the number of a reading is its place and one
 
-numbered_from : (number : ℕ) (before : List Entry) (act : Act) (signal : Option Signal) (after : List Entry) (reading : Reading) → weighed_reading number before act signal after ≡ Some reading → reading.number ≡ number
-numbered_from number before (Weigh lane gross prior) signal after reading h = ap (λ (r : Reading). r.number) (sym (same_Some _ _ h))
-numbered_from number before (NewDay day) signal after reading h = absurd (cc)
-numbered_from number before (PutProduct name nominal unit) signal after reading h = absurd (cc)
-numbered_from number before (PutTare product day tare) signal after reading h = absurd (cc)
-numbered_from number before (OpenBatch batch product density) signal after reading h = absurd (cc)
-numbered_from number before (StartLane lane batch) signal after reading h = absurd (cc)
-numbered_from number before (StopLane lane prior) signal after reading h = absurd (cc)
-numbered_from number before (Void pack) signal after reading h = absurd (cc)
-numbered_from number before (EndRun batch) signal after reading h = absurd (cc)
-numbered_from number before (Draw batch mode word) signal after reading h = absurd (cc)
-numbered_from number before (Measure pack gross empty) signal after reading h = absurd (cc)
-numbered_from number before (DrawSecond batch word) signal after reading h = absurd (cc)
-numbered_from number before (Close batch) signal after reading h = absurd (cc)
-
 -- the reading at a place has the number after it
 pub number_at : (entries : List Entry) (place : ℕ) (reading : Reading) → placed_reading entries place ≡ Some reading → reading.number ≡ place + 1
-number_at entries place reading = each (slice_get entries place)
-  where
-    each : (o : Option Entry) → option_and_then (λ (e : Entry). weighed_reading (place + 1) (take place entries) e.act e.signal (drop (place + 1) entries)) o ≡ Some reading → reading.number ≡ place + 1
-    each None h = absurd (cc)
-    each (Some e) h = numbered_from (place + 1) (take place entries) e.act e.signal (drop (place + 1) entries) reading h
+number_at entries place reading is = subst (λ (o : Option Reading). IfSome o (λ r. r.number ≡ place + 1)) is (placed_reading-number entries place)
 
 -- ---- readings one after another, each with a number from its place
 
@@ -98,50 +60,11 @@ at_its_place f numbered from (suc many) place h k = each (f from) refl (cases_eq
         let other : (r.number == place + 1) ≡ false = ne_eqb r.number (place + 1) (λ also. differ (omega (arith, also, number))) in
         ap (λ b. cond b (Some r) (find (λ (q : Reading). q.number == place + 1) (filter_map f (range_with_len (from + 1) many)))) other ∙ later (grind (arith, h, differ))
 
--- their numbers ascend, all of them above a least one
-abbrev pub Ascend : ℕ → List Reading → Type 0
-Ascend least [] = Unit {0}
-Ascend least (reading ∷ some) = (least < reading.number) × Ascend reading.number some
-
-ascend-lower : (least less : ℕ) (some : List Reading) → less ≤ least → Ascend least some → Ascend less some
-ascend-lower least less [] h up = tt
-ascend-lower least less (r ∷ rs) h up = (let first = up.0 in omega (arith, h, first), up.1)
-
-ascending : (f : ℕ → Option Reading) → AreNumbered f → (from many : ℕ) → Ascend from (filter_map f (range_with_len from many))
-ascending f numbered from zero = tt
-ascending f numbered from (suc many) = each (f from) refl (ascending f numbered (from + 1) many)
-  where
-    each : (o : Option Reading) → f from ≡ o → Ascend (from + 1) (filter_map f (range_with_len (from + 1) many)) → Ascend from (cons_option o (filter_map f (range_with_len (from + 1) many)))
-    each None is up = ascend-lower (from + 1) from (filter_map f (range_with_len (from + 1) many)) (omega arith) up
-    each (Some r) is up =
-        let number = numbered from r is in
-        (omega (arith, number), subst (λ n. Ascend n (filter_map f (range_with_len (from + 1) many))) (sym number) up)
-
--- a filter keeps them ascending
-pub ascend-filter : (test : Reading → Bool) (least : ℕ) (some : List Reading) → Ascend least some → Ascend least (filter test some)
-ascend-filter test least [] up = tt
-ascend-filter test least (r ∷ rs) up =
-    elim (cases_Bool (test r)) [
-      | inl t ↦ subst (λ b. Ascend least (cond b (r ∷ filter test rs) (filter test rs))) (sym t) (up.0, ascend-filter test r.number rs up.1)
-      | inr f ↦ subst (λ b. Ascend least (cond b (r ∷ filter test rs) (filter test rs))) (sym f) (ascend-lower r.number least (filter test rs) (let first = up.0 in omega (arith, first)) (ascend-filter test r.number rs up.1))
-    ]
-
--- ascending numbers increase strictly
-pub increasing : (least : ℕ) (some : List Reading) → Ascend least some → IsStrictlyIncreasing (numbers_of some)
-increasing least [] up k h = absurd (omega arith)
-increasing least (r ∷ []) up k h = absurd (omega arith)
-increasing least (r ∷ q ∷ rs) up zero h = up.1.0
-increasing least (r ∷ q ∷ rs) up (suc k) h =
-    subst (λ n. slice_index (numbers_of (q ∷ rs)) k < slice_index (numbers_of (r ∷ q ∷ rs)) n) (let same : suc (k + 1) ≡ suc k + 1 = omega arith in same)
-    (increasing r.number (q ∷ rs) up.1 k (omega (arith, h)))
-
--- the numbers of the readings ascend
-pub readings_ascend : (entries : List Entry) → Ascend 0 (readings entries)
-readings_ascend entries = ascending (placed_reading entries) (number_at entries) 0 (length entries)
-
--- as a list of numbers, also behind a filter
+-- the numbers of the readings behind a filter increase
 pub numbers_increase : (entries : List Entry) (test : Reading → Bool) → IsStrictlyIncreasing (numbers_of (filter test (readings entries)))
-numbers_increase entries test = increasing 0 (filter test (readings entries)) (ascend-filter test 0 (readings entries) (readings_ascend entries))
+numbers_increase entries test =
+    ascend-increasing 1 (length entries) (numbers_of (filter test (readings entries)))
+    (filter_ascends test 1 (length entries) (readings entries) (readings_ascend entries))
 
 -- ---- each reading is the one of its number
 
@@ -231,10 +154,6 @@ reading_of-push entries entry (suc place) h =
     ∙ placed_reading-push entries entry place (omega (arith, h))
     ∙ sym (ap (option_map (advance entry.act)) (reading_of-at entries place (omega (arith, h)))))
 
-last_of : (entries : List Entry) (entry : Entry) → slice_get (entries ++ entry ∷ []) (length entries) ≡ Some entry
-last_of [] entry = refl
-last_of (x ∷ xs) entry = last_of xs entry
-
 none_behind : (entries : List Entry) (entry : Entry) → drop (length entries + 1) (entries ++ entry ∷ []) ≡ []
 none_behind [] entry = refl
 none_behind (x ∷ xs) entry = ap (λ n. drop n (x ∷ (xs ++ entry ∷ []))) (let same : suc (length xs) + 1 ≡ suc (length xs + 1) = omega arith in same) ∙ none_behind xs entry
@@ -243,6 +162,6 @@ none_behind (x ∷ xs) entry = ap (λ n. drop n (x ∷ (xs ++ entry ∷ []))) (l
 pub reading_of-last : (entries : List Entry) (entry : Entry) → reading_of (entries ++ entry ∷ []) (length entries + 1) ≡ own_reading entries entry
 reading_of-last entries entry =
     reading_of-at (entries ++ entry ∷ []) (length entries) (omega (arith, length-append entries (entry ∷ [])))
-    ∙ ap (option_and_then (λ (e : Entry). weighed_reading (length entries + 1) (take (length entries) (entries ++ entry ∷ [])) e.act e.signal (drop (length entries + 1) (entries ++ entry ∷ [])))) (last_of entries entry)
+    ∙ ap (option_and_then (λ (e : Entry). weighed_reading (length entries + 1) (take (length entries) (entries ++ entry ∷ [])) e.act e.signal (drop (length entries + 1) (entries ++ entry ∷ [])))) (at_last entries entry)
     ∙ ap (λ (before : List Entry). weighed_reading (length entries + 1) before entry.act entry.signal (drop (length entries + 1) (entries ++ entry ∷ []))) (take-append_seam entries (entry ∷ []))
     ∙ ap (weighed_reading (length entries + 1) entries entry.act entry.signal) (none_behind entries entry)

@@ -12,7 +12,7 @@ use Rattle.annex_tables.specs.declared.types.Plan.{Plan}
 use Rattle.annex_tables.specs.declared.types.PlanRefusal.TheVariants as small
 use Rattle.annex_tables.specs.Plans.{plan_of, keeping_plan, plan_of_all, plan_to_500, plan_to_3200, plan_above_3200, plan_of_destruction}
 use Rattle.sample_draw.specs.Draws.{drawn, packs_left}
-use Rattle.sample_draw.proofs.Drawing.{All-drawn, length-drawn, packs_left-enough}
+use Rattle.sample_draw.proofs.DrawLemmas.{All-drawn, length-drawn, packs_left-enough}
 use Rattle.book_words.specs.declared.name.Name.{Name}
 use Rattle.book_words.specs.declared.act.Entry.{Entry}
 use Rattle.book_words.specs.declared.act.Reading.{Reading}

@@ -1,33 +1,35 @@
 -- Each reading of a legal list has a tare, and its batch's product a nominal quantity.
-use Rattle.std.proofs.Common.{◌≡◌, ℕ, ℤ, Bool, true, false, ◌||◌, cond, ◌==◌, int_le, int_lt, List, [], ◌∷◌, ◌++◌, map, length, ◌+◌, inl, inr, ◌⊎◌, Option, Some, None, is_some, is_none, option_map, refl, sym, ◌∙◌, ap, subst, arith, append_assoc, append-nil}
+use Rattle.std.proofs.Common.{◌≡◌, ℕ, ℤ, Bool, true, false, ◌||◌, cond, ◌==◌, int_le, List, [], ◌∷◌, ◌++◌, map, length, ◌+◌, inl, inr, ◌⊎◌, Option, Some, None, is_some, is_none, option_map, refl, sym, ◌∙◌, ap, subst, arith, append_assoc, append-nil}
 use Rattle.std.proofs.lemmas.Bool.{and_from, or_left, or_right, cases_Bool}
 use Rattle.std.proofs.lemmas.Int.{ints}
 use Rattle.std.proofs.lemmas.List.Elements.{All-nil, All-cons, All-head, All-tail, All-append, All-map, All-weaker, filter_map-append}
 use Rattle.std.proofs.lemmas.List.Folds.{list_any-append}
-use Rattle.std.specs.List.{All, filter, cons_option, list_any, list_all, last_or}
+use Rattle.std.specs.List.{All, filter, cons_option, list_any, list_all}
 use Rattle.std.specs.Option.{option_or, option_and_then, option_flatten}
 use Rattle.book_words.specs.declared.name.Name.{Name}
-use Rattle.book_words.specs.declared.act.BatchState.TheVariants.{Running}
 use Rattle.book_words.specs.declared.act.Act.{Act}
 use Rattle.book_words.specs.declared.act.Act.TheVariants.{NewDay, OpenBatch, StartLane, Weigh, StopLane}
 use Rattle.tare_register.specs.declared.types.DatedTare.{DatedTare}
 use Rattle.book_words.specs.declared.act.Entry.{Entry}
 use Rattle.book_words.specs.declared.act.Reading.{Reading}
-use Rattle.book_words.specs.declared.refusal.Refusal.{Refusal}
-use Rattle.book_words.specs.declared.refusal.Refusal.TheVariants.{DayBack, NoTare}
+use Rattle.book_words.specs.declared.refusal.Refusal.TheVariants.{NoTare}
 use Rattle.book_words.specs.Names.{same_name}
-use Rattle.book_words.specs.Acts.{said, last_said, day_set, nominal_put, product_given, lane_used, batch_started, newest_day, nominal_of, unit_of, product_of, density_of, state_of, last_batch, lane_batch}
+use Rattle.book_words.specs.Acts.{said, last_said, day_set, nominal_put, product_given, lane_used, newest_day, nominal_of, unit_of, product_of, density_of, state_of, last_batch, lane_batch}
 use Rattle.tare_register.specs.Tares.{latest, dated_by}
 use Rattle.tare_register.proofs.Latest.{none_greater, latest-append, latest_nothing}
 use Rattle.book_words.specs.Tares.{tare_put, tares_put, tare_of_product}
 use Rattle.book_words.specs.Readings.{readings, weighed_reading, tare_of_reading}
-use Rattle.book_words.specs.Refusals.{refused_if, day_unset, day_back, product_unknown, batch_unknown, batch_state, lane_number, lane_busy, lane_idle, no_tare}
+use Rattle.book_words.specs.Refusals.{refused_if, no_tare}
 use Rattle.book_words.specs.Answers.{IsLegal}
 use Rattle.book_words.specs.Soundness.{has_tare_and_nominal, TaresKnown}
-use Rattle.book_words.proofs.LastSaid.{last_or-cons, last_said-push}
-use Rattle.book_words.proofs.RefusalLemmas.{none_of_two}
+use Rattle.book_words.proofs.LastSaid.{last_said-push}
 use Rattle.book_words.proofs.OneMoreEntry.{advance, own_reading, readings-push}
-use Rattle.book_laws.proofs.KnownLaws.{IsAllowed, kept_behind, unit_known, density_known, state_known, is_there, product_of_stays}
+use Rattle.book_laws.proofs.KnownLaws.{product_of_stays}
+use Rattle.book_words.proofs.AllowedActs.{IsAllowed, is_there, allowed, start_lane_tells, open_batch_tells, weigh_tells, new_day_tells}
+use Rattle.book_words.proofs.LegalLemmas.{legal_steps}
+use Rattle.book_words.proofs.PlainLemmas.{some_of}
+use Rattle.std.proofs.lemmas.Option.{same_Some}
+use Rattle.book_words.proofs.SaidTogether.{started_for_it, unit_known, density_known, state_known}
 
 -- ---- a tare is there exactly where one is dated on the day or before it
 
@@ -100,12 +102,8 @@ tare_later entries product day later order h =
 
 -- ---- what an act leaves as it is
 
-either_some : {A : Type 0} (a b : Option A) → is_some b ≡ true → is_some (option_or a b) ≡ true
-either_some None b h = h
-either_some (Some x) b h = refl
-
 nominal_stays : (entries : List Entry) (entry : Entry) (product : Name) → is_some (nominal_of entries product) ≡ true → is_some (nominal_of (entries ++ entry ∷ []) product) ≡ true
-nominal_stays entries entry product h = ap is_some (last_said-push (nominal_put product) entries entry) ∙ either_some (nominal_put product entry.act) (nominal_of entries product) h
+nominal_stays entries entry product h = ap is_some (last_said-push (nominal_put product) entries entry) ∙ some_of (nominal_put product entry.act) (nominal_of entries product) h
 
 -- ---- what is true of the batches, the lanes and the readings of a legal list
 
@@ -149,23 +147,10 @@ tare_on_later : (entries : List Entry) (batch : Name) (day later : ℤ) → int_
 tare_on_later entries batch day later order has =
     record { product = has.product; known = has.known; nominal = has.nominal; tare = tare_later entries has.product day later order has.tare }
 
--- what two options hold is the same where they are
-pub some_is : {A : Type 0} (x y : A) → Some x ≡ Some y → x ≡ y
-some_is x y h = cc
-
-not_before : (day last : ℤ) (refusal : Refusal) → refused_if (int_lt day last) refusal ≡ None → int_le last day ≡ true
-not_before day last refusal h = each (cases_Bool (int_lt day last))
-  where
-    each : (int_lt day last ≡ true) ⊎ (int_lt day last ≡ false) → int_le last day ≡ true
-    each (inl t) = absurd (let wrong : refused_if (int_lt day last) refusal ≡ Some refusal = ap (λ b. refused_if b refusal) t in cc)
-    each (inr f) = grind (arith, ints)
-
 -- days don't go back
 goes_on : (entries : List Entry) (act : Act) (last day : ℤ) → IsAllowed entries act → day_set act ≡ Some day → newest_day entries ≡ Some last → int_le last day ≡ true
 goes_on entries (NewDay new) last day h is newest =
-    let a = none_of_two (day_back entries new) _ h in
-    let back : refused_if (int_lt new last) (DayBack last) ≡ None = sym (ap (option_and_then (λ l. refused_if (int_lt new l) (DayBack l))) newest) ∙ a.0 in
-    subst (λ (d : ℤ). int_le last d ≡ true) (some_is new day is) (not_before new last (DayBack last) back)
+    subst (λ (d : ℤ). int_le last d ≡ true) (same_Some new day is) ((new_day_tells entries new h).later last newest)
 goes_on entries act last day h is newest = absurd (cc)
 
 -- a lane that runs goes on doing so
@@ -190,13 +175,8 @@ runs_on entries entry batch h runs = newest (day_set entry.act) refl
 start_runs : (entries : List Entry) (entry : Entry) (lane : ℕ) (batch : Name) → IsTared entries → entry.act ≡ StartLane lane batch → IsAllowed entries entry.act → RunsFor (entries ++ entry ∷ []) batch
 start_runs entries entry lane batch sound is h =
     let rules : IsAllowed entries (StartLane lane batch) = subst (IsAllowed entries) is h in
-    let a = none_of_two (day_unset entries) _ rules in
-    let b = none_of_two (batch_unknown entries batch) _ a.1 in
-    let c = none_of_two (batch_state (Running ∷ []) entries batch) _ b.1 in
-    let d = none_of_two (lane_number lane) _ c.1 in
-    let e = none_of_two (lane_busy entries lane) _ d.1 in
-    let f = none_of_two (no_tare entries batch) None e.1 in
-    runs_on entries entry batch h (runs (newest_day entries) refl (is_there (newest_day entries) _ a.0) (product_of entries batch) refl (is_there (product_of entries batch) _ b.0) f.0)
+    let tells = start_lane_tells entries lane batch rules in
+    runs_on entries entry batch h (runs (newest_day entries) refl tells.day (product_of entries batch) refl tells.known tells.tared)
   where
     runs : (day : Option ℤ) → newest_day entries ≡ day → is_some day ≡ true → (product : Option Name) → product_of entries batch ≡ product → is_some product ≡ true → no_tare entries batch ≡ None → RunsFor entries batch
     runs None day_is there product product_is known tare = absurd (cc)
@@ -217,7 +197,7 @@ lanes_on entries entry (StartLane number started) lane batch sound is h on = eit
   where
     either : ((number == lane) ≡ true) ⊎ ((number == lane) ≡ false) → RunsFor (entries ++ entry ∷ []) batch
     either (inl t) =
-        let same : started ≡ batch = some_is started batch (sym (ap (λ b. option_flatten (option_or (cond b (Some (Some started)) None) (last_said (lane_used lane) entries))) t) ∙ on) in
+        let same : started ≡ batch = same_Some started batch (sym (ap (λ b. option_flatten (option_or (cond b (Some (Some started)) None) (last_said (lane_used lane) entries))) t) ∙ on) in
         subst (λ (b : Name). RunsFor (entries ++ entry ∷ []) b) same (start_runs entries entry number started sound is h)
     either (inr f) = runs_on entries entry batch h (sound.lanes lane batch (sym (ap (λ b. option_flatten (option_or (cond b (Some (Some started)) None) (last_said (lane_used lane) entries))) f) ∙ on))
 lanes_on entries entry (StopLane number prior) lane batch sound is h on = either (cases_Bool (number == lane))
@@ -238,10 +218,8 @@ products_on entries entry (OpenBatch name other density) batch product sound is 
 
     either : (same_name name batch ≡ true) ⊎ (same_name name batch ≡ false) → is_some (nominal_of entries product) ≡ true
     either (inl t) =
-        let a = none_of_two (day_unset entries) _ rules in
-        let b = none_of_two (product_unknown entries other) _ a.1 in
-        let same : other ≡ product = some_is other product (sym (ap (λ c. option_or (cond c (Some other) None) (product_of entries batch)) t) ∙ on) in
-        subst (λ (p : Name). is_some (nominal_of entries p) ≡ true) same (is_there (nominal_of entries other) _ b.0)
+        let same : other ≡ product = same_Some other product (sym (ap (λ c. option_or (cond c (Some other) None) (product_of entries batch)) t) ∙ on) in
+        subst (λ (p : Name). is_some (nominal_of entries p) ≡ true) same (open_batch_tells entries name other density rules).known
     either (inr f) = sound.products batch product (sym (ap (λ c. option_or (cond c (Some other) None) (product_of entries batch)) f) ∙ on)
 products_on entries entry act batch product sound is h on = nominal_stays entries entry product (sound.products batch product on)
 
@@ -251,38 +229,9 @@ weighed_on : (entries : List Entry) (entry : Entry) → IsAllowed entries entry.
 weighed_on entries entry h reading is =
     record { batch = is.batch; of_batch = is.of_batch; day = is.day; on_day = is.on_day; has = tare_on_stays entries entry is.batch is.day h is.has }
 
-last_start : (lane : ℕ) (batch : Name) (act : Act) (o : Option (Option Name)) (p : Option Name) → (option_flatten o ≡ Some batch → p ≡ Some batch)
-    → option_flatten (option_or (lane_used lane act) o) ≡ Some batch → option_or (batch_started lane act) p ≡ Some batch
-last_start lane batch (StartLane number started) o p before = either (number == lane)
-  where
-    either : (b : Bool) → option_flatten (option_or (cond b (Some (Some started)) None) o) ≡ Some batch → option_or (cond b (Some started) None) p ≡ Some batch
-    either true k = k
-    either false k = before k
-last_start lane batch (StopLane number prior) o p before = either (number == lane)
-  where
-    either : (b : Bool) → option_flatten (option_or (cond b (Some None) None) o) ≡ Some batch → p ≡ Some batch
-    either true k = absurd (cc)
-    either false k = before k
-last_start lane batch act o p before = before
-
-started_from : (lane : ℕ) (batch : Name) (entries : List Entry) (o : Option (Option Name)) (p : Option Name) → (option_flatten o ≡ Some batch → p ≡ Some batch)
-    → option_flatten (last_or o (said (lane_used lane) entries)) ≡ Some batch → last_or p (said (batch_started lane) entries) ≡ Some batch
-started_from lane batch [] o p before k = before k
-started_from lane batch (e ∷ es) o p before k =
-    last_or-cons p (batch_started lane e.act) (said (batch_started lane) es)
-    ∙ started_from lane batch es (option_or (lane_used lane e.act) o) (option_or (batch_started lane e.act) p) (last_start lane batch e.act o p before)
-    (sym (ap (λ (x : Option (Option Name)). option_flatten x) (last_or-cons o (lane_used lane e.act) (said (lane_used lane) es))) ∙ k)
-
--- a lane that has a batch was started for that one last
-pub started_for_it : (entries : List Entry) (lane : ℕ) (batch : Name) → lane_batch entries lane ≡ Some batch → last_batch entries lane ≡ Some batch
-started_for_it entries lane batch on = started_from lane batch entries None None (λ k. absurd (cc)) on
-
 own_weighed : (entries : List Entry) (entry : Entry) (act : Act) → IsTared entries → entry.act ≡ act → IsAllowed entries entry.act → All (IsWeighed (entries ++ entry ∷ [])) (cons_option (weighed_reading (length entries + 1) entries act entry.signal []) [])
 own_weighed entries entry (Weigh lane gross prior) sound is h =
-    let a = none_of_two (day_unset entries) _ rules in
-    let b = none_of_two (lane_number lane) _ a.1 in
-    let c = none_of_two (lane_idle entries lane) _ b.1 in
-    All-cons (IsWeighed (entries ++ entry ∷ [])) _ [] (own (lane_batch entries lane) refl (is_there (lane_batch entries lane) _ c.0)) (All-nil (IsWeighed (entries ++ entry ∷ [])))
+    All-cons (IsWeighed (entries ++ entry ∷ [])) _ [] (own (lane_batch entries lane) refl (weigh_tells entries lane gross prior rules).runs) (All-nil (IsWeighed (entries ++ entry ∷ [])))
   where
     rules : IsAllowed entries (Weigh lane gross prior)
     rules = subst (IsAllowed entries) is h
@@ -326,7 +275,9 @@ each_has entries (reading ∷ some) all = and_from (has_tare_and_nominal entries
 
 -- the batches, the lanes and the readings of a legal list have what they need
 pub tared_of : (entries : List Entry) → IsLegal entries → IsTared entries
-tared_of entries legal = kept_behind IsTared tared-push [] entries nothing legal
+tared_of =
+    legal_steps IsTared nothing
+    (λ before entry legal lawful tared. tared-push before entry tared (allowed before entry lawful))
   where
     nothing : IsTared []
     nothing = record { products = λ batch product known. absurd (cc); lanes = λ lane batch on. absurd (cc); weighed = All-nil (IsWeighed []) }

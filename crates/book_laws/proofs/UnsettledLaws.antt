@@ -10,7 +10,7 @@ use Rattle.book_words.specs.declared.name.Name.{Name}
 use Rattle.book_words.specs.declared.act.Prior.{Prior}
 use Rattle.book_words.specs.declared.act.BatchState.TheVariants.{Running}
 use Rattle.book_words.specs.declared.act.Act.{Act}
-use Rattle.book_words.specs.declared.act.Act.TheVariants.{NewDay, PutProduct, PutTare, OpenBatch, StartLane, Weigh, StopLane, Void, EndRun, Draw, Measure, DrawSecond, Close}
+use Rattle.book_words.specs.declared.act.Act.TheVariants.{Weigh, Void}
 use Rattle.book_words.specs.declared.act.Entry.{Entry}
 use Rattle.book_words.specs.declared.act.Reading.{Reading}
 use Rattle.book_words.specs.declared.refusal.Refusal.TheVariants as why
@@ -20,9 +20,12 @@ use Rattle.book_words.specs.Population.{is_pass, is_unsettled, unsettled_reading
 use Rattle.book_words.specs.Refusals.{refused_if}
 use Rattle.book_words.specs.Answers.{IsLawful, IsLegal}
 use Rattle.book_words.proofs.OneMoreEntry.{advance, own_reading, readings-push}
-use Rattle.book_laws.proofs.LawfulActs.{IsAllowed, allowed, not_test, start_lane_tells, weigh_tells, void_tells}
-use Rattle.book_laws.proofs.ReadingLaws.{by_entries, IsOneOf, each_is_one, of_reading}
+use Rattle.book_words.proofs.AllowedActs.{IsAllowed, allowed, not_test, weigh_tells, void_tells}
+use Rattle.book_laws.proofs.ReadingLaws.{IsOneOf, each_is_one, of_reading}
+use Rattle.book_words.proofs.LegalLemmas.{legal_steps}
 use Rattle.book_laws.proofs.BatchLaws.{IsOrderly, orderly, state_of-push, lane_batch-push, lane_runs}
+use Rattle.book_laws.proofs.LaneLaws.{lane_stays}
+use Rattle.book_words.proofs.PlainLemmas.{or_none}
 
 -- what holds of a reading of a legal list: it has a batch, which has a state; and while it is
 -- unsettled, its lane has that batch, and it isn't taken back
@@ -45,32 +48,6 @@ unsettled_before act reading h =
     let nones = none_first reading.next_prior (prior_told reading.lane act) parts.1 in
     (and_from (is_pass reading.signal) (is_none reading.next_prior) parts.0 nones.0, nones.1)
 
--- an allowed act that says nothing of the gate of a lane with a batch leaves it its batch
-lane_kept : (entries : List Entry) (act : Act) (lane : ℕ) (batch : Name) → IsAllowed entries act → lane_batch entries lane ≡ Some batch → prior_told lane act ≡ None → lane_used lane act ≡ None
-lane_kept entries (StartLane number started) lane batch h has told = either (number == lane) refl
-  where
-    either : (b : Bool) → (number == lane) ≡ b → cond b (Some (Some started)) None ≡ None
-    either true is =
-        let idle : lane_batch entries lane ≡ None = subst (λ n. lane_batch entries n ≡ None) (eqb-true number lane is) (start_lane_tells entries number started h).idle in
-        absurd (let wrong : None ≡ Some batch = sym idle ∙ has in cc)
-    either false is = refl
-lane_kept entries (StopLane number prior) lane batch h has told = either (number == lane) told
-  where
-    either : (b : Bool) → cond b (Some prior) None ≡ None → cond {A = Option (Option Name)} b (Some None) None ≡ None
-    either true k = absurd (cc)
-    either false k = refl
-lane_kept entries (NewDay day) lane batch h has told = refl
-lane_kept entries (PutProduct name nominal unit) lane batch h has told = refl
-lane_kept entries (PutTare product day tare) lane batch h has told = refl
-lane_kept entries (OpenBatch name product density) lane batch h has told = refl
-lane_kept entries (Weigh number gross prior) lane batch h has told = refl
-lane_kept entries (Void pack) lane batch h has told = refl
-lane_kept entries (EndRun name) lane batch h has told = refl
-lane_kept entries (Draw name mode word) lane batch h has told = refl
-lane_kept entries (Measure pack gross empty) lane batch h has told = refl
-lane_kept entries (DrawSecond name word) lane batch h has told = refl
-lane_kept entries (Close name) lane batch h has told = refl
-
 -- an allowed act takes back no unsettled reading
 voids_settled : (entries : List Entry) (act : Act) (reading : Reading) → IsAllowed entries act → IsOneOf entries reading → is_unsettled reading ≡ true → is_void_of reading.number act ≡ false
 voids_settled entries (Void pack) reading h one unsettled = either (pack == reading.number) refl
@@ -83,18 +60,7 @@ voids_settled entries (Void pack) reading h one unsettled = either (pack == read
         (sym (ap (option_and_then (λ (r : Reading). refused_if (is_unsettled r) (why.Unsettled r.lane))) found) ∙ (void_tells entries pack h).settled) in
         absurd (both_ways _ settled unsettled)
     either false is = refl
-voids_settled entries (NewDay day) reading h one unsettled = refl
-voids_settled entries (PutProduct name nominal unit) reading h one unsettled = refl
-voids_settled entries (PutTare product day tare) reading h one unsettled = refl
-voids_settled entries (OpenBatch name product density) reading h one unsettled = refl
-voids_settled entries (StartLane lane name) reading h one unsettled = refl
-voids_settled entries (Weigh lane gross prior) reading h one unsettled = refl
-voids_settled entries (StopLane lane prior) reading h one unsettled = refl
-voids_settled entries (EndRun name) reading h one unsettled = refl
-voids_settled entries (Draw name mode word) reading h one unsettled = refl
-voids_settled entries (Measure pack gross empty) reading h one unsettled = refl
-voids_settled entries (DrawSecond name word) reading h one unsettled = refl
-voids_settled entries (Close name) reading h one unsettled = refl
+voids_settled entries act reading h one unsettled = refl
 
 some_of : {A : Type 0} (o p : Option A) → is_some p ≡ true → is_some (option_or o p) ≡ true
 some_of None p h = h
@@ -114,7 +80,7 @@ belongs_on entries entry reading h one has =
           let was = unsettled_before entry.act reading now in
           let on = has.lane was.0 in
           lane_batch-push entries entry reading.lane
-          ∙ ap (λ (o : Option (Option Name)). option_flatten (option_or o (last_said (lane_used reading.lane) entries))) (lane_kept entries entry.act reading.lane has.batch h on was.1)
+          ∙ ap (λ (o : Option (Option Name)). option_flatten (option_or o (last_said (lane_used reading.lane) entries))) (lane_stays entries entry.act reading.lane has.batch h on was.1)
           ∙ on;
       kept = λ now.
           let was = unsettled_before entry.act reading now in
@@ -136,18 +102,7 @@ own_belongs entries entry (Weigh lane gross prior) good is h =
           lane = λ now. lane_batch-push entries entry lane ∙ ap (λ (a : Act). option_flatten (option_or (lane_used lane a) (last_said (lane_used lane) entries))) is ∙ on;
           kept = λ now. refl;
         }
-own_belongs entries entry (NewDay day) good is h = All-nil (Belongs (entries ++ entry ∷ []))
-own_belongs entries entry (PutProduct name nominal unit) good is h = All-nil (Belongs (entries ++ entry ∷ []))
-own_belongs entries entry (PutTare product day tare) good is h = All-nil (Belongs (entries ++ entry ∷ []))
-own_belongs entries entry (OpenBatch name product density) good is h = All-nil (Belongs (entries ++ entry ∷ []))
-own_belongs entries entry (StartLane lane name) good is h = All-nil (Belongs (entries ++ entry ∷ []))
-own_belongs entries entry (StopLane lane prior) good is h = All-nil (Belongs (entries ++ entry ∷ []))
-own_belongs entries entry (Void pack) good is h = All-nil (Belongs (entries ++ entry ∷ []))
-own_belongs entries entry (EndRun name) good is h = All-nil (Belongs (entries ++ entry ∷ []))
-own_belongs entries entry (Draw name mode word) good is h = All-nil (Belongs (entries ++ entry ∷ []))
-own_belongs entries entry (Measure pack gross empty) good is h = All-nil (Belongs (entries ++ entry ∷ []))
-own_belongs entries entry (DrawSecond name word) good is h = All-nil (Belongs (entries ++ entry ∷ []))
-own_belongs entries entry (Close name) good is h = All-nil (Belongs (entries ++ entry ∷ []))
+own_belongs entries entry act good is h = All-nil (Belongs (entries ++ entry ∷ []))
 
 abbrev AllBelong : List Entry → Type 0
 AllBelong entries = All (Belongs entries) (readings entries)
@@ -163,7 +118,7 @@ belong-push entries entry legal lawful all =
 
 -- each reading of a legal list belongs to a batch
 pub each_belongs : (entries : List Entry) → IsLegal entries → All (Belongs entries) (readings entries)
-each_belongs entries legal = by_entries AllBelong (All-nil (Belongs [])) belong-push entries legal
+each_belongs entries legal = legal_steps AllBelong (All-nil (Belongs [])) belong-push entries legal
 
 -- ---- at most one in a lane
 
@@ -204,18 +159,7 @@ own_elsewhere entries (Weigh number gross prior) signal lane told = either (numb
     either : (b : Bool) → cond b (Some prior) None ≡ None → (c : Bool) (reading : Reading) → cond (b && (c && true)) (reading ∷ []) [] ≡ []
     either true k c reading = absurd (cc)
     either false k c reading = refl
-own_elsewhere entries (NewDay day) signal lane told = refl
-own_elsewhere entries (PutProduct name nominal unit) signal lane told = refl
-own_elsewhere entries (PutTare product day tare) signal lane told = refl
-own_elsewhere entries (OpenBatch name product density) signal lane told = refl
-own_elsewhere entries (StartLane number name) signal lane told = refl
-own_elsewhere entries (StopLane number prior) signal lane told = refl
-own_elsewhere entries (Void pack) signal lane told = refl
-own_elsewhere entries (EndRun name) signal lane told = refl
-own_elsewhere entries (Draw name mode word) signal lane told = refl
-own_elsewhere entries (Measure pack gross empty) signal lane told = refl
-own_elsewhere entries (DrawSecond name word) signal lane told = refl
-own_elsewhere entries (Close name) signal lane told = refl
+own_elsewhere entries act signal lane told = refl
 
 abbrev OneWaiting : List Entry → Type 0
 OneWaiting entries = (lane : ℕ) → length (filter (waits_on_lane lane) (readings entries)) ≤ 1
@@ -329,10 +273,6 @@ filter_mapped test change (r ∷ rs) same =
     either : (b : Bool) → cond b (change r ∷ map change (filter test rs)) (map change (filter test rs)) ≡ map change (cond b (r ∷ filter test rs) (filter test rs))
     either true = refl
     either false = refl
-
-or_none : {A : Type 0} (o : Option A) → option_or o None ≡ o
-or_none None = refl
-or_none (Some x) = refl
 
 -- an act that says nothing of a lane's gate leaves its readings open or shut
 waits_alike : (act : Act) (lane : ℕ) → prior_told lane act ≡ None → (reading : Reading) → waits_on_lane lane (advance act reading) ≡ waits_on_lane lane reading

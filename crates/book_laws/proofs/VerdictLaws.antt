@@ -1,5 +1,5 @@
 -- The verdict of a closed batch stays.
-use Rattle.std.proofs.Common.{◌≡◌, ℕ, ℤ, pos, ◌+ℤ◌, ◌-ℤ◌, ◌*ℤ◌, ◌*◌, ◌+◌, Bool, true, false, not, ◌&&◌, cond, ◌==◌, int_le, nat_le, List, [], ◌∷◌, ◌++◌, length, take, get_or, inl, inr, Option, Some, None, is_some, option_map, refl, sym, ◌∙◌, ap, subst, append_assoc, append-nil}
+use Rattle.std.proofs.Common.{◌≡◌, ℕ, ℤ, pos, ◌+ℤ◌, ◌-ℤ◌, ◌*ℤ◌, ◌*◌, ◌+◌, Bool, true, false, not, ◌&&◌, cond, ◌==◌, int_le, nat_le, List, [], ◌∷◌, ◌++◌, length, take, get_or, inl, inr, Option, Some, None, is_some, option_map, refl, sym, ◌∙◌, ap, subst, append_assoc}
 use Rattle.std.proofs.lemmas.Bool.{and_parts}
 use Rattle.std.proofs.lemmas.List.Elements.{All-head, All-tail, All-take, All-filter, filter_passes}
 use Rattle.std.specs.List.{All, cons_option, count_by, filter_map, find, fold}
@@ -23,18 +23,18 @@ use Rattle.book_words.specs.Classes.{UNIT_DENSITY, is_below, nominal_of_batch, l
 use Rattle.book_words.specs.Population.{is_counted, population, count_below, nonstandard_count, inadequate_count, net_sum}
 use Rattle.book_words.specs.Samples.{Drawing, Sample, numbers_of, drawing_from, drawing_of, second_word, sample_by, sample_of}
 use Rattle.book_words.specs.Measures.{Measured, measured_of, actual_contents, contents_of_pack, contents_among, defective_count}
-use Rattle.book_words.specs.Verdicts.{second_packs, first_defective, second_defective, is_accepted, contents_check_accepts, mean_accepts, mean_check_accepts, average_accepts, fails_of, verdict_by_fails, verdict_of}
-use Rattle.book_words.specs.Refusals as rules
+use Rattle.reference_test.specs.Means.{mean_accepts}
+use Rattle.book_words.specs.Verdicts.{second_packs, first_defective, second_defective, is_accepted, contents_check_accepts, mean_check_accepts, average_accepts, fails_of, verdict_by_fails, verdict_of}
 use Rattle.book_words.specs.Answers.{IsLawful, IsLegal}
 use Rattle.book_words.specs.Balance.{VerdictsStay}
 use Rattle.book_words.proofs.LastSaid.{last_said-push}
 use Rattle.book_words.proofs.NameLemmas.{same_name_itself}
-use Rattle.book_words.proofs.RefusalLemmas.{none_of_two}
-use Rattle.book_words.proofs.LegalLemmas.{legal-prefix}
+use Rattle.book_words.proofs.LegalLemmas.{kept_behind}
 use Rattle.book_words.proofs.OneMoreEntry.{advance}
 use Rattle.book_words.proofs.DrawnLemmas.{drawing_of-push}
 use Rattle.book_laws.proofs.TareLaws.{tared_of}
-use Rattle.book_laws.proofs.KnownLaws.{IsAllowed, lawful_allowed, IsKnown, silent, state_apart, closed_stays, nominal_of_batch_stays, density_of_batch_stays}
+use Rattle.book_laws.proofs.KnownLaws.{IsKnown, silent, state_apart, closed_stays, nominal_of_batch_stays, density_of_batch_stays}
+use Rattle.book_words.proofs.AllowedActs.{IsAllowed, allowed, draw_tells, draw_second_tells}
 use Rattle.book_laws.proofs.LaneLaws.{AreLanesRight, lanes_right}
 use Rattle.book_laws.proofs.PackLaws.{IsPick, PicksOwn, picks_own, numbered, none_beyond, reading_of_later}
 use Rattle.book_laws.proofs.ClosedLaws.{Unmoved, all_unmoved, measured_stays, closed_population_stays}
@@ -44,18 +44,12 @@ use Rattle.book_laws.proofs.FrozenLaws.{TareStays, closed_tares_stay}
 
 not_drawn : (entries : List Entry) (act : Act) (batch : Name) → IsAllowed entries act → state_of entries batch ≡ Some Closed → drawing_from batch entries act ≡ None
 not_drawn entries (Draw name mode word) batch h closed =
-    let a = none_of_two (rules.day_unset entries) _ h in
-    let b = none_of_two (rules.batch_unknown entries name) _ a.1 in
-    let c = none_of_two (rules.batch_state (Ended ∷ []) entries name) _ b.1 in
-    ap (λ test. cond test (Some (record { mode = mode; word = word; packs = numbers_of (population entries batch) })) None) (state_apart entries (Ended ∷ []) name batch Closed c.0 closed refl)
+    ap (λ test. cond test (Some (record { mode = mode; word = word; packs = numbers_of (population entries batch) })) None) (state_apart entries (Ended ∷ []) name batch Closed (draw_tells entries name mode word h).state closed refl)
 not_drawn entries act batch h closed = refl
 
 not_drawn_again : (entries : List Entry) (act : Act) (batch : Name) → IsAllowed entries act → state_of entries batch ≡ Some Closed → second_word batch act ≡ None
 not_drawn_again entries (DrawSecond name word) batch h closed =
-    let a = none_of_two (rules.day_unset entries) _ h in
-    let b = none_of_two (rules.batch_unknown entries name) _ a.1 in
-    let c = none_of_two (rules.batch_state (Drawn ∷ []) entries name) _ b.1 in
-    ap (λ test. cond test (Some word) None) (state_apart entries (Drawn ∷ []) name batch Closed c.0 closed refl)
+    ap (λ test. cond test (Some word) None) (state_apart entries (Drawn ∷ []) name batch Closed (draw_second_tells entries name word h).state closed refl)
 not_drawn_again entries act batch h closed = refl
 
 -- the samples of a closed batch stay
@@ -278,19 +272,22 @@ settled_of entries batch legal closed = each (product_of entries batch) refl (ri
 pub closed_verdict_stays : (entries : List Entry) (entry : Entry) (batch : Name) → IsLegal entries → IsLawful entries entry → state_of entries batch ≡ Some Closed
     → verdict_of (entries ++ entry ∷ []) batch ≡ verdict_of entries batch
 closed_verdict_stays entries entry batch legal lawful closed =
-    same_verdict (entries ++ entry ∷ []) entries batch (agrees entries entry batch (lawful_allowed entries entry lawful) (settled_of entries batch legal closed))
+    same_verdict (entries ++ entry ∷ []) entries batch (agrees entries entry batch (allowed entries entry lawful) (settled_of entries batch legal closed))
 
 -- it stays whatever follows
 verdict_behind : (batch : Name) (before after : List Entry) → state_of before batch ≡ Some Closed → IsLegal (before ++ after) → verdict_of before batch ≡ verdict_of (before ++ after) batch
-verdict_behind batch before [] closed legal = ap (λ (es : List Entry). verdict_of es batch) (sym (append-nil before))
-verdict_behind batch before (entry ∷ after) closed legal =
-    let whole : (before ++ entry ∷ []) ++ after ≡ before ++ entry ∷ after = append_assoc before (entry ∷ []) after in
-    let allowed = lawful_allowed before entry (legal before entry after refl) in
-    let front = legal-prefix before (entry ∷ after) legal in
-    let settled = settled_of before batch front closed in
-    sym (closed_verdict_stays before entry batch front (legal before entry after refl) closed)
-    ∙ verdict_behind batch (before ++ entry ∷ []) after (closed_stays before entry batch allowed (ap is_some settled.known.given) closed) (subst IsLegal (sym whole) legal)
-    ∙ ap (λ (es : List Entry). verdict_of es batch) whole
+verdict_behind batch before after closed legal = (kept_behind Stays step before after legal (closed, refl)).1
+  where
+    -- the batch is closed, and its verdict is the one before
+    Stays : List Entry → Type 0
+    Stays all = (state_of all batch ≡ Some Closed) × (verdict_of before batch ≡ verdict_of all batch)
+
+    step : (front : List Entry) (entry : Entry) → IsLegal front → IsLawful front entry → Stays front → Stays (front ++ entry ∷ [])
+    step front entry is_legal lawful stays =
+        let settled = settled_of front batch is_legal stays.0 in (
+          closed_stays front entry batch (allowed front entry lawful) (ap is_some settled.known.given) stays.0,
+          stays.1 ∙ sym (closed_verdict_stays front entry batch is_legal lawful stays.0),
+        )
 
 -- in a legal list each verdict stays, whatever came after it
 pub verdicts_stay : (entries : List Entry) → IsLegal entries → VerdictsStay entries

@@ -9,7 +9,7 @@ use Rattle.book_words.specs.Order.{batch_number}
 use Rattle.book_words.specs.Refusals.{is_closed}
 use Rattle.book_packs.specs.Stand.{Standing, IsPacksOf, terms_of_batch}
 use Rattle.book_packs.specs.Told.{closed_in}
-use Rattle.book_packs.proofs.Lists.{place_holds}
+use Rattle.book_words.proofs.PlaceLemmas.{place_of-name}
 
 within : (names : List Name) (place : ℕ) (name : Name) → slice_get names place ≡ Some name → place < length names
 within [] place name h = absurd (cc)
@@ -23,7 +23,7 @@ batches_long entries kept stands = ap length stands.batches ∙ length-map (said
 -- the number of a batch is below them
 pub batch_within : (entries : List Entry) (kept : Standing) (name : Name) (batch : ℕ) → IsPacksOf entries kept → batch_number entries name ≡ Some batch → batch < length kept.batches
 batch_within entries kept name batch stands is =
-    subst (λ n. batch < n) (sym (batches_long entries kept stands)) (within (said batch_opened entries) batch name (place_holds (said batch_opened entries) name batch is))
+    subst (λ n. batch < n) (sym (batches_long entries kept stands)) (within (said batch_opened entries) batch name (place_of-name (said batch_opened entries) name batch is))
 
 -- there is a flag for each batch
 pub closed_long : (entries : List Entry) (kept : Standing) → IsPacksOf entries kept → length (closed_in entries) ≡ length kept.batches

@@ -1,5 +1,5 @@
 -- What holds of the names, the days and the readings of a legal list.
-use Rattle.std.proofs.Common.{◌≡◌, ℕ, ℤ, ◌+◌, ◌==◌, true, false, cond, List, [], ◌∷◌, ◌++◌, length, map, Option, Some, None, is_some, int_le, refl, sym, ◌∙◌, ap, subst, arith, inl, inr, append_assoc, append-nil}
+use Rattle.std.proofs.Common.{◌≡◌, ℕ, ℤ, ◌+◌, ◌==◌, true, false, cond, List, [], ◌∷◌, ◌++◌, length, map, Option, Some, None, is_some, int_le, refl, sym, ◌∙◌, ap, subst, arith, inl, inr}
 use Rattle.std.specs.Prelude.{pos}
 use Rattle.std.specs.List.{AllByRecursion, cons_option, slice_get}
 use Rattle.std.specs.Option.{option_or}
@@ -10,7 +10,7 @@ use Rattle.hall_limits.specs.declared.TheConstants.{MAX_DAY}
 use Rattle.batch_sums.specs.Changes.{IsUpTo}
 use Rattle.book_words.specs.declared.name.Name.{Name}
 use Rattle.book_words.specs.declared.act.Act.{Act}
-use Rattle.book_words.specs.declared.act.Act.TheVariants.{NewDay, PutProduct, PutTare, OpenBatch, StartLane, Weigh, StopLane, Void, EndRun, Draw, Measure, DrawSecond, Close}
+use Rattle.book_words.specs.declared.act.Act.TheVariants.{NewDay, PutTare, OpenBatch, StartLane, Weigh}
 use Rattle.book_words.specs.declared.act.Entry.{Entry}
 use Rattle.book_words.specs.declared.act.Reading.{Reading}
 use Rattle.book_words.specs.Names.{same_name}
@@ -21,9 +21,14 @@ use Rattle.book_words.specs.Refusals.{is_within}
 use Rattle.book_words.specs.Answers.{IsLegal}
 use Rattle.book_words.proofs.LastSaid.{last_said-push}
 use Rattle.book_words.proofs.OneMoreEntry.{advance, own_reading, readings-push}
-use Rattle.book_packs.proofs.Lists.{all_then, all-append, all-map, distinct_more}
-use Rattle.book_packs.proofs.Rules.{Passes, passes, put_tare, new_day, open_batch, start_lane, weigh}
-use Rattle.book_packs.proofs.Numbered.{product_is_known, batch_is_known, product_keeps, batch_keeps, was_started}
+use Rattle.book_packs.proofs.Lists.{all_then, all-append, all-map}
+use Rattle.book_words.proofs.LegalLemmas.{legal_steps}
+use Rattle.book_words.proofs.AllowedActs.{IsAllowed, allowed, put_tare_tells, new_day_tells, open_batch_tells, start_lane_tells, weigh_tells}
+use Rattle.book_packs.proofs.KeptNumbers.{product_keeps, batch_keeps}
+use Rattle.book_words.proofs.SaidNames.{nominal_where_put, product_where_opened}
+use Rattle.book_words.proofs.SaidTogether.{was_started}
+use Rattle.std.proofs.lemmas.Option.{same_Some}
+use Rattle.book_words.proofs.PlaceLemmas.{apart_more}
 
 -- the product for which an act puts a tare
 abbrev pub tare_named : Act → Option Name
@@ -55,97 +60,39 @@ known-nil = record { products = λ batch product h. absurd (cc); tared = tt; lan
 pub up_to : (limit number : ℤ) → is_within (pos 0) limit number ≡ true → IsUpTo limit number
 up_to limit number h = let parts = and_parts (int_le (pos 0) number) (int_le number limit) h in (grind (arith, ints), grind (arith, ints))
 
-there : {A : Type 0} {x y : A} → Some x ≡ Some y → x ≡ y
-there h = cc
-
 -- what an act says of itself is entered
-product_ruled : (entries : List Entry) (act : Act) → Passes entries act → (batch product : Name) → product_given batch act ≡ Some product → is_some (product_number entries product) ≡ true
+product_ruled : (entries : List Entry) (act : Act) → IsAllowed entries act → (batch product : Name) → product_given batch act ≡ Some product → is_some (product_number entries product) ≡ true
 product_ruled entries (OpenBatch name other density) h batch product is =
     elim (cases_Bool (same_name name batch)) [
       | inl t ↦
-          let same : other ≡ product = there (sym (ap (λ b. cond b (Some other) None) t) ∙ is) in
-          subst (λ (p : Name). is_some (product_number entries p) ≡ true) same (sym (product_is_known entries other) ∙ (open_batch entries name other density h).0)
+          let same : other ≡ product = same_Some _ _ (sym (ap (λ b. cond b (Some other) None) t) ∙ is) in
+          subst (λ (p : Name). is_some (product_number entries p) ≡ true) same (sym (nominal_where_put entries other) ∙ (open_batch_tells entries name other density h).known)
       | inr f ↦ absurd (let wrong = sym (ap (λ b. cond b (Some other) None) f) ∙ is in cc)
     ]
-product_ruled entries (NewDay day) h batch product is = absurd (cc)
-product_ruled entries (PutProduct other nominal unit) h batch product is = absurd (cc)
-product_ruled entries (PutTare other day tare) h batch product is = absurd (cc)
-product_ruled entries (StartLane lane other) h batch product is = absurd (cc)
-product_ruled entries (Weigh lane gross prior) h batch product is = absurd (cc)
-product_ruled entries (StopLane lane prior) h batch product is = absurd (cc)
-product_ruled entries (Void pack) h batch product is = absurd (cc)
-product_ruled entries (EndRun other) h batch product is = absurd (cc)
-product_ruled entries (Draw other mode word) h batch product is = absurd (cc)
-product_ruled entries (Measure pack gross empty) h batch product is = absurd (cc)
-product_ruled entries (DrawSecond other word) h batch product is = absurd (cc)
-product_ruled entries (Close other) h batch product is = absurd (cc)
+product_ruled entries act h batch product is = absurd (cc)
 
-lane_ruled : (entries : List Entry) (act : Act) → Passes entries act → (lane : ℕ) (batch : Name) → batch_started lane act ≡ Some batch → is_some (batch_number entries batch) ≡ true
+lane_ruled : (entries : List Entry) (act : Act) → IsAllowed entries act → (lane : ℕ) (batch : Name) → batch_started lane act ≡ Some batch → is_some (batch_number entries batch) ≡ true
 lane_ruled entries (StartLane number name) h lane batch is =
     elim (cases_Bool (number == lane)) [
       | inl t ↦
-          let same : name ≡ batch = there (sym (ap (λ b. cond b (Some name) None) t) ∙ is) in
-          subst (λ (b : Name). is_some (batch_number entries b) ≡ true) same (sym (batch_is_known entries name) ∙ start_lane entries number name h)
+          let same : name ≡ batch = same_Some _ _ (sym (ap (λ b. cond b (Some name) None) t) ∙ is) in
+          subst (λ (b : Name). is_some (batch_number entries b) ≡ true) same (sym (product_where_opened entries name) ∙ (start_lane_tells entries number name h).known)
       | inr f ↦ absurd (let wrong = sym (ap (λ b. cond b (Some name) None) f) ∙ is in cc)
     ]
-lane_ruled entries (NewDay day) h lane batch is = absurd (cc)
-lane_ruled entries (PutProduct other nominal unit) h lane batch is = absurd (cc)
-lane_ruled entries (PutTare other day tare) h lane batch is = absurd (cc)
-lane_ruled entries (OpenBatch name other density) h lane batch is = absurd (cc)
-lane_ruled entries (Weigh number gross prior) h lane batch is = absurd (cc)
-lane_ruled entries (StopLane number prior) h lane batch is = absurd (cc)
-lane_ruled entries (Void pack) h lane batch is = absurd (cc)
-lane_ruled entries (EndRun other) h lane batch is = absurd (cc)
-lane_ruled entries (Draw other mode word) h lane batch is = absurd (cc)
-lane_ruled entries (Measure pack gross empty) h lane batch is = absurd (cc)
-lane_ruled entries (DrawSecond other word) h lane batch is = absurd (cc)
-lane_ruled entries (Close other) h lane batch is = absurd (cc)
+lane_ruled entries act h lane batch is = absurd (cc)
 
-day_ruled : (entries : List Entry) (act : Act) → Passes entries act → (day : ℤ) → day_set act ≡ Some day → IsUpTo MAX_DAY day
-day_ruled entries (NewDay new) h day is = subst (λ (d : ℤ). IsUpTo MAX_DAY d) (there is) (up_to MAX_DAY new (new_day entries new h))
-day_ruled entries (PutProduct other nominal unit) h day is = absurd (cc)
-day_ruled entries (PutTare other date tare) h day is = absurd (cc)
-day_ruled entries (OpenBatch name other density) h day is = absurd (cc)
-day_ruled entries (StartLane lane name) h day is = absurd (cc)
-day_ruled entries (Weigh number gross prior) h day is = absurd (cc)
-day_ruled entries (StopLane number prior) h day is = absurd (cc)
-day_ruled entries (Void pack) h day is = absurd (cc)
-day_ruled entries (EndRun other) h day is = absurd (cc)
-day_ruled entries (Draw other mode word) h day is = absurd (cc)
-day_ruled entries (Measure pack gross empty) h day is = absurd (cc)
-day_ruled entries (DrawSecond other word) h day is = absurd (cc)
-day_ruled entries (Close other) h day is = absurd (cc)
+day_ruled : (entries : List Entry) (act : Act) → IsAllowed entries act → (day : ℤ) → day_set act ≡ Some day → IsUpTo MAX_DAY day
+day_ruled entries (NewDay new) h day is = subst (λ (d : ℤ). IsUpTo MAX_DAY d) (same_Some _ _ is) (up_to MAX_DAY new (new_day_tells entries new h).range)
+day_ruled entries act h day is = absurd (cc)
 
-tare_ruled : (entries : List Entry) (act : Act) → Passes entries act → AllByRecursion (λ name. is_some (product_number entries name) ≡ true) (cons_option (tare_named act) [])
-tare_ruled entries (PutTare other date tare) h = (sym (product_is_known entries other) ∙ (put_tare entries other date tare h).0, tt)
-tare_ruled entries (NewDay new) h = tt
-tare_ruled entries (PutProduct other nominal unit) h = tt
-tare_ruled entries (OpenBatch name other density) h = tt
-tare_ruled entries (StartLane lane name) h = tt
-tare_ruled entries (Weigh number gross prior) h = tt
-tare_ruled entries (StopLane number prior) h = tt
-tare_ruled entries (Void pack) h = tt
-tare_ruled entries (EndRun other) h = tt
-tare_ruled entries (Draw other mode word) h = tt
-tare_ruled entries (Measure pack gross empty) h = tt
-tare_ruled entries (DrawSecond other word) h = tt
-tare_ruled entries (Close other) h = tt
+tare_ruled : (entries : List Entry) (act : Act) → IsAllowed entries act → AllByRecursion (λ name. is_some (product_number entries name) ≡ true) (cons_option (tare_named act) [])
+tare_ruled entries (PutTare other date tare) h = (sym (nominal_where_put entries other) ∙ (put_tare_tells entries other date tare h).known, tt)
+tare_ruled entries act h = tt
 
-opened_new : (entries : List Entry) (act : Act) → Passes entries act → (batch : Name) → batch_opened act ≡ Some batch → is_some (batch_number entries batch) ≡ false
+opened_new : (entries : List Entry) (act : Act) → IsAllowed entries act → (batch : Name) → batch_opened act ≡ Some batch → is_some (batch_number entries batch) ≡ false
 opened_new entries (OpenBatch name other density) h batch is =
-    subst (λ (b : Name). is_some (batch_number entries b) ≡ false) (there is) (sym (batch_is_known entries name) ∙ (open_batch entries name other density h).1)
-opened_new entries (NewDay day) h batch is = absurd (cc)
-opened_new entries (PutProduct other nominal unit) h batch is = absurd (cc)
-opened_new entries (PutTare other day tare) h batch is = absurd (cc)
-opened_new entries (StartLane lane other) h batch is = absurd (cc)
-opened_new entries (Weigh lane gross prior) h batch is = absurd (cc)
-opened_new entries (StopLane lane prior) h batch is = absurd (cc)
-opened_new entries (Void pack) h batch is = absurd (cc)
-opened_new entries (EndRun other) h batch is = absurd (cc)
-opened_new entries (Draw other mode word) h batch is = absurd (cc)
-opened_new entries (Measure pack gross empty) h batch is = absurd (cc)
-opened_new entries (DrawSecond other word) h batch is = absurd (cc)
-opened_new entries (Close other) h batch is = absurd (cc)
+    subst (λ (b : Name). is_some (batch_number entries b) ≡ false) (same_Some _ _ is) (sym (product_where_opened entries name) ∙ ap is_some (open_batch_tells entries name other density h).new)
+opened_new entries act h batch is = absurd (cc)
 
 -- either the last act said it, or it was said before
 last_is : {A : Type 0} {P : Type 0} (x : A) (own before : Option A) → option_or own before ≡ Some x → (own ≡ Some x → P) → (before ≡ Some x → P) → P
@@ -174,8 +121,8 @@ module _ (entries : List Entry) (entry : Entry) where
       }
 
   -- the last entry's own reading
-  own_weighed : (act : Act) → Known entries → Passes entries act → AllByRecursion (IsWeighed (entries ++ entry ∷ [])) (cons_option (weighed_reading (length entries + 1) entries act entry.signal []) [])
-  own_weighed (Weigh lane gross prior) known h = (own (newest_day entries) (last_batch entries lane) refl refl (weigh entries lane gross prior h).day (was_started entries lane (weigh entries lane gross prior h).runs), tt)
+  own_weighed : (act : Act) → Known entries → IsAllowed entries act → AllByRecursion (IsWeighed (entries ++ entry ∷ [])) (cons_option (weighed_reading (length entries + 1) entries act entry.signal []) [])
+  own_weighed (Weigh lane gross prior) known h = (own (newest_day entries) (last_batch entries lane) refl refl (weigh_tells entries lane gross prior h).day (was_started entries lane (weigh_tells entries lane gross prior h).runs), tt)
     where
       own : (day : Option ℤ) (batch : Option Name) → newest_day entries ≡ day → last_batch entries lane ≡ batch → is_some (newest_day entries) ≡ true → is_some (last_batch entries lane) ≡ true
           → IsWeighed (entries ++ entry ∷ []) (record { number = length entries + 1; lane = lane; gross = gross; signal = entry.signal; day = newest_day entries; batch = last_batch entries lane; next_prior = None; voided = false })
@@ -188,20 +135,9 @@ module _ (entries : List Entry) (entry : Entry) where
           with_number None none k = absurd (let wrong = sym (ap is_some none) ∙ k in cc)
           with_number (Some number) numbered k =
               record { batch = batch; of_batch = of; number = number; numbered = batch_keeps entries entry batch k ∙ numbered; day = day; on_day = is }
-  own_weighed (NewDay new) known h = tt
-  own_weighed (PutProduct other nominal unit) known h = tt
-  own_weighed (PutTare other date tare) known h = tt
-  own_weighed (OpenBatch name other density) known h = tt
-  own_weighed (StartLane lane name) known h = tt
-  own_weighed (StopLane number prior) known h = tt
-  own_weighed (Void pack) known h = tt
-  own_weighed (EndRun other) known h = tt
-  own_weighed (Draw other mode word) known h = tt
-  own_weighed (Measure pack gross empty) known h = tt
-  own_weighed (DrawSecond other word) known h = tt
-  own_weighed (Close other) known h = tt
+  own_weighed act known h = tt
 
-  pub known-push : Known entries → Passes entries entry.act → Known (entries ++ entry ∷ [])
+  pub known-push : Known entries → IsAllowed entries entry.act → Known (entries ++ entry ∷ [])
   known-push known h =
       record {
         products = λ batch product is. product_stays_known product (last_is product (product_given batch entry.act) (product_of entries batch) (sym (last_said-push (product_given batch) entries entry) ∙ is)
@@ -216,14 +152,10 @@ module _ (entries : List Entry) (entry : Entry) where
         opened = λ place batch is.
             let names = filter_map-append (λ (e : Entry). batch_opened e.act) entries (entry ∷ []) in
             ap (λ some. place_of some batch) names
-            ∙ distinct_more (said batch_opened entries) (batch_opened entry.act) known.opened (opened_new entries entry.act h) place batch (sym (ap (λ some. slice_get some place) names) ∙ is);
+            ∙ apart_more (said batch_opened entries) (batch_opened entry.act) known.opened (opened_new entries entry.act h) place batch (sym (ap (λ some. slice_get some place) names) ∙ is);
       }
 
-known_from : (before after : List Entry) → IsLegal (before ++ after) → Known before → Known (before ++ after)
-known_from before [] legal known = subst Known (sym (append-nil before)) known
-known_from before (e ∷ es) legal known =
-    let whole : (before ++ e ∷ []) ++ es ≡ before ++ e ∷ es = append_assoc before (e ∷ []) es in
-    subst Known whole (known_from (before ++ e ∷ []) es (subst IsLegal (sym whole) legal) (known-push before e known (passes before e (legal before e es refl))))
-
 pub known_of : (entries : List Entry) → IsLegal entries → Known entries
-known_of entries legal = known_from [] entries legal known-nil
+known_of =
+    legal_steps Known known-nil
+    (λ before entry legal lawful known. known-push before entry known (allowed before entry lawful))

@@ -31,36 +31,36 @@ use Rattle.book_packs.specs.declared.types.Weighing.{Weighing}
 use Rattle.book_packs.specs.Stand.{Standing, IsPacksOf, pack_of, packs_in, opened_terms, terms_of_batch, unsettled_number, unsettled_in}
 use Rattle.book_packs.specs.Settling.{settled, signal_pile}
 use Rattle.book_packs.specs.Entering.{IsNext, IsWeighing, IsStop, IsVoid, newly_unsettled}
-use Rattle.book_packs.proofs.Lists.{map-map, map-within, all_then, all-map, place_holds}
-use Rattle.book_packs.proofs.Rules.{Passes, passes, weigh, stop_lane, void}
-use Rattle.book_packs.proofs.Numbered.{batch_keeps}
+use Rattle.book_packs.proofs.Lists.{map-map, map-within, all_then, all-map}
+use Rattle.book_words.proofs.PlaceLemmas.{place_of-name}
+use Rattle.book_words.proofs.AllowedActs.{IsAllowed, allowed, weigh_tells, stop_lane_tells, void_tells}
+use Rattle.book_packs.proofs.KeptNumbers.{batch_keeps}
 use Rattle.book_packs.proofs.Known.{Known, known_of, IsWeighed, tare_named, is_there, up_to}
-use Rattle.book_packs.proofs.Registering.{lane_at}
+use Rattle.book_packs.proofs.TareRegisters.{lane_at}
 use Rattle.book_packs.proofs.Lone.{is_lane_unsettled, list_settled, number_kept}
-use Rattle.book_packs.proofs.Sampling.{is_draw, holds, holds_no_next, sampled_stays}
-use Rattle.book_packs.proofs.Staying.{tares_keep, batches_keep, packs-push, pack_kept, tare_keeps}
-use Rattle.book_packs.proofs.Settled.{IsLaneAct, settled_is}
-use Rattle.book_packs.proofs.Adding.{range_set, reading_is_added, not_added}
-use Rattle.book_packs.proofs.Tared.{light_reading}
-
-one : {A : Type 0} {x y : A} → Some x ≡ Some y → x ≡ y
-one h = cc
+use Rattle.book_packs.proofs.SampleNumbers.{is_draw, holds, holds_no_next, sampled_stays}
+use Rattle.book_packs.proofs.StandingTerms.{tares_keep, batches_keep, packs-push, pack_kept, tare_keeps}
+use Rattle.book_packs.proofs.LaneSettlement.{IsLaneAct, settled_is}
+use Rattle.book_packs.proofs.AddedNumbers.{range_set, reading_is_added, not_added}
+use Rattle.book_packs.proofs.TareLimits.{light_reading}
+use Rattle.book_words.proofs.PlainLemmas.{eqb-swap}
+use Rattle.std.proofs.lemmas.Option.{same_Some}
 
 known_behind : (entries : List Entry) (entry : Entry) → IsNext entries entry → Known entries
 known_behind entries entry next = known_of entries next.legal
 
-rules_behind : (entries : List Entry) (entry : Entry) → IsNext entries entry → Passes entries entry.act
-rules_behind entries entry next = passes entries entry next.lawful
+rules_behind : (entries : List Entry) (entry : Entry) → IsNext entries entry → IsAllowed entries entry.act
+rules_behind entries entry next = allowed entries entry next.lawful
 
 lane_bounds : (lane : ℕ) → nat_le 1 lane && nat_le lane MAX_LANE ≡ true → (1 ≤ lane) × (lane ≤ MAX_LANE)
 lane_bounds lane h = let parts = and_parts (nat_le 1 lane) (nat_le lane MAX_LANE) h in (grind (arith, nat_tests), grind (arith, nat_tests))
 
 pub weigh_bounds : (entries : List Entry) (entry : Entry) (weighing : Weighing) → IsWeighing entries entry weighing → (1 ≤ weighing.lane) × (weighing.lane ≤ MAX_LANE)
 weigh_bounds entries entry weighing is =
-    lane_bounds weighing.lane (weigh entries weighing.lane weighing.gross weighing.prior (subst (Passes entries) is.act (rules_behind entries entry is.next))).number
+    lane_bounds weighing.lane (weigh_tells entries weighing.lane weighing.gross weighing.prior (subst (IsAllowed entries) is.act (rules_behind entries entry is.next))).number
 
 pub stop_bounds : (entries : List Entry) (entry : Entry) (lane : ℕ) (prior : Prior) → IsStop entries entry lane prior → (1 ≤ lane) × (lane ≤ MAX_LANE)
-stop_bounds entries entry lane prior is = lane_bounds lane (stop_lane entries lane prior (subst (Passes entries) is.act (rules_behind entries entry is.next)))
+stop_bounds entries entry lane prior is = lane_bounds lane (stop_lane_tells entries lane prior (subst (IsAllowed entries) is.act (rules_behind entries entry is.next))).number
 
 apart : (a b : ℕ) → ((a < b) ⊎ (b < a)) → (a == b) ≡ false
 apart a b (inl h) = grind (arith, nat_tests)
@@ -172,7 +172,7 @@ module _ (entries : List Entry) (entry : Entry) (weighing : Weighing) (is : IsWe
       tare : unwrap_or (tare_of_reading (entries ++ entry ∷ []) (last_batch entries weighing.lane) (newest_day entries)) (pos 0) ≡ weighing.tare
       tare =
           ap (λ o. unwrap_or o (pos 0)) (tare_keeps entries entry (known_behind entries entry is.next) (rules_behind entries entry is.next) (ap tare_named is.act) (last_batch entries weighing.lane) (newest_day entries)
-          (λ name last. ap (λ (n : Name). is_some (batch_number entries n)) (one (sym last ∙ has_batch.last)) ∙ is_there has_batch.number))
+          (λ name last. ap (λ (n : Name). is_some (batch_number entries n)) (same_Some _ _ (sym last ∙ has_batch.last)) ∙ is_there has_batch.number))
           ∙ sym is.tare
 
       pile : pile_with_sample (settled_pile false entry.signal None) (is_sampled (entries ++ entry ∷ []) (own_of entries entry weighing)) ≡ signal_pile weighing.signal
@@ -217,7 +217,7 @@ module _ (entries : List Entry) (entry : Entry) (weighing : Weighing) (is : IsWe
 
   pub batch_below : weighing.batch < length (opened_terms entries)
   batch_below =
-      let here = place_holds (said batch_opened entries) has_batch.name weighing.batch has_batch.number in
+      let here = place_of-name (said batch_opened entries) has_batch.name weighing.batch has_batch.number in
       subst (λ n. weighing.batch < n) (sym (length-map (said batch_opened entries) (terms_of_batch entries))) (within (said batch_opened entries) weighing.batch has_batch.name here)
     where
       within : (names : List Name) (k : ℕ) (name : Name) → slice_get names k ≡ Some name → k < length names
@@ -232,7 +232,7 @@ module _ (entries : List Entry) (entry : Entry) (weighing : Weighing) (is : IsWe
   day_up = (known_behind entries entry is.next).days weighing.day is.day
 
   pub gross_up : IsUpTo MAX_GROSS weighing.gross
-  gross_up = up_to MAX_GROSS weighing.gross (weigh entries weighing.lane weighing.gross weighing.prior (subst (Passes entries) is.act (rules_behind entries entry is.next))).mass
+  gross_up = up_to MAX_GROSS weighing.gross (weigh_tells entries weighing.lane weighing.gross weighing.prior (subst (IsAllowed entries) is.act (rules_behind entries entry is.next))).range
 
   pub tare_up : IsUpTo MAX_TARE weighing.tare
   tare_up = subst (IsUpTo MAX_TARE) (sym is.tare) (light_reading entries is.next.legal (last_batch entries weighing.lane) (newest_day entries))
@@ -243,7 +243,7 @@ module _ (entries : List Entry) (entry : Entry) (weighing : Weighing) (is : IsWe
       let number : w.number ≡ weighing.batch =
       sym (ap (λ o. unwrap_or (option_and_then (batch_number (entries ++ entry ∷ [])) o) 0) w.of_batch ∙ ap (λ o. unwrap_or o 0) (batch_keeps entries entry w.batch (is_there w.numbered) ∙ w.numbered)) ∙ batch in
       let name : w.batch ≡ has_batch.name =
-      one (sym (place_holds (said batch_opened entries) w.batch w.number w.numbered) ∙ ap (slice_get (said batch_opened entries)) number ∙ place_holds (said batch_opened entries) has_batch.name weighing.batch has_batch.number) in
+      same_Some _ _ (sym (place_of-name (said batch_opened entries) w.batch w.number w.numbered) ∙ ap (slice_get (said batch_opened entries)) number ∙ place_of-name (said batch_opened entries) has_batch.name weighing.batch has_batch.number) in
       let date : w.day ≡ weighing.day = sym (ap (λ o. unwrap_or o (pos 0)) w.on_day) ∙ day in
       let own_batch : reading.batch ≡ last_batch entries weighing.lane = w.of_batch ∙ ap Some name ∙ sym has_batch.last in
       let own_day : reading.day ≡ newest_day entries = w.on_day ∙ ap Some date ∙ sym is.day in
@@ -272,11 +272,8 @@ pile_voided true false signal next held = refl
 pile_voided false false signal None held = refl
 pile_voided false false signal (Some p) held = refl
 
-turned : (a b : ℕ) → (a == b) ≡ (b == a)
-turned a b = grind (arith, nat_tests)
-
 pub void_added : (entries : List Entry) (entry : Entry) (pack : ℕ) → IsVoid entries entry pack → is_added (packs_in entries) pack ≡ true
-void_added entries entry pack is = reading_is_added entries pack (void entries pack (subst (Passes entries) is.act (rules_behind entries entry is.next)))
+void_added entries entry pack is = reading_is_added entries pack (void_tells entries pack (subst (IsAllowed entries) is.act (rules_behind entries entry is.next))).known
 
 pub void-push : (entries : List Entry) (entry : Entry) (pack : ℕ) (old new : Standing) → IsVoid entries entry pack → IsPacksOf entries old
     → new.tares ≡ old.tares → new.batches ≡ old.batches → new.packs ≡ moved pack Voided old.packs → new.unsettled ≡ old.unsettled → IsPacksOf (entries ++ entry ∷ []) new
@@ -303,13 +300,13 @@ void-push entries entry pack old new is stands tares batches packs unsettled =
         (sampled_stays entries entry (advance entry.act reading) reading (ap is_draw is.act) refl refl)
         ∙ ap (λ a. pile_with_sample (settled_pile (reading.voided || is_void_of reading.number a) reading.signal (option_or reading.next_prior (prior_told reading.lane a))) (is_sampled entries reading)) is.act
         ∙ pile_voided reading.voided (pack == reading.number) reading.signal reading.next_prior (is_sampled entries reading)
-        ∙ ap (λ b. cond b Voided (pile_of entries reading)) (turned pack reading.number)
+        ∙ ap (λ b. cond b Voided (pile_of entries reading)) (eqb-swap pack reading.number)
 
     spread : (b : Bool) (p : Pack) (kept : Pile) → p.pile ≡ kept → cond b (record p { pile = Voided }) p ≡ record p { pile = cond b Voided kept }
     spread true p kept h = refl
     spread false p kept h = ap (λ (q : Pile). record p { pile = q }) h
 
-    each : Known entries → Passes entries entry.act → (reading : Reading) → IsWeighed entries reading
+    each : Known entries → IsAllowed entries entry.act → (reading : Reading) → IsWeighed entries reading
         → cond (reading.number == pack) (record (pack_of entries reading) { pile = Voided }) (pack_of entries reading) ≡ pack_of (entries ++ entry ∷ []) (advance entry.act reading)
     each known rules reading w =
         spread (reading.number == pack) (pack_of entries reading) (pile_of entries reading) refl

@@ -9,7 +9,7 @@ use Rattle.std.proofs.lemmas.List.Elements.{filter-append}
 use Rattle.pack_judge.specs.declared.types.Signal.{Signal}
 use Rattle.book_words.specs.declared.act.Prior.{Prior}
 use Rattle.book_words.specs.declared.act.Act.{Act}
-use Rattle.book_words.specs.declared.act.Act.TheVariants.{NewDay, PutProduct, PutTare, OpenBatch, StartLane, Weigh, StopLane, Void, EndRun, Draw, Measure, DrawSecond, Close}
+use Rattle.book_words.specs.declared.act.Act.TheVariants.{Weigh}
 use Rattle.book_words.specs.declared.act.Entry.{Entry}
 use Rattle.book_words.specs.declared.act.Reading.{Reading}
 use Rattle.book_words.specs.Acts.{prior_told, newest_day, last_batch}
@@ -18,7 +18,10 @@ use Rattle.book_words.specs.Population.{is_pass, is_unsettled, unsettled_reading
 use Rattle.book_words.proofs.OneMoreEntry.{advance, own_reading, readings-push}
 use Rattle.book_packs.specs.Stand.{unsettled_number}
 use Rattle.book_packs.proofs.Lists.{filter-map}
-use Rattle.book_packs.proofs.Ascending.{Above, later, ascending}
+use Rattle.book_words.specs.Samples.{numbers_of}
+use Rattle.book_words.proofs.DrawnPacks.{AscendWithin, readings_ascend}
+use Rattle.book_packs.proofs.NumberOrder.{later}
+use Rattle.std.proofs.Math.Bool.{and-true, and-false}
 
 -- whether a number is the one that is there, if any
 abbrev pub names : Option ℕ → ℕ → Bool
@@ -56,22 +59,22 @@ unnamed (Some other) number h = lower number other.number h
     lower : (a b : ℕ) → a < b → (a == b) ≡ false
     lower a b h = grind (arith, nat_tests)
 
-pub lone : (test : Reading → Bool) (low : ℕ) (some : List Reading) → Above low some → length (filter test some) ≤ 1 → AllByRecursion (Tells test (slice_get (filter test some) 0)) some
-lone test low [] above few = tt
-lone test low (reading ∷ some) above few = elim (cases_Bool (test reading)) [
+pub lone : (test : Reading → Bool) (low most : ℕ) (some : List Reading) → AscendWithin (low + 1) most (numbers_of some) → length (filter test some) ≤ 1 → AllByRecursion (Tells test (slice_get (filter test some) 0)) some
+lone test low most [] above few = tt
+lone test low most (reading ∷ some) above few = elim (cases_Bool (test reading)) [
   | inl t ↦
       let whole : filter test (reading ∷ some) ≡ reading ∷ filter test some = ap (λ b. cond b (reading ∷ filter test some) (filter test some)) t in
       let short : length (reading ∷ filter test some) ≤ 1 = subst (λ (xs : List Reading). length xs ≤ 1) whole few in
       subst (λ (xs : List Reading). AllByRecursion (Tells test (slice_get xs 0)) (reading ∷ some)) (sym whole) (
         record { named = eq-eqb reading.number reading.number refl ∙ sym t; only = λ h. refl },
         both (λ other after fails. record { named = differs reading.number other.number after ∙ sym fails; only = λ h. absurd (cc) }) some
-            (later reading.number some above.1) (none_pass test some (omega (arith, short))),
+            (later reading.number most some above.2) (none_pass test some (omega (arith, short))),
       )
   | inr f ↦
       let whole : filter test (reading ∷ some) ≡ filter test some = ap (λ b. cond b (reading ∷ filter test some) (filter test some)) f in
       subst (λ (xs : List Reading). AllByRecursion (Tells test (slice_get xs 0)) (reading ∷ some)) (sym whole) (
-        record { named = unnamed (slice_get (filter test some) 0) reading.number (first_above test reading.number some (later reading.number some above.1)) ∙ sym f; only = λ h. absurd (cc) },
-        lone test reading.number some above.1 (subst (λ (xs : List Reading). length xs ≤ 1) whole few),
+        record { named = unnamed (slice_get (filter test some) 0) reading.number (first_above test reading.number some (later reading.number most some above.2)) ∙ sym f; only = λ h. absurd (cc) },
+        lone test reading.number most some above.2 (subst (λ (xs : List Reading). length xs ≤ 1) whole few),
       )
 ]
 
@@ -91,14 +94,6 @@ stays_unsettled : (lane : ℕ) (act : Act) (reading : Reading) → is_lane_unset
 stays_unsettled lane act reading =
     spread (reading.lane == lane) (is_pass reading.signal) reading.next_prior (prior_told reading.lane act) (prior_told lane act) (λ t. ap (λ n. prior_told n act) (eqb-true reading.lane lane t))
 
-and_true : (b : Bool) → (b && true) ≡ b
-and_true true = refl
-and_true false = refl
-
-and_false : (b : Bool) → (b && false) ≡ false
-and_false true = refl
-and_false false = refl
-
 all_fail : (some : List Reading) → filter (λ (reading : Reading). false) some ≡ []
 all_fail [] = refl
 all_fail (reading ∷ some) = all_fail some
@@ -112,12 +107,12 @@ module _ (lane : ℕ) (act : Act) (some : List Reading) where
   pub onward_kept : is_none (prior_told lane act) ≡ true → filter (is_lane_unsettled lane) (map (advance act) some) ≡ map (advance act) (filter (is_lane_unsettled lane) some)
   onward_kept h =
       onward ∙ ap (λ b. map (advance act) (filter (λ reading. is_lane_unsettled lane reading && b) some)) h
-      ∙ ap (λ (test : Reading → Bool). map (advance act) (filter test some)) (λ i reading. and_true (is_lane_unsettled lane reading) i)
+      ∙ ap (λ (test : Reading → Bool). map (advance act) (filter test some)) (λ i reading. and-true (is_lane_unsettled lane reading) i)
 
   pub onward_settled : is_none (prior_told lane act) ≡ false → filter (is_lane_unsettled lane) (map (advance act) some) ≡ []
   onward_settled h =
       onward ∙ ap (λ b. map (advance act) (filter (λ reading. is_lane_unsettled lane reading && b) some)) h
-      ∙ ap (λ (test : Reading → Bool). map (advance act) (filter test some)) (λ i reading. and_false (is_lane_unsettled lane reading) i)
+      ∙ ap (λ (test : Reading → Bool). map (advance act) (filter test some)) (λ i reading. and-false (is_lane_unsettled lane reading) i)
       ∙ ap (map (advance act)) (all_fail some)
 
 at_most_one : (test : Reading → Bool) (o : Option Reading) → length (filter test (cons_option o [])) ≤ 1
@@ -135,18 +130,7 @@ away prior rest own false h = refl
 -- the own reading of an act that doesn't settle a lane is none of the lane's
 own_elsewhere : (lane number : ℕ) (before : List Entry) (act : Act) (signal : Option Signal) → is_none (prior_told lane act) ≡ true → filter (is_lane_unsettled lane) (cons_option (weighed_reading number before act signal []) []) ≡ []
 own_elsewhere lane number before (Weigh other gross prior) signal h = away prior (is_pass signal && true) (own_of number before other gross signal) (other == lane) h
-own_elsewhere lane number before (NewDay day) signal h = refl
-own_elsewhere lane number before (PutProduct name nominal unit) signal h = refl
-own_elsewhere lane number before (PutTare product day tare) signal h = refl
-own_elsewhere lane number before (OpenBatch batch product density) signal h = refl
-own_elsewhere lane number before (StartLane other batch) signal h = refl
-own_elsewhere lane number before (StopLane other prior) signal h = refl
-own_elsewhere lane number before (Void pack) signal h = refl
-own_elsewhere lane number before (EndRun batch) signal h = refl
-own_elsewhere lane number before (Draw batch mode word) signal h = refl
-own_elsewhere lane number before (Measure pack gross empty) signal h = refl
-own_elsewhere lane number before (DrawSecond batch word) signal h = refl
-own_elsewhere lane number before (Close batch) signal h = refl
+own_elsewhere lane number before act signal h = refl
 
 module _ (entries : List Entry) (entry : Entry) (lane : ℕ) where
   both_parts : filter (is_lane_unsettled lane) (readings (entries ++ entry ∷ []))
@@ -191,4 +175,4 @@ few_unsettled entries lane = few_from [] entries lane (omega arith)
 
 -- the unsettled reading of a lane tells which of the readings it is
 pub lone_unsettled : (entries : List Entry) (lane : ℕ) → AllByRecursion (Tells (is_lane_unsettled lane) (unsettled_reading entries lane)) (readings entries)
-lone_unsettled entries lane = lone (is_lane_unsettled lane) 0 (readings entries) (ascending entries) (few_from [] entries lane (omega arith))
+lone_unsettled entries lane = lone (is_lane_unsettled lane) 0 (length entries) (readings entries) (readings_ascend entries) (few_from [] entries lane (omega arith))

@@ -1,9 +1,8 @@
 -- What is kept behind acts that weigh, stop, void and draw nothing.
-use Rattle.std.proofs.Common.{◌≡◌, ℕ, ℤ, ◌+◌, ◌==◌, Bool, true, false, ◌||◌, cond, List, [], ◌∷◌, ◌++◌, length, map, Option, Some, None, is_none, refl, sym, ◌∙◌, ap, subst, arith}
+use Rattle.std.proofs.Common.{◌≡◌, ℕ, ℤ, ◌+◌, Bool, true, false, ◌||◌, cond, List, [], ◌∷◌, ◌++◌, length, map, Option, Some, None, is_none, refl, sym, ◌∙◌, ap, subst}
 use Rattle.std.specs.Prelude.{pos}
 use Rattle.std.specs.List.{cons_option, range_with_len}
 use Rattle.std.specs.Option.{option_or, option_and_then, unwrap_or}
-use Rattle.std.proofs.lemmas.Bool.Decides.{nat_tests}
 use Rattle.std.proofs.lemmas.List.{append-nil}
 use Rattle.annex_tables.specs.declared.types.Limits.{Limits}
 use Rattle.hall_limits.specs.declared.TheConstants.{MAX_TARE, MAX_LANE}
@@ -15,9 +14,8 @@ use Rattle.batch_sums.specs.declared.types.Pack.{Pack}
 use Rattle.batch_sums.specs.Totals.{Terms}
 use Rattle.batch_sums.specs.Changes.{corrected, is_concerned, IsUpTo}
 use Rattle.book_words.specs.declared.name.Name.{Name}
-use Rattle.book_words.specs.declared.act.Prior.{Prior}
 use Rattle.book_words.specs.declared.act.Act.{Act}
-use Rattle.book_words.specs.declared.act.Act.TheVariants.{NewDay, PutProduct, PutTare, OpenBatch, StartLane, Weigh, StopLane, Void, EndRun, Draw, Measure, DrawSecond, Close}
+use Rattle.book_words.specs.declared.act.Act.TheVariants.{NewDay, PutProduct, PutTare, OpenBatch, StartLane, EndRun, Measure, Close}
 use Rattle.book_words.specs.declared.act.Entry.{Entry}
 use Rattle.book_words.specs.declared.act.Reading.{Reading}
 use Rattle.book_words.specs.Acts.{prior_told, is_void_of, batch_opened, nominal_put, unit_put, product_given, density_given, nominal_of, unit_of, product_of, density_of}
@@ -32,13 +30,15 @@ use Rattle.book_words.proofs.OneMoreEntry.{advance}
 use Rattle.book_packs.specs.Stand.{Standing, IsPacksOf, tares_in, terms_of_batch, opened_terms, pack_of, packs_in, unsettled_in}
 use Rattle.book_packs.specs.Entering.{IsNext, IsTarePut, IsOpening, leaves_packs}
 use Rattle.book_packs.proofs.Lists.{map-map, map-within, all_then}
-use Rattle.book_packs.proofs.Rules.{Passes, passes, put_tare}
-use Rattle.book_packs.proofs.Numbered.{product_keeps}
+use Rattle.book_words.proofs.AllowedActs.{IsAllowed, allowed, put_tare_tells}
+use Rattle.book_packs.proofs.KeptNumbers.{product_keeps}
 use Rattle.book_packs.proofs.Known.{Known, known_of, IsWeighed, tare_named, is_there, up_to}
-use Rattle.book_packs.proofs.Retaring.{own_entry_is, reading_retared}
+use Rattle.book_packs.proofs.ReadingTares.{own_entry_is, reading_retared}
 use Rattle.book_packs.proofs.Lone.{number_kept}
-use Rattle.book_packs.proofs.Sampling.{is_draw, sampled_stays}
-use Rattle.book_packs.proofs.Staying.{built, tares_keep, batches-push, batches_keep, packs-push, pack_kept, pack_tared}
+use Rattle.book_packs.proofs.SampleNumbers.{is_draw, sampled_stays}
+use Rattle.book_packs.proofs.StandingTerms.{built, tares_keep, batches-push, batches_keep, packs-push, pack_kept, pack_tared}
+use Rattle.book_words.proofs.PlainLemmas.{or_none}
+use Rattle.std.proofs.Math.Bool.{or-false}
 
 -- an act that weighs, stops, voids and draws nothing
 pub record IsStill (act : Act) : Type 0 where
@@ -65,24 +65,7 @@ quiet (StartLane lane name) h = record { still = record { told = λ lane. refl; 
 quiet (EndRun name) h = record { still = record { told = λ lane. refl; voids = λ number. refl; draws = refl; own = λ number before signal. refl }; tares = refl; opens = refl }
 quiet (Measure pack gross empty) h = record { still = record { told = λ lane. refl; voids = λ number. refl; draws = refl; own = λ number before signal. refl }; tares = refl; opens = refl }
 quiet (Close name) h = record { still = record { told = λ lane. refl; voids = λ number. refl; draws = refl; own = λ number before signal. refl }; tares = refl; opens = refl }
-quiet (PutTare name day tare) h = absurd (cc)
-quiet (OpenBatch batch name density) h = absurd (cc)
-quiet (Weigh lane gross prior) h = absurd (cc)
-quiet (StopLane lane prior) h = absurd (cc)
-quiet (Void pack) h = absurd (cc)
-quiet (Draw name mode word) h = absurd (cc)
-quiet (DrawSecond name word) h = absurd (cc)
-
-or_false : (b : Bool) → (b || false) ≡ b
-or_false true = refl
-or_false false = refl
-
-or_none : (o : Option Prior) → option_or o None ≡ o
-or_none None = refl
-or_none (Some p) = refl
-
-turned : (a b : ℕ) → (a == b) ≡ (b == a)
-turned a b = grind (arith, nat_tests)
+quiet act h = absurd (cc)
 
 module _ (entries : List Entry) (entry : Entry) (still : IsStill entry.act) where
   pub pile_still : (reading : Reading) → pile_of (entries ++ entry ∷ []) (advance entry.act reading) ≡ pile_of entries reading
@@ -90,14 +73,14 @@ module _ (entries : List Entry) (entry : Entry) (still : IsStill entry.act) wher
       ap (λ b. pile_with_sample (settled_pile (reading.voided || is_void_of reading.number entry.act) reading.signal (option_or reading.next_prior (prior_told reading.lane entry.act))) b)
       (sampled_stays entries entry (advance entry.act reading) reading still.draws refl refl)
       ∙ ap (λ b. pile_with_sample (settled_pile (reading.voided || b) reading.signal (option_or reading.next_prior (prior_told reading.lane entry.act))) (is_sampled entries reading)) (still.voids reading.number)
-      ∙ ap (λ b. pile_with_sample (settled_pile b reading.signal (option_or reading.next_prior (prior_told reading.lane entry.act))) (is_sampled entries reading)) (or_false reading.voided)
+      ∙ ap (λ b. pile_with_sample (settled_pile b reading.signal (option_or reading.next_prior (prior_told reading.lane entry.act))) (is_sampled entries reading)) (or-false reading.voided)
       ∙ ap (λ o. pile_with_sample (settled_pile reading.voided reading.signal (option_or reading.next_prior o)) (is_sampled entries reading)) (still.told reading.lane)
       ∙ ap (λ o. pile_with_sample (settled_pile reading.voided reading.signal o) (is_sampled entries reading)) (or_none reading.next_prior)
 
   pub unsettled_still : unsettled_in (entries ++ entry ∷ []) ≡ unsettled_in entries
   unsettled_still = ap (λ (f : ℕ → Option ℕ). map f (range_with_len 1 MAX_LANE)) (λ i lane. number_kept entries entry lane (ap is_none (still.told lane)) i)
 
-  module _ (known : Known entries) (rules : Passes entries entry.act) where
+  module _ (known : Known entries) (rules : IsAllowed entries entry.act) where
     pub packs_still : packs_in (entries ++ entry ∷ []) ≡ map (λ reading. pack_of (entries ++ entry ∷ []) (advance entry.act reading)) (readings entries)
     packs_still =
         packs-push entries entry known rules
@@ -114,7 +97,7 @@ module _ (entries : List Entry) (entry : Entry) (still : IsStill entry.act) wher
 pub quiet-push : (entries : List Entry) (entry : Entry) (kept : Standing) → IsNext entries entry → leaves_packs entry.act ≡ true → IsPacksOf entries kept → IsPacksOf (entries ++ entry ∷ []) kept
 quiet-push entries entry kept next leaves stands =
     let known = known_of entries next.legal in
-    let rules = passes entries entry next.lawful in
+    let rules = allowed entries entry next.lawful in
     let act = quiet entry.act leaves in
     record {
       tares = stands.tares ∙ sym (tares_keep entries entry known act.tares);
@@ -129,7 +112,7 @@ pub opening-push : (entries : List Entry) (entry : Entry) (product : ℕ) (limit
     → new.tares ≡ old.tares → new.batches ≡ old.batches ++ record { product = product; limits = limits } ∷ [] → new.packs ≡ old.packs → new.unsettled ≡ old.unsettled → IsPacksOf (entries ++ entry ∷ []) new
 opening-push entries entry product limits old new is stands tares batches packs unsettled =
     let known = known_of entries is.next.legal in
-    let rules = passes entries entry is.next.lawful in
+    let rules = allowed entries entry is.next.lawful in
     let still : IsStill entry.act = subst IsStill (sym is.act) (opening_still is.batch is.name is.density) in
     record {
       tares = tares ∙ stands.tares ∙ sym (tares_keep entries entry known (ap tare_named is.act));
@@ -189,8 +172,8 @@ module _ (entries : List Entry) (entry : Entry) (product : ℕ) (day tare : ℤ)
   known : Known entries
   known = known_of entries is.next.legal
 
-  rules : Passes entries entry.act
-  rules = passes entries entry is.next.lawful
+  rules : IsAllowed entries entry.act
+  rules = allowed entries entry is.next.lawful
 
   own_entry : tares_in (entries ++ entry ∷ []) ≡ tares_in entries ++ entry_of product day tare ∷ []
   own_entry = own_entry_is entries entry known product day tare span is.name is.act is.number decides
@@ -231,4 +214,4 @@ module _ (entries : List Entry) (entry : Entry) (product : ℕ) (day tare : ℤ)
       }
 
 pub tare_within : (entries : List Entry) (entry : Entry) (product : ℕ) (day tare : ℤ) → IsTarePut entries entry product day tare → IsUpTo MAX_TARE tare
-tare_within entries entry product day tare is = up_to MAX_TARE tare (put_tare entries is.name day tare (subst (Passes entries) is.act (passes entries entry is.next.lawful))).1
+tare_within entries entry product day tare is = up_to MAX_TARE tare (put_tare_tells entries is.name day tare (subst (IsAllowed entries) is.act (allowed entries entry is.next.lawful))).range

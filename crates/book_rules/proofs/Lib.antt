@@ -1,6 +1,6 @@
 pub mod Chains
-pub mod Closing
-pub mod Judging
-pub mod Repeating
-pub mod Rows
+pub mod ClosingLemmas
+pub mod SignalLemmas
+pub mod ReplyLemmas
+pub mod NewestRows
 pub mod SameActs

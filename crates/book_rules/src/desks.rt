@@ -1,4 +1,4 @@
-ghost use Rattle.std.specs.Prelude.{◌≡◌, ◌∷◌, [], true, None};
+ghost use Rattle.std.specs.Prelude.{◌≡◌, ◌∷◌, ◌==◌, [], true, false, None};
 ghost use Rattle.book_words.specs.Desks.{same_act, is_lane_act, is_desk, is_desk_right, is_row_of, last_request, repeated_row, desk_number, request_old, request_reused, request_gap, newest_row, Row};
 ghost use Rattle.book_words.specs.Refusals.{first_refusal};
 
@@ -109,13 +109,11 @@ pub fn repeated_row(state: &State, ask: &Ask, act: &Act) -> Option<u32>
 }
 
 // The request is 0, or before the newest one of the desk.
-fn request_old(state: &State, ask: &Ask, act: &Act) -> Option<Refusal>
-    requires right { desk_number ask.now act.now ≡ None }
+fn request_old(state: &State, ask: &Ask) -> Option<Refusal>
+    requires desk { is_desk ask.now.desk ≡ true }
+    requires given { (ask.now.desk == 0) ≡ false }
     ensures { result ≡ request_old state.now.entries ask.now }
 {
-    if ask.desk == 0 {
-        return None;
-    }
     let last = last_request(state, ask.desk);
     if ask.request == 0 || ask.request < last {
         Some(Refusal::RequestOld { last })
@@ -126,10 +124,11 @@ fn request_old(state: &State, ask: &Ask, act: &Act) -> Option<Refusal>
 
 // The newest request of the desk has this number, and another act.
 fn request_reused(state: &State, ask: &Ask, act: &Act) -> Option<Refusal>
-    requires right { desk_number ask.now act.now ≡ None }
+    requires desk { is_desk ask.now.desk ≡ true }
+    requires given { (ask.now.desk == 0) ≡ false }
     ensures { result ≡ request_reused state.now.entries ask.now act.now }
 {
-    if ask.desk == 0 || ask.request == 0 {
+    if ask.request == 0 {
         return None;
     }
     let newest = newest_row(state, ask.desk)?;
@@ -141,13 +140,11 @@ fn request_reused(state: &State, ask: &Ask, act: &Act) -> Option<Refusal>
 }
 
 // The request isn't the one after the newest of the desk.
-fn request_gap(state: &State, ask: &Ask, act: &Act) -> Option<Refusal>
-    requires right { desk_number ask.now act.now ≡ None }
+fn request_gap(state: &State, ask: &Ask) -> Option<Refusal>
+    requires desk { is_desk ask.now.desk ≡ true }
+    requires given { (ask.now.desk == 0) ≡ false }
     ensures { result ≡ request_gap state.now.entries ask.now }
 {
-    if ask.desk == 0 {
-        return None;
-    }
     let last = last_request(state, ask.desk);
     if u64::from(ask.request) > u64::from(last) + 1 {
         Some(Refusal::RequestGap { last })
@@ -163,7 +160,10 @@ pub fn refuse_request(state: &State, ask: &Ask, act: &Act) -> Option<Refusal>
         ∷ request_reused state.now.entries ask.now act.now
         ∷ request_gap state.now.entries ask.now ∷ []) }
 {
-    request_old(state, ask, act)
+    if ask.desk == 0 {
+        return None;
+    }
+    request_old(state, ask)
         .or(request_reused(state, ask, act))
-        .or(request_gap(state, ask, act))
+        .or(request_gap(state, ask))
 }

@@ -10,7 +10,7 @@ use Rattle.annex_tables.specs.declared.types.Plan.{Plan}
 use Rattle.annex_tables.specs.declared.types.PlanRefusal.TheVariants.{Empty, Small}
 use Rattle.annex_tables.specs.Plans.{plan_of, keeping_plan, plan_of_all, plan_to_500, plan_to_3200, plan_above_3200, plan_of_destruction}
 use Rattle.sample_draw.specs.Draws.{packs_left}
-use Rattle.sample_draw.proofs.Drawing.{All-drawn, length-drawn, packs_left-enough}
+use Rattle.sample_draw.proofs.DrawLemmas.{All-drawn, length-drawn, packs_left-enough}
 use Rattle.book_words.specs.declared.name.Name.{Name}
 use Rattle.book_words.specs.declared.act.Entry.{Entry}
 use Rattle.book_words.specs.Acts.{last_said}
@@ -22,7 +22,7 @@ use Rattle.book_words.proofs.LegalLemmas.{legal_few}
 use Rattle.book_words.proofs.DrawnPacks.{AscendWithin, ascend-most, ascend-increasing, drawing_ascends}
 use Rattle.book_words.proofs.SampleSteps.{sample_is_drawn}
 use Rattle.book_samples.specs.DrawnBy.{IsDrawnBy}
-use Rattle.book_samples.proofs.Fitting.{plan_fits, first_count}
+use Rattle.book_samples.proofs.PickCounts.{plan_fits, first_count}
 
 -- what a plan asks for is little: at most 99 packs in each sample, a mean of packs of the first, and
 -- at most one standard deviation

@@ -1,4 +1,4 @@
-pub mod Keeping
-pub mod Changing
-pub mod Fitting
+pub mod SampleLemmas
+pub mod ListChanges
+pub mod PickCounts
 pub mod Known

@@ -7,7 +7,7 @@ use borrow.Rule.Slice.PartMut.{put_mid}
 use Rattle.book_snapshot.specs.declared.layout.TheConstants.{ROW_BYTES, OPEN, KIND_PLACE, NUMBER_PLACE, FIELDS_PLACE, LEFT_OUT}
 use Rattle.book_snapshot.specs.DenseRows.{IsRowSize, trimmed, short_row, dense, content, HasNumber, IsRow, row_of, ReadsBack}
 use Rattle.book_snapshot.specs.Reading.{IsReadAs}
-use Rattle.book_snapshot.proofs.Trimmed.{filled_up, trimmed_no_longer, trimmed_kept, trimmed_front, trimmed_last}
+use Rattle.book_snapshot.proofs.EndZeros.{filled_up, trimmed_no_longer, trimmed_kept, trimmed_front, trimmed_last}
 
 -- a row has fields, and no row is longer than those of this version
 pub row_long : (size : ℕ) → IsRowSize size → FIELDS_PLACE ≤ size

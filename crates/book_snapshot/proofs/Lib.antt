@@ -1,3 +1,3 @@
-pub mod Placing
-pub mod Trimmed
+pub mod BlockPlaces
+pub mod EndZeros
 pub mod DenseLemmas

@@ -16,12 +16,12 @@ use Rattle.book_words.specs.Samples.{sample_of}
 use Rattle.book_words.specs.Answers.{IsLegal}
 use Rattle.book_packs.specs.Stand.{Standing, IsPacksOf, terms_of_batch}
 use Rattle.book_index.proofs.LegalNames.{legal_named}
-use Rattle.book_index.proofs.LaneLemmas.{name_at_place}
-use Rattle.book_index.proofs.SaidNames.{product_where_opened}
+use Rattle.book_words.proofs.PlaceLemmas.{place_of-name}
+use Rattle.book_words.proofs.SaidNames.{product_where_opened}
 use Rattle.book_laws.proofs.BatchLaws.{orderly, is_fixed, no_sample}
 use Rattle.book_laws.proofs.UnsettledLaws.{Belongs, each_belongs}
 use Rattle.book_laws.proofs.PopulationLaws.{batch_of}
-use Rattle.book_state.proofs.Named.{none_of}
+use Rattle.book_words.proofs.PlainLemmas.{none_of}
 
 -- a batch without a number isn't one
 pub no_batch : (entries : List Entry) (batch : Name) → None ≡ batch_number entries batch → product_of entries batch ≡ None
@@ -39,7 +39,7 @@ told_of_batch (Some y) x h = refl
 -- the number is one of those that are kept
 pub number_within : (entries : List Entry) (standing : Standing) (batch : Name) (number : ℕ) → IsPacksOf entries standing → Some number ≡ batch_number entries batch → number < length standing.batches
 number_within entries standing batch number stands is =
-    let inside : number < length (said batch_opened entries) = slice_get_within (said batch_opened entries) number batch (name_at_place (said batch_opened entries) batch number (sym is)) in
+    let inside : number < length (said batch_opened entries) = slice_get_within (said batch_opened entries) number batch (place_of-name (said batch_opened entries) batch number (sym is)) in
     let count : length standing.batches ≡ length (said batch_opened entries) =
     ap (λ (some : List Terms). length some) stands.batches ∙ length-map (said batch_opened entries) (terms_of_batch entries) in
     subst (λ n. number < n) (sym count) inside

@@ -24,8 +24,8 @@ use Rattle.book_words.specs.Answers.{IsLegal}
 use Rattle.book_words.proofs.LastSaid.{last_said-push}
 use Rattle.book_words.proofs.NameLemmas.{same_name_itself}
 use Rattle.book_index.proofs.LegalNames.{legal_named}
-use Rattle.book_index.proofs.LaneLemmas.{name_at_place}
-use Rattle.book_index.proofs.SaidNames.{nominal_where_put}
+use Rattle.book_words.proofs.PlaceLemmas.{place_of-name}
+use Rattle.book_words.proofs.SaidNames.{nominal_where_put}
 use Rattle.book_laws.proofs.KnownLaws.{apart}
 use Rattle.book_laws.proofs.FrozenLaws.{put_push, and_then_agree}
 use Rattle.book_laws.proofs.UnsettledLaws.{Belongs, each_belongs}
@@ -59,7 +59,7 @@ found_by_number entries test number is = either (find test (said batch_opened en
   where
     either : (o : Option Name) → find test (said batch_opened entries) ≡ o → slice_get (said batch_opened entries) number ≡ o
     either None none = absurd (let clash : Some number ≡ None = is ∙ ap (option_and_then (batch_number entries)) none in cc)
-    either (Some batch) some = name_at_place (said batch_opened entries) batch number (sym (is ∙ ap (option_and_then (batch_number entries)) some))
+    either (Some batch) some = place_of-name (said batch_opened entries) batch number (sym (is ∙ ap (option_and_then (batch_number entries)) some))
 
 -- and none is found where no number is told
 pub none_by_number : (entries : List Entry) (test : Name → Bool) → None ≡ option_and_then (batch_number entries) (find test (said batch_opened entries)) → find test (said batch_opened entries) ≡ None

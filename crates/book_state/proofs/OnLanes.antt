@@ -12,8 +12,8 @@ use Rattle.book_words.specs.Answers.{IsLegal}
 use Rattle.book_packs.specs.Stand.{Standing, IsPacksOf, limits_told}
 use Rattle.book_index.specs.Listed.{batch_product_number}
 use Rattle.book_state.proofs.Batches.{number_within}
-use Rattle.book_state.proofs.Named.{no_product}
-use Rattle.book_state.proofs.Entered.{batchless}
+use Rattle.book_state.proofs.NumberedNames.{no_product}
+use Rattle.book_state.proofs.EntryFacts.{batchless}
 
 -- without a product there is no tare
 pub untared : (entries : List Entry) (batch : Option Name) (day : Option ℤ) → IsLegal entries → None ≡ option_and_then (batch_product_number entries) batch → None ≡ tare_of_reading entries batch day

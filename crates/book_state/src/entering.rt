@@ -13,7 +13,7 @@ ghost use Rattle.book_state.specs.Prepared.{drawn_by};
 ghost use Rattle.book_state.specs.Told.{lane_weighed};
 
 use crate::drawn::Drawn;
-use crate::weighed::{lane_number, lane_tare, row_weighing};
+use crate::weighed::{lane_batch_number, lane_tare, row_weighing};
 use batch_sums::Steps;
 use book_index::Index;
 use book_packs::{Packs, UNIT_DENSITY, limits_by_density};
@@ -83,7 +83,7 @@ fn weigh(packs: &mut Packs, index: &Index, entries: &[Entry], entry: &Entry, lan
     ensures spare { packs.old.spare ≤ packs.new.spare + 1 }
 {
     let row = entries.len() as u32 + 1;
-    let batch = lane_number(index, lane);
+    let batch = lane_batch_number(index, lane);
     let tare = lane_tare(index, packs, lane);
     let Some(weighing) = row_weighing(entry, row, batch, index.day(), tare) else {
         unreachable!()

@@ -133,7 +133,7 @@ impl State {
         ensures { result ≡ option_map (limits_told self.now.entries)
             (acts.lane_batch self.now.entries lane) }
     {
-        let batch = self.index.lane_number(lane)?;
+        let batch = self.index.lane_batch_number(lane)?;
         Some(self.packs.limits(batch))
     }
 
@@ -175,7 +175,7 @@ impl State {
     {
         let _ = gross;
         let _ = batch;
-        let Some(number) = self.index.lane_number(lane) else {
+        let Some(number) = self.index.lane_batch_number(lane) else {
             unreachable!()
         };
         self.packs.totals_at(lane, prior, number)

@@ -14,11 +14,11 @@ use book_packs::{Packs, Weighing};
 use book_words::{Act, Entry};
 
 /// The number of the batch that a lane has.
-pub fn lane_number(index: &Index, lane: u8) -> Option<u32>
+pub fn lane_batch_number(index: &Index, lane: u8) -> Option<u32>
     ensures { (entries : List entry.Entry) → IsIndexOf entries index.now → IsLegal entries
         → result ≡ option_and_then (order.batch_number entries) (lane_batch entries lane) }
 {
-    index.lane_number(lane)
+    index.lane_batch_number(lane)
 }
 
 /// The tare in mg of the batch that a lane has, on the newest day.

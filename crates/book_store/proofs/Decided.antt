@@ -22,7 +22,8 @@ use Rattle.book_core.specs.declared.types.Step.TheVariants.{New, Known}
 use Rattle.book_core.specs.declared.types.BookError.{BookError}
 use Rattle.book_core.specs.declared.types.BookError.TheVariants as error
 use Rattle.book_core.specs.View.{ReadyEntry, BookView}
-use Rattle.book_core.specs.Steps.{asked_act, numbered_entry, decided_step, step_for, desk_decision, made_ready, GivesUnlessNoMemory, HasNoRoom}
+use Rattle.book_core.specs.Steps.{asked_act, numbered_entry, decided_step, step_for, made_ready, GivesUnlessNoMemory, HasNoRoom}
+use Rattle.book_core.proofs.DecisionLemmas.{desk_decision, decision_is}
 
 isnt_full : (limit : ℕ) (test : Bool) → refused_if test (BookFull limit) ≡ None → test ≡ false
 isnt_full limit false h = refl
@@ -123,7 +124,8 @@ decides : (book : BookView) (by : ℕ) (ask : Ask) (act : Act) (given : Result S
     → Decides book act (added book.limit book.entries by ask) (answer book.limit book.entries ask) given
 decides book by ask act given wants most gives =
     subst (λ (w : Want). Decides book act (want_added book.limit book.entries by ask w) (want_answer book.limit book.entries ask w) given) (sym wants)
-    (decides_by book by ask act given (desk_number ask act) (repeated_row book.entries ask act) (refusal_of book.limit book.entries ask act) most refl refl refl gives)
+    (decides_by book by ask act given (desk_number ask act) (repeated_row book.entries ask act) (refusal_of book.limit book.entries ask act) most refl refl refl
+    (subst (λ (d : Result (Option Answered) BookError). GivesUnlessNoMemory book act given (decided_step (numbered_entry book.entries by ask act) d)) (decision_is book.limit book.entries ask act) gives))
 
 -- what a step says, case by case
 module _ (book : BookView) (by : ℕ) (ask : Ask) (act : Act) (given : Result Step BookError)

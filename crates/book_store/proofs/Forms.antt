@@ -7,7 +7,7 @@ use Rattle.std.proofs.lemmas.Bool.Decides.{nat_tests}
 use Rattle.book_snapshot.specs.declared.layout.TheConstants.{ROW_BYTES, OPEN, KIND_PLACE, NUMBER_PLACE, FIELDS_PLACE, LEFT_OUT}
 use Rattle.book_snapshot.specs.DenseRows.{trimmed, short_row, HasNumber, row_of}
 use Rattle.book_snapshot.specs.Reading.{IsReadAs, EndsEarly, IsFaulty}
-use Rattle.book_snapshot.proofs.Trimmed.{filled_up}
+use Rattle.book_snapshot.proofs.EndZeros.{filled_up}
 use Rattle.book_store.specs.Listing.{begins_form, form_row, behind_form, content_rows}
 
 -- a row is its gate, its kind, its number and its fields

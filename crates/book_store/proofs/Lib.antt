@@ -3,10 +3,12 @@ pub mod Forms
 pub mod Listed
 pub mod Mounted
 pub mod Parts
-pub mod Reading
+pub mod OneMoreRow
 pub mod Opened
 pub mod Walks
 pub mod Spelled
-pub mod Hanging
+pub mod StoreFacts
 pub mod Decided
-pub mod Squeezing
+pub mod DenseContent
+pub mod KeptLemmas
+pub mod CallerSteps

@@ -29,7 +29,7 @@ use Rattle.book_store.specs.declared.store.Store.{Store}
 use Rattle.book_store.specs.Causes.{cause_of}
 use Rattle.book_store.specs.Images.{spelled, CanAllBeSpelled, HoldsBook}
 use Rattle.book_store.specs.Listing.{Lists, IsOpenedAs, IsDamagedAt, snapshot_rows}
-use Rattle.book_store.specs.Mounting.{IsCauseOf, IsPassing, KeepsHeld, ReadsClosed, opening_bytes}
+use Rattle.book_store.specs.Mounting.{IsCauseOf, IsPassing, KeepsHeld, ReadsClosed, ReadsMounted, opening_bytes}
 use Rattle.book_store.specs.Opening.{IsReadable, rows_there, slots_from, StandsAtEnd, Stops, CountsRefusal, Opens, reading_cost}
 use Rattle.book_store.specs.Stores.{disk_of, entries_of, held_of, IsSound}
 use Rattle.book_store.proofs.Exits.{count_kept}
@@ -194,15 +194,27 @@ module _ {D : Type 0} (g : disk.Ghosts D) where
       subst (λ (n : ℕ). g.asked (disk_of store) ≤ g.asked old + opening_bytes rows size n) opens.count (asked_of old journal limit store bytes rows size mounted cost fits opens)
   asked old journal limit (Err refused) bytes rows size mounted cost fits opens = tt
 
-  -- a journal with a damaged row reads what it did, but for the gate behind its rows
-  closed : (journal : Journal D) (bytes : List ℕ) (row : ℕ) (new : D) → IsUnmoved g (journals.disk_of journal) new → HasMounted g bytes journal → IsDamagedAt bytes row → ReadsClosed g bytes new
-  closed journal bytes row new unmoved (inl finds) damaged =
-      record {
+  -- a journal that was mounted reads what it did, but for the gate behind its rows, or is a new one
+  read_mounted : (journal : Journal D) (bytes : List ℕ) (new : D) → g.reads new ≡ g.reads (journals.disk_of journal) → HasMounted g bytes journal → ReadsMounted g bytes new
+  read_mounted journal bytes new same (inl finds) =
+      inl (record {
         kept = journals.kept_of journal;
         snapshot = finds.snapshot;
-        reads = unmoved.reads ∙ finds.reads ∙ ap (λ (n : ℕ). Some (mounting.closed_behind n bytes)) finds.slots;
-      }
-  closed journal bytes row new unmoved (inr makes) damaged = absurd (lists_damage bytes row makes.foreign damaged)
+        reads = same ∙ finds.reads ∙ ap (λ (n : ℕ). Some (mounting.closed_behind n bytes)) finds.slots;
+      })
+  read_mounted journal bytes new same (inr makes) = inr (record { foreign = makes.foreign; short = makes.short; reads = same ∙ makes.reads })
+
+  -- one with a damaged row isn't new
+  closed : (journal : Journal D) (bytes : List ℕ) (row : ℕ) (new : D) → IsUnmoved g (journals.disk_of journal) new → HasMounted g bytes journal → IsDamagedAt bytes row → ReadsClosed g bytes new
+  closed journal bytes row new unmoved mounted damaged = ⊎_elim
+      (λ reads. reads)
+      (λ made. absurd (lists_damage bytes row made.foreign damaged))
+      (read_mounted journal bytes new unmoved.reads mounted)
+
+  -- what the disk of a store reads
+  pub reads_mounted : (journal : Journal D) (limit : ℕ) (result : Result (Store D) (Unmounted D)) (bytes : List ℕ) → HasMounted g bytes journal → Opens g journal limit result → IfOk result (λ store. ReadsMounted g bytes (disk_of store))
+  reads_mounted journal limit (Ok store) bytes mounted opens = read_mounted journal bytes (disk_of store) opens.read.unmoved.reads mounted
+  reads_mounted journal limit (Err refused) bytes mounted opens = tt
 
   module _ (old : D) (journal : Journal D) (most : journals.count_of journal ≤ MAX_SLOTS) (mounted : WhereTold (g.reads old) (λ bytes. HasMounted g bytes journal)) where
     cause_by : (why : MountError) (new : D) → g.faults (journals.disk_of journal) ≡ g.faults old → IsUnmoved g (journals.disk_of journal) new
@@ -218,7 +230,7 @@ module _ {D : Type 0} (g : disk.Ghosts D) where
       counts ∙ calm,
     )
     cause_by DiskFault new calm unmoved counts stops = subst (λ (n : ℕ). Counted n (g.faults new) 1) calm counts
-    cause_by NoMemory new calm unmoved counts stops = counts ∙ calm
+    cause_by NoMemory new calm unmoved counts stops = (inr (λ bytes told. read_mounted journal bytes new unmoved.reads (mounted bytes told)), counts ∙ calm)
 
     pub caused : (limit : ℕ) (result : Result (Store D) (Unmounted D)) → g.faults (journals.disk_of journal) ≡ g.faults old → Opens g journal limit result
         → MatchResult result (λ store. g.faults (disk_of store) ≡ g.faults old) (λ refused. IsCauseOf g refused.why old refused.disk)

@@ -1,5 +1,5 @@
 -- What adopting an entry answers.
-use Rattle.std.specs.Prelude.{◌≡◌, ℕ, ◌+◌, List, [], ◌∷◌, ◌++◌, length, Result, Ok, Err}
+use Rattle.std.specs.Prelude.{◌≡◌, ℕ, ◌+◌, List, [], ◌∷◌, ◌++◌, length, Option, Some, None, Result, Ok, Err}
 use Rattle.device_facts.specs.Count.{Counted}
 use Rattle.book_words.specs.declared.act.Entry.{Entry}
 use Rattle.book_words.specs.Answers.{IsLawful}
@@ -21,6 +21,11 @@ Adopts book entry (Err NoMemory) = IsLawful book.entries entry × HasNoRoom book
 abbrev pub list_adopted : Result ℕ AdoptError → List Entry → Entry → List Entry
 list_adopted (Ok number) entries entry = entries ++ entry ∷ []
 list_adopted (Err error) entries entry = entries
+
+-- the entry that a crash may leave where it wasn't added
+abbrev pub offered_adopted : Result ℕ AdoptError → Entry → Option Entry
+offered_adopted (Err DiskFault) entry = Some entry
+offered_adopted _ entry = None
 
 -- the disk's count of faults behind it
 abbrev pub CountsAdoptFault : ℕ → ℕ → Result ℕ AdoptError → Type 0

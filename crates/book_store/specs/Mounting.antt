@@ -1,5 +1,5 @@
 -- What mounting a disk as a store promises.
-use Rattle.std.specs.Prelude.{◌≡◌, ◌⊎◌, ⊤, ℕ, ◌+◌, ◌-◌, ◌*◌, ◌/◌, ◌<◌, List, length, Option, Some, Result, Ok, Err}
+use Rattle.std.specs.Prelude.{◌≡◌, ◌⊎◌, ⊤, ℕ, ◌+◌, ◌-◌, ◌*◌, ◌/◌, ◌<◌, ◌≤◌, List, length, Option, Some, Result, Ok, Err}
 use Rattle.device_facts.specs.Count.{Counted}
 use Rattle.disk_core.specs.Disk.{WhereTold}
 use Rattle.disk_core.specs.Devices.{IsUnmoved}
@@ -8,8 +8,8 @@ use Rattle.book_words.specs.declared.act.Entry.{Entry}
 use Rattle.book_snapshot.specs.declared.types.Kept.{Kept}
 use Rattle.book_journal.specs.declared.layout.TheConstants.{NEW_BYTES}
 use Rattle.book_journal.specs.declared.blocks.TheConstants.{BLOCKS_CONTENT}
-use Rattle.book_journal.specs.Rows.{FirstDiffersAt}
-use Rattle.book_journal.specs.Mounting.{KeepsFromSync, IsSnapshotOf, rows_before, slots_behind, closed_behind}
+use Rattle.book_journal.specs.Rows.{HasHeader, FirstDiffersAt}
+use Rattle.book_journal.specs.Mounting.{KeepsFromSync, IsSnapshotOf, rows_before, slots_behind, closed_behind, new_journal}
 use Rattle.book_store.specs.declared.types.MountError.{MountError}
 use Rattle.book_store.specs.declared.types.MountError.TheVariants.{NotJournal, Damaged, DiskFault, NoMemory}
 use Rattle.book_store.specs.declared.types.Unmounted.{Unmounted}
@@ -33,8 +33,19 @@ pub record ReadsClosed {D : Type 0} (disk : disk.Ghosts D) (bytes : List ℕ)
   pub reads : disk.reads now ≡ Some (closed_behind
       (rows_before kept + slots_behind (rows_before kept) bytes) bytes)
 
+-- a disk that was too short for a row and no journal was made a new one
+pub record ReadsNew {D : Type 0} (disk : disk.Ghosts D) (bytes : List ℕ) (now : D) : Type 0 where
+  pub foreign : ¬ HasHeader bytes
+  pub short : length bytes ≤ NEW_BYTES
+  pub reads : disk.reads now ≡ Some new_journal
+
+-- all that mounting writes over a disk that has these bytes and is a journal, or becomes one
+abbrev pub ReadsMounted : {D : Type 0} → disk.Ghosts D → List ℕ → D → Type 0
+ReadsMounted disk bytes now = ReadsClosed disk bytes now ⊎ ReadsNew disk bytes now
+
 -- Why a disk wasn't mounted, its count of faults then, and what it reads: it isn't a journal and is
--- as it was; a row is damaged, and at most a gate was closed; it failed; or there was no memory.
+-- as it was; a row is damaged, and at most a gate was closed; it failed; or there was no memory,
+-- and it is as it was, or reads what it would if it had been mounted.
 abbrev pub IsCauseOf : {D : Type 0} → disk.Ghosts D → MountError → D → D → Type 0
 IsCauseOf disk (NotJournal place) old new =
     WhereTold (disk.reads old) (λ bytes. IsForeignAt bytes place)
@@ -43,7 +54,9 @@ IsCauseOf disk (Damaged row) old new =
     WhereTold (disk.reads old) (λ bytes. IsDamagedAt bytes row × ReadsClosed disk bytes new)
     × (disk.faults new ≡ disk.faults old)
 IsCauseOf disk DiskFault old new = Counted (disk.faults old) (disk.faults new) 1
-IsCauseOf disk NoMemory old new = disk.faults new ≡ disk.faults old
+IsCauseOf disk NoMemory old new =
+    (IsUnmoved disk old new ⊎ WhereTold (disk.reads old) (λ bytes. ReadsMounted disk bytes new))
+    × (disk.faults new ≡ disk.faults old)
 
 -- the causes that a disk which holds a book may have
 abbrev pub IsPassing : MountError → Type 0

@@ -52,6 +52,11 @@ abbrev pub list_behind : Result Answered AskError → List Entry → Option Entr
 list_behind (Ok answered) entries (Some entry) = entries ++ entry ∷ []
 list_behind _ entries _ = entries
 
+-- the entry that was offered, and that a crash may leave: that of an ask at which the disk failed
+abbrev pub offered_behind : Result Answered AskError → Option Entry → Option Entry
+offered_behind (Err error.DiskFault) new = new
+offered_behind _ new = None
+
 -- the disk's count of faults behind an ask: one more where the disk failed, and else as it was
 abbrev pub CountsDiskFault : ℕ → ℕ → Result Answered AskError → Type 0
 CountsDiskFault before now (Err error.DiskFault) = Counted before now 1

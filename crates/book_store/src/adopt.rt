@@ -30,7 +30,7 @@ impl<D: Disk> Store<D> {
             OffersEntry D.Disk entry.now self.old self.new }
         ensures images { ImagesHoldBook D.Disk self.new }
         ensures unlawful { result ≡ Err error.Unlawful → LeavesDisk D.Disk self.old self.new }
-        ensures no_memory { result ≡ Err error.NoMemory → disk_of self.new ≡ disk_of self.old }
+        ensures no_memory { result ≡ Err error.NoMemory → LeavesDisk D.Disk self.old self.new }
         ensures hangs { Hangs self.new → (result ≡ Err error.DiskFault) ⊎ Hangs self.old }
         ensures settled { OnOk result (¬ Hangs self.new) }
 

@@ -9,7 +9,7 @@ impl<D: Disk> Store<D> {
     ghost use Rattle.book_words.specs.declared.caller.AskError.TheVariants as error;
     ghost use Rattle.book_words.specs.Answers.{answer, added, IsLegal};
     ghost use Rattle.book_store.specs.Stores.{disk_of, book_of, entries_of, limit_of, spare_of, held_of, Hangs, ImagesHoldBook, IsSound};
-    ghost use Rattle.book_store.specs.Offers.{Offers, GivesAnswer, list_behind, CountsDiskFault};
+    ghost use Rattle.book_store.specs.Offers.{Offers, LeavesDisk, GivesAnswer, list_behind, CountsDiskFault};
 
     /// Answers an ask of the caller `by` as the book does. An act that is new and accepted is
     /// written down and stable before it is in the book; from then on each crash leaves it. A
@@ -31,7 +31,7 @@ impl<D: Disk> Store<D> {
         ensures offers { Offers D.Disk (added (limit_of self.old) (entries_of self.old) by ask.now)
             self.old self.new }
         ensures images { ImagesHoldBook D.Disk self.new }
-        ensures no_memory { result ≡ Err error.NoMemory → disk_of self.new ≡ disk_of self.old }
+        ensures no_memory { result ≡ Err error.NoMemory → LeavesDisk D.Disk self.old self.new }
         ensures hangs { Hangs self.new → (result ≡ Err error.DiskFault) ⊎ Hangs self.old }
         ensures settled { IsSome (added (limit_of self.old) (entries_of self.old) by ask.now) →
             OnOk result (¬ Hangs self.new) }

@@ -7,6 +7,7 @@ mod ask;
 mod content;
 mod enter;
 mod mount;
+mod one_caller;
 mod opening;
 mod replay;
 mod rest;
@@ -14,5 +15,6 @@ mod slots;
 mod store;
 mod types;
 
+pub use one_caller::OneCaller;
 pub use store::Store;
 pub use types::{AdoptError, MountError, RestError, Unmounted};

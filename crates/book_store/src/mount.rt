@@ -26,7 +26,7 @@ impl<D: Disk> Store<D> {
     ghost use Rattle.book_store.specs.Images.{HoldsBook};
     ghost use Rattle.book_store.specs.Stores.{disk_of, entries_of, limit_of, held_of, Hangs, IsSound};
     ghost use Rattle.book_store.specs.Listing.{IsOpenedAs};
-    ghost use Rattle.book_store.specs.Mounting.{IsCauseOf, KeepsHeld, opening_bytes};
+    ghost use Rattle.book_store.specs.Mounting.{IsCauseOf, KeepsHeld, ReadsMounted, opening_bytes};
 
     /// Opens a disk as a book that may have `limit` rows, 1 to 1 000 000, or hands it back with the
     /// reason. A book that has more rows opens all the same, and takes no more.
@@ -44,16 +44,19 @@ impl<D: Disk> Store<D> {
         ensures cause { MatchResult result (λ store. D.faults (disk_of store) ≡ D.faults disk)
             (λ refused. IsCauseOf D.Disk refused.why disk refused.disk) }
 
+        // At most the gate behind the rows was closed, or a disk too short for a row was made new.
+        // Where a snapshot fits, nothing is written.
+        ensures reads { WhereTold (D.reads disk) (λ bytes.
+            IfOk result (λ store. ReadsMounted D.Disk bytes (disk_of store))) }
+        ensures unwritten { WhereTold (D.reads disk) (λ bytes. (rows size : ℕ) →
+            FitsSnapshot rows size bytes → IfOk result (λ store.
+            D.reads (disk_of store) ≡ Some bytes)) }
+
         // A disk that holds a book gives it, and a crash from the first good sync on leaves it,
         // whatever is answered.
         ensures held { WhereTold (D.reads disk) (λ bytes.
             (entries : List Entry) → HoldsBook entries bytes → IsLegal entries →
             KeepsHeld D.Disk disk entries result) }
-
-        // Where a snapshot fits, nothing is written.
-        ensures unwritten { WhereTold (D.reads disk) (λ bytes. (rows size : ℕ) →
-            FitsSnapshot rows size bytes → IfOk result (λ store.
-            D.reads (disk_of store) ≡ Some bytes)) }
 
         ensures limit { IfOk result (λ store. limit_of store ≡ limit) }
         ensures count { IfOk result (λ store. held_of store ≡ length (entries_of store)) }

@@ -1,5 +1,5 @@
-pub mod Accepting
-pub mod Adding
-pub mod Known
-pub mod Packing
-pub mod Viewing
+pub mod MeanLemmas
+pub mod PileLemmas
+pub mod BatchFacts
+pub mod ContentsLemmas
+pub mod ViewLemmas

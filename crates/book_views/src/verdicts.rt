@@ -1,6 +1,7 @@
 ghost use Rattle.std.specs.Prelude.{◌≡◌, ◌≤◌, ◌≤ℤ◌, ◌*ℤ◌, ℤ, List, pos, int_le, true, is_some};
 ghost use Rattle.hall_limits.specs.declared.TheConstants.{MIN_NOMINAL, MAX_NOMINAL, MIN_DENSITY, MAX_DENSITY};
 ghost use Rattle.annex_tables.specs.Errors.{IsNominal};
+ghost use Rattle.reference_test.specs.Means as means;
 ghost use Rattle.reference_test.specs.Means.{sums_of};
 ghost use Rattle.book_words.specs.Acts.{product_of};
 ghost use Rattle.book_words.specs.Population.{population};
@@ -64,7 +65,7 @@ fn is_mean_right(sums: &Sums, nominal: i64, density: u32, k1000: u32) -> bool
     requires greatest { density ≤ MAX_DENSITY }
     requires part { k1000 ≤ 1000 }
     ensures { (values : List ℤ) → sums.now ≡ sums_of values
-        → result ≡ verdicts.mean_accepts values nominal density k1000 }
+        → result ≡ means.mean_accepts values nominal density k1000 }
 {
     sums.number() == 0 || mean_check_at(sums, nominal, density, k1000)
 }

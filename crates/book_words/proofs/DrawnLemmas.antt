@@ -10,29 +10,21 @@ use Rattle.book_words.specs.Acts.{last_said}
 use Rattle.book_words.specs.Samples.{Drawing, drawing_from, drawings, drawing_of, second_word, sample_by, sample_of}
 use Rattle.book_words.specs.Measures.{measured_by, measured_of}
 use Rattle.book_words.proofs.LastSaid.{last_said-push}
+use Rattle.book_words.proofs.RowLemmas.{before_last, at_last}
 
 -- the draw of a batch at a place
 abbrev drawing_at : Name → List Entry → ℕ → Option Drawing
 drawing_at batch entries place =
     option_and_then (λ (e : Entry). drawing_from batch (take place entries) e.act) (slice_get entries place)
 
-slice_get-before : (entries : List Entry) (entry : Entry) (place : ℕ) → place < length entries → slice_get (entries ++ entry ∷ []) place ≡ slice_get entries place
-slice_get-before [] entry place h = absurd (omega arith)
-slice_get-before (e ∷ es) entry zero h = refl
-slice_get-before (e ∷ es) entry (suc place) h = slice_get-before es entry place (omega arith)
-
-slice_get-last : (entries : List Entry) (entry : Entry) → slice_get (entries ++ entry ∷ []) (length entries) ≡ Some entry
-slice_get-last [] entry = refl
-slice_get-last (e ∷ es) entry = slice_get-last es entry
-
 drawing_at-before : (batch : Name) (entries : List Entry) (entry : Entry) (place : ℕ) → place < length entries → drawing_at batch (entries ++ entry ∷ []) place ≡ drawing_at batch entries place
 drawing_at-before batch entries entry place h =
-    ap (option_and_then (λ (e : Entry). drawing_from batch (take place (entries ++ entry ∷ [])) e.act)) (slice_get-before entries entry place h)
+    ap (option_and_then (λ (e : Entry). drawing_from batch (take place (entries ++ entry ∷ [])) e.act)) (before_last entries entry place h)
     ∙ ap (λ (before : List Entry). option_and_then (λ (e : Entry). drawing_from batch before e.act) (slice_get entries place)) (take-append-le place entries (entry ∷ []) (omega arith))
 
 drawing_at-last : (batch : Name) (entries : List Entry) (entry : Entry) → drawing_at batch (entries ++ entry ∷ []) (length entries) ≡ drawing_from batch entries entry.act
 drawing_at-last batch entries entry =
-    ap (option_and_then (λ (e : Entry). drawing_from batch (take (length entries) (entries ++ entry ∷ [])) e.act)) (slice_get-last entries entry)
+    ap (option_and_then (λ (e : Entry). drawing_from batch (take (length entries) (entries ++ entry ∷ [])) e.act)) (at_last entries entry)
     ∙ ap (λ (before : List Entry). drawing_from batch before entry.act) (take-append_seam entries (entry ∷ []))
 
 drawings_before : (batch : Name) (entries : List Entry) (entry : Entry) (from many : ℕ) → from + many ≤ length entries

@@ -1,77 +1,30 @@
 -- In a legal list a batch is opened once, and its first sample is drawn once, before its second.
-use Rattle.std.proofs.Common.{◌≡◌, ℕ, Bool, true, false, not, List, [], ◌∷◌, ◌++◌, Option, Some, None, is_some, is_none, if◌then◌else◌, refl, sym, ◌∙◌, ap, subst, append_assoc, append-nil}
+use Rattle.std.proofs.Common.{◌≡◌, ℕ, Bool, true, false, not, List, [], ◌∷◌, ◌++◌, Option, Some, None, is_some, if◌then◌else◌, refl, sym, ◌∙◌, ap}
 use Rattle.std.specs.List.{list_any, cons_option, last_or}
 use Rattle.std.specs.Option.{option_or, option_and_then}
 use Rattle.book_words.specs.declared.name.Name.{Name}
 use Rattle.book_words.specs.declared.act.BatchState.{BatchState}
 use Rattle.book_words.specs.declared.act.BatchState.TheVariants.{Running, Ended, Drawn, Closed}
 use Rattle.book_words.specs.declared.act.Act.{Act}
-use Rattle.book_words.specs.declared.act.Act.TheVariants.{NewDay, PutProduct, PutTare, OpenBatch, StartLane, Weigh, StopLane, Void, EndRun, Draw, Measure, DrawSecond, Close}
+use Rattle.book_words.specs.declared.act.Act.TheVariants.{OpenBatch, EndRun, Draw, DrawSecond, Close}
 use Rattle.book_words.specs.declared.act.Entry.{Entry}
-use Rattle.book_words.specs.declared.refusal.Refusal.{Refusal}
 use Rattle.book_words.specs.declared.refusal.Refusal.TheVariants as why
 use Rattle.book_words.specs.Names.{same_name}
 use Rattle.book_words.specs.Acts.{last_said, product_given, product_of, state_set, state_of, same_state}
 use Rattle.book_words.specs.Samples.{Drawing, drawing_from, drawings, drawing_of, second_word, numbers_of}
 use Rattle.book_words.specs.Population.{population}
-use Rattle.book_words.specs.Refusals as rules
-use Rattle.book_words.specs.Refusals.{refused_if, first_refusal, refusals_of}
-use Rattle.book_words.specs.Answers.{ask_of, IsLawful, IsLegal}
+use Rattle.book_words.specs.Refusals.{refused_if}
+use Rattle.book_words.specs.Answers.{IsLawful, IsLegal}
 use Rattle.book_words.proofs.NameLemmas.{same_name_is}
 use Rattle.book_words.proofs.LastSaid.{last_said-push}
-use Rattle.book_words.proofs.RefusalLemmas.{none_of_two, act_rules}
-use Rattle.book_words.proofs.LegalLemmas.{legal-prefix}
+use Rattle.book_words.proofs.PlainLemmas.{none_of}
+use Rattle.book_words.proofs.AllowedActs.{IsAllowed, allowed, not_test, open_batch_tells, end_run_tells, draw_tells, draw_second_tells, close_tells}
+use Rattle.book_words.proofs.LegalLemmas.{legal_steps, kept_behind}
 use Rattle.book_words.proofs.DrawnLemmas.{drawings-push, drawing_of-push}
 
-legal_from : (P : List Entry → Type 0) → ((before : List Entry) (entry : Entry) → IsLegal before → IsLawful before entry → P before → P (before ++ entry ∷ []))
-    → (before after : List Entry) → IsLegal (before ++ after) → P before → P (before ++ after)
-legal_from P step before [] legal h = rw append-nil h
-legal_from P step before (e ∷ es) legal h =
-    let whole : (before ++ e ∷ []) ++ es ≡ before ++ e ∷ es = append_assoc before (e ∷ []) es in
-    subst P whole (legal_from P step (before ++ e ∷ []) es (subst IsLegal (sym whole) legal)
-    (step before e (legal-prefix before (e ∷ es) legal) (legal before e es refl) h))
-
--- what holds of the empty list, and goes on behind each lawful entry, holds of each legal list
-pub legal_steps : (P : List Entry → Type 0) → P [] → ((before : List Entry) (entry : Entry) → IsLegal before → IsLawful before entry → P before → P (before ++ entry ∷ []))
-    → (entries : List Entry) → IsLegal entries → P entries
-legal_steps P start step entries legal = legal_from P step [] entries legal start
-
--- a lawful act is refused by none of its own rules
-pub lawful_rules : (entries : List Entry) (entry : Entry) → IsLawful entries entry → first_refusal (refusals_of entries entry.act) ≡ None
-lawful_rules entries entry lawful = act_rules entries (ask_of entry) entry.act lawful.rules
-
-not_said : (test : Bool) (refusal : Refusal) → refused_if test refusal ≡ None → test ≡ false
-not_said false refusal h = refl
-not_said true refusal h = absurd (cc)
-
-none_of : {A : Type 0} (o : Option A) → is_some o ≡ false → o ≡ None
-none_of None h = refl
-none_of (Some x) h = absurd (cc)
-
-some_of : {A : Type 0} (o : Option A) → is_none o ≡ false → is_some o ≡ true
-some_of None h = absurd (cc)
-some_of (Some x) h = refl
-
 -- what is lawfully opened wasn't a batch
-pub opened_is_new : (entries : List Entry) (batch product : Name) (density : ℕ) → first_refusal (refusals_of entries (OpenBatch batch product density)) ≡ None → product_of entries batch ≡ None
-opened_is_new entries batch product density h =
-    let a = none_of_two (rules.day_unset entries) _ h in
-    let b = none_of_two (rules.product_unknown entries product) _ a.1 in
-    let c = none_of_two (rules.name_shape batch) _ b.1 in
-    let d = none_of_two (rules.batch_known entries batch) _ c.1 in
-    none_of (product_of entries batch) (not_said (is_some (product_of entries batch)) why.BatchKnown d.0)
-
--- the batch of an act that isn't refused is there, and its state is one of those that the act allows
-abbrev IsAllowed : List BatchState → List Entry → Name → Type 0
-IsAllowed allowed entries batch = (is_some (product_of entries batch) ≡ true) × (rules.batch_state allowed entries batch ≡ None)
-
-allowed_by : (allowed : List BatchState) (entries : List Entry) (batch : Name) (rest : List (Option Refusal))
-    → first_refusal (rules.day_unset entries ∷ rules.batch_unknown entries batch ∷ rules.batch_state allowed entries batch ∷ rest) ≡ None → IsAllowed allowed entries batch
-allowed_by allowed entries batch rest h =
-    let a = none_of_two (rules.day_unset entries) _ h in
-    let b = none_of_two (rules.batch_unknown entries batch) _ a.1 in
-    let c = none_of_two (rules.batch_state allowed entries batch) _ b.1 in
-    (some_of (product_of entries batch) (not_said (is_none (product_of entries batch)) why.BatchUnknown b.0), c.0)
+pub opened_is_new : (entries : List Entry) (batch product : Name) (density : ℕ) → IsAllowed entries (OpenBatch batch product density) → product_of entries batch ≡ None
+opened_is_new entries batch product density h = (open_batch_tells entries batch product density h).new
 
 -- a list in which a batch has a state exactly where it has a product
 abbrev HasStates : List Entry → Type 0
@@ -90,35 +43,27 @@ opened_too n product name s p same false = same
 moved_name : (entries : List Entry) (n name : Name) → is_some (product_of entries n) ≡ true → same_name n name ≡ true → is_some (product_of entries name) ≡ true
 moved_name entries n name h same = ap (λ (b : Name). is_some (product_of entries b)) (sym (same_name_is n name same)) ∙ h
 
-states_step : (entries : List Entry) (act : Act) → first_refusal (refusals_of entries act) ≡ None → HasStates entries → (batch : Name)
+states_step : (entries : List Entry) (act : Act) → IsAllowed entries act → HasStates entries → (batch : Name)
     → is_some (option_or (state_set batch act) (state_of entries batch)) ≡ is_some (option_or (product_given batch act) (product_of entries batch))
 states_step entries (OpenBatch n product density) h have name =
     opened_too n product name (state_of entries name) (product_of entries name) (have name) (same_name n name)
 states_step entries (EndRun n) h have name =
     known_stays n name Ended (state_of entries name) (product_of entries name) (have name)
-    (moved_name entries n name (allowed_by (Running ∷ []) entries n (rules.lanes_running entries n ∷ []) h).0) (same_name n name) refl
+    (moved_name entries n name (end_run_tells entries n h).known) (same_name n name) refl
 states_step entries (Draw n mode word) h have name =
     known_stays n name Drawn (state_of entries name) (product_of entries name) (have name)
-    (moved_name entries n name (allowed_by (Ended ∷ []) entries n (rules.batch_empty entries n ∷ rules.mode_small entries n mode ∷ []) h).0) (same_name n name) refl
+    (moved_name entries n name (draw_tells entries n mode word h).known) (same_name n name) refl
 states_step entries (Close n) h have name =
     known_stays n name Closed (state_of entries name) (product_of entries name) (have name)
-    (moved_name entries n name (allowed_by (Ended ∷ Drawn ∷ []) entries n (rules.not_drawn entries n ∷ rules.needed_wanting entries n ∷ rules.second_needed entries n ∷ []) h).0) (same_name n name) refl
-states_step entries (NewDay day) h have name = have name
-states_step entries (PutProduct product nominal unit) h have name = have name
-states_step entries (PutTare product day tare) h have name = have name
-states_step entries (StartLane lane n) h have name = have name
-states_step entries (Weigh lane gross prior) h have name = have name
-states_step entries (StopLane lane prior) h have name = have name
-states_step entries (Void pack) h have name = have name
-states_step entries (Measure pack gross empty) h have name = have name
-states_step entries (DrawSecond n word) h have name = have name
+    (moved_name entries n name (close_tells entries n h).known) (same_name n name) refl
+states_step entries act h have name = have name
 
 -- in a legal list a batch has a state exactly where it has a product
 pub states_known : (entries : List Entry) → IsLegal entries → (batch : Name) → is_some (state_of entries batch) ≡ is_some (product_of entries batch)
 states_known =
     legal_steps HasStates (λ batch. refl) (λ before entry legal lawful have batch.
     ap is_some (last_said-push (state_set batch) before entry)
-    ∙ states_step before entry.act (lawful_rules before entry lawful) have batch
+    ∙ states_step before entry.act (allowed before entry lawful) have batch
     ∙ sym (ap is_some (last_said-push (product_given batch) before entry)))
 
 -- a state in which nothing can have been drawn from a batch: it isn't there, it runs, or has ended
@@ -151,10 +96,10 @@ by_states allowed None h drawn closed = refl
 by_states allowed (Some Running) h drawn closed = refl
 by_states allowed (Some Ended) h drawn closed = refl
 by_states allowed (Some Drawn) h drawn closed =
-    let held = not_said (not (list_any (same_state Drawn) allowed)) (why.BatchState Drawn) h in
+    let held = not_test (not (list_any (same_state Drawn) allowed)) (why.BatchState Drawn) h in
     absurd (true_is_not_false (sym (ap not drawn) ∙ held))
 by_states allowed (Some Closed) h drawn closed =
-    let held = not_said (not (list_any (same_state Closed) allowed)) (why.BatchState Closed) h in
+    let held = not_test (not (list_any (same_state Closed) allowed)) (why.BatchState Closed) h in
     absurd (true_is_not_false (sym (ap not closed) ∙ held))
 
 -- a batch that is there, in a state that is Drawn, isn't undrawn
@@ -165,7 +110,7 @@ never_second (Some Ended) known h undrawn = cc
 never_second (Some Drawn) known h undrawn = cc
 never_second (Some Closed) known h undrawn = cc
 
-undrawn_step : (entries : List Entry) (act : Act) → IsLegal entries → first_refusal (refusals_of entries act) ≡ None → (batch : Name)
+undrawn_step : (entries : List Entry) (act : Act) → IsLegal entries → IsAllowed entries act → (batch : Name)
     → is_undrawn (option_or (state_set batch act) (state_of entries batch)) ≡ true → DrawsNothing entries batch act
 undrawn_step entries (OpenBatch n product density) legal h name undrawn = record { state = either (same_name n name) refl undrawn; first = refl; second = refl }
   where
@@ -179,7 +124,7 @@ undrawn_step entries (EndRun n) legal h name undrawn = record { state = either (
     either : (test : Bool) → same_name n name ≡ test → is_undrawn (option_or (if test then Some Ended else None) (state_of entries name)) ≡ true → is_undrawn (state_of entries name) ≡ true
     either true same u =
         ap (λ (b : Name). is_undrawn (state_of entries b)) (sym (same_name_is n name same))
-        ∙ by_states (Running ∷ []) (state_of entries n) (allowed_by (Running ∷ []) entries n (rules.lanes_running entries n ∷ []) h).1 refl refl
+        ∙ by_states (Running ∷ []) (state_of entries n) (end_run_tells entries n h).state refl refl
     either false same u = u
 undrawn_step entries (Draw n mode word) legal h name undrawn = either (same_name n name) refl undrawn
   where
@@ -190,8 +135,8 @@ undrawn_step entries (DrawSecond n word) legal h name undrawn = either (same_nam
   where
     either : (test : Bool) → same_name n name ≡ test → DrawsNothing entries name (DrawSecond n word)
     either true same =
-        let allowed = allowed_by (Drawn ∷ []) entries n (rules.second_not_needed entries n ∷ rules.first_wanting entries n ∷ []) h in
-        absurd (never_second (state_of entries n) (states_known entries legal n ∙ allowed.0) allowed.1
+        let allowed = draw_second_tells entries n word h in
+        absurd (never_second (state_of entries n) (states_known entries legal n ∙ allowed.known) allowed.state
         (ap (λ (b : Name). is_undrawn (state_of entries b)) (same_name_is n name same) ∙ undrawn))
     either false same = record { state = undrawn; first = refl; second = rw same refl }
 undrawn_step entries (Close n) legal h name undrawn = either (same_name n name) refl undrawn
@@ -199,14 +144,7 @@ undrawn_step entries (Close n) legal h name undrawn = either (same_name n name) 
     either : (test : Bool) → same_name n name ≡ test → is_undrawn (option_or (if test then Some Closed else None) (state_of entries name)) ≡ true → DrawsNothing entries name (Close n)
     either true same u = absurd (true_is_not_false (sym u))
     either false same u = record { state = u; first = refl; second = refl }
-undrawn_step entries (NewDay day) legal h name undrawn = record { state = undrawn; first = refl; second = refl }
-undrawn_step entries (PutProduct product nominal unit) legal h name undrawn = record { state = undrawn; first = refl; second = refl }
-undrawn_step entries (PutTare product day tare) legal h name undrawn = record { state = undrawn; first = refl; second = refl }
-undrawn_step entries (StartLane lane n) legal h name undrawn = record { state = undrawn; first = refl; second = refl }
-undrawn_step entries (Weigh lane gross prior) legal h name undrawn = record { state = undrawn; first = refl; second = refl }
-undrawn_step entries (StopLane lane prior) legal h name undrawn = record { state = undrawn; first = refl; second = refl }
-undrawn_step entries (Void pack) legal h name undrawn = record { state = undrawn; first = refl; second = refl }
-undrawn_step entries (Measure pack gross empty) legal h name undrawn = record { state = undrawn; first = refl; second = refl }
+undrawn_step entries act legal h name undrawn = record { state = undrawn; first = refl; second = refl }
 
 abbrev UndrawnByState : List Entry → Type 0
 UndrawnByState entries = (batch : Name) → is_undrawn (state_of entries batch) ≡ true → IsUndrawn entries batch
@@ -220,7 +158,7 @@ undrawn_by_state =
     step : (before : List Entry) (entry : Entry) → IsLegal before → IsLawful before entry → UndrawnByState before → (batch : Name)
         → is_undrawn (option_or (state_set batch entry.act) (state_of before batch)) ≡ true → IsUndrawn (before ++ entry ∷ []) batch
     step before entry legal lawful have batch undrawn =
-        let nothing = undrawn_step before entry.act legal (lawful_rules before entry lawful) batch undrawn in
+        let nothing = undrawn_step before entry.act legal (allowed before entry lawful) batch undrawn in
         let earlier = have batch nothing.state in
         record {
           first =
@@ -235,29 +173,18 @@ undrawn_by_state =
 -- nothing was drawn from the batch of a lawful draw
 pub undrawn_at_draw : (entries : List Entry) (entry : Entry) (batch : Name) (drawing : Drawing) → IsLegal entries → IsLawful entries entry
     → drawing_from batch entries entry.act ≡ Some drawing → IsUndrawn entries batch
-undrawn_at_draw entries entry batch drawing legal lawful draws = by_act entry.act (lawful_rules entries entry lawful) draws
+undrawn_at_draw entries entry batch drawing legal lawful draws = by_act entry.act (allowed entries entry lawful) draws
   where
-    by_act : (act : Act) → first_refusal (refusals_of entries act) ≡ None → drawing_from batch entries act ≡ Some drawing → IsUndrawn entries batch
+    by_act : (act : Act) → IsAllowed entries act → drawing_from batch entries act ≡ Some drawing → IsUndrawn entries batch
     by_act (Draw n mode word) h draws = either (same_name n batch) refl draws
       where
         either : (test : Bool) → same_name n batch ≡ test → (if test then Some (record { mode = mode; word = word; packs = numbers_of (population entries batch) }) else None) ≡ Some drawing → IsUndrawn entries batch
         either true same d =
             undrawn_by_state entries legal batch
             (ap (λ (b : Name). is_undrawn (state_of entries b)) (sym (same_name_is n batch same))
-            ∙ by_states (Ended ∷ []) (state_of entries n) (allowed_by (Ended ∷ []) entries n (rules.batch_empty entries n ∷ rules.mode_small entries n mode ∷ []) h).1 refl refl)
+            ∙ by_states (Ended ∷ []) (state_of entries n) (draw_tells entries n mode word h).state refl refl)
         either false same d = absurd (no_drawing drawing d)
-    by_act (NewDay day) h draws = absurd (no_drawing drawing draws)
-    by_act (PutProduct product nominal unit) h draws = absurd (no_drawing drawing draws)
-    by_act (PutTare product day tare) h draws = absurd (no_drawing drawing draws)
-    by_act (OpenBatch n product density) h draws = absurd (no_drawing drawing draws)
-    by_act (StartLane lane n) h draws = absurd (no_drawing drawing draws)
-    by_act (Weigh lane gross prior) h draws = absurd (no_drawing drawing draws)
-    by_act (StopLane lane prior) h draws = absurd (no_drawing drawing draws)
-    by_act (Void pack) h draws = absurd (no_drawing drawing draws)
-    by_act (EndRun n) h draws = absurd (no_drawing drawing draws)
-    by_act (Measure pack gross empty) h draws = absurd (no_drawing drawing draws)
-    by_act (DrawSecond n word) h draws = absurd (no_drawing drawing draws)
-    by_act (Close n) h draws = absurd (no_drawing drawing draws)
+    by_act act h draws = absurd (no_drawing drawing draws)
 
 -- the draw of a batch, once made, stays the one behind each lawful entry
 pub drawing_stays : (entries : List Entry) (entry : Entry) (batch : Name) (drawing : Drawing) → IsLegal entries → IsLawful entries entry
@@ -302,15 +229,7 @@ drawn_by entries (Close n) batch h before = either (same_name n batch) h
     either : (test : Bool) → option_or (if test then Some Closed else None) (state_of entries batch) ≡ Some Drawn → is_some (drawing_of entries batch) ≡ true
     either true h = absurd (closed_is_not_drawn h)
     either false h = before h
-drawn_by entries (NewDay day) batch h before = before h
-drawn_by entries (PutProduct product nominal unit) batch h before = before h
-drawn_by entries (PutTare product day tare) batch h before = before h
-drawn_by entries (StartLane lane n) batch h before = before h
-drawn_by entries (Weigh lane gross prior) batch h before = before h
-drawn_by entries (StopLane lane prior) batch h before = before h
-drawn_by entries (Void pack) batch h before = before h
-drawn_by entries (Measure pack gross empty) batch h before = before h
-drawn_by entries (DrawSecond n word) batch h before = before h
+drawn_by entries act batch h before = before h
 
 -- in a legal list a batch in the state Drawn has a draw
 pub drawn_has_draw : (entries : List Entry) → IsLegal entries → (batch : Name) → state_of entries batch ≡ Some Drawn → is_some (drawing_of entries batch) ≡ true
@@ -324,9 +243,6 @@ drawn_has_draw =
 
 -- and so behind every longer legal list
 pub drawing_kept : (entries more : List Entry) (batch : Name) (drawing : Drawing) → IsLegal (entries ++ more) → drawing_of entries batch ≡ Some drawing → drawing_of (entries ++ more) batch ≡ Some drawing
-drawing_kept entries [] batch drawing legal drawn = ap (λ (all : List Entry). drawing_of all batch) (append-nil entries) ∙ drawn
-drawing_kept entries (e ∷ es) batch drawing legal drawn =
-    let whole : (entries ++ e ∷ []) ++ es ≡ entries ++ e ∷ es = append_assoc entries (e ∷ []) es in
-    ap (λ (all : List Entry). drawing_of all batch) (sym whole)
-    ∙ drawing_kept (entries ++ e ∷ []) es batch drawing (subst IsLegal (sym whole) legal)
-    (drawing_stays entries e batch drawing (legal-prefix entries (e ∷ es) legal) (legal entries e es refl) drawn)
+drawing_kept entries more batch drawing =
+    kept_behind (λ all. drawing_of all batch ≡ Some drawing)
+    (λ before entry legal lawful drawn. drawing_stays before entry batch drawing legal lawful drawn) entries more

@@ -8,7 +8,7 @@ use Rattle.std.proofs.lemmas.List.Elements.{All-nil, All-cons}
 use Rattle.pack_judge.specs.declared.types.Signal.{Signal}
 use Rattle.book_words.specs.declared.name.Name.{Name}
 use Rattle.book_words.specs.declared.act.Act.{Act}
-use Rattle.book_words.specs.declared.act.Act.TheVariants.{NewDay, PutProduct, PutTare, OpenBatch, StartLane, Weigh, StopLane, Void, EndRun, Draw, Measure, DrawSecond, Close}
+use Rattle.book_words.specs.declared.act.Act.TheVariants.{Weigh, Draw}
 use Rattle.book_words.specs.declared.act.Entry.{Entry}
 use Rattle.book_words.specs.declared.act.Reading.{Reading}
 use Rattle.book_words.specs.Names.{same_name}
@@ -17,7 +17,7 @@ use Rattle.book_words.specs.Population.{population}
 use Rattle.book_words.specs.Samples.{Drawing, numbers_of, drawing_from, drawing_of}
 use Rattle.book_words.specs.Answers.{IsLawful, IsLegal}
 use Rattle.book_words.proofs.DrawnLemmas.{drawing_of-push}
-use Rattle.book_words.proofs.DrawnOnce.{legal_steps}
+use Rattle.book_words.proofs.LegalLemmas.{legal_steps}
 
 -- some numbers ascend, and lie from one number to another
 abbrev pub AscendWithin : ℕ → ℕ → List ℕ → Type 0
@@ -54,18 +54,7 @@ ascend-few least most (n ∷ ns) h k =
 -- a weighing has the number that it is given
 numbered : (number : ℕ) (before : List Entry) (act : Act) (signal : Option Signal) (after : List Entry) → IfSome (weighed_reading number before act signal after) (λ reading. reading.number ≡ number)
 numbered number before (Weigh lane gross prior) signal after = refl
-numbered number before (NewDay day) signal after = tt
-numbered number before (PutProduct product nominal unit) signal after = tt
-numbered number before (PutTare product day tare) signal after = tt
-numbered number before (OpenBatch batch product density) signal after = tt
-numbered number before (StartLane lane batch) signal after = tt
-numbered number before (StopLane lane prior) signal after = tt
-numbered number before (Void pack) signal after = tt
-numbered number before (EndRun batch) signal after = tt
-numbered number before (Draw batch mode word) signal after = tt
-numbered number before (Measure pack gross empty) signal after = tt
-numbered number before (DrawSecond batch word) signal after = tt
-numbered number before (Close batch) signal after = tt
+numbered number before act signal after = tt
 
 -- the number of a reading is one more than its place
 pub placed_reading-number : (entries : List Entry) (place : ℕ) → IfSome (placed_reading entries place) (λ reading. reading.number ≡ place + 1)
@@ -93,7 +82,8 @@ pub readings_ascend : (entries : List Entry) → AscendWithin 1 (length entries)
 readings_ascend entries =
     ascend-wider (0 + 1) 1 (0 + length entries) (length entries) (numbers_of (readings entries)) (omega arith) (omega arith) (among_ascend entries 0 (length entries))
 
-filter_ascends : (test : Reading → Bool) (least most : ℕ) (some : List Reading) → AscendWithin least most (numbers_of some) → AscendWithin least most (numbers_of (filter test some))
+-- and those of a filter
+pub filter_ascends : (test : Reading → Bool) (least most : ℕ) (some : List Reading) → AscendWithin least most (numbers_of some) → AscendWithin least most (numbers_of (filter test some))
 filter_ascends test least most [] h = tt
 filter_ascends test least most (reading ∷ some) h = either (test reading) (filter_ascends test (reading.number + 1) most some h.2)
   where
@@ -101,7 +91,7 @@ filter_ascends test least most (reading ∷ some) h = either (test reading) (fil
     either true rest = (h.0, h.1, rest)
     either false rest = ascend-wider (reading.number + 1) least most most (numbers_of (filter test some)) (omega (arith, h.0)) (omega arith) rest
 
--- so are those of a population
+-- so those of a population
 pub population_ascends : (entries : List Entry) (batch : Name) → AscendWithin 1 (length entries) (numbers_of (population entries batch))
 population_ascends entries batch = filter_ascends _ 1 (length entries) (readings entries) (readings_ascend entries)
 
@@ -114,18 +104,7 @@ drawn_ascends entries batch (Draw name mode word) = either (same_name name batch
     either : (test : Bool) → IfSome (if test then Some (record { mode = mode; word = word; packs = numbers_of (population entries batch) }) else None) (λ (drawing : Drawing). AscendWithin 1 (length entries) drawing.packs)
     either true = population_ascends entries batch
     either false = tt
-drawn_ascends entries batch (NewDay day) = tt
-drawn_ascends entries batch (PutProduct product nominal unit) = tt
-drawn_ascends entries batch (PutTare product day tare) = tt
-drawn_ascends entries batch (OpenBatch name product density) = tt
-drawn_ascends entries batch (StartLane lane name) = tt
-drawn_ascends entries batch (Weigh lane gross prior) = tt
-drawn_ascends entries batch (StopLane lane prior) = tt
-drawn_ascends entries batch (Void pack) = tt
-drawn_ascends entries batch (EndRun name) = tt
-drawn_ascends entries batch (Measure pack gross empty) = tt
-drawn_ascends entries batch (DrawSecond name word) = tt
-drawn_ascends entries batch (Close name) = tt
+drawn_ascends entries batch act = tt
 
 draws_step : (before : List Entry) (entry : Entry) → IsLegal before → IsLawful before entry → DrawsAscend before → DrawsAscend (before ++ entry ∷ [])
 draws_step before entry legal lawful have batch =

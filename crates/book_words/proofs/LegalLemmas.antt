@@ -49,6 +49,20 @@ pub legal-prefix : (entries more : List Entry) → IsLegal (entries ++ more) →
 legal-prefix entries more legal before entry after parts =
     legal before entry (after ++ more) (ap (λ es. es ++ more) parts ∙ append_assoc before (entry ∷ after) more)
 
+-- what goes on behind each lawful entry holds of each legal list of whose front it holds
+pub kept_behind : (P : List Entry → Type 0) → ((before : List Entry) (entry : Entry) → IsLegal before → IsLawful before entry → P before → P (before ++ entry ∷ []))
+    → (before after : List Entry) → IsLegal (before ++ after) → P before → P (before ++ after)
+kept_behind P step before [] legal h = rw append-nil h
+kept_behind P step before (e ∷ es) legal h =
+    let whole : (before ++ e ∷ []) ++ es ≡ before ++ e ∷ es = append_assoc before (e ∷ []) es in
+    subst P whole (kept_behind P step (before ++ e ∷ []) es (subst IsLegal (sym whole) legal)
+    (step before e (legal-prefix before (e ∷ es) legal) (legal before e es refl) h))
+
+-- what holds of the empty list, and goes on behind each lawful entry, holds of each legal list
+pub legal_steps : (P : List Entry → Type 0) → P [] → ((before : List Entry) (entry : Entry) → IsLegal before → IsLawful before entry → P before → P (before ++ entry ∷ []))
+    → (entries : List Entry) → IsLegal entries → P entries
+legal_steps P start step entries legal = kept_behind P step [] entries legal start
+
 in_range_from : (before after : List Entry) → IsLegal (before ++ after) → AllInRange after
 in_range_from before [] legal k d inside = absurd (omega arith)
 in_range_from before (e ∷ es) legal zero d inside = rules_in_range before e.act (act_rules before (ask_of e) e.act (legal before e es refl).rules)
@@ -59,18 +73,11 @@ in_range_from before (e ∷ es) legal (suc k) d inside =
 pub legal_in_range : (entries : List Entry) → IsLegal entries → AllInRange entries
 legal_in_range entries legal = in_range_from [] entries legal
 
-few_from : (before after : List Entry) → IsLegal (before ++ after) → length before ≤ MAX_ROWS → length (before ++ after) ≤ MAX_ROWS
-few_from before [] legal few = rw append-nil few
-few_from before (e ∷ es) legal few =
-    let whole : (before ++ e ∷ []) ++ es ≡ before ++ e ∷ es = append_assoc before (e ∷ []) es in
-    let room = (legal before e es refl).room in
-    let count = length-append before (e ∷ []) in
-    subst (λ (all : List Entry). length all ≤ MAX_ROWS) whole
-    (few_from (before ++ e ∷ []) es (subst IsLegal (sym whole) legal) (omega (arith, room, count)))
-
 -- a legal list has no more rows than a book may have
 pub legal_few : (entries : List Entry) → IsLegal entries → length entries ≤ MAX_ROWS
-legal_few entries legal = few_from [] entries legal (omega arith)
+legal_few =
+    legal_steps (λ entries. length entries ≤ MAX_ROWS) (omega arith)
+    (λ before entry legal lawful few. omega (arith, lawful.room, length-append before (entry ∷ [])))
 
 -- the last entry of a legal list is lawful behind the others
 pub lawful_last : (entries : List Entry) (entry : Entry) → IsLegal (entries ++ entry ∷ []) → IsLawful entries entry

@@ -8,11 +8,12 @@ use Rattle.std.specs.Option.{option_or, option_and_then}
 use Rattle.pack_judge.specs.declared.types.Signal.{Signal}
 use Rattle.book_words.specs.declared.act.Prior.{Prior}
 use Rattle.book_words.specs.declared.act.Act.{Act}
-use Rattle.book_words.specs.declared.act.Act.TheVariants.{NewDay, PutProduct, PutTare, OpenBatch, StartLane, Weigh, StopLane, Void, EndRun, Draw, Measure, DrawSecond, Close}
+use Rattle.book_words.specs.declared.act.Act.TheVariants.{Weigh}
 use Rattle.book_words.specs.declared.act.Entry.{Entry}
 use Rattle.book_words.specs.declared.act.Reading.{Reading}
 use Rattle.book_words.specs.Acts.{said, first_said, prior_told, is_void_of, is_voided, newest_day, last_batch}
 use Rattle.book_words.specs.Readings.{weighed_reading, placed_reading, first_readings, readings}
+use Rattle.book_words.proofs.RowLemmas.{before_last, at_last}
 
 -- a reading once an act came after it
 abbrev pub advance : Act → Reading → Reading
@@ -56,23 +57,7 @@ weighed_reading-push number before (Weigh lane gross prior) signal after entry =
     let reading : Option Prior → Bool → Option Reading = λ o voided. Some (record { number = number; lane = lane; gross = gross; signal = signal; day = newest_day before; batch = last_batch before lane; next_prior = o; voided = voided }) in
     ap (λ o. reading o (is_voided (after ++ entry ∷ []) number)) (first_said-push (prior_told lane) after entry)
     ∙ ap (reading (option_or (first_said (prior_told lane) after) (prior_told lane entry.act))) (is_voided-push after entry number)
-weighed_reading-push number before (NewDay day) signal after entry = refl
-weighed_reading-push number before (PutProduct name nominal unit) signal after entry = refl
-weighed_reading-push number before (PutTare product day tare) signal after entry = refl
-weighed_reading-push number before (OpenBatch batch product density) signal after entry = refl
-weighed_reading-push number before (StartLane lane batch) signal after entry = refl
-weighed_reading-push number before (StopLane lane prior) signal after entry = refl
-weighed_reading-push number before (Void pack) signal after entry = refl
-weighed_reading-push number before (EndRun batch) signal after entry = refl
-weighed_reading-push number before (Draw batch mode word) signal after entry = refl
-weighed_reading-push number before (Measure pack gross empty) signal after entry = refl
-weighed_reading-push number before (DrawSecond batch word) signal after entry = refl
-weighed_reading-push number before (Close batch) signal after entry = refl
-
-slice_get-push : (entries : List Entry) (entry : Entry) (place : ℕ) → place < length entries → slice_get (entries ++ entry ∷ []) place ≡ slice_get entries place
-slice_get-push [] entry place h = absurd (omega arith)
-slice_get-push (e ∷ es) entry zero h = refl
-slice_get-push (e ∷ es) entry (suc place) h = slice_get-push es entry place (omega arith)
+weighed_reading-push number before act signal after entry = refl
 
 drop-push : (entries : List Entry) (entry : Entry) (n : ℕ) → n ≤ length entries → drop n (entries ++ entry ∷ []) ≡ drop n entries ++ entry ∷ []
 drop-push entries entry zero h = refl
@@ -82,7 +67,7 @@ drop-push (e ∷ es) entry (suc n) h = drop-push es entry n (omega arith)
 -- the readings before an entry, once it came
 pub placed_reading-push : (entries : List Entry) (entry : Entry) (place : ℕ) → place < length entries → placed_reading (entries ++ entry ∷ []) place ≡ option_map (advance entry.act) (placed_reading entries place)
 placed_reading-push entries entry place h =
-    ap (option_and_then (λ (e : Entry). weighed_reading (place + 1) (take place (entries ++ entry ∷ [])) e.act e.signal (drop (place + 1) (entries ++ entry ∷ [])))) (slice_get-push entries entry place h)
+    ap (option_and_then (λ (e : Entry). weighed_reading (place + 1) (take place (entries ++ entry ∷ [])) e.act e.signal (drop (place + 1) (entries ++ entry ∷ [])))) (before_last entries entry place h)
     ∙ ap (λ (before : List Entry). option_and_then (λ (e : Entry). weighed_reading (place + 1) before e.act e.signal (drop (place + 1) (entries ++ entry ∷ []))) (slice_get entries place)) (take-append-le place entries (entry ∷ []) (omega arith))
     ∙ ap (λ (after : List Entry). option_and_then (λ (e : Entry). weighed_reading (place + 1) (take place entries) e.act e.signal after) (slice_get entries place)) (drop-push entries entry (place + 1) (omega arith))
     ∙ each (slice_get entries place)
@@ -125,14 +110,10 @@ own_reading entries entry = weighed_reading (length entries + 1) entries entry.a
 
 own_reading-at : (entries : List Entry) (entry : Entry) → placed_reading (entries ++ entry ∷ []) (length entries) ≡ own_reading entries entry
 own_reading-at entries entry =
-    ap (option_and_then (λ (e : Entry). weighed_reading (length entries + 1) (take (length entries) (entries ++ entry ∷ [])) e.act e.signal (drop (length entries + 1) (entries ++ entry ∷ [])))) (slice_get-last entries entry)
+    ap (option_and_then (λ (e : Entry). weighed_reading (length entries + 1) (take (length entries) (entries ++ entry ∷ [])) e.act e.signal (drop (length entries + 1) (entries ++ entry ∷ [])))) (at_last entries entry)
     ∙ ap (λ (before : List Entry). weighed_reading (length entries + 1) before entry.act entry.signal (drop (length entries + 1) (entries ++ entry ∷ []))) (take-append_seam entries (entry ∷ []))
     ∙ ap (weighed_reading (length entries + 1) entries entry.act entry.signal) (drop-all entries entry)
   where
-    slice_get-last : (es : List Entry) (e : Entry) → slice_get (es ++ e ∷ []) (length es) ≡ Some e
-    slice_get-last [] e = refl
-    slice_get-last (x ∷ xs) e = slice_get-last xs e
-
     drop-all : (es : List Entry) (e : Entry) → drop (length es + 1) (es ++ e ∷ []) ≡ []
     drop-all [] e = refl
     drop-all (x ∷ xs) e = ap (λ n. drop n (x ∷ (xs ++ e ∷ []))) (let same : suc (length xs) + 1 ≡ suc (length xs + 1) = omega arith in same) ∙ drop-all xs e

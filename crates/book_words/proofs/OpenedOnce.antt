@@ -1,19 +1,21 @@
 -- In a legal list no two batches have one name, and the number of a batch tells its place.
-use Rattle.std.proofs.Common.{◌≡◌, ℕ, suc, ◌+◌, Bool, true, false, ◌||◌, List, [], ◌∷◌, ◌++◌, slice_get, Option, Some, None, option_map, if◌then◌else◌, refl, sym, ◌∙◌, ap, arith, append-nil}
+use Rattle.std.proofs.Common.{◌≡◌, Bool, true, false, ◌||◌, List, [], ◌∷◌, ◌++◌, Option, Some, None, if◌then◌else◌, refl, sym, ◌∙◌, ap, append-nil}
 use Rattle.std.specs.List.{list_any, cons_option, last_or}
 use Rattle.std.specs.Option.{option_or, option_map_or}
 use Rattle.book_words.specs.declared.name.Name.{Name}
 use Rattle.book_words.specs.declared.act.Act.{Act}
-use Rattle.book_words.specs.declared.act.Act.TheVariants.{NewDay, PutProduct, PutTare, OpenBatch, StartLane, Weigh, StopLane, Void, EndRun, Draw, Measure, DrawSecond, Close}
+use Rattle.book_words.specs.declared.act.Act.TheVariants.{OpenBatch}
 use Rattle.book_words.specs.declared.act.Entry.{Entry}
 use Rattle.book_words.specs.Names.{same_name}
 use Rattle.book_words.specs.Acts.{said, product_given, product_of, batch_opened}
-use Rattle.book_words.specs.Order.{place_of}
 use Rattle.book_words.specs.Refusals.{first_refusal, refusals_of}
 use Rattle.book_words.specs.Answers.{IsLegal}
 use Rattle.book_words.proofs.NameLemmas.{same_name_is, same_name_itself}
 use Rattle.book_words.proofs.LastSaid.{last_or-cons}
-use Rattle.book_words.proofs.DrawnOnce.{legal_steps, lawful_rules, opened_is_new}
+use Rattle.book_words.proofs.DrawnOnce.{opened_is_new}
+use Rattle.book_words.proofs.AllowedActs.{allowed}
+use Rattle.book_words.proofs.LegalLemmas.{legal_steps}
+use Rattle.std.proofs.lemmas.Bool.{or_parts}
 
 true_is_not_false : true ≡ false → ⊥
 true_is_not_false h = cc
@@ -61,18 +63,7 @@ not_given name (OpenBatch other product density) h = either (same_name other nam
         some_is_not_none : Some product ≡ None → ⊥
         some_is_not_none h = cc
     either false same h = same
-not_given name (NewDay day) h = refl
-not_given name (PutProduct product nominal unit) h = refl
-not_given name (PutTare product day tare) h = refl
-not_given name (StartLane lane other) h = refl
-not_given name (Weigh lane gross prior) h = refl
-not_given name (StopLane lane prior) h = refl
-not_given name (Void pack) h = refl
-not_given name (EndRun other) h = refl
-not_given name (Draw other mode word) h = refl
-not_given name (Measure pack gross empty) h = refl
-not_given name (DrawSecond other word) h = refl
-not_given name (Close other) h = refl
+not_given name act h = refl
 
 none_named : (name : Name) (o : Option Name) (entries : List Entry) → last_or o (said (product_given name) entries) ≡ None → (o ≡ None) × (is_named name (said batch_opened entries) ≡ false)
 none_named name o [] h = (h, refl)
@@ -92,10 +83,6 @@ not_opened entries name h = (none_named name None entries h).1
 abbrev pub AreDistinct : List Name → Type 0
 AreDistinct [] = Unit {0}
 AreDistinct (name ∷ names) = (is_named name names ≡ false) × AreDistinct names
-
-or_parts : (a b : Bool) → a || b ≡ false → (a ≡ false) × (b ≡ false)
-or_parts true b h = absurd (true_is_not_false h)
-or_parts false b h = (refl, h)
 
 or_from : (a b : Bool) → a ≡ false → b ≡ false → a || b ≡ false
 or_from a b h k = rw (h, k) refl
@@ -119,45 +106,10 @@ OpensDistinct entries = AreDistinct (said batch_opened entries)
 distinct_step : (entries : List Entry) (act : Act) → first_refusal (refusals_of entries act) ≡ None → OpensDistinct entries → AreDistinct (said batch_opened entries ++ cons_option (batch_opened act) [])
 distinct_step entries (OpenBatch name product density) h distinct =
     distinct-push (said batch_opened entries) name distinct (not_opened entries name (opened_is_new entries name product density h))
-distinct_step entries (NewDay day) h distinct = rw append-nil distinct
-distinct_step entries (PutProduct product nominal unit) h distinct = rw append-nil distinct
-distinct_step entries (PutTare product day tare) h distinct = rw append-nil distinct
-distinct_step entries (StartLane lane other) h distinct = rw append-nil distinct
-distinct_step entries (Weigh lane gross prior) h distinct = rw append-nil distinct
-distinct_step entries (StopLane lane prior) h distinct = rw append-nil distinct
-distinct_step entries (Void pack) h distinct = rw append-nil distinct
-distinct_step entries (EndRun other) h distinct = rw append-nil distinct
-distinct_step entries (Draw other mode word) h distinct = rw append-nil distinct
-distinct_step entries (Measure pack gross empty) h distinct = rw append-nil distinct
-distinct_step entries (DrawSecond other word) h distinct = rw append-nil distinct
-distinct_step entries (Close other) h distinct = rw append-nil distinct
+distinct_step entries act h distinct = rw append-nil distinct
 
 -- no two batches of a legal list have one name
 pub opened_once : (entries : List Entry) → IsLegal entries → AreDistinct (said batch_opened entries)
 opened_once =
     legal_steps OpensDistinct tt (λ before entry legal lawful distinct.
-    rw (said-push batch_opened before entry) (distinct_step before entry.act (lawful_rules before entry lawful) distinct))
-
--- at the place of a name stands the name
-pub place_of-name : (names : List Name) (name : Name) (place : ℕ) → place_of names name ≡ Some place → slice_get names place ≡ Some name
-place_of-name [] name place h = absurd (none_is_not_some h)
-  where
-    none_is_not_some : None ≡ Some place → ⊥
-    none_is_not_some h = cc
-place_of-name (n ∷ ns) name place h = either (same_name n name) refl (λ before found. place_of-name ns name before found) h
-  where
-    some_is : (a b : ℕ) → Some a ≡ Some b → a ≡ b
-    some_is a b h = cc
-
-    behind : (o : Option ℕ) → place_of ns name ≡ o → ((before : ℕ) → place_of ns name ≡ Some before → slice_get ns before ≡ Some name) → option_map (λ place. place + 1) o ≡ Some place → slice_get (n ∷ ns) place ≡ Some name
-    behind None found step h = absurd (none_is_not_some h)
-      where
-        none_is_not_some : None ≡ Some place → ⊥
-        none_is_not_some h = cc
-    behind (Some before) found step h =
-        let same : place ≡ suc before = sym (some_is (before + 1) place h) ∙ (let next : before + 1 ≡ suc before = omega arith in next) in
-        ap (slice_get (n ∷ ns)) same ∙ step before found
-
-    either : (test : Bool) → same_name n name ≡ test → ((before : ℕ) → place_of ns name ≡ Some before → slice_get ns before ≡ Some name) → (if test then Some 0 else option_map (λ place. place + 1) (place_of ns name)) ≡ Some place → slice_get (n ∷ ns) place ≡ Some name
-    either true same step h = ap (slice_get (n ∷ ns)) (sym (some_is 0 place h)) ∙ ap Some (same_name_is n name same)
-    either false same step h = behind (place_of ns name) refl step h
+    rw (said-push batch_opened before entry) (distinct_step before entry.act (allowed before entry lawful) distinct))

@@ -22,13 +22,14 @@ use Rattle.book_words.specs.declared.refusal.Refusal.TheVariants as why
 use Rattle.book_words.specs.Acts.{newest_day, unit_of, product_of, state_of, same_state, lane_batch}
 use Rattle.book_words.specs.Tares.{tare_of_product}
 use Rattle.book_words.specs.Readings.{reading_of}
-use Rattle.book_words.specs.Population.{population, same_pile, is_unsettled}
+use Rattle.book_words.specs.Population.{population, is_unsettled}
+use Rattle.pack_judge.specs.Piles.{same_pile}
 use Rattle.book_words.specs.Piles.{pile_of}
 use Rattle.book_words.specs.Samples.{Sample, sample_of}
 use Rattle.book_words.specs.Measures.{Measured, measured_of, first_unmeasured}
 use Rattle.book_words.specs.Verdicts.{first_defective}
 use Rattle.book_words.specs.Desks.{Row, newest_row, is_desk_right, last_request, same_act}
-use Rattle.book_words.specs.Numbers.{refusal_number, refusal_numbers, HaveNumbers, EachFrom, ascend_from}
+use Rattle.book_words.specs.Numbers.{refusal_number, EachFrom}
 use Rattle.book_words.specs.Ranges.{is_act_in_range}
 use Rattle.book_words.specs.Refusals as rules
 use Rattle.book_words.specs.Refusals.{refused_if, first_refusal, refusals_of, desk_refusals, refusal_by_rule, refusal_of, book_full}
@@ -91,14 +92,7 @@ rules_in_range entries (Measure pack gross empty) h =
     in_range_of_either : (a b : Bool) → (not a || b) ≡ false → a ≡ true
     in_range_of_either true b h = refl
     in_range_of_either false b h = absurd (cc)
-rules_in_range entries (OpenBatch batch product density) h = refl
-rules_in_range entries (StartLane lane batch) h = refl
-rules_in_range entries (StopLane lane prior) h = refl
-rules_in_range entries (Void pack) h = refl
-rules_in_range entries (EndRun batch) h = refl
-rules_in_range entries (Draw batch mode word) h = refl
-rules_in_range entries (DrawSecond batch word) h = refl
-rules_in_range entries (Close batch) h = refl
+rules_in_range entries act h = refl
 
 -- a refusal, where there is one, has this number
 abbrev Numbered : ℕ → Option Refusal → Type 0
@@ -180,8 +174,38 @@ density_numbered entries product density =
     of_each 35 (λ (unit : units.Unit). refused_if (not (rules.suits_unit unit density)) why.DensityRange) (unit_of entries product)
     (λ unit. where_refused (not (rules.suits_unit unit density)) why.DensityRange)
 
+-- the numbers of the refusals that an act may meet by the rules, in the order in which they are
+-- tested; beside these each act may find that the desk or its request is wrong, which are 1 to 4,
+-- and that the book is full, which is 5
+abbrev refusal_numbers : Act → List ℕ
+refusal_numbers (NewDay day) = 7 ∷ 12 ∷ []
+refusal_numbers (PutProduct name nominal unit) = 6 ∷ 8 ∷ 10 ∷ 11 ∷ []
+refusal_numbers (PutTare product day tare) = 6 ∷ 9 ∷ 12 ∷ 23 ∷ 34 ∷ []
+refusal_numbers (OpenBatch batch product density) = 6 ∷ 9 ∷ 10 ∷ 13 ∷ 35 ∷ []
+refusal_numbers (StartLane lane batch) = 6 ∷ 14 ∷ 15 ∷ 16 ∷ 17 ∷ 19 ∷ []
+refusal_numbers (Weigh lane gross prior) = 6 ∷ 16 ∷ 18 ∷ 20 ∷ 21 ∷ []
+refusal_numbers (StopLane lane prior) = 6 ∷ 16 ∷ 18 ∷ 21 ∷ []
+refusal_numbers (Void pack) = 6 ∷ 15 ∷ 24 ∷ 25 ∷ 26 ∷ []
+refusal_numbers (EndRun batch) = 6 ∷ 14 ∷ 15 ∷ 22 ∷ []
+refusal_numbers (Draw batch mode word) = 6 ∷ 14 ∷ 15 ∷ 27 ∷ 28 ∷ []
+refusal_numbers (Measure pack gross empty) = 6 ∷ 15 ∷ 20 ∷ 23 ∷ 24 ∷ 25 ∷ 30 ∷ []
+refusal_numbers (DrawSecond batch word) = 6 ∷ 14 ∷ 15 ∷ 31 ∷ 32 ∷ []
+refusal_numbers (Close batch) = 6 ∷ 14 ∷ 15 ∷ 29 ∷ 32 ∷ 33 ∷ []
+
+-- of some refusals, each that is there has the number of its place
+abbrev HaveNumbers : List (Option Refusal) → List ℕ → Type 0
+HaveNumbers [] [] = Unit {0}
+HaveNumbers (refusal ∷ refusals) (number ∷ numbers) =
+    IfSome refusal (λ there. refusal_number there ≡ number) × HaveNumbers refusals numbers
+HaveNumbers _ _ = ⊥
+
+-- some numbers ascend from one on
+abbrev ascend_from : ℕ → List ℕ → Bool
+ascend_from least [] = true
+ascend_from least (number ∷ numbers) = nat_le least number && ascend_from (number + 1) numbers
+
 -- the refusals of each act stand in the places of their numbers
-pub have_numbers : (entries : List Entry) (act : Act) → HaveNumbers (refusals_of entries act) (refusal_numbers act)
+have_numbers : (entries : List Entry) (act : Act) → HaveNumbers (refusals_of entries act) (refusal_numbers act)
 have_numbers entries (NewDay day) = (back_numbered day (newest_day entries), (where_refused _ _, tt))
 have_numbers entries (PutProduct name nominal unit) = (where_refused _ _, (where_refused _ _, (where_refused _ _, (where_refused _ _, tt))))
 have_numbers entries (PutTare product day tare) =
@@ -223,7 +247,7 @@ have_numbers entries (Close batch) =
     (where_refused _ _, (where_refused _ _, (state_numbered (states.TheVariants.Ended ∷ states.TheVariants.Drawn ∷ []) entries batch, (where_refused _ _, (wanting_numbered entries (rules.needed_packs entries batch) (sample_of entries batch), (wanted_numbered entries batch, tt))))))
 
 -- and these numbers ascend
-pub numbers_ascend : (act : Act) → ascend_from 6 (refusal_numbers act) ≡ true
+numbers_ascend : (act : Act) → ascend_from 6 (refusal_numbers act) ≡ true
 numbers_ascend (NewDay day) = refl
 numbers_ascend (PutProduct name nominal unit) = refl
 numbers_ascend (PutTare product day tare) = refl
@@ -274,7 +298,7 @@ each_from least from (o ∷ os) (number ∷ numbers) less have ascend =
     bounded (Some refusal) number h k = rw h k
 
 -- the refusal that is told has the least number of all that hold
-pub least_is_told : (from : ℕ) (os : List (Option Refusal)) (numbers : List ℕ) (refusal : Refusal) → HaveNumbers os numbers → ascend_from from numbers ≡ true
+least_is_told : (from : ℕ) (os : List (Option Refusal)) (numbers : List ℕ) (refusal : Refusal) → HaveNumbers os numbers → ascend_from from numbers ≡ true
     → first_refusal os ≡ Some refusal → EachFrom (refusal_number refusal) os
 least_is_told from [] numbers refusal have ascend first = tt
 least_is_told from (o ∷ os) [] refusal have ascend first = absurd have

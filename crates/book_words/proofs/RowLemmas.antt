@@ -1,19 +1,22 @@
 -- The rows of a list with one more entry.
-use Rattle.std.proofs.Common.{◌≡◌, ℕ, zero, suc, ◌+◌, ◌<◌, ◌≤◌, Bool, true, false, if◌then◌else◌, List, [], ◌∷◌, ◌++◌, length, slice_get, Option, Some, None, option_map, refl, ◌∙◌, ap, arith, length-append}
+use Rattle.std.proofs.Common.{◌≡◌, ℕ, zero, suc, ◌+◌, ◌<◌, ◌≤◌, Bool, if◌then◌else◌, List, [], ◌∷◌, ◌++◌, length, slice_get, Option, Some, None, option_map, refl, ◌∙◌, ap, arith, length-append}
 use Rattle.std.specs.List.{filter, filter_map, cons_option, last_or, range_with_len}
 use Rattle.book_words.specs.declared.act.Entry.{Entry}
 use Rattle.book_words.specs.Desks.{Row, rows_of}
+use Rattle.book_words.proofs.PlainLemmas.{in_both}
 
 -- the row at a place
 abbrev pub row_at : List Entry → ℕ → Option Row
 row_at entries place = option_map (λ (entry : Entry). record { number = place + 1; entry = entry }) (slice_get entries place)
 
-before_last : (entries : List Entry) (entry : Entry) (place : ℕ) → place < length entries → slice_get (entries ++ entry ∷ []) place ≡ slice_get entries place
+-- and before it they stand as they did
+pub before_last : (entries : List Entry) (entry : Entry) (place : ℕ) → place < length entries → slice_get (entries ++ entry ∷ []) place ≡ slice_get entries place
 before_last [] entry place h = absurd (omega arith)
 before_last (e ∷ es) entry zero h = refl
 before_last (e ∷ es) entry (suc place) h = before_last es entry place (omega arith)
 
-at_last : (entries : List Entry) (entry : Entry) → slice_get (entries ++ entry ∷ []) (length entries) ≡ Some entry
+-- behind some entries stands the one more
+pub at_last : (entries : List Entry) (entry : Entry) → slice_get (entries ++ entry ∷ []) (length entries) ≡ Some entry
 at_last [] entry = refl
 at_last (e ∷ es) entry = at_last es entry
 
@@ -42,11 +45,6 @@ rows_push entries entry =
     ∙ ap (λ (rows : List Row). rows ++ cons_option (row_at (entries ++ entry ∷ []) (0 + length entries)) []) (rows_before entries entry 0 (length entries) (omega arith))
     ∙ ap (λ n. rows_of entries ++ cons_option (row_at (entries ++ entry ∷ []) n) []) (let same : 0 + length entries ≡ length entries = omega arith in same)
     ∙ ap (λ (o : Option Entry). rows_of entries ++ cons_option (option_map (λ (e : Entry). record { number = length entries + 1; entry = e }) o) []) (at_last entries entry)
-
--- what holds where a test does and where it doesn't
-pub in_both : {P : Type 0} (test : Bool) → (test ≡ true → P) → (test ≡ false → P) → P
-in_both true f g = f refl
-in_both false f g = g refl
 
 -- the last of some rows with one more
 pub last_of_some : (test : Row → Bool) (o : Option Row) (rows : List Row) (row : Row) → last_or o (filter test (rows ++ row ∷ [])) ≡ (if test row then Some row else last_or o (filter test rows))

@@ -5,7 +5,7 @@ use Rattle.std.specs.Option.{option_or}
 use Rattle.annex_tables.specs.declared.types.Mode.{Mode}
 use Rattle.book_words.specs.declared.name.Name.{Name}
 use Rattle.book_words.specs.declared.act.Act.{Act}
-use Rattle.book_words.specs.declared.act.Act.TheVariants.{NewDay, PutProduct, PutTare, OpenBatch, StartLane, Weigh, StopLane, Void, EndRun, Draw, Measure, DrawSecond, Close}
+use Rattle.book_words.specs.declared.act.Act.TheVariants.{OpenBatch, Draw, DrawSecond}
 use Rattle.book_words.specs.declared.act.Entry.{Entry}
 use Rattle.book_words.specs.Names.{same_name}
 use Rattle.book_words.specs.Acts.{last_said, product_of, state_of}
@@ -15,8 +15,10 @@ use Rattle.book_words.specs.Refusals.{first_refusal, refusals_of}
 use Rattle.book_words.specs.Answers.{IsLawful, IsLegal}
 use Rattle.book_words.proofs.NameLemmas.{same_name_itself}
 use Rattle.book_words.proofs.DrawnLemmas.{sample_of-push, sample_of-kept}
-use Rattle.book_words.proofs.DrawnOnce.{lawful_rules, opened_is_new, states_known, is_undrawn, IsUndrawn, undrawn_by_state, undrawn_at_draw}
+use Rattle.book_words.proofs.DrawnOnce.{opened_is_new, states_known, is_undrawn, IsUndrawn, undrawn_by_state, undrawn_at_draw}
+use Rattle.book_words.proofs.AllowedActs.{allowed}
 use Rattle.book_words.proofs.OpenedOnce.{same_name-swap}
+use Rattle.book_words.proofs.PlainLemmas.{none_of}
 
 -- whether an act draws packs
 abbrev pub draws_packs : Act → Bool
@@ -37,17 +39,7 @@ draws_none entries (DrawSecond name word) batch h = absurd (true_is_not_false h)
   where
     true_is_not_false : true ≡ false → ⊥
     true_is_not_false h = cc
-draws_none entries (NewDay day) batch h = record { first = refl; second = refl }
-draws_none entries (PutProduct product nominal unit) batch h = record { first = refl; second = refl }
-draws_none entries (PutTare product day tare) batch h = record { first = refl; second = refl }
-draws_none entries (OpenBatch name product density) batch h = record { first = refl; second = refl }
-draws_none entries (StartLane lane name) batch h = record { first = refl; second = refl }
-draws_none entries (Weigh lane gross prior) batch h = record { first = refl; second = refl }
-draws_none entries (StopLane lane prior) batch h = record { first = refl; second = refl }
-draws_none entries (Void pack) batch h = record { first = refl; second = refl }
-draws_none entries (EndRun name) batch h = record { first = refl; second = refl }
-draws_none entries (Measure pack gross empty) batch h = record { first = refl; second = refl }
-draws_none entries (Close name) batch h = record { first = refl; second = refl }
+draws_none entries act batch h = record { first = refl; second = refl }
 
 -- an act that draws no packs leaves the samples of each batch
 pub sample_of-no_draw : (entries : List Entry) (entry : Entry) → draws_packs entry.act ≡ false → (batch : Name) → sample_of (entries ++ entry ∷ []) batch ≡ sample_of entries batch
@@ -64,17 +56,13 @@ pub sample_of-unknown : (entries : List Entry) (batch : Name) → IsLegal entrie
 sample_of-unknown entries batch legal unknown =
     let stateless : state_of entries batch ≡ None = none_of (state_of entries batch) (states_known entries legal batch ∙ ap is_some unknown) in
     sample_of-undrawn entries batch (undrawn_by_state entries legal batch (ap is_undrawn stateless))
-  where
-    none_of : {A : Type 0} (o : Option A) → is_some o ≡ false → o ≡ None
-    none_of None h = refl
-    none_of (Some x) h = absurd (cc)
 
 -- a batch that is opened has no sample
 pub sample_of-opened : (entries : List Entry) (entry : Entry) (batch product : Name) (density : ℕ) → IsLegal entries → IsLawful entries entry → entry.act ≡ OpenBatch batch product density
     → sample_of entries batch ≡ None
 sample_of-opened entries entry batch product density legal lawful is =
     sample_of-unknown entries batch legal
-    (opened_is_new entries batch product density (ap (λ (act : Act). first_refusal (refusals_of entries act)) (sym is) ∙ lawful_rules entries entry lawful))
+    (opened_is_new entries batch product density (ap (λ (act : Act). first_refusal (refusals_of entries act)) (sym is) ∙ allowed entries entry lawful))
 
 -- what a draw of the first sample of a batch behind some entries draws by
 abbrev pub drawing_behind : List Entry → Name → Mode → ℕ → Drawing

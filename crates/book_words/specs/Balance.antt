@@ -12,7 +12,8 @@ use Rattle.book_words.specs.declared.act.Act.TheVariants.{Weigh, StopLane, Void,
 use Rattle.book_words.specs.declared.act.Entry.{Entry}
 use Rattle.book_words.specs.declared.act.Reading.{Reading}
 use Rattle.book_words.specs.Readings.{readings}
-use Rattle.book_words.specs.Population.{settled_pile, same_pile, is_unsettled, readings_of_batch}
+use Rattle.book_words.specs.Population.{settled_pile, is_unsettled, readings_of_batch}
+use Rattle.pack_judge.specs.Piles.{same_pile}
 use Rattle.book_words.specs.Samples.{drawing_from, drawing_of, first_picks, second_picks, is_among}
 use Rattle.book_words.specs.Piles.{pile_of, in_pile, gross_sum}
 use Rattle.book_words.specs.Verdicts.{verdict_of}

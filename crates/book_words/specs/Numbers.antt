@@ -1,7 +1,5 @@
 -- The numbers and the names of the refusals.
-use Rattle.std.specs.Prelude.{◌≡◌, ℕ, ◌+◌, ◌≤◌, Bool, true, ◌&&◌, nat_le, List, [], ◌∷◌, codes, Option, IfSome}
-use Rattle.book_words.specs.declared.act.Act.{Act}
-use Rattle.book_words.specs.declared.act.Act.TheVariants.{NewDay, PutProduct, PutTare, OpenBatch, StartLane, Weigh, StopLane, Void, EndRun, Draw, Measure, DrawSecond, Close}
+use Rattle.std.specs.Prelude.{ℕ, ◌≤◌, List, [], ◌∷◌, codes, Option, IfSome}
 use Rattle.book_words.specs.declared.refusal.Refusal.{Refusal}
 use Rattle.book_words.specs.declared.refusal.Refusal.TheVariants.{DeskNumber, RequestOld, RequestReused, RequestGap, BookFull, DayUnset, DayBack, ProductKnown, ProductUnknown, NameShape, NominalRange, DayRange, BatchKnown, BatchUnknown, BatchState, LaneNumber, LaneBusy, LaneIdle, NoTare, GrossRange, PriorWrong, LanesRunning, TareRange, PackUnknown, PackPile, Unsettled, BatchEmpty, ModeSmall, NotDrawn, MeasuredAlready, SecondNotNeeded, Unmeasured, SecondNeeded, TareFrozen, DensityRange}
 
@@ -81,38 +79,8 @@ refusal_name (SecondNeeded d1) = codes "SecondNeeded"
 refusal_name (TareFrozen batch) = codes "TareFrozen"
 refusal_name DensityRange = codes "DensityRange"
 
--- the numbers of the refusals that an act may meet by the rules, in the order in which they are
--- tested; beside these each act may find that the desk or its request is wrong, which are 1 to 4,
--- and that the book is full, which is 5
-abbrev pub refusal_numbers : Act → List ℕ
-refusal_numbers (NewDay day) = 7 ∷ 12 ∷ []
-refusal_numbers (PutProduct name nominal unit) = 6 ∷ 8 ∷ 10 ∷ 11 ∷ []
-refusal_numbers (PutTare product day tare) = 6 ∷ 9 ∷ 12 ∷ 23 ∷ 34 ∷ []
-refusal_numbers (OpenBatch batch product density) = 6 ∷ 9 ∷ 10 ∷ 13 ∷ 35 ∷ []
-refusal_numbers (StartLane lane batch) = 6 ∷ 14 ∷ 15 ∷ 16 ∷ 17 ∷ 19 ∷ []
-refusal_numbers (Weigh lane gross prior) = 6 ∷ 16 ∷ 18 ∷ 20 ∷ 21 ∷ []
-refusal_numbers (StopLane lane prior) = 6 ∷ 16 ∷ 18 ∷ 21 ∷ []
-refusal_numbers (Void pack) = 6 ∷ 15 ∷ 24 ∷ 25 ∷ 26 ∷ []
-refusal_numbers (EndRun batch) = 6 ∷ 14 ∷ 15 ∷ 22 ∷ []
-refusal_numbers (Draw batch mode word) = 6 ∷ 14 ∷ 15 ∷ 27 ∷ 28 ∷ []
-refusal_numbers (Measure pack gross empty) = 6 ∷ 15 ∷ 20 ∷ 23 ∷ 24 ∷ 25 ∷ 30 ∷ []
-refusal_numbers (DrawSecond batch word) = 6 ∷ 14 ∷ 15 ∷ 31 ∷ 32 ∷ []
-refusal_numbers (Close batch) = 6 ∷ 14 ∷ 15 ∷ 29 ∷ 32 ∷ 33 ∷ []
-
--- of some refusals, each that is there has the number of its place
-abbrev pub HaveNumbers : List (Option Refusal) → List ℕ → Type 0
-HaveNumbers [] [] = Unit {0}
-HaveNumbers (refusal ∷ refusals) (number ∷ numbers) =
-    IfSome refusal (λ there. refusal_number there ≡ number) × HaveNumbers refusals numbers
-HaveNumbers _ _ = ⊥
-
 -- each of some refusals that is there has at least this number
 abbrev pub EachFrom : ℕ → List (Option Refusal) → Type 0
 EachFrom least [] = Unit {0}
 EachFrom least (refusal ∷ refusals) =
     IfSome refusal (λ there. least ≤ refusal_number there) × EachFrom least refusals
-
--- some numbers ascend from one on
-abbrev pub ascend_from : ℕ → List ℕ → Bool
-ascend_from least [] = true
-ascend_from least (number ∷ numbers) = nat_le least number && ascend_from (number + 1) numbers

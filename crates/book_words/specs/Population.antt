@@ -1,9 +1,10 @@
 -- Where a reading lies before samples are looked at, and the population of a batch.
-use Rattle.std.specs.Prelude.{ℕ, ℤ, pos, ◌+ℤ◌, Bool, true, false, ◌&&◌, ◌==◌, List, [], ◌∷◌, filter, count_by, nat_lt, slice_get, Option, Some, is_none}
+use Rattle.std.specs.Prelude.{ℕ, ℤ, Bool, true, false, ◌&&◌, ◌==◌, List, filter, count_by, nat_lt, slice_get, Option, Some, is_none}
 use Rattle.pack_judge.specs.declared.types.Pile.{Pile}
-use Rattle.pack_judge.specs.declared.types.Pile.TheVariants.{Passed, Rejected, Sampled, Voided}
+use Rattle.pack_judge.specs.declared.types.Pile.TheVariants.{Passed, Rejected, Voided}
 use Rattle.pack_judge.specs.declared.types.Signal.{Signal}
 use Rattle.pack_judge.specs.declared.types.Signal.TheVariants.{Pass, Reject}
+use Rattle.pack_judge.specs.Piles.{same_pile, mass_sum}
 use Rattle.book_words.specs.declared.name.Name.{Name}
 use Rattle.book_words.specs.declared.act.Prior.{Prior}
 use Rattle.book_words.specs.declared.act.Prior.TheVariants.{Stayed, Unknown}
@@ -26,14 +27,6 @@ settled_pile false signal next_prior = Passed
 -- the pile of a reading before samples are looked at
 abbrev pub unsampled_pile : Reading → Pile
 unsampled_pile reading = settled_pile reading.voided reading.signal reading.next_prior
-
--- whether two piles are the same
-abbrev pub same_pile : Pile → Pile → Bool
-same_pile Passed Passed = true
-same_pile Rejected Rejected = true
-same_pile Sampled Sampled = true
-same_pile Voided Voided = true
-same_pile _ _ = false
 
 -- whether a signal let the gate open
 abbrev pub is_pass : Option Signal → Bool
@@ -91,5 +84,4 @@ is_held entries batch some = nat_lt 0 (inadequate_count entries batch some)
 
 -- the sum of the nets of some readings
 abbrev pub net_sum : List Entry → List Reading → ℤ
-net_sum entries [] = pos 0
-net_sum entries (reading ∷ some) = net_of_reading entries reading +ℤ net_sum entries some
+net_sum entries some = mass_sum (net_of_reading entries) some

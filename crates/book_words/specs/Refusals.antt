@@ -26,7 +26,8 @@ use Rattle.book_words.specs.Names.{bytes_of, is_name_shape, same_name}
 use Rattle.book_words.specs.Acts.{said, batch_opened, newest_day, nominal_of, unit_of, product_of, state_of, same_state, lane_batch}
 use Rattle.book_words.specs.Tares.{tare_of_product}
 use Rattle.book_words.specs.Readings.{reading_of, tare_of_reading}
-use Rattle.book_words.specs.Population.{same_pile, is_unsettled, unsettled_reading, readings_of_batch, population}
+use Rattle.book_words.specs.Population.{is_unsettled, unsettled_reading, readings_of_batch, population}
+use Rattle.pack_judge.specs.Piles.{same_pile}
 use Rattle.book_words.specs.Samples.{Sample, sample_of}
 use Rattle.book_words.specs.Piles.{pile_of}
 use Rattle.book_words.specs.Signals.{with_act}

@@ -1,11 +1,7 @@
 -- The signal that a weighing gets.
-use Rattle.std.specs.Prelude.{ℕ, ℤ, ◌*◌, Bool, nat_lt, ◌==◌, if◌then◌else◌, List, [], ◌∷◌, ◌++◌, length, Option, Some, None, option_map}
-use Rattle.hall_limits.specs.declared.TheConstants.{MAX_POPULATION}
-use Rattle.pack_judge.specs.declared.types.Class.{Class}
-use Rattle.pack_judge.specs.declared.types.Class.TheVariants as classes
-use Rattle.pack_judge.specs.declared.types.Cause.TheVariants as cause
+use Rattle.std.specs.Prelude.{ℤ, List, [], ◌∷◌, ◌++◌, length, Option, Some, None, option_map}
 use Rattle.pack_judge.specs.declared.types.Signal.{Signal}
-use Rattle.pack_judge.specs.declared.types.Signal.TheVariants.{Pass, Reject}
+use Rattle.pack_judge.specs.Judge.{signal_by_class}
 use Rattle.book_words.specs.declared.name.Name.{Name}
 use Rattle.book_words.specs.declared.act.Act.{Act}
 use Rattle.book_words.specs.declared.act.Act.TheVariants.{Weigh}
@@ -15,20 +11,6 @@ use Rattle.book_words.specs.Acts.{newest_day, last_batch}
 use Rattle.book_words.specs.Readings.{first_readings, net_of_gross}
 use Rattle.book_words.specs.Classes.{class_in_batch}
 use Rattle.book_words.specs.Population.{counted_readings, nonstandard_count, is_held}
-
--- the signal of a class in a batch that isn't held and has room
-abbrev pub class_signal : Class → ℕ → ℕ → Signal
-class_signal classes.Inadequate population nonstandard = Reject cause.Inadequate
-class_signal classes.NonStandard population nonstandard =
-    if nat_lt population (40 * nonstandard) then Reject cause.Allowance else Pass
-class_signal classes.Standard population nonstandard = Pass
-
--- the signal of a class in a batch: the first line that holds
-abbrev pub signal_by_class : Class → Bool → ℕ → ℕ → Signal
-signal_by_class class held population nonstandard =
-    if held then Reject cause.Held else
-    (if population == MAX_POPULATION then Reject cause.Full else
-    class_signal class population nonstandard)
 
 -- an act at the end of the list, before anybody has judged it: it has no signal yet
 abbrev pub with_act : List Entry → Act → List Entry

@@ -1,11 +1,11 @@
 -- The checks of Annex II, the packers' part, and the verdict.
-use Rattle.std.specs.Prelude.{ℕ, ℤ, pos, ◌*◌, ◌-ℤ◌, ◌*ℤ◌, Bool, true, false, not, ◌&&◌, ◌||◌, ◌==◌, nat_le, nat_lt, int_le, if◌then◌else◌, List, [], take, length, Option, Some}
+use Rattle.std.specs.Prelude.{ℕ, pos, ◌*◌, ◌*ℤ◌, Bool, true, false, not, ◌&&◌, ◌||◌, ◌==◌, nat_le, nat_lt, int_le, if◌then◌else◌, List, [], take, length, Option, Some}
 use Rattle.std.specs.Option.{option_map_or, unwrap_or}
 use Rattle.annex_tables.specs.declared.types.Plan.{Plan}
 use Rattle.reference_test.specs.declared.types.Contents.{Contents}
 use Rattle.reference_test.specs.declared.types.Contents.TheVariants.{Accept}
 use Rattle.reference_test.specs.Contents.{contents_of}
-use Rattle.reference_test.specs.Means.{square, volume_shortfall, squared_deviations}
+use Rattle.reference_test.specs.Means.{mean_accepts}
 use Rattle.book_words.specs.declared.name.Name.{Name}
 use Rattle.book_words.specs.declared.act.Entry.{Entry}
 use Rattle.book_words.specs.declared.act.Reading.{Reading}
@@ -44,16 +44,6 @@ abbrev pub contents_check_accepts : List Entry → Name → Sample → Bool
 contents_check_accepts entries batch sample =
     is_accepted (contents_of sample.plan (first_defective entries batch sample)
     (Some (second_defective entries batch sample)))
-
--- the mean of some contents at a density reaches the nominal quantity, or falls short by no more
--- than so many thousandths of the standard deviation, with divisor one less than their number
-abbrev pub mean_accepts : List ℤ → ℤ → ℕ → ℕ → Bool
-mean_accepts values nominal density k1000 =
-    let short = volume_shortfall values nominal density in
-    int_le short (pos 0)
-    || (nat_le 2 (length values) && nat_lt 0 k1000
-    && int_le ((pos (length values) -ℤ pos 1) *ℤ square short)
-    (pos 1000000 *ℤ square (pos k1000) *ℤ squared_deviations values))
 
 -- the mean check: over the first packs of the first sample, in drawing order
 abbrev pub mean_check_accepts : List Entry → Name → Sample → Bool

@@ -1,6 +1,6 @@
 ghost use Rattle.std.specs.Prelude.{List, [], ◌∷◌};
 ghost use Rattle.book_words.specs.declared.act.Ask.{Ask as Asked};
-ghost use Rattle.book_words.specs.Callers.{Known, IsAsked, IsCourse};
+ghost use Rattle.book_words.specs.Callers.{Known, IsAsked, IsReached};
 
 use crate::act::Ask;
 use crate::reply::{Answered, Refused};
@@ -23,16 +23,17 @@ pub trait Caller {
     /// bear.
     ghost known: { Self → Known };
 
-    /// It goes on from one state to another by these asks, one after another.
+    /// One caller is reached from another by just these asks, in this order.
     ghost later: { Self → Self → List Asked → Type 0 };
 
-    /// Asks the book. The answer is the book's to a list that the caller has then seen, which
-    /// begins with what it had seen before and is legal. Its own entries grow by that of a new act
-    /// alone, and its faults by one at a `DiskFault` alone.
+    /// Asks the book. The answer is right in what the caller has then seen, which begins with what
+    /// it had seen before and is legal. Its own entries grow by that of a new act alone, and its
+    /// faults by one at a `DiskFault` alone. `DiskFault` comes only where the ask would add an
+    /// entry, and `NoMemory` only there and at a question for a sample.
     fn ask(&mut self, ask: &Ask) -> Result<Answered, AskError>
         ensures asked { IsAsked (known self.old) (known self.new) ask.now result }
         ensures later { later self.old self.new (ask.now ∷ []) };
 
-    /// So it goes on by no ask, and by asks one after another.
-    ghost course: { IsCourse later };
+    /// It is reached from itself by no ask, and by asks one after another.
+    ghost reached: { IsReached later };
 }

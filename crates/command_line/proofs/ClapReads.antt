@@ -15,7 +15,7 @@ use Rattle.command_line.specs.Taken.{asked}
 use Rattle.command_line.specs.Words.{Item, Wanted, read_items, wanted_items, wanted_values}
 use Rattle.command_line.proofs.OneWord.{shape_for}
 use Rattle.command_line.proofs.Rows.{says_first}
-use Rattle.command_line.proofs.Walking.{Reads, Walks, both, reads_each}
+use Rattle.command_line.proofs.ClapWalks.{Reads, Walks, both, reads_each}
 
 built_ok : (app : App) (words : List Text) (end : Held) → names_of app ≡ [] → Walks app.top (walk_from nothing_held) words end
     → settle_passes app.top.rules app.top.args_override_self end ≡ true → list_all default_passes app.top.rules ≡ true

@@ -2,7 +2,7 @@ pub mod Splits
 pub mod Endings
 pub mod OneWord
 pub mod Rows
-pub mod Opening
-pub mod Taking
-pub mod Walking
+pub mod FirstItems
+pub mod NextItems
+pub mod ClapWalks
 pub mod ClapReads

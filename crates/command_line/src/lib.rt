@@ -5,8 +5,6 @@ mod asked;
 mod items;
 mod parser;
 mod settings;
-#[cfg(test)]
-mod tests;
 mod text;
 mod types;
 

@@ -1,5 +1,6 @@
 ghost use Rattle.device_facts.specs.Count.{CountsFault};
 
+use crate::open_error::OpenError;
 use crate::opening::open_locked;
 use crate::transfer::{fetch, measure, put, settle};
 use device_facts::counted_once_more;
@@ -12,21 +13,21 @@ use std::rt::Files;
 /// faults: what the system's calls do is trusted. A disk whose file isn't open fails at each call.
 #[derive(Drop)]
 pub struct FileDisk {
-    file: Option<File>,
+    file: Result<File, OpenError>,
     faults: u64,
 }
 
 impl Model for FileDisk {
-    ghost use Rattle.std.specs.Prelude.{is_some};
+    ghost use Rattle.std.specs.Prelude.{is_ok};
     ghost use Rattle.file_disk.specs.OpenFile.{OpenFile};
 
     ghost Value = { OpenFile };
 
-    ghost view = { λ d. record { is_open = is_some d.file; faults = d.faults } };
+    ghost view = { λ d. record { is_open = is_ok d.file; faults = d.faults } };
 }
 
 impl FileDisk {
-    ghost use Rattle.std.specs.Prelude.{◌≡◌};
+    ghost use Rattle.std.specs.Prelude.{◌≡◌, ◌↔◌, true, IsNone};
 
     /// Opens the file at this path and makes it where it isn't there. The file stays locked for as
     /// long as the disk is there, so no other hall uses it. Where the file is empty, its folder is
@@ -36,9 +37,16 @@ impl FileDisk {
         ensures { result.faults ≡ 0 }
     {
         FileDisk {
-            file: open_locked(rt, path).ok(),
+            file: open_locked(rt, path),
             faults: 0,
         }
+    }
+
+    /// Why the file isn't open; none where it is.
+    pub fn open_error(&self) -> Option<&OpenError>
+        ensures { IsNone result ↔ (self.now.is_open ≡ true) }
+    {
+        self.file.as_ref().err()
     }
 }
 
@@ -81,7 +89,7 @@ impl Disk for FileDisk {
         ensures kept { self.new.is_open ≡ self.old.is_open }
         ensures cause { CountsFault self.old.faults self.new.faults result }
     {
-        let length = measure(self.file.as_ref());
+        let length = measure(self.file.as_ref().ok());
         self.faults = counted_after(self.faults, &length);
         length
     }
@@ -92,7 +100,7 @@ impl Disk for FileDisk {
         ensures kept { self.new.is_open ≡ self.old.is_open }
         ensures cause { CountsFault self.old.faults self.new.faults result }
     {
-        let count = fetch(self.file.as_ref(), place, into);
+        let count = fetch(self.file.as_ref().ok(), place, into);
         self.faults = counted_after(self.faults, &count);
         count
     }
@@ -103,7 +111,7 @@ impl Disk for FileDisk {
         ensures kept { self.new.is_open ≡ self.old.is_open }
         ensures cause { CountsFault self.old.faults self.new.faults result }
     {
-        let done = put(self.file.as_ref(), place, bytes);
+        let done = put(self.file.as_ref().ok(), place, bytes);
         self.faults = counted_after(self.faults, &done);
         done
     }
@@ -113,7 +121,7 @@ impl Disk for FileDisk {
         ensures kept { self.new.is_open ≡ self.old.is_open }
         ensures cause { CountsFault self.old.faults self.new.faults result }
     {
-        let done = settle(self.file.as_ref());
+        let done = settle(self.file.as_ref().ok());
         self.faults = counted_after(self.faults, &done);
         done
     }

@@ -12,6 +12,7 @@
 #![tactic(auto)]
 
 mod file_disk;
+mod open_error;
 mod opening;
 mod read_at;
 #[cfg(test)]
@@ -19,3 +20,4 @@ mod tests;
 mod transfer;
 
 pub use file_disk::FileDisk;
+pub use open_error::OpenError;

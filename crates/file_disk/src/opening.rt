@@ -1,3 +1,4 @@
+use crate::open_error::OpenError;
 use std::fs::{File, OpenOptions, canonicalize};
 use std::io;
 use std::io::ErrorKind;
@@ -9,11 +10,14 @@ const LAST_STREAM: i32 = 2;
 
 /// Opens a regular file for reading and writing, makes it where it isn't there, and locks it for as
 /// long as it is open. No file is truncated.
-pub(crate) fn open_locked<R: Files<File = File> + Alloc>(rt: &R, path: &str) -> io::Result<File> {
+pub(crate) fn open_locked<R: Files<File = File> + Alloc>(
+    rt: &R,
+    path: &str,
+) -> Result<File, OpenError> {
     let file = above_streams(open_or_make(rt, path)?)?;
     let found = file.metadata()?;
     if !found.is_file() {
-        return Err(ErrorKind::Unsupported.into());
+        return Err(OpenError::NotAFile);
     }
     file.try_lock()?;
     // An empty file may have been made by a run that ended before its folder was synced.

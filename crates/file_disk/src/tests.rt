@@ -1,4 +1,4 @@
-use crate::FileDisk;
+use crate::{FileDisk, OpenError};
 use disk_core::{Disk, Failed};
 use std::fs;
 use std::test::Fail;
@@ -53,6 +53,7 @@ fn a_second_disk_on_a_file_fails_and_leaves_it(rt: HostRuntime) -> Result<(), Fa
     assert_eq!(rt; first.write_at(0, b"kept"), Ok(()));
     let mut second = FileDisk::open(&rt, "file_disk_locked/book");
     assert!(rt; fails(&rt, &mut second));
+    assert!(rt; matches!(second.open_error(), Some(OpenError::Held)));
     let mut into = *b".....";
     assert_eq!(rt; first.read_at(0, &mut into), Ok(4));
     assert_eq!(rt; into, *b"kept.");
@@ -66,13 +67,22 @@ fn a_second_disk_on_a_file_fails_and_leaves_it(rt: HostRuntime) -> Result<(), Fa
 fn what_is_no_file_fails(rt: HostRuntime) -> Result<(), Fail> {
     empty_folder(&rt, "file_disk_none")?;
     fs::create_dir(&rt, "file_disk_none/folder")?;
-    for path in [
-        "file_disk_none/not_there/book",
-        "file_disk_none/folder",
-        "/dev/null",
-        "",
+    for (path, why) in [
+        (
+            "file_disk_none/not_there/book",
+            "No such file or directory (os error 2)",
+        ),
+        ("file_disk_none/folder", "Is a directory (os error 21)"),
+        ("/dev/null", "it is no file"),
+        ("", "No such file or directory (os error 2)"),
     ] {
-        assert!(rt; fails(&rt, &mut FileDisk::open(&rt, path)), "{path}");
+        let mut disk = FileDisk::open(&rt, path);
+        assert!(rt; fails(&rt, &mut disk), "{path}");
+        let said = match disk.open_error() {
+            Some(error) => error.to_string(rt.alloc())?,
+            None => String::new(rt.alloc()),
+        };
+        assert_eq!(rt; said.as_str(), why, "at {path}");
     }
     fs::remove_dir_all(&rt, "file_disk_none")?;
     Ok(())

@@ -64,6 +64,15 @@ fn memory_disk(alloc: Global, limit: u32) -> Result<QuietDisk, AllocError> {
     Ok(QuietDisk::new(Vec::with_capacity(alloc, BYTES_A_ROW * rows)?))
 }
 
+// The file of a book. Where it can't be opened, standard error says why.
+fn open_book(rt: &HostRuntime, path: &str) -> FileDisk {
+    let disk = FileDisk::open(rt, path);
+    if let Some(error) = disk.open_error() {
+        let _ = eprintln!(rt; "hall: can't open {path}: {error}");
+    }
+    disk
+}
+
 // The end of a call for which there is no memory.
 fn end_without_memory<K: Sink>(output: &mut K) -> ExitCode
     ensures { exit_status result ≡ NO_MEMORY }
@@ -90,7 +99,7 @@ fn main(rt: HostRuntime) -> ExitCode {
             book: Some(path),
             ..
         } => {
-            let disk = FileDisk::open(&rt, path.as_str());
+            let disk = open_book(&rt, path.as_str());
             run(alloc, &words, &mut input, &mut output, disk)
         }
         Wants { limit, .. } => match memory_disk(alloc, limit) {

@@ -36,7 +36,7 @@ module _ {S : Type 0} (book : BookState) (call : Call S) (script : List ℕ) (to
   by_stop WriteFault explains = calm_counts_none call.before.output.faults call.now.output.faults 0 output_calm explains.cause
   by_stop (DiskFaultUnsaid offer) explains = calm_counts_none call.before.output.faults call.now.output.faults 0 output_calm explains.cause
   by_stop Spent explains =
-      absurd (omega (arith, short, explains.least, few_taken call.now.input.bytes explains.taken script (subst (λ (left : Option (List ℕ)). Consumes left call.now.input.bytes explains.taken) told explains.read)))
+      absurd (omega (arith, short, explains.least, few_taken call.now.input.bytes explains.taken script (subst (λ (left : Option (List ℕ)). Consumes left call.now.input.bytes explains.taken) told explains.all.read)))
 
 is_complete : {S : Type 0} (book : BookState) (call : Call S) (stop : Stop) → Explains book call stop → IsComplete call stop
 is_complete book call stop explains =

@@ -1,27 +1,28 @@
 -- Lemmas on how a run ends.
 use Rattle.std.proofs.Common.{◌≡◌, ℕ, ◌+◌, ◌*◌, ◌<◌, ◌≤◌, false, List, [], ◌∷◌, ◌++◌, length, take, length-take, Option, Some, None, IfSome, Result, Ok, Err, MatchResult, inl, inr, refl, sym, ap, ◌∙◌, append_assoc, append-nil, length-append, subst, arith, lit<}
 use Rattle.std.specs.Io.KnownBytes.{Consumes, Keeps, IsAtEnd}
-use Rattle.std.proofs.KnownBytes.{Consumes-whole, Consumes-nil, Consumes-trans, Consumes-kept}
+use Rattle.std.proofs.KnownBytes.{Consumes-whole, Consumes-trans}
 use Rattle.device_facts.specs.Count.{Counted}
 use Rattle.book_words.specs.declared.act.Entry.{Entry}
 use Rattle.script_lines.specs.declared.command.Command.{Command}
 use Rattle.script_lines.specs.declared.command.Line.{Line}
 use Rattle.script_lines.specs.declared.command.Line.TheVariants.{Nothing, Asks, Bad}
 use Rattle.script_lines.specs.Feed.{FeedView, feed_after}
-use Rattle.script_lines.specs.Script.{all_good}
+use Rattle.script_lines.specs.Script.{all_good, commands_of}
 use Rattle.script_lines.proofs.LineLists.{ended_lines-few}
 use Rattle.hall_top.specs.declared.reads.TheConstants.{MAX_READS, PIECE}
 use Rattle.hall_top.specs.declared.stop.Offer.{Offer}
 use Rattle.hall_top.specs.declared.stop.Stop.{Stop}
 use Rattle.hall_top.specs.declared.stop.Stop.TheVariants.{Finished, BadLine, ReadFault, WriteFault, DiskFault, DiskFaultUnsaid, NoMemory, Spent}
 use Rattle.hall_top.specs.Texts.{read_fault}
-use Rattle.hall_top.specs.Transcript.{BookState, lines_of}
+use Rattle.hall_top.specs.Transcript.{BookState, ended_lines_of, lines_of}
 use Rattle.hall_top.specs.Streams.{Stream, Devices, IsCalm, HasFailed, Wrote, WroteAll}
-use Rattle.hall_top.specs.Run.{Call, StopsAtLine, StopsInScript, HasLine, StopsInInput, ReadsWhole, StopsAtSummary, Explains}
-use Rattle.hall_top.specs.Reached.{RunState, SaysNoMemory, Reached, Steps, StopsAfter, EndsScript, RunStandsAfter, WentOn, HasTaken}
+use Rattle.hall_top.specs.Run.{Call, StopsAtLine, StopsInScript, HasLine, StopsInInput, ReadsWhole, StopsAtSummary, AreLeft, IsGoodSoFar, IsGoodThen, IsGoodStill, Explains}
+use Rattle.hall_top.specs.Reached.{RunState, SaysNoMemory, Reached, Steps, StopsAfter, EndsScript, RunHolds, RunStandsAfter, WentOn, RunHasRead}
 use Rattle.hall_top.proofs.Acknowledged.{are_left}
 use Rattle.hall_top.proofs.Answering.{answered_none}
 use Rattle.hall_top.proofs.ScriptLines.{all_good-bad}
+use Rattle.hall_top.proofs.ReadingLemmas.{taken_nothing, taken_more, reads_tell, fails_behind}
 
 -- a call that began with these devices
 abbrev pub call_from : {S : Type 0} → Devices S → Devices S → List Entry → Call S
@@ -198,75 +199,46 @@ pub explained_after : {T S : Type 0} (book : BookState) (before old now : Device
     → Consumes old.input.bytes now.input.bytes more → IsCalm old.input now.input
     → MatchResult result (λ _. WentOn book before now taken run') (Explains book (call_from before now run'.book.entries))
 explained_after book before old now taken more run run' (Ok x) stands steps some small read calm =
-    record {
-      more = more;
-      some = some;
-      few = small;
-      stands = record {
-        read = Consumes-trans _ _ _ taken more stands.read read;
-        calm = calm ∙ stands.calm;
-        reached = steps book before.output taken stands.reached;
-      };
-    }
+    taken_more before.input old.input now.input (RunHolds book before.output old.output run) (RunHolds book before.output now.output run') taken more stands read calm some small (steps book before.output taken stands.holds)
 explained_after book before old now taken more run run' (Err stop) stands steps some small read calm =
     explain book (call_from before now run'.book.entries) stop
-    (stops_early book (call_from before now run'.book.entries) old.output taken more run stop small steps stands.reached (Consumes-trans _ _ _ taken more stands.read read)) (calm ∙ stands.calm)
+    (stops_early book (call_from before now run'.book.entries) old.output taken more run stop small steps stands.holds (Consumes-trans _ _ _ taken more stands.read read)) (calm ∙ stands.calm)
+
+good_so_far : (book : BookState) (before now : Stream) (taken : List ℕ) (run : RunState) → Reached book before now taken run → IsGoodSoFar taken
+good_so_far book before now taken run stands = record { ended = stands.good; begun = stands.short }
+
+left_so_far : (book : BookState) (before now : Stream) (taken : List ℕ) (run : RunState) → Reached book before now taken run → AreLeft book (commands_of (ended_lines_of taken)) run.book.entries
+left_so_far book before now taken run stands = are_left book _ run.book.entries (ap (λ (b : BookState). b.entries) stands.answered.left)
 
 -- the input failed
 pub explained_fault : {S : Type 0} (book : BookState) (before old now : Devices S) (taken : List ℕ) (run : RunState) → RunStandsAfter book before old taken run
     → ((out : Stream) (done : List ℕ) → WroteAll out old.output done → Wrote out now.output done read_fault) → Keeps old.input.bytes now.input.bytes → HasFailed old.input now.input
     → Explains book (call_from before now run.book.entries) ReadFault
 explained_fault book before old now taken run stands says read failed =
-    record {
-      taken = taken;
-      read = Consumes-kept before.input.bytes old.input.bytes now.input.bytes taken stands.read read;
-      good = record { ended = stands.reached.good; begun = stands.reached.short };
-      answered = record {
-        wrote = says before.output _ stands.reached.answered.wrote;
-        rows_left = are_left book _ run.book.entries (ap (λ (b : BookState). b.entries) stands.reached.answered.left);
-      };
-      cause = subst (λ (n : ℕ). Counted n now.input.faults 1) stands.calm failed;
-    }
+    fails_behind before.input old.input now.input (RunHolds book before.output old.output run) (IsGoodThen book (call_from before now run.book.entries) read_fault) taken stands read failed (record {
+      good = good_so_far book before.output old.output taken run stands.holds;
+      answered = record { wrote = says before.output _ stands.holds.answered.wrote; rows_left = left_so_far book before.output old.output taken run stands.holds };
+    })
 
 -- where a run begins
 pub begins : {S : Type 0} (now : Devices S) (run : RunState) → run.feed ≡ feed_after [] → run.opened ≡ length run.book.entries → RunStandsAfter run.book now now [] run
 begins now run fed opened =
-    record {
-      read = Consumes-nil now.input.bytes;
-      calm = refl;
-      reached = record { good = refl; fed = fed; opened = opened; short = omega arith; answered = answered_none run.book run.book now.output refl };
-    }
+    taken_nothing now.input (RunHolds run.book now.output now.output run) (record { good = refl; fed = fed; opened = opened; short = omega arith; answered = answered_none run.book run.book now.output refl })
 
 -- there are no more lines than bytes
-pub lines_few : {S : Type 0} (book : BookState) (before now : Devices S) (reads : ℕ) (run : RunState) → HasTaken book before now reads run → run.feed.ended ≤ reads * PIECE
+pub lines_few : {S : Type 0} (book : BookState) (before now : Devices S) (reads : ℕ) (run : RunState) → RunHasRead book before now reads run → run.feed.ended ≤ reads * PIECE
 lines_few book before now reads run has =
-    omega (arith, ap (λ (f : FeedView). f.ended) has.stands.reached.fed, ended_lines-few has.taken, has.most)
-
--- one more read
-pub has_taken_more : {S : Type 0} (book : BookState) (before old now : Devices S) (reads : ℕ) (run run' : RunState) (has : HasTaken book before old reads run) → WentOn book before now has.taken run' → HasTaken book before now (reads + 1) run'
-has_taken_more book before old now reads run run' has on =
-    record {
-      taken = has.taken ++ on.more;
-      least = omega (arith, has.least, on.some, length-append has.taken on.more);
-      most = omega (arith, has.most, on.few, length-append has.taken on.more);
-      stands = on.stands;
-    }
+    omega (arith, ap (λ (f : FeedView). f.ended) has.all.holds.fed, ended_lines-few has.taken, has.most)
 
 -- a run whose reads were spent
-pub explained_spent : {S : Type 0} (book : BookState) (before now : Devices S) (run : RunState) (reads : ℕ) → MAX_READS ≤ reads → reads ≤ MAX_READS → HasTaken book before now reads run → Explains book (call_from before now run.book.entries) Spent
+pub explained_spent : {S : Type 0} (book : BookState) (before now : Devices S) (run : RunState) (reads : ℕ) → MAX_READS ≤ reads → reads ≤ MAX_READS → RunHasRead book before now reads run → Explains book (call_from before now run.book.entries) Spent
 explained_spent book before now run reads least most has =
-    record {
-      taken = has.taken;
-      read = has.stands.read;
-      least = omega (arith, least, has.least);
-      most = omega (arith, most, has.most);
-      good = record { ended = has.stands.reached.good; begun = has.stands.reached.short };
-      answered = record {
-        wrote = has.stands.reached.answered.wrote;
-        rows_left = are_left book _ run.book.entries (ap (λ (b : BookState). b.entries) has.stands.reached.answered.left);
-      };
-      calm = has.stands.calm;
-    }
+    reads_tell before.input now.input (RunHolds book before.output now.output run) (IsGoodStill book (call_from before now run.book.entries)) reads MAX_READS least most
+    (λ taken stands. record {
+      good = good_so_far book before.output now.output taken run stands;
+      answered = record { wrote = stands.answered.wrote; rows_left = left_so_far book before.output now.output taken run stands };
+    })
+    has
 
 -- a run that had no memory to begin with
 pub explained_unbegun : {S : Type 0} (book : BookState) (call : Call S) (stop : Stop) → call.rows ≡ book.entries → call.now.source ≡ call.before.source → IsCalm call.before.input call.now.input

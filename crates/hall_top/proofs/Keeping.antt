@@ -241,7 +241,7 @@ module _ {D : Type 0} (g : disk.Ghosts D) where
 
   -- an ask, by what it offers
   kept_asked : (held : List Entry) (start : D) (old new : Store D) (result : Result Answered AskError) (offered named : Option Entry) → entries_of new ≡ list_behind result (entries_of old) offered → Offers g offered old new
-      → (IsSome offered → OnOk result (¬ Hangs new)) → ImagesHoldBook g new → (Hangs new → (result ≡ Err error.DiskFault) ⊎ Hangs old) → (result ≡ Err error.NoMemory → disk_of new ≡ disk_of old)
+      → (IsSome offered → OnOk result (¬ Hangs new)) → ImagesHoldBook g new → (Hangs new → (result ≡ Err error.DiskFault) ⊎ Hangs old) → (result ≡ Err error.NoMemory → LeavesDisk g old new)
       → OffersAt result offered named → HasKept g held start None old → HasKept g held start named new
   kept_asked held start old new (Ok answered) None named is offers settled images hangs lacks at kept = kept_more held start new named (kept_still held start old new is offers images kept)
   kept_asked held start old new (Err error.DiskFault) None named is offers settled images hangs lacks at kept = kept_more held start new named (kept_still held start old new is offers images kept)
@@ -252,7 +252,7 @@ module _ {D : Type 0} (g : disk.Ghosts D) where
   kept_asked held start old new (Err error.DiskFault) (Some entry) named is offers settled images hangs lacks at kept =
       subst (λ (o : Option Entry). HasKept g held start o new) (sym at) (kept_failed held start entry old new kept (offers kept.has) is images)
   kept_asked held start old new (Err error.NoMemory) (Some entry) named is offers settled images hangs lacks at kept =
-      kept_more held start new named (kept_lacking held start old new kept (offers kept.has).has is (lacks refl) (λ hung. ⊎_elim (λ wrong. absurd (cc)) (λ was. was) (hangs hung)) images)
+      kept_more held start new named (kept_lacking held start old new kept (offers kept.has).has is (lacks refl).same (λ hung. ⊎_elim (λ wrong. absurd (cc)) (λ was. was) (hangs hung)) images)
   kept_asked held start old new (Err (error.Refused refused)) (Some entry) named is offers settled images hangs lacks at kept = absurd (none_named entry (sym at.0))
 
   -- a snapshot
@@ -271,13 +271,13 @@ module _ {D : Type 0} (g : disk.Ghosts D) where
   grows entry old new is opened few = omega (arith, opened, few, ap length is, length-append (entries_of old) (entry ∷ []))
 
   still_asked : (old new : Store D) (result : Result Answered AskError) (offered : Option Entry) → IsSettled result offered → entries_of new ≡ list_behind result (entries_of old) offered → Offers g offered old new
-      → (result ≡ Err error.NoMemory → disk_of new ≡ disk_of old) → held_of new ≡ held_of old → held_of old ≤ length (entries_of old) → ¬ HasAddedRows new → disk_of new ≡ disk_of old
+      → (result ≡ Err error.NoMemory → LeavesDisk g old new) → held_of new ≡ held_of old → held_of old ≤ length (entries_of old) → ¬ HasAddedRows new → disk_of new ≡ disk_of old
   still_asked old new (Ok answered) None settled is offers lacks opened few small = offers.same
   still_asked old new (Ok answered) (Some entry) settled is offers lacks opened few small = absurd (small (grows entry old new is opened few))
   still_asked old new (Err (error.Refused refused)) None settled is offers lacks opened few small = offers.same
   still_asked old new (Err (error.Refused refused)) (Some entry) settled is offers lacks opened few small = absurd (cc)
   still_asked old new (Err error.DiskFault) offered settled is offers lacks opened few small = absurd settled
-  still_asked old new (Err error.NoMemory) offered settled is offers lacks opened few small = lacks refl
+  still_asked old new (Err error.NoMemory) offered settled is offers lacks opened few small = (lacks refl).same
 
   calm_asked : (old new : Store D) (result : Result Answered AskError) (offered : Option Entry) → IsSettled result offered → (result ≡ Err error.DiskFault) ⊎ Hangs old → Hangs old
   calm_asked old new (Ok answered) offered settled hangs = ⊎_elim (λ is. absurd (cc)) (λ was. was) hangs
@@ -289,7 +289,7 @@ module _ {D : Type 0} (g : disk.Ghosts D) where
   pub goes_asked : {T : Type 0} (old new : Store D) (result : Result Answered AskError) (given : Result T Stop) (offered : Option Entry) → entries_of new ≡ list_behind result (entries_of old) offered
       → Offers g offered old new → (IsSome offered → OnOk result (¬ Hangs new)) → ImagesHoldBook g new → (Hangs new → (result ≡ Err error.DiskFault) ⊎ Hangs old)
       → IsSound g new → IsLegal (entries_of new) → limit_of new ≡ limit_of old → held_of new ≡ held_of old
-      → CountsStep (g.faults (disk_of old)) (g.faults (disk_of new)) given → (result ≡ Err error.NoMemory → disk_of new ≡ disk_of old) → (IfErr given SparesDisk → IsSettled result offered) → OffersAt result offered (step_row (stored_book new) given) → given ≢ Err Finished → Goes g given old new
+      → CountsStep (g.faults (disk_of old)) (g.faults (disk_of new)) given → (result ≡ Err error.NoMemory → LeavesDisk g old new) → (IfErr given SparesDisk → IsSettled result offered) → OffersAt result offered (step_row (stored_book new) given) → given ≢ Err Finished → Goes g given old new
   goes_asked old new result given offered is offers settled images hangs sound legal limit opened cause lacks unfailing at unfinished =
       record {
         sound = sound;
@@ -327,7 +327,7 @@ module _ {D : Type 0} (g : disk.Ghosts D) where
   -- an entry that is adopted
   kept_adopted : (held : List Entry) (start : D) (entry : Entry) (old new : Store D) (result : Result ℕ AdoptError) (named : Option Entry) → entries_of new ≡ list_adopted result (entries_of old) entry → Adopts (book_of old) entry result
       → (IsLawful (entries_of old) entry → HasBook g old → OffersEntry g entry old new) → (result ≡ Err adopt.Unlawful → LeavesDisk g old new) → OnOk result (¬ Hangs new) → ImagesHoldBook g new
-      → (Hangs new → (result ≡ Err adopt.DiskFault) ⊎ Hangs old) → (result ≡ Err adopt.NoMemory → disk_of new ≡ disk_of old) → AdoptsAt result entry named → HasKept g held start None old → HasKept g held start named new
+      → (Hangs new → (result ≡ Err adopt.DiskFault) ⊎ Hangs old) → (result ≡ Err adopt.NoMemory → LeavesDisk g old new) → AdoptsAt result entry named → HasKept g held start None old → HasKept g held start named new
   kept_adopted held start entry old new (Ok number) named is adopts offers leaves settled images hangs lacks at kept =
       kept_more held start new named (kept_added held start entry old new kept (offers adopts.0 kept.has) is settled images)
   kept_adopted held start entry old new (Err adopt.Unlawful) named is adopts offers leaves settled images hangs lacks at kept =
@@ -335,14 +335,14 @@ module _ {D : Type 0} (g : disk.Ghosts D) where
   kept_adopted held start entry old new (Err adopt.DiskFault) named is adopts offers leaves settled images hangs lacks at kept =
       subst (λ (o : Option Entry). HasKept g held start o new) (sym at) (kept_failed held start entry old new kept (offers adopts kept.has) is images)
   kept_adopted held start entry old new (Err adopt.NoMemory) named is adopts offers leaves settled images hangs lacks at kept =
-      kept_more held start new named (kept_lacking held start old new kept (offers adopts.0 kept.has).has is (lacks refl) (λ hung. ⊎_elim (λ wrong. absurd (cc)) (λ was. was) (hangs hung)) images)
+      kept_more held start new named (kept_lacking held start old new kept (offers adopts.0 kept.has).has is (lacks refl).same (λ hung. ⊎_elim (λ wrong. absurd (cc)) (λ was. was) (hangs hung)) images)
 
   still_adopted : (old new : Store D) (entry : Entry) (result : Result ℕ AdoptError) → IsAdopted result → entries_of new ≡ list_adopted result (entries_of old) entry → (result ≡ Err adopt.Unlawful → LeavesDisk g old new)
-      → (result ≡ Err adopt.NoMemory → disk_of new ≡ disk_of old) → held_of new ≡ held_of old → held_of old ≤ length (entries_of old) → ¬ HasAddedRows new → disk_of new ≡ disk_of old
+      → (result ≡ Err adopt.NoMemory → LeavesDisk g old new) → held_of new ≡ held_of old → held_of old ≤ length (entries_of old) → ¬ HasAddedRows new → disk_of new ≡ disk_of old
   still_adopted old new entry (Ok number) settled is leaves lacks opened few small = absurd (small (grows entry old new is opened few))
   still_adopted old new entry (Err adopt.Unlawful) settled is leaves lacks opened few small = (leaves refl).same
   still_adopted old new entry (Err adopt.DiskFault) settled is leaves lacks opened few small = absurd settled
-  still_adopted old new entry (Err adopt.NoMemory) settled is leaves lacks opened few small = lacks refl
+  still_adopted old new entry (Err adopt.NoMemory) settled is leaves lacks opened few small = (lacks refl).same
 
   calm_adopted : (old new : Store D) (result : Result ℕ AdoptError) → IsAdopted result → (result ≡ Err adopt.DiskFault) ⊎ Hangs old → Hangs old
   calm_adopted old new (Ok number) settled hangs = ⊎_elim (λ is. absurd (cc)) (λ was. was) hangs
@@ -353,7 +353,7 @@ module _ {D : Type 0} (g : disk.Ghosts D) where
   pub goes_adopted : {T : Type 0} (old new : Store D) (entry : Entry) (result : Result ℕ AdoptError) (given : Result T Stop) → entries_of new ≡ list_adopted result (entries_of old) entry → Adopts (book_of old) entry result
       → (IsLawful (entries_of old) entry → HasBook g old → OffersEntry g entry old new) → (result ≡ Err adopt.Unlawful → LeavesDisk g old new) → OnOk result (¬ Hangs new) → ImagesHoldBook g new
       → (Hangs new → (result ≡ Err adopt.DiskFault) ⊎ Hangs old) → IsSound g new → IsLegal (entries_of new) → limit_of new ≡ limit_of old → held_of new ≡ held_of old → CountsStep (g.faults (disk_of old)) (g.faults (disk_of new)) given
-      → (result ≡ Err adopt.NoMemory → disk_of new ≡ disk_of old) → (IfErr given SparesDisk → IsAdopted result) → AdoptsAt result entry (step_row (stored_book new) given) → given ≢ Err Finished → Goes g given old new
+      → (result ≡ Err adopt.NoMemory → LeavesDisk g old new) → (IfErr given SparesDisk → IsAdopted result) → AdoptsAt result entry (step_row (stored_book new) given) → given ≢ Err Finished → Goes g given old new
   goes_adopted old new entry result given is adopts offers leaves settled images hangs sound legal limit opened cause lacks unfailing at unfinished =
       record {
         sound = sound;

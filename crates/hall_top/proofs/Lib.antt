@@ -11,6 +11,7 @@ pub mod Summaries
 pub mod Stepping
 pub mod Finishing
 pub mod Printed
+pub mod ReadingLemmas
 pub mod Explaining
 pub mod Going
 pub mod Migrating

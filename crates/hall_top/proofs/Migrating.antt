@@ -19,8 +19,9 @@ use Rattle.hall_top.specs.Streams.{Stream, Devices, IsCalm, HasFailed, WroteAll,
 use Rattle.hall_top.specs.Run.{Call, FailsToKeep}
 use Rattle.hall_top.specs.Reached.{SaysNoMemory}
 use Rattle.hall_top.specs.Calls.{SaysWhole}
-use Rattle.hall_top.specs.Migration.{MigrationState, Carried, CarrySteps, StopsCarrying, StopsAtSlot, MigrationStandsAfter, CarriedMore, CarriedReads, EndsMigration, StopsInJournal, StopsAtJournalEnd, HasCarried, ExplainsMigration}
+use Rattle.hall_top.specs.Migration.{MigrationState, Carried, CarrySteps, StopsCarrying, StopsAtSlot, MigrationHolds, MigrationStandsAfter, CarriedMore, MigrationHasRead, IsCarriedThen, IsCarriedStill, EndsMigration, StopsInJournal, StopsAtJournalEnd, HasCarried, ExplainsMigration}
 use Rattle.hall_top.proofs.Explaining.{call_from, reads_whole}
+use Rattle.hall_top.proofs.ReadingLemmas.{taken_nothing, taken_more, reads_tell, fails_behind}
 use Rattle.hall_top.proofs.Printed.{wrote_nothing}
 use Rattle.hall_top.proofs.SlotSteps.{untouched}
 
@@ -108,7 +109,7 @@ migration_at_end book before old now taken state rows stop stands ends read end 
     explains_behind book (call_from before now rows) stop (record {
       journal = taken;
       read = reads_whole before.input now.input taken read end calm;
-      ends = subst (λ (s : Stream). EndsMigration book.entries s now.output rows taken stop) stands.quiet ends;
+      ends = subst (λ (s : Stream). EndsMigration book.entries s now.output rows taken stop) stands.holds.quiet ends;
     })
 
 -- a part of the last piece was judged
@@ -122,7 +123,7 @@ stops_in_piece book before old now taken more state rows stop stands after small
       read = subst (Consumes before.input.bytes now.input.bytes) (ap (λ (bytes : List ℕ). taken ++ bytes) after.parts ∙ sym (append_assoc taken after.judged after.rest))
           (Consumes-trans _ _ _ taken more stands.read read);
       near = omega (arith, small, after.some, ap length after.parts, length-append after.judged after.rest);
-      stops = subst (λ (s : Stream). StopsAtSlot book.entries s now.output rows (taken ++ after.judged) stop) stands.quiet (after.stops book.entries taken stands.carried);
+      stops = subst (λ (s : Stream). StopsAtSlot book.entries s now.output rows (taken ++ after.judged) stop) stands.holds.quiet (after.stops book.entries taken stands.holds.carried);
       calm = calm ∙ stands.calm;
     }
 
@@ -132,17 +133,8 @@ pub migration_after : {T S : Type 0} (book : BookState) (before old now : Device
     → Consumes old.input.bytes now.input.bytes more → IsCalm old.input now.input
     → MatchResult result (λ _. CarriedMore book before now taken state') (ExplainsMigration book (call_from before now state'.rows))
 migration_after book before old now taken more state state' (Ok x) stands steps some small read calm =
-    record {
-      more = more;
-      some = some;
-      few = small;
-      stands = record {
-        read = Consumes-trans _ _ _ taken more stands.read read;
-        calm = calm ∙ stands.calm;
-        quiet = steps.0 ∙ stands.quiet;
-        carried = steps.1 book.entries taken stands.carried;
-      };
-    }
+    taken_more before.input old.input now.input (MigrationHolds book before.output old.output state) (MigrationHolds book before.output now.output state') taken more stands read calm some small
+    (record { quiet = steps.0 ∙ stands.holds.quiet; carried = steps.1 book.entries taken stands.holds.carried })
 migration_after book before old now taken more state state' (Err stop) stands steps some small read calm =
     explains_in book (call_from before now state'.rows) stop (stops_in_piece book before old now taken more state state'.rows stop stands steps small read calm)
 
@@ -154,13 +146,10 @@ pub migration_fault : {S : Type 0} (book : BookState) (before old now : Devices 
     → ((out : Stream) (done : List ℕ) → WroteAll out old.output done → Wrote out now.output done read_fault) → Keeps old.input.bytes now.input.bytes → HasFailed old.input now.input
     → ExplainsMigration book (call_from before now state.rows) ReadFault
 migration_fault book before old now taken state stands says read failed =
-    record {
-      taken = taken;
-      read = Consumes-kept before.input.bytes old.input.bytes now.input.bytes taken stands.read read;
-      carried = has_carried book.entries taken state stands.carried;
-      wrote = says before.output [] (subst (λ (s : Stream). WroteAll before.output s []) (sym stands.quiet) (wrote_nothing before.output));
-      cause = subst (λ (n : ℕ). Counted n now.input.faults 1) stands.calm failed;
-    }
+    fails_behind before.input old.input now.input (MigrationHolds book before.output old.output state) (IsCarriedThen book (call_from before now state.rows) read_fault) taken stands read failed (record {
+      carried = has_carried book.entries taken state stands.holds.carried;
+      wrote = says before.output [] (subst (λ (s : Stream). WroteAll before.output s []) (sym stands.holds.quiet) (wrote_nothing before.output));
+    })
 
 pub nothing_counted : (reader : OldView) → reader ≡ old_after [] → reader.rows ≡ 0
 nothing_counted reader begun = ap (λ (v : OldView). v.rows) begun ∙ none_counted [] (λ has. absurd (omega (arith, has.long)))
@@ -168,9 +157,7 @@ nothing_counted reader begun = ap (λ (v : OldView). v.rows) begun ∙ none_coun
 -- where a migration begins
 pub migration_begins : {S : Type 0} (book : BookState) (now : Devices S) (state : MigrationState) → state.reader ≡ old_after [] → state.rows ≡ book.entries → MigrationStandsAfter book now now [] state
 migration_begins book now state begun same =
-    record {
-      read = Consumes-nil now.input.bytes;
-      calm = refl;
+    taken_nothing now.input (MigrationHolds book now.output now.output state) (record {
       quiet = refl;
       carried = record {
         reader = begun;
@@ -180,32 +167,14 @@ migration_begins book now state begun same =
         counted = nothing_counted state.reader begun;
         longer = inl ((book.entries, refl), same);
       };
-    }
-
--- one more read
-pub carried_reads_more : {S : Type 0} (book : BookState) (before old now : Devices S) (reads : ℕ) (state state' : MigrationState) (has : CarriedReads book before old reads state) → CarriedMore book before now has.taken state'
-    → CarriedReads book before now (reads + 1) state'
-carried_reads_more book before old now reads state state' has on =
-    record {
-      taken = has.taken ++ on.more;
-      least = omega (arith, has.least, on.some, length-append has.taken on.more);
-      most = omega (arith, has.most, on.few, length-append has.taken on.more);
-      stands = on.stands;
-    }
+    })
 
 -- a migration whose reads were spent
-pub migration_spent : {S : Type 0} (book : BookState) (before now : Devices S) (state : MigrationState) (reads : ℕ) → MAX_OLD_READS ≤ reads → reads ≤ MAX_OLD_READS → CarriedReads book before now reads state
+pub migration_spent : {S : Type 0} (book : BookState) (before now : Devices S) (state : MigrationState) (reads : ℕ) → MAX_OLD_READS ≤ reads → reads ≤ MAX_OLD_READS → MigrationHasRead book before now reads state
     → ExplainsMigration book (call_from before now state.rows) Spent
 migration_spent book before now state reads least most has =
-    record {
-      taken = has.taken;
-      read = has.stands.read;
-      least = omega (arith, least, has.least);
-      most = omega (arith, most, has.most);
-      carried = has_carried book.entries has.taken state has.stands.carried;
-      quiet = has.stands.quiet;
-      calm = has.stands.calm;
-    }
+    reads_tell before.input now.input (MigrationHolds book before.output now.output state) (IsCarriedStill book (call_from before now state.rows)) reads MAX_OLD_READS least most
+    (λ taken stands. record { carried = has_carried book.entries taken state stands.carried; quiet = stands.quiet }) has
 
 -- a migration that had no memory to begin with
 pub migration_unbegun : {S : Type 0} (book : BookState) (call : Call S) (stop : Stop) → call.rows ≡ book.entries → call.now.source ≡ call.before.source → SaysNoMemory call.before.output call.now.output stop

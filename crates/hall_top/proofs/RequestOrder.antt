@@ -13,7 +13,8 @@ use Rattle.book_words.specs.Refusals.{refusals_of, desk_refusals}
 use Rattle.book_words.specs.Answers.{ask_of, IsLawful, IsLegal}
 use Rattle.book_words.specs.Soundness.{IsSound}
 use Rattle.book_words.proofs.RefusalLemmas.{none_of_two, none_of_parts}
-use Rattle.book_words.proofs.RowLemmas.{in_both, rows_push, last_of_some}
+use Rattle.book_words.proofs.RowLemmas.{rows_push, last_of_some}
+use Rattle.book_words.proofs.PlainLemmas.{in_both}
 use Rattle.hall_top.specs.Requests.{requests_of, RequestsOnce}
 
 -- the newest request of a desk with one more entry

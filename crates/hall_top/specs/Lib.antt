@@ -4,6 +4,7 @@ pub mod Kept
 pub mod Migration
 pub mod Offers
 pub mod Reached
+pub mod Reading
 pub mod Requests
 pub mod Run
 pub mod Runs

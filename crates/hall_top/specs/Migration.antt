@@ -1,5 +1,5 @@
 -- How a journal of version 1 is carried into a book: where a migration stands, and how it ends.
-use Rattle.std.specs.Prelude.{◌≡◌, ◌≢◌, ◌⊎◌, ℕ, ◌+◌, ◌*◌, ◌<◌, ◌≤◌, List, [], ◌∷◌, ◌++◌, length, slice_get, Some, None, Result, MatchResult}
+use Rattle.std.specs.Prelude.{◌≡◌, ◌≢◌, ◌⊎◌, ℕ, ◌+◌, ◌<◌, ◌≤◌, List, [], ◌∷◌, ◌++◌, length, slice_get, Some, None, Result, MatchResult}
 use Rattle.std.specs.Io.KnownBytes.{Consumes}
 use Rattle.book_words.specs.declared.act.Entry.{Entry}
 use Rattle.disk_core.specs.declared.disk.Disk as disk
@@ -21,7 +21,8 @@ use Rattle.hall_top.specs.declared.stop.Stop.{Stop}
 use Rattle.hall_top.specs.declared.stop.Stop.TheVariants.{Finished, BadLine, ReadFault, WriteFault, Spent}
 use Rattle.hall_top.specs.Texts.{bad_line, read_fault, whole}
 use Rattle.hall_top.specs.Transcript.{BookState}
-use Rattle.hall_top.specs.Streams.{Stream, Devices, IsCalm, HasFailed, WroteAll, IsCutIn, Wrote}
+use Rattle.hall_top.specs.Streams.{Stream, Devices, IsCalm, WroteAll, IsCutIn, Wrote}
+use Rattle.hall_top.specs.Reading.{HasTaken, HasTakenMore, HasMadeReads, FailsBehind}
 use Rattle.hall_top.specs.Run.{Call, ReadsWhole, SaysFailed, FailsToKeep}
 use Rattle.hall_top.specs.Reached.{SaysNoMemory}
 
@@ -120,30 +121,29 @@ CarrySteps old now before after bytes result =
 
 -- ---- many reads
 
--- a migration that began with these devices took these bytes of its input and carried their rows;
--- it has written nothing
-pub record MigrationStandsAfter {S : Type 0} (book : BookState) (before now : Devices S) (taken : List ℕ)
-    (state : MigrationState) : Type 0 where
-  pub read : Consumes before.input.bytes now.input.bytes taken
-  pub calm : IsCalm before.input now.input
-  pub quiet : now.output ≡ before.output
+-- what holds of the bytes that a migration took: it carried their rows, and has written nothing
+pub record MigrationHolds (book : BookState) (before now : Stream) (state : MigrationState)
+    (taken : List ℕ) : Type 0 where
+  pub quiet : now ≡ before
   pub carried : Carried book.entries taken state
 
--- it took more bytes, at most a piece
-pub record CarriedMore {S : Type 0} (book : BookState) (before now : Devices S) (taken : List ℕ)
-    (state : MigrationState) : Type 0 where
-  pub more : List ℕ
-  pub some : 0 < length more
-  pub few : length more ≤ PIECE
-  pub stands : MigrationStandsAfter book before now (taken ++ more) state
+-- a migration that began with these devices took these bytes of its input
+abbrev pub MigrationStandsAfter : {S : Type 0} → BookState → Devices S → Devices S → List ℕ
+    → MigrationState → Type 0
+MigrationStandsAfter book before now taken state =
+    HasTaken before.input now.input (MigrationHolds book before.output now.output state) taken
 
--- it took bytes in so many reads, each at least one and at most a piece
-pub record CarriedReads {S : Type 0} (book : BookState) (before now : Devices S) (reads : ℕ)
-    (state : MigrationState) : Type 0 where
-  pub taken : List ℕ
-  pub least : reads ≤ length taken
-  pub most : length taken ≤ reads * PIECE
-  pub stands : MigrationStandsAfter book before now taken state
+-- and one read more
+abbrev pub CarriedMore : {S : Type 0} → BookState → Devices S → Devices S → List ℕ
+    → MigrationState → Type 0
+CarriedMore book before now taken state =
+    HasTakenMore before.input now.input (MigrationHolds book before.output now.output state) taken
+
+-- so many reads of it were made
+abbrev pub MigrationHasRead : {S : Type 0} → BookState → Devices S → Devices S → ℕ
+    → MigrationState → Type 0
+MigrationHasRead book before now reads state =
+    HasMadeReads before.input now.input (MigrationHolds book before.output now.output state) reads
 
 -- ---- the end of a migration
 
@@ -190,23 +190,27 @@ pub record HasCarried (held : List Entry) (taken : List ℕ) (rows : List Entry)
   pub are : AreOldRows carried (old_rows taken)
   pub longer : IsLonger held carried rows
 
--- the input failed: what it gave was carried, and then comes one line
-pub record IsMigrationFault {S : Type 0} (book : BookState) (call : Call S) : Type 0 where
-  pub taken : List ℕ
-  pub read : Consumes call.before.input.bytes call.now.input.bytes taken
+-- what was taken was carried, and then comes one line
+pub record IsCarriedThen {S : Type 0} (book : BookState) (call : Call S) (text taken : List ℕ)
+    : Type 0 where
   pub carried : HasCarried book.entries taken call.rows
-  pub wrote : Wrote call.before.output call.now.output [] read_fault
-  pub cause : HasFailed call.before.input call.now.input
+  pub wrote : Wrote call.before.output call.now.output [] text
 
--- the reads were spent; each gave a byte, at most a piece, and what they gave was carried
-pub record IsMigrationSpent {S : Type 0} (book : BookState) (call : Call S) : Type 0 where
-  pub taken : List ℕ
-  pub read : Consumes call.before.input.bytes call.now.input.bytes taken
-  pub least : MAX_OLD_READS ≤ length taken
-  pub most : length taken ≤ MAX_OLD_READS * PIECE
+-- what was taken was carried, and nothing was written
+pub record IsCarriedStill {S : Type 0} (book : BookState) (call : Call S) (taken : List ℕ)
+    : Type 0 where
   pub carried : HasCarried book.entries taken call.rows
   pub quiet : call.now.output ≡ call.before.output
-  pub calm : IsCalm call.before.input call.now.input
+
+-- the input failed: what it gave was carried, and then comes one line
+abbrev pub IsMigrationFault : {S : Type 0} → BookState → Call S → Type 0
+IsMigrationFault book call =
+    FailsBehind call.before.input call.now.input (IsCarriedThen book call read_fault)
+
+-- the reads were spent; what they gave was carried
+abbrev pub IsMigrationSpent : {S : Type 0} → BookState → Call S → Type 0
+IsMigrationSpent book call =
+    HasMadeReads call.before.input call.now.input (IsCarriedStill book call) MAX_OLD_READS
 
 -- what each way to stop says of a migration
 abbrev pub ExplainsMigration : {S : Type 0} → BookState → Call S → Stop → Type 0

@@ -1,19 +1,18 @@
 -- Where a run stands in its script.
-use Rattle.std.specs.Prelude.{◌≡◌, ℕ, ◌*◌, ◌<◌, ◌≤◌, ◌⊎◌, true, List, [], ◌++◌, length, Result, MatchResult}
-use Rattle.std.specs.Io.KnownBytes.{Consumes}
+use Rattle.std.specs.Prelude.{◌≡◌, ℕ, ◌<◌, ◌≤◌, ◌⊎◌, true, List, [], ◌++◌, length, Result, MatchResult}
 use Rattle.book_words.specs.declared.act.Entry.{Entry}
 use Rattle.script_lines.specs.declared.lines.TheConstants.{MAX_LINE}
 use Rattle.script_lines.specs.declared.command.Command.{Command}
 use Rattle.script_lines.specs.Lines.{rest_of}
 use Rattle.script_lines.specs.Feed.{FeedView, feed_after}
 use Rattle.script_lines.specs.Script.{all_good, commands_of}
-use Rattle.hall_top.specs.declared.reads.TheConstants.{PIECE}
 use Rattle.hall_top.specs.declared.stop.Offer.{Offer}
 use Rattle.hall_top.specs.declared.stop.Stop.{Stop}
 use Rattle.hall_top.specs.declared.stop.Stop.TheVariants.{Finished, BadLine, WriteFault, DiskFault, DiskFaultUnsaid, NoMemory}
 use Rattle.hall_top.specs.Texts.{disk_fault, no_memory}
 use Rattle.hall_top.specs.Transcript.{BookState, after_commands, answers, ended_lines_of, lines_of}
-use Rattle.hall_top.specs.Streams.{Stream, Devices, IsCalm, WroteAll, IsCutIn}
+use Rattle.hall_top.specs.Streams.{Stream, Devices, WroteAll, IsCutIn}
+use Rattle.hall_top.specs.Reading.{HasTaken, HasTakenMore, HasMadeReads}
 use Rattle.hall_top.specs.Run.{StopsInScript, HasLine, HasTranscript, EndsEarly}
 
 -- a run at one moment: its book, how many rows that had as it was opened, how many lines have
@@ -106,25 +105,22 @@ EndsScript book before now rows script (DiskFaultUnsaid offer) =
 EndsScript book before now rows script NoMemory = StopsOrEnds book before now rows NoMemory script
 EndsScript book before now rows script _ = ⊥
 
+-- what holds of the bytes that a run took
+abbrev pub RunHolds : BookState → Stream → Stream → RunState → List ℕ → Type 0
+RunHolds book before now run taken = Reached book before now taken run
+
 -- a run that began with these devices took these bytes of its input
-pub record RunStandsAfter {S : Type 0} (book : BookState) (before now : Devices S) (taken : List ℕ)
-    (run : RunState) : Type 0 where
-  pub read : Consumes before.input.bytes now.input.bytes taken
-  pub calm : IsCalm before.input now.input
-  pub reached : Reached book before.output now.output taken run
+abbrev pub RunStandsAfter : {S : Type 0} → BookState → Devices S → Devices S → List ℕ → RunState
+    → Type 0
+RunStandsAfter book before now taken run =
+    HasTaken before.input now.input (RunHolds book before.output now.output run) taken
 
--- it took more bytes, at most a piece
-pub record WentOn {S : Type 0} (book : BookState) (before now : Devices S) (taken : List ℕ)
-    (run : RunState) : Type 0 where
-  pub more : List ℕ
-  pub some : 0 < length more
-  pub few : length more ≤ PIECE
-  pub stands : RunStandsAfter book before now (taken ++ more) run
+-- and one read more
+abbrev pub WentOn : {S : Type 0} → BookState → Devices S → Devices S → List ℕ → RunState → Type 0
+WentOn book before now taken run =
+    HasTakenMore before.input now.input (RunHolds book before.output now.output run) taken
 
--- it took bytes in so many reads, each at least one and at most a piece
-pub record HasTaken {S : Type 0} (book : BookState) (before now : Devices S) (reads : ℕ)
-    (run : RunState) : Type 0 where
-  pub taken : List ℕ
-  pub least : reads ≤ length taken
-  pub most : length taken ≤ reads * PIECE
-  pub stands : RunStandsAfter book before now taken run
+-- so many reads of it were made
+abbrev pub RunHasRead : {S : Type 0} → BookState → Devices S → Devices S → ℕ → RunState → Type 0
+RunHasRead book before now reads run =
+    HasMadeReads before.input now.input (RunHolds book before.output now.output run) reads

@@ -1,5 +1,5 @@
 -- How a run of a script ends: what has then gone out, which rows it leaves, and why.
-use Rattle.std.specs.Prelude.{◌≡◌, ⊤, ℕ, ◌+◌, ◌*◌, ◌<◌, ◌≤◌, ◌⊎◌, Bool, true, false, List, [], ◌∷◌, ◌++◌, length, ◌==◌, ◌||◌, IsSome, IfSome, Option}
+use Rattle.std.specs.Prelude.{◌≡◌, ⊤, ℕ, ◌+◌, ◌<◌, ◌≤◌, ◌⊎◌, Bool, true, false, List, [], ◌∷◌, ◌++◌, length, ◌==◌, ◌||◌, IsSome, IfSome, Option}
 use Rattle.std.specs.Io.KnownBytes.{Consumes, IsAtEnd}
 use Rattle.device_facts.specs.Count.{Calm}
 use Rattle.disk_core.specs.declared.source.Source as source
@@ -24,6 +24,7 @@ use Rattle.hall_top.specs.declared.stop.Stop.TheVariants.{Finished, BadLine, Rea
 use Rattle.hall_top.specs.Texts.{bad_line, read_fault, disk_fault, no_memory}
 use Rattle.hall_top.specs.Transcript.{BookState, Exchange, exchange_at, after_commands, answers, transcript, StandOnce, ended_lines_of, lines_of}
 use Rattle.hall_top.specs.Streams.{Stream, Devices, devices, IsCalm, HasFailed, WroteAll, IsCutIn, Wrote}
+use Rattle.hall_top.specs.Reading.{HasMadeReads, FailsBehind}
 
 -- these are the rows that commands leave, and what was acknowledged stands among them once
 pub record AreLeft (book : BookState) (commands : List Command) (rows : List Entry) : Type 0 where
@@ -211,14 +212,24 @@ pub record IsGoodSoFar (taken : List ℕ) : Type 0 where
   pub ended : all_good (ended_lines_of taken) ≡ true
   pub begun : length (rest_of taken) ≤ MAX_LINE
 
--- status 4: the input failed; what it gave is good so far and answered, and then comes one line
-pub record IsReadFault {S : Type 0} (book : BookState) (call : Call S) : Type 0 where
-  pub taken : List ℕ
-  pub read : Consumes call.before.input.bytes call.now.input.bytes taken
+-- the bytes taken are good so far and answered, and then comes one line
+pub record IsGoodThen {S : Type 0} (book : BookState) (call : Call S) (text taken : List ℕ)
+    : Type 0 where
   pub good : IsGoodSoFar taken
   pub answered : IsAnsweredThen book call.before.output call.now.output call.rows
-      (commands_of (ended_lines_of taken)) read_fault
-  pub cause : HasFailed call.before.input call.now.input
+      (commands_of (ended_lines_of taken)) text
+
+-- the bytes taken are good so far and answered, and nothing else went out
+pub record IsGoodStill {S : Type 0} (book : BookState) (call : Call S) (taken : List ℕ)
+    : Type 0 where
+  pub good : IsGoodSoFar taken
+  pub answered : IsAnswered book call.before.output call.now.output call.rows
+      (commands_of (ended_lines_of taken))
+
+-- status 4: the input failed; what it gave is good so far and answered, and then comes one line
+abbrev pub IsReadFault : {S : Type 0} → BookState → Call S → Type 0
+IsReadFault book call =
+    FailsBehind call.before.input call.now.input (IsGoodThen book call read_fault)
 
 -- there was no memory to begin with: nothing was read, and the book's rows are left
 pub record NotBegun {S : Type 0} (book : BookState) (call : Call S) : Type 0 where
@@ -271,15 +282,9 @@ pub record IsOutOfMemory {S : Type 0} (book : BookState) (call : Call S) : Type 
 
 -- status 12: the reads were spent; each gave a byte, at most a piece, and what they gave is good so
 -- far and answered; nothing failed
-pub record IsSpent {S : Type 0} (book : BookState) (call : Call S) : Type 0 where
-  pub taken : List ℕ
-  pub read : Consumes call.before.input.bytes call.now.input.bytes taken
-  pub least : MAX_READS ≤ length taken
-  pub most : length taken ≤ MAX_READS * PIECE
-  pub good : IsGoodSoFar taken
-  pub answered : IsAnswered book call.before.output call.now.output call.rows
-      (commands_of (ended_lines_of taken))
-  pub calm : IsCalm call.before.input call.now.input
+abbrev pub IsSpent : {S : Type 0} → BookState → Call S → Type 0
+IsSpent book call =
+    HasMadeReads call.before.input call.now.input (IsGoodStill book call) MAX_READS
 
 -- what each way to stop says of a call
 abbrev pub Explains : {S : Type 0} → BookState → Call S → Stop → Type 0

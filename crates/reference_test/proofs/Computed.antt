@@ -1,10 +1,8 @@
 -- Signed numbers as the code computes them: each result goes to bits and is read again, which
 -- changes nothing where it fits.
-use Rattle.std.proofs.Common.{◌≡◌, ℕ, ◌+◌, ◌*◌, ◌^◌, ◌≤◌, ◌<◌, ℤ, pos, ◌+ℤ◌, ◌-ℤ◌, ◌*ℤ◌, ap, sym, ◌∙◌, arith, unsigned_abs, FitsSigned, ◌≤ℤ◌, ◌↔◌, IsTrue, refl}
+use Rattle.std.proofs.Common.{◌≡◌, ℕ, ◌+◌, ◌*◌, ◌^◌, ◌≤◌, ◌<◌, ℤ, pos, ◌+ℤ◌, ◌-ℤ◌, ◌*ℤ◌, ap, ◌∙◌, arith, unsigned_abs, FitsSigned, int_le, refl}
 use Rattle.std.proofs.lemmas.Int.{ints, to_z-of_z, unsigned_abs-mul, fits_signed_from_abs}
 use Rattle.std.proofs.Math.Nat.{mul-le-mul}
-use borrow.Author.Differences.{at_most_in, le-true, true_is_le, le_out}
-use lib.Signed.{le_z}
 use mir.Syntax.{Width}
 use mir.Val.{to_z, of_z, hbits}
 
@@ -64,5 +62,5 @@ pub computes_literal : (n : ℕ) → Computes (pos n) (pos n) n
 computes_literal n = record { same = refl; near = omega (arith, ints) }
 
 -- the test of two numbers is that of the numbers that they are
-pub at_most-iff : (a b a' b' : ℤ) → a' ≡ a → b' ≡ b → IsTrue (le_z a' b') ↔ (a ≤ℤ b)
-at_most-iff a b a' b' p q = rw (p, q) ((λ h. at_most_in a b (le-true a b h)), (λ h. sym (true_is_le a b (le_out a b h))))
+pub same_at_most : {a' a b' b : ℤ} → a' ≡ a → b' ≡ b → int_le a' b' ≡ int_le a b
+same_at_most {a'} {a} {b'} {b} p q = ap (λ (z : ℤ). int_le z b') p ∙ ap (λ (z : ℤ). int_le a z) q

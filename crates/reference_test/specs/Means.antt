@@ -1,5 +1,5 @@
 -- Annex II: when the mean of a list of values, in mg, is accepted.
-use Rattle.std.specs.Prelude.{ℕ, ℤ, pos, ◌+ℤ◌, ◌-ℤ◌, ◌*ℤ◌, ◌≤ℤ◌, ◌*◌, ◌<◌, ◌≤◌, ◌⊎◌, List, [], ◌∷◌, length, map, unsigned_abs}
+use Rattle.std.specs.Prelude.{ℕ, ℤ, pos, ◌+ℤ◌, ◌-ℤ◌, ◌*ℤ◌, ◌*◌, ◌≤◌, Bool, ◌&&◌, ◌||◌, nat_le, nat_lt, int_le, List, [], ◌∷◌, length, map, unsigned_abs}
 use Rattle.hall_limits.specs.declared.TheConstants.{MAX_GROSS}
 
 -- the sum of a list of whole numbers
@@ -32,50 +32,30 @@ pub record AreBounded (number : ℕ) (values squares : ℤ) : Type 0 where
   pub small : unsigned_abs values ≤ unsigned_abs MAX_GROSS * number
   pub small_squares : unsigned_abs squares ≤ unsigned_abs (square MAX_GROSS) * number
 
--- how far n values fall short of the nominal quantity, in all
-abbrev pub shortfall : List ℤ → ℤ → ℤ
-shortfall values nominal = pos (length values) *ℤ nominal -ℤ total values
-
 -- the squares of what n times each value differs from the sum, added up: n * n times the sum of the
 -- squared deviations
 abbrev pub squared_deviations : List ℤ → ℤ
 squared_deviations values =
     total (map (λ x. square (pos (length values) *ℤ x -ℤ total values)) values)
 
--- the mean reaches the nominal quantity
-abbrev pub ReachesNominal : List ℤ → ℤ → Type 0
-ReachesNominal values nominal = (pos (length values) *ℤ nominal) ≤ℤ total values
-
--- the mean falls short by no more than k standard deviations, with divisor n - 1, where k is in
--- thousandths
-abbrev pub FallsShortWithin : List ℤ → ℤ → ℕ → Type 0
-FallsShortWithin values nominal k1000 =
-    (pos 1000000 *ℤ (pos (length values) -ℤ pos 1) *ℤ square (shortfall values nominal))
-    ≤ℤ (square (pos k1000) *ℤ squared_deviations values)
-
--- the mean is accepted where it reaches the nominal quantity, or falls short by little enough
-abbrev pub MeanAccepts : List ℤ → ℤ → ℕ → Type 0
-MeanAccepts values nominal k1000 =
-    ReachesNominal values nominal
-    ⊎ ((2 ≤ length values) × (0 < k1000) × FallsShortWithin values nominal k1000)
-
--- ---- goods by volume: values are in mg, the nominal quantity is in microlitres, and a density is
--- in mg a litre, so a million times a mass is compared with a density times a volume
-
--- a million times how far n values fall short of the nominal quantity at a density, in all
-abbrev pub volume_shortfall : List ℤ → ℤ → ℕ → ℤ
-volume_shortfall values nominal density =
+-- a million times how far n values in mg fall short of the nominal quantity at a density, in all:
+-- by volume the quantity is in microlitres and the density in mg a litre; by mass a microlitre
+-- stands for a milligram, at the density of a million
+abbrev pub shortfall : List ℤ → ℤ → ℕ → ℤ
+shortfall values nominal density =
     pos (length values) *ℤ pos density *ℤ nominal -ℤ pos 1000000 *ℤ total values
 
--- the mean falls short by no more than k standard deviations, with divisor n - 1, where k is in
--- thousandths
-abbrev pub VolumeFallsShortWithin : List ℤ → ℤ → ℕ → ℕ → Type 0
-VolumeFallsShortWithin values nominal density k1000 =
-    ((pos (length values) -ℤ pos 1) *ℤ square (volume_shortfall values nominal density))
-    ≤ℤ (pos 1000000 *ℤ square (pos k1000) *ℤ squared_deviations values)
+-- whether the mean falls short by no more than k standard deviations, with divisor n - 1, where k is
+-- in thousandths
+abbrev pub falls_short_within : List ℤ → ℤ → ℕ → ℕ → Bool
+falls_short_within values nominal density k1000 =
+    int_le ((pos (length values) -ℤ pos 1) *ℤ square (shortfall values nominal density))
+    (pos 1000000 *ℤ square (pos k1000) *ℤ squared_deviations values)
 
--- the mean is accepted where it reaches the nominal quantity, or falls short by little enough
-abbrev pub VolumeMeanAccepts : List ℤ → ℤ → ℕ → ℕ → Type 0
-VolumeMeanAccepts values nominal density k1000 =
-    (volume_shortfall values nominal density ≤ℤ pos 0)
-    ⊎ ((2 ≤ length values) × (0 < k1000) × VolumeFallsShortWithin values nominal density k1000)
+-- whether the mean at a density is accepted: it reaches the nominal quantity, or falls short by
+-- little enough
+abbrev pub mean_accepts : List ℤ → ℤ → ℕ → ℕ → Bool
+mean_accepts values nominal density k1000 =
+    int_le (shortfall values nominal density) (pos 0)
+    || (nat_le 2 (length values) && nat_lt 0 k1000
+    && falls_short_within values nominal density k1000)

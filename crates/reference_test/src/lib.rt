@@ -7,7 +7,7 @@ mod means;
 mod types;
 
 pub use contents::contents_check;
-pub use means::{mean_check, mean_check_at};
+pub use means::{UNIT_DENSITY, mean_check, mean_check_at};
 pub use types::{Contents, Sums};
 
 #[cfg(test)]

@@ -79,19 +79,9 @@ impl Sums {
         self.squares += x * x;
     }
 
-    /// How far the values fall short of as many times the nominal quantity, in mg; negative where
-    /// they don't.
-    pub(crate) fn shortfall(&self, nominal: i64) -> i128
-        requires { IsNominal nominal }
-        ensures value { result ≡ pos self.now.number *ℤ nominal -ℤ self.now.sum_of_values }
-        ensures bounded { unsigned_abs result ≤ 4000000000 }
-    {
-        i128::from(self.number) * i128::from(nominal) - i128::from(self.values)
-    }
-
     /// A million times how far the values in mg fall short of as many times the nominal quantity in
     /// microlitres at a density in mg a litre; negative where they don't.
-    pub(crate) fn volume_shortfall(&self, nominal: i64, density: u32) -> i128
+    pub(crate) fn shortfall(&self, nominal: i64, density: u32) -> i128
         requires in_range { IsNominal nominal }
         requires greatest { density ≤ MAX_DENSITY }
         ensures value { result

@@ -304,7 +304,6 @@ length_behind width name rest short = length-append (name_field width name) rest
 
 -- how many bytes the fields of an act have
 length_fields : (width : ℕ) (act : Act) (signal : Option Signal) → IsActAllowed width act → length (fields_of width act signal) ≡ size_of width (kind_for act)
-length_fields width (NewDay day) signal is = refl
 length_fields width (PutProduct name nominal unit) signal is =
     length-append (name_field width name ++ eight_field nominal) (unit_code unit ∷ []) ∙ ap (λ k. k + 1) (length_behind width name (eight_field nominal) is.0)
 length_fields width (PutTare product day tare) signal is =
@@ -312,14 +311,11 @@ length_fields width (PutTare product day tare) signal is =
 length_fields width (OpenBatch batch product density) signal is =
     length-append (name_field width batch ++ name_field width product) (four density) ∙ ap (λ k. k + 4) (length_behind width batch (name_field width product) is.0 ∙ ap (λ k. 1 + width + k) (length_name width product is.1))
 length_fields width (StartLane lane batch) signal is = omega (arith, length_name width batch is.1)
-length_fields width (Weigh lane gross prior) signal is = refl
-length_fields width (StopLane lane prior) signal is = refl
-length_fields width (Void pack) signal is = refl
 length_fields width (EndRun batch) signal is = length_name width batch is
 length_fields width (Draw batch mode word) signal is = length_behind width batch (mode_code mode ∷ eight word) is
-length_fields width (Measure pack gross empty) signal is = refl
 length_fields width (DrawSecond batch word) signal is = length_behind width batch (eight word) is
 length_fields width (Close batch) signal is = length_name width batch is
+length_fields width act signal is = refl
 
 -- an act of this kind and its signal may stand in a row, and this is their text
 pub record IsBody (total width : ℕ) (kind : Kind) (told : Told) (text : List ℕ) : Type 0 where

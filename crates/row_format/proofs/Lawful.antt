@@ -1,5 +1,5 @@
 -- What is lawful behind some list may stand in a row.
-use Rattle.std.proofs.Common.{◌≡◌, inl, inr, ℕ, ℤ, pos, ◌≤◌, ◌==◌, true, not, ◌&&◌, nat_le, List, [], ◌∷◌, Option, Some, None, IsSome, is_some, is_none, option_map, int_le, length, refl, sym, subst, arith, length-take}
+use Rattle.std.proofs.Common.{◌≡◌, inl, inr, ℕ, ℤ, pos, ◌≤◌, ◌==◌, true, not, ◌&&◌, nat_le, List, Option, Some, None, IsSome, is_some, option_map, int_le, length, refl, sym, subst, arith, length-take}
 use Rattle.std.proofs.lemmas.Int.{ints}
 use Rattle.std.proofs.lemmas.Bool.{and_parts}
 use Rattle.std.proofs.lemmas.Bool.Decides.{nat_tests}
@@ -9,26 +9,19 @@ use Rattle.pack_judge.specs.declared.types.Signal.{Signal}
 use Rattle.book_words.specs.declared.name.Name.{Name}
 use Rattle.book_words.specs.declared.act.Unit as units
 use Rattle.book_words.specs.declared.act.Unit.TheVariants.{Mass, Volume}
-use Rattle.book_words.specs.declared.act.BatchState.TheVariants.{Running}
 use Rattle.book_words.specs.declared.act.Act.{Act}
 use Rattle.book_words.specs.declared.act.Act.TheVariants.{NewDay, PutProduct, PutTare, OpenBatch, StartLane, Weigh, StopLane, Void, EndRun, Draw, Measure, DrawSecond, Close}
 use Rattle.book_words.specs.declared.act.Entry.{Entry}
-use Rattle.book_words.specs.declared.refusal.Refusal.{Refusal}
 use Rattle.book_words.specs.declared.refusal.Refusal.TheVariants as why
 use Rattle.book_words.specs.NamePlaces.{is_name_length}
-use Rattle.book_words.specs.Acts.{nominal_of, unit_of, lane_batch, last_batch}
+use Rattle.book_words.specs.Acts.{unit_of, last_batch}
 use Rattle.book_words.specs.Signals.{judged_signal, recorded_signal}
 use Rattle.book_words.specs.Ranges.{IsBetween, is_act_in_range}
-use Rattle.book_words.specs.Refusals as rules
-use Rattle.book_words.specs.Refusals.{refused_if, first_refusal, refusals_of, suits_unit, is_within}
-use Rattle.book_words.specs.Answers.{ask_of}
-use Rattle.book_words.proofs.RefusalLemmas.{none_of_two, not_refused, act_rules, rules_in_range}
+use Rattle.book_words.specs.Refusals.{refused_if, suits_unit, is_within}
+use Rattle.book_words.proofs.RefusalLemmas.{not_refused, rules_in_range}
+use Rattle.book_words.proofs.AllowedActs.{IsAllowed, allowed, open_batch_tells, start_lane_tells, weigh_tells, stop_lane_tells}
+use Rattle.book_words.proofs.SaidTogether.{unit_known, was_started}
 use Rattle.row_format.specs.Allowed.{IsShort, IsLane, IsDensity, IsActAllowed, HasSignal, IsAllowedWhereLawful}
-use Rattle.row_format.proofs.Together.{unit_follows, start_follows}
-
--- no rule of its own refuses an act behind some entries
-abbrev Passes : List Entry → Act → Type 0
-Passes entries act = first_refusal (refusals_of entries act) ≡ None
 
 short : (name : Name) → IsShort NAME_BYTES name
 short name =
@@ -41,14 +34,10 @@ short name =
 between : (least greatest x : ℤ) → is_within least greatest x ≡ true → IsBetween least greatest x
 between least greatest x h = let parts = and_parts (int_le least x) (int_le x greatest) h in (grind (arith, ints), grind (arith, ints))
 
-lane_stands : (lane : ℕ) → rules.lane_number lane ≡ None → IsLane lane
+lane_stands : (lane : ℕ) → (nat_le 1 lane && nat_le lane MAX_LANE) ≡ true → IsLane lane
 lane_stands lane h =
-    let parts = and_parts (nat_le 1 lane) (nat_le lane MAX_LANE) (not_refused _ why.LaneNumber h) in
+    let parts = and_parts (nat_le 1 lane) (nat_le lane MAX_LANE) h in
     (grind (arith, nat_tests), grind (arith, nat_tests))
-
-there : {A : Type 0} (o : Option A) (refusal : Refusal) → refused_if (is_none o) refusal ≡ None → is_some o ≡ true
-there None refusal h = absurd (cc)
-there (Some x) refusal h = refl
 
 suits : (unit : units.Unit) (density : ℕ) → suits_unit unit density ≡ true → IsDensity density
 suits Mass density h = inl (grind (arith, nat_tests))
@@ -61,33 +50,21 @@ density_stands : (o : Option units.Unit) (density : ℕ) → is_some o ≡ true
 density_stands None density known h = absurd (cc)
 density_stands (Some unit) density known h = suits unit density (not_refused (suits_unit unit density) why.DensityRange h)
 
-act_stands : (entries : List Entry) (act : Act) → Passes entries act → is_act_in_range act ≡ true → IsActAllowed NAME_BYTES act
+act_stands : (entries : List Entry) (act : Act) → IsAllowed entries act → is_act_in_range act ≡ true → IsActAllowed NAME_BYTES act
 act_stands entries (NewDay day) h range = between (pos 0) MAX_DAY day range
 act_stands entries (PutProduct name nominal unit) h range = (short name, between MIN_NOMINAL MAX_NOMINAL nominal range)
 act_stands entries (PutTare product day tare) h range =
     let parts = and_parts (is_within (pos 0) MAX_DAY day) (is_within (pos 0) MAX_TARE tare) range in
     (short product, between (pos 0) MAX_DAY day parts.0, between (pos 0) MAX_TARE tare parts.1)
 act_stands entries (OpenBatch batch product density) h range =
-    let a = none_of_two (rules.day_unset entries) _ h in
-    let b = none_of_two (rules.product_unknown entries product) _ a.1 in
-    let c = none_of_two (rules.name_shape batch) _ b.1 in
-    let d = none_of_two (rules.batch_known entries batch) _ c.1 in
-    let e = none_of_two (rules.density_range entries product density) None d.1 in
-    (short batch, short product, density_stands (unit_of entries product) density (unit_follows entries product (there (nominal_of entries product) why.ProductUnknown b.0)) e.0)
+    let tells = open_batch_tells entries batch product density h in
+    (short batch, short product, density_stands (unit_of entries product) density (unit_known entries product tells.known) tells.suits)
 act_stands entries (StartLane lane batch) h range =
-    let a = none_of_two (rules.day_unset entries) _ h in
-    let b = none_of_two (rules.batch_unknown entries batch) _ a.1 in
-    let c = none_of_two (rules.batch_state (Running ∷ []) entries batch) _ b.1 in
-    let d = none_of_two (rules.lane_number lane) _ c.1 in
-    (lane_stands lane d.0, short batch)
+    (lane_stands lane (start_lane_tells entries lane batch h).number, short batch)
 act_stands entries (Weigh lane gross prior) h range =
-    let a = none_of_two (rules.day_unset entries) _ h in
-    let b = none_of_two (rules.lane_number lane) _ a.1 in
-    (lane_stands lane b.0, between (pos 0) MAX_GROSS gross range)
+    (lane_stands lane (weigh_tells entries lane gross prior h).number, between (pos 0) MAX_GROSS gross range)
 act_stands entries (StopLane lane prior) h range =
-    let a = none_of_two (rules.day_unset entries) _ h in
-    let b = none_of_two (rules.lane_number lane) _ a.1 in
-    lane_stands lane b.0
+    lane_stands lane (stop_lane_tells entries lane prior h).number
 act_stands entries (Void pack) h range = tt
 act_stands entries (EndRun batch) h range = short batch
 act_stands entries (Draw batch mode word) h range = short batch
@@ -102,17 +79,14 @@ mapped f None h = absurd (cc)
 mapped f (Some x) h = refl
 
 -- a weighing gets a signal, and nothing else does
-signal_stands : (entries : List Entry) (act : Act) → Passes entries act → HasSignal act (recorded_signal entries act)
+signal_stands : (entries : List Entry) (act : Act) → IsAllowed entries act → HasSignal act (recorded_signal entries act)
 signal_stands entries (Weigh lane gross prior) h =
-    let a = none_of_two (rules.day_unset entries) _ h in
-    let b = none_of_two (rules.lane_number lane) _ a.1 in
-    let c = none_of_two (rules.lane_idle entries lane) _ b.1 in
-    mapped (judged_signal entries (Weigh lane gross prior) gross) (last_batch entries lane) (start_follows entries lane (there (lane_batch entries lane) why.LaneIdle c.0))
+    mapped (judged_signal entries (Weigh lane gross prior) gross) (last_batch entries lane) (was_started entries lane (weigh_tells entries lane gross prior h).runs)
 signal_stands entries act h = refl
 
 pub allowed_where_lawful : IsAllowedWhereLawful
 allowed_where_lawful entries entry lawful =
-    let passes = act_rules entries (ask_of entry) entry.act lawful.rules in
+    let passes = allowed entries entry lawful in
     record {
       act = act_stands entries entry.act passes (rules_in_range entries entry.act passes);
       signal = subst (λ (o : Option Signal). HasSignal entry.act o) (sym lawful.signal) (signal_stands entries entry.act passes);

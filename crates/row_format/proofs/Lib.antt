@@ -1,5 +1,4 @@
-pub mod Filled
-pub mod Together
+pub mod FieldZeros
 pub mod Lawful
 pub mod RowReaders
 pub mod KindReaders
@@ -11,5 +10,5 @@ pub mod LowBytes
 pub mod Powers
 pub mod Loops
 pub mod Readers
-pub mod Worked
+pub mod WorkedRows
 pub mod OneEntry

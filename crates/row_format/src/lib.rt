@@ -16,6 +16,3 @@ pub use book_snapshot::{OLD_ROW_BYTES, ROW_BYTES};
 pub use read::{read_old_row, read_row};
 pub use types::{OLD_NAME_BYTES, RowFault};
 pub use write::{lawful_entries_are_allowed, rows_spell_one_entry, write_row};
-
-#[cfg(test)]
-mod tests;

@@ -1,8 +1,8 @@
 pub mod Alike
-pub mod Cutting
-pub mod Finding
+pub mod CutLemmas
+pub mod SidesOfCut
 pub mod Latest
 pub mod Least
-pub mod Reading
+pub mod PlacedEntries
 pub mod Steps
 pub mod Within

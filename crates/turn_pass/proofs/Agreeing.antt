@@ -1,26 +1,18 @@
 -- What is part of a list is part of each longer one, and of the longer of two.
-use Rattle.std.proofs.Common.{◌≡◌, ◌≢◌, ℕ, zero, suc, ◌+◌, ◌<◌, ◌≤◌, ◌-◌, Bool, true, false}
-use Rattle.std.proofs.Common.{List, [], ◌∷◌, ◌++◌, length, nat_le, All, AllPairs, refl}
-use Rattle.std.proofs.Common.{arith}
+use Rattle.std.proofs.Common.{◌≡◌, ℕ, ◌+◌, ◌<◌, ◌≤◌, ◌-◌, Bool, true, false}
+use Rattle.std.proofs.Common.{List, [], length, nat_le, All, refl, subst, arith}
 use Rattle.std.proofs.lemmas.Bool.Decides.{nat_tests}
-use Rattle.std.proofs.lemmas.List.Elements.{All-weaker}
+use Rattle.std.proofs.lemmas.List.Elements.{All-weaker, All-head}
 use Rattle.std.proofs.lemmas.Option.{slice_get_within}
-use Rattle.std.proofs.lemmas.List.Quantifiers.{all_pairs_push}
 use mathlib.Core.List.{IsPrefix}
 use Rattle.turn_pass.specs.declared.entries.Appended.{Appended}
 use Rattle.turn_pass.specs.declared.entries.Own.{Own}
 use Rattle.turn_pass.specs.declared.entries.Known.{Known}
-use Rattle.turn_pass.specs.History.{Agrees, StandsAt, Stand, EachOnce, HasNoRow, appended, own}
+use Rattle.turn_pass.specs.declared.rule.View.{View}
+use Rattle.turn_pass.specs.Rule.{Learns, hearing}
+use Rattle.turn_pass.specs.History.{Agrees, StandsAt, Stand, AllBefore, appended}
 use Rattle.turn_pass.specs.History.{longer}
 use Rattle.turn_pass.proofs.Prefixes.{prefix_self, prefix_trans, prefix_shorter, prefix_get}
-
--- a relation that holds of x and each later one, and of each two later ones
-pub pairs_cons : {A : Type 0} (R : A → A → Type 0) (x : A) (xs : List A) → All (R x) xs
-    → AllPairs R xs → AllPairs R (x ∷ xs)
-pairs_cons R x xs first rest zero zero d lt in' = absurd (omega arith)
-pairs_cons R x xs first rest zero (suc j) d lt in' = first j d (omega arith)
-pairs_cons R x xs first rest (suc i) zero d lt in' = absurd (omega arith)
-pairs_cons R x xs first rest (suc i) (suc j) d lt in' = rest i j d (omega arith) (omega arith)
 
 module _ {E : Type 0} where
   pub stand_later : (h by : ℕ) (xs ys : List (Appended E)) (mine : List (Own E)) → IsPrefix xs ys
@@ -35,18 +27,13 @@ module _ {E : Type 0} where
   agrees_later h xs ys k p is = record {
     prefix = prefix_trans k.seen xs ys is.prefix p;
     stand = stand_later h k.by xs ys k.mine p is.stand;
-    once = is.once;
+    ascend = is.ascend;
   }
 
   pub all_agree_later : (h : ℕ) (xs ys : List (Appended E)) (ks : List (Known E)) → IsPrefix xs ys
       → All (Agrees h xs) ks → All (Agrees h ys) ks
   all_agree_later h xs ys ks p =
       All-weaker (Agrees h xs) (Agrees h ys) (λ k. agrees_later h xs ys k p) ks
-
-  pub once_more : (mine : List (Own E)) (row : ℕ) (entry : E) → EachOnce mine → HasNoRow mine row
-      → EachOnce (mine ++ own row entry ∷ [])
-  once_more mine row entry once new = all_pairs_push (λ (o p : Own E). o.row ≢ p.row) mine
-      (own row entry) once new
 
   longer_is : (xs ys : List (Appended E)) (b : Bool) → nat_le (length xs) (length ys) ≡ b
       → (P : List (Appended E) → Type 0) → (length xs ≤ length ys → P ys)
@@ -75,10 +62,20 @@ module _ {E : Type 0} where
   stands_before h list row line at = let lt = slice_get_within list (row - h - 1) line at.1 in
       let h' = at.0 in omega arith
 
-  pub no_later : (h : ℕ) (list : List (Appended E)) (k : Known E) (row : ℕ) → Agrees h list k
-      → row ≡ h + length list + 1 → HasNoRow k.mine row
-  no_later h list k row is at =
+  pub all_before : (h : ℕ) (list : List (Appended E)) (k : Known E) (row : ℕ) → Agrees h list k
+      → row ≡ h + length list + 1 → AllBefore row k.mine
+  all_before h list k row is at =
       All-weaker (λ (o : Own E). StandsAt h list o.row (appended k.by o.entry))
-      (λ (o : Own E). o.row ≢ row)
-      (λ o st same. let lt = stands_before h list o.row (appended k.by o.entry) st in
-      absurd (omega arith)) k.mine is.stand
+      (λ (o : Own E). o.row < row)
+      (λ o st. let lt = stands_before h list o.row (appended k.by o.entry) st in omega arith)
+      k.mine is.stand
+
+  -- what a look shows of the one pass that was heard
+  pub heard_agrees : (v w now : View E) (h : ℕ) (list : List (Appended E)) (k : Known E)
+      → now ≡ hearing v w → w.known ≡ k → v.history ≡ h → v.known.seen ≡ list → Learns now
+      → Agrees h list k
+  heard_agrees v w now h list k is same began seen learnt =
+      let told : Learns (hearing v w) = subst Learns is learnt in
+      let agrees = All-head (Agrees v.history v.known.seen) w.known [] told.heard in
+      subst (λ (x : (ℕ × List (Appended E)) × Known E). Agrees x.0.0 x.0.1 x.1)
+      (λ i. ((began i, seen i), same i)) agrees

@@ -12,7 +12,7 @@ use Rattle.turn_pass.specs.declared.rule.View.{View}
 use Rattle.turn_pass.specs.declared.entries.Appended.{Appended}
 use Rattle.turn_pass.specs.History.{PassState, Agrees, known_of}
 use Rattle.turn_pass.specs.Rule.{with_ended}
-use Rattle.turn_pass.proofs.Counting.{All-unmap, pairs_unmap}
+use Rattle.turn_pass.proofs.Pairs.{All-unmap, pairs_unmap}
 
 module _ {E : Type 0} where
   -- those that came back stand in the book seat's view, in their order, and with those that are

@@ -3,7 +3,7 @@ use Rattle.std.proofs.Common.{◌≡◌, ◌≢◌, ℕ, zero, suc, ◌+◌, ◌
 use Rattle.std.proofs.Common.{◌∷◌, ◌++◌, length, set, slice_index, All, AllPairs, Contains}
 use Rattle.std.proofs.Common.{refl, ap, sym, subst, ◌∙◌, arith, ◌⊎◌, ⊎_elim, inl, inr}
 use Rattle.std.proofs.Common.{length-append}
-use Rattle.std.proofs.lemmas.List.Elements.{All-weaker, All-push, All-nil, All-cons, All-contains}
+use Rattle.std.proofs.lemmas.List.Elements.{All-weaker, All-nil, All-cons, All-contains}
 use Rattle.std.proofs.lemmas.List.Elements.{Contains-append_left, Contains-push}
 use Rattle.std.proofs.lemmas.Bool.Decides.{nat_tests}
 use mathlib.Core.Option.{none, some, some-injective, some-ne-none}
@@ -24,8 +24,10 @@ use Rattle.turn_pass.specs.Rule.{Learns, Looks, Appends, Sees, first_view, with_
 use Rattle.turn_pass.specs.Rule.{note_view, spent_view, hearing, meeting, ending, with_lines}
 use Rattle.turn_pass.specs.Rule.{with_mine}
 use Rattle.turn_pass.proofs.Prefixes.{prefix_self, prefix_trans}
-use Rattle.turn_pass.proofs.Agreeing.{agrees_later, all_agree_later, stand_later, once_more}
-use Rattle.turn_pass.proofs.Agreeing.{pairs_cons, longer_first, longer_second, longer_begins}
+use Rattle.turn_pass.proofs.Agreeing.{agrees_later, all_agree_later, stand_later}
+use Rattle.turn_pass.proofs.Agreeing.{longer_first, longer_second, longer_begins}
+use Rattle.turn_pass.proofs.OwnEntries.{all_with_own, ascend_more}
+use Rattle.turn_pass.proofs.Pairs.{pairs_cons, pairs_none}
 
 module _ {A : Type 0} where
   -- what holds of the element that is set, and of each other one, holds of each
@@ -140,9 +142,9 @@ module _ {E : Type 0} (h : ℕ) where
       → Agrees h v.known.seen (with_mine v (own row entry ∷ [])).known
   seen_own v row entry is at new = record {
     prefix = is.prefix;
-    stand = All-push (λ (o : Own E). StandsAt h v.known.seen o.row (appended v.known.by o.entry))
-        v.known.mine (own row entry) is.stand at;
-    once = once_more v.known.mine row entry is.once new;
+    stand = all_with_own (λ (o : Own E). StandsAt h v.known.seen o.row
+        (appended v.known.by o.entry)) v.known.mine (own row entry) is.stand at;
+    ascend = ascend_more v.known.mine (own row entry) is.ascend new;
   }
 
   own_pass : (t : Truth E) (seat : ℕ) (v : View E) (row : ℕ) (entry : E) → IsPass h t seat v
@@ -234,8 +236,7 @@ module _ {E : Type 0} (h : ℕ) where
             prefix = prefix_self ys;
             stand =
                 stand_later h v.known.by xs ys v.known.mine more is.live.known.stand;
-            once =
-                is.live.known.once;
+            ascend = is.live.known.ascend;
           };
           heard = all_agree_later h xs ys v.heard more is.live.heard;
         };
@@ -375,9 +376,6 @@ module _ {E : Type 0} (h : ℕ) where
   own_seat : (t : Truth E) (by seat : ℕ) → cond (by == by) seat (t.seat_of by) ≡ seat
   own_seat t by seat = grind (arith, nat_tests)
 
-  none_apart : AllPairs (λ (o p : Own E). o.row ≢ p.row) []
-  none_apart i j d lt in' = absurd (omega arith)
-
   new_pass : (t : Truth E) (by seat id : ℕ) (v : View E) → seat ≢ 0 → IsBook h t id v
       → IsPass h (recorded_truth t by seat) seat (pass_view v by)
   new_pass t by seat id v ne is = record {
@@ -388,8 +386,7 @@ module _ {E : Type 0} (h : ℕ) where
         prefix = prefix_self v.known.seen;
         stand =
             All-nil (λ (o : Own E). StandsAt h v.known.seen o.row (appended by o.entry));
-        once =
-            none_apart;
+        ascend = pairs_none (λ (o p : Own E). o.row < p.row);
       };
       heard = All-nil (Agrees h v.known.seen);
     };
@@ -480,7 +477,7 @@ module _ {E : Type 0} (h : ℕ) where
         live = record {
           began = is.live.began;
           seen = longer_begins xs ys t.list is.live.seen has.seen;
-          known = record { prefix = prefix_self zs; stand = mine.stand; once = mine.once };
+          known = record { prefix = prefix_self zs; stand = mine.stand; ascend = mine.ascend };
           heard = All-cons (Agrees h zs) v.known (w.known ∷ []) mine
               (All-cons (Agrees h zs) w.known [] theirs (All-nil (Agrees h zs)));
         };
@@ -596,7 +593,7 @@ module _ {E : Type 0} (h : ℕ) where
         prefix = prefix_self [];
         stand =
             All-nil (λ (o : Own E). StandsAt h [] o.row (appended 0 o.entry));
-        once = none_apart;
+        ascend = pairs_none (λ (o p : Own E). o.row < p.row);
       };
       heard = All-nil (Agrees h []);
     };

@@ -1,8 +1,8 @@
 -- What a Turn, the book seat, a pass and a note show to contracts. A row's number is its place in
 -- the whole list, from 1: the rows before the session come first, then the list that the session
 -- appends.
-use Rattle.std.specs.Prelude.{◌≡◌, ◌≢◌, ℕ, ◌-◌, ◌<◌, List, [], ◌∷◌, ◌++◌, length, nat_le}
-use Rattle.std.specs.Prelude.{if◌then◌else◌, Some, slice_get, All, AllPairs}
+use Rattle.std.specs.Prelude.{◌≡◌, ◌≢◌, ℕ, ◌+◌, ◌-◌, ◌<◌, List, [], ◌∷◌, ◌++◌, length, nat_le}
+use Rattle.std.specs.Prelude.{nat_eq, if◌then◌else◌, Some, slice_get, All, AllPairs}
 use mathlib.Core.List.{IsPrefix}
 pub use Rattle.atomic_table.specs.Seated.{TableId}
 use Rattle.turn_pass.specs.declared.entries.Appended.{Appended}
@@ -109,19 +109,37 @@ module _ {E : Type 0} where
   Stand history by list mine =
       All (λ (o : Own E). StandsAt history list o.row (appended by o.entry)) mine
 
-  -- each entry once: no two have one number
-  abbrev pub EachOnce : List (Own E) → Type 0
-  EachOnce mine = AllPairs (λ (o p : Own E). o.row ≢ p.row) mine
+  -- the entries ascend by their numbers, and so each stands once
+  abbrev pub Ascend : List (Own E) → Type 0
+  Ascend mine = AllPairs (λ (o p : Own E). o.row < p.row) mine
 
   -- no entry has this number
   abbrev pub HasNoRow : List (Own E) → ℕ → Type 0
   HasNoRow mine row = All (λ (o : Own E). o.row ≢ row) mine
 
-  -- what the pass saw begins the list, and its own entries stand there, each once
+  -- each entry has a lower number
+  abbrev pub AllBefore : ℕ → List (Own E) → Type 0
+  AllBefore row mine = All (λ (o : Own E). o.row < row) mine
+
+  -- with one entry more, at the place that its number has
+  abbrev pub with_own : List (Own E) → Own E → List (Own E)
+  with_own [] new = new ∷ []
+  with_own (o ∷ mine) new =
+      if nat_le o.row new.row then o ∷ with_own mine new else new ∷ o ∷ mine
+
+  -- all lines of the list with this `by`, in order, with their numbers
+  abbrev pub own_of : ℕ → ℕ → List (Appended E) → List (Own E)
+  own_of by history [] = []
+  own_of by history (line ∷ list) =
+      if nat_eq line.by by
+      then own (history + 1) line.entry ∷ own_of by (history + 1) list
+      else own_of by (history + 1) list
+
+  -- what the pass saw begins the list, and its own entries stand there and ascend
   pub record Agrees (history : ℕ) (list : List (Appended E)) (pass : Known E) : Type 0 where
     pub prefix : IsPrefix pass.seen list
     pub stand : Stand history pass.by list pass.mine
-    pub once : EachOnce pass.mine
+    pub ascend : Ascend pass.mine
 
   -- what a pass knows
   abbrev pub known_of : PassState E → Known E

@@ -11,7 +11,7 @@ use Rattle.turn_pass.specs.declared.entries.Known.{Known}
 use Rattle.turn_pass.specs.declared.rule.View.{View}
 use Rattle.turn_pass.specs.declared.rule.Role.{Role}
 use Rattle.turn_pass.specs.declared.rule.Role.TheVariants.{Book, Pass, Note, Spent}
-use Rattle.turn_pass.specs.History.{Agrees, longer}
+use Rattle.turn_pass.specs.History.{Agrees, longer, with_own}
 
 -- what there is: the list, the numbers of all passes that were made, and which seat each pass is, 0
 -- once it has ended
@@ -131,8 +131,12 @@ module _ {E : Type 0} where
   abbrev pub with_lines : View E → List (Appended E) → View E
   with_lines v lines = record v { known = record v.known { seen = v.known.seen ++ lines } }
 
+  abbrev pub with_each : List (Own E) → List (Own E) → List (Own E)
+  with_each mine [] = mine
+  with_each mine (o ∷ new) = with_each (with_own mine o) new
+
   abbrev pub with_mine : View E → List (Own E) → View E
-  with_mine v mine = record v { known = record v.known { mine = v.known.mine ++ mine } }
+  with_mine v mine = record v { known = record v.known { mine = with_each v.known.mine mine } }
 
   -- a load
   abbrev pub Looks : Tells E

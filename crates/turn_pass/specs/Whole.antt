@@ -3,21 +3,15 @@ use Rattle.std.specs.Prelude.{◌≡◌, ◌≢◌, ℕ, ◌+◌, ◌-◌, ◌^�
 use Rattle.std.specs.Prelude.{All, AllPairs, Contains}
 use Rattle.std.specs.List.{sum_by}
 use Rattle.turn_pass.specs.declared.entries.Appended.{Appended}
-use Rattle.turn_pass.specs.History.{BookState, PassState, Agrees, StandsAt, appended, own, known_of}
+use Rattle.turn_pass.specs.History.{BookState, PassState, Agrees, known_of, own_of}
 
 module _ {E : Type 0} where
-  -- each row of the list that has the pass's number is one of its own
-  abbrev pub HasAllOfIts : ℕ → List (Appended E) → PassState E → Type 0
-  HasAllOfIts history list pass =
-      (row : ℕ) (entry : E)
-      → StandsAt history list row (appended pass.by entry) → Contains pass.mine (own row entry)
-
-  -- the own entries of all passes are the list: they are as many, each pass has all of its number,
-  -- and no row has another number
+  -- the own entries of all passes are the list: they are as many, those of each pass are all lines
+  -- with its number, in order, and no line has another number
   pub record MakeAll (history : ℕ) (list : List (Appended E)) (passes : List (PassState E))
       : Type 0 where
     pub total : length list ≡ sum_by (λ (p : PassState E). length p.mine) passes
-    pub each : All (HasAllOfIts history list) passes
+    pub each : All (λ (p : PassState E). p.mine ≡ own_of p.by history list) passes
     pub others :
         All (λ (l : Appended E). Contains (map (λ (p : PassState E). p.by) passes) l.by) list
 

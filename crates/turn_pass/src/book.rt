@@ -2,7 +2,7 @@
 ghost use Rattle.std.specs.Prelude.{◌≡◌, ◌≢◌, ℕ, ◌+◌, ◌<◌, ◌^◌, ◌++◌, ◌∷◌, [], All, length};
 ghost use Rattle.turn_pass.specs.Whole.{IsClosed};
 ghost use Rattle.turn_pass.specs.History.{appended, newcomer, with_pass, note_of, known_of};
-ghost use Rattle.turn_pass.specs.History.{StandsAt, HasNoRow, Agrees};
+ghost use Rattle.turn_pass.specs.History.{StandsAt, HasNoRow, AllBefore, Agrees};
 ghost use mathlib.Core.List.{IsPrefix};
 ghost use Rattle.turn_pass.specs.Rule.{first_view};
 ghost use Rattle.turn_pass.specs.Seats.{book_state};
@@ -128,6 +128,7 @@ impl<E: Copy, L: Ledger, M: Ledger> BookSeat<E, L, M> {
         ensures agrees { Agrees self.old.history self.old.list (known_of pass.old) }
         ensures behind { IsPrefix pass.old.seen self.new.list }
         ensures new { HasNoRow pass.old.mine result }
+        ensures last { AllBefore result pass.old.mine }
     {
         self.hear(turn, pass);
         let number = steps::append::<E, Brand>(&turn.board, &mut self.place, pass.by(), entry);

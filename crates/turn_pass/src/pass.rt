@@ -5,7 +5,7 @@ ghost use Rattle.turn_pass.specs.Rule.{with_ended};
 ghost use mathlib.Core.List.{IsPrefix};
 ghost use Rattle.turn_pass.specs.declared.rule.Role.TheVariants.{Book, Pass};
 ghost use Rattle.turn_pass.specs.History.{appended, own, longer, known_of};
-ghost use Rattle.turn_pass.specs.History.{StandsAt, HasNoRow, Agrees};
+ghost use Rattle.turn_pass.specs.History.{StandsAt, HasNoRow, AllBefore, Agrees, with_own};
 
 use crate::closing::Closing;
 use crate::rule::{Board, Place};
@@ -125,12 +125,16 @@ impl<E: Copy, L: Ledger, M: Ledger> PassSeat<E, L, M> {
     }
 
     /// Makes the entry at this number one of the pass's own, by one load of the word. It was
-    /// appended for this pass, and the pass has seen it.
+    /// appended for this pass, and the pass has seen it. Own entries ascend by their numbers: one
+    /// that was appended after all others becomes the last.
     pub fn see(&mut self, turn: &Turn<E, L, M>, row: u32, entry: E)
         requires turn { self.old.table ≡ turn.now.table }
         requires stands { StandsAt self.old.history self.old.seen row (appended self.old.by entry) }
         requires new { HasNoRow self.old.mine row }
-        ensures pass { self.new ≡ record self.old { mine = self.old.mine ++ own row entry ∷ [] } }
+        ensures pass { self.new
+            ≡ record self.old { mine = with_own self.old.mine (own row entry) } }
+        ensures last { AllBefore row self.old.mine
+            → self.new ≡ record self.old { mine = self.old.mine ++ own row entry ∷ [] } }
         ensures agrees { Agrees self.new.history self.new.seen (known_of self.new) }
     {
         steps::see::<E, Brand>(&turn.board, &mut self.place, row, entry);

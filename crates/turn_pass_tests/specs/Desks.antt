@@ -3,10 +3,10 @@ use Rattle.std.specs.Prelude.{◌≡◌, ℕ, ◌+◌, List, [], ◌∷◌, ◌+
 use Rattle.turn_pass.specs.declared.entries.Appended.{Appended}
 use Rattle.turn_pass.specs.History.{PassState, TableId, appended, own}
 use Rattle.turn_pass.specs.declared.entries.Own.{Own}
-use Rattle.turn_pass_tests.specs.declared.desk.Row.{Row}
-use Rattle.turn_pass_tests.specs.declared.worker.Kept.{Kept}
-use Rattle.turn_pass_tests.specs.declared.desk.Answer.{Answer}
-use Rattle.turn_pass_tests.specs.declared.desk.Answer.TheVariants.{Accepted, Refused, Failed}
+use Rattle.turn_pass_tests.specs.declared.answers.Row.{Row}
+use Rattle.turn_pass_tests.specs.declared.answers.Kept.{Kept}
+use Rattle.turn_pass_tests.specs.declared.answers.Answer.{Answer}
+use Rattle.turn_pass_tests.specs.declared.answers.Answer.TheVariants.{Accepted, Refused, Failed}
 
 -- the rows of the book as lines of the list
 abbrev pub lines_of : List Row → List (Appended ℕ)

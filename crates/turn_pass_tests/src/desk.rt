@@ -4,6 +4,7 @@ ghost use mathlib.Core.List.{IsPrefix};
 ghost use Rattle.turn_pass.specs.History.{appended};
 ghost use Rattle.turn_pass_tests.specs.Desks.{answered, lines_of};
 
+use crate::answers::{Answer, Row};
 use hall_limits::MAX_ROWS;
 use std::alloc::Global;
 use std::marker::{Brand, Model, PhantomData};
@@ -28,20 +29,6 @@ impl Session for Brand {
     ghost table = { no_table };
 
     ghost history = { 0 };
-}
-
-/// A row as the book keeps it.
-#[derive(Clone, Copy)]
-pub struct Row {
-    pub by: u16,
-    pub value: u32,
-}
-
-/// What a caller is answered: the row's number, or that nothing was appended.
-pub enum Answer {
-    Accepted(u32),
-    Refused,
-    Failed,
 }
 
 /// What lies under the lock: the rows of the session, and the seat that appends.

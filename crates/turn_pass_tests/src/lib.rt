@@ -2,15 +2,14 @@
 //! one that these can know.
 #![tactic(auto)]
 
+mod answers;
+#[cfg(test)]
 mod desk;
+#[cfg(test)]
 mod gate;
+#[cfg(test)]
 mod session;
-mod worker;
-
-pub use desk::{Answer, Desk, Row, Session};
-pub use gate::Gate;
-pub use session::{Report, hold};
-pub use worker::{Answers, Kept, Worker};
-
 #[cfg(test)]
 mod tests;
+#[cfg(test)]
+mod worker;

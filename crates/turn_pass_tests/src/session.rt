@@ -4,9 +4,10 @@ ghost use Rattle.std.specs.Prelude.{◌≡◌, ◌+◌, ◌-◌, ◌^◌, ◌≤
 ghost use Rattle.std.specs.Prelude.{vec_len, vec_capacity};
 ghost use Rattle.turn_pass_tests.specs.Desks.{IsNew};
 
-use crate::desk::{Desk, Row, Session};
+use crate::answers::{Kept, Row};
+use crate::desk::{Desk, Session};
 use crate::gate::Gate;
-use crate::worker::{Answers, Kept, Worker};
+use crate::worker::{Answers, Worker};
 use std::alloc::Global;
 use std::marker::Brand;
 use std::sync::ledger::{Blank, Ledger};

@@ -2,7 +2,7 @@
 ghost use Rattle.std.specs.Prelude.{◌≡◌, ◌+◌, ◌∷◌, [], IfOk};
 ghost use Rattle.turn_pass.specs.History.{appended, own};
 
-use crate::{Report, hold};
+use crate::session::{Report, hold};
 use hall_limits::MAX_ROWS;
 use std::alloc::Global;
 use std::marker::Brand;

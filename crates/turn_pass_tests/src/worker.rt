@@ -4,20 +4,14 @@ ghost use mathlib.Core.List.{IsPrefix};
 ghost use Rattle.turn_pass.specs.History.{own};
 ghost use Rattle.turn_pass_tests.specs.Desks.{own_of};
 
-use crate::desk::{Answer, Desk, Session};
+use crate::answers::{Answer, Kept};
+use crate::desk::{Desk, Session};
 use crate::gate::Gate;
 use std::alloc::Global;
 use std::marker::{Model, PhantomData};
 use std::sync::ledger::Ledger;
 use std::sync::{Mutex, Wait};
 use turn_pass::{PassSeat, Turn};
-
-/// An accepted row, as its caller was answered.
-#[derive(Clone, Copy)]
-pub struct Kept {
-    pub row: u32,
-    pub value: u32,
-}
 
 /// All that a caller was answered.
 #[derive(Drop)]

@@ -5,7 +5,7 @@ use Rattle.std.proofs.lemmas.Option.{slice_get_read}
 use Rattle.balanced_tree.specs.Trees.{items}
 use Rattle.batch_sums.specs.Groups.{Face, face_of, faces, rank_of}
 use Rattle.batch_sums.proofs.Faces.{face-at}
-use Rattle.batch_sums.proofs.Opening.{All-found, absent_behind, absent_other}
+use Rattle.batch_sums.proofs.NewGroups.{All-found, absent_behind, absent_other}
 use Rattle.batch_sums.proofs.order.find.Goals as goal
 
 pub returns-in_default-clause-none : goal.returns-in_default-clause-none

@@ -3,8 +3,8 @@ use Rattle.std.proofs.lemmas.List.{length-map, map-append}
 use Rattle.balanced_tree.specs.Trees.{items}
 use Rattle.batch_sums.specs.declared.group.Group.{Group}
 use Rattle.batch_sums.specs.Groups.{Face, face_of, faces, nth_rank, rank_of}
-use Rattle.batch_sums.proofs.Rising.{below}
-use Rattle.batch_sums.proofs.Opening.{index_made}
+use Rattle.batch_sums.proofs.OrderLemmas.{below}
+use Rattle.batch_sums.proofs.NewGroups.{index_made}
 use Rattle.batch_sums.proofs.order.open_group.Goals as goal
 
 pub returns-clause-index : goal.returns-clause-index

@@ -3,9 +3,9 @@ use Rattle.disk_core.specs.Disk.{Only}
 use Rattle.book_journal.specs.declared.layout.TheConstants.{CLOSED}
 use Rattle.book_journal.specs.Rows.{Recovers, gate_behind}
 use Rattle.book_journal.specs.Mounting.{stands_closed, closed_behind}
-use Rattle.book_journal.proofs.Ending.{ending_moments, closed_written, still_recovers}
+use Rattle.book_journal.proofs.EndGates.{ending_moments, closed_written, still_recovers}
 use Rattle.book_journal.proofs.Moments.{leaves_on, unmoved_leaves}
-use Rattle.book_journal.proofs.Standing.{settles_at}
+use Rattle.book_journal.proofs.JournalSteps.{settles_at}
 use Rattle.book_journal.proofs.closing.close_behind.Goals as goal
 
 pub returns-in_err-settle-clause-moments : goal.returns-in_err-settle-clause-moments

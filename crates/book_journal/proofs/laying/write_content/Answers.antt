@@ -6,7 +6,7 @@ use Rattle.book_journal.specs.declared.blocks.TheConstants.{BLOCKS_BYTES}
 use Rattle.book_journal.specs.Laying.{all_done}
 use Rattle.book_journal.proofs.BehindGate.{behind_none, behind_one, behind_both, behind_err, behind_as, blocks_before, piece_within, before_piece, behind_pieces, one_piece}
 use Rattle.book_journal.proofs.Journals.{told_before, tells_on}
-use Rattle.book_journal.proofs.Overwritten.{overwritten_size}
+use Rattle.book_journal.proofs.ByteWrites.{overwritten_size}
 use Rattle.book_journal.proofs.laying.write_content.Goals as goal
 
 pub loop-piece-init : goal.loop-piece-init

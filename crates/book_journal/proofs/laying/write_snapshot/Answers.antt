@@ -8,7 +8,7 @@ use Rattle.book_journal.specs.Rows.{gate_behind}
 use Rattle.book_journal.specs.Marking.{behind_closed_gate}
 use Rattle.book_journal.proofs.BehindGate.{behind_one, behind_both, behind_err, behind_as, behind_at}
 use Rattle.book_journal.proofs.Journals.{told_before}
-use Rattle.book_journal.proofs.Overwritten.{overwritten_size}
+use Rattle.book_journal.proofs.ByteWrites.{overwritten_size}
 use Rattle.book_journal.proofs.laying.write_snapshot.Goals as goal
 
 abbrev front : ℕ → ℕ → List ℕ

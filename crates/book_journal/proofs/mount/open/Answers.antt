@@ -2,7 +2,7 @@ use Rattle.std.proofs.Common.{◌∙◌, ◌≤◌, inr, ℕ, List, length, refl
 use Rattle.book_snapshot.specs.declared.layout.TheConstants.{MARK, ROW_BYTES}
 use Rattle.book_journal.specs.declared.layout.TheConstants.{NEW_BYTES}
 use Rattle.book_journal.specs.Rows.{Recovers}
-use Rattle.book_journal.proofs.Ending.{still_recovers}
+use Rattle.book_journal.proofs.EndGates.{still_recovers}
 use Rattle.book_journal.proofs.Fronts.{front_read, header_read, difference_read, no_header}
 use Rattle.book_journal.proofs.OpenEnds.{short_none}
 use Rattle.book_journal.proofs.Moments.{leaves_on, leaves_in, unmoved_by, unmoved_on, unmoved_leaves}

@@ -2,9 +2,9 @@ use Rattle.std.proofs.Common.{◌≡◌, ◌∙◌, inr, ℕ, List, [], length, 
 use Rattle.disk_core.specs.Disk.{Only}
 use Rattle.book_journal.specs.Rows.{Recovers}
 use Rattle.book_journal.specs.Mounting.{new_journal}
-use Rattle.book_journal.proofs.Overwritten.{overwritten_end}
+use Rattle.book_journal.proofs.ByteWrites.{overwritten_end}
 use Rattle.book_journal.proofs.Moments.{started, goes_on}
-use Rattle.book_journal.proofs.Standing.{settles_at}
+use Rattle.book_journal.proofs.JournalSteps.{settles_at}
 use Rattle.book_journal.proofs.scan.create.Goals as goal
 
 pub returns-in_err-settle-clause-moments : goal.returns-in_err-settle-clause-moments

@@ -3,7 +3,7 @@ use Rattle.book_journal.specs.declared.layout.TheConstants.{MAX_SLOTS}
 use Rattle.book_journal.specs.Rows.{Recovers, open_rows, starts_open, gate_behind}
 use Rattle.book_journal.specs.Mounting.{rows_before}
 use Rattle.book_journal.specs.Closing.{IsFull}
-use Rattle.book_journal.proofs.Ending.{still_recovers, still_behind}
+use Rattle.book_journal.proofs.EndGates.{still_recovers, still_behind}
 use Rattle.book_journal.proofs.OpenEnds.{journal_of, first_within, counted_within, slots_counted, rows_are_counted}
 use Rattle.book_journal.proofs.Moments.{leaves_on, unmoved_leaves, unmoved_on}
 use Rattle.book_journal.proofs.scan.scan.Goals as goal

@@ -1,5 +1,5 @@
 use Rattle.std.proofs.Common.{sym, ◌∙◌}
-use Rattle.book_packs.proofs.Adding.{picked_is_added}
+use Rattle.book_packs.proofs.AddedNumbers.{picked_is_added}
 use Rattle.book_packs.proofs.settling.sample_one.Goals as goal
 
 pub shift-requires : goal.shift-requires

@@ -1,5 +1,5 @@
 use Rattle.std.proofs.Common.{sym, ◌∙◌}
-use Rattle.book_packs.proofs.Adding.{leaving_is_added}
+use Rattle.book_packs.proofs.AddedNumbers.{leaving_is_added}
 use Rattle.book_packs.proofs.settling.settle.Goals as goal
 
 pub shift-requires : goal.shift-requires

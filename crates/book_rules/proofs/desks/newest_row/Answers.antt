@@ -1,5 +1,5 @@
 use Rattle.std.proofs.Common.{sym, ◌∙◌}
-use Rattle.book_rules.proofs.Rows.{newest_by_number, newest_is_there}
+use Rattle.book_rules.proofs.NewestRows.{newest_by_number, newest_is_there}
 use Rattle.book_rules.proofs.desks.newest_row.Goals as goal
 
 pub returns-in_err-entry : goal.returns-in_err-entry

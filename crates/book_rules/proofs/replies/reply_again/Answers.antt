@@ -1,5 +1,5 @@
 use Rattle.std.proofs.Common.{sym, ◌∙◌}
-use Rattle.book_rules.proofs.Repeating.{repeated_holds, held_known, told_again_as}
+use Rattle.book_rules.proofs.ReplyLemmas.{repeated_holds, held_known, told_again_as}
 use Rattle.book_rules.proofs.replies.reply_again.Goals as goal
 
 pub unreachable-requires : goal.unreachable-requires

@@ -1,7 +1,7 @@
 use Rattle.std.proofs.Common.{◌∙◌, ap, ◌+◌, length, Option}
 use Rattle.pack_judge.specs.declared.types.Signal.{Signal}
 use Rattle.book_rules.specs.Replying.{reply_with}
-use Rattle.book_rules.proofs.Repeating.{told_new}
+use Rattle.book_rules.proofs.ReplyLemmas.{told_new}
 use Rattle.book_rules.proofs.replies.reply_new.Goals as goal
 
 pub returns : goal.returns

@@ -7,8 +7,8 @@ use Rattle.pack_judge.specs.Judge.{signal_of}
 use Rattle.book_words.specs.declared.act.Act.TheVariants.{Weigh}
 use Rattle.book_packs.specs.Stand.{limits_told}
 use Rattle.book_packs.specs.Told.{met_at}
-use Rattle.book_laws.proofs.TareLaws.{some_is}
-use Rattle.book_rules.proofs.Judging.{judged}
+use Rattle.std.proofs.lemmas.Option.{same_Some}
+use Rattle.book_rules.proofs.SignalLemmas.{judged}
 use Rattle.book_rules.proofs.signals.judge.Goals as goal
 
 pub unreachable-requires : goal.unreachable-requires
@@ -23,7 +23,7 @@ returns c =
     let net : FitsSigned w64 c.net_on.result = search rules in
     let gross = to_z-of_z w64 c.args.gross c.ranges.gross in
     judged entries batch c.args.gross (Weigh c.args.lane c.args.gross c.args.prior) c.in-Some.limits met c.net_on.result c.signal.result
-    (some_is c.in-Some.limits (limits_told entries batch) (sym c.in-Some.is ∙ c.lane_limits.ensures ∙ ap (option_map (limits_told entries)) c.requires.lane))
+    (same_Some c.in-Some.limits (limits_told entries batch) (sym c.in-Some.is ∙ c.lane_limits.ensures ∙ ap (option_map (limits_told entries)) c.requires.lane))
     (c.net_on.ensures
     ∙ ap (net_of_gross entries (lane_batch entries c.args.lane) (newest_day entries)) gross
     ∙ ap (λ (b : Option Name). net_of_gross entries b (newest_day entries) c.args.gross) c.requires.lane)

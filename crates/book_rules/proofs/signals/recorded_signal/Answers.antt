@@ -2,7 +2,7 @@ use Rattle.std.proofs.Common.{rules, sym, ◌∙◌, ap, ℤ, FitsSigned, w64}
 use Rattle.std.proofs.lemmas.Int.{to_z-of_z}
 use Rattle.book_words.specs.declared.act.Act.TheVariants.{Weigh}
 use Rattle.book_words.specs.Signals.{judged_signal}
-use Rattle.book_rules.proofs.Judging.{recorded}
+use Rattle.book_rules.proofs.SignalLemmas.{recorded}
 use Rattle.book_rules.proofs.signals.recorded_signal.Goals as goal
 
 pub returns : goal.returns

@@ -1,4 +1,4 @@
-use Rattle.book_samples.proofs.Fitting.{second_fits}
+use Rattle.book_samples.proofs.PickCounts.{second_fits}
 use Rattle.book_samples.proofs.drawing.draw_second.Goals as goal
 
 pub draw_more-requires-clause-enough : goal.draw_more-requires-clause-enough

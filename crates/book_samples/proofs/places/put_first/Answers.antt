@@ -1,6 +1,6 @@
 use Rattle.std.proofs.Common.{Some, Option}
 use Rattle.book_words.specs.Samples.{Sample}
-use Rattle.book_samples.proofs.Changing.{change-past, change-written}
+use Rattle.book_samples.proofs.ListChanges.{change-past, change-written}
 use Rattle.book_samples.proofs.places.put_first.Goals as goal
 
 pub returns-then-place-drawn : goal.returns-then-place-drawn

@@ -1,7 +1,7 @@
 use Rattle.std.proofs.Common.{◌∙◌, ap, set, Option}
 use Rattle.book_words.specs.Samples.{Sample}
 use Rattle.book_samples.specs.Changed.{with_second}
-use Rattle.book_samples.proofs.Changing.{change-past, change-written}
+use Rattle.book_samples.proofs.ListChanges.{change-past, change-written}
 use Rattle.book_samples.proofs.places.put_second.Goals as goal
 
 pub returns-then-place-drawn : goal.returns-then-place-drawn

@@ -2,7 +2,7 @@ use Rattle.std.proofs.Common.{◌≡◌, ◌∙◌, ◌+◌, ◌-◌, ◌*◌, �
 use Rattle.book_snapshot.specs.declared.layout.TheConstants.{ROW_BYTES, BLOCK_HEAD, BLOCK_CONTENT}
 use Rattle.book_snapshot.specs.Layout.{blocks_for}
 use Rattle.book_snapshot.specs.BlockLaws.{block_content-none}
-use Rattle.book_snapshot.proofs.Placing.{content_taken, block_within, room_blocks}
+use Rattle.book_snapshot.proofs.BlockPlaces.{content_taken, block_within, room_blocks}
 use Rattle.book_snapshot.proofs.blocks.content_of_blocks.Goals as goal
 
 take_none : (n : ℕ) → take {A = ℕ} n [] ≡ []

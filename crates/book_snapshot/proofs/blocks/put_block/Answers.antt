@@ -1,5 +1,5 @@
 use Rattle.std.proofs.Common.{◌∙◌}
-use Rattle.book_snapshot.proofs.Placing.{block_put}
+use Rattle.book_snapshot.proofs.BlockPlaces.{block_put}
 use Rattle.book_snapshot.proofs.blocks.put_block.Goals as goal
 
 pub returns : goal.returns

@@ -1,7 +1,7 @@
 use Rattle.std.proofs.Common.{◌<◌, sym, arith, length}
 use Rattle.book_snapshot.specs.Layout.{blocks_for}
 use Rattle.book_snapshot.specs.BlockLaws.{content_blocks-none}
-use Rattle.book_snapshot.proofs.Placing.{blocks_put, block_within, room_blocks}
+use Rattle.book_snapshot.proofs.BlockPlaces.{blocks_put, block_within, room_blocks}
 use Rattle.book_snapshot.proofs.blocks.put_blocks.Goals as goal
 
 pub loop-block-init : goal.loop-block-init

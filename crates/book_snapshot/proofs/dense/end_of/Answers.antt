@@ -1,5 +1,5 @@
 use Rattle.std.proofs.Common.{arith}
-use Rattle.book_snapshot.proofs.Trimmed.{trimmed_at}
+use Rattle.book_snapshot.proofs.EndZeros.{trimmed_at}
 use Rattle.book_snapshot.proofs.dense.end_of.Goals as goal
 
 pub returns-clause-trimmed : goal.returns-clause-trimmed

@@ -1,6 +1,6 @@
 use Rattle.std.proofs.Common.{◌∙◌, sym, subst, refl}
 use Rattle.book_packs.specs.Entering.{IsDraw}
-use Rattle.book_state.proofs.Entered.{there, drawn_batch, is_draw}
+use Rattle.book_state.proofs.EntryFacts.{there, drawn_batch, is_draw}
 use Rattle.book_state.proofs.entering.draw.Goals as goal
 
 pub unreachable-requires : goal.unreachable-requires

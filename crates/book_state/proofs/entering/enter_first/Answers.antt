@@ -1,6 +1,6 @@
 use Rattle.std.proofs.Common.{◌∙◌, sym, refl}
 use Rattle.book_words.specs.declared.act.Act.TheVariants.{Draw}
-use Rattle.book_state.proofs.Entered.{there, drawn_batch, is_first_draw}
+use Rattle.book_state.proofs.EntryFacts.{there, drawn_batch, is_first_draw}
 use Rattle.book_state.proofs.entering.enter_first.Goals as goal
 
 pub unreachable-requires : goal.unreachable-requires

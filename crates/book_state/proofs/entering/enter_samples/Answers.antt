@@ -1,6 +1,6 @@
 use Rattle.std.proofs.Common.{◌≡◌, inl, inr, ap, false}
 use Rattle.book_samples.specs.Kept.{is_of_samples}
-use Rattle.book_samples.proofs.Keeping.{stands_on}
+use Rattle.book_samples.proofs.SampleLemmas.{stands_on}
 use Rattle.book_state.proofs.entering.enter_samples.Goals as goal
 
 pub returns-in-OpenBatch-clause-kept : goal.returns-in-OpenBatch-clause-kept

@@ -1,7 +1,7 @@
 use Rattle.std.proofs.Common.{◌∙◌, sym, ap, refl, List, [], ℕ, Option}
 use Rattle.std.specs.Option.{unwrap_or}
 use Rattle.book_words.specs.declared.act.Act.TheVariants.{DrawSecond}
-use Rattle.book_state.proofs.Entered.{there, drawn_batch, is_second_draw, second_there}
+use Rattle.book_state.proofs.EntryFacts.{there, drawn_batch, is_second_draw, second_there}
 use Rattle.book_state.proofs.entering.enter_second.Goals as goal
 
 pub unreachable-requires : goal.unreachable-requires

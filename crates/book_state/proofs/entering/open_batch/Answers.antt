@@ -10,7 +10,7 @@ use Rattle.book_words.specs.Ranges.{IsBetween}
 use Rattle.book_index.specs.declared.types.ProductTerms.{ProductTerms}
 use Rattle.book_packs.specs.Densities.{limits_at}
 use Rattle.book_laws.proofs.RangeLaws.{nominal_within}
-use Rattle.book_state.proofs.Entered.{there, opened_nominal, opened_product}
+use Rattle.book_state.proofs.EntryFacts.{there, opened_nominal, opened_product}
 use Rattle.book_state.proofs.entering.open_batch.Goals as goal
 
 pub unreachable-requires : goal.unreachable-requires

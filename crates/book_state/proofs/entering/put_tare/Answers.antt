@@ -1,6 +1,6 @@
 use Rattle.std.proofs.Common.{◌∙◌, sym}
 use Rattle.book_packs.specs.Entering.{IsTarePut}
-use Rattle.book_state.proofs.Entered.{there, tare_product}
+use Rattle.book_state.proofs.EntryFacts.{there, tare_product}
 use Rattle.book_state.proofs.entering.put_tare.Goals as goal
 
 pub unreachable-requires : goal.unreachable-requires

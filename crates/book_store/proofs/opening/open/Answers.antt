@@ -2,7 +2,7 @@ use Rattle.std.proofs.Common.{◌≡◌, ◌∙◌, sym, subst, List, ap}
 use Rattle.book_words.specs.declared.act.Entry.{Entry}
 use Rattle.book_words.specs.Answers.{IsLegal}
 use Rattle.book_core.specs.View.{BookView}
-use Rattle.book_store.proofs.Reading.{none_legal}
+use Rattle.book_store.proofs.OneMoreRow.{none_legal}
 use Rattle.book_store.proofs.opening.open.Goals as goal
 
 pub returns-in-Ok : goal.returns-in-Ok

@@ -5,7 +5,7 @@ use Rattle.book_journal.specs.Mounting.{rows_before}
 use Rattle.book_journal.specs.Rows.{gate_behind}
 use Rattle.book_store.specs.Opening.{HasRead, ReadsOn, rows_there}
 use Rattle.book_store.proofs.Exits.{handed_on, grows_on, read_on, count_kept}
-use Rattle.book_store.proofs.Reading.{read_start}
+use Rattle.book_store.proofs.OneMoreRow.{read_start}
 use Rattle.book_store.proofs.Walks.{slots_behind_snapshot}
 use Rattle.book_store.proofs.opening.read_rows.Goals as goal
 

@@ -2,7 +2,7 @@ use Rattle.std.proofs.Common.{sym, subst, List}
 use Rattle.book_words.specs.declared.act.Entry.{Entry}
 use Rattle.book_words.specs.Answers.{IsLegal}
 use Rattle.book_store.specs.Opening.{HasRead}
-use Rattle.book_store.proofs.Reading.{read_more, same_ok}
+use Rattle.book_store.proofs.OneMoreRow.{read_more, same_ok}
 use Rattle.book_store.proofs.replay.replay_row.Goals as goal
 
 pub returns-in-Ok-replay-clause-reads : goal.returns-in-Ok-replay-clause-reads

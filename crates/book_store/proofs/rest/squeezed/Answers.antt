@@ -1,6 +1,6 @@
 use Rattle.std.proofs.Common.{rules, ◌≡◌, ◌<◌, length, sym, ◌∙◌}
 use Rattle.book_snapshot.specs.declared.layout.TheConstants.{ROW_BYTES}
-use Rattle.book_store.proofs.Squeezing.{allowed_at, squeezed_more}
+use Rattle.book_store.proofs.DenseContent.{allowed_at, squeezed_more}
 use Rattle.book_store.proofs.rest.squeezed.Goals as goal
 
 pub write_row-requires : goal.write_row-requires

@@ -1,4 +1,4 @@
-use Rattle.book_store.proofs.Squeezing.{IsSqueezed}
+use Rattle.book_store.proofs.DenseContent.{IsSqueezed}
 use Rattle.book_store.proofs.rest.squeezed.Given as goal
 
 abbrev pub invariant-loop-before : goal.invariant-loop-before

@@ -3,7 +3,7 @@ use Rattle.std.proofs.lemmas.Int.{ints}
 use Rattle.hall_limits.specs.declared.TheConstants.{MAX_GROSS, MAX_TARE}
 use Rattle.annex_tables.specs.declared.types.Mode.{Mode}
 use Rattle.reference_test.proofs.Computed.{computes_read, computes_difference}
-use Rattle.book_views.proofs.Packing.{contents_by, known_contents}
+use Rattle.book_views.proofs.ContentsLemmas.{contents_by, known_contents}
 use Rattle.book_views.proofs.contents.contents_of.Goals as goal
 
 pub returns-in-Keep-clause-value : goal.returns-in-Keep-clause-value

@@ -1,7 +1,7 @@
 use Rattle.std.proofs.Common.{◌≡◌, ◌∙◌, sym, ap, arith, ◌+◌, ◌≤◌, Bool, true, false, cond, take, refl}
 use mir.Val.{bool_byte}
 use Rattle.book_words.specs.Measures.{defective_count}
-use Rattle.book_views.proofs.Packing.{defective-more}
+use Rattle.book_views.proofs.ContentsLemmas.{defective-more}
 use Rattle.book_views.proofs.contents.count_defective.Goals as goal
 
 one_if : (b : Bool) → bool_byte b ≡ cond b 1 0

@@ -2,7 +2,7 @@ use Rattle.std.proofs.Common.{refl, sym, ◌∙◌, ap, arith, lit<, ℤ, ◌≤
 use Rattle.std.proofs.lemmas.Int.{ints, to_z-of_z}
 use Rattle.hall_limits.specs.declared.TheConstants.{MAX_GROSS}
 use Rattle.reference_test.proofs.Computed.{again, computes_read}
-use Rattle.book_views.proofs.Packing.{defective_by}
+use Rattle.book_views.proofs.ContentsLemmas.{defective_by}
 use Rattle.book_views.proofs.contents.is_defective.Goals as goal
 
 pub returns-in-Some : goal.returns-in-Some

@@ -2,7 +2,7 @@ use Rattle.std.proofs.Common.{◌∙◌, sym, ap, arith, [], ◌++◌, take}
 use Rattle.std.specs.List.{cons_option}
 use Rattle.reference_test.specs.Means.{sums_of}
 use Rattle.book_words.specs.Measures.{contents_among}
-use Rattle.book_views.proofs.Packing.{contents-more}
+use Rattle.book_views.proofs.ContentsLemmas.{contents-more}
 use Rattle.book_views.proofs.contents.sum_contents.Goals as goal
 
 pub loop-pack-preserved : goal.loop-pack-preserved

@@ -1,6 +1,6 @@
 use Rattle.std.proofs.Common.{sym, ◌∙◌}
-use Rattle.book_laws.proofs.KnownLaws.{density_known}
-use Rattle.book_views.proofs.Known.{never_none, density_suits, volume_within}
+use Rattle.book_words.proofs.SaidTogether.{density_known}
+use Rattle.book_views.proofs.BatchFacts.{never_none, density_suits, volume_within}
 use Rattle.book_views.proofs.limits.density_of_batch.Goals as goal
 
 pub unreachable-requires-in_default-density : goal.unreachable-requires-in_default-density

@@ -1,5 +1,5 @@
 use Rattle.std.proofs.Common.{sym, ◌∙◌}
-use Rattle.book_views.proofs.Known.{never_none, nominal_there}
+use Rattle.book_views.proofs.BatchFacts.{never_none, nominal_there}
 use Rattle.book_views.proofs.limits.nominal_of_batch.Goals as goal
 
 pub unreachable-requires-in_default-nominal : goal.unreachable-requires-in_default-nominal

@@ -1,7 +1,7 @@
 use Rattle.std.proofs.Common.{◌≡◌, sym, ◌∙◌, ap, arith, [], length, option_copied}
 use Rattle.std.specs.Option.{unwrap_or}
 use Rattle.book_words.specs.Verdicts.{second_packs}
-use Rattle.book_views.proofs.Known.{second_few}
+use Rattle.book_views.proofs.BatchFacts.{second_few}
 use Rattle.book_views.proofs.verdicts.count_second.Goals as goal
 
 pub count_defective-requires-clause-few : goal.count_defective-requires-clause-few

@@ -4,7 +4,7 @@ use Rattle.annex_tables.specs.declared.types.Limits.{Limits}
 use Rattle.pack_judge.specs.Judge.{class_of}
 use Rattle.book_words.specs.Classes.{density_of_batch, limits_of_batch}
 use Rattle.book_packs.proofs.Below.{class_is}
-use Rattle.book_views.proofs.Known.{told_limits}
+use Rattle.book_views.proofs.BatchFacts.{told_limits}
 use Rattle.book_views.proofs.views.class_in.Goals as goal
 
 pub returns : goal.returns

@@ -8,8 +8,8 @@ use Rattle.book_words.specs.Population.{readings_of_batch}
 use Rattle.book_words.specs.Piles.{tally}
 use Rattle.book_words.specs.Classes.{limits_of_batch}
 use Rattle.book_views.specs.Tallies.{IsTally, all_of}
-use Rattle.book_views.proofs.Adding.{batch_tally, tally_of_piles}
-use Rattle.book_views.proofs.Viewing.{nominal_by_product}
+use Rattle.book_views.proofs.PileLemmas.{batch_tally, tally_of_piles}
+use Rattle.book_views.proofs.ViewLemmas.{nominal_by_product}
 use Rattle.book_views.proofs.views.fill_sheet.Goals as goal
 
 pub error_of-requires : goal.error_of-requires

@@ -4,7 +4,7 @@ use Rattle.batch_sums.specs.declared.types.Piles.{Piles}
 use Rattle.book_words.specs.Readings.{readings}
 use Rattle.book_words.specs.Piles.{tally}
 use Rattle.book_views.specs.Tallies.{IsTally, all_of}
-use Rattle.book_views.proofs.Adding.{hall_tally, tally_of_piles}
+use Rattle.book_views.proofs.PileLemmas.{hall_tally, tally_of_piles}
 use Rattle.book_views.proofs.views.summarize.Goals as goal
 
 pub add_up-requires-clause-passed : goal.add_up-requires-clause-passed

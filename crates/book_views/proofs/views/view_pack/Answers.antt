@@ -5,8 +5,8 @@ use Rattle.reference_test.proofs.Computed.{computes_read, computes_difference}
 use Rattle.book_words.specs.Acts.{product_of}
 use Rattle.book_words.specs.Classes.{class_in_batch}
 use Rattle.book_state.specs.declared.types.KnownPack.{KnownPack}
-use Rattle.book_views.proofs.Known.{never_none}
-use Rattle.book_views.proofs.Viewing.{known_view, pack_product}
+use Rattle.book_views.proofs.BatchFacts.{never_none}
+use Rattle.book_views.proofs.ViewLemmas.{known_view, pack_product}
 use Rattle.book_views.proofs.views.view_pack.Goals as goal
 
 pub returns-in_err-product-clause-there : goal.returns-in_err-product-clause-there

@@ -1,6 +1,6 @@
 use Rattle.std.proofs.Common.{rules, arith, subst, sym, ◌≡◌, ◌+◌, ◌≤◌, ◌<◌, ◌∙◌, length, take, drop}
 use Rattle.std.proofs.lemmas.Result.{IfOk-at_ok}
-use Rattle.file_disk.proofs.Reading.{full, ended, further}
+use Rattle.file_disk.proofs.BufferPieces.{full, ended, further}
 use Rattle.file_disk.proofs.transfer.fill.Goals.{in-Ok, in-Err}
 use Rattle.file_disk.proofs.transfer.fill.Goals as goal
 

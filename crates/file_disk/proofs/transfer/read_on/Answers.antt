@@ -1,5 +1,5 @@
 use Rattle.std.proofs.Common.{rules, ◌≡◌, ◌+◌, ◌-◌, length}
-use Rattle.file_disk.proofs.Reading.{read_ended}
+use Rattle.file_disk.proofs.BufferPieces.{read_ended}
 use Rattle.file_disk.proofs.transfer.read_on.Goals as goal
 
 pub returns-clause-end : goal.returns-clause-end

@@ -1,11 +1,12 @@
 use Rattle.std.proofs.Common.{[], Ok, Err, refl, ◌∙◌, arith}
 use Rattle.hall_top.specs.Books.{stored_book}
-use Rattle.hall_top.specs.Streams.{devices}
-use Rattle.hall_top.specs.Migration.{migration_state}
+use Rattle.hall_top.specs.Streams.{input_at, output_at, devices}
+use Rattle.hall_top.specs.Migration.{MigrationHolds, migration_state}
 use Rattle.hall_top.specs.declared.stop.Stop.TheVariants.{Spent}
 use Rattle.hall_top.proofs.Keeping.{on_unfinished}
 use Rattle.hall_top.proofs.Going.{goes_on, goes_as, goes_with, stays}
-use Rattle.hall_top.proofs.Migrating.{migration_begins, carried_reads_more, migration_spent}
+use Rattle.hall_top.proofs.Migrating.{migration_begins, migration_spent}
+use Rattle.hall_top.proofs.ReadingLemmas.{read_once_more}
 use Rattle.hall_top.proofs.migrate.read_all.Goals as goal
 
 pub loop-turn-init : goal.loop-turn-init
@@ -14,7 +15,7 @@ loop-turn-init g c = record {
     taken = [];
     least = omega arith;
     most = omega arith;
-    stands = migration_begins (stored_book c.args.migration.now.store) (devices g.S.Source g.K.Sink c.args.input.now c.args.output.now) (migration_state c.args.migration.now) c.requires.begun refl;
+    all = migration_begins (stored_book c.args.migration.now.store) (devices g.S.Source g.K.Sink c.args.input.now c.args.output.now) (migration_state c.args.migration.now) c.requires.begun refl;
   };
   goes = stays g.D.Disk (Ok tt) c.args.migration.now.store c.requires.ready.sound c.requires.ready.legal refl (λ is. absurd (on_unfinished tt is));
   ready = c.requires.ready;
@@ -29,8 +30,8 @@ loop-turn-preserved g c =
     let before = devices g.S.Source g.K.Sink c.args.input.now c.args.output.now in
     let now = devices g.S.Source g.K.Sink c.take_read.new.input c.take_read.new.output in
     record {
-      taken = carried_reads_more book before (devices g.S.Source g.K.Sink c.loop-turn.input c.loop-turn.output) now c.loop-turn._turn (migration_state c.loop-turn.migration) (migration_state c.take_read.new.migration) has
-          (c.in_default.ensures.explained book before has.taken (c.loop-turn.invariant.goes.held ∙ c.requires.opened) has.stands);
+      taken = read_once_more before.input (input_at g.S.Source c.loop-turn.input) now.input (MigrationHolds book before.output (output_at g.K.Sink c.loop-turn.output) (migration_state c.loop-turn.migration)) (MigrationHolds book before.output now.output (migration_state c.take_read.new.migration))
+          c.loop-turn._turn has (c.in_default.ensures.explained book before has.taken (c.loop-turn.invariant.goes.held ∙ c.requires.opened) has.all);
       goes = goes_on g.D.Disk tt (Ok tt) c.args.migration.now.store c.loop-turn.migration.store c.take_read.new.migration.store c.loop-turn.invariant.goes c.in_default.ensures.goes;
       ready = c.in_default.ensures.ready;
       unended = c.in_default.ensures.unended;
@@ -40,7 +41,7 @@ loop-turn-preserved g c =
 pub returns-in-Err-clause-explained : goal.returns-in-Err-clause-explained
 returns-in-Err-clause-explained g c =
     let has = c.loop-turn.invariant.taken in
-    c.in-Err.ensures.explained (stored_book c.args.migration.now.store) (devices g.S.Source g.K.Sink c.args.input.now c.args.output.now) has.taken (c.loop-turn.invariant.goes.held ∙ c.requires.opened) has.stands
+    c.in-Err.ensures.explained (stored_book c.args.migration.now.store) (devices g.S.Source g.K.Sink c.args.input.now c.args.output.now) has.taken (c.loop-turn.invariant.goes.held ∙ c.requires.opened) has.all
 
 pub returns-clause-explained : goal.returns-clause-explained
 returns-clause-explained g c =

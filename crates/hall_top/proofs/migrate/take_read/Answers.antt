@@ -17,7 +17,7 @@ returns-in-Ok-eq0-clause-explained g c = λ book before taken opened stands.
     let all = subst (Consumes before.input.bytes left) none (Consumes-trans _ _ _ taken _ stands.read c.in-Ok-eq0.ensures.bytes.0) in
     let end = c.in-Ok-eq0.ensures.bytes.1 c.in-Ok-eq0.field-0-test (omega arith) in
     migration_at_end book before (devices g.S.Source g.K.Sink c.args.input.now c.args.output.now) (devices g.S.Source g.K.Sink c.read.new.self c.finish.new.output) taken (migration_state c.args.migration.now)
-    (entries_of c.finish.new.migration.store) c.finish.result stands (c.finish.ensures.ends book.entries taken opened stands.carried) all end (c.in-Ok-eq0.ensures.cause ∙ stands.calm)
+    (entries_of c.finish.new.migration.store) c.finish.result stands (c.finish.ensures.ends book.entries taken opened stands.holds.carried) all end (c.in-Ok-eq0.ensures.cause ∙ stands.calm)
 
 pub returns-in-Ok-clause-explained : goal.returns-in-Ok-clause-explained
 returns-in-Ok-clause-explained g c = λ book before taken opened stands.

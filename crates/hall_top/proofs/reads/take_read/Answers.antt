@@ -17,7 +17,7 @@ returns-in-Ok-eq0-clause-explained g c = λ book before taken stands.
     let all = subst (Consumes before.input.bytes left) none (Consumes-trans _ _ _ taken _ stands.read c.in-Ok-eq0.ensures.bytes.0) in
     let end = c.in-Ok-eq0.ensures.bytes.1 c.in-Ok-eq0.field-0-test (omega arith) in
     explained_at_end book (call_from before (devices g.S.Source g.K.Sink c.read.new.self c.finish.new.output) (entries_of (store_in c.finish.new.self.session))) taken c.finish.result
-    (c.finish.ensures.ends book before.output taken stands.reached) all end (c.in-Ok-eq0.ensures.cause ∙ stands.calm)
+    (c.finish.ensures.ends book before.output taken stands.holds) all end (c.in-Ok-eq0.ensures.cause ∙ stands.calm)
 
 pub returns-in-Ok-clause-explained : goal.returns-in-Ok-clause-explained
 returns-in-Ok-clause-explained g c = λ book before taken stands.

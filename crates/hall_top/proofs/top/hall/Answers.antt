@@ -1,4 +1,4 @@
-use Rattle.std.proofs.Common.{inr, refl}
+use Rattle.std.proofs.Common.{inl, inr, refl}
 use Rattle.book_journal.proofs.Moments.{unmoved_none}
 use Rattle.book_store.specs.declared.types.MountError.TheVariants.{NoMemory}
 use Rattle.command_line.specs.Words.{bytes_of, wanted_of}
@@ -15,7 +15,7 @@ returns-in-Err-NoMemory-clause-ends g c = λ wanted asks.
     let before = devices g.S.Source g.K.Sink c.args.input.now c.args.output.now in
     let now = devices g.S.Source g.K.Sink c.args.input.now c.end_unopened.new.output in
     inr (is_unopened g.D.Disk c.args.disk (record { disk = c.args.disk; why = NoMemory }) c.end_unopened.result (call_from before now c.end_unopened.result.rows)
-    refl (λ bytes told held holds legal. (tt, inr (unmoved_none g.D.Disk c.args.disk))) refl c.end_unopened.ensures.disk c.end_unopened.ensures.rows c.end_unopened.ensures.held c.end_unopened.ensures.says)
+    (inl (unmoved_none g.D.Disk c.args.disk), refl) (λ bytes told held holds legal. (tt, inr (unmoved_none g.D.Disk c.args.disk))) refl c.end_unopened.ensures.disk c.end_unopened.ensures.rows c.end_unopened.ensures.held c.end_unopened.ensures.says)
 
 pub carry_out-requires-clause-least : goal.carry_out-requires-clause-least
 carry_out-requires-clause-least g c = (limit_asked (bytes_of c.args.words.now) (seen c.in-Ok.wanted) c.in-Ok.ensures.ok).least

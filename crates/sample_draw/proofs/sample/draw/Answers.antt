@@ -1,6 +1,6 @@
 use Rattle.std.proofs.Common.{Contains}
 use Rattle.std.proofs.lemmas.List.Elements.{All-contains_itself}
-use Rattle.sample_draw.proofs.Drawing.{length-drawn, All-drawn, AllPairs-drawn, AllPairs-from_ascending}
+use Rattle.sample_draw.proofs.DrawLemmas.{length-drawn, All-drawn, AllPairs-drawn, AllPairs-from_ascending}
 use Rattle.sample_draw.proofs.sample.draw.Goals as goal
 
 pub returns-clause-number : goal.returns-clause-number

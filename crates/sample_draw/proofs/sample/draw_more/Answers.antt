@@ -1,6 +1,6 @@
 use Rattle.std.proofs.Common.{◌≡◌, ◌∙◌, ap, Contains, refl}
 use Rattle.sample_draw.specs.Draws.{drawn, packs_left}
-use Rattle.sample_draw.proofs.Drawing.{length-drawn, All-drawn, AllPairs-drawn, AllPairs-from_ascending, packs_left-enough, All-packs_left, Contains-packs_left, AllPairs-packs_left}
+use Rattle.sample_draw.proofs.DrawLemmas.{length-drawn, All-drawn, AllPairs-drawn, AllPairs-from_ascending, packs_left-enough, All-packs_left, Contains-packs_left, AllPairs-packs_left}
 use Rattle.sample_draw.proofs.sample.draw_more.Goals as goal
 
 -- the picks are drawn from what the first draw has left

@@ -1,5 +1,5 @@
 use Rattle.std.proofs.Common.{◌≡◌, ◌∙◌, length, rules, arith}
-use Rattle.sample_draw.proofs.Drawing.{StandsAt-more, StandsAt-end}
+use Rattle.sample_draw.proofs.DrawLemmas.{StandsAt-more, StandsAt-end}
 use Rattle.sample_draw.proofs.sample.take_packs.Goals as goal
 
 pub loop-turn-preserved : goal.loop-turn-preserved

@@ -1,6 +1,6 @@
 use Rattle.std.proofs.Common.{◌-◌}
 use Rattle.sample_draw.specs.Draws.{drawn}
-use Rattle.sample_draw.proofs.Drawing.{StandsAt}
+use Rattle.sample_draw.proofs.DrawLemmas.{StandsAt}
 use Rattle.sample_draw.proofs.sample.take_packs.Given as goal
 
 -- what was drawn and what is still to be drawn are the whole draw

@@ -1,6 +1,6 @@
 use Rattle.std.proofs.Common.{arith, subst}
 use Rattle.tare_register.specs.InOrder.{IsCut, entries_at}
-use Rattle.tare_register.proofs.Reading.{none_read, own_read, other_read}
+use Rattle.tare_register.proofs.PlacedEntries.{none_read, own_read, other_read}
 use Rattle.tare_register.proofs.deciding.find_deciding.Goals as goal
 
 pub returns-then-count-eq0 : goal.returns-then-count-eq0

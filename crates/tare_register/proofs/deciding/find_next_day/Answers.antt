@@ -1,7 +1,7 @@
 use Rattle.std.proofs.Common.{rules, ◌<◌, arith, length, FitsSigned, w32}
 use Rattle.std.proofs.lemmas.Int.{to_z-of_z}
 use Rattle.tare_register.specs.declared.types.ProductTare.{ProductTare}
-use Rattle.tare_register.proofs.Reading.{end_read, own_next, other_next, read_at, long}
+use Rattle.tare_register.proofs.PlacedEntries.{end_read, own_next, other_next, read_at, long}
 use Rattle.tare_register.proofs.deciding.find_next_day.Goals as goal
 
 pub returns-then-count-places : goal.returns-then-count-places

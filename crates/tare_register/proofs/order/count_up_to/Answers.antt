@@ -1,5 +1,5 @@
 use Rattle.std.proofs.Common.{◌+◌, ◌-◌, ◌/◌, ◌<◌, ℕ, length, sym, ◌∙◌, arith}
-use Rattle.tare_register.proofs.Reading.{cut_low, cut_high}
+use Rattle.tare_register.proofs.PlacedEntries.{cut_low, cut_high}
 use Rattle.tare_register.proofs.order.count_up_to.Goals as goal
 
 pub loop-low-preserved-then-is_up_to : goal.loop-low-preserved-then-is_up_to

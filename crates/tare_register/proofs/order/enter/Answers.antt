@@ -1,6 +1,6 @@
 use Rattle.std.proofs.Common.{◌≡◌, length, arith, vec_len}
 use Rattle.tare_register.specs.InOrder.{IsCut, entries_at, key_of}
-use Rattle.tare_register.proofs.Reading.{index_put}
+use Rattle.tare_register.proofs.PlacedEntries.{index_put}
 use Rattle.tare_register.proofs.order.enter.Goals as goal
 
 pub returns-clause-index : goal.returns-clause-index

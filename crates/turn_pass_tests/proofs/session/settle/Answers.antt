@@ -4,7 +4,7 @@ use Rattle.std.proofs.lemmas.List.Elements.{All-push}
 use Rattle.std.proofs.lemmas.List.Sums.{sum_by_push}
 use Rattle.std.proofs.Math.ListN.{length-map}
 use Rattle.turn_pass.specs.History.{PassState, own}
-use Rattle.turn_pass_tests.specs.declared.worker.Kept.{Kept}
+use Rattle.turn_pass_tests.specs.declared.answers.Kept.{Kept}
 use Rattle.turn_pass_tests.specs.Desks.{IsSpent}
 use Rattle.turn_pass_tests.proofs.session.settle.Goals as goal
 

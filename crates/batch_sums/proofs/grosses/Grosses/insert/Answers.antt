@@ -1,8 +1,8 @@
 use Rattle.std.proofs.Common.{length, refl, ap, sym, ◌∙◌, arith}
 use Rattle.balanced_tree.specs.Trees.{items}
 use Rattle.batch_sums.specs.Rising.{mass_of}
-use Rattle.batch_sums.proofs.Rising.{below}
-use Rattle.batch_sums.proofs.Ordered.{rising_put, longer_put}
+use Rattle.batch_sums.proofs.OrderLemmas.{below}
+use Rattle.batch_sums.proofs.GrossOrder.{rising_put, longer_put}
 use Rattle.batch_sums.proofs.grosses.Grosses.insert.Goals as goal
 
 pub invariant_of-self : goal.invariant_of-self

@@ -2,8 +2,8 @@ use Rattle.std.proofs.Common.{ap, sym, ◌∙◌, arith}
 use Rattle.std.proofs.lemmas.List.Edits.{length-remove}
 use Rattle.balanced_tree.specs.Trees.{items}
 use Rattle.batch_sums.specs.Rising.{mass_of}
-use Rattle.batch_sums.proofs.Rising.{below, IsRising-remove}
-use Rattle.batch_sums.proofs.Ordered.{within_order, taken_out}
+use Rattle.batch_sums.proofs.OrderLemmas.{below, IsRising-remove}
+use Rattle.batch_sums.proofs.GrossOrder.{within_order, taken_out}
 use Rattle.batch_sums.proofs.grosses.Grosses.remove.Goals as goal
 
 pub remove-rest-requires-clause-within : goal.remove-rest-requires-clause-within

@@ -1,11 +1,12 @@
 use Rattle.std.proofs.Common.{◌≡◌, ◌++◌, ◌∷◌, [], sym, subst, ap, refl, ◌∙◌, arith}
-use Rattle.batch_sums.specs.Kept.{Sums, Sound}
+use Rattle.batch_sums.specs.Kept.{Sound}
+use Rattle.batch_sums.specs.Totals.{Sums}
 use Rattle.std.proofs.lemmas.List.{map-append}
 use Rattle.batch_sums.specs.declared.batch.Batch.{Batch}
 use Rattle.batch_sums.specs.Invariant.{reaches_of}
-use Rattle.batch_sums.proofs.Chaining.{chained_batch}
+use Rattle.batch_sums.proofs.ChainLemmas.{chained_batch}
 use Rattle.batch_sums.proofs.Homes.{chained_as}
-use Rattle.batch_sums.proofs.Putting.{sound_batch}
+use Rattle.batch_sums.proofs.NewPacks.{sound_batch}
 use Rattle.batch_sums.proofs.sums.BatchSums.add_batch.Goals as goal
 
 pub invariant_of-self : goal.invariant_of-self

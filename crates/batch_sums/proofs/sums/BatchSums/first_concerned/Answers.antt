@@ -7,12 +7,13 @@ use Rattle.std.proofs.lemmas.Option.{slice_get_read, slice_get_within, slice_get
 use Rattle.balanced_tree.specs.Trees.{items}
 use Rattle.batch_sums.specs.declared.group.Group.{Group}
 use Rattle.batch_sums.specs.Groups.{Face, face_of, faces, nth_face, nth_rank}
-use Rattle.batch_sums.specs.Kept.{Sums, terms_of}
+use Rattle.batch_sums.specs.Kept.{terms_of}
+use Rattle.batch_sums.specs.Totals.{Sums}
 use Rattle.batch_sums.specs.Asked.{IsLeast}
-use Rattle.batch_sums.proofs.Concerning.{flag, chosen_homes, homes_chosen, homes_left, least_same, concerning}
-use Rattle.batch_sums.proofs.Opening.{All-found}
-use Rattle.batch_sums.proofs.Rising.{below, below-le-length}
-use Rattle.batch_sums.proofs.Sounding.{face-found}
+use Rattle.batch_sums.proofs.ChosenBatches.{flag, chosen_homes, homes_chosen, homes_left, least_same, concerning}
+use Rattle.batch_sums.proofs.NewGroups.{All-found}
+use Rattle.batch_sums.proofs.OrderLemmas.{below, below-le-length}
+use Rattle.batch_sums.proofs.SoundLemmas.{face-found}
 use Rattle.batch_sums.proofs.sums.BatchSums.first_concerned.Goals as goal
 
 pub unreachable-requires : goal.unreachable-requires

@@ -6,11 +6,12 @@ use Rattle.std.proofs.lemmas.Int.{ints}
 use Rattle.std.proofs.lemmas.List.{length-map}
 use Rattle.std.proofs.lemmas.Option.{slice_get_read, slice_get-map}
 use Rattle.batch_sums.specs.Groups.{Face, face_of, faces}
-use Rattle.batch_sums.specs.Kept.{Sums, seen, IsKey}
-use Rattle.batch_sums.proofs.Finding.{find-numbered}
-use Rattle.batch_sums.proofs.Moving.{in_group, light_pack, at_group, kept_group}
+use Rattle.batch_sums.specs.Kept.{seen, IsKey}
+use Rattle.batch_sums.specs.Totals.{Sums}
+use Rattle.batch_sums.proofs.NumberPlaces.{find-numbered}
+use Rattle.batch_sums.proofs.PileMoves.{in_group, light_pack, at_group, kept_group}
 use Rattle.batch_sums.proofs.Numbers.{number_at}
-use Rattle.batch_sums.proofs.Sounding.{face-found}
+use Rattle.batch_sums.proofs.SoundLemmas.{face-found}
 use Rattle.batch_sums.proofs.sums.BatchSums.pack.Goals as goal
 
 pub returns-in_err-place : goal.returns-in_err-place

@@ -1,8 +1,8 @@
 use Rattle.std.proofs.Common.{ap, sym, ◌∙◌, arith}
 use Rattle.batch_sums.specs.Groups.{faces}
-use Rattle.batch_sums.specs.Kept.{Sums}
+use Rattle.batch_sums.specs.Totals.{Sums}
 use Rattle.batch_sums.specs.Asked.{piles_of}
-use Rattle.batch_sums.proofs.Tallying.{told_piles, light_lying}
+use Rattle.batch_sums.proofs.PileTallies.{told_piles, light_lying}
 use Rattle.batch_sums.proofs.sums.BatchSums.piles.Goals as goal
 
 pub tallies-requires : goal.tallies-requires

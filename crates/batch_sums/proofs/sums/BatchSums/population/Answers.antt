@@ -6,10 +6,11 @@ use Rattle.batch_sums.specs.declared.batch.Batch.{Batch}
 use Rattle.batch_sums.specs.declared.types.Held.{Held}
 use Rattle.batch_sums.specs.declared.types.Pack.{Pack}
 use Rattle.batch_sums.specs.Groups.{faces}
-use Rattle.batch_sums.specs.Kept.{Sums, terms_of, seen, reach_of}
+use Rattle.batch_sums.specs.Kept.{terms_of, seen, reach_of}
+use Rattle.batch_sums.specs.Totals.{Sums}
 use Rattle.batch_sums.specs.Invariant.{homes_of, reaches_of}
-use Rattle.batch_sums.proofs.Telling.{tared, bounded}
-use Rattle.batch_sums.proofs.Walking.{IsWalked, own, lower, walk_begun, walk_on}
+use Rattle.batch_sums.proofs.BatchTotals.{tared, bounded}
+use Rattle.batch_sums.proofs.PackWalks.{IsWalked, own, lower, walk_begun, walk_on}
 use Rattle.batch_sums.proofs.sums.BatchSums.population.Goals as goal
 
 pub population-requires : goal.population-requires
@@ -44,7 +45,6 @@ pub loop-reach-smaller : goal.loop-reach-smaller
 loop-reach-smaller c =
     let sums = c.self.inside in
     let settled = c.self.invariant.settled in
-    let bs = sums.batches.items in
     let held = sums.packs.items in
     let fs = faces sums.groups.items in
     let packs = map (seen fs) held in
@@ -55,7 +55,6 @@ loop-reach-smaller c =
     let walked = subst (λ ps. IsWalked c.args.batch ps c.loop-reach.reach c.loop-reach.numbers.items) (sym view) c.loop-reach.invariant in
     let within : place < length held = omega (arith, next, walked.within, length-map held (seen fs)) in
     let read : get_or held place h ≡ h = sym c.index-held.ensures in
-    let shown : get_or packs place (seen fs h) ≡ seen fs h = get_or-map (seen fs) held place h (seen fs h) within ∙ ap (seen fs) read in
     let home : get_or (homes_of packs) place 0 ≡ c.args.batch = own c.args.batch packs c.loop-reach.reach c.loop-reach.numbers.items walked place next in
     let before : h.before ≡ reach_of c.args.batch (take place (homes_of packs)) =
     ap (λ (p : Held). p.before) (sym read) ∙ sym (get_or-map (λ (p : Held). p.before) held place h 0 within)

@@ -1,4 +1,4 @@
-use Rattle.batch_sums.proofs.Walking.{IsWalked}
+use Rattle.batch_sums.proofs.PackWalks.{IsWalked}
 use Rattle.batch_sums.proofs.sums.BatchSums.population.Given as goal
 
 abbrev pub invariant-loop-reach : goal.invariant-loop-reach

@@ -6,20 +6,20 @@ use Rattle.std.proofs.lemmas.List.Sums.{sum_by_push}
 use Rattle.std.proofs.lemmas.Option.{slice_get_read, slice_get_within, slice_get-map}
 use Rattle.batch_sums.specs.declared.group.Key.{Key}
 use Rattle.batch_sums.specs.declared.types.Held.{Held}
-use Rattle.batch_sums.specs.Totals.{is_counted}
+use Rattle.batch_sums.specs.Totals.{is_counted, Sums}
 use Rattle.batch_sums.specs.declared.types.Pack.{Pack}
 use Rattle.batch_sums.specs.Groups.{faces, IsJudged}
-use Rattle.batch_sums.specs.Kept.{Sums, terms_of, seen}
+use Rattle.batch_sums.specs.Kept.{terms_of, seen}
 use Rattle.batch_sums.specs.Changes.{is_added}
 use Rattle.batch_sums.specs.Invariant.{IsRoomy, inside, outside}
-use Rattle.batch_sums.proofs.Telling.{tared, bounded}
-use Rattle.batch_sums.proofs.Joining.{joins_push}
-use Rattle.batch_sums.proofs.Tallying.{tallied_in, few_lying, light_lying}
-use Rattle.batch_sums.proofs.Moving.{gross_at}
-use Rattle.batch_sums.proofs.Entering.{room_for}
+use Rattle.batch_sums.proofs.BatchTotals.{tared, bounded}
+use Rattle.batch_sums.proofs.OnePackMore.{joins_push}
+use Rattle.batch_sums.proofs.PileTallies.{tallied_in, few_lying, light_lying}
+use Rattle.batch_sums.proofs.PileMoves.{gross_at}
+use Rattle.batch_sums.proofs.GroupChanges.{room_for}
 use Rattle.batch_sums.proofs.Numbers.{added_is, not_counts}
-use Rattle.batch_sums.proofs.Sounding.{set_same}
-use Rattle.batch_sums.proofs.Readying.{entered_from, room_from, chained_with, ready, kept_here, judged_here, few_here, settled_put, packs_put}
+use Rattle.batch_sums.proofs.SoundLemmas.{set_same}
+use Rattle.batch_sums.proofs.ReadyGroups.{entered_from, room_from, chained_with, ready, kept_here, judged_here, few_here, settled_put, packs_put}
 use Rattle.batch_sums.proofs.sums.BatchSums.put.Goals as goal
 
 pub index_mut-group-requires : goal.index_mut-group-requires
@@ -46,13 +46,9 @@ enter-requires-clause-room c =
     let held = sums.packs.items in
     let long : length bs ≡ length c.args.self.now.batches = sym (length-map bs terms_of) ∙ ap (λ (s : Sums). length s.batches) c.self.view_is in
     let within : c.args.batch < length bs = omega (arith, long, c.requires.batch) in
-    let first : slice_get bs c.args.batch ≡ Some c.index-home.result.now = slice_get_read bs (length bs) c.args.batch c.index-home.result.now refl within c.index-home.ensures in
     let home : slice_get bs c.args.batch ≡ Some c.index_mut-batch.result.now = slice_get_read bs (length bs) c.args.batch c.index_mut-batch.result.now refl within c.index_mut-batch.ensures.value in
     let spare = ap (λ (s : Sums). s.spare) c.self.view_is in
     let few : length held + 1 < 4294967296 = omega (arith, room.few_packs, spare, c.requires.room, sums.packs.ok.0) in
-    let key : Key = record { product = c.index-home.result.now.product; day = c.args.day; batch = c.args.batch } in
-    let taxed = subst (All (λ (pack : Pack). pack.batch ≡ c.args.batch → pack.day ≡ pos c.args.day → pack.tare ≡ pos c.args.tare)) (ap (λ (s : Sums). s.packs) (sym c.self.view_is)) c.requires.same_tare in
-    let done = ready bs gs held settled.sound settled.used key c.args.tare c.index-home.result.now first refl c.requires.tare taxed c.find_or_open-group.new.groups.items c.find_or_open-group.result c.find_or_open-group.ensures.group in
     let own = settled.sound.batch c.args.batch c.index_mut-batch.result.now home in
     let small = bounded (faces gs) c.args.batch c.index_mut-batch.result.now held own settled.sound.light (tared bs gs held settled.sound) settled.sound.few in
     let gross = gross_at c.index_mut-batch.result.now c.args.pile small in
@@ -62,7 +58,6 @@ pub enter-requires-2-clause-tare : goal.enter-requires-2-clause-tare
 enter-requires-2-clause-tare c =
     let sums = c.self.inside in
     let settled = c.self.invariant.settled in
-    let room = c.self.invariant.room in
     let bs = sums.batches.items in
     let gs = sums.groups.items in
     let held = sums.packs.items in
@@ -70,8 +65,6 @@ enter-requires-2-clause-tare c =
     let within : c.args.batch < length bs = omega (arith, long, c.requires.batch) in
     let first : slice_get bs c.args.batch ≡ Some c.index-home.result.now = slice_get_read bs (length bs) c.args.batch c.index-home.result.now refl within c.index-home.ensures in
     let home : slice_get bs c.args.batch ≡ Some c.index_mut-batch.result.now = slice_get_read bs (length bs) c.args.batch c.index_mut-batch.result.now refl within c.index_mut-batch.ensures.value in
-    let spare = ap (λ (s : Sums). s.spare) c.self.view_is in
-    let few : length held + 1 < 4294967296 = omega (arith, room.few_packs, spare, c.requires.room, sums.packs.ok.0) in
     let key : Key = record { product = c.index-home.result.now.product; day = c.args.day; batch = c.args.batch } in
     let taxed = subst (All (λ (pack : Pack). pack.batch ≡ c.args.batch → pack.day ≡ pos c.args.day → pack.tare ≡ pos c.args.tare)) (ap (λ (s : Sums). s.packs) (sym c.self.view_is)) c.requires.same_tare in
     let done = ready bs gs held settled.sound settled.used key c.args.tare c.index-home.result.now first refl c.requires.tare taxed c.find_or_open-group.new.groups.items c.find_or_open-group.result c.find_or_open-group.ensures.group in
@@ -100,7 +93,6 @@ pub enter-requires-2-clause-judged : goal.enter-requires-2-clause-judged
 enter-requires-2-clause-judged c =
     let sums = c.self.inside in
     let settled = c.self.invariant.settled in
-    let room = c.self.invariant.room in
     let bs = sums.batches.items in
     let gs = sums.groups.items in
     let held = sums.packs.items in
@@ -108,8 +100,6 @@ enter-requires-2-clause-judged c =
     let within : c.args.batch < length bs = omega (arith, long, c.requires.batch) in
     let first : slice_get bs c.args.batch ≡ Some c.index-home.result.now = slice_get_read bs (length bs) c.args.batch c.index-home.result.now refl within c.index-home.ensures in
     let home : slice_get bs c.args.batch ≡ Some c.index_mut-batch.result.now = slice_get_read bs (length bs) c.args.batch c.index_mut-batch.result.now refl within c.index_mut-batch.ensures.value in
-    let spare = ap (λ (s : Sums). s.spare) c.self.view_is in
-    let few : length held + 1 < 4294967296 = omega (arith, room.few_packs, spare, c.requires.room, sums.packs.ok.0) in
     let key : Key = record { product = c.index-home.result.now.product; day = c.args.day; batch = c.args.batch } in
     let taxed = subst (All (λ (pack : Pack). pack.batch ≡ c.args.batch → pack.day ≡ pos c.args.day → pack.tare ≡ pos c.args.tare)) (ap (λ (s : Sums). s.packs) (sym c.self.view_is)) c.requires.same_tare in
     let done = ready bs gs held settled.sound settled.used key c.args.tare c.index-home.result.now first refl c.requires.tare taxed c.find_or_open-group.new.groups.items c.find_or_open-group.result c.find_or_open-group.ensures.group in
@@ -192,20 +182,10 @@ returns-clause-packs c =
 pub returns-clause-batches : goal.returns-clause-batches
 returns-clause-batches c =
     let sums = c.self.inside in
-    let settled = c.self.invariant.settled in
-    let room = c.self.invariant.room in
     let bs = sums.batches.items in
-    let gs = sums.groups.items in
-    let held = sums.packs.items in
     let long : length bs ≡ length c.args.self.now.batches = sym (length-map bs terms_of) ∙ ap (λ (s : Sums). length s.batches) c.self.view_is in
     let within : c.args.batch < length bs = omega (arith, long, c.requires.batch) in
-    let first : slice_get bs c.args.batch ≡ Some c.index-home.result.now = slice_get_read bs (length bs) c.args.batch c.index-home.result.now refl within c.index-home.ensures in
     let home : slice_get bs c.args.batch ≡ Some c.index_mut-batch.result.now = slice_get_read bs (length bs) c.args.batch c.index_mut-batch.result.now refl within c.index_mut-batch.ensures.value in
-    let spare = ap (λ (s : Sums). s.spare) c.self.view_is in
-    let few : length held + 1 < 4294967296 = omega (arith, room.few_packs, spare, c.requires.room, sums.packs.ok.0) in
-    let key : Key = record { product = c.index-home.result.now.product; day = c.args.day; batch = c.args.batch } in
-    let taxed = subst (All (λ (pack : Pack). pack.batch ≡ c.args.batch → pack.day ≡ pos c.args.day → pack.tare ≡ pos c.args.tare)) (ap (λ (s : Sums). s.packs) (sym c.self.view_is)) c.requires.same_tare in
-    let done = ready bs gs held settled.sound settled.used key c.args.tare c.index-home.result.now first refl c.requires.tare taxed c.find_or_open-group.new.groups.items c.find_or_open-group.result c.find_or_open-group.ensures.group in
     let terms : terms_of c.enter.new.self ≡ terms_of c.index_mut-batch.result.now = λ i. record { product = c.enter.ensures.entered.product i; limits = c.enter.ensures.entered.limits i } in
     rw (← c.self.view_is) (map-set terms_of bs c.args.batch c.enter.new.self ∙ ap (λ t. set (map terms_of bs) c.args.batch t) terms
     ∙ set_same (map terms_of bs) c.args.batch (terms_of c.index_mut-batch.result.now) (slice_get-map terms_of bs c.args.batch ∙ rw home refl))

@@ -10,33 +10,27 @@ use Rattle.balanced_tree.specs.declared.tree.Tree.{Tree}
 use Rattle.batch_sums.specs.declared.group.Group.{Group}
 use Rattle.batch_sums.specs.declared.types.Held.{Held}
 use Rattle.batch_sums.specs.Groups.{face_of, faces, nth_rank}
-use Rattle.batch_sums.specs.Kept.{Sums}
+use Rattle.batch_sums.specs.Totals.{Sums}
 use Rattle.batch_sums.specs.Changes.{concerned, group_count, HasFewPerGroup}
-use Rattle.batch_sums.proofs.Rising.{below, below-le-length}
-use Rattle.batch_sums.proofs.Opening.{All-found}
+use Rattle.batch_sums.proofs.OrderLemmas.{below, below-le-length}
+use Rattle.batch_sums.proofs.NewGroups.{All-found}
 use Rattle.batch_sums.proofs.Underway.{home_there, has_share, underway_next}
-use Rattle.batch_sums.proofs.Keeping.{kept_after}
-use Rattle.batch_sums.proofs.Finishing.{packs_corrected, visited_few}
+use Rattle.batch_sums.proofs.CorrectedSums.{kept_after}
+use Rattle.batch_sums.proofs.WholeCorrection.{packs_corrected, visited_few}
 use Rattle.batch_sums.proofs.sums.BatchSums.rejudge.Goals as goal
 
 pub invariant_of-self : goal.invariant_of-self
 invariant_of-self g c =
     let sums = c.self.inside in
-    let settled = c.self.invariant.settled in
-    let gs = sums.groups.items in
-    let order = items sums.order in
     let under = c.loop-place.invariant in
     kept_after sums c.loop-place.self-inside _ _ _ _ under c.self.invariant
 
 pub unreachable-requires : goal.unreachable-requires
 unreachable-requires g c =
     let sums = c.self.inside in
-    let settled = c.self.invariant.settled in
     let gs = sums.groups.items in
     let order = items sums.order in
     let under = c.loop-place.invariant in
-    let low = c.days_of.ensures.small.0 in
-    let high = c.days_of.ensures.small.1 in
     let first_is : c.stretch_of-first.result.first ≡ below (nth_rank (faces gs)) ((c.args.product * 4294967296 + c.days_of.result.from) * 4294967296 + 0) order =
     c.stretch_of-first.ensures.first ∙ ap (λ (some : List Group). below (nth_rank (faces some)) ((c.args.product * 4294967296 + c.days_of.result.from) * 4294967296 + 0) order) c.deref.ensures.value in
     let end_is : c.stretch_of-first.result.end ≡ max c.stretch_of-first.result.first (below (nth_rank (faces gs)) ((c.args.product * 4294967296 + c.days_of.result.until) * 4294967296 + 0) order) =

@@ -4,18 +4,19 @@ use Rattle.std.proofs.lemmas.List.{map-set}
 use Rattle.hall_limits.specs.declared.TheConstants.{MAX_TARE}
 use Rattle.batch_sums.specs.Groups.{Face, faces, IsJudged}
 use Rattle.batch_sums.specs.Running.{IsEntered}
-use Rattle.batch_sums.specs.Kept.{Sums, terms_of}
+use Rattle.batch_sums.specs.Kept.{terms_of}
+use Rattle.batch_sums.specs.Totals.{Sums}
 use Rattle.batch_sums.specs.Changes.{is_added}
-use Rattle.batch_sums.proofs.Moving.{joins, in_group, kept_group, batch_there, has_gross, at_batch, judged_before, covers, room_to, few_less, sound_moved, faces_moved, moved_is}
+use Rattle.batch_sums.proofs.PileMoves.{joins, in_group, kept_group, batch_there, has_gross, at_batch, judged_before, covers, room_to, few_less, sound_moved, faces_moved, moved_is}
 use Rattle.batch_sums.proofs.Numbers.{added_is, number_at, inside_moved, outside_moved, settled_moved}
 use Rattle.batch_sums.specs.declared.batch.Batch.{Batch}
 use Rattle.batch_sums.specs.Invariant.{reaches_of}
-use Rattle.batch_sums.proofs.Joining.{joins_set}
-use Rattle.batch_sums.proofs.Tallying.{tallied_in, tallied_out, some_lying, heavy_lying, few_lying, light_lying}
+use Rattle.batch_sums.proofs.OnePackMore.{joins_set}
+use Rattle.batch_sums.proofs.PileTallies.{tallied_in, tallied_out, some_lying, heavy_lying, few_lying, light_lying}
 use Rattle.std.specs.List.{remove}
 use Rattle.std.proofs.lemmas.List.Edits.{length-remove}
 use Rattle.hall_limits.specs.declared.TheConstants.{MAX_GROSS}
-use Rattle.batch_sums.proofs.Sounding.{set_same, All-remove}
+use Rattle.batch_sums.proofs.SoundLemmas.{set_same, All-remove}
 use Rattle.std.proofs.lemmas.Option.{slice_get-map}
 use Rattle.batch_sums.proofs.sums.BatchSums.shift.Goals as goal
 
@@ -140,13 +141,6 @@ enter-requires-2-clause-few c =
 
 pub enter-requires-2-clause-judged : goal.enter-requires-2-clause-judged
 enter-requires-2-clause-judged c =
-    let sums = c.self.inside in
-    let settled = c.self.invariant.settled in
-    let bs = sums.batches.items in
-    let gs = sums.groups.items in
-    let held = sums.packs.items in
-    let h = c.index-held.result.now in
-    let found = number_at sums.numbers.keys held c.in-Some.place c.args.pack h settled.numbered c.in-Some.ensures.index c.index-held.ensures in
     subst (λ l. IsJudged l c.leave-2.new.self) (sym c.enter.ensures.entered.limits) c.leave-2.ensures.judged
 
 pub leave-requires-3-clause-count : goal.leave-requires-3-clause-count
@@ -219,7 +213,7 @@ invariant_of-self c =
     let reaches = map-set (λ (b : Batch). b.reach) bs c.index_mut-group.result.now.key.batch c.enter.new.self ∙ ap (λ n. set (reaches_of bs) c.index_mut-group.result.now.key.batch n) (c.enter.ensures.reach ∙ c.leave.ensures.reach)
     ∙ set_same (reaches_of bs) c.index_mut-group.result.now.key.batch c.index_mut-batch.result.now.reach (slice_get-map (λ (b : Batch). b.reach) bs c.index_mut-group.result.now.key.batch ∙ rw there refl) in
     record {
-      tallied = tallied_in c.leave-3.new.self (remove held c.in-Some.place) left (set held c.in-Some.place (Rattle.batch_sums.proofs.Moving.in_pile h c.args.to)) (Rattle.batch_sums.proofs.Moving.in_pile h c.args.to) (joins_set held c.in-Some.place h (Rattle.batch_sums.proofs.Moving.in_pile h c.args.to) found.0) c.enter-3.new.self c.enter-3.ensures.count c.enter-3.ensures.gross;
+      tallied = tallied_in c.leave-3.new.self (remove held c.in-Some.place) left (set held c.in-Some.place (Rattle.batch_sums.proofs.PileMoves.in_pile h c.args.to)) (Rattle.batch_sums.proofs.PileMoves.in_pile h c.args.to) (joins_set held c.in-Some.place h (Rattle.batch_sums.proofs.PileMoves.in_pile h c.args.to) found.0) c.enter-3.new.self c.enter-3.ensures.count c.enter-3.ensures.gross;
       settled = settled_moved held c.in-Some.place h c.args.to c.index-held.ensures found.0 bs _ gs _ sums.order sums.numbers.keys settled reaches sound face (length-set gs h.group c.enter-2.new.self);
       room =
           let room = c.self.invariant.room in
@@ -250,7 +244,7 @@ returns-clause-packs c =
     let tare : c.leave-2.new.self.tare ≡ c.index_mut-group.result.now.tare = ap (λ (f : Face). f.tare) c.leave-2.ensures.face in
     let enters = subst (λ t. IsEntered c.leave.new.self c.enter.new.self c.args.to h.gross t) tare c.enter.ensures.entered in
     let face = faces_moved bs gs held settled.sound c.in-Some.place h c.index-held.ensures found.0 c.index_mut-group.result.now c.index_mut-group.ensures.value c.index_mut-batch.result.now c.index_mut-batch.ensures.value c.leave.new.self c.leave.ensures.entered c.leave-2.new.self c.leave-2.ensures.grosses c.leave-2.ensures.face c.leave-2.ensures.judged c.args.to c.enter.new.self enters c.enter-2.new.self c.enter-2.ensures.grosses c.enter-2.ensures.face c.enter-2.ensures.judged in
-    rw (← c.self.view_is) (ap (λ fs. map (Rattle.batch_sums.specs.Kept.seen fs) (set held c.in-Some.place (Rattle.batch_sums.proofs.Moving.in_pile h c.args.to))) face
+    rw (← c.self.view_is) (ap (λ fs. map (Rattle.batch_sums.specs.Kept.seen fs) (set held c.in-Some.place (Rattle.batch_sums.proofs.PileMoves.in_pile h c.args.to))) face
     ∙ moved_is (faces gs) c.args.pack c.args.to held c.in-Some.place h (settled.apart c.args.pack) found.0 c.index-held.ensures found.1)
 
 pub returns-clause-batches : goal.returns-clause-batches

@@ -3,8 +3,9 @@ use Rattle.std.specs.List.{slice_get}
 use Rattle.std.proofs.lemmas.List.{length-map}
 use Rattle.std.proofs.lemmas.Option.{slice_get_read, slice_get-map}
 use Rattle.batch_sums.specs.Groups.{faces}
-use Rattle.batch_sums.specs.Kept.{Sums, terms_of}
-use Rattle.batch_sums.proofs.Telling.{tared, bounded, told}
+use Rattle.batch_sums.specs.Kept.{terms_of}
+use Rattle.batch_sums.specs.Totals.{Sums}
+use Rattle.batch_sums.proofs.BatchTotals.{tared, bounded, told}
 use Rattle.batch_sums.proofs.sums.BatchSums.totals.Goals as goal
 
 pub totals-requires : goal.totals-requires

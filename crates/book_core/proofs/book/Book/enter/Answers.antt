@@ -3,15 +3,15 @@ use Rattle.book_words.specs.declared.act.Entry.{Entry}
 use Rattle.book_words.specs.Answers.{IsLawful, IsLegal}
 use Rattle.book_words.specs.Balance.{MovesOnly}
 use Rattle.book_words.proofs.LegalLemmas.{legal-push}
-use Rattle.book_laws.proofs.KnownLaws.{lawful_allowed}
+use Rattle.book_words.proofs.AllowedActs.{allowed}
 use Rattle.book_laws.proofs.MoveLaws.{moves_only}
 use Rattle.book_core.specs.View.{BookView}
-use Rattle.book_core.proofs.Kept.{held_is, entered, entered_answer}
+use Rattle.book_core.proofs.BookLemmas.{held_is, entered, entered_answer}
 use Rattle.book_core.proofs.book.Book.enter.Goals as goal
 
 pub reply_new-reply-requires-clause-free : goal.reply_new-reply-requires-clause-free
 reply_new-reply-requires-clause-free c =
-    lawful_allowed c.self.inside.state.entries c.entry.result.now
+    allowed c.self.inside.state.entries c.entry.result.now
     (subst (λ (e : Entry). IsLawful c.self.inside.state.entries e) (sym c.entry.ensures)
     (held_is c.self.inside.state c.self.inside.limit c.self.inside.pending c.in-Some.field-0 c.args.ready c.self.invariant (sym c.take.ensures.value ∙ c.in-Some.is)
     (ap (λ (b : BookView). b.pending) c.self.view_is ∙ c.requires)).lawful)

@@ -3,10 +3,10 @@ use Rattle.hall_limits.specs.declared.TheConstants.{MAX_ROWS}
 use Rattle.book_words.specs.declared.reply.Answered.{Answered}
 use Rattle.book_words.specs.Signals.{recorded_signal}
 use Rattle.book_words.specs.Answers.{ask_of}
-use Rattle.book_laws.proofs.KnownLaws.{IsAllowed}
+use Rattle.book_words.proofs.AllowedActs.{IsAllowed}
 use Rattle.book_core.specs.View.{BookView}
 use Rattle.book_core.specs.Steps.{decision}
-use Rattle.book_core.proofs.Decided.{new_is_free, decided_lawful}
+use Rattle.book_core.proofs.DecisionLemmas.{new_is_free, decided_lawful}
 use Rattle.book_core.proofs.book.Book.is_lawful.Goals as goal
 
 pub recorded_signal-requires : goal.recorded_signal-requires

@@ -1,11 +1,11 @@
 use Rattle.std.proofs.Common.{◌≤◌, subst, sym, ◌∙◌, ap}
 use Rattle.hall_limits.specs.declared.TheConstants.{MAX_ROWS}
 use Rattle.book_words.specs.Signals.{recorded_signal}
-use Rattle.book_laws.proofs.KnownLaws.{IsAllowed}
+use Rattle.book_words.proofs.AllowedActs.{IsAllowed}
 use Rattle.book_core.specs.View.{BookView}
 use Rattle.book_core.specs.Steps.{asked_act}
-use Rattle.book_core.proofs.Decided.{new_is_free}
-use Rattle.book_core.proofs.Kept.{new_is_lawful}
+use Rattle.book_core.proofs.DecisionLemmas.{new_is_free}
+use Rattle.book_core.proofs.BookLemmas.{new_is_lawful}
 use Rattle.book_core.proofs.book.Book.prepare.Goals as goal
 
 pub recorded_signal-requires : goal.recorded_signal-requires

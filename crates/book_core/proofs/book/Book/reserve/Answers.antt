@@ -1,4 +1,4 @@
-use Rattle.book_core.proofs.Kept.{kept_on}
+use Rattle.book_core.proofs.BookLemmas.{kept_on}
 use Rattle.book_core.proofs.book.Book.reserve.Goals as goal
 
 pub invariant_of-self : goal.invariant_of-self

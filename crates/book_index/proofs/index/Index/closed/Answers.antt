@@ -6,7 +6,7 @@ use Rattle.book_index.specs.declared.types.BatchTerms.{BatchTerms}
 use Rattle.book_index.specs.Known.{Known}
 use Rattle.book_index.specs.Invariant.{flags_of}
 use Rattle.book_index.specs.Listed.{terms_of_batch}
-use Rattle.book_index.proofs.Stepping.{map_twice}
+use Rattle.book_index.proofs.EntrySteps.{map_twice}
 use Rattle.book_index.proofs.LaneLemmas.{closed_told}
 use Rattle.book_index.proofs.index.Index.closed.Goals as goal
 

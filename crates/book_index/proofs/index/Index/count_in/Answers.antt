@@ -2,7 +2,7 @@ use Rattle.std.proofs.Common.{◌≡◌, ◌+◌, take, count_by, ap, sym, ◌�
 use Rattle.std.specs.Map.{values_of}
 use Rattle.book_words.specs.Acts.{same_state}
 use Rattle.book_index.specs.Known.{Known}
-use Rattle.book_index.proofs.Counting.{is_in, counted_more, one_at_most}
+use Rattle.book_index.proofs.StateCounts.{is_in, counted_more, one_at_most}
 use Rattle.book_index.proofs.index.Index.count_in.Goals as goal
 
 pub loop-place-preserved : goal.loop-place-preserved

@@ -3,7 +3,7 @@ use Rattle.std.proofs.lemmas.Bool.Decides.{nat_tests}
 use Rattle.hall_limits.specs.declared.TheConstants.{MIN_DESK, MAX_DESK}
 use Rattle.book_index.specs.Known.{Known}
 use Rattle.book_index.specs.Listed.{newest_row_number}
-use Rattle.book_index.proofs.Numbered.{of_number}
+use Rattle.book_index.proofs.FirstNumbers.{of_number}
 use Rattle.book_index.proofs.index.Index.desk_row.Goals as goal
 
 pub returns-clause-row : goal.returns-clause-row

@@ -3,7 +3,7 @@ use Rattle.book_index.specs.Known.{Known}
 use Rattle.book_index.specs.Changes.{with_row, after_act}
 use Rattle.book_index.specs.Listed.{IsIndexOf}
 use Rattle.book_index.proofs.LegalNames.{legal_named, lawful_named}
-use Rattle.book_index.proofs.Stepping.{index_more}
+use Rattle.book_index.proofs.EntrySteps.{index_more}
 use Rattle.book_index.proofs.index.Index.enter.Goals as goal
 
 pub returns-clause-entered : goal.returns-clause-entered

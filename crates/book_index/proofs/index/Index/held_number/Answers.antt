@@ -3,7 +3,7 @@ use Rattle.std.proofs.lemmas.Bool.Decides.{nat_tests}
 use Rattle.hall_limits.specs.declared.TheConstants.{MAX_LANE}
 use Rattle.book_index.specs.Known.{Known}
 use Rattle.book_index.specs.Listed.{lane_batch_number}
-use Rattle.book_index.proofs.Numbered.{of_number}
+use Rattle.book_index.proofs.FirstNumbers.{of_number}
 use Rattle.book_index.proofs.index.Index.held_number.Goals as goal
 
 pub returns-clause-on : goal.returns-clause-on

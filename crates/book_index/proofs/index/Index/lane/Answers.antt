@@ -1,6 +1,6 @@
 use Rattle.std.proofs.Common.{◌≡◌, Some, None, sym, ◌∙◌}
 use Rattle.book_index.specs.Listed.{is_lane}
-use Rattle.book_index.proofs.SameNames.{in_both}
+use Rattle.book_words.proofs.PlainLemmas.{in_both}
 use Rattle.book_index.proofs.LegalNames.{legal_named}
 use Rattle.book_index.proofs.LaneLemmas.{lane_is, no_lane}
 use Rattle.book_index.proofs.index.Index.lane.Goals as goal

@@ -3,7 +3,7 @@ use Rattle.book_index.specs.contracts.index.Index.{the_view}
 use Rattle.book_index.specs.Known.{Known}
 use Rattle.book_index.specs.Changes.{with_batch}
 use Rattle.book_index.specs.Invariant.{flags_of}
-use Rattle.book_index.proofs.Stored.{named_there, named_new, put_new, flags_push}
+use Rattle.book_index.proofs.MapLemmas.{named_there, named_new, put_new, flags_push}
 use Rattle.book_index.proofs.index.Index.open_batch.Goals as goal
 
 pub returns-then-contains_key : goal.returns-then-contains_key

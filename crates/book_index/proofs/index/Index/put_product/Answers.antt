@@ -1,7 +1,7 @@
 use Rattle.std.proofs.Common.{◌-◌, ap, sym, ◌∙◌}
 use Rattle.book_index.specs.contracts.index.Index.{the_view}
 use Rattle.book_index.specs.Changes.{with_product}
-use Rattle.book_index.proofs.Stored.{named_there, named_new, put_new}
+use Rattle.book_index.proofs.MapLemmas.{named_there, named_new, put_new}
 use Rattle.book_index.proofs.index.Index.put_product.Goals as goal
 
 pub returns-then-contains_key : goal.returns-then-contains_key

@@ -2,7 +2,7 @@ use Rattle.std.proofs.Common.{length, ap, sym, ◌∙◌}
 use Rattle.book_index.specs.contracts.index.Index.{the_view}
 use Rattle.book_index.specs.Known.{Known}
 use Rattle.book_index.specs.Changes.{with_lane}
-use Rattle.book_index.proofs.Numbered.{lane_outside, lane_inside}
+use Rattle.book_index.proofs.FirstNumbers.{lane_outside, lane_inside}
 use Rattle.book_index.proofs.index.Index.set_lane.Goals as goal
 
 pub returns-then-not-is_lane : goal.returns-then-not-is_lane

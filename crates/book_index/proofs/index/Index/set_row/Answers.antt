@@ -2,7 +2,7 @@ use Rattle.std.proofs.Common.{length, ap, sym, ◌∙◌}
 use Rattle.book_index.specs.contracts.index.Index.{the_view}
 use Rattle.book_index.specs.Known.{Known}
 use Rattle.book_index.specs.Changes.{with_row}
-use Rattle.book_index.proofs.Numbered.{desk_outside, desk_inside}
+use Rattle.book_index.proofs.FirstNumbers.{desk_outside, desk_inside}
 use Rattle.book_index.proofs.index.Index.set_row.Goals as goal
 
 pub returns-then-not-is_desk : goal.returns-then-not-is_desk

@@ -6,7 +6,7 @@ use Rattle.book_index.specs.Known.{names_of}
 use Rattle.book_index.specs.Changes.{with_batch_state}
 use Rattle.book_index.specs.Invariant.{flags_of}
 use Rattle.book_index.proofs.Places.{place_is}
-use Rattle.book_index.proofs.Stored.{state_nowhere, state_put, flags_at}
+use Rattle.book_index.proofs.MapLemmas.{state_nowhere, state_put, flags_at}
 use Rattle.book_index.proofs.index.Index.set_state.Goals as goal
 
 pub returns-in_default : goal.returns-in_default

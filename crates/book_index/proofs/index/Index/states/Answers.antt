@@ -1,7 +1,7 @@
 use Rattle.std.proofs.Common.{◌∙◌}
 use Rattle.book_words.specs.declared.act.BatchState.TheVariants.{Running, Ended, Drawn, Closed}
 use Rattle.book_index.proofs.LegalNames.{legal_named}
-use Rattle.book_index.proofs.Counting.{counted_is}
+use Rattle.book_index.proofs.StateCounts.{counted_is}
 use Rattle.book_index.proofs.index.Index.states.Goals as goal
 
 pub returns-clause-running : goal.returns-clause-running

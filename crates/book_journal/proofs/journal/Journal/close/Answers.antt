@@ -6,7 +6,7 @@ use Rattle.book_journal.specs.Appending.{TouchesSlot}
 use Rattle.book_journal.proofs.Calls.{kept_still, closing, closed}
 use Rattle.book_journal.proofs.Journals.{told_on, told_as, told_before, gate_torn, touches_torn}
 use Rattle.book_journal.proofs.Signs.{gate_row_kept}
-use Rattle.book_journal.proofs.Standing.{settles_at}
+use Rattle.book_journal.proofs.JournalSteps.{settles_at}
 use Rattle.book_journal.proofs.journal.Journal.close.Goals as goal
 
 pub returns-then-not-self-clause-keeps : goal.returns-then-not-self-clause-keeps

@@ -8,7 +8,7 @@ use Rattle.book_snapshot.specs.Blocks.{IsSnapshotSize}
 use Rattle.book_journal.specs.declared.layout.TheConstants.{MARKED, CLOSED}
 use Rattle.book_snapshot.specs.declared.layout.TheConstants.{MARK, ROW_BYTES}
 use Rattle.book_journal.specs.declared.journal.Journal.{Journal}
-use Rattle.book_journal.proofs.Overwritten.{overwritten_size}
+use Rattle.book_journal.proofs.ByteWrites.{overwritten_size}
 use Rattle.book_journal.specs.Rows.{Recovers, SnapshotAgrees}
 use Rattle.book_journal.specs.Appending.{cleared}
 use Rattle.book_journal.specs.Marking.{with_snapshot, kept_disk, HoldsSnapshot}

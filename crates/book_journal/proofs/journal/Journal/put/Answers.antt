@@ -6,8 +6,8 @@ use Rattle.book_journal.specs.Rows.{gate_behind, row_behind}
 use Rattle.book_journal.specs.Appending.{TouchesSlot}
 use Rattle.book_journal.proofs.Calls.{unput, unput_moments, half_put, half_row, put_moments, put, no_both}
 use Rattle.book_journal.proofs.Journals.{told_on, told_as, told_before, tells_on, row_is, gate_torn, touches_torn, touches_on}
-use Rattle.book_journal.proofs.Overwritten.{overwritten_front, overwritten_size}
-use Rattle.book_journal.proofs.Standing.{settles_at}
+use Rattle.book_journal.proofs.ByteWrites.{overwritten_front, overwritten_size}
+use Rattle.book_journal.proofs.JournalSteps.{settles_at}
 use Rattle.book_journal.proofs.Results.{ok_at_err, err_at}
 use Rattle.book_journal.proofs.journal.Journal.put.Goals as goal
 

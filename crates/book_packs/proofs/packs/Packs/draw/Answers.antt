@@ -1,6 +1,6 @@
 use Rattle.std.proofs.Common.{refl, sym, subst}
 use Rattle.book_packs.specs.Stand.{IsPacksOf}
-use Rattle.book_packs.proofs.Picking.{draw-push, picks_fit}
+use Rattle.book_packs.proofs.DrawSteps.{draw-push, picks_fit}
 use Rattle.book_packs.proofs.packs.Packs.draw.Goals as goal
 
 pub sample-requires : goal.sample-requires

@@ -13,7 +13,7 @@ use Rattle.batch_sums.specs.Asked.{chosen_batches, IsLeast}
 use Rattle.book_packs.specs.Stand.{IsPacksOf, tares_in, opened_terms, packs_in}
 use Rattle.book_packs.specs.Told.{closed_in}
 use Rattle.book_packs.proofs.Known.{known_of}
-use Rattle.book_packs.proofs.Frozen.{none_frozen, least_frozen}
+use Rattle.book_packs.proofs.FrozenBatch.{none_frozen, least_frozen}
 use Rattle.book_packs.proofs.packs.Packs.frozen.Goals as goal
 
 is_tare : (o : Option ℤ) (tare : ℤ) → option_eq int_eq o (Some tare) ≡ true → o ≡ Some tare

@@ -3,7 +3,7 @@ use Rattle.book_packs.specs.Stand.{Standing}
 use Rattle.std.specs.List.{find}
 use Rattle.std.specs.Prelude.{◌==◌}
 use Rattle.batch_sums.specs.declared.types.Pack.{Pack}
-use Rattle.book_packs.proofs.Telling.{pack_is}
+use Rattle.book_packs.proofs.PackTotals.{pack_is}
 use Rattle.book_packs.proofs.packs.Packs.pack.Goals as goal
 
 pub returns : goal.returns

@@ -1,7 +1,7 @@
 use Rattle.std.proofs.Common.{◌∙◌, ap}
 use Rattle.book_packs.specs.Stand.{Standing}
 use Rattle.batch_sums.specs.Asked.{piles_of}
-use Rattle.book_packs.proofs.Telling.{piles_are}
+use Rattle.book_packs.proofs.PackTotals.{piles_are}
 use Rattle.book_packs.proofs.packs.Packs.piles.Goals as goal
 
 pub returns : goal.returns

@@ -2,7 +2,7 @@ use Rattle.std.proofs.Common.{◌∙◌, ap, w32}
 use Rattle.std.proofs.lemmas.Int.{to_z-of_z}
 use Rattle.book_packs.specs.Stand.{Standing}
 use Rattle.tare_register.specs.Tares.{tare_of}
-use Rattle.book_packs.proofs.Registering.{tare_is}
+use Rattle.book_packs.proofs.TareRegisters.{tare_is}
 use Rattle.book_packs.proofs.packs.Packs.tare.Goals as goal
 
 pub returns : goal.returns

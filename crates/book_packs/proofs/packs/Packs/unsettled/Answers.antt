@@ -2,7 +2,7 @@ use Rattle.std.proofs.Common.{◌∙◌, ap}
 use Rattle.book_packs.specs.Stand.{Standing}
 use Rattle.std.specs.List.{slice_index_or}
 use Rattle.std.specs.Prelude.{◌-◌, None}
-use Rattle.book_packs.proofs.Registering.{lane_at}
+use Rattle.book_packs.proofs.TareRegisters.{lane_at}
 use Rattle.book_packs.proofs.packs.Packs.unsettled.Goals as goal
 
 pub returns : goal.returns

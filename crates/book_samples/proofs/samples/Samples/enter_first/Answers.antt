@@ -5,7 +5,7 @@ use Rattle.book_samples.specs.Changed.{change_at}
 use Rattle.std.proofs.lemmas.List.{with_items_is}
 use Rattle.std.specs.Vec.{with_items}
 use Rattle.book_samples.specs.contracts.samples.Samples.{the_view}
-use Rattle.book_samples.proofs.Keeping.{first_stands}
+use Rattle.book_samples.proofs.SampleLemmas.{first_stands}
 use Rattle.book_samples.proofs.samples.Samples.enter_first.Goals as goal
 
 pub returns-clause-drawn : goal.returns-clause-drawn

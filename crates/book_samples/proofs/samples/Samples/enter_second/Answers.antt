@@ -4,7 +4,7 @@ use Rattle.book_samples.specs.Changed.{change_at, with_second}
 use Rattle.std.proofs.lemmas.List.{with_items_is}
 use Rattle.std.specs.Vec.{with_items}
 use Rattle.book_samples.specs.contracts.samples.Samples.{the_view}
-use Rattle.book_samples.proofs.Keeping.{second_stands}
+use Rattle.book_samples.proofs.SampleLemmas.{second_stands}
 use Rattle.book_samples.proofs.samples.Samples.enter_second.Goals as goal
 
 pub returns-clause-drawn : goal.returns-clause-drawn

@@ -2,7 +2,7 @@ use Rattle.std.proofs.Common.{◌≡◌, ◌∙◌, ap, cond, nat_eq, Some, w64,
 use Rattle.std.proofs.lemmas.Int.{to_z-of_z}
 use Rattle.book_words.specs.Measures.{Measured}
 use Rattle.book_samples.specs.Kept.{Kept, measured_in}
-use Rattle.book_samples.proofs.Keeping.{measured_stands}
+use Rattle.book_samples.proofs.SampleLemmas.{measured_stands}
 use Rattle.book_samples.proofs.samples.Samples.measure.Goals as goal
 
 -- the masses as they were handed in

@@ -1,6 +1,6 @@
 use Rattle.std.proofs.Common.{◌++◌, ◌∷◌, [], ◌∙◌, ap, None}
 use Rattle.book_samples.specs.Kept.{Kept}
-use Rattle.book_samples.proofs.Keeping.{opened_stands}
+use Rattle.book_samples.proofs.SampleLemmas.{opened_stands}
 use Rattle.book_samples.proofs.samples.Samples.open_batch.Goals as goal
 
 pub returns-clause-opened : goal.returns-clause-opened

@@ -1,6 +1,6 @@
 use Rattle.std.proofs.Common.{◌∙◌, ap}
 use Rattle.book_samples.specs.Kept.{Kept}
-use Rattle.book_samples.proofs.Keeping.{same_stands}
+use Rattle.book_samples.proofs.SampleLemmas.{same_stands}
 use Rattle.book_samples.proofs.samples.Samples.reserve.Goals as goal
 
 pub returns-in_err-reserve_room-clause-kept : goal.returns-in_err-reserve_room-clause-kept

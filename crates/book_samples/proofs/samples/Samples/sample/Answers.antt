@@ -1,7 +1,7 @@
 use Rattle.std.proofs.Common.{◌≡◌, ◌∙◌, ℕ, ◌<◌, ◌≤◌, List, [], ◌∷◌, length, slice_get, get_or, Option, Some, None, zero, suc, ap, arith}
 use Rattle.book_words.specs.Samples.{Sample}
 use Rattle.book_samples.specs.Kept.{Kept}
-use Rattle.book_samples.proofs.Keeping.{sample_at_number}
+use Rattle.book_samples.proofs.SampleLemmas.{sample_at_number}
 use Rattle.book_samples.proofs.samples.Samples.sample.Goals as goal
 
 -- what stands at a place is within the list

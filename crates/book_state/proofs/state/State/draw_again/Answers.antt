@@ -3,11 +3,11 @@ use Rattle.std.specs.List.Sorted.{IsStrictlyIncreasing}
 use Rattle.book_words.specs.Population.{population}
 use Rattle.book_words.specs.Samples.{Sample, numbers_of, sample_of}
 use Rattle.book_words.specs.Order.{batch_number}
-use Rattle.book_index.proofs.SaidNames.{product_where_opened}
-use Rattle.book_laws.proofs.LawfulActs.{draw_second_tells}
+use Rattle.book_words.proofs.SaidNames.{product_where_opened}
+use Rattle.book_words.proofs.AllowedActs.{draw_second_tells}
 use Rattle.book_state.proofs.Parts.{parts_of}
 use Rattle.book_state.proofs.Batches.{number_within}
-use Rattle.book_state.proofs.Entered.{there, numbers_ascend, sample_there, first_drawn_by, second_made}
+use Rattle.book_state.proofs.EntryFacts.{there, numbers_ascend, sample_there, first_drawn_by, second_made}
 use Rattle.book_state.proofs.state.State.draw_again.Goals as goal
 
 pub unreachable-requires : goal.unreachable-requires

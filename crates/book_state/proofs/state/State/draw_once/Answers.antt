@@ -3,12 +3,12 @@ use Rattle.std.specs.List.Sorted.{IsStrictlyIncreasing}
 use Rattle.book_words.specs.Population.{population}
 use Rattle.book_words.specs.Samples.{numbers_of, sample_by}
 use Rattle.book_words.specs.Order.{batch_number}
-use Rattle.book_index.proofs.SaidNames.{product_where_opened}
-use Rattle.book_laws.proofs.LawfulActs.{draw_tells}
+use Rattle.book_words.proofs.SaidNames.{product_where_opened}
+use Rattle.book_words.proofs.AllowedActs.{draw_tells}
 use Rattle.book_state.proofs.Parts.{parts_of}
 use Rattle.book_state.proofs.Batches.{number_within}
 use Rattle.book_samples.specs.Kept.{drawing_at}
-use Rattle.book_state.proofs.Entered.{there, numbers_few, numbers_ascend}
+use Rattle.book_state.proofs.EntryFacts.{there, numbers_few, numbers_ascend}
 use Rattle.book_state.proofs.state.State.draw_once.Goals as goal
 
 pub unreachable-requires : goal.unreachable-requires

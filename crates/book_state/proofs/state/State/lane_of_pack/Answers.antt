@@ -2,7 +2,7 @@ use Rattle.std.proofs.Common.{rules, ◌≡◌, ◌∙◌, None, ap}
 use Rattle.std.specs.Option.{option_and_then}
 use Rattle.book_words.specs.declared.act.Entry.{Entry}
 use Rattle.book_state.specs.Told.{lane_weighed}
-use Rattle.book_state.proofs.Seen.{lane_told}
+use Rattle.book_state.proofs.ReadingRows.{lane_told}
 use Rattle.book_state.proofs.state.State.lane_of_pack.Goals as goal
 
 pub returns-in_err-entry : goal.returns-in_err-entry

@@ -7,16 +7,16 @@ use Rattle.book_words.specs.declared.act.Act.TheVariants.{Weigh}
 use Rattle.book_laws.proofs.BatchLaws.{orderly}
 use Rattle.book_state.proofs.Parts.{parts_of}
 use Rattle.book_state.proofs.Batches.{number_within}
-use Rattle.book_state.proofs.Limited.{met_few}
+use Rattle.book_state.proofs.PopulationLimits.{met_few}
 use Rattle.book_words.specs.Order.{batch_number}
-use Rattle.book_state.proofs.Named.{lane_has_batch}
+use Rattle.book_state.proofs.NumberedNames.{lane_has_batch}
 use Rattle.book_state.proofs.OnLanes.{numbered}
 use Rattle.book_state.proofs.state.State.met.Goals as goal
 
 pub unreachable-requires : goal.unreachable-requires
 unreachable-requires c =
     let stand = parts_of c.self.inside c.args.self.now c.self.invariant c.self.view_is in
-    let none : None ≡ batch_number c.args.self.now.entries c.args.batch.now = sym c.in_default.is ∙ c.lane_number.ensures c.args.self.now.entries stand.index stand.legal ∙ ap (option_and_then (batch_number c.args.self.now.entries)) c.requires.lane in
+    let none : None ≡ batch_number c.args.self.now.entries c.args.batch.now = sym c.in_default.is ∙ c.lane_batch_number.ensures c.args.self.now.entries stand.index stand.legal ∙ ap (option_and_then (batch_number c.args.self.now.entries)) c.requires.lane in
     let has = lane_has_batch c.args.self.now.entries c.args.lane c.args.batch.now stand.legal c.requires.lane in
     (let clash : false ≡ true = ap is_some none ∙ has in cc)
 

@@ -1,7 +1,7 @@
 use Rattle.std.proofs.Common.{sym, subst}
 use Rattle.book_words.specs.Readings.{reading_of}
 use Rattle.book_state.proofs.Parts.{parts_of}
-use Rattle.book_state.proofs.Telling.{IsTold, put_is, pack_is_told}
+use Rattle.book_state.proofs.PackFacts.{IsTold, put_is, pack_is_told}
 use Rattle.book_state.proofs.state.State.pack.Goals as goal
 
 pub returns-clause-value : goal.returns-clause-value

@@ -1,6 +1,6 @@
 use Rattle.std.proofs.Common.{◌≡◌, rules, None, sym, ◌∙◌}
 use Rattle.book_state.proofs.Parts.{parts_of}
-use Rattle.book_state.proofs.Named.{no_product, product_at}
+use Rattle.book_state.proofs.NumberedNames.{no_product, product_at}
 use Rattle.book_state.proofs.state.State.product.Goals as goal
 
 pub returns-in_err-terms-clause-value : goal.returns-in_err-terms-clause-value

@@ -2,7 +2,7 @@ use Rattle.std.proofs.Common.{rules, ◌≡◌, ◌∙◌, None, Option, sym, ap
 use Rattle.book_words.specs.Samples.{Sample}
 use Rattle.book_state.proofs.Parts.{parts_of}
 use Rattle.book_state.proofs.Batches.{no_batch, is_batch, no_sample_of}
-use Rattle.book_state.proofs.Planned.{handed_out}
+use Rattle.book_state.proofs.SamplePlans.{handed_out}
 use Rattle.book_state.proofs.state.State.sample.Goals as goal
 
 pub returns-in_err-number-clause-value : goal.returns-in_err-number-clause-value

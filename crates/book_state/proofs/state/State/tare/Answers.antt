@@ -5,7 +5,7 @@ use Rattle.book_words.specs.Ranges.{IsBetween}
 use Rattle.book_words.specs.Tares.{tare_of_product}
 use Rattle.book_laws.proofs.RangeLaws.{product_tare_within}
 use Rattle.book_state.proofs.Parts.{parts_of}
-use Rattle.book_state.proofs.Untared.{no_tare_unknown}
+use Rattle.book_state.proofs.MissingTares.{no_tare_unknown}
 use Rattle.book_state.proofs.state.State.tare.Goals as goal
 
 pub returns-in_err-number-clause-value : goal.returns-in_err-number-clause-value

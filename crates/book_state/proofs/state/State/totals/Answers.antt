@@ -4,7 +4,7 @@ use Rattle.book_words.specs.Acts.{product_of}
 use Rattle.book_packs.specs.Told.{totals_told}
 use Rattle.book_state.proofs.Parts.{parts_of}
 use Rattle.book_state.proofs.Batches.{no_batch, is_batch, told_of_batch, number_within}
-use Rattle.book_state.proofs.Limited.{totals_few}
+use Rattle.book_state.proofs.PopulationLimits.{totals_few}
 use Rattle.book_state.proofs.state.State.totals.Goals as goal
 
 pub returns-in_err-number-clause-value : goal.returns-in_err-number-clause-value

@@ -1,7 +1,7 @@
 use Rattle.std.proofs.Common.{◌∙◌, sym, ap, option_map}
 use Rattle.book_words.specs.declared.act.Reading.{Reading}
 use Rattle.book_state.proofs.Parts.{parts_of}
-use Rattle.book_state.proofs.Waiting.{none_waits}
+use Rattle.book_state.proofs.NoLane.{none_waits}
 use Rattle.book_state.proofs.state.State.unsettled.Goals as goal
 
 pub returns-then-not-is_lane : goal.returns-then-not-is_lane

@@ -2,7 +2,7 @@ use Rattle.std.proofs.Common.{◌∙◌, false, sym, ap, ◌==◌}
 use Rattle.std.specs.Option.{option_map_or}
 use Rattle.book_words.specs.declared.refusal.Refusal.TheVariants.{Unsettled}
 use Rattle.book_words.specs.Refusals.{refused_if}
-use Rattle.book_state.proofs.Telling.{waits_told}
+use Rattle.book_state.proofs.PackFacts.{waits_told}
 use Rattle.book_state.proofs.state.State.unsettled_lane.Goals as goal
 
 pub returns-then-is_number : goal.returns-then-is_number

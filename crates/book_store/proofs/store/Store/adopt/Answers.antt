@@ -3,7 +3,7 @@ use Rattle.book_words.specs.declared.act.Entry.{Entry}
 use Rattle.book_core.specs.declared.types.ReplayError.{ReplayError}
 use Rattle.book_core.specs.View.{ReadyEntry}
 use Rattle.book_store.specs.Offers.{OffersEntry}
-use Rattle.book_store.proofs.Hanging.{images_hold, offers_from, offers_none}
+use Rattle.book_store.proofs.StoreFacts.{images_hold, offers_from, offers_none}
 use Rattle.book_store.proofs.store.Store.adopt.Goals as goal
 
 pub returns-in-Err-Unlawful-clause-images : goal.returns-in-Err-Unlawful-clause-images

@@ -6,7 +6,7 @@ use Rattle.book_words.specs.Answers.{answer, IsLawful}
 use Rattle.book_core.specs.Steps.{asked_act, MayLackMemory}
 use Rattle.book_store.specs.Offers.{Offers}
 use Rattle.book_store.proofs.Decided.{ready_is, known_is, refused_is, lacking_is, list_more, list_same, none_new}
-use Rattle.book_store.proofs.Hanging.{images_hold, leaves_disk, offers_from, offers_none}
+use Rattle.book_store.proofs.StoreFacts.{images_hold, leaves_disk, offers_from, offers_none}
 use Rattle.book_store.proofs.store.Store.ask.Goals as goal
 
 -- the act is ready, and its entry is offered
@@ -122,3 +122,6 @@ returns-in-Err-Refused-look-clause-images g c = images_hold g.D.Disk g.met.D.Dis
 
 pub returns-in-Err-NoMemory-look-clause-images : goal.returns-in-Err-NoMemory-look-clause-images
 returns-in-Err-NoMemory-look-clause-images g c = images_hold g.D.Disk g.met.D.Disk.reads_image g.met.D.Disk.only_now c.args.self.now
+
+pub returns-in-Err-NoMemory-clause-no_memory : goal.returns-in-Err-NoMemory-clause-no_memory
+returns-in-Err-NoMemory-clause-no_memory g c lacks = leaves_disk g.D.Disk c.args.self.now (record c.args.self.now { book = c.ready.new.self }) refl c.ready.ensures.entries

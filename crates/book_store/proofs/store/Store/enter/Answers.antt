@@ -1,5 +1,5 @@
 use Rattle.std.proofs.Common.{rules, ◌∙◌, refl}
-use Rattle.book_store.proofs.Hanging.{images_hold, offers_done, offers_failed}
+use Rattle.book_store.proofs.StoreFacts.{images_hold, offers_done, offers_failed}
 use Rattle.book_store.proofs.Spelled.{spells_as}
 use Rattle.book_store.proofs.store.Store.enter.Goals as goal
 

@@ -1,8 +1,11 @@
-use Rattle.book_store.proofs.Mounted.{opened, sound, counted, unwritten, asked, caused, held, refused_cause, refused_held}
+use Rattle.book_store.proofs.Mounted.{opened, reads_mounted, sound, counted, unwritten, asked, caused, held, refused_cause, refused_held}
 use Rattle.book_store.proofs.store.Store.mount.Goals as goal
 
 pub returns-in-Ok-clause-opened : goal.returns-in-Ok-clause-opened
 returns-in-Ok-clause-opened g c bytes told = opened g.D.Disk c.in-Ok.journal c.args.limit c.open.result bytes c.in-Ok.ensures.most (c.in-Ok.ensures.mounted bytes told) c.open.ensures
+
+pub returns-in-Ok-clause-reads : goal.returns-in-Ok-clause-reads
+returns-in-Ok-clause-reads g c bytes told = reads_mounted g.D.Disk c.in-Ok.journal c.args.limit c.open.result bytes (c.in-Ok.ensures.mounted bytes told) c.open.ensures
 
 pub returns-in-Ok-clause-cause : goal.returns-in-Ok-clause-cause
 returns-in-Ok-clause-cause g c = caused g.D.Disk c.args.disk c.in-Ok.journal c.in-Ok.ensures.most c.in-Ok.ensures.mounted c.args.limit c.open.result c.in-Ok.ensures.cause c.open.ensures

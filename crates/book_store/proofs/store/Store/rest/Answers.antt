@@ -1,4 +1,4 @@
-use Rattle.book_store.proofs.Hanging.{images_hold, keeps_none}
+use Rattle.book_store.proofs.StoreFacts.{images_hold, keeps_none}
 use Rattle.book_store.proofs.store.Store.rest.Goals as goal
 
 -- there is nothing to keep

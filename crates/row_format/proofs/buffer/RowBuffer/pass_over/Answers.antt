@@ -1,5 +1,5 @@
 use Rattle.std.proofs.Common.{rules, ap, ◌∙◌, replicate, ◌++◌}
-use Rattle.row_format.proofs.Filled.{filled_further, zeros_taken}
+use Rattle.row_format.proofs.FieldZeros.{filled_further, zeros_taken}
 use Rattle.row_format.proofs.buffer.RowBuffer.pass_over.Goals as goal
 
 -- src/buffer.rt:57:5

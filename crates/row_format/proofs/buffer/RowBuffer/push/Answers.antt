@@ -1,5 +1,5 @@
 use Rattle.std.proofs.Common.{rules, length}
-use Rattle.row_format.proofs.Filled.{filled_behind}
+use Rattle.row_format.proofs.FieldZeros.{filled_behind}
 use Rattle.row_format.proofs.buffer.RowBuffer.push.Goals as goal
 
 -- src/buffer.rt:47:5

@@ -1,0 +1,53 @@
+-- The signal that is recorded, by what a weighing meets.
+use Rattle.std.proofs.Common.{◌≡◌, ℕ, ℤ, ◌*◌, ◌==◌, nat_lt, int_lt, Bool, true, false, ◌&&◌, if◌then◌else◌, List, Some, option_map, refl, sym, ◌∙◌, ap}
+use Rattle.hall_limits.specs.declared.TheConstants.{MAX_POPULATION}
+use Rattle.annex_tables.specs.declared.types.Limits.{Limits}
+use Rattle.pack_judge.specs.declared.types.Class.{Class}
+use Rattle.pack_judge.specs.declared.types.Class.TheVariants as classes
+use Rattle.pack_judge.specs.declared.types.Cause.TheVariants as cause
+use Rattle.pack_judge.specs.declared.types.Signal.{Signal}
+use Rattle.pack_judge.specs.declared.types.Signal.TheVariants.{Pass, Reject}
+use Rattle.pack_judge.specs.Judge.{signal_by_class, signal_of}
+use Rattle.book_words.specs.declared.name.Name.{Name}
+use Rattle.book_words.specs.declared.act.Prior.{Prior}
+use Rattle.book_words.specs.declared.act.Act.{Act}
+use Rattle.book_words.specs.declared.act.Act.TheVariants.{Weigh}
+use Rattle.book_words.specs.declared.act.Entry.{Entry}
+use Rattle.book_words.specs.Acts.{newest_day, lane_batch}
+use Rattle.book_words.specs.Readings.{net_of_gross}
+use Rattle.book_words.specs.Classes.{class_by_density, limits_of_batch, density_of_batch}
+use Rattle.book_words.specs.Signals.{judged_signal, recorded_signal}
+use Rattle.book_packs.specs.Densities.{limit_at, limits_at}
+use Rattle.book_packs.specs.declared.types.AtWeighing.{AtWeighing}
+use Rattle.book_packs.specs.Told.{met_at}
+use Rattle.book_packs.proofs.Below.{class_is}
+use Rattle.book_words.proofs.SaidTogether.{started_for_it}
+
+-- the signal by the limits in mg is the one by the density
+signal_is : (density : ℕ) (limits : Limits) (net : ℤ) (held : Bool) (population nonstandard : ℕ)
+    → signal_of net (limits_at density limits) held population nonstandard ≡ signal_by_class (class_by_density density limits net) held population nonstandard
+signal_is density limits net held population nonstandard =
+    ap (λ (c : Class). signal_by_class c held population nonstandard) (class_is density limits net)
+
+-- a signal by the limits in mg, the net and what is met is the one of the gross
+pub judged : (entries : List Entry) (batch : Name) (gross : ℤ) (act : Act) (limits : Limits) (met : AtWeighing) (net : ℤ) (signal : Signal)
+    → limits ≡ limits_at (density_of_batch entries batch) (limits_of_batch entries batch)
+    → net ≡ net_of_gross entries (Some batch) (newest_day entries) gross → met ≡ met_at entries act batch
+    → signal ≡ signal_of net limits (nat_lt 0 met.inadequate) met.population met.nonstandard → signal ≡ judged_signal entries act gross batch
+judged entries batch gross act limits met net signal by_limits by_net by_met is =
+    let all = limits_at (density_of_batch entries batch) (limits_of_batch entries batch) in
+    let told = net_of_gross entries (Some batch) (newest_day entries) gross in
+    is
+    ∙ ap (λ (l : Limits). signal_of net l (nat_lt 0 met.inadequate) met.population met.nonstandard) by_limits
+    ∙ ap (λ (n : ℤ). signal_of n all (nat_lt 0 met.inadequate) met.population met.nonstandard) by_net
+    ∙ ap (λ (m : AtWeighing). signal_of told all (nat_lt 0 m.inadequate) m.population m.nonstandard) by_met
+    ∙ signal_is (density_of_batch entries batch) (limits_of_batch entries batch) told
+    (nat_lt 0 (met_at entries act batch).inadequate) (met_at entries act batch).population (met_at entries act batch).nonstandard
+
+-- a weighing of a lane that has a batch is recorded with the signal of its gross
+pub recorded : (entries : List Entry) (act : Act) (lane : ℕ) (gross : ℤ) (prior : Prior) (batch : Name) (signal : Signal) → act ≡ Weigh lane gross prior
+    → lane_batch entries lane ≡ Some batch → signal ≡ judged_signal entries (Weigh lane gross prior) gross batch → Some signal ≡ recorded_signal entries act
+recorded entries act lane gross prior batch signal is on told =
+    ap (λ (s : Signal). Some s) told
+    ∙ sym (ap (option_map (judged_signal entries (Weigh lane gross prior) gross)) (started_for_it entries lane batch on))
+    ∙ sym (ap (recorded_signal entries) is)

@@ -1,0 +1,359 @@
+ghost use Rattle.std.specs.Prelude.{◌≤◌, length};
+ghost use Rattle.book_store.specs.Stores.{IsSound};
+
+use crate::books::{ROWS, entry_at};
+use book_store::{AdoptError, MountError, Store};
+use book_words::{Answered, Ask, AskError, Entry, Reply, Want};
+use disk_core::{Disk, Keep, MemoryDisk};
+use pack_judge::Signal;
+use std::alloc::{AllocError, Global};
+use std::process::Abort;
+
+/// What a crash may leave of the bytes that were written since the last sync.
+const KEEPS: [Keep; 4] = [Keep::Earlier, Keep::Written, Keep::Fill(1), Keep::Fill(0)];
+
+/// What is told, where it can be copied.
+#[derive(Clone, Copy, PartialEq, Eq)]
+pub(crate) enum Told {
+    Row(u32, Option<Signal>),
+    View,
+    Refused,
+    DiskFault,
+    NoMemory,
+}
+
+// What a reply tells.
+fn told_of(reply: &Reply) -> Told {
+    match reply {
+        Reply::Done { row } => Told::Row(*row, None),
+        Reply::Judged { row, signal } => Told::Row(*row, Some(*signal)),
+        _ => Told::View,
+    }
+}
+
+// What an answer tells.
+fn read_answer(answer: &Result<Answered, AskError>) -> Told {
+    match answer {
+        Ok(answered) => told_of(&answered.reply),
+        Err(AskError::Refused(_)) => Told::Refused,
+        Err(AskError::DiskFault) => Told::DiskFault,
+        Err(AskError::NoMemory) => Told::NoMemory,
+    }
+}
+
+/// How far a book is taken: up to which row, whether it keeps a snapshot then, for how many rows
+/// behind the fifth room is taken there, and whether its acts are adopted; and how many rows it
+/// may have.
+#[derive(Clone, Copy)]
+pub(crate) struct Way {
+    pub(crate) rows: u32,
+    pub(crate) rests: bool,
+    pub(crate) room: u32,
+    pub(crate) adopts: bool,
+    pub(crate) limit: u32,
+}
+
+/// Nothing is asked.
+pub(crate) const LOOK: Way = Way {
+    rows: 0,
+    rests: false,
+    room: 0,
+    adopts: false,
+    limit: 1_000,
+};
+
+/// Five rows.
+pub(crate) const FIVE: Way = Way { rows: 5, ..LOOK };
+
+/// The long run, and its snapshot.
+pub(crate) const WHOLE: Way = Way {
+    rows: ROWS,
+    rests: true,
+    ..LOOK
+};
+
+/// How many calls the long run makes over an empty disk: mounting makes four, each act four more,
+/// and keeping the snapshot seven, which are the length, three writes and a sync, and the mark and
+/// a sync.
+pub(crate) const CALLS: u32 = 4 + 4 * ROWS + 7;
+
+/// What is seen of a disk: how many rows it held when it was mounted; whether these and all
+/// answers were right; how often the disk failed; and why it wasn't mounted.
+#[derive(Clone, Copy)]
+pub(crate) struct Seen {
+    pub(crate) held: u32,
+    pub(crate) right: bool,
+    pub(crate) faults: u32,
+    pub(crate) why: Option<MountError>,
+}
+
+/// What two acts are told behind five rows, and whether an entry hangs then.
+pub(crate) type Lines = [(Told, bool); 2];
+
+/// A book on a disk, and how often the disk failed.
+#[derive(Drop)]
+pub(crate) struct TestStore<D: Disk> {
+    store: Store<D>,
+    faults: u32,
+    ghost sound: { IsSound D.Disk store },
+}
+
+impl<D: Disk> TestStore<D> {
+    // Asks the act of an entry.
+    fn ask(&mut self, entry: &Entry) -> Told {
+        let want = Want::Act(entry.act);
+        let answer = self.store.ask(
+            entry.by,
+            &Ask {
+                desk: entry.desk,
+                request: entry.request,
+                want,
+            },
+        );
+        read_answer(&answer)
+    }
+
+    // Adopts an entry, or asks its act. What isn't lawful is refused.
+    fn act(&mut self, entry: &Entry, adopts: bool) -> Told {
+        if !adopts {
+            return self.ask(entry);
+        }
+        match self.store.adopt(entry) {
+            Ok(row) => Told::Row(row, None),
+            Err(AdoptError::Unlawful) => Told::Refused,
+            Err(AdoptError::DiskFault) => Told::DiskFault,
+            Err(AdoptError::NoMemory) => Told::NoMemory,
+        }
+    }
+
+    // Whether an entry is told its row, and added no other. A desk's act is told again.
+    fn is_told(&mut self, entry: &Entry, number: u32) -> bool {
+        let told = Told::Row(number, entry.signal);
+        self.store.len() == number
+            && (entry.desk == 0 || self.ask(entry) == told)
+            && self.store.len() == number
+    }
+
+    // Whether the act of a row is answered with its row; where the disk fails it is asked again.
+    fn take(&mut self, entry: &Entry, number: u32) -> bool {
+        let mut told = self.ask(entry);
+        for _turn in 0..2u8 {
+            if told == Told::DiskFault {
+                self.faults = self.faults.saturating_add(1);
+                told = self.ask(entry);
+            }
+        }
+        told == Told::Row(number, entry.signal) && self.is_told(entry, number)
+    }
+
+    // Whether an entry is adopted as its row, where the book may have one row: behind it what is
+    // asked is refused.
+    fn adopts(&mut self, entry: &Entry, number: u32) -> bool {
+        (number == 1 || self.ask(entry) == Told::Refused)
+            && self.act(entry, true) == Told::Row(number, None)
+            && self.store.len() == number
+    }
+
+    // Whether each act up to a row is answered with its row.
+    fn take_to(&mut self, entries: &[Entry], rows: u32, adopts: bool) -> bool {
+        for number in self.store.len().saturating_add(1)..rows.saturating_add(1) {
+            let right = match entry_at(entries, number) {
+                Some(entry) if adopts => self.adopts(&entry, number),
+                Some(entry) => self.take(&entry, number),
+                None => false,
+            };
+            if !right {
+                return false;
+            }
+        }
+        true
+    }
+
+    // Whether the rows are the first of some entries.
+    fn has_front(&self, entries: &[Entry]) -> bool {
+        for number in 1..self.store.len().saturating_add(1) {
+            if self.store.entry(number) != entry_at(entries, number) {
+                return false;
+            }
+        }
+        true
+    }
+
+    // Whether the act of the last row is told that row, where a desk asked it.
+    fn repeats_last(&mut self, entries: &[Entry]) -> bool {
+        let number = self.store.len();
+        match entry_at(entries, number) {
+            Some(entry) => self.is_told(&entry, number),
+            None => number == 0,
+        }
+    }
+
+    // Whether a snapshot is kept, where it is wanted; where the disk fails that is asked again.
+    fn keep(&mut self, wanted: bool) -> bool {
+        if !wanted {
+            return true;
+        }
+        for _turn in 0..3u8 {
+            match self.store.rest() {
+                Ok(kept) => return kept,
+                Err(_) => self.faults = self.faults.saturating_add(1),
+            }
+        }
+        false
+    }
+
+    // Takes a book so far, and tells what is seen.
+    fn go(&mut self, entries: &[Entry], way: Way) -> Seen {
+        let held = self.store.len();
+        let right = self.has_front(entries)
+            && self.repeats_last(entries)
+            && self.take_to(entries, way.rows.min(5), way.adopts)
+            && (way.room == 0 || self.store.reserve(way.room).is_ok())
+            && self.take_to(entries, way.rows, way.adopts)
+            && self.has_front(entries)
+            && self.keep(way.rests);
+        Seen {
+            held,
+            right: right && self.store.held() == held,
+            faults: self.faults,
+            why: None,
+        }
+    }
+
+    // Asks two acts behind five rows, or adopts two entries.
+    fn act_twice(&mut self, entries: &[Entry], adopts: bool, acts: &[Entry; 2]) -> Lines {
+        self.go(entries, FIVE);
+        let told = self.act(&acts[0], adopts);
+        let hangs = self.store.hanging();
+        let then = self.act(&acts[1], adopts);
+        [(told, hangs), (then, self.store.hanging())]
+    }
+}
+
+/// What was seen of a disk, and the disk.
+#[derive(Drop)]
+pub(crate) struct Used<D: Disk> {
+    pub(crate) seen: Seen,
+    pub(crate) disk: D,
+}
+
+// Takes a book so far, and gives its disk.
+fn go_and_close<D: Disk>(store: TestStore<D>, entries: &[Entry], way: Way) -> Used<D> {
+    let mut store = store;
+    let seen = store.go(entries, way);
+    let (disk, _) = store.store.close();
+    Used { seen, disk }
+}
+
+/// Mounts a disk, again where that fails, and takes its book so far.
+pub(crate) fn use_disk(
+    alloc: Global,
+    disk: MemoryDisk,
+    entries: &[Entry],
+    way: Way,
+) -> Used<MemoryDisk> {
+    let mut disk = disk;
+    let mut why = None;
+    for faults in 0..3u32 {
+        match Store::mount(alloc, disk, way.limit) {
+            Ok(store) => return go_and_close(TestStore { store, faults }, entries, way),
+            Err(refused) => {
+                disk = refused.disk;
+                why = Some(refused.why);
+            }
+        }
+    }
+    let seen = Seen {
+        held: 0,
+        right: false,
+        faults: 3,
+        why,
+    };
+    Used { seen, disk }
+}
+
+/// Mounts these bytes and takes their book so far.
+pub(crate) fn use_bytes(
+    alloc: Global,
+    bytes: Vec<u8>,
+    entries: &[Entry],
+    way: Way,
+) -> Used<MemoryDisk> {
+    let disk = MemoryDisk::new(alloc, bytes, Vec::new(alloc));
+    use_disk(alloc, disk, entries, way)
+}
+
+// Asks two acts behind five rows, or adopts two entries, and gives the disk.
+fn act_and_close<D: Disk>(
+    store: TestStore<D>,
+    entries: &[Entry],
+    adopts: bool,
+    acts: &[Entry; 2],
+) -> (Lines, D) {
+    let mut store = store;
+    let lines = store.act_twice(entries, adopts, acts);
+    let (disk, _) = store.store.close();
+    (lines, disk)
+}
+
+/// Asks two acts behind five rows, or adopts two entries, on a disk of which these calls fail. The
+/// book may have six rows, and where it adopts five.
+pub(crate) fn act_on(
+    alloc: Global,
+    fails: &[u32],
+    entries: &[Entry],
+    adopts: bool,
+    acts: &[Entry; 2],
+) -> Result<(Option<Lines>, MemoryDisk), AllocError> {
+    let disk = MemoryDisk::new(alloc, Vec::new(alloc), Vec::from_slice(alloc, fails)?);
+    let limit = if adopts { 5 } else { 6 };
+    match Store::mount(alloc, disk, limit) {
+        Ok(store) => {
+            let store = TestStore { store, faults: 0 };
+            let (lines, disk) = act_and_close(store, entries, adopts, acts);
+            Ok((Some(lines), disk))
+        }
+        Err(refused) => Ok((None, refused.disk)),
+    }
+}
+
+/// How many calls a disk was asked.
+pub(crate) fn calls_of(disk: &MemoryDisk) -> u32
+    ensures { result ≤ length disk.now.calls }
+{
+    disk.calls_made().min(u32::MAX as usize) as u32
+}
+
+/// Mounts what a crash leaves after so many calls, in each way of it: so many rows are there, or
+/// one of the rows up to these; and each act behind them is then answered with its row.
+pub(crate) fn check_crash(
+    rt: &impl Abort,
+    alloc: Global,
+    disk: &MemoryDisk,
+    after: u32,
+    entries: &[Entry],
+    way: Way,
+    rows: (u32, u32),
+) -> Result<(), AllocError> {
+    let after = after.min(calls_of(disk));
+    for keep in KEEPS {
+        let seen = use_bytes(alloc, disk.crash(after, keep)?, entries, way).seen;
+        assert!(rt; seen.right, "call {after}");
+        assert!(rt; rows.0 <= seen.held && seen.held <= rows.1, "call {after}");
+    }
+    Ok(())
+}
+
+/// A disk holds so many of these entries, as it is read and whatever a crash leaves of it.
+pub(crate) fn check_held(
+    rt: &impl Abort,
+    alloc: Global,
+    disk: &MemoryDisk,
+    entries: &[Entry],
+    rows: u32,
+) -> Result<(), AllocError> {
+    let bytes = Vec::from_slice(alloc, disk.bytes())?;
+    let seen = use_bytes(alloc, bytes, entries, LOOK).seen;
+    assert!(rt; seen.right && seen.held == rows);
+    check_crash(rt, alloc, disk, u32::MAX, entries, LOOK, (rows, rows))
+}

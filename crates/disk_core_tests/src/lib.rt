@@ -1,0 +1,7 @@
+//! Tests of disk_core by its public calls: what its streams and disks answer, one after the other.
+#![tactic(auto)]
+
+#[cfg(test)]
+mod disks;
+#[cfg(test)]
+mod streams;

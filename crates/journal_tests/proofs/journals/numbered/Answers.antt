@@ -1,5 +1,0 @@
-use Rattle.journal_tests.proofs.Numbered.{is_row}
-use Rattle.journal_tests.proofs.journals.numbered.Goals as goal
-
-pub returns : goal.returns
-returns c = is_row c.args.number c.args.row.now c.put_u32.new.bytes c.told-row c.requires c.put_u32.ensures

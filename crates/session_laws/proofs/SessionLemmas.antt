@@ -1,0 +1,396 @@
+-- What is kept of a store in a session: as it begins, with each ask, and at its end.
+use Rattle.std.proofs.Common.{◌≡◌, ◌⊎◌, inl, inr, ⊎_elim, ℕ, ◌≤◌, List, [], ◌∷◌, ◌++◌, length, take}
+use Rattle.std.proofs.Common.{Option, Some, None, IsSome, Result, Ok, Err, OnOk, refl, sym, ap, ◌∙◌}
+use Rattle.std.proofs.Common.{subst, arith, append_assoc, append-nil, length-append}
+use Rattle.std.proofs.Math.Seq.{take-append_seam}
+use Rattle.std.proofs.lemmas.List.{take-append-le}
+use Rattle.device_facts.specs.Count.{Counted, Rose}
+use Rattle.device_facts.specs.Prefix.{IsPrefixOf}
+use Rattle.disk_core.specs.Devices.{LeavesOnly}
+use Rattle.disk_core.specs.declared.disk.Disk as disk
+use Rattle.book_words.specs.declared.act.Entry.{Entry}
+use Rattle.book_words.specs.declared.caller.AskError.{AskError}
+use Rattle.book_words.specs.declared.caller.AskError.TheVariants as error
+use Rattle.book_words.specs.declared.reply.Answered.{Answered}
+use Rattle.book_words.specs.Answers.{IsLawful}
+use Rattle.book_journal.specs.Mounting.{KeepsFromSync}
+use Rattle.book_store.specs.declared.store.Store.{Store}
+use Rattle.book_store.specs.Images.{HoldsBook}
+use Rattle.book_store.specs.Stores.{disk_of, entries_of, Hangs, HasBook, HangsWith, HoldsOrHangs}
+use Rattle.book_store.specs.Stores.{ImagesHoldBook, IsSound}
+use Rattle.book_store.specs.Offers.{Offers, OffersEntry, LeavesDisk, CountsDiskFault, list_behind}
+use Rattle.book_store.specs.Mounting.{HasHeld}
+use Rattle.session_laws.specs.declared.session.Session as session
+use Rattle.session_laws.specs.Sessions.{HoldsOrOneMore, LeavesFrom, RestsOnDisk, Begins}
+use Rattle.session_laws.specs.Sessions.{HasBookSince, IsKeptSince, KeepsRun}
+
+-- ---- lists that go on
+
+begins_same : (a b : List Entry) → b ≡ a → IsPrefixOf a b
+begins_same a b same = ([], same ∙ sym (append-nil a))
+
+begins_on : (a b c : List Entry) → IsPrefixOf a b → IsPrefixOf b c → IsPrefixOf a c
+begins_on a b c first second = (
+  first.0 ++ second.0,
+  second.1 ∙ (ap (λ (es : List Entry). es ++ second.0) first.1 ∙ append_assoc a first.0 second.0),
+)
+
+begins_short : (a b : List Entry) → IsPrefixOf a b → length a ≤ length b
+begins_short a b begins = omega (arith, ap length begins.1, length-append a begins.0)
+
+-- what a list behind an ask begins with
+pub asked_begins : (result : Result Answered AskError) (entries next : List Entry)
+    (new : Option Entry) → next ≡ list_behind result entries new → IsPrefixOf entries next
+asked_begins (Ok answered) entries next (Some entry) is = (entry ∷ [], is)
+asked_begins (Ok answered) entries next None is = begins_same entries next is
+asked_begins (Err why) entries next (Some entry) is = begins_same entries next is
+asked_begins (Err why) entries next None is = begins_same entries next is
+
+-- ---- what a crash leaves
+
+-- of fewer rows a crash leaves what it may leave of more
+leaves_of_more : (before rows next : List Entry) (c : List ℕ) → IsPrefixOf rows next
+    → LeavesFrom before rows c → LeavesFrom before next c
+leaves_of_more before rows next c begins left =
+    record {
+      count = left.count;
+      least = left.least;
+      most = omega (arith, left.most, begins_short rows next begins);
+      holds = subst (λ (es : List Entry). HoldsOrOneMore es c)
+          (sym (ap (take left.count) begins.1 ∙
+          take-append-le left.count rows begins.0 left.most)) left.holds;
+    }
+
+-- the rows that a list begins with are among what it may leave
+leaves_front : (before rows next : List Entry) (c : List ℕ) → IsPrefixOf before rows
+    → IsPrefixOf rows next → HoldsOrOneMore rows c → LeavesFrom before next c
+leaves_front before rows next c opened begins holds =
+    record {
+      count = length rows;
+      least = begins_short before rows opened;
+      most = begins_short rows next begins;
+      holds = subst (λ (es : List Entry). HoldsOrOneMore es c)
+          (sym (ap (take (length rows)) begins.1 ∙ take-append_seam rows begins.0)) holds;
+    }
+
+-- from the rows of a session a crash leaves at least those that were there before
+leaves_earlier : (held before rows : List Entry) (c : List ℕ) → IsPrefixOf held before
+    → LeavesFrom before rows c → LeavesFrom held rows c
+leaves_earlier held before rows c begins left =
+    record {
+      count = left.count;
+      least = omega (arith, left.least, begins_short held before begins);
+      most = left.most;
+      holds = left.holds;
+    }
+
+-- a count that stayed or rose, and then rose
+rose_behind : (a b c : ℕ) → (b ≡ a) ⊎ Rose a b → Rose b c → Rose a c
+rose_behind a b c (inl same) rose = omega arith
+rose_behind a b c (inr first) rose = omega arith
+
+module _ {D : Type 0} (g : disk.Ghosts D) where
+  -- ---- what hangs
+
+  rose_on : (start old new : ℕ) → Counted old new 1 → (old ≡ start) ⊎ Rose start old
+      → Rose start new
+  rose_on start old new more (inl same) = omega arith
+  rose_on start old new more (inr rose) = omega arith
+
+  -- nothing hangs and the disk has failed as often as then, or it failed since
+  abbrev FailedSince : ℕ → Store D → Type 0
+  FailedSince then store = (¬ Hangs store × (g.faults (disk_of store) ≡ then))
+      ⊎ Rose then (g.faults (disk_of store))
+
+  fault_now : (then : ℕ) (old new : Store D)
+      → Counted (g.faults (disk_of old)) (g.faults (disk_of new)) 1 → FailedSince then old
+      → FailedSince then new
+  fault_now then old new more fault =
+      inr (rose_on then (g.faults (disk_of old)) (g.faults (disk_of new)) more
+      (⊎_elim (λ calm. inl calm.1) (λ rose. inr rose) fault))
+
+  no_fault : (then : ℕ) (old new : Store D) → (Hangs new → Hangs old)
+      → g.faults (disk_of new) ≡ g.faults (disk_of old) → FailedSince then old
+      → FailedSince then new
+  no_fault then old new hangs same (inl calm) =
+      inl ((λ hung. calm.0 (hangs hung)), same ∙ calm.1)
+  no_fault then old new hangs same (inr rose) = inr (subst (Rose then) (sym same) rose)
+
+  fault_asked : (then : ℕ) (old new : Store D) (result : Result Answered AskError)
+      → (Hangs new → (result ≡ Err error.DiskFault) ⊎ Hangs old)
+      → CountsDiskFault (g.faults (disk_of old)) (g.faults (disk_of new)) result
+      → FailedSince then old → FailedSince then new
+  fault_asked then old new (Err error.DiskFault) hangs cause fault =
+      fault_now then old new cause fault
+  fault_asked then old new (Ok answered) hangs cause fault =
+      no_fault then old new (λ hung. ⊎_elim (λ is. absurd (cc)) (λ was. was) (hangs hung)) cause
+      fault
+  fault_asked then old new (Err error.NoMemory) hangs cause fault =
+      no_fault then old new (λ hung. ⊎_elim (λ is. absurd (cc)) (λ was. was) (hangs hung)) cause
+      fault
+  fault_asked then old new (Err (error.Refused refused)) hangs cause fault =
+      no_fault then old new (λ hung. ⊎_elim (λ is. absurd (cc)) (λ was. was) (hangs hung)) cause
+      fault
+
+  module _ {N : Type 0} (s : session.Ghosts N) where
+    -- what hangs with a book, or stands behind it, is lawful
+    holds_lawful : (store : Store D) (c : List ℕ) → HasBookSince g s store
+        → HoldsOrHangs g store c → HoldsOrOneMore (entries_of store) c
+    holds_lawful store c book (inl holds) = inl holds
+    holds_lawful store c book (inr hangs) = inr (hangs.0, book.hung hangs.0 hangs.1, hangs.2)
+
+    -- a call over which a crash leaves the rows, or one lawful entry more
+    book_on : (old new : Store D) (Q : List ℕ → Type 0)
+        → IsPrefixOf s.before (entries_of old)
+        → IsPrefixOf (entries_of old) (entries_of new) → HasBookSince g s old → HasBook g new
+        → ((entry : Entry) → HangsWith g new entry → IsLawful (entries_of new) entry)
+        → ((c : List ℕ) → Q c → HoldsOrOneMore (entries_of old) c)
+        → LeavesOnly g (disk_of old) (disk_of new) Q → ImagesHoldBook g new → HasBookSince g s new
+    book_on old new Q opened begins book has hung lawful leaves images =
+        let on : (t : ℕ) (c : List ℕ) → t ≤ s.start → g.since (disk_of new) t c
+        → g.since (disk_of old) t c ⊎ LeavesFrom s.before (entries_of new) c =
+        λ t c le was. ⊎_elim (λ past. inl past)
+        (λ is. inr (leaves_front s.before (entries_of old) (entries_of new) c opened begins
+        (lawful c is)))
+        (leaves.before t c (omega (arith, le, book.later)) was) in
+        let more : (c : List ℕ) → LeavesFrom s.before (entries_of old) c
+        → LeavesFrom s.before (entries_of new) c =
+        λ c is. leaves_of_more s.before (entries_of old) (entries_of new) c begins is in
+        record {
+          has = has;
+          later = omega (arith, book.later, leaves.later);
+          hung = hung;
+          images = images has;
+          each = λ c was. ⊎_elim (λ past. more c (book.each c past)) (λ is. is)
+              (on s.start c (omega arith) was);
+          earlier = λ t c le was. ⊎_elim
+              (λ past. ⊎_elim (λ is. inl is) (λ is. inr (more c is)) (book.earlier t c le past))
+              (λ is. inr is) (on t c le was);
+        }
+
+    -- a call that leaves disk and list as they were
+    book_still : (old new : Store D) → entries_of new ≡ entries_of old → LeavesDisk g old new
+        → ImagesHoldBook g new → HasBookSince g s old → HasBookSince g s new
+    book_still old new same leaves images book =
+        record {
+          has = leaves.has book.has;
+          later = omega (arith, book.later, ap g.time leaves.same);
+          hung = λ entry hangs. subst (λ (es : List Entry). IsLawful es entry) (sym same)
+              (book.hung entry (leaves.hung entry hangs));
+          images = images (leaves.has book.has);
+          each = subst (λ (x : D × List Entry). (c : List ℕ) → g.since x.0 s.start c
+              → LeavesFrom s.before x.1 c) (λ i. (sym leaves.same i, sym same i)) book.each;
+          earlier = subst (λ (x : D × List Entry). (t : ℕ) (c : List ℕ) → t ≤ s.start
+              → g.since x.0 t c → s.past t c ⊎ LeavesFrom s.before x.1 c)
+              (λ i. (sym leaves.same i, sym same i)) book.earlier;
+        }
+
+    -- a call that offered an entry: it hangs only where it wasn't added
+    book_offer : (entry : Entry) (old new : Store D)
+        → IsPrefixOf s.before (entries_of old) → IsPrefixOf (entries_of old) (entries_of new)
+        → HasBookSince g s old → OffersEntry g entry old new
+        → (Hangs new → entries_of new ≡ entries_of old) → ImagesHoldBook g new
+        → HasBookSince g s new
+    book_offer entry old new opened begins book offer unless images =
+        book_on old new
+        (λ c. HoldsOrHangs g old c ⊎ HoldsBook (entries_of old ++ entry ∷ []) c)
+        opened begins book offer.has
+        (λ hung hangs. subst (λ (es : List Entry). IsLawful es hung)
+        (sym (unless hangs.row.hangs))
+        (⊎_elim (λ is. subst (IsLawful (entries_of old)) (sym is) offer.lawful)
+        (λ is. book.hung hung is) (offer.hung hung hangs)))
+        (λ c is. ⊎_elim (λ was. holds_lawful old c book was)
+        (λ stands. inr (entry, offer.lawful, stands)) is)
+        offer.moments images
+
+    -- an ask, by what it offers
+    book_asked : (old new : Store D) (result : Result Answered AskError) (offered : Option Entry)
+        → IsPrefixOf s.before (entries_of old)
+        → entries_of new ≡ list_behind result (entries_of old) offered → Offers g offered old new
+        → (IsSome offered → OnOk result (¬ Hangs new)) → ImagesHoldBook g new
+        → HasBookSince g s old → HasBookSince g s new
+    book_asked old new (Ok answered) None opened is offers settled images book =
+        book_still old new is offers images book
+    book_asked old new (Err why) None opened is offers settled images book =
+        book_still old new is offers images book
+    book_asked old new (Ok answered) (Some entry) opened is offers settled images book =
+        book_offer entry old new opened (entry ∷ [], is) book (offers book.has)
+        (λ hangs. absurd (settled refl hangs)) images
+    book_asked old new (Err why) (Some entry) opened is offers settled images book =
+        book_offer entry old new opened (begins_same (entries_of old) (entries_of new) is)
+        book (offers book.has) (λ hangs. is) images
+
+    -- a store as its session begins
+    pub kept_first : ((d : D) (c : List ℕ) → g.since d (g.time d) c → g.image d c)
+        → (store : Store D) → IsSound g store → Begins g s store → IsKeptSince g s store
+    kept_first only_now store sound first =
+        record {
+          sound = sound;
+          begins = begins_same s.before (entries_of store) (sym first.rows);
+          fault = inl (first.calm, sym first.faults);
+          book = λ rests.
+              let it = first.rests rests in record {
+                has = it.has;
+                later = omega (arith, first.start);
+                hung = λ entry hangs. absurd (first.calm hangs.row.hangs);
+                images = λ c image. inl (it.images c image);
+                each = λ c was. leaves_front s.before (entries_of store) (entries_of store) c
+                    (begins_same s.before (entries_of store) (sym first.rows))
+                    (begins_same (entries_of store) (entries_of store) refl)
+                    (inl (it.images c (only_now (disk_of store) c
+                    (subst (λ (t : ℕ). g.since (disk_of store) t c) first.start was))));
+                earlier = λ t c le was. inl (first.past t c was);
+              };
+        }
+
+    -- a store behind an ask
+    pub kept_asked : (old new : Store D) (result : Result Answered AskError)
+        (offered : Option Entry) → entries_of new ≡ list_behind result (entries_of old) offered
+        → Offers g offered old new → (IsSome offered → OnOk result (¬ Hangs new))
+        → ImagesHoldBook g new → (Hangs new → (result ≡ Err error.DiskFault) ⊎ Hangs old)
+        → CountsDiskFault (g.faults (disk_of old)) (g.faults (disk_of new)) result
+        → IsSound g new → IsKeptSince g s old → IsKeptSince g s new
+    kept_asked old new result offered is offers settled images hangs cause sound kept =
+        record {
+          sound = sound;
+          begins = begins_on s.before (entries_of old) (entries_of new) kept.begins
+              (asked_begins result (entries_of old) (entries_of new) offered is);
+          fault = fault_asked s.faults old new result hangs cause kept.fault;
+          book = λ rests. book_asked old new result offered kept.begins is offers settled images
+              (kept.book rests);
+        }
+
+    -- what a crash leaves of the book of a session is what it may leave of the whole run, whose
+    -- moments before the session were told as it began
+    moments_on : (held : List Entry) (start : D) (first last : Store D)
+        → s.before ≡ entries_of first → s.start ≡ g.time (disk_of first)
+        → ((t : ℕ) (c : List ℕ) → s.past t c → g.since (disk_of first) t c)
+        → KeepsRun g held start first → IsPrefixOf s.before (entries_of last)
+        → HasBookSince g s last
+        → KeepsFromSync g start (disk_of last) (LeavesFrom held (entries_of last))
+    moments_on held start first last rows began past run begins book =
+        let opened : IsPrefixOf held s.before = subst (IsPrefixOf held) (sym rows) run.begins in
+        let front : IsPrefixOf (entries_of first) (entries_of last) =
+        subst (λ (es : List Entry). IsPrefixOf es (entries_of last)) rows begins in
+        let more : (c : List ℕ) → LeavesFrom held (entries_of first) c
+        → LeavesFrom held (entries_of last) c =
+        λ c is. leaves_of_more held (entries_of first) (entries_of last) c front is in
+        let on : (t : ℕ) (c : List ℕ) → t ≤ g.time (disk_of first) → g.since (disk_of last) t c
+        → g.since (disk_of first) t c ⊎ LeavesFrom held (entries_of last) c =
+        λ t c le was. ⊎_elim (λ is. inl (past t c is))
+        (λ is. inr (leaves_earlier held s.before (entries_of last) c opened is))
+        (book.earlier t c (omega (arith, le, began)) was) in
+        let was_synced = run.moments in
+        record {
+          synced = was_synced.synced;
+          after = was_synced.after;
+          before = omega (arith, was_synced.before, began, book.later);
+          each = λ c was. ⊎_elim (λ is. more c (was_synced.each c is)) (λ is. is)
+              (on was_synced.synced c was_synced.before was);
+          handed_in = λ c was. ⊎_elim
+              (λ is. ⊎_elim (λ image. inl image) (λ left. inr (more c left))
+              (was_synced.handed_in c is))
+              (λ is. inr is)
+              (on (g.time start) c (omega (arith, was_synced.after, was_synced.before)) was);
+          earlier = λ t c le was. ⊎_elim
+              (λ is. ⊎_elim (λ told. inl told) (λ left. inr (more c left))
+              (was_synced.earlier t c le is))
+              (λ is. inr is)
+              (on t c (omega (arith, le, was_synced.after, was_synced.before)) was);
+        }
+
+    -- what hangs at the end is lawful, and the disk failed
+    hung_on : (start : D) (last : Store D) (entry : Entry)
+        → (s.faults ≡ g.faults start) ⊎ Rose (g.faults start) s.faults
+        → FailedSince s.faults last → HasBookSince g s last → HangsWith g last entry
+        → Rose (g.faults start) (g.faults (disk_of last)) × IsLawful (entries_of last) entry
+    hung_on start last entry before (inl calm) book hangs = absurd (calm.0 hangs.row.hangs)
+    hung_on start last entry before (inr rose) book hangs = (
+      rose_behind (g.faults start) s.faults (g.faults (disk_of last)) before rose,
+      book.hung entry hangs,
+    )
+
+    -- each image holds the rows, or the disk failed and a lawful entry hangs
+    end_on : (start : D) (last : Store D) (c : List ℕ)
+        → (s.faults ≡ g.faults start) ⊎ Rose (g.faults start) s.faults
+        → FailedSince s.faults last → HasBookSince g s last → HoldsOrHangs g last c
+        → HoldsBook (entries_of last) c
+        ⊎ (Rose (g.faults start) (g.faults (disk_of last)) × HoldsOrOneMore (entries_of last) c)
+    end_on start last c before fault book (inl holds) = inl holds
+    end_on start last c before fault book (inr hangs) =
+        let it = hung_on start last hangs.0 before fault book hangs.1 in
+        inr (it.0, inr (hangs.0, it.1, hangs.2))
+
+    -- the disk's count stayed, or it rose, with the session
+    faults_on : (start : D) (last : Store D)
+        → (s.faults ≡ g.faults start) ⊎ Rose (g.faults start) s.faults
+        → FailedSince s.faults last
+        → (g.faults (disk_of last) ≡ g.faults start)
+        ⊎ Rose (g.faults start) (g.faults (disk_of last))
+    faults_on start last before (inr rose) =
+        inr (rose_behind (g.faults start) s.faults (g.faults (disk_of last)) before rose)
+    faults_on start last (inl same) (inl calm) = inl (calm.1 ∙ same)
+    faults_on start last (inr rose) (inl calm) =
+        inr (subst (Rose (g.faults start)) (sym calm.1) rose)
+
+    -- the whole run with a session, from what is kept at its end
+    pub run_on : (held : List Entry) (start : D) (first last : Store D)
+        → s.before ≡ entries_of first → s.start ≡ g.time (disk_of first)
+        → s.faults ≡ g.faults (disk_of first)
+        → ((t : ℕ) (c : List ℕ) → s.past t c → g.since (disk_of first) t c)
+        → s.rests → IsKeptSince g s last → KeepsRun g held start first
+        → KeepsRun g held start last
+    run_on held start first last rows began faults past rests kept run =
+        let book = kept.book rests in
+        let before : (s.faults ≡ g.faults start) ⊎ Rose (g.faults start) s.faults =
+        subst (λ (n : ℕ). (n ≡ g.faults start) ⊎ Rose (g.faults start) n) (sym faults) run.faults in
+        record {
+          has = book.has;
+          begins = begins_on held s.before (entries_of last)
+              (subst (IsPrefixOf held) (sym rows) run.begins) kept.begins;
+          faults = faults_on start last before kept.fault;
+          hung = λ entry hangs. hung_on start last entry before kept.fault book hangs;
+          moments = moments_on held start first last rows began past run kept.begins book;
+          end = λ c image. end_on start last c before kept.fault book (book.images c image);
+        }
+
+  -- ---- a store that was mounted on a disk that held these rows
+
+  leaves_held : (held rows : List Entry) (c : List ℕ) → rows ≡ held → HoldsBook held c
+      → LeavesFrom held rows c
+  leaves_held held rows c same holds =
+      leaves_front held held rows c (begins_same held held refl) (begins_same held rows same)
+      (inl holds)
+
+  module _ (counts_now : (d : D) (t : ℕ) (c : List ℕ) → t ≤ g.time d → g.image d c → g.since d t c)
+      (held : List Entry) (start : D) (store : Store D) (has : HasHeld g start held store) where
+    each_image : (c : List ℕ) → g.image (disk_of store) c → HoldsBook (entries_of store) c
+    each_image c image = subst (λ (es : List Entry). HoldsBook es c) (sym has.same)
+        (has.moments.each c
+        (counts_now (disk_of store) has.moments.synced c has.moments.before image))
+
+    pub rests_mounted : RestsOnDisk g store
+    rests_mounted = record { has = has.has; images = each_image }
+
+    pub run_mounted : g.faults (disk_of store) ≡ g.faults start → ¬ Hangs store
+        → KeepsRun g held start store
+    run_mounted same calm =
+        let left : (c : List ℕ) → HoldsBook held c → LeavesFrom held (entries_of store) c =
+        λ c holds. leaves_held held (entries_of store) c has.same holds in
+        record {
+          has = has.has;
+          begins = begins_same held (entries_of store) has.same;
+          faults = inl same;
+          hung = λ entry hangs. absurd (calm hangs.row.hangs);
+          moments = record {
+            synced = has.moments.synced;
+            after = has.moments.after;
+            before = has.moments.before;
+            each = λ c was. left c (has.moments.each c was);
+            handed_in = λ c was. ⊎_elim (λ is. inl is) (λ is. inr (left c is))
+                (has.moments.handed_in c was);
+            earlier = λ t c le was. ⊎_elim (λ is. inl is) (λ is. inr (left c is))
+                (has.moments.earlier t c le was);
+          };
+          end = λ c image. inl (each_image c image);
+        }

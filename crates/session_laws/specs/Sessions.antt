@@ -1,0 +1,84 @@
+-- What a crash leaves of a book that callers of one session ask: what is kept of it from call to
+-- call, and what that makes of the whole run.
+use Rattle.std.specs.Prelude.{◌≡◌, ◌⊎◌, ℕ, ◌≤◌, List, [], ◌∷◌, ◌++◌, length, take}
+use Rattle.device_facts.specs.Count.{Rose}
+use Rattle.device_facts.specs.Prefix.{IsPrefixOf}
+use Rattle.disk_core.specs.declared.disk.Disk as disk
+use Rattle.book_words.specs.declared.act.Entry.{Entry}
+use Rattle.book_words.specs.Answers.{IsLawful}
+use Rattle.book_journal.specs.Mounting.{KeepsFromSync}
+use Rattle.book_store.specs.declared.store.Store.{Store}
+use Rattle.book_store.specs.Images.{HoldsBook}
+use Rattle.book_store.specs.Stores.{disk_of, entries_of, Hangs, HasBook, HangsWith, HoldsOrHangs}
+use Rattle.book_store.specs.Stores.{IsSound}
+use Rattle.session_laws.specs.declared.session.Session as session
+
+-- an image holds these entries, or these and one more that is lawful behind them
+abbrev pub HoldsOrOneMore : List Entry → List ℕ → Type 0
+HoldsOrOneMore entries c = HoldsBook entries c
+    ⊎ ((entry : Entry) × IsLawful entries entry × HoldsBook (entries ++ entry ∷ []) c)
+
+-- a crash leaves the first so many of these rows, at least those of before, and perhaps one lawful
+-- entry more
+pub record LeavesFrom (before rows : List Entry) (c : List ℕ) : Type 0 where
+  pub count : ℕ
+  pub least : length before ≤ count
+  pub most : count ≤ length rows
+  pub holds : HoldsOrOneMore (take count rows) c
+
+-- the disk has the book, and each crash from now on leaves it
+pub record RestsOnDisk {D : Type 0} (disk : disk.Ghosts D) (store : Store D) : Type 0 where
+  pub has : HasBook disk store
+  pub images : (c : List ℕ) → disk.image (disk_of store) c → HoldsBook (entries_of store) c
+
+-- the session begins with this store: its names are those of the store, and nothing hangs
+pub record Begins {D N : Type 0} (disk : disk.Ghosts D) (session : session.Ghosts N)
+    (store : Store D) : Type 0 where
+  pub rows : session.before ≡ entries_of store
+  pub start : session.start ≡ disk.time (disk_of store)
+  pub faults : session.faults ≡ disk.faults (disk_of store)
+  pub past : (t : ℕ) (c : List ℕ) → disk.since (disk_of store) t c → session.past t c
+  pub rests : session.rests → RestsOnDisk disk store
+  pub calm : ¬ Hangs store
+
+-- The disk has the book of a session. What hangs is lawful behind it, and a crash leaves the book
+-- or that and what hangs. A crash at a moment since the session began leaves what it may; one at a
+-- moment since an earlier time leaves that, or what it left as the session began.
+pub record HasBookSince {D N : Type 0} (disk : disk.Ghosts D) (session : session.Ghosts N)
+    (store : Store D) : Type 0 where
+  pub has : HasBook disk store
+  pub later : session.start ≤ disk.time (disk_of store)
+  pub hung : (entry : Entry) → HangsWith disk store entry → IsLawful (entries_of store) entry
+  pub images : (c : List ℕ) → disk.image (disk_of store) c → HoldsOrHangs disk store c
+  pub each : (c : List ℕ) → disk.since (disk_of store) session.start c
+      → LeavesFrom session.before (entries_of store) c
+  pub earlier : (t : ℕ) (c : List ℕ) → t ≤ session.start → disk.since (disk_of store) t c
+      → session.past t c ⊎ LeavesFrom session.before (entries_of store) c
+
+-- What is kept of a store from call to call of a session: its rows go on from those before, and
+-- something hangs only where the disk failed. Where its disk had the book, it has it still.
+pub record IsKeptSince {D N : Type 0} (disk : disk.Ghosts D) (session : session.Ghosts N)
+    (store : Store D) : Type 0 where
+  pub sound : IsSound disk store
+  pub begins : IsPrefixOf session.before (entries_of store)
+  pub fault : (¬ Hangs store × (disk.faults (disk_of store) ≡ session.faults))
+      ⊎ Rose session.faults (disk.faults (disk_of store))
+  pub book : session.rests → HasBookSince disk session store
+
+-- A whole run over a disk that held these rows at the start: they are still there. What hangs is
+-- lawful, and hangs only where the disk failed. Each crash from the first sync on leaves what it
+-- may; at the end it leaves all rows, or, only where the disk failed, these and one lawful entry
+-- more.
+pub record KeepsRun {D : Type 0} (disk : disk.Ghosts D) (held : List Entry) (start : D)
+    (store : Store D) : Type 0 where
+  pub has : HasBook disk store
+  pub begins : IsPrefixOf held (entries_of store)
+  pub faults : (disk.faults (disk_of store) ≡ disk.faults start)
+      ⊎ Rose (disk.faults start) (disk.faults (disk_of store))
+  pub hung : (entry : Entry) → HangsWith disk store entry
+      → Rose (disk.faults start) (disk.faults (disk_of store)) × IsLawful (entries_of store) entry
+  pub moments : KeepsFromSync disk start (disk_of store) (LeavesFrom held (entries_of store))
+  pub end : (c : List ℕ) → disk.image (disk_of store) c
+      → HoldsBook (entries_of store) c
+      ⊎ (Rose (disk.faults start) (disk.faults (disk_of store))
+      × HoldsOrOneMore (entries_of store) c)

@@ -1,0 +1,12 @@
+//! What a session of callers keeps of a book on a disk, whatever a crash makes of it. Behind a lock
+//! nothing is known of a store but what its type says; here it is said, and shown to be enough for
+//! the whole run.
+#![tactic(auto)]
+
+mod held;
+mod run;
+mod session;
+
+pub use held::HeldStore;
+pub use run::{hold_session, mount_session};
+pub use session::Session;

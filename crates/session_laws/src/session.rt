@@ -1,0 +1,37 @@
+//! The names of a session.
+use std::marker::Brand;
+
+/// Which session it is. Each call of a program picks it, as the session begins.
+pub trait Session {
+    ghost use Rattle.std.specs.Prelude.{ℕ, List};
+    ghost use Rattle.book_words.specs.declared.act.Entry.{Entry};
+
+    /// The rows before it.
+    ghost before: { List Entry };
+
+    /// The time of the disk.
+    ghost start: { ℕ };
+
+    /// The disk's count of faults.
+    ghost faults: { ℕ };
+
+    /// What a crash since each earlier time may have left.
+    ghost past: { ℕ → List ℕ → Type 0 };
+
+    /// That the disk has the book, and each crash leaves it.
+    ghost rests: { Type 0 };
+}
+
+impl Session for Brand {
+    ghost use Rattle.std.specs.Prelude.{[], ⊤};
+
+    ghost before = { [] };
+
+    ghost start = { 0 };
+
+    ghost faults = { 0 };
+
+    ghost past = { λ t c. ⊤ };
+
+    ghost rests = { ⊤ };
+}
