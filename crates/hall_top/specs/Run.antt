@@ -252,10 +252,10 @@ pub record IsWriteFault {S : Type 0} (book : BookState) (call : Call S) : Type 0
 -- status 6: the disk failed, at a command or at the end; the commands before are answered, then
 -- comes one line, and nothing else failed
 pub record IsDiskFault {S : Type 0} (book : BookState) (call : Call S) (offer : Offer) : Type 0
-    where
-  pub stops : StopsInInput book call (DiskFault offer) ⊎ StopsAtEnd book call (DiskFault offer)
-  pub calm : IsCalm call.before.input call.now.input
-  pub output_calm : IsCalm call.before.output call.now.output
+  where
+    pub stops : StopsInInput book call (DiskFault offer) ⊎ StopsAtEnd book call (DiskFault offer)
+    pub calm : IsCalm call.before.input call.now.input
+    pub output_calm : IsCalm call.before.output call.now.output
 
 -- status 5 too: the disk failed, at a command or at the end, and then the output at the line that
 -- says so; the input didn't
