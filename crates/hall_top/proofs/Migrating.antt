@@ -1,8 +1,7 @@
 -- Lemmas on how a migration ends.
-use Rattle.std.proofs.Common.{◌≡◌, ◌↔◌, Bool, true, false, IsTrue, ℕ, ◌+◌, ◌<◌, ◌≤◌, List, [], ◌++◌, length, Result, Ok, Err, MatchResult, inl, inr, refl, sym, ap, ◌∙◌, append_assoc, length-append, subst, arith}
+use Rattle.std.proofs.Common.{◌≡◌, ◌↔◌, Bool, true, false, IsTrue, ℕ, ◌<◌, ◌≤◌, List, [], ◌++◌, length, Result, Ok, Err, MatchResult, inl, inr, refl, sym, ap, ◌∙◌, append_assoc, length-append, subst, arith}
 use Rattle.std.specs.Io.KnownBytes.{Consumes, Keeps, IsAtEnd}
-use Rattle.std.proofs.KnownBytes.{Consumes-nil, Consumes-trans, Consumes-kept}
-use Rattle.device_facts.specs.Count.{Counted}
+use Rattle.std.proofs.KnownBytes.{Consumes-trans}
 use Rattle.book_words.specs.declared.act.Entry.{Entry}
 use Rattle.old_journal.specs.OldJournal.{HasOldHeader}
 use Rattle.old_journal.specs.Carrying.{IsMigrated}
