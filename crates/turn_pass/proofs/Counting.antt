@@ -125,6 +125,7 @@ module _ {E : Type 0} where
       let same : All (λ p. mine p ≡ rows p) passes = sum_same mine rows passes few (omega arith) in
       record {
         total = total;
-        each = λ k d lt. known_is h list (known_of (get_or passes k d)) (parts k d lt) (same k d lt);
+        each = λ k d lt.
+            known_is h list (known_of (get_or passes k d)) (parts k d lt) (same k d lt);
         others = rows_all list bys apart' (omega arith);
       }

@@ -107,7 +107,8 @@ module _ {E : Type 0} where
           λ i. record { row = row i; entry = sym entry i },
           rw number (grind (arith, nat_tests)),
           behind_first h by line list mine (All-tail P o mine stand)
-              (All-weaker (Below o) (λ (p : Own E). h + 1 < p.row) (λ p lt. omega arith) mine above),
+              (All-weaker (Below o) (λ (p : Own E). h + 1 < p.row) (λ p lt. omega arith) mine
+              above),
         )
     look false is =
         let late : h + 1 < o.row = grind (arith, nat_tests) in
