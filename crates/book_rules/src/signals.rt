@@ -31,7 +31,7 @@ fn judge(state: &State, lane: u8, gross: i64, prior: Prior, batch: &Name) -> Sig
     let Some(limits) = state.lane_limits(lane) else {
         unreachable!()
     };
-    let met = state.met(lane, gross, prior, batch);
+    let met = state.met(lane, prior);
     signal(
         net_on(state, lane, gross),
         &limits,

@@ -1,6 +1,7 @@
-ghost use Rattle.std.specs.Prelude.{◌≡◌, ◌≤◌, ◌≤ℤ◌, ◌==◌, pos, false, length, slice_get, None, Some, IfSome, is_none, option_map};
+ghost use Rattle.std.specs.Prelude.{◌≡◌, ◌≤◌, ◌≤ℤ◌, ◌==◌, ℤ, pos, false, length, slice_get, None, Some, IfSome, is_none, option_map};
 ghost use Rattle.std.specs.Option.{option_and_then, option_map_or};
 ghost use Rattle.hall_limits.specs.declared.TheConstants.{MAX_GROSS, MAX_POPULATION, MAX_TARE};
+ghost use Rattle.book_words.specs.declared.name.Name as names;
 ghost use Rattle.book_words.specs.declared.act.Act.TheVariants as act;
 ghost use Rattle.book_words.specs.declared.refusal.Refusal.TheVariants as refusal;
 ghost use Rattle.book_words.specs.Acts as acts;
@@ -165,16 +166,18 @@ impl State {
         self.packs.piles()
     }
 
-    /// What a weighing of a lane finds in its batch, once the prior has said what the gate did.
-    pub fn met(&self, lane: u8, gross: i64, prior: Prior, batch: &Name) -> AtWeighing
-        requires lane { acts.lane_batch self.now.entries lane ≡ Some batch.now }
+    /// What a weighing of a lane finds in its batch, once the prior has said what the gate did,
+    /// whatever its gross is.
+    pub fn met(&self, lane: u8, prior: Prior) -> AtWeighing
+        requires lane { (batch : names.Name)
+            × (acts.lane_batch self.now.entries lane ≡ Some batch) }
         requires free { rules.prior_wrong self.now.entries lane prior ≡ None }
-        ensures value { result ≡ met_at self.now.entries (act.Weigh lane gross prior) batch.now }
+        ensures value { (gross : ℤ) (batch : names.Name)
+            → acts.lane_batch self.now.entries lane ≡ Some batch
+            → result ≡ met_at self.now.entries (act.Weigh lane gross prior) batch }
         ensures few { (result.population ≤ MAX_POPULATION)
             × (result.nonstandard ≤ result.population) }
     {
-        let _ = gross;
-        let _ = batch;
         let Some(number) = self.index.lane_batch_number(lane) else {
             unreachable!()
         };

@@ -27,5 +27,5 @@ returns c =
     (c.net_on.ensures
     ∙ ap (net_of_gross entries (lane_batch entries c.args.lane) (newest_day entries)) gross
     ∙ ap (λ (b : Option Name). net_of_gross entries b (newest_day entries) c.args.gross) c.requires.lane)
-    (c.met-met.ensures.value ∙ ap (λ (g : ℤ). met_at entries (Weigh c.args.lane g c.args.prior) batch) gross)
+    (c.met-met.ensures.value c.args.gross batch c.requires.lane)
     (c.signal.ensures ∙ ap (λ (n : ℤ). signal_of n c.in-Some.limits (nat_lt 0 met.inadequate) met.population met.nonstandard) (to_z-of_z w64 c.net_on.result net))
