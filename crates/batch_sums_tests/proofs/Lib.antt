@@ -1,2 +1,2 @@
-pub mod Keeping
-pub mod Filling
+pub mod PackRanges
+pub mod FullBatch

@@ -18,7 +18,7 @@ use Rattle.row_format.specs.Allowed.{IsAllowed, IsAllowedWhereLawful}
 use Rattle.row_format.specs.Rows.{Spells}
 use Rattle.book_store.specs.Images.{spelled}
 use Rattle.book_store.specs.Resting.{book_content}
-use Rattle.book_store.proofs.Spelled.{spelled_more}
+use Rattle.book_store.proofs.SpelledRows.{spelled_more}
 
 -- the longest dense form of a row
 abbrev pub longest : ℕ

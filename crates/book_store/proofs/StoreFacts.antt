@@ -17,7 +17,7 @@ use Rattle.book_store.specs.declared.store.Store.{Store}
 use Rattle.book_store.specs.Images.{spelled, CanAllBeSpelled, HoldsBook}
 use Rattle.book_store.specs.Stores.{disk_of, entries_of, Hangs, HasBook, HangsWith, HoldsOrHangs, ImagesHoldBook, KeepsBook}
 use Rattle.book_store.specs.Offers.{OffersEntry, LeavesDisk}
-use Rattle.book_store.proofs.Spelled.{spelled_more, all_more}
+use Rattle.book_store.proofs.SpelledRows.{spelled_more, all_more}
 
 -- the book with one entry more
 pub holds_more : (entries : List Entry) (entry : Entry) (c : List ℕ) → CanAllBeSpelled entries → CanBeSpelled new_layout entry → Recovers c (spelled entries ++ row_bytes new_layout (length entries + 1) entry ∷ []) → HoldsBook (entries ++ entry ∷ []) c

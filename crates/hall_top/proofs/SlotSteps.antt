@@ -12,14 +12,14 @@ use Rattle.old_journal.specs.Carrying.{IsLonger, IsBadRow, MayCome}
 use Rattle.old_journal.specs.Reader.{OldView, old_after, counted, Says, HasNextRow, SpellsOnly, HeaderStays}
 use Rattle.old_journal.proofs.Headers.{header_by, by_header, header_on}
 use Rattle.old_journal.proofs.OpenSlots.{rows_stay}
-use Rattle.old_journal.proofs.Standing.{none_counted}
+use Rattle.old_journal.proofs.ReaderPlaces.{none_counted}
 use Rattle.hall_top.specs.declared.stop.Offer.TheVariants as offering
 use Rattle.hall_top.specs.declared.stop.Stop.{Stop}
 use Rattle.hall_top.specs.declared.stop.Stop.TheVariants.{Finished, BadLine, ReadFault, WriteFault, DiskFault, DiskFaultUnsaid, NoMemory, Spent}
 use Rattle.hall_top.specs.Streams.{Stream}
 use Rattle.hall_top.specs.Run.{SaysFailed}
 use Rattle.hall_top.specs.Migration.{MigrationState, Carried, HasNewRow, CarriesOn, CarriesPiece, StopsAtPiece, StopsAtEntry, StopsAtSlot, StopsCarrying}
-use Rattle.hall_top.proofs.Carried.{are_more, spelled_many, longer_same, longer_more, not_another, not_unlawful, bad_row, new_row, get_none, get_inside}
+use Rattle.hall_top.proofs.CarriedRows.{are_more, spelled_many, longer_same, longer_more, not_another, not_unlawful, bad_row, new_row, get_none, get_inside}
 
 -- the entry of the next number
 numbered_next : (rows : List Entry) (k number : ℕ) → number ≡ k + 1 → entry_numbered rows number ≡ slice_get rows k

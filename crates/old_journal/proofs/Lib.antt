@@ -1,3 +1,3 @@
 pub mod Headers
 pub mod OpenSlots
-pub mod Standing
+pub mod ReaderPlaces

@@ -1,7 +1,7 @@
 pub mod Prefixes
-pub mod Agreeing
+pub mod AgreementLemmas
 pub mod Pairs
 pub mod OwnEntries
 pub mod Moves
-pub mod Gathered
-pub mod Counting
+pub mod GatheredPasses
+pub mod RowCounts

@@ -24,8 +24,8 @@ use Rattle.turn_pass.specs.Rule.{Learns, Looks, Appends, Sees, first_view, with_
 use Rattle.turn_pass.specs.Rule.{note_view, spent_view, hearing, meeting, ending, with_lines}
 use Rattle.turn_pass.specs.Rule.{with_mine}
 use Rattle.turn_pass.proofs.Prefixes.{prefix_self, prefix_trans}
-use Rattle.turn_pass.proofs.Agreeing.{agrees_later, all_agree_later, stand_later}
-use Rattle.turn_pass.proofs.Agreeing.{longer_first, longer_second, longer_begins}
+use Rattle.turn_pass.proofs.AgreementLemmas.{agrees_later, all_agree_later, stand_later}
+use Rattle.turn_pass.proofs.AgreementLemmas.{longer_first, longer_second, longer_begins}
 use Rattle.turn_pass.proofs.OwnEntries.{all_with_own, ascend_more}
 use Rattle.turn_pass.proofs.Pairs.{pairs_cons, pairs_none}
 

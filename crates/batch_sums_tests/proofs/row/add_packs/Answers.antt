@@ -1,7 +1,7 @@
 use Rattle.std.proofs.Common.{pos, arith}
 use Rattle.std.proofs.lemmas.Int.{ints}
-use Rattle.batch_sums_tests.proofs.Keeping.{next_is_new}
-use Rattle.batch_sums_tests.proofs.Filling.{filled_none}
+use Rattle.batch_sums_tests.proofs.PackRanges.{next_is_new}
+use Rattle.batch_sums_tests.proofs.FullBatch.{filled_none}
 use Rattle.batch_sums_tests.proofs.row.add_packs.Goals as goal
 
 pub loop-number-init : goal.loop-number-init

@@ -2,7 +2,7 @@ use Rattle.std.proofs.Common.{◌≡◌, pos, arith}
 use Rattle.std.specs.Prelude.{None}
 use Rattle.std.proofs.lemmas.List.Elements.{All-filter}
 use Rattle.batch_sums.specs.Changes.{is_concerned}
-use Rattle.batch_sums_tests.proofs.Filling.{one_group, few_packs}
+use Rattle.batch_sums_tests.proofs.FullBatch.{one_group, few_packs}
 use Rattle.batch_sums_tests.proofs.row.correct_full_batch.Goals as goal
 
 pub returns : goal.returns

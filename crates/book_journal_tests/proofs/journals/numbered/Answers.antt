@@ -1,4 +1,4 @@
-use Rattle.book_journal_tests.proofs.Numbered.{is_row}
+use Rattle.book_journal_tests.proofs.RowNumbers.{is_row}
 use Rattle.book_journal_tests.proofs.journals.numbered.Goals as goal
 
 pub returns : goal.returns

@@ -7,9 +7,9 @@ use Rattle.hall_top.specs.declared.stop.Stop.TheVariants.{BadLine, DiskFault, No
 use Rattle.hall_top.specs.Kept.{CountsStep, Goes}
 use Rattle.hall_top.specs.Streams.{output_at}
 use Rattle.hall_top.specs.Migration.{StopsAtEntry}
-use Rattle.hall_top.proofs.Keeping.{goes_adopted, goes_at_fault, goes_without_memory, on_unfinished}
+use Rattle.hall_top.proofs.KeptBook.{goes_adopted, goes_at_fault, goes_without_memory, on_unfinished}
 use Rattle.hall_top.proofs.SlotSteps.{stops_new}
-use Rattle.hall_top.proofs.Stopping.{says_fault, says_want}
+use Rattle.hall_top.proofs.StopLemmas.{says_fault, says_want}
 use Rattle.hall_top.proofs.carrying.adopt_entry.Goals as goal
 
 pub returns-in-Ok-clause-goes : goal.returns-in-Ok-clause-goes

@@ -6,8 +6,8 @@ use Rattle.hall_top.specs.declared.stop.Stop.TheVariants.{DiskFault, NoMemory}
 use Rattle.hall_top.specs.Books.{stored_book}
 use Rattle.hall_top.specs.Kept.{CountsStep}
 use Rattle.hall_top.specs.Transcript.{BookState, exchange_at, script_caller, ask_at}
-use Rattle.hall_top.proofs.Acknowledged.{refused_adds, book_refused}
-use Rattle.hall_top.proofs.Keeping.{goes_asked, on_unfinished}
+use Rattle.hall_top.proofs.AcknowledgedRows.{refused_adds, book_refused}
+use Rattle.hall_top.proofs.KeptBook.{goes_asked, on_unfinished}
 use Rattle.hall_top.proofs.composing.compose_answer.Goals as goal
 
 pub returns-in-Ok-clause-goes : goal.returns-in-Ok-clause-goes

@@ -6,9 +6,9 @@ use Rattle.hall_top.specs.declared.stop.Stop.TheVariants.{BadLine}
 use Rattle.hall_top.specs.Kept.{RunGoes}
 use Rattle.hall_top.specs.Streams.{output_at}
 use Rattle.hall_top.specs.Migration.{migration_state}
-use Rattle.hall_top.proofs.Going.{goes_on, goes_as, stays}
-use Rattle.hall_top.proofs.Checking.{whole_counts}
-use Rattle.hall_top.proofs.Migrating.{never_told, ends_foreign, ends_whole, ends_failed}
+use Rattle.hall_top.proofs.StoreSteps.{goes_on, goes_as, stays}
+use Rattle.hall_top.proofs.CheckLemmas.{whole_counts}
+use Rattle.hall_top.proofs.MigrationEnds.{never_told, ends_foreign, ends_whole, ends_failed}
 use Rattle.hall_top.proofs.migrate.finish.Goals as goal
 
 pub returns-then-not-has_header-clause-ends : goal.returns-then-not-has_header-clause-ends

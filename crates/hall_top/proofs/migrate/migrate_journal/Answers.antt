@@ -1,8 +1,8 @@
 use Rattle.std.proofs.Common.{Err, refl, arith}
 use Rattle.std.specs.Bool.{⊤}
-use Rattle.hall_top.proofs.Keeping.{stop_unfinished}
-use Rattle.hall_top.proofs.Going.{stays, unbegun_counts, unbegun_unfinished}
-use Rattle.hall_top.proofs.Migrating.{nothing_counted}
+use Rattle.hall_top.proofs.KeptBook.{stop_unfinished}
+use Rattle.hall_top.proofs.StoreSteps.{stays, unbegun_counts, unbegun_unfinished}
+use Rattle.hall_top.proofs.MigrationEnds.{nothing_counted}
 use Rattle.hall_top.proofs.migrate.migrate_journal.Goals as goal
 
 pub returns-in_default-clause-goes : goal.returns-in_default-clause-goes

@@ -3,9 +3,9 @@ use Rattle.hall_top.specs.Books.{stored_book}
 use Rattle.hall_top.specs.Streams.{input_at, output_at, devices}
 use Rattle.hall_top.specs.Migration.{MigrationHolds, migration_state}
 use Rattle.hall_top.specs.declared.stop.Stop.TheVariants.{Spent}
-use Rattle.hall_top.proofs.Keeping.{on_unfinished}
-use Rattle.hall_top.proofs.Going.{goes_on, goes_as, goes_with, stays}
-use Rattle.hall_top.proofs.Migrating.{migration_begins, migration_spent}
+use Rattle.hall_top.proofs.KeptBook.{on_unfinished}
+use Rattle.hall_top.proofs.StoreSteps.{goes_on, goes_as, goes_with, stays}
+use Rattle.hall_top.proofs.MigrationEnds.{migration_begins, migration_spent}
 use Rattle.hall_top.proofs.ReadingLemmas.{read_once_more}
 use Rattle.hall_top.proofs.migrate.read_all.Goals as goal
 

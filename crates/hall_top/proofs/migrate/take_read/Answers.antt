@@ -5,9 +5,9 @@ use Rattle.book_store.specs.Stores.{entries_of}
 use Rattle.hall_top.specs.Streams.{devices}
 use Rattle.hall_top.specs.Migration.{migration_state}
 use Rattle.hall_top.specs.declared.stop.Stop.TheVariants.{ReadFault}
-use Rattle.hall_top.proofs.Going.{goes_as, stays}
-use Rattle.hall_top.proofs.Explaining.{some_taken, small_piece}
-use Rattle.hall_top.proofs.Migrating.{migration_at_end, migration_after, migration_fault}
+use Rattle.hall_top.proofs.StoreSteps.{goes_as, stays}
+use Rattle.hall_top.proofs.RunEnds.{some_taken, small_piece}
+use Rattle.hall_top.proofs.MigrationEnds.{migration_at_end, migration_after, migration_fault}
 use Rattle.hall_top.proofs.migrate.take_read.Goals as goal
 
 pub returns-in-Ok-eq0-clause-explained : goal.returns-in-Ok-eq0-clause-explained

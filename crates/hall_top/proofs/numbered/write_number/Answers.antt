@@ -1,7 +1,7 @@
 use Rattle.std.proofs.Common.{◌≡◌, List, ℕ, decimal, subst, rules}
 use Rattle.std.proofs.lemmas.Result.{err_from_is_err_and}
 use Rattle.hall_top.specs.Streams.{output_at, WroteAll}
-use Rattle.hall_top.proofs.Printed.{cut_second}
+use Rattle.hall_top.proofs.PrintedTexts.{cut_second}
 use Rattle.hall_top.proofs.numbered.write_number.Goals as goal
 
 pub returns-in_err-write_text-2-clause-cut : goal.returns-in_err-write_text-2-clause-cut

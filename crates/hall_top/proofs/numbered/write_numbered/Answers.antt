@@ -1,6 +1,6 @@
 use Rattle.std.proofs.Common.{◌++◌, decimal}
 use Rattle.std.proofs.lemmas.Result.{err_from_is_err_and}
-use Rattle.hall_top.proofs.Printed.{cut_second}
+use Rattle.hall_top.proofs.PrintedTexts.{cut_second}
 use Rattle.hall_top.proofs.numbered.write_numbered.Goals as goal
 
 pub returns-in_err-write_number-clause-cut : goal.returns-in_err-write_number-clause-cut

@@ -4,9 +4,9 @@ use Rattle.hall_top.specs.Streams.{input_at, output_at, devices}
 use Rattle.hall_top.specs.Reached.{RunHolds}
 use Rattle.hall_top.specs.Runs.{run_state}
 use Rattle.hall_top.specs.declared.stop.Stop.TheVariants.{Spent}
-use Rattle.hall_top.proofs.Keeping.{on_unfinished}
-use Rattle.hall_top.proofs.Going.{goes_on, goes_as, goes_with, stays}
-use Rattle.hall_top.proofs.Explaining.{begins, lines_few, explained_spent}
+use Rattle.hall_top.proofs.KeptBook.{on_unfinished}
+use Rattle.hall_top.proofs.StoreSteps.{goes_on, goes_as, goes_with, stays}
+use Rattle.hall_top.proofs.RunEnds.{begins, lines_few, explained_spent}
 use Rattle.hall_top.proofs.ReadingLemmas.{read_once_more}
 use Rattle.hall_top.proofs.reads.read_all.Goals as goal
 

@@ -6,9 +6,9 @@ use Rattle.hall_top.specs.Streams.{devices}
 use Rattle.hall_top.specs.Run.{Explains}
 use Rattle.hall_top.specs.Kept.{RunGoes}
 use Rattle.hall_top.specs.Books.{stored_book}
-use Rattle.hall_top.proofs.Keeping.{stop_unfinished}
-use Rattle.hall_top.proofs.Going.{stays_same, unbegun_counts, unbegun_unfinished}
-use Rattle.hall_top.proofs.Explaining.{call_from, explained_unbegun}
+use Rattle.hall_top.proofs.KeptBook.{stop_unfinished}
+use Rattle.hall_top.proofs.StoreSteps.{stays_same, unbegun_counts, unbegun_unfinished}
+use Rattle.hall_top.proofs.RunEnds.{call_from, explained_unbegun}
 use Rattle.hall_top.proofs.reads.run_script.Goals as goal
 
 pub returns-in-Ok-clause-explained : goal.returns-in-Ok-clause-explained

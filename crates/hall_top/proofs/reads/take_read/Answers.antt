@@ -6,8 +6,8 @@ use Rattle.hall_top.specs.Books.{store_in}
 use Rattle.hall_top.specs.Streams.{devices}
 use Rattle.hall_top.specs.Runs.{run_state}
 use Rattle.hall_top.specs.declared.stop.Stop.TheVariants.{ReadFault}
-use Rattle.hall_top.proofs.Going.{goes_as, stays}
-use Rattle.hall_top.proofs.Explaining.{call_from, some_taken, small_piece, explained_at_end, explained_after, explained_fault}
+use Rattle.hall_top.proofs.StoreSteps.{goes_as, stays}
+use Rattle.hall_top.proofs.RunEnds.{call_from, some_taken, small_piece, explained_at_end, explained_after, explained_fault}
 use Rattle.hall_top.proofs.reads.take_read.Goals as goal
 
 pub returns-in-Ok-eq0-clause-explained : goal.returns-in-Ok-eq0-clause-explained

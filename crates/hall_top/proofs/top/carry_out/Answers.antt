@@ -2,9 +2,9 @@ use Rattle.std.proofs.Common.{inl, inr, refl}
 use Rattle.hall_top.specs.Run.{status_of}
 use Rattle.hall_top.specs.Calls.{ExplainsCommand}
 use Rattle.hall_top.specs.Streams.{devices}
-use Rattle.hall_top.proofs.Explaining.{call_from}
-use Rattle.hall_top.proofs.Opened.{is_opened, is_unopened}
-use Rattle.hall_top.proofs.Checking.{status_of_stop, status_of_why}
+use Rattle.hall_top.proofs.RunEnds.{call_from}
+use Rattle.hall_top.proofs.OpenedBooks.{is_opened, is_unopened}
+use Rattle.hall_top.proofs.CheckLemmas.{status_of_stop, status_of_why}
 use Rattle.hall_top.proofs.top.carry_out.Goals as goal
 
 pub returns-in-Ok-clause-ends : goal.returns-in-Ok-clause-ends

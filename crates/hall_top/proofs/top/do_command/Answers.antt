@@ -3,7 +3,7 @@ use Rattle.book_words.specs.declared.act.Entry.{Entry}
 use Rattle.hall_top.specs.Streams.{devices}
 use Rattle.hall_top.specs.Books.{stored_book}
 use Rattle.hall_top.specs.Calls.{ExplainsCommand}
-use Rattle.hall_top.proofs.Explaining.{call_from}
+use Rattle.hall_top.proofs.RunEnds.{call_from}
 use Rattle.hall_top.proofs.top.do_command.Goals as goal
 
 pub returns-clause-done : goal.returns-clause-done

@@ -1,6 +1,6 @@
 use Rattle.std.proofs.Common.{[]}
 use Rattle.hall_top.specs.Texts.{usage}
-use Rattle.hall_top.proofs.Printed.{wrote_or_cut, wrote_nothing}
+use Rattle.hall_top.proofs.PrintedTexts.{wrote_or_cut, wrote_nothing}
 use Rattle.hall_top.proofs.top.end_with_usage.Goals as goal
 
 pub returns-clause-wrote : goal.returns-clause-wrote

@@ -4,9 +4,9 @@ use Rattle.book_store.specs.declared.types.MountError.TheVariants.{NoMemory}
 use Rattle.command_line.specs.Words.{bytes_of, wanted_of}
 use Rattle.command_line.specs.Taken.{seen}
 use Rattle.hall_top.specs.Streams.{devices}
-use Rattle.hall_top.proofs.Checking.{same_wanted}
-use Rattle.hall_top.proofs.Explaining.{call_from}
-use Rattle.hall_top.proofs.Opened.{is_unopened}
+use Rattle.hall_top.proofs.CheckLemmas.{same_wanted}
+use Rattle.hall_top.proofs.RunEnds.{call_from}
+use Rattle.hall_top.proofs.OpenedBooks.{is_unopened}
 use Rattle.hall_top.proofs.RowLimit.{limit_asked}
 use Rattle.hall_top.proofs.top.hall.Goals as goal
 

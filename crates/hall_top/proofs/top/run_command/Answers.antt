@@ -3,10 +3,10 @@ use Rattle.std.specs.Bool.{⊤}
 use Rattle.book_store.specs.Stores.{entries_of}
 use Rattle.hall_top.specs.Streams.{devices}
 use Rattle.hall_top.specs.Books.{stored_book}
-use Rattle.hall_top.proofs.Going.{stays}
-use Rattle.hall_top.proofs.Explaining.{call_from}
-use Rattle.hall_top.proofs.Completing.{explains_run}
-use Rattle.hall_top.proofs.Checking.{explains_check, whole_counts}
+use Rattle.hall_top.proofs.StoreSteps.{stays}
+use Rattle.hall_top.proofs.RunEnds.{call_from}
+use Rattle.hall_top.proofs.WholeScripts.{explains_run}
+use Rattle.hall_top.proofs.CheckLemmas.{explains_check, whole_counts}
 use Rattle.hall_top.proofs.top.run_command.Goals as goal
 
 pub returns-in-Run-clause-explained : goal.returns-in-Run-clause-explained

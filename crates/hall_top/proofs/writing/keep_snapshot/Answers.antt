@@ -5,7 +5,7 @@ use Rattle.hall_top.specs.declared.stop.Stop.TheVariants.{DiskFault, NoMemory}
 use Rattle.hall_top.specs.Kept.{CountsStep}
 use Rattle.hall_top.specs.Snapshots.{HasAddedRows}
 use Rattle.hall_top.specs.Streams.{output_at}
-use Rattle.hall_top.proofs.Keeping.{goes_rested, goes_at_fault, goes_without_memory, leaves_snapshot, on_unfinished}
+use Rattle.hall_top.proofs.KeptBook.{goes_rested, goes_at_fault, goes_without_memory, leaves_snapshot, on_unfinished}
 use Rattle.hall_top.proofs.writing.keep_snapshot.Goals as goal
 
 pub returns-in-Ok-clause-goes : goal.returns-in-Ok-clause-goes

@@ -1,5 +1,5 @@
 use Rattle.hall_top.specs.Texts.{read_fault}
-use Rattle.hall_top.proofs.Printed.{wrote_or_cut}
+use Rattle.hall_top.proofs.PrintedTexts.{wrote_or_cut}
 use Rattle.hall_top.proofs.writing.say_read_fault.Goals as goal
 
 pub returns : goal.returns

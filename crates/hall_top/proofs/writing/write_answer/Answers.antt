@@ -12,8 +12,8 @@ use Rattle.hall_top.specs.Streams.{output_at, IsCutIn}
 use Rattle.hall_top.specs.Transcript.{exchange_at}
 use Rattle.hall_top.specs.Kept.{Goes}
 use Rattle.hall_top.specs.Unanswered.{stopped}
-use Rattle.hall_top.proofs.Keeping.{goes_cut, goes_at_fault, goes_without_memory}
-use Rattle.hall_top.proofs.Stopping.{stops_cut, stops_at_fault, stops_at_want}
+use Rattle.hall_top.proofs.KeptBook.{goes_cut, goes_at_fault, goes_without_memory}
+use Rattle.hall_top.proofs.StopLemmas.{stops_cut, stops_at_fault, stops_at_want}
 use Rattle.hall_top.proofs.writing.write_answer.Goals as goal
 
 pub returns-in_err-write_text-in-Ok-clause-stops : goal.returns-in_err-write_text-in-Ok-clause-stops

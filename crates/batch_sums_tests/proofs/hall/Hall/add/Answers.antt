@@ -1,4 +1,4 @@
-use Rattle.batch_sums_tests.proofs.Keeping.{next_is_new, kept_added}
+use Rattle.batch_sums_tests.proofs.PackRanges.{next_is_new, kept_added}
 use Rattle.std.proofs.Common.{◌+◌, arith, length, refl, ap, sym, subst, ◌∙◌}
 use Rattle.std.proofs.lemmas.Int.{ints}
 use Rattle.batch_sums_tests.specs.Halls.{IsKept}

@@ -3,7 +3,7 @@ use Rattle.std.proofs.lemmas.Int.{ints}
 use Rattle.hall_limits.specs.declared.TheConstants.{MAX_DAY, MAX_TARE}
 use Rattle.batch_sums.specs.Changes.{IsUpTo}
 use Rattle.batch_sums_tests.specs.Halls.{IsKept}
-use Rattle.batch_sums_tests.proofs.Keeping.{kept_corrected}
+use Rattle.batch_sums_tests.proofs.PackRanges.{kept_corrected}
 use Rattle.batch_sums_tests.proofs.hall.Hall.correct_counted.Goals as goal
 
 pub invariant_of-self : goal.invariant_of-self

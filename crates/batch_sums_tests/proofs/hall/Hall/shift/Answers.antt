@@ -1,4 +1,4 @@
-use Rattle.batch_sums_tests.proofs.Keeping.{kept_moved}
+use Rattle.batch_sums_tests.proofs.PackRanges.{kept_moved}
 use Rattle.std.proofs.Common.{length, ap, sym, subst, ◌∙◌}
 use Rattle.batch_sums_tests.specs.Halls.{IsKept}
 use Rattle.batch_sums_tests.proofs.hall.Hall.shift.Goals as goal

@@ -5,7 +5,7 @@ use Rattle.book_words.specs.declared.act.Entry.{Entry}
 use Rattle.book_words.specs.Answers.{answer, IsLawful}
 use Rattle.book_core.specs.Steps.{asked_act, MayLackMemory}
 use Rattle.book_store.specs.Offers.{Offers}
-use Rattle.book_store.proofs.Decided.{ready_is, known_is, refused_is, lacking_is, list_more, list_same, none_new}
+use Rattle.book_store.proofs.AskDecisions.{ready_is, known_is, refused_is, lacking_is, list_more, list_same, none_new}
 use Rattle.book_store.proofs.StoreFacts.{images_hold, leaves_disk, offers_from, offers_none}
 use Rattle.book_store.proofs.store.Store.ask.Goals as goal
 

@@ -1,6 +1,6 @@
 use Rattle.std.proofs.Common.{rules, ◌∙◌, refl}
 use Rattle.book_store.proofs.StoreFacts.{images_hold, offers_done, offers_failed}
-use Rattle.book_store.proofs.Spelled.{spells_as}
+use Rattle.book_store.proofs.SpelledRows.{spells_as}
 use Rattle.book_store.proofs.store.Store.enter.Goals as goal
 
 pub returns-in_err-append-clause-offers : goal.returns-in_err-append-clause-offers

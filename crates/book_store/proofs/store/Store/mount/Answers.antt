@@ -1,4 +1,4 @@
-use Rattle.book_store.proofs.Mounted.{opened, reads_mounted, sound, counted, unwritten, asked, caused, held, refused_cause, refused_held}
+use Rattle.book_store.proofs.MountedStores.{opened, reads_mounted, sound, counted, unwritten, asked, caused, held, refused_cause, refused_held}
 use Rattle.book_store.proofs.store.Store.mount.Goals as goal
 
 pub returns-in-Ok-clause-opened : goal.returns-in-Ok-clause-opened

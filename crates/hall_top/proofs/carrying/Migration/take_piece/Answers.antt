@@ -4,8 +4,8 @@ use Rattle.std.proofs.lemmas.List.{take-append-drop}
 use Rattle.book_store.specs.Stores.{entries_of}
 use Rattle.hall_top.specs.Streams.{output_at}
 use Rattle.hall_top.specs.Migration.{migration_state, StopsCarrying}
-use Rattle.hall_top.proofs.Keeping.{on_unfinished}
-use Rattle.hall_top.proofs.Going.{goes_on, goes_as, goes_with, stays}
+use Rattle.hall_top.proofs.KeptBook.{on_unfinished}
+use Rattle.hall_top.proofs.StoreSteps.{goes_on, goes_as, goes_with, stays}
 use Rattle.hall_top.proofs.SlotSteps.{stops_behind_step, carries_nothing, over_more}
 use Rattle.hall_top.proofs.carrying.Migration.take_piece.Goals as goal
 

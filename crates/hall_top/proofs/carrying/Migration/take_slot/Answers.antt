@@ -3,7 +3,7 @@ use Rattle.std.proofs.lemmas.Result.{err_from_is_err_and}
 use Rattle.book_store.specs.Stores.{entries_of}
 use Rattle.hall_top.specs.Streams.{output_at}
 use Rattle.hall_top.specs.Migration.{MigrationState, migration_state, CarriesPiece, StopsAtPiece}
-use Rattle.hall_top.proofs.Going.{goes_as}
+use Rattle.hall_top.proofs.StoreSteps.{goes_as}
 use Rattle.hall_top.proofs.SlotSteps.{slot_on, slot_stops, few_on}
 use Rattle.hall_top.proofs.carrying.Migration.take_slot.Goals as goal
 

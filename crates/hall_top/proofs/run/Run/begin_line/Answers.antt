@@ -9,9 +9,9 @@ use Rattle.hall_top.specs.Books.{book_in, store_in}
 use Rattle.hall_top.specs.Streams.{output_at}
 use Rattle.hall_top.specs.Run.{StopsAtLine}
 use Rattle.hall_top.proofs.ScriptLines.{line_too_long, line_too_long_last}
-use Rattle.hall_top.proofs.Keeping.{on_unfinished, stop_unfinished}
-use Rattle.hall_top.proofs.Going.{stays, stays_same, bad_counts, bad_unfinished}
-use Rattle.hall_top.proofs.Stepping.{reached_part, stops_anyway}
+use Rattle.hall_top.proofs.KeptBook.{on_unfinished, stop_unfinished}
+use Rattle.hall_top.proofs.StoreSteps.{stays, stays_same, bad_counts, bad_unfinished}
+use Rattle.hall_top.proofs.ByteSteps.{reached_part, stops_anyway}
 use Rattle.hall_top.specs.Runs.{run_state}
 use Rattle.hall_top.proofs.run.Run.begin_line.Goals as goal
 

@@ -6,7 +6,7 @@ use Rattle.hall_top.specs.Books.{book_in, store_in}
 use Rattle.hall_top.specs.Streams.{output_at}
 use Rattle.hall_top.specs.Run.{StopsAtLine}
 use Rattle.hall_top.proofs.ScriptLines.{ended_line, line_ended, line_ended_last}
-use Rattle.hall_top.proofs.Stepping.{reached_end, stops_anyway}
+use Rattle.hall_top.proofs.ByteSteps.{reached_end, stops_anyway}
 use Rattle.hall_top.specs.Runs.{run_state}
 use Rattle.hall_top.proofs.run.Run.end_line.Goals as goal
 

@@ -1,7 +1,7 @@
 use Rattle.std.proofs.Common.{Err, ◌∙◌}
 use Rattle.hall_top.specs.Books.{store_in}
-use Rattle.hall_top.proofs.Going.{goes_on, goes_as}
-use Rattle.hall_top.proofs.Finishing.{ends_stopped}
+use Rattle.hall_top.proofs.StoreSteps.{goes_on, goes_as}
+use Rattle.hall_top.proofs.ScriptEnds.{ends_stopped}
 use Rattle.hall_top.proofs.run.Run.finish.Goals as goal
 
 pub returns-in-Ok-clause-ends : goal.returns-in-Ok-clause-ends

@@ -4,7 +4,7 @@ use Rattle.book_store.specs.Stores.{entries_of}
 use Rattle.hall_top.specs.Books.{book_in, store_in}
 use Rattle.hall_top.specs.Streams.{output_at}
 use Rattle.hall_top.specs.Run.{StopsAtLine}
-use Rattle.hall_top.proofs.Finishing.{whole_last, stops_last}
+use Rattle.hall_top.proofs.ScriptEnds.{whole_last, stops_last}
 use Rattle.hall_top.specs.Runs.{run_state}
 use Rattle.hall_top.proofs.run.Run.finish_line.Goals as goal
 

@@ -1,8 +1,8 @@
 use Rattle.std.proofs.Common.{Ok, Err}
 use Rattle.hall_top.specs.declared.stop.Stop.TheVariants.{Finished}
 use Rattle.hall_top.specs.Books.{book_in, store_in, opened_at}
-use Rattle.hall_top.proofs.Going.{goes_with, goes_as}
-use Rattle.hall_top.proofs.Finishing.{done, done_but}
+use Rattle.hall_top.proofs.StoreSteps.{goes_with, goes_as}
+use Rattle.hall_top.proofs.ScriptEnds.{done, done_but}
 use Rattle.hall_top.proofs.run.Run.finish_summary.Goals as goal
 
 pub returns-in-Ok-clause-ends : goal.returns-in-Ok-clause-ends

@@ -2,8 +2,8 @@ use Rattle.std.proofs.Common.{◌≡◌, ℕ, List, ◌++◌, ◌∷◌, [], len
 use Rattle.std.proofs.lemmas.Result.{err_from_is_err_and}
 use Rattle.hall_top.specs.Books.{store_in}
 use Rattle.hall_top.specs.Runs.{run_state}
-use Rattle.hall_top.proofs.Going.{goes_on}
-use Rattle.hall_top.proofs.Stepping.{steps_on, steps_stop, steps_last}
+use Rattle.hall_top.proofs.StoreSteps.{goes_on}
+use Rattle.hall_top.proofs.ByteSteps.{steps_on, steps_stop, steps_last}
 use Rattle.hall_top.proofs.run.Run.take_piece.Goals as goal
 
 -- the rest of a piece is a line, its LF and what follows

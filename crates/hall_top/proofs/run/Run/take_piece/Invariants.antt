@@ -3,7 +3,7 @@ use Rattle.std.specs.Bool.{⊤}
 use Rattle.hall_top.specs.Kept.{Goes}
 use Rattle.hall_top.specs.Books.{store_in, IsReady}
 use Rattle.hall_top.specs.Streams.{output_at}
-use Rattle.hall_top.proofs.Stepping.{GoneOver}
+use Rattle.hall_top.proofs.ByteSteps.{GoneOver}
 use Rattle.hall_top.specs.Runs.{run_state}
 use Rattle.hall_top.proofs.run.Run.take_piece.Given as goal
 

@@ -10,8 +10,8 @@ use Rattle.hall_top.specs.declared.stop.Stop.TheVariants.{WriteFault}
 use Rattle.hall_top.specs.Books.{opened_at}
 use Rattle.hall_top.specs.Streams.{Stream, output_at, WroteAll, IsCutIn}
 use Rattle.hall_top.specs.Kept.{Goes}
-use Rattle.hall_top.proofs.Keeping.{goes_cut}
-use Rattle.hall_top.proofs.Stopping.{ends_cut}
+use Rattle.hall_top.proofs.KeptBook.{goes_cut}
+use Rattle.hall_top.proofs.StopLemmas.{ends_cut}
 use Rattle.hall_top.proofs.session.Session.finish.Goals as goal
 
 pub returns-in_err-write_summary-clause-stops : goal.returns-in_err-write_summary-clause-stops

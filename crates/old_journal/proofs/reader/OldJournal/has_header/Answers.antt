@@ -1,5 +1,5 @@
 use Rattle.std.proofs.Common.{◌∙◌, sym, ap, ⊎_elim, rules}
-use Rattle.old_journal.proofs.Standing.{header_in_rows, header_in_over, header_stands}
+use Rattle.old_journal.proofs.ReaderPlaces.{header_in_rows, header_in_over, header_stands}
 use Rattle.old_journal.proofs.reader.OldJournal.has_header.Goals as goal
 
 pub returns-in-Rows : goal.returns-in-Rows

@@ -1,6 +1,6 @@
 use Rattle.std.proofs.Common.{◌≡◌, ◌⊎◌, ◌∙◌, sym, ap, subst, take, length}
 use Rattle.old_journal.specs.declared.types.Stage.TheVariants as stages
-use Rattle.old_journal.proofs.Standing.{step_leaves, foreign_stays, over_stays}
+use Rattle.old_journal.proofs.ReaderPlaces.{step_leaves, foreign_stays, over_stays}
 use Rattle.old_journal.proofs.reader.OldJournal.take.Goals as goal
 
 pub returns-in-Header-clause-stands : goal.returns-in-Header-clause-stands

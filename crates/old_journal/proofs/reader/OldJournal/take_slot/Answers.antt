@@ -3,7 +3,7 @@ use Rattle.std.proofs.lemmas.List.{take_all}
 use Rattle.book_snapshot.specs.declared.layout.TheConstants.{OLD_ROW_BYTES}
 use Rattle.old_journal.specs.Reader.{IsWhole}
 use Rattle.old_journal.specs.contracts.reader.OldJournal.{the_view}
-use Rattle.old_journal.proofs.Standing.{whole_by}
+use Rattle.old_journal.proofs.ReaderPlaces.{whole_by}
 use Rattle.old_journal.proofs.reader.OldJournal.take_slot.Goals as goal
 
 pub returns-clause-step : goal.returns-clause-step

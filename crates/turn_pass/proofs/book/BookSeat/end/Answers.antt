@@ -1,8 +1,8 @@
 use Rattle.std.proofs.Common.{rules, ◌≡◌, ◌+◌, ap, sym, ◌∙◌, length, arith, sum_by, All, AllPairs}
 use Rattle.std.proofs.Common.{◌≢◌}
 use Rattle.turn_pass.specs.History.{PassState, Agrees, known_of}
-use Rattle.turn_pass.proofs.Gathered.{all_agree, all_apart, rows_own}
-use Rattle.turn_pass.proofs.Counting.{make_all}
+use Rattle.turn_pass.proofs.GatheredPasses.{all_agree, all_apart, rows_own}
+use Rattle.turn_pass.proofs.RowCounts.{make_all}
 use Rattle.turn_pass.proofs.book.BookSeat.end.Goals as goal
 
 pub returns : goal.returns

@@ -1,6 +1,6 @@
 use Rattle.std.proofs.Common.{◌≡◌, ap, ◌∙◌}
 use Rattle.turn_pass.specs.History.{known_of}
-use Rattle.turn_pass.proofs.Agreeing.{heard_agrees}
+use Rattle.turn_pass.proofs.AgreementLemmas.{heard_agrees}
 use Rattle.turn_pass.proofs.book.BookSeat.hear.Goals as goal
 
 pub returns-clause-agrees : goal.returns-clause-agrees

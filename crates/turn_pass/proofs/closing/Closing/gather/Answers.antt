@@ -2,7 +2,7 @@ use Rattle.std.proofs.Common.{◌≡◌, ◌∷◌, ◌++◌, [], List, subst, a
 use Rattle.std.proofs.Common.{arith, sum_by}
 use Rattle.std.proofs.lemmas.List.Sums.{sum_by_push}
 use Rattle.turn_pass.specs.History.{PassState}
-use Rattle.turn_pass.proofs.Gathered.{IsGathered, one_back}
+use Rattle.turn_pass.proofs.GatheredPasses.{IsGathered, one_back}
 use Rattle.turn_pass.proofs.closing.Closing.gather.Goals as goal
 
 pub loop-pass-preserved : goal.loop-pass-preserved

@@ -1,6 +1,6 @@
 use Rattle.std.proofs.Common.{◌≡◌, ◌+◌, length, sum_by}
 use Rattle.turn_pass.specs.History.{PassState}
-use Rattle.turn_pass.proofs.Gathered.{IsGathered}
+use Rattle.turn_pass.proofs.GatheredPasses.{IsGathered}
 use Rattle.turn_pass.proofs.closing.Closing.gather.Given as goal
 
 -- the passes that came back and those that are left are all

@@ -7,7 +7,7 @@ use Rattle.old_journal.specs.OldJournal.{HasOldHeader}
 use Rattle.old_journal.specs.Carrying.{IsMigrated}
 use Rattle.old_journal.specs.Reader.{OldView, old_after}
 use Rattle.old_journal.proofs.OpenSlots.{no_rows}
-use Rattle.old_journal.proofs.Standing.{none_counted}
+use Rattle.old_journal.proofs.ReaderPlaces.{none_counted}
 use Rattle.hall_top.specs.declared.reads.TheConstants.{PIECE}
 use Rattle.hall_top.specs.declared.migrate.TheConstants.{MAX_OLD_READS}
 use Rattle.hall_top.specs.declared.stop.Stop.{Stop}
@@ -19,9 +19,9 @@ use Rattle.hall_top.specs.Run.{Call, FailsToKeep}
 use Rattle.hall_top.specs.Reached.{SaysNoMemory}
 use Rattle.hall_top.specs.Calls.{SaysWhole}
 use Rattle.hall_top.specs.Migration.{MigrationState, Carried, CarrySteps, StopsCarrying, StopsAtSlot, MigrationHolds, MigrationStandsAfter, CarriedMore, MigrationHasRead, IsCarriedThen, IsCarriedStill, EndsMigration, StopsInJournal, StopsAtJournalEnd, HasCarried, ExplainsMigration}
-use Rattle.hall_top.proofs.Explaining.{call_from, reads_whole}
+use Rattle.hall_top.proofs.RunEnds.{call_from, reads_whole}
 use Rattle.hall_top.proofs.ReadingLemmas.{taken_nothing, taken_more, reads_tell, fails_behind}
-use Rattle.hall_top.proofs.Printed.{wrote_nothing}
+use Rattle.hall_top.proofs.PrintedTexts.{wrote_nothing}
 use Rattle.hall_top.proofs.SlotSteps.{untouched}
 
 -- ---- the end of the input

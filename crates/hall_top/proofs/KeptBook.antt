@@ -31,7 +31,7 @@ use Rattle.hall_top.specs.Offers.{offer_row, stop_row, step_row}
 use Rattle.hall_top.specs.Snapshots.{HasAddedRows, LeavesSnapshot}
 use Rattle.hall_top.specs.Streams.{Stream}
 use Rattle.hall_top.specs.Reached.{SaysDiskFault, SaysNoMemory}
-use Rattle.hall_top.proofs.Acknowledged.{prefix_on}
+use Rattle.hall_top.proofs.AcknowledgedRows.{prefix_on}
 
 -- ---- lists that go on
 

@@ -14,7 +14,7 @@ use Rattle.hall_top.specs.Streams.{Stream}
 use Rattle.hall_top.specs.Run.{StopsAtLine, StopsInScript, HasLine}
 use Rattle.hall_top.specs.Reached.{RunState, HasAnswered, Reached, ReachedMore, StopsAnyway, StopsAfter, Steps}
 use Rattle.hall_top.proofs.ScriptLines.{ended_line, ended_of_line, ended_of_part, commands_of-push, all_good-push}
-use Rattle.hall_top.proofs.Answering.{answered_more, stops_after}
+use Rattle.hall_top.proofs.AnsweredCommands.{answered_more, stops_after}
 
 abbrev make : ℕ → List ℕ → FeedView
 make ended begun = record { ended = ended; begun = begun }

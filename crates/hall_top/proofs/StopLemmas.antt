@@ -13,7 +13,7 @@ use Rattle.hall_top.specs.Transcript.{BookState, exchange_at, after_command}
 use Rattle.hall_top.specs.Streams.{Stream, IsCutIn}
 use Rattle.hall_top.specs.Run.{MayFindNoMemory, StopsAtLine, SaysFailed, FailsToKeep, StopsAtSummary}
 use Rattle.hall_top.specs.Reached.{SaysDiskFault, SaysNoMemory}
-use Rattle.hall_top.proofs.Acknowledged.{are_left}
+use Rattle.hall_top.proofs.AcknowledgedRows.{are_left}
 
 -- a run stops at a command whose answer is cut
 pub stops_cut : (book left : BookState) (before now : Stream) (number : ℕ) (command : Command) (stop : Stop) → left ≡ after_command book command

@@ -33,8 +33,8 @@ use Rattle.book_store.specs.Mounting.{IsCauseOf, IsPassing, KeepsHeld, ReadsClos
 use Rattle.book_store.specs.Opening.{IsReadable, rows_there, slots_from, StandsAtEnd, Stops, CountsRefusal, Opens, reading_cost}
 use Rattle.book_store.specs.Stores.{disk_of, entries_of, held_of, IsSound}
 use Rattle.book_store.proofs.Exits.{count_kept}
-use Rattle.book_store.proofs.Listed.{recovered_listed, slots_read, snapshot_same, closed_long, counts_first}
-use Rattle.book_store.proofs.Opened.{listed, opened_as, damaged_at, read_same, not_damaged, legal_few, length_spelled}
+use Rattle.book_store.proofs.ListedRows.{recovered_listed, slots_read, snapshot_same, closed_long, counts_first}
+use Rattle.book_store.proofs.OpenedRows.{listed, opened_as, damaged_at, read_same, not_damaged, legal_few, length_spelled}
 use Rattle.book_store.proofs.Walks.{slots_none}
 
 -- what stands at the end of some bytes stands there still

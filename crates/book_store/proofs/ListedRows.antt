@@ -19,7 +19,7 @@ use Rattle.book_journal.proofs.Fronts.{closed_behind_as}
 use Rattle.book_store.specs.Listing.{begins_form, form_row, behind_form, content_rows, snapshot_rows, slot_rows, Lists, ListsRows}
 use Rattle.book_store.specs.Opening.{slot_row, slots_from}
 use Rattle.book_store.proofs.Forms.{begins, content_rows-form, content_rows-none}
-use Rattle.book_store.proofs.Opened.{listed}
+use Rattle.book_store.proofs.OpenedRows.{listed}
 
 -- the dense form of a row in front of content
 module _ (number : ℕ) (row more : List ℕ) (is : IsRow ROW_BYTES number row) where

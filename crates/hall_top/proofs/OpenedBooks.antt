@@ -24,7 +24,7 @@ use Rattle.hall_top.specs.Kept.{CrashLeaves, HasKept, HoldsOffered, CountsStop, 
 use Rattle.hall_top.specs.Books.{stored_book}
 use Rattle.hall_top.specs.Offers.{stop_row}
 use Rattle.hall_top.specs.Snapshots.{HasAddedRows}
-use Rattle.hall_top.proofs.Keeping.{keeps_in}
+use Rattle.hall_top.proofs.KeptBook.{keeps_in}
 use Rattle.hall_top.specs.Calls.{KeepsRows, IsOpened, IsUnopened, CommandEnded, SaysWhy}
 
 -- the front of a list that begins with another

@@ -17,8 +17,8 @@ use Rattle.hall_top.specs.Kept.{CountsStep, SparesDisk, Goes}
 use Rattle.hall_top.specs.Books.{stored_book}
 use Rattle.hall_top.specs.Offers.{step_row}
 use Rattle.hall_top.specs.Snapshots.{LeavesSnapshot}
-use Rattle.hall_top.proofs.Acknowledged.{prefix_on}
-use Rattle.hall_top.proofs.Keeping.{begins_short, kept_more}
+use Rattle.hall_top.proofs.AcknowledgedRows.{prefix_on}
+use Rattle.hall_top.proofs.KeptBook.{begins_short, kept_more}
 
 -- a step that goes on, and then another
 pub goes_on : {D T U : Type 0} (g : disk.Ghosts D) (x : T) (result : Result U Stop) (a b c : Store D) → Goes g (Ok x) a b → Goes g result b c → Goes g result a c

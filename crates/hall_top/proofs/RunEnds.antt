@@ -19,8 +19,8 @@ use Rattle.hall_top.specs.Transcript.{BookState, ended_lines_of, lines_of}
 use Rattle.hall_top.specs.Streams.{Stream, Devices, IsCalm, HasFailed, Wrote, WroteAll}
 use Rattle.hall_top.specs.Run.{Call, StopsAtLine, StopsInScript, HasLine, StopsInInput, ReadsWhole, StopsAtSummary, AreLeft, IsGoodSoFar, IsGoodThen, IsGoodStill, Explains}
 use Rattle.hall_top.specs.Reached.{RunState, SaysNoMemory, Reached, Steps, StopsAfter, EndsScript, RunHolds, RunStandsAfter, WentOn, RunHasRead}
-use Rattle.hall_top.proofs.Acknowledged.{are_left}
-use Rattle.hall_top.proofs.Answering.{answered_none}
+use Rattle.hall_top.proofs.AcknowledgedRows.{are_left}
+use Rattle.hall_top.proofs.AnsweredCommands.{answered_none}
 use Rattle.hall_top.proofs.ScriptLines.{all_good-bad}
 use Rattle.hall_top.proofs.ReadingLemmas.{taken_nothing, taken_more, reads_tell, fails_behind}
 

@@ -14,10 +14,10 @@ use Rattle.hall_top.specs.Transcript.{BookState, answers, lines_of}
 use Rattle.hall_top.specs.Streams.{Stream, WroteAll}
 use Rattle.hall_top.specs.Run.{AreLeft, StopsAtLine, StopsInScript, HasTranscript, StopsAtSummary, EndsEarly}
 use Rattle.hall_top.specs.Reached.{RunState, HasAnswered, Reached, IsWholeSoFar, EndsScript}
-use Rattle.hall_top.proofs.Acknowledged.{are_left}
-use Rattle.hall_top.proofs.Answering.{wrote_on}
+use Rattle.hall_top.proofs.AcknowledgedRows.{are_left}
+use Rattle.hall_top.proofs.AnsweredCommands.{wrote_on}
 use Rattle.hall_top.proofs.ScriptLines.{last_line_of, line_last, last_line_whole}
-use Rattle.hall_top.proofs.Stepping.{answered_line, stops_at_line}
+use Rattle.hall_top.proofs.ByteSteps.{answered_line, stops_at_line}
 
 -- a good last line is answered; where none has begun there is nothing to answer
 pub whole_last : (book left : BookState) (before old now : Stream) (taken : List ℕ) (run : RunState) (said : Line) → Reached book before old taken run → said ≡ last_line_of run.feed.begun → is_good said ≡ true

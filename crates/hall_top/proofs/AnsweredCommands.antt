@@ -15,7 +15,7 @@ use Rattle.hall_top.specs.Transcript.{BookState, Exchange, after_command, after_
 use Rattle.hall_top.specs.Streams.{Stream, WroteAll, IsCutIn, Wrote}
 use Rattle.hall_top.specs.Run.{StopsAtLine}
 use Rattle.hall_top.specs.Reached.{HasAnswered}
-use Rattle.hall_top.proofs.Acknowledged.{are_left}
+use Rattle.hall_top.proofs.AcknowledgedRows.{are_left}
 
 pub after_commands-append : (book : BookState) (commands more : List Command) → after_commands book (commands ++ more) ≡ after_commands (after_commands book commands) more
 after_commands-append book [] more = refl

@@ -12,7 +12,7 @@ use Rattle.batch_sums.specs.declared.types.Pack.{Pack}
 use Rattle.batch_sums.specs.Changes.{same_group, group_count, HasFewPerGroup}
 use Rattle.batch_sums_tests.specs.Halls.{Fits, IsKept}
 use Rattle.batch_sums_tests.specs.Rows.{IsOneGroup, IsFilled}
-use Rattle.batch_sums_tests.proofs.Keeping.{kept_added}
+use Rattle.batch_sums_tests.proofs.PackRanges.{kept_added}
 
 pub filled_none : (sums : Sums) (batch : ℕ) (day tare : ℤ) → sums.packs ≡ [] → pos 0 ≤ℤ day → day ≤ℤ MAX_DAY → pos 0 ≤ℤ tare → tare ≤ℤ MAX_TARE → IsFilled sums.batches batch 0 day tare sums
 filled_none sums batch day tare empty least most light heavy =
