@@ -245,17 +245,19 @@ fn go_and_close<D: Disk>(store: TestStore<D>, entries: &[Entry], way: Way) -> Us
     Used { seen, disk }
 }
 
-/// Mounts a disk, again where that fails, and takes its book so far.
+/// Mounts a disk, again where that fails, and takes its book so far. The book may have at least a
+/// row, and at most those of a look.
 pub(crate) fn use_disk(
     alloc: Global,
     disk: MemoryDisk,
     entries: &[Entry],
     way: Way,
 ) -> Used<MemoryDisk> {
+    let limit = way.limit.max(1).min(LOOK.limit);
     let mut disk = disk;
     let mut why = None;
     for faults in 0..3u32 {
-        match Store::mount(alloc, disk, way.limit) {
+        match Store::mount(alloc, disk, limit) {
             Ok(store) => return go_and_close(TestStore { store, faults }, entries, way),
             Err(refused) => {
                 disk = refused.disk;
