@@ -144,6 +144,20 @@ module _ {D : Type 0} (g : disk.Ghosts D) where
             (kept.images c (subst (λ (d : D). g.image d c) leaves.same is));
       }
 
+  -- what is kept where nothing was offered is kept whatever was
+  pub keeps_offered : (offered : Option Entry) (old new : Store D) → KeepsOn g None old new → KeepsOn g offered old new
+  keeps_offered offered old new keeps held start was =
+      let kept = keeps held start was in
+      let rows = entries_of new in
+      record {
+        has = kept.has;
+        begins = kept.begins;
+        hung = λ entry hangs. absurd (let none : None ≡ Some entry = kept.hung entry hangs in cc);
+        moments = keeps_in start (disk_of new) (CrashLeaves held rows) (CrashLeaves held (with_offered rows offered))
+            (λ c left. leaves_of_more held rows (with_offered rows offered) c kept.begins (rows_begin rows offered) left) kept.moments;
+        images = λ c image. ⊎_elim (λ holds. inl holds) (λ holds. inl holds) (kept.images c image);
+      }
+
   -- an entry was offered and added
   pub kept_added : (entry : Entry) (old new : Store D) → entries_of new ≡ entries_of old ++ entry ∷ [] → (HasBook g old → OffersEntry g entry old new) → ¬ Hangs new → ImagesHoldBook g new → KeepsOn g None old new
   kept_added entry old new is offers calm images held start kept =

@@ -77,8 +77,8 @@ impl<D: Disk> Caller for OneCaller<D> {
     ghost use Rattle.book_words.specs.Answers.{answer, added};
     ghost use Rattle.book_words.specs.Callers.{IsAsked};
     ghost use Rattle.book_words.specs.declared.caller.AskError.TheVariants as error;
-    ghost use Rattle.book_store.specs.Stores.{book_of, entries_of, limit_of, spare_of};
-    ghost use Rattle.book_store.specs.Offers.{GivesAnswer, LeavesDisk, list_behind, offered_behind};
+    ghost use Rattle.book_store.specs.Stores.{disk_of, book_of, entries_of, limit_of, spare_of};
+    ghost use Rattle.book_store.specs.Offers.{CountsDiskFault, GivesAnswer, LeavesDisk, list_behind, offered_behind};
     ghost use Rattle.book_store.specs.Kept.{KeepsOn};
     ghost use Rattle.book_store.specs.Callers.{known_of, IsReachedBy};
     ghost use Rattle.book_store.specs.CallerLaws.{is_reached};
@@ -99,6 +99,8 @@ impl<D: Disk> Caller for OneCaller<D> {
             (added (limit_of self.old.store) (entries_of self.old.store) self.old.by ask.now) }
         ensures no_memory { result ≡ Err error.NoMemory →
             LeavesDisk D.Disk self.old.store self.new.store }
+        ensures cause { CountsDiskFault (D.faults (disk_of self.old.store))
+            (D.faults (disk_of self.new.store)) result }
         ensures spare { spare_of self.old.store + length (entries_of self.old.store)
             ≤ spare_of self.new.store + length (entries_of self.new.store) }
         ensures kept { KeepsOn D.Disk (offered_behind result

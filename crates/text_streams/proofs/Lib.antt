@@ -1,0 +1,2 @@
+pub mod PrintedTexts
+pub mod ReadingLemmas
