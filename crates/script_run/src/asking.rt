@@ -15,7 +15,7 @@ use script_lines::{Command, Verb};
 use store_runs::{Offer, Stop};
 
 /// The number that the entries of a script bear.
-const SCRIPT: u16 = 0;
+pub const SCRIPT: u16 = 0;
 
 /// Why a command isn't answered.
 #[derive(Clone, Copy, Debug, PartialEq, Eq)]
