@@ -22,7 +22,7 @@ use Rattle.book_words.specs.Callers.{number_named}
 use Rattle.book_store.proofs.KeptLemmas.{begins_on, begins_short}
 use Rattle.store_runs.specs.Books.{BookState}
 use Rattle.script_run.specs.Asking.{script_caller, ask_at, Exchange, exchange_at}
-use Rattle.script_run.specs.Transcript.{Event, answered, entries_added, after_event, after_events, AreEventsOf}
+use Rattle.script_run.specs.Transcript.{Event, Asked, entries_added, after_event, after_events, AreEventsOf}
 use Rattle.script_run.specs.Acknowledged.{acknowledged_rows, AddsRow, StandsAmong, EventStands, AreLeft}
 use Rattle.script_run.proofs.RepeatLemmas.{IsToldAgain, repeat_found}
 
@@ -99,8 +99,8 @@ each_stands book (Nothing ∷ lines) events rows are prefix = each_stands book l
 each_stands book (Bad ∷ lines) [] rows are prefix = absurd are
 each_stands book (Bad ∷ lines) (event ∷ events) rows are prefix = absurd are.0
 each_stands book (Asks command ∷ lines) [] rows are prefix = absurd are
-each_stands book (Asks command ∷ lines) (answered exchange ∷ events) rows are prefix =
-    let after = after_event book (answered exchange) in (
+each_stands book (Asks command ∷ lines) (Asked exchange ∷ events) rows are prefix =
+    let after = after_event book (Asked exchange) in (
       (acknowledges book command exchange are.0).stands rows (begins_on after.entries _ rows (entries_stay after events) prefix),
       each_stands after lines events rows are.1 prefix,
     )
@@ -127,8 +127,8 @@ rows_once book (Nothing ∷ lines) events rows are is = rows_once book lines eve
 rows_once book (Bad ∷ lines) [] rows are is = absurd are
 rows_once book (Bad ∷ lines) (event ∷ events) rows are is = absurd are.0
 rows_once book (Asks command ∷ lines) [] rows are is = absurd are
-rows_once book (Asks command ∷ lines) (answered exchange ∷ events) rows are is =
-    let after = after_event book (answered exchange) in
+rows_once book (Asks command ∷ lines) (Asked exchange ∷ events) rows are is =
+    let after = after_event book (Asked exchange) in
     let long = subst (λ (xs : List Entry). length after.entries ≤ length xs) (sym is) (begins_short after.entries _ (entries_stay after events)) in
     row_before book.entries rows exchange.ask exchange.ask.want exchange.added exchange.answer _ (acknowledges book command exchange are.0) long (rows_once after lines events rows are.1 is)
 

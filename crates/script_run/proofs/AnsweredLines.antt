@@ -12,7 +12,7 @@ use Rattle.store_runs.specs.declared.stop.Stop.{Stop}
 use Rattle.store_runs.specs.declared.stop.Stop.TheVariants.{Finished, BadLine, ReadFault, WriteFault, DiskFault, NoMemory, Spent}
 use Rattle.store_runs.specs.Books.{BookState}
 use Rattle.script_run.specs.Asking.{exchange_at}
-use Rattle.script_run.specs.Transcript.{Event, answered, after_events, AreEventsOf, texts, event_at, after_command}
+use Rattle.script_run.specs.Transcript.{Event, Asked, after_events, AreEventsOf, texts, event_at, after_command}
 use Rattle.script_run.specs.Ends.{AreTold, next_exchange, StopsAtLine}
 use Rattle.script_run.specs.Unanswered.{MayStopAt}
 use Rattle.script_run.specs.Reached.{HasAnswered}
@@ -46,6 +46,10 @@ wrote_still before old now done first second = subst (WroteAll before now) (appe
 -- the book is as it was found, and nothing went out
 pub answered_none : (book : BookState) (now : Stream) → HasAnswered book now now book []
 answered_none book now = record { events = []; right = refl; wrote = wrote_nothing now; left = refl }
+
+-- a line that says nothing
+pub answered_nothing : (book : BookState) (now : Stream) → HasAnswered book now now book (Nothing ∷ [])
+answered_nothing book now = record { events = []; right = refl; wrote = wrote_nothing now; left = refl }
 
 -- a command was answered
 pub answered_command : (book left : BookState) (before now : Stream) (command : Command) → left ≡ after_command book command → WroteAll before now (outcome_text (exchange_at book command).answer)
@@ -81,9 +85,9 @@ module _ (book : BookState) (before old now : Stream) (rows : List Entry) (lines
   stops_here number (Asks command) WriteFault stops =
       record {
         cut = cut_on before old now (texts events) _ first stops.cut;
-        rows_left = are_left book (lines ++ Asks command ∷ []) (events ++ answered (next_exchange book events command) ∷ []) rows
-            (events-append book lines (Asks command ∷ []) events (answered (next_exchange book events command) ∷ []) right (refl, refl))
-            (stops.rows_left.left ∙ ap (λ (b : BookState). b.entries) (sym (after_events-append book events (answered (next_exchange book events command) ∷ []))));
+        rows_left = are_left book (lines ++ Asks command ∷ []) (events ++ Asked (next_exchange book events command) ∷ []) rows
+            (events-append book lines (Asks command ∷ []) events (Asked (next_exchange book events command) ∷ []) right (refl, refl))
+            (stops.rows_left.left ∙ ap (λ (b : BookState). b.entries) (sym (after_events-append book events (Asked (next_exchange book events command) ∷ []))));
       }
   stops_here number (Asks command) (DiskFault offer) stops = (told_on stops.0, stops.1)
   stops_here number (Asks command) NoMemory stops = (told_on stops.0, stops.1)

@@ -61,7 +61,7 @@ reached_part book before old taken part run next stands none short fed same =
     }
 
 -- a run stops at a line after those that ended
-stops_there : (book : BookState) (before old now : Stream) (taken : List ℕ) (run : RunState) (rows : List Entry) (said line : Line) (stop : Stop) (stands : Reached book before old taken run) → said ≡ line
+pub stops_there : (book : BookState) (before old now : Stream) (taken : List ℕ) (run : RunState) (rows : List Entry) (said line : Line) (stop : Stop) (stands : Reached book before old taken run) → said ≡ line
     → StopsAtLine run.book old now rows [] (run.feed.ended + 1) said stop → StopsAtLine book before now rows stands.answered.events (length (ended_lines_of taken) + 1) line stop
 stops_there book before old now taken run rows said line stop stands is stops =
     let number : run.feed.ended + 1 ≡ length (ended_lines_of taken) + 1 = omega (arith, ap (λ (f : FeedView). f.ended) stands.fed, length-map (ended_lines taken) ended_line) in

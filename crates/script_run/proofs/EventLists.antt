@@ -4,7 +4,7 @@ use Rattle.std.proofs.lemmas.Grind.{flat_map-append}
 use Rattle.script_lines.specs.declared.command.Line.{Line}
 use Rattle.script_lines.specs.declared.command.Line.TheVariants.{Nothing, Asks, Bad}
 use Rattle.store_runs.specs.Books.{BookState}
-use Rattle.script_run.specs.Transcript.{Event, answered, text_of, after_event, after_events, AreEventsOf, texts}
+use Rattle.script_run.specs.Transcript.{Event, Asked, text_of, after_event, after_events, AreEventsOf, texts}
 
 -- a last line that says nothing has no event
 pub events-nothing : (book : BookState) (lines : List Line) (events : List Event) → AreEventsOf book (lines ++ Nothing ∷ []) events → AreEventsOf book lines events
@@ -40,8 +40,8 @@ only_events book (Bad ∷ lines) [] others are same = absurd are
 only_events book (Bad ∷ lines) (event ∷ events) others are same = absurd are.0
 only_events book (Asks command ∷ lines) [] others are same = absurd are
 only_events book (Asks command ∷ lines) (event ∷ events) [] are same = absurd same
-only_events book (Asks command ∷ lines) (answered exchange ∷ events) (answered other ∷ others) are same =
-    let event : answered exchange ≡ answered other = ap (λ x. answered x) (are.0 ∙ sym same.0) in
+only_events book (Asks command ∷ lines) (Asked exchange ∷ events) (Asked other ∷ others) are same =
+    let event : Asked exchange ≡ Asked other = ap (λ x. Asked x) (are.0 ∙ sym same.0) in
     ap (λ (e : Event). e ∷ events) event
-    ∙ ap (λ (es : List Event). answered other ∷ es)
-    (only_events (after_event book (answered other)) lines events others (subst (λ (e : Event). AreEventsOf (after_event book e) lines events) event are.1) same.1)
+    ∙ ap (λ (es : List Event). Asked other ∷ es)
+    (only_events (after_event book (Asked other)) lines events others (subst (λ (e : Event). AreEventsOf (after_event book e) lines events) event are.1) same.1)

@@ -23,6 +23,7 @@ use Rattle.store_runs.specs.declared.stop.Stop.{Stop}
 use Rattle.store_runs.specs.declared.stop.Stop.TheVariants.{Finished, BadLine, ReadFault, WriteFault, DiskFault, NoMemory, Spent}
 use Rattle.store_runs.specs.Books.{BookState}
 use Rattle.store_runs.specs.Calls.{Call}
+use Rattle.store_runs.specs.Runs.{FailsToKeep}
 use Rattle.store_runs.specs.Stops.{stop_of}
 use Rattle.script_run.specs.declared.script.TheConstants.{MAX_READS}
 use Rattle.script_run.specs.Scripts.{ended_lines_of, lines_of, HasLine}
@@ -250,6 +251,26 @@ summary_stops opened before old now rows events Finished wrote stops = absurd st
 summary_stops opened before old now rows events (BadLine named) wrote stops = absurd stops.1
 summary_stops opened before old now rows events ReadFault wrote stops = absurd stops.1
 summary_stops opened before old now rows events Spent wrote stops = absurd stops.1
+
+-- where no snapshot is kept nothing goes out
+pub stops_unkept : (opened : ℕ) (now : Stream) (rows : List Entry) (stop : Stop) → FailsToKeep opened rows stop → StopsAtSummary opened now now rows [] stop
+stops_unkept opened now rows (DiskFault offer) fails = (wrote_nothing now, fails)
+stops_unkept opened now rows NoMemory fails = (wrote_nothing now, fails)
+stops_unkept opened now rows Finished fails = absurd fails
+stops_unkept opened now rows (BadLine named) fails = absurd fails
+stops_unkept opened now rows ReadFault fails = absurd fails
+stops_unkept opened now rows WriteFault fails = absurd fails
+stops_unkept opened now rows Spent fails = absurd fails
+
+-- a run that stops at its summary has ended so
+pub ends_stopped : (opened : ℕ) (before now : Stream) (rows : List Entry) (stop : Stop) → StopsAtSummary opened before now rows [] stop → EndsAtSummary opened before now rows stop
+ends_stopped opened before now rows WriteFault stops = stops
+ends_stopped opened before now rows (DiskFault offer) stops = stops
+ends_stopped opened before now rows NoMemory stops = stops
+ends_stopped opened before now rows (BadLine named) stops = stops
+ends_stopped opened before now rows ReadFault stops = stops
+ends_stopped opened before now rows Spent stops = stops
+ends_stopped opened before now rows Finished stops = absurd stops.1
 
 module _ {S : Type 0} (book left : BookState) (before now : Devices S) (old : Stream) (script : List ℕ) (reads : ReadsWhole before.input now.input script) (whole : IsWholeSoFar book before.output old script left) (opened : ℕ)
     (begun : opened ≡ length book.entries) (rows : List Entry) (same : rows ≡ left.entries) where

@@ -14,7 +14,7 @@ use Rattle.book_words.specs.Desks.{same_act}
 use Rattle.book_words.specs.Signals.{recorded_signal}
 use Rattle.store_runs.specs.Books.{BookState}
 use Rattle.script_run.specs.Asking.{Exchange}
-use Rattle.script_run.specs.Transcript.{Event, answered, after_events}
+use Rattle.script_run.specs.Transcript.{Event, Asked, after_events}
 
 -- the row that an exchange acknowledges, where it added an entry
 abbrev pub acknowledged_row : Exchange → Option ℕ
@@ -22,7 +22,7 @@ acknowledged_row exchange = option_map (λ entry. number_named exchange.answer) 
 
 -- the rows that an event acknowledges
 abbrev pub acknowledged_rows : Event → List ℕ
-acknowledged_rows (answered exchange) = cons_option (acknowledged_row exchange) []
+acknowledged_rows (Asked exchange) = cons_option (acknowledged_row exchange) []
 
 -- an act that adds an entry: that stands among the rows at the number that the answer tells, and
 -- with the rows before it the act gets this reply, and this signal
@@ -57,7 +57,7 @@ StandsAmong rows ask (want.Question question) new answer = new ≡ None
 
 -- so does what an event acknowledged
 abbrev pub EventStands : List Entry → Event → Type 0
-EventStands rows (answered exchange) =
+EventStands rows (Asked exchange) =
     StandsAmong rows exchange.ask exchange.ask.want exchange.added exchange.answer
 
 -- what each event acknowledged stands among the rows, and the rows that were added are those after

@@ -15,7 +15,7 @@ use Rattle.store_runs.specs.Runs.{FailsToKeep}
 use Rattle.script_run.specs.Acknowledged.{AreLeft}
 use Rattle.script_run.specs.Asking.{Exchange, exchange_at}
 use Rattle.script_run.specs.Scripts.{lines_of}
-use Rattle.script_run.specs.Transcript.{Event, answered, after_events, AreEventsOf, texts, transcript}
+use Rattle.script_run.specs.Transcript.{Event, Asked, after_events, AreEventsOf, texts, transcript}
 use Rattle.script_run.specs.Unanswered.{MayStopAt}
 
 -- events were told and nothing else went out, and these rows are left
@@ -32,7 +32,7 @@ next_exchange book events command = exchange_at (after_events book events) comma
 pub record IsAnswerCut (book : BookState) (before now : Stream) (rows : List Entry)
     (events : List Event) (exchange : Exchange) : Type 0 where
   pub cut : IsCutIn before now (texts events) (outcome_text exchange.answer)
-  pub rows_left : AreLeft book (events ++ answered exchange ∷ []) rows
+  pub rows_left : AreLeft book (events ++ Asked exchange ∷ []) rows
 
 -- how a run stops at the line of a number, after these events: at a bad line, in a failed write, or
 -- where a command has no answer, since the disk failed or there is no memory; no other line stops

@@ -12,15 +12,15 @@ use Rattle.script_run.specs.Asking.{Exchange, exchange_at}
 
 -- something that is done at a line: a command is asked and answered
 pub data Event : Type 0 where
-  answered : Exchange → Event
+  Asked : Exchange → Event
 
 -- what is printed of an event
 abbrev pub text_of : Event → List ℕ
-text_of (answered exchange) = outcome_text exchange.answer
+text_of (Asked exchange) = outcome_text exchange.answer
 
 -- the entries that it adds
 abbrev pub entries_added : Event → List Entry
-entries_added (answered exchange) = cons_option exchange.added []
+entries_added (Asked exchange) = cons_option exchange.added []
 
 -- the book that it leaves
 abbrev pub after_event : BookState → Event → BookState
@@ -34,7 +34,7 @@ after_events book (event ∷ events) = after_events (after_event book event) eve
 
 -- an event is the one that a line asks for at a book: of a command, its exchange there
 abbrev pub IsEventAt : BookState → Line → Event → Type 0
-IsEventAt book (Asks command) (answered exchange) = exchange ≡ exchange_at book command
+IsEventAt book (Asks command) (Asked exchange) = exchange ≡ exchange_at book command
 IsEventAt book line event = ⊥
 
 -- these are the events of some lines, one at each line that says something, and each at the book
@@ -56,7 +56,7 @@ transcript book events = texts events ++ summary_text (summary (after_events boo
 
 -- the event of a command at a book, and the book behind it
 abbrev pub event_at : BookState → Command → Event
-event_at book command = answered (exchange_at book command)
+event_at book command = Asked (exchange_at book command)
 
 abbrev pub after_command : BookState → Command → BookState
 after_command book command = after_event book (event_at book command)

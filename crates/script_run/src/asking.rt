@@ -5,7 +5,7 @@ ghost use Rattle.store_runs.specs.Books.{stored_book};
 ghost use Rattle.store_runs.specs.Runs.{Goes};
 ghost use Rattle.script_run.specs.Asking.{prior_at, want_at, ask_at, exchange_at, IsTold};
 ghost use Rattle.script_run.specs.Transcript.{after_command};
-ghost use Rattle.script_run.specs.Unanswered.{MayStay, step_of, stop_of};
+ghost use Rattle.script_run.specs.Unanswered.{MayStay, step_of};
 
 use book_core::Book;
 use book_store::OneCaller;

@@ -16,7 +16,7 @@ pub struct Session<D: Disk> {
 }
 
 impl<D: Disk> Session<D> {
-    ghost use Rattle.std.specs.Prelude.{◌≡◌, [], ◌∷◌, true, OnOk, IfOk, IfErr};
+    ghost use Rattle.std.specs.Prelude.{◌≡◌, ℕ, [], ◌∷◌, true, OnOk, IfOk, IfErr};
     ghost use Rattle.script_lines.specs.declared.command.Line.TheVariants as line;
     ghost use Rattle.script_lines.specs.Script.{is_good};
     ghost use Rattle.book_store.specs.Stores.{entries_of, held_of, IsSound};
@@ -106,11 +106,13 @@ impl<D: Disk> Session<D> {
     {
         let Session { caller, mut text } = self;
         let mut store = caller.back();
-        let stop = match summarize(&mut store, &mut text, output) {
-            Ok(()) => Stop::Finished,
-            Err(stop) => stop,
-        };
-        RunEnd { stop, store }
+        match summarize(&mut store, &mut text, output) {
+            Ok(()) => RunEnd {
+                stop: Stop::Finished,
+                store,
+            },
+            Err(stop) => RunEnd { stop, store },
+        }
     }
 }
 
