@@ -22,7 +22,7 @@ use Rattle.store_runs.specs.Books.{BookState, stored_book}
 use Rattle.store_runs.specs.Calls.{Call}
 use Rattle.store_runs.specs.Runs.{HasGrown, CountsStop, SparesDisk, RunGoes}
 use Rattle.store_runs.specs.Stops.{stop_row}
-use Rattle.script_run.specs.Run.{ExplainsRun}
+use Rattle.script_run.specs.Runs.{ExplainsRun}
 use Rattle.book_migration.specs.Migration.{InputMoment, ExplainsMigration}
 use Rattle.hall_top.specs.declared.ending.Ending.TheVariants.{Usage, Unopened, Stopped}
 use Rattle.hall_top.specs.declared.ended.Ended.{Ended}
