@@ -157,3 +157,8 @@ same_wanted g words said wanted before outcome call is asked ends = subst (λ (w
   where
     some_same : (a b : Wanted) → Some a ≡ Some b → a ≡ b
     some_same a b same = cc
+
+-- and a call with right words doesn't end as one with wrong words
+pub ends_otherwise : {S D : Type 0} (g : disk.Ghosts D) (wanted : Wanted) (before : D) (outcome : Outcome D) (call : Call S) → EndsAs g wanted before outcome call → outcome.ending ≡ Usage → ⊥
+ends_otherwise g wanted before outcome call (inl opened) is = absurd (let same : Stopped opened.stop ≡ Usage = sym opened.ending ∙ is in cc)
+ends_otherwise g wanted before outcome call (inr unopened) is = absurd (let same : Unopened unopened.why ≡ Usage = sym unopened.ending ∙ is in cc)
