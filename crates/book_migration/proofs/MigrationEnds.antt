@@ -1,8 +1,10 @@
 -- Lemmas on how a migration ends.
-use Rattle.std.proofs.Common.{◌≡◌, ◌↔◌, Bool, true, false, IsTrue, ℕ, ◌+◌, ◌<◌, ◌≤◌, List, [], ◌++◌, length, inl, inr, refl, sym, ap, ◌∙◌, append_assoc, length-append, subst, arith}
+use Rattle.std.proofs.Common.{◌≡◌, ◌↔◌, Bool, true, false, IsTrue, ℕ, ◌+◌, ◌<◌, ◌≤◌, List, [], ◌++◌, length, Ok, Err, inl, inr, refl, sym, ap, ◌∙◌, append_assoc, length-append, subst, arith}
 use Rattle.std.specs.Io.KnownBytes.{Consumes, IsAtEnd}
 use Rattle.std.proofs.KnownBytes.{Consumes-trans}
+use Rattle.disk_core.specs.declared.disk.Disk as disk
 use Rattle.book_words.specs.declared.act.Entry.{Entry}
+use Rattle.book_store.specs.declared.store.Store.{Store}
 use Rattle.old_journal.specs.OldJournal.{HasOldHeader}
 use Rattle.old_journal.specs.Carrying.{IsMigrated}
 use Rattle.old_journal.specs.Reader.{OldView, old_after}
@@ -16,8 +18,9 @@ use Rattle.text_streams.specs.Reading.{TakesPiece, TakesNone, HasMadeReads, Fail
 use Rattle.text_streams.proofs.ReadingLemmas.{taken_nothing, taken_more, taken_whole, fails_behind}
 use Rattle.store_runs.specs.declared.stop.Stop.{Stop}
 use Rattle.store_runs.specs.declared.stop.Stop.TheVariants.{Finished, BadLine, ReadFault, WriteFault, DiskFault, NoMemory, Spent}
-use Rattle.store_runs.specs.Runs.{FailsToKeep}
+use Rattle.store_runs.specs.Runs.{FailsToKeep, Goes}
 use Rattle.store_runs.specs.Stops.{stop_of}
+use Rattle.store_runs.proofs.StoreSteps.{goes_with}
 use Rattle.book_migration.specs.declared.migrate.TheConstants.{MAX_OLD_READS}
 use Rattle.book_migration.specs.Migration.{InputMoment, HasCarried, StopsInJournal, EndsMigration, StopsAtJournalEnd, IsUnbegun, ExplainsMigration}
 use Rattle.book_migration.specs.Carrying.{MigrationState, Carried, CarriesOn, StopsCarrying, CarriesAll}
@@ -157,3 +160,10 @@ module _ {S : Type 0} (held : List Entry) (before now : InputMoment S) (rows : L
   -- no memory to begin with
   pub explains_unbegun : now ≡ before → rows ≡ held → ExplainsMigration held before now rows NoMemory
   explains_unbegun unread same = inr (inr (record { unread = unread; same = same }))
+
+-- ---- the store
+
+-- a read that gave no piece leaves the store as it was
+pub goes_unread : {D T U : Type 0} (g : disk.Ghosts D) (done : T) (error : ReadError) (a b : Store D) → Goes g (Ok done) a b → Goes {T = U} g (Err (stop_of error)) a b
+goes_unread g done reading.Failed a b goes = goes_with g done (Err ReadFault) a b goes goes.cause (λ is. absurd (cc))
+goes_unread g done reading.Spent a b goes = goes_with g done (Err Spent) a b goes goes.cause (λ is. absurd (cc))

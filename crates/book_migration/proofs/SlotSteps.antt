@@ -211,3 +211,12 @@ over_more before now next piece rest part after over parts on = record {
   parts = over.parts ∙ ap (λ (bytes : List ℕ). over.first ++ bytes) parts ∙ sym (append_assoc over.first part after);
   on = carries_both before now next over.first part over.on on;
 }
+
+pub no_bytes : (bytes : List ℕ) → length bytes ≡ 0 → bytes ≡ []
+no_bytes [] none = refl
+no_bytes (x ∷ bytes) none = absurd (omega (arith, none))
+
+-- nothing of it is left
+pub over_all : (before now : MigrationState) (piece rest : List ℕ) → CarriedOver before now piece rest → length rest ≡ 0 → CarriesOn before now piece
+over_all before now piece rest over none =
+    subst (CarriesOn before now) (sym (over.parts ∙ ap (λ (bytes : List ℕ). over.first ++ bytes) (no_bytes rest none) ∙ append-nil over.first)) over.on

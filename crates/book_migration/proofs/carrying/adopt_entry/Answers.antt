@@ -34,3 +34,9 @@ returns-in-Err-NoMemory-clause-goes g c =
     let path = c.in-Err-NoMemory.is ∙ ap (λ e. Err e) c.in-Err-NoMemory.field-0-is in
     subst (λ r. Goes g.D.Disk (step_adopted tt c.args.number c.args.entry.now r) c.args.store.now c.adopt.new.self) path
     (goes_adopted g.D.Disk tt c.args.number c.args.store.now c.adopt.new.self c.args.entry.now c.adopt.result a.entries a.adopts a.offers a.unlawful a.no_memory a.settled a.images a.hangs a.limit a.held a.cause)
+
+pub returns-in-Err-Unlawful-clause-carries : goal.returns-in-Err-Unlawful-clause-carries
+returns-in-Err-Unlawful-clause-carries g c =
+    let same : entries_of c.adopt.new.self ≡ entries_of c.args.store.now = search rules in
+    let unlawful : ¬ IsLawful (entries_of c.args.store.now) c.args.entry.now = search rules in
+    (same, inl (c.bad_row.ensures, inr (c.requires.behind, unlawful)))

@@ -1,10 +1,10 @@
-use Rattle.std.proofs.Common.{◌∙◌, ◌++◌, [], List, ℕ, Ok, Err, refl, sym, ap, subst, take}
+use Rattle.std.proofs.Common.{rules, ◌≡◌, length, ◌∙◌, ◌++◌, [], List, ℕ, Ok, Err, refl, sym, ap, subst, take}
 use Rattle.std.proofs.lemmas.Result.{err_from_is_err_and}
 use Rattle.std.proofs.lemmas.List.{take-append-drop}
 use Rattle.book_store.specs.Stores.{entries_of}
 use Rattle.book_migration.specs.Carrying.{migration_state, StopsCarrying}
 use Rattle.store_runs.proofs.StoreSteps.{goes_on, goes_as, goes_with, stays, on_unfinished}
-use Rattle.book_migration.proofs.SlotSteps.{stops_behind_step, carries_nothing, over_more}
+use Rattle.book_migration.proofs.SlotSteps.{stops_behind_step, carries_nothing, over_more, over_all}
 use Rattle.book_migration.proofs.carrying.Migration.take_piece.Goals as goal
 
 pub loop-rest-init : goal.loop-rest-init
@@ -42,3 +42,8 @@ loop-rest-preserved g c =
       sound = c.in_ok-count.ensures.sound;
       few = c.in_ok-count.ensures.few;
     }
+
+pub returns-clause-steps : goal.returns-clause-steps
+returns-clause-steps g c =
+    let none : length c.loop-rest.rest.now ≡ 0 = search rules in
+    over_all (migration_state c.args.self.now) (migration_state c.loop-rest.self) c.args.piece.now c.loop-rest.rest.now c.loop-rest.invariant.over none
