@@ -1,6 +1,3 @@
-ghost use Rattle.std.specs.Prelude.{◌≡◌};
-ghost use Rattle.store_runs.specs.Stops.{stop_of};
-
 use book_words::{Ask, Entry};
 use text_streams::ReadError;
 
@@ -35,9 +32,12 @@ pub enum Stop {
 }
 
 impl From<ReadError> for Stop {
-    fn from(error: ReadError) -> Stop
-        ensures { result ≡ stop_of error }
-    {
+    ghost use Rattle.std.specs.Prelude.{◌≡◌};
+    ghost use Rattle.store_runs.specs.Stops.{stop_of};
+
+    ghost from_gives = { λ error stop. stop ≡ stop_of error };
+
+    fn from(error: ReadError) -> Stop {
         match error {
             ReadError::Failed => Stop::ReadFault,
             ReadError::Spent => Stop::Spent,

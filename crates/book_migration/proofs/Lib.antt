@@ -1,0 +1,4 @@
+pub mod CarriedRows
+pub mod SameEntries
+pub mod SlotSteps
+pub mod MigrationEnds
