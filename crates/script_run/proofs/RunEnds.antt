@@ -3,7 +3,9 @@ use Rattle.std.proofs.Common.{◌≡◌, ℕ, ◌+◌, ◌*◌, ◌<◌, ◌≤�
 use Rattle.std.specs.Io.KnownBytes.{Consumes, IsAtEnd}
 use Rattle.std.proofs.KnownBytes.{Consumes-whole, Consumes-trans}
 use Rattle.device_facts.specs.Count.{Counted}
+use Rattle.disk_core.specs.declared.disk.Disk as disk
 use Rattle.book_words.specs.declared.act.Entry.{Entry}
+use Rattle.book_store.specs.declared.store.Store.{Store}
 use Rattle.book_words.specs.Views.{summary}
 use Rattle.script_lines.specs.declared.command.Line.{Line}
 use Rattle.script_lines.specs.declared.command.Line.TheVariants.{Nothing, Asks, Bad}
@@ -23,7 +25,8 @@ use Rattle.store_runs.specs.declared.stop.Stop.{Stop}
 use Rattle.store_runs.specs.declared.stop.Stop.TheVariants.{Finished, BadLine, ReadFault, WriteFault, DiskFault, NoMemory, Spent}
 use Rattle.store_runs.specs.Books.{BookState}
 use Rattle.store_runs.specs.Calls.{Call}
-use Rattle.store_runs.specs.Runs.{FailsToKeep}
+use Rattle.store_runs.specs.Runs.{FailsToKeep, Goes}
+use Rattle.store_runs.proofs.StoreSteps.{stays}
 use Rattle.store_runs.specs.Stops.{stop_of}
 use Rattle.script_run.specs.declared.script.TheConstants.{MAX_READS}
 use Rattle.script_run.specs.Scripts.{ended_lines_of, lines_of, HasLine}
@@ -158,6 +161,10 @@ explained_after book before old now first next run run' (Err stop) has takes som
 
 -- ---- the end of the input
 
+pub no_bytes : (bytes : List ℕ) → length bytes ≡ 0 → bytes ≡ []
+no_bytes [] none = refl
+no_bytes (byte ∷ bytes) none = absurd (omega (arith, none))
+
 -- the last line of the whole script stopped the run
 stops_at_end : {S : Type 0} (book : BookState) (call : Call S) (script : List ℕ) (stop : Stop) → StopsInScript book call.before.output call.now.output call.rows stop script
     → ReadsWhole call.before.input call.now.input script → StopsInInput book call stop
@@ -212,6 +219,11 @@ explained_unread book before old now reader run reading.Spent has none most same
           (subst (λ (n : ℕ). HasTaken before.input old.input n has.taken) (none.0 ∙ most) has.read);
       holds = good_still book before now has.taken run (subst (λ (s : Stream). Reached book before.output s has.taken run) (sym same) has.reached);
     }
+
+-- and the store is as it was
+pub goes_unread : {D T : Type 0} (g : disk.Ghosts D) (why : ReadError) (store : Store D) → Goes {T = T} g (Err (stop_of why)) store store
+goes_unread g reading.Failed store = stays g (Err ReadFault) store refl (λ is. absurd (cc))
+goes_unread g reading.Spent store = stays g (Err Spent) store refl (λ is. absurd (cc))
 
 -- ---- where a run begins
 

@@ -48,11 +48,12 @@ fn take_read<S: Source, K: Sink, D: Disk>(
     ensures ready { OnOk result (IsReady run.new.session) }
 {
     reader.read(input)?;
-    if reader.piece().is_empty() {
+    let piece = reader.piece();
+    if piece.is_empty() {
         run.finish_line(output)?;
         return Ok(false);
     }
-    run.take_piece(reader.piece(), output)?;
+    run.take_piece(piece, output)?;
     Ok(true)
 }
 

@@ -1,5 +1,7 @@
 use Rattle.std.proofs.Common.{◌≡◌, ℕ, List, ◌++◌, ◌∷◌, [], length, Ok, Err, sym, ap, ◌∙◌, append_assoc, length-append, arith}
+use Rattle.std.specs.Bool.{⊤}
 use Rattle.std.proofs.lemmas.Result.{err_from_is_err_and}
+use Rattle.text_streams.specs.Streams.{output_at}
 use Rattle.script_run.specs.Books.{store_in, run_state}
 use Rattle.store_runs.proofs.StoreSteps.{goes_on}
 use Rattle.script_run.proofs.ByteSteps.{steps_on, steps_stop, steps_last}
@@ -30,20 +32,34 @@ loop-part-preserved g c =
         on = steps_on _ _ _ (run_state c.args.self.now) (run_state c.loop-part.self) (run_state c.end_line.new.self) over.first (part ++ 10 ∷ []) over.on c.in_ok-end_line.ensures.steps;
       };
       goes = goes_on g.D.Disk tt (Ok tt) (store_in c.args.self.now.session) (store_in c.loop-part.self.session) (store_in c.end_line.new.self.session) c.loop-part.invariant.goes c.in_ok-end_line.ensures.goes;
-      ready = c.end_line.ensures.ready;
+      ready = c.in_ok-end_line.ensures.ready;
       few = omega (arith, c.end_line.ensures.one, c.loop-part.invariant.few, ap length c.in-Some.ensures.0, length-append part (10 ∷ after));
     }
 
 pub returns-clause-steps : goal.returns-clause-steps
 returns-clause-steps g c =
     let over = c.loop-part.invariant.over in
-    rw over.parts (steps_last _ _ _ (run_state c.args.self.now) (run_state c.loop-part.self) (run_state c.begin_line.new.self) over.first c.loop-part.rest.now c.begin_line.result over.on c.begin_line.ensures.steps)
+    let now = output_at g.K.Sink c.loop-part.output in
+    rw over.parts (steps_on _ _ _ (run_state c.args.self.now) (run_state c.loop-part.self) (run_state c.begin_line.new.self) over.first c.loop-part.rest.now over.on (c.in_ok-begin_line.ensures.steps now))
+
+pub returns-in_err-begin_line-clause-steps : goal.returns-in_err-begin_line-clause-steps
+returns-in_err-begin_line-clause-steps g c =
+    let p = err_from_is_err_and c.from_residual-in_err-begin_line.result c.from_residual-in_err-begin_line.ensures.1 in
+    let over = c.loop-part.invariant.over in
+    let now = output_at g.K.Sink c.loop-part.output in
+    let stop = c.in_err-begin_line.field-0.0 in
+    rw (p.1, p.2) (rw over.parts (steps_last {T = ⊤} _ now now (run_state c.args.self.now) (run_state c.loop-part.self) (run_state c.begin_line.new.self) over.first c.loop-part.rest.now (Err stop) over.on (c.in_err-begin_line.ensures.steps now)))
 
 pub returns-in_err-end_line-clause-goes : goal.returns-in_err-end_line-clause-goes
 returns-in_err-end_line-clause-goes g c =
     let p = err_from_is_err_and c.from_residual.result c.from_residual.ensures.1 in
     rw (p.1, p.2) (goes_on g.D.Disk tt (Err c.in_err-end_line.field-0.0) (store_in c.args.self.now.session) (store_in c.loop-part.self.session) (store_in c.end_line.new.self.session) c.loop-part.invariant.goes c.in_err-end_line.ensures.goes)
 
+pub returns-in_err-begin_line-clause-goes : goal.returns-in_err-begin_line-clause-goes
+returns-in_err-begin_line-clause-goes g c =
+    let p = err_from_is_err_and c.from_residual-in_err-begin_line.result c.from_residual-in_err-begin_line.ensures.1 in
+    rw (p.1, p.2) (goes_on g.D.Disk tt (Err c.in_err-begin_line.field-0.0) (store_in c.args.self.now.session) (store_in c.loop-part.self.session) (store_in c.begin_line.new.self.session) c.loop-part.invariant.goes c.in_err-begin_line.ensures.goes)
+
 pub returns-clause-goes : goal.returns-clause-goes
 returns-clause-goes g c =
-    goes_on g.D.Disk tt c.begin_line.result (store_in c.args.self.now.session) (store_in c.loop-part.self.session) (store_in c.begin_line.new.self.session) c.loop-part.invariant.goes c.begin_line.ensures.goes
+    goes_on g.D.Disk tt (Ok tt) (store_in c.args.self.now.session) (store_in c.loop-part.self.session) (store_in c.begin_line.new.self.session) c.loop-part.invariant.goes c.in_ok-begin_line.ensures.goes
