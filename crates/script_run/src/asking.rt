@@ -9,7 +9,9 @@ ghost use Rattle.script_run.specs.Unanswered.{MayStay, step_of};
 
 use book_core::Book;
 use book_store::OneCaller;
-use book_words::{Act, Answered, Ask, AskError, Caller, Name, Prior, Question, Refused, Unit, Want};
+use book_words::{
+    Act, Answered, Ask, AskError, Caller, Name, Prior, Question, Refused, Unit, Want,
+};
 use disk_core::Disk;
 use script_lines::{Command, Verb};
 use store_runs::{Offer, Stop};
