@@ -10,7 +10,8 @@ use Rattle.book_words.specs.Views.{summary}
 use Rattle.book_core.specs.Steps.{asked_question}
 
 -- the balance of a legal list is an answer
-pub is_summary : (limit : ℕ) (entries : List Entry) (at : ℕ) (view : SummaryView) → IsLegal entries → at ≡ length entries → view ≡ summary entries
+pub is_summary : (limit : ℕ) (entries : List Entry) (at : ℕ) (view : SummaryView) → IsLegal entries
+    → at ≡ length entries → view ≡ summary entries
     → IsAnswer (record { at = at; reply = SummaryIs view })
 is_summary limit entries at view legal rows is =
     record {
@@ -18,5 +19,6 @@ is_summary limit entries at view legal rows is =
       entries = entries;
       ask = asked_question Summary;
       legal = legal;
-      given = ap (λ (n : ℕ). Ok (record { at = n; reply = SummaryIs (summary entries) })) (sym rows) ∙ ap (λ (v : SummaryView). Ok (record { at = at; reply = SummaryIs v })) (sym is);
+      given = ap (λ (n : ℕ). Ok (record { at = n; reply = SummaryIs (summary entries) })) (sym rows)
+          ∙ ap (λ (v : SummaryView). Ok (record { at = at; reply = SummaryIs v })) (sym is);
     }

@@ -1,7 +1,6 @@
-use Rattle.std.proofs.Common.{rules, ◌≡◌, ◌≤◌, ◌*◌, true, Ok, Err, refl, subst, arith}
+use Rattle.std.proofs.Common.{rules, ◌≡◌, true, Ok, Err, subst, arith}
 use Rattle.std.proofs.lemmas.Result.{err_from_is_err_and}
 use Rattle.text_streams.specs.Streams.{devices}
-use Rattle.text_streams.specs.declared.reader.TheConstants.{PIECE}
 use Rattle.store_runs.proofs.StoreSteps.{on_unfinished, goes_on, goes_with, goes_as}
 use Rattle.script_run.specs.Books.{book_in, store_in, run_state, HasReadOn}
 use Rattle.script_run.proofs.RunEnds.{lines_few}
@@ -13,16 +12,22 @@ take_read-requires-clause-room g c =
     let before = devices g.S.Source g.K.Sink c.args.input.now c.args.output.now in
     let now = devices g.S.Source g.K.Sink c.loop-more.input c.loop-more.output in
     let more : c.loop-more.more ≡ true = search rules in
-    let few = lines_few (book_in c.args.run.now.session) before now c.loop-more.reader (run_state c.loop-more.run)
-    (subst (HasReadOn (book_in c.args.run.now.session) before now c.loop-more.reader (run_state c.loop-more.run)) more inv.read) in
+    let few = lines_few (book_in c.args.run.now.session) before now c.loop-more.reader
+    (run_state c.loop-more.run)
+    (subst (HasReadOn (book_in c.args.run.now.session) before now c.loop-more.reader
+    (run_state c.loop-more.run)) more inv.read) in
     omega (arith, few, inv.few)
 
 pub returns-in_err-more-clause-goes : goal.returns-in_err-more-clause-goes
 returns-in_err-more-clause-goes g c =
     let p = err_from_is_err_and c.from_residual.result c.from_residual.ensures.1 in
     let stop = c.in_err-more.field-0.0 in
-    rw (p.1, p.2) (goes_as g.D.Disk stop (store_in c.args.run.now.session) (store_in c.take_read.new.run.session)
-    (goes_on g.D.Disk tt (Err stop) (store_in c.args.run.now.session) (store_in c.loop-more.run.session) (store_in c.take_read.new.run.session) c.loop-more.invariant.goes c.in_err-more.ensures.goes))
+    rw (p.1, p.2) (goes_as g.D.Disk stop (store_in c.args.run.now.session)
+    (store_in c.take_read.new.run.session)
+    (goes_on g.D.Disk tt (Err stop) (store_in c.args.run.now.session)
+    (store_in c.loop-more.run.session)
+    (store_in c.take_read.new.run.session) c.loop-more.invariant.goes
+    c.in_err-more.ensures.goes))
 
 pub loop-more-preserved : goal.loop-more-preserved
 loop-more-preserved g c =
@@ -31,11 +36,16 @@ loop-more-preserved g c =
     let before = devices g.S.Source g.K.Sink c.args.input.now c.args.output.now in
     let old = devices g.S.Source g.K.Sink c.loop-more.input c.loop-more.output in
     let more : c.loop-more.more ≡ true = search rules in
-    let has = subst (HasReadOn book before old c.loop-more.reader (run_state c.loop-more.run)) more inv.read in
-    let goes = goes_on g.D.Disk tt (Ok c.in_ok-more.more) (store_in c.args.run.now.session) (store_in c.loop-more.run.session) (store_in c.take_read.new.run.session) inv.goes c.in_ok-more.ensures.goes in
+    let has = subst (HasReadOn book before old c.loop-more.reader (run_state c.loop-more.run)) more
+    inv.read in
+    let goes = goes_on g.D.Disk tt (Ok c.in_ok-more.more) (store_in c.args.run.now.session)
+    (store_in c.loop-more.run.session)
+    (store_in c.take_read.new.run.session) inv.goes c.in_ok-more.ensures.goes in
     record {
       read = c.in_ok-more.ensures.explained book before has inv.most;
-      goes = goes_with g.D.Disk c.in_ok-more.more (Ok tt) (store_in c.args.run.now.session) (store_in c.take_read.new.run.session) goes goes.cause (λ is. absurd (on_unfinished tt is));
+      goes = goes_with g.D.Disk c.in_ok-more.more (Ok tt) (store_in c.args.run.now.session)
+          (store_in c.take_read.new.run.session) goes goes.cause
+          (λ is. absurd (on_unfinished tt is));
       ready = c.in_ok-more.ensures.ready;
       unended = c.in_ok-more.ensures.unended;
       most = search rules;

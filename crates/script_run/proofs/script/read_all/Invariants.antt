@@ -9,7 +9,8 @@ use Rattle.script_run.proofs.script.read_all.Given as goal
 -- all was read, or there may be more to read, in fewer reads than may be made
 abbrev pub invariant-loop-more : goal.invariant-loop-more
 invariant-loop-more g l = record {
-  read : HasReadOn (book_in l.fn.run.session) (devices g.S.Source g.K.Sink l.fn.input l.fn.output) (devices g.S.Source g.K.Sink l.input l.output) l.reader (run_state l.run) l.more;
+  read : HasReadOn (book_in l.fn.run.session) (devices g.S.Source g.K.Sink l.fn.input l.fn.output)
+      (devices g.S.Source g.K.Sink l.input l.output) l.reader (run_state l.run) l.more;
   goes : Goes {T = ⊤} g.D.Disk (Ok tt) (store_in l.fn.run.session) (store_in l.run.session);
   ready : IsReady l.run.session;
   unended : l.more ≡ true → g.S.Source.ended l.input ≡ false;

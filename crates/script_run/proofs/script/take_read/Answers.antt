@@ -1,4 +1,4 @@
-use Rattle.std.proofs.Common.{rules, ◌≡◌, ◌<◌, List, ℕ, [], length, Ok, Err, refl, subst}
+use Rattle.std.proofs.Common.{rules, ◌≡◌, ◌<◌, List, ℕ, length, Ok, Err, refl, subst}
 use Rattle.std.specs.Bool.{⊤}
 use Rattle.std.proofs.lemmas.Result.{err_from_is_err_and}
 use Rattle.text_streams.specs.Streams.{output_at, devices}
@@ -11,7 +11,10 @@ use Rattle.script_run.proofs.script.take_read.Goals as goal
 pub returns-in_err-read-clause-explained : goal.returns-in_err-read-clause-explained
 returns-in_err-read-clause-explained g c = λ book before has most.
     let p = err_from_is_err_and c.from_residual.result c.from_residual.ensures.1 in
-    rw (p.1, p.2) (explained_unread book before (devices g.S.Source g.K.Sink c.args.input.now c.args.output.now) (devices g.S.Source g.K.Sink c.read.new.input c.args.output.now) c.args.reader.now (run_state c.args.run.now) c.in_err-read.field-0.0
+    rw (p.1, p.2) (explained_unread book before
+    (devices g.S.Source g.K.Sink c.args.input.now c.args.output.now)
+    (devices g.S.Source g.K.Sink c.read.new.input c.args.output.now) c.args.reader.now
+    (run_state c.args.run.now) c.in_err-read.field-0.0
     has c.in_err-read.ensures.none most refl)
 
 pub returns-in_err-read-clause-goes : goal.returns-in_err-read-clause-goes
@@ -21,41 +24,71 @@ returns-in_err-read-clause-goes g c =
 
 pub returns-in_err-finish_line-clause-explained : goal.returns-in_err-finish_line-clause-explained
 returns-in_err-finish_line-clause-explained g c = λ book before has most.
-    let p = err_from_is_err_and c.from_residual-in_err-finish_line.result c.from_residual-in_err-finish_line.ensures.1 in
+    let p = err_from_is_err_and c.from_residual-in_err-finish_line.result
+    c.from_residual-in_err-finish_line.ensures.1 in
     let none : length c.read.new.self.piece ≡ 0 = search rules in
     let empty = no_bytes c.read.new.self.piece none in
-    rw (p.1, p.2) (explained_last book before (devices g.S.Source g.K.Sink c.args.input.now c.args.output.now) (devices g.S.Source g.K.Sink c.read.new.input c.finish_line.new.output) c.args.reader.now c.read.new.self
-    (run_state c.args.run.now) (run_state c.finish_line.new.self) c.in_err-finish_line.field-0.0 has c.in_ok-read.ensures.takes empty (c.in_ok-read.ensures.at_end empty) (c.in_err-finish_line.ensures.stops book before.output has.taken has.reached))
+    rw (p.1, p.2) (explained_last book before
+    (devices g.S.Source g.K.Sink c.args.input.now c.args.output.now)
+    (devices g.S.Source g.K.Sink c.read.new.input c.finish_line.new.output) c.args.reader.now
+    c.read.new.self
+    (run_state c.args.run.now) (run_state c.finish_line.new.self) c.in_err-finish_line.field-0.0 has
+    c.in_ok-read.ensures.takes empty (c.in_ok-read.ensures.at_end empty)
+    (c.in_err-finish_line.ensures.stops book before.output has.taken has.reached))
 
 pub returns-in_err-finish_line-clause-goes : goal.returns-in_err-finish_line-clause-goes
 returns-in_err-finish_line-clause-goes g c =
-    let p = err_from_is_err_and c.from_residual-in_err-finish_line.result c.from_residual-in_err-finish_line.ensures.1 in
-    rw (p.1, p.2) (goes_as g.D.Disk c.in_err-finish_line.field-0.0 (store_in c.args.run.now.session) (store_in c.finish_line.new.self.session) c.in_err-finish_line.ensures.goes)
+    let p = err_from_is_err_and c.from_residual-in_err-finish_line.result
+    c.from_residual-in_err-finish_line.ensures.1 in
+    rw (p.1, p.2) (goes_as g.D.Disk c.in_err-finish_line.field-0.0 (store_in c.args.run.now.session)
+    (store_in c.finish_line.new.self.session) c.in_err-finish_line.ensures.goes)
 
 pub returns-then-is_empty-clause-explained : goal.returns-then-is_empty-clause-explained
 returns-then-is_empty-clause-explained g c = λ book before has most.
     let none : length c.read.new.self.piece ≡ 0 = search rules in
     let empty = no_bytes c.read.new.self.piece none in
-    read_whole book (book_in c.finish_line.new.self.session) before (devices g.S.Source g.K.Sink c.args.input.now c.args.output.now) (devices g.S.Source g.K.Sink c.read.new.input c.finish_line.new.output) c.args.reader.now c.read.new.self
-    (run_state c.args.run.now) has c.in_ok-read.ensures.takes empty (c.in_ok-read.ensures.at_end empty) (c.in_ok-finish_line.ensures.whole book before.output has.taken has.reached)
+    read_whole book (book_in c.finish_line.new.self.session) before
+    (devices g.S.Source g.K.Sink c.args.input.now c.args.output.now)
+    (devices g.S.Source g.K.Sink c.read.new.input c.finish_line.new.output) c.args.reader.now
+    c.read.new.self
+    (run_state c.args.run.now) has c.in_ok-read.ensures.takes empty
+    (c.in_ok-read.ensures.at_end empty)
+    (c.in_ok-finish_line.ensures.whole book before.output has.taken has.reached)
 
 pub returns-in_err-take_piece-clause-explained : goal.returns-in_err-take_piece-clause-explained
 returns-in_err-take_piece-clause-explained g c = λ book before has most.
-    let p = err_from_is_err_and c.from_residual-in_err-take_piece.result c.from_residual-in_err-take_piece.ensures.1 in
+    let p = err_from_is_err_and c.from_residual-in_err-take_piece.result
+    c.from_residual-in_err-take_piece.ensures.1 in
     let some : 0 < length c.read.new.self.piece = search rules in
     let stop = c.in_err-take_piece.field-0.0 in
-    rw (p.1, p.2) (explained_after {T = ⊤} book before (devices g.S.Source g.K.Sink c.args.input.now c.args.output.now) (devices g.S.Source g.K.Sink c.read.new.input c.take_piece.new.output) c.args.reader.now c.read.new.self
-    (run_state c.args.run.now) (run_state c.take_piece.new.self) (Err stop) has c.in_ok-read.ensures.takes some
-    (subst (λ (bytes : List ℕ). Steps (output_at g.K.Sink c.args.output.now) (output_at g.K.Sink c.take_piece.new.output) (run_state c.args.run.now) (run_state c.take_piece.new.self) bytes {T = ⊤} (Err stop)) c.piece-piece.ensures c.in_err-take_piece.ensures.steps))
+    rw (p.1, p.2) (explained_after {T = ⊤} book before
+    (devices g.S.Source g.K.Sink c.args.input.now c.args.output.now)
+    (devices g.S.Source g.K.Sink c.read.new.input c.take_piece.new.output) c.args.reader.now
+    c.read.new.self
+    (run_state c.args.run.now) (run_state c.take_piece.new.self)
+    (Err stop) has c.in_ok-read.ensures.takes some
+    (subst (λ (bytes : List ℕ). Steps (output_at g.K.Sink c.args.output.now)
+    (output_at g.K.Sink c.take_piece.new.output) (run_state c.args.run.now)
+    (run_state c.take_piece.new.self) bytes {T = ⊤} (Err stop)) c.piece-piece.ensures
+    c.in_err-take_piece.ensures.steps))
 
 pub returns-in_err-take_piece-clause-goes : goal.returns-in_err-take_piece-clause-goes
 returns-in_err-take_piece-clause-goes g c =
-    let p = err_from_is_err_and c.from_residual-in_err-take_piece.result c.from_residual-in_err-take_piece.ensures.1 in
-    rw (p.1, p.2) (goes_as g.D.Disk c.in_err-take_piece.field-0.0 (store_in c.args.run.now.session) (store_in c.take_piece.new.self.session) c.in_err-take_piece.ensures.goes)
+    let p = err_from_is_err_and c.from_residual-in_err-take_piece.result
+    c.from_residual-in_err-take_piece.ensures.1 in
+    rw (p.1, p.2) (goes_as g.D.Disk c.in_err-take_piece.field-0.0 (store_in c.args.run.now.session)
+    (store_in c.take_piece.new.self.session) c.in_err-take_piece.ensures.goes)
 
 pub returns-clause-explained : goal.returns-clause-explained
 returns-clause-explained g c = λ book before has most.
     let some : 0 < length c.read.new.self.piece = search rules in
-    explained_after {T = ⊤} book before (devices g.S.Source g.K.Sink c.args.input.now c.args.output.now) (devices g.S.Source g.K.Sink c.read.new.input c.take_piece.new.output) c.args.reader.now c.read.new.self
-    (run_state c.args.run.now) (run_state c.take_piece.new.self) (Ok tt) has c.in_ok-read.ensures.takes some
-    (subst (λ (bytes : List ℕ). Steps (output_at g.K.Sink c.args.output.now) (output_at g.K.Sink c.take_piece.new.output) (run_state c.args.run.now) (run_state c.take_piece.new.self) bytes {T = ⊤} (Ok tt)) c.piece-piece.ensures c.in_ok-take_piece.ensures.steps)
+    explained_after {T = ⊤} book before
+    (devices g.S.Source g.K.Sink c.args.input.now c.args.output.now)
+    (devices g.S.Source g.K.Sink c.read.new.input c.take_piece.new.output) c.args.reader.now
+    c.read.new.self
+    (run_state c.args.run.now) (run_state c.take_piece.new.self)
+    (Ok tt) has c.in_ok-read.ensures.takes some
+    (subst (λ (bytes : List ℕ). Steps (output_at g.K.Sink c.args.output.now)
+    (output_at g.K.Sink c.take_piece.new.output) (run_state c.args.run.now)
+    (run_state c.take_piece.new.self) bytes {T = ⊤} (Ok tt)) c.piece-piece.ensures
+    c.in_ok-take_piece.ensures.steps)

@@ -19,15 +19,25 @@ returns-in_err-handle_line-clause-steps g c =
       parts = sym (append-nil (part ++ 10 ∷ []));
       some = omega (arith, length-append part (10 ∷ []));
       stops = λ book before taken stands.
-          let says = c.end_line-line.ensures.says ∙ ap (λ (f : FeedView). ended_line (f.begun ++ part)) stands.fed in
-          stops_anyway book before _ _ taken (run_state c.args.self.now) _ c.end_line-line.result _ _ (taken ++ (part ++ 10 ∷ [])) stands (line_ended_last taken part c.requires.no_end) (λ more. line_ended taken part more c.requires.no_end) says
-          (subst (λ (n : ℕ). StopsAtLine (book_in c.args.self.now.session) (output_at g.K.Sink c.args.output.now) (output_at g.K.Sink c.handle_line.new.output) (entries_of (store_in c.handle_line.new.self)) [] n c.end_line-line.result c.in_err-handle_line.field-0.0)
+          let says = c.end_line-line.ensures.says
+          ∙ ap (λ (f : FeedView). ended_line (f.begun ++ part)) stands.fed in
+          stops_anyway book before _ _ taken
+          (run_state c.args.self.now) _ c.end_line-line.result _ _
+          (taken ++ (part ++ 10 ∷ [])) stands (line_ended_last taken part c.requires.no_end)
+          (λ more. line_ended taken part more c.requires.no_end) says
+          (subst (λ (n : ℕ). StopsAtLine (book_in c.args.self.now.session)
+          (output_at g.K.Sink c.args.output.now) (output_at g.K.Sink c.handle_line.new.output)
+          (entries_of (store_in c.handle_line.new.self))
+          [] n c.end_line-line.result c.in_err-handle_line.field-0.0)
           c.line_number-number.ensures c.in_err-handle_line.ensures.stops);
     }
 
 pub returns-clause-steps : goal.returns-clause-steps
 returns-clause-steps g c = λ book before taken stands.
-    reached_end book before _ _ taken c.args.part.now (run_state c.args.self.now) _ c.end_line-line.result stands c.requires.no_end c.end_line-line.ensures.says c.in_ok-handle_line.ensures.good c.end_line-line.ensures.ended c.in_ok-handle_line.ensures.answered
+    reached_end book before _ _ taken c.args.part.now
+    (run_state c.args.self.now) _ c.end_line-line.result stands c.requires.no_end
+    c.end_line-line.ensures.says c.in_ok-handle_line.ensures.good c.end_line-line.ensures.ended
+    c.in_ok-handle_line.ensures.answered
 
 pub returns-in_err-handle_line-clause-goes : goal.returns-in_err-handle_line-clause-goes
 returns-in_err-handle_line-clause-goes g c =
