@@ -12,8 +12,8 @@ use Rattle.hall_top.proofs.top.do_words.Goals as goal
 pub returns-in-Err-NoMemory-clause-ends : goal.returns-in-Err-NoMemory-clause-ends
 returns-in-Err-NoMemory-clause-ends g c = λ wanted asks.
     let before = devices g.S.Source g.K.Sink c.args.input.now c.args.output.now in
-    let l = c.leave_unopened.ensures in
-    inr (is_unopened g.D.Disk c.args.disk c.args.disk NoMemory c.leave_unopened.result (call_from before before c.leave_unopened.result.rows)
+    let l = c.leave_unopened-in-Err-NoMemory.ensures in
+    inr (is_unopened g.D.Disk c.args.disk c.args.disk NoMemory c.leave_unopened-in-Err-NoMemory.result (call_from before before c.leave_unopened-in-Err-NoMemory.result.rows)
     (inl (unmoved_none g.D.Disk c.args.disk), refl) (λ bytes told held holds legal. (tt, inr (unmoved_none g.D.Disk c.args.disk))) refl refl l.rows l.disk l.held l.ending)
 
 pub do_wanted-requires-clause-least : goal.do_wanted-requires-clause-least

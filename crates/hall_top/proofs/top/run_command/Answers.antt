@@ -18,7 +18,7 @@ returns-in-Check-clause-explained g c =
     let before = devices g.S.Source g.K.Sink c.args.input.now c.args.output.now in
     let now = devices g.S.Source g.K.Sink c.args.input.now c.say_whole.new.output in
     rw c.in-Check.is (explains_check (stored_book c.args.store) (call_from before now (entries_of c.say_whole.result.store)) c.say_whole.result.stop (entries_of c.args.store) refl
-    (ap (λ (s : Store _). entries_of s) c.say_whole.ensures.store) c.say_whole.ensures.says)
+    (ap (λ (s : Store _). entries_of s) c.say_whole.ensures.store) c.say_whole.ensures.says refl)
 
 pub returns-in-Check-clause-goes : goal.returns-in-Check-clause-goes
 returns-in-Check-clause-goes g c =
