@@ -19,7 +19,8 @@ use Rattle.book_words.specs.declared.views.Verdict.TheVariants.{Empty}
 use Rattle.book_words.specs.Names.{same_name}
 use Rattle.book_words.specs.Acts.{last_said, state_set, product_of, state_of}
 use Rattle.book_words.specs.Readings.{readings, reading_of, is_of_batch, tare_of_reading, net_of_reading}
-use Rattle.book_words.specs.Classes.{UNIT_DENSITY, is_below, nominal_of_batch, limits_of_batch, density_of_batch}
+use Rattle.reference_test.specs.declared.means.TheConstants.{UNIT_DENSITY}
+use Rattle.book_words.specs.Classes.{is_below, nominal_of_batch, limits_of_batch, density_of_batch}
 use Rattle.book_words.specs.Population.{is_counted, population, count_below, nonstandard_count, inadequate_count, net_sum}
 use Rattle.book_words.specs.Samples.{Drawing, Sample, numbers_of, drawing_from, drawing_of, second_word, sample_by, sample_of}
 use Rattle.book_words.specs.Measures.{Measured, measured_of, actual_contents, contents_of_pack, contents_among, defective_count}

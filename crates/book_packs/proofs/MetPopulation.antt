@@ -22,7 +22,7 @@ use Rattle.book_words.specs.Piles.{pile_of}
 use Rattle.book_words.specs.Signals.{judging_population}
 use Rattle.book_words.proofs.OneMoreEntry.{advance, first_readings-push}
 use Rattle.book_packs.specs.Densities.{limit_at}
-use Rattle.book_packs.specs.Stand.{pack_of, packs_in, unsettled_number, terms_of_batch}
+use Rattle.book_packs.specs.Stand.{limits_told, pack_of, packs_in, unsettled_number, terms_of_batch}
 use Rattle.book_packs.specs.Settling.{takes_out, pile_left, if_counted, leaving, met_less, met_without}
 use Rattle.book_packs.specs.Told.{totals_told, met_at}
 use Rattle.book_packs.proofs.Lists.{filter-map, find-map, filter-filter, all_then, count-map}
@@ -166,6 +166,7 @@ module _ (entries : List Entry) (lane : ℕ) (gross : ℤ) (prior : Prior) (name
       → met_less (totals_told entries name) (terms_of_batch entries name).limits batch None ≡ met_at entries (Weigh lane gross prior) name
   same_met none i =
       record {
+        limits = limits_told entries name;
         population = population_same i;
         nonstandard = below (limits_of_batch entries name).t1 i;
         inadequate = below (limits_of_batch entries name).t2 i;
@@ -186,6 +187,7 @@ module _ (entries : List Entry) (lane : ℕ) (gross : ℤ) (prior : Prior) (name
       → met_without (totals_told entries name) (terms_of_batch entries name).limits (pack_of entries v) ≡ met_at entries (Weigh lane gross prior) name
   less_met v one i =
       record {
+        limits = limits_told entries name;
         population = population_less i;
         nonstandard = below (limits_of_batch entries name).t1 i;
         inadequate = below (limits_of_batch entries name).t2 i;

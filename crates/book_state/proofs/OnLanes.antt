@@ -1,7 +1,6 @@
 -- What is known of the batch of a lane by the numbers of the batch and of its product.
-use Rattle.std.proofs.Common.{◌≡◌, ℕ, ℤ, ◌<◌, List, length, Option, Some, None, option_map, refl, sym, ◌∙◌, ap}
+use Rattle.std.proofs.Common.{◌≡◌, ℕ, ℤ, ◌<◌, List, length, Option, Some, None, refl, sym, ◌∙◌, ap}
 use Rattle.std.specs.Option.{option_and_then}
-use Rattle.annex_tables.specs.declared.types.Limits.{Limits}
 use Rattle.book_words.specs.declared.name.Name.{Name}
 use Rattle.book_words.specs.declared.act.Entry.{Entry}
 use Rattle.book_words.specs.Acts.{product_of, lane_batch}
@@ -9,7 +8,7 @@ use Rattle.book_words.specs.Order.{product_number, batch_number}
 use Rattle.book_words.specs.Tares.{tare_of_product}
 use Rattle.book_words.specs.Readings.{tare_of_reading}
 use Rattle.book_words.specs.Answers.{IsLegal}
-use Rattle.book_packs.specs.Stand.{Standing, IsPacksOf, limits_told}
+use Rattle.book_packs.specs.Stand.{Standing, IsPacksOf}
 use Rattle.book_index.specs.Listed.{batch_product_number}
 use Rattle.book_state.proofs.Batches.{number_within}
 use Rattle.book_state.proofs.NumberedNames.{no_product}
@@ -44,8 +43,7 @@ pub lane_within : (entries : List Entry) (standing : Standing) (batch : Option N
 lane_within entries standing None number stands is = absurd (cc)
 lane_within entries standing (Some batch) number stands is = number_within entries standing batch number stands is
 
--- the limits that are kept at the number are those of the batch
-pub limited : (entries : List Entry) (batch : Option Name) (number : ℕ) (limits : Limits) → Some number ≡ option_and_then (batch_number entries) batch
-    → ((name : Name) → batch_number entries name ≡ Some number → limits ≡ limits_told entries name) → Some limits ≡ option_map (limits_told entries) batch
-limited entries None number limits is told = absurd (cc)
-limited entries (Some batch) number limits is told = ap (λ (l : Limits). Some l) (told batch (sym is))
+-- so the lane has a batch
+pub batch_on : (entries : List Entry) (batch : Option Name) (number : ℕ) → Some number ≡ option_and_then (batch_number entries) batch → (name : Name) × (batch ≡ Some name)
+batch_on entries None number is = absurd (cc)
+batch_on entries (Some name) number is = (name, refl)

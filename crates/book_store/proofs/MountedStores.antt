@@ -1,5 +1,5 @@
 -- What a mounted journal is as a store.
-use Rattle.std.proofs.Common.{◌≡◌, ◌⊎◌, inl, inr, ⊎_elim, ℕ, ◌+◌, ◌-◌, ◌<◌, ◌≤◌, List, ◌++◌, length, drop, Option, Some, None, Result, Ok, Err, IfOk, MatchResult, refl, sym, ◌∙◌, ap, subst, arith}
+use Rattle.std.proofs.Common.{◌≡◌, ◌⊎◌, inl, inr, ⊎_elim, ℕ, ◌+◌, ◌-◌, ◌<◌, ◌≤◌, List, ◌++◌, length, drop, Option, Some, None, Result, Ok, Err, IfOk, IfErr, MatchResult, refl, sym, ◌∙◌, ap, subst, arith}
 use Rattle.hall_limits.specs.declared.TheConstants.{MAX_ROWS}
 use Rattle.device_facts.specs.Count.{Counted}
 use Rattle.disk_core.specs.Disk.{WhereTold}
@@ -8,10 +8,8 @@ use Rattle.disk_core.specs.declared.disk.Disk as disk
 use Rattle.book_words.specs.declared.act.Entry.{Entry}
 use Rattle.book_words.specs.Answers.{IsLegal}
 use Rattle.book_snapshot.specs.declared.types.Kept.{Kept}
-use Rattle.book_snapshot.specs.declared.layout.TheConstants.{ROW_BYTES, TAIL}
-use Rattle.book_snapshot.specs.Layout.{snapshot_end}
+use Rattle.book_snapshot.specs.declared.layout.TheConstants.{ROW_BYTES}
 use Rattle.book_snapshot.specs.Blocks.{EndsWithSnapshot}
-use Rattle.book_snapshot.specs.BlockLaws.{one_size}
 use Rattle.book_journal.specs.declared.layout.TheConstants.{MAX_SLOTS, NEW_BYTES}
 use Rattle.book_journal.specs.declared.journal.Journal.{Journal}
 use Rattle.book_journal.specs.declared.types.JournalFault.{JournalFault}
@@ -20,6 +18,7 @@ use Rattle.book_journal.specs.Rows.{HasHeader, FitsSnapshot, FirstDiffersAt, Rec
 use Rattle.book_journal.specs.Journal as journals
 use Rattle.book_journal.specs.Mounting as mounting
 use Rattle.book_journal.specs.Opening.{HasMounted, RecoversRows}
+use Rattle.book_journal.proofs.AskedBytes.{one_fits}
 use Rattle.book_journal.proofs.Fronts.{no_header}
 use Rattle.book_journal.proofs.Moments.{unmoved_none}
 use Rattle.book_store.specs.declared.types.MountError.{MountError}
@@ -42,12 +41,6 @@ still_ends : (kept : Option Kept) (bytes now : List ℕ) → mounting.IsSnapshot
 still_ends None bytes now of still = tt
 still_ends (Some kept) bytes now of still = subst (λ (l : List ℕ). EndsWithSnapshot kept.rows kept.bytes l) (sym (still kept refl)) of.ends
 
--- one snapshot alone fits a disk
-one_fits : (rows size other_rows other_size : ℕ) (bytes : List ℕ) → EndsWithSnapshot rows size bytes → EndsWithSnapshot other_rows other_size bytes → (rows ≡ other_rows) × (size ≡ other_size)
-one_fits rows size other_rows other_size bytes ends other =
-    let place : snapshot_end rows size - ROW_BYTES ≡ snapshot_end other_rows other_size - ROW_BYTES = ap (λ (n : ℕ). n - ROW_BYTES) (sym ends.long ∙ other.long) in
-    one_size TAIL rows size other_rows other_size ends.size other.size (sym ends.tail ∙ ap (λ (n : ℕ). drop n bytes) place ∙ other.tail)
-
 -- opening behind a snapshot asks for few bytes
 cost_of : (kept : Kept) (count : ℕ) → mounting.opening_cost (Some kept) count + reading_cost (Some kept) count ≤ opening_bytes kept.rows kept.bytes count
 cost_of kept count = omega arith
@@ -59,6 +52,10 @@ cost_within (Some kept) count rows size bytes of fits =
     let same = one_fits kept.rows kept.bytes rows size bytes of.ends fits.ends in
     subst (λ (n : ℕ). mounting.opening_cost (Some kept) count + reading_cost (Some kept) count ≤ opening_bytes n size count) same.0
     (subst (λ (n : ℕ). mounting.opening_cost (Some kept) count + reading_cost (Some kept) count ≤ opening_bytes kept.rows n count) same.1 (cost_of kept count))
+
+rows_of_fitting : (kept : Option Kept) (bytes : List ℕ) (rows size : ℕ) → mounting.IsSnapshotOf bytes kept → FitsSnapshot rows size bytes → mounting.rows_before kept ≡ rows
+rows_of_fitting None bytes rows size of fits = absurd (of rows size fits)
+rows_of_fitting (Some kept) bytes rows size of fits = (one_fits kept.rows kept.bytes rows size bytes of.ends fits.ends).0
 
 -- a disk that recovers rows is a journal, or short
 not_foreign : (bytes : List ℕ) (rows : List (List ℕ)) (place : ℕ) → Recovers bytes rows → NEW_BYTES < length bytes → FirstDiffersAt bytes place → ⊥
@@ -193,6 +190,22 @@ module _ {D : Type 0} (g : disk.Ghosts D) where
   asked old journal limit (Ok store) bytes rows size mounted cost fits opens =
       subst (λ (n : ℕ). g.asked (disk_of store) ≤ g.asked old + opening_bytes rows size n) opens.count (asked_of old journal limit store bytes rows size mounted cost fits opens)
   asked old journal limit (Err refused) bytes rows size mounted cost fits opens = tt
+
+  -- and what was asked of one that isn't opened
+  pub asked_refused : (old : D) (journal : Journal D) (limit : ℕ) (result : Result (Store D) (Unmounted D)) (bytes : List ℕ) (rows size : ℕ) → HasMounted g bytes journal
+      → g.asked (journals.disk_of journal) ≤ g.asked old + mounting.opening_cost (journals.kept_of journal) (journals.count_of journal)
+      → FitsSnapshot rows size bytes → Opens g journal limit result → IfErr result (λ refused. g.asked refused.disk ≤ g.asked old + opening_bytes rows size (rows + mounting.slots_behind rows bytes))
+  asked_refused old journal limit (Ok store) bytes rows size mounted cost fits opens = tt
+  asked_refused old journal limit (Err refused) bytes rows size (inl finds) cost fits opens =
+      subst (λ (n : ℕ). g.asked refused.disk ≤ g.asked old + opening_bytes rows size n)
+      (finds.slots ∙ ap (λ (n : ℕ). n + mounting.slots_behind n bytes) (rows_of_fitting (journals.kept_of journal) bytes rows size finds.snapshot fits))
+      (omega (arith, cost, opens.asked, cost_within (journals.kept_of journal) (journals.count_of journal) rows size bytes finds.snapshot fits))
+  asked_refused old journal limit (Err refused) bytes rows size (inr makes) cost fits opens = absurd (makes.foreign fits.header)
+
+  -- a disk that wasn't even a journal
+  pub asked_unopened : (old new : D) (bytes : List ℕ) (rows size : ℕ) → mounting.AsksFew bytes (g.asked old) (g.asked new) → FitsSnapshot rows size bytes
+      → g.asked new ≤ g.asked old + opening_bytes rows size (rows + mounting.slots_behind rows bytes)
+  asked_unopened old new bytes rows size few fits = let most = few (Some (record { rows = rows; bytes = size })) fits in omega (arith, most)
 
   -- a journal that was mounted reads what it did, but for the gate behind its rows, or is a new one
   read_mounted : (journal : Journal D) (bytes : List ℕ) (new : D) → g.reads new ≡ g.reads (journals.disk_of journal) → HasMounted g bytes journal → ReadsMounted g bytes new

@@ -3,7 +3,7 @@ use Rattle.std.proofs.Common.{◌≡◌, ℕ, ◌≤◌, List, ℤ, pos, ◌-ℤ
 use Rattle.std.proofs.lemmas.Int.{ints}
 use Rattle.std.specs.Int.{w128}
 use Rattle.reference_test.specs.Means.{square, PowerSums, sums_of, shortfall, squared_deviations}
-use Rattle.reference_test.proofs.Computed.{again, Computes, computes_read, computes_product, computes_difference, computes_literal, fits-product}
+use Rattle.reference_test.proofs.SignedNumbers.{again, Computes, computes_read, computes_product, computes_difference, computes_literal, fits-product}
 use Rattle.reference_test.proofs.Deviations.{squared_deviations-by_sums}
 
 -- the square of the thousandths

@@ -4,6 +4,7 @@ use Rattle.book_journal.specs.declared.layout.TheConstants.{MAX_SLOTS}
 use Rattle.book_journal.specs.Rows.{open_rows, gate_behind, starts_open}
 use Rattle.book_journal.proofs.OpenRows.{open_rows-none}
 use Rattle.book_journal.proofs.Moments.{unmoved_none, unmoved_on}
+use Rattle.book_journal.proofs.AskedBytes.{counted_among}
 use Rattle.book_journal.proofs.Pieces.{pieces_all, pieces_end, last_piece}
 use Rattle.book_journal.proofs.slots.count_rows.Goals as goal
 

@@ -1,7 +1,7 @@
 use Rattle.std.proofs.Common.{rules, ℤ, ◌-ℤ◌, ◌≤◌, int_lt, FitsSigned, w64, unsigned_abs, ap, ◌∙◌, arith, lit<}
 use Rattle.std.specs.Int.{w128}
 use Rattle.std.proofs.lemmas.Int.{ints, to_z-of_z}
-use Rattle.reference_test.proofs.Computed.{again, computes_read, computes_difference}
+use Rattle.reference_test.proofs.SignedNumbers.{again, computes_read, computes_difference}
 use Rattle.book_packs.proofs.settling.is_below.Goals as goal
 
 -- a number of 64 bits is at most so far from 0

@@ -1,6 +1,6 @@
 use Rattle.std.proofs.Common.{◌∙◌, ap, ℤ, w32, w64}
 use Rattle.std.proofs.lemmas.Int.{to_z-of_z}
-use Rattle.reference_test.proofs.Computed.{again}
+use Rattle.reference_test.proofs.SignedNumbers.{again}
 use Rattle.book_words.specs.declared.act.Act.TheVariants.{PutTare}
 use Rattle.book_words.specs.Refusals.{day_range, tare_range, tare_frozen}
 use Rattle.book_rules.proofs.Chains.{five_told}

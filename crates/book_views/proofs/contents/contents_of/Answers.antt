@@ -2,7 +2,7 @@ use Rattle.std.proofs.Common.{Some, refl, sym, ◌∙◌, ap, arith, lit<, ℤ, 
 use Rattle.std.proofs.lemmas.Int.{ints}
 use Rattle.hall_limits.specs.declared.TheConstants.{MAX_GROSS, MAX_TARE}
 use Rattle.annex_tables.specs.declared.types.Mode.{Mode}
-use Rattle.reference_test.proofs.Computed.{computes_read, computes_difference}
+use Rattle.reference_test.proofs.SignedNumbers.{computes_read, computes_difference}
 use Rattle.book_views.proofs.ContentsLemmas.{contents_by, known_contents}
 use Rattle.book_views.proofs.contents.contents_of.Goals as goal
 

@@ -1,7 +1,7 @@
 use Rattle.std.proofs.Common.{refl, sym, ◌∙◌, ap, arith, lit<, ℤ, ◌≤◌, unsigned_abs, int_lt, w64}
 use Rattle.std.proofs.lemmas.Int.{ints, to_z-of_z}
 use Rattle.hall_limits.specs.declared.TheConstants.{MAX_GROSS}
-use Rattle.reference_test.proofs.Computed.{again, computes_read}
+use Rattle.reference_test.proofs.SignedNumbers.{again, computes_read}
 use Rattle.book_views.proofs.ContentsLemmas.{defective_by}
 use Rattle.book_views.proofs.contents.is_defective.Goals as goal
 

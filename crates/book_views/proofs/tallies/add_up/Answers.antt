@@ -2,7 +2,7 @@ use Rattle.std.proofs.Common.{refl, arith, lit<, ◌+◌, ◌≤◌, unsigned_ab
 use Rattle.std.proofs.lemmas.Int.{ints}
 use Rattle.pack_judge.specs.declared.types.Tally.{Tally}
 use Rattle.book_words.specs.Ranges.{MAX_SUM}
-use Rattle.reference_test.proofs.Computed.{again, Computes, computes_read, computes_sum}
+use Rattle.reference_test.proofs.SignedNumbers.{again, Computes, computes_read, computes_sum}
 use Rattle.book_views.specs.Tallies.{IsTally}
 use Rattle.book_views.proofs.tallies.add_up.Goals as goal
 

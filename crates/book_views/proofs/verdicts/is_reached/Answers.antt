@@ -1,9 +1,9 @@
 use Rattle.std.proofs.Common.{◌≡◌, ◌∙◌, ℕ, ℤ, pos, ◌*ℤ◌, ◌*◌, ◌≤◌, ◌≤ℤ◌, ap, arith, lit<, unsigned_abs, FitsSigned, int_le, w64, w32, Fits}
 use Rattle.std.proofs.lemmas.Int.{ints, to_z-of_z}
 use Rattle.std.specs.Int.{w128}
-use Rattle.book_packs.specs.declared.densities.TheConstants.{UNIT_DENSITY}
+use Rattle.reference_test.specs.declared.means.TheConstants.{UNIT_DENSITY}
 use Rattle.hall_limits.specs.declared.TheConstants.{MIN_NOMINAL, MAX_NOMINAL}
-use Rattle.reference_test.proofs.Computed.{again, Computes, computes_read, computes_product, fits-product}
+use Rattle.reference_test.proofs.SignedNumbers.{again, Computes, computes_read, computes_product, fits-product}
 use Rattle.book_views.proofs.verdicts.is_reached.Goals as goal
 
 -- a count or a density that is read

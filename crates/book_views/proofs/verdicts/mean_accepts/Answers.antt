@@ -3,7 +3,7 @@ use Rattle.std.proofs.lemmas.Int.{ints}
 use Rattle.hall_limits.specs.declared.TheConstants.{MAX_NOMINAL}
 use Rattle.annex_tables.specs.declared.types.Plan.{Plan}
 use Rattle.reference_test.specs.Means.{sums_of, mean_accepts}
-use Rattle.reference_test.proofs.Computed.{computes_read}
+use Rattle.reference_test.proofs.SignedNumbers.{computes_read}
 use Rattle.book_words.specs.Classes.{nominal_of_batch, density_of_batch}
 use Rattle.book_words.specs.Measures.{contents_among}
 use Rattle.book_views.proofs.verdicts.mean_accepts.Goals as goal

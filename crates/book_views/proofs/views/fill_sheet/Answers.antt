@@ -3,7 +3,7 @@ use Rattle.std.proofs.lemmas.Int.{to_z-of_z}
 use Rattle.annex_tables.specs.Errors.{IsNominal, tolerable_error}
 use Rattle.pack_judge.specs.declared.types.Pile.TheVariants.{Passed, Rejected, Sampled, Voided}
 use Rattle.batch_sums.specs.declared.types.Totals.{Totals}
-use Rattle.reference_test.proofs.Computed.{again}
+use Rattle.reference_test.proofs.SignedNumbers.{again}
 use Rattle.book_words.specs.Population.{readings_of_batch}
 use Rattle.book_words.specs.Piles.{tally}
 use Rattle.book_words.specs.Classes.{limits_of_batch}

@@ -1,7 +1,7 @@
 use Rattle.std.proofs.Common.{rules, sym, ◌∙◌, ap, refl, arith, lit<, Some, option_map, ◌≤◌, unsigned_abs, FitsSigned, w32, w64}
 use Rattle.std.proofs.lemmas.Int.{ints, to_z-of_z}
 use Rattle.hall_limits.specs.declared.TheConstants.{MAX_GROSS, MAX_TARE}
-use Rattle.reference_test.proofs.Computed.{computes_read, computes_difference}
+use Rattle.reference_test.proofs.SignedNumbers.{computes_read, computes_difference}
 use Rattle.book_words.specs.Acts.{product_of}
 use Rattle.book_words.specs.Classes.{class_in_batch}
 use Rattle.book_state.specs.declared.types.KnownPack.{KnownPack}

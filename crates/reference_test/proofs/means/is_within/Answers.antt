@@ -1,7 +1,7 @@
 use Rattle.std.proofs.Common.{pos, ◌-ℤ◌, ◌*ℤ◌, ap, ◌∙◌, w64, length}
 use Rattle.std.proofs.lemmas.Int.{to_z-of_z}
 use Rattle.reference_test.specs.Means.{square, PowerSums}
-use Rattle.reference_test.proofs.Computed.{same_at_most}
+use Rattle.reference_test.proofs.SignedNumbers.{same_at_most}
 use Rattle.reference_test.proofs.Sides.{left, left-fits, right, right-fits, shortfall_is, squared_deviations_are}
 use Rattle.reference_test.proofs.means.is_within.Goals as goal
 

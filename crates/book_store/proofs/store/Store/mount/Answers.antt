@@ -1,4 +1,4 @@
-use Rattle.book_store.proofs.MountedStores.{opened, reads_mounted, sound, counted, unwritten, asked, caused, held, refused_cause, refused_held}
+use Rattle.book_store.proofs.MountedStores.{opened, reads_mounted, sound, counted, unwritten, asked, asked_refused, asked_unopened, caused, held, refused_cause, refused_held}
 use Rattle.book_store.proofs.store.Store.mount.Goals as goal
 
 pub returns-in-Ok-clause-opened : goal.returns-in-Ok-clause-opened
@@ -34,3 +34,9 @@ pub returns-in-Err-clause-held : goal.returns-in-Err-clause-held
 returns-in-Err-clause-held g c bytes told entries holds legal =
     refused_held g.D.Disk c.in-Err.refused.why c.cause_of.result c.args.disk c.in-Err.refused.disk bytes entries g.met.D.Disk.counts_now c.cause_of.ensures told holds legal c.in-Err.ensures.cause
     (λ rows recovers few. c.in-Err.ensures.rows bytes told rows recovers few)
+
+pub returns-in-Ok-clause-asked_refused : goal.returns-in-Ok-clause-asked_refused
+returns-in-Ok-clause-asked_refused g c bytes told rows size fits = asked_refused g.D.Disk c.args.disk c.in-Ok.journal c.args.limit c.open.result bytes rows size (c.in-Ok.ensures.mounted bytes told) c.in-Ok.ensures.asked fits c.open.ensures
+
+pub returns-in-Err-clause-asked_refused : goal.returns-in-Err-clause-asked_refused
+returns-in-Err-clause-asked_refused g c bytes told rows size fits = asked_unopened g.D.Disk c.args.disk c.in-Err.refused.disk bytes rows size (c.in-Err.ensures.asked_refused bytes told) fits

@@ -2,7 +2,7 @@ use Rattle.std.proofs.Common.{◌≡◌, length, map, ap, ◌∙◌, refl, arith
 use Rattle.std.proofs.lemmas.Int.{ints}
 use Rattle.hall_limits.specs.declared.TheConstants.{MAX_GROSS}
 use Rattle.reference_test.specs.Means.{PowerSums, total, square}
-use Rattle.reference_test.proofs.Computed.{computes_read, computes_product, computes_sum}
+use Rattle.reference_test.proofs.SignedNumbers.{computes_read, computes_product, computes_sum}
 use Rattle.reference_test.proofs.Deviations.{sums_of-push}
 use Rattle.reference_test.proofs.types.Sums.add.Goals as goal
 

@@ -4,7 +4,7 @@ use Rattle.std.specs.Int.{w128}
 use Rattle.hall_limits.specs.declared.TheConstants.{MAX_DENSITY, MAX_NOMINAL}
 use Rattle.annex_tables.specs.Errors.{IsNominal}
 use Rattle.reference_test.specs.Means.{PowerSums}
-use Rattle.reference_test.proofs.Computed.{again, Computes, computes_read, computes_again, computes_product, computes_difference, computes_literal, fits-product, fits-difference}
+use Rattle.reference_test.proofs.SignedNumbers.{again, Computes, computes_read, computes_again, computes_product, computes_difference, computes_literal, fits-product, fits-difference}
 use Rattle.reference_test.proofs.types.Sums.shortfall.Goals as goal
 
 -- the number of values times the density

@@ -2,7 +2,7 @@ use Rattle.std.proofs.Common.{pos, ◌-ℤ◌, ◌*ℤ◌, refl, arith, lit<, w6
 use Rattle.std.proofs.lemmas.Int.{ints}
 use Rattle.std.specs.Int.{w128}
 use Rattle.reference_test.specs.Means.{square}
-use Rattle.reference_test.proofs.Computed.{again, Computes, computes_read, computes_again, computes_product, computes_difference, fits-product}
+use Rattle.reference_test.proofs.SignedNumbers.{again, Computes, computes_read, computes_again, computes_product, computes_difference, fits-product}
 use Rattle.reference_test.proofs.types.Sums.squared_deviations.Goals as goal
 
 -- the number of values
