@@ -38,8 +38,7 @@ fn after_failures(
 
 // Whether these are the rows that were acknowledged, or one more.
 fn stand(acknowledged: u32, rows: &[Option<u32>; 4]) -> bool {
-    rows.iter()
-        .all(|count| *count == Some(acknowledged) || *count == acknowledged.checked_add(1))
+    rows.iter().all(|count| *count == Some(acknowledged) || *count == acknowledged.checked_add(1))
 }
 
 // Whether what was acknowledged stands where two calls fail, and this is the first of them.
@@ -47,8 +46,9 @@ fn stands_with(alloc: Global, first: u32) -> Result<bool, NoMemory> {
     let mut right = true;
     for second in first..52 {
         right = right
-            && after_failures(alloc, first, second)?
-                .is_some_and(|(acknowledged, rows)| acknowledged >= 2 && stand(acknowledged, &rows));
+            && after_failures(alloc, first, second)?.is_some_and(|(acknowledged, rows)| acknowledged
+                >= 2
+                && stand(acknowledged, &rows));
     }
     Ok(right)
 }

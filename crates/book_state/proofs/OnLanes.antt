@@ -15,9 +15,12 @@ use Rattle.book_state.proofs.NumberedNames.{no_product}
 use Rattle.book_state.proofs.EntryFacts.{batchless}
 
 -- without a product there is no tare
-pub untared : (entries : List Entry) (batch : Option Name) (day : Option ℤ) → IsLegal entries → None ≡ option_and_then (batch_product_number entries) batch → None ≡ tare_of_reading entries batch day
+pub untared : (entries : List Entry) (batch : Option Name) (day : Option ℤ) → IsLegal entries
+    → None ≡ option_and_then (batch_product_number entries) batch
+    → None ≡ tare_of_reading entries batch day
 untared entries None day legal none = refl
-untared entries (Some batch) day legal none = sym (batchless entries batch day (no_product entries batch legal none))
+untared entries (Some batch) day legal none =
+    sym (batchless entries batch day (no_product entries batch legal none))
 
 -- without a day neither
 pub dayless : (entries : List Entry) (batch : Option Name) → None ≡ tare_of_reading entries batch None
@@ -25,25 +28,36 @@ dayless entries None = refl
 dayless entries (Some batch) = refl
 
 -- the tare of the product of a number is that of the batch
-pub tared : (entries : List Entry) (batch : Option Name) (product : ℕ) (day : ℤ) (tare : Option ℤ) → Some product ≡ option_and_then (batch_product_number entries) batch
-    → ((name : Name) → product_number entries name ≡ Some product → tare ≡ tare_of_product entries name day) → tare ≡ tare_of_reading entries batch (Some day)
+pub tared : (entries : List Entry) (batch : Option Name) (product : ℕ) (day : ℤ) (tare : Option ℤ)
+    → Some product ≡ option_and_then (batch_product_number entries) batch
+    → ((name : Name) → product_number entries name ≡ Some product
+    → tare ≡ tare_of_product entries name day) → tare ≡ tare_of_reading entries batch (Some day)
 tared entries None product day tare is told = absurd (cc)
 tared entries (Some batch) product day tare is told = each (product_of entries batch) is
   where
-    each : (o : Option Name) → Some product ≡ option_and_then (product_number entries) o → tare ≡ option_and_then (λ name. tare_of_product entries name day) o
+    each : (o : Option Name) → Some product ≡ option_and_then (product_number entries) o
+        → tare ≡ option_and_then (λ name. tare_of_product entries name day) o
     each None h = absurd (cc)
     each (Some name) h = told name (sym h)
 
 -- a lane that has a batch has its number
-pub numbered : (entries : List Entry) (lane number : ℕ) (batch : Name) → lane_batch entries lane ≡ Some batch → Some number ≡ option_and_then (batch_number entries) (lane_batch entries lane) → Some number ≡ batch_number entries batch
+pub numbered : (entries : List Entry) (lane number : ℕ) (batch : Name)
+    → lane_batch entries lane ≡ Some batch
+    → Some number ≡ option_and_then (batch_number entries) (lane_batch entries lane)
+    → Some number ≡ batch_number entries batch
 numbered entries lane number batch on is = is ∙ ap (option_and_then (batch_number entries)) on
 
 -- the number is one of those that are kept
-pub lane_within : (entries : List Entry) (standing : Standing) (batch : Option Name) (number : ℕ) → IsPacksOf entries standing → Some number ≡ option_and_then (batch_number entries) batch → number < length standing.batches
+pub lane_within : (entries : List Entry) (standing : Standing) (batch : Option Name) (number : ℕ)
+    → IsPacksOf entries standing → Some number ≡ option_and_then (batch_number entries) batch
+    → number < length standing.batches
 lane_within entries standing None number stands is = absurd (cc)
-lane_within entries standing (Some batch) number stands is = number_within entries standing batch number stands is
+lane_within entries standing (Some batch) number stands is =
+    number_within entries standing batch number stands is
 
 -- so the lane has a batch
-pub batch_on : (entries : List Entry) (batch : Option Name) (number : ℕ) → Some number ≡ option_and_then (batch_number entries) batch → (name : Name) × (batch ≡ Some name)
+pub batch_on : (entries : List Entry) (batch : Option Name) (number : ℕ)
+    → Some number ≡ option_and_then (batch_number entries) batch → (name : Name)
+    × (batch ≡ Some name)
 batch_on entries None number is = absurd (cc)
 batch_on entries (Some name) number is = (name, refl)

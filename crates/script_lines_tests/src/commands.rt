@@ -211,8 +211,14 @@ fn with_product(rice: Name) -> [Row; 5] {
     [
         plain(b"product rice250 250", product(rice, 250_000, Unit::Mass)),
         plain(b"product rice250 0.25", product(rice, 250, Unit::Mass)),
-        plain(b"product rice250 250 ml", product(rice, 250_000, Unit::Volume)),
-        plain(b"product rice250 1.5\tml ", product(rice, 1_500, Unit::Volume)),
+        plain(
+            b"product rice250 250 ml",
+            product(rice, 250_000, Unit::Volume),
+        ),
+        plain(
+            b"product rice250 1.5\tml ",
+            product(rice, 1_500, Unit::Volume),
+        ),
         plain(b"tare rice250 2025-03-03 1.5", tare),
     ]
 }
@@ -229,7 +235,10 @@ fn with_batch(batch: Name) -> [Row; 9] {
         word: u64::MAX,
     };
     [
-        plain(b"start 00000000000000000255 b1", Verb::Start { lane: 255, batch }),
+        plain(
+            b"start 00000000000000000255 b1",
+            Verb::Start { lane: 255, batch },
+        ),
         plain(b"end b1", Verb::End { batch }),
         plain(b"draw b1 keep 7", draw(batch, Mode::Keep, 7)),
         plain(

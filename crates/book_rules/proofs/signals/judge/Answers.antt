@@ -10,14 +10,22 @@ use Rattle.book_rules.proofs.signals.judge.Goals as goal
 pub returns-in_err-met : goal.returns-in_err-met
 returns-in_err-met c =
     let none : c.from_residual.result ≡ None = search rules in
-    none ∙ unjudged c.args.state.now.entries (lane_batch c.args.state.now.entries c.args.lane) c.args.gross (Weigh c.args.lane c.args.gross c.args.prior) (c.in_err-met.ensures.value c.args.gross)
+    none ∙ unjudged c.args.state.now.entries
+    (lane_batch c.args.state.now.entries c.args.lane) c.args.gross
+    (Weigh c.args.lane c.args.gross c.args.prior) (c.in_err-met.ensures.value c.args.gross)
 
 pub returns : goal.returns
 returns c =
     let entries = c.args.state.now.entries in
     let met = c.in_ok-met.met in
     let net : FitsSigned w64 c.net_on.result = search rules in
-    judged_in entries (lane_batch entries c.args.lane) c.args.gross (Weigh c.args.lane c.args.gross c.args.prior) met c.net_on.result c.signal.result
+    judged_in entries (lane_batch entries c.args.lane) c.args.gross
+    (Weigh c.args.lane c.args.gross c.args.prior) met c.net_on.result c.signal.result
     (c.in_ok-met.ensures.value c.args.gross)
-    (c.net_on.ensures ∙ ap (net_of_gross entries (lane_batch entries c.args.lane) (newest_day entries)) (to_z-of_z w64 c.args.gross c.ranges.gross))
-    (c.signal.ensures ∙ ap (λ (n : ℤ). signal_of n met.limits (nat_lt 0 met.inadequate) met.population met.nonstandard) (to_z-of_z w64 c.net_on.result net))
+    (c.net_on.ensures
+    ∙ ap (net_of_gross entries (lane_batch entries c.args.lane) (newest_day entries))
+    (to_z-of_z w64 c.args.gross c.ranges.gross))
+    (c.signal.ensures
+    ∙ ap (λ (n : ℤ). signal_of n met.limits
+    (nat_lt 0 met.inadequate) met.population met.nonstandard)
+    (to_z-of_z w64 c.net_on.result net))

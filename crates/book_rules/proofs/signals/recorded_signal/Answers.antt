@@ -9,6 +9,11 @@ use Rattle.book_rules.proofs.signals.recorded_signal.Goals as goal
 pub returns : goal.returns
 returns c =
     let fits : FitsSigned w64 c.in-Weigh.gross = search rules in
-    recorded c.args.state.now.entries c.args.act.now c.in-Weigh.lane c.in-Weigh.gross c.in-Weigh.prior c.judge.result c.in-Weigh.is c.requires
+    recorded c.args.state.now.entries c.args.act.now c.in-Weigh.lane c.in-Weigh.gross
+    c.in-Weigh.prior c.judge.result c.in-Weigh.is c.requires
     (c.judge.ensures
-    ∙ ap (λ (gross : ℤ). option_map (judged_signal c.args.state.now.entries (Weigh c.in-Weigh.lane gross c.in-Weigh.prior) gross) (lane_batch c.args.state.now.entries c.in-Weigh.lane)) (to_z-of_z w64 c.in-Weigh.gross fits))
+    ∙ ap (λ (gross : ℤ). option_map
+    (judged_signal c.args.state.now.entries
+    (Weigh c.in-Weigh.lane gross c.in-Weigh.prior) gross)
+    (lane_batch c.args.state.now.entries c.in-Weigh.lane))
+    (to_z-of_z w64 c.in-Weigh.gross fits))

@@ -11,6 +11,8 @@ returns-in-Some c =
     let least = c.in-Some.ensures.least in
     let greatest = c.in-Some.ensures.greatest in
     let near : unsigned_abs mass ≤ unsigned_abs MAX_GROSS = omega (arith, ints, least, greatest) in
-    ap (λ (a : ℤ). int_lt a (again w64 c.args.limit)) (computes_read w64 mass mass (unsigned_abs MAX_GROSS) (lit< tt) refl near).same
+    ap (λ (a : ℤ). int_lt a (again w64 c.args.limit))
+    (computes_read w64 mass mass (unsigned_abs MAX_GROSS) (lit< tt) refl near).same
     ∙ ap (int_lt mass) (to_z-of_z w64 c.args.limit c.ranges.limit)
-    ∙ defective_by c.args.state.now.entries c.args.batch.now c.args.mode c.args.pack mass c.args.limit (sym c.contents_of.ensures.value ∙ c.in-Some.is) c.requires.limit
+    ∙ defective_by c.args.state.now.entries c.args.batch.now c.args.mode c.args.pack mass
+    c.args.limit (sym c.contents_of.ensures.value ∙ c.in-Some.is) c.requires.limit

@@ -18,29 +18,37 @@ returns-in_err-batch-clause-value c gross =
     let entries = c.args.self.now.entries in
     let stand = parts_of c.self.inside c.args.self.now c.self.invariant c.self.view_is in
     let none : c.from_residual.result ≡ None = search rules in
-    none ∙ ap (option_map (met_at entries (Weigh c.args.lane gross c.args.prior))) (no_lane entries (legal_named entries stand.legal) c.args.lane (sym (c.in_err-batch.ensures entries stand.index stand.legal)))
+    none ∙ ap (option_map (met_at entries (Weigh c.args.lane gross c.args.prior)))
+    (no_lane entries (legal_named entries stand.legal) c.args.lane
+    (sym (c.in_err-batch.ensures entries stand.index stand.legal)))
 
 pub totals_at-requires-clause-least : goal.totals_at-requires-clause-least
 totals_at-requires-clause-least c =
     let entries = c.args.self.now.entries in
     let stand = parts_of c.self.inside c.args.self.now c.self.invariant c.self.view_is in
-    let on = batch_on entries (lane_batch entries c.args.lane) c.in_ok-batch.batch (c.in_ok-batch.ensures entries stand.index stand.legal) in
-    let parts = and_parts (nat_le 1 c.args.lane) (nat_le c.args.lane MAX_LANE) ((orderly entries stand.legal).numbers c.args.lane on.0 on.1) in
+    let on = batch_on entries (lane_batch entries c.args.lane) c.in_ok-batch.batch
+    (c.in_ok-batch.ensures entries stand.index stand.legal) in
+    let parts = and_parts (nat_le 1 c.args.lane) (nat_le c.args.lane MAX_LANE)
+    ((orderly entries stand.legal).numbers c.args.lane on.0 on.1) in
     leb-true 1 c.args.lane parts.0
 
 pub totals_at-requires-clause-greatest : goal.totals_at-requires-clause-greatest
 totals_at-requires-clause-greatest c =
     let entries = c.args.self.now.entries in
     let stand = parts_of c.self.inside c.args.self.now c.self.invariant c.self.view_is in
-    let on = batch_on entries (lane_batch entries c.args.lane) c.in_ok-batch.batch (c.in_ok-batch.ensures entries stand.index stand.legal) in
-    let parts = and_parts (nat_le 1 c.args.lane) (nat_le c.args.lane MAX_LANE) ((orderly entries stand.legal).numbers c.args.lane on.0 on.1) in
+    let on = batch_on entries (lane_batch entries c.args.lane) c.in_ok-batch.batch
+    (c.in_ok-batch.ensures entries stand.index stand.legal) in
+    let parts = and_parts (nat_le 1 c.args.lane) (nat_le c.args.lane MAX_LANE)
+    ((orderly entries stand.legal).numbers c.args.lane on.0 on.1) in
     leb-true c.args.lane MAX_LANE parts.1
 
 pub totals_at-requires-clause-batch : goal.totals_at-requires-clause-batch
 totals_at-requires-clause-batch c =
     let entries = c.args.self.now.entries in
     let stand = parts_of c.self.inside c.args.self.now c.self.invariant c.self.view_is in
-    lane_within entries c.self.inside.packs (lane_batch entries c.args.lane) c.in_ok-batch.batch stand.packs (c.in_ok-batch.ensures entries stand.index stand.legal)
+    lane_within entries c.self.inside.packs
+    (lane_batch entries c.args.lane) c.in_ok-batch.batch stand.packs
+    (c.in_ok-batch.ensures entries stand.index stand.legal)
 
 pub returns-clause-value : goal.returns-clause-value
 returns-clause-value c gross =
@@ -48,7 +56,9 @@ returns-clause-value c gross =
     let stand = parts_of c.self.inside c.args.self.now c.self.invariant c.self.view_is in
     let is = c.in_ok-batch.ensures entries stand.index stand.legal in
     let on = batch_on entries (lane_batch entries c.args.lane) c.in_ok-batch.batch is in
-    ap (λ (met : AtWeighing). Some met) (c.totals_at.ensures entries on.0 gross stand.packs stand.legal (sym (numbered entries c.args.lane c.in_ok-batch.batch on.0 on.1 is)))
+    ap (λ (met : AtWeighing). Some met)
+    (c.totals_at.ensures entries on.0 gross stand.packs stand.legal
+    (sym (numbered entries c.args.lane c.in_ok-batch.batch on.0 on.1 is)))
     ∙ sym (ap (option_map (met_at entries (Weigh c.args.lane gross c.args.prior))) on.1)
 
 pub returns-clause-few : goal.returns-clause-few
@@ -57,6 +67,8 @@ returns-clause-few c =
     let stand = parts_of c.self.inside c.args.self.now c.self.invariant c.self.view_is in
     let number_is = c.in_ok-batch.ensures entries stand.index stand.legal in
     let on = batch_on entries (lane_batch entries c.args.lane) c.in_ok-batch.batch number_is in
-    let is = c.totals_at.ensures entries on.0 (pos 0) stand.packs stand.legal (sym (numbered entries c.args.lane c.in_ok-batch.batch on.0 on.1 number_is)) in
-    subst (λ (met : AtWeighing). (met.population ≤ MAX_POPULATION) × (met.nonstandard ≤ met.population)) (sym is)
+    let is = c.totals_at.ensures entries on.0 (pos 0) stand.packs stand.legal
+    (sym (numbered entries c.args.lane c.in_ok-batch.batch on.0 on.1 number_is)) in
+    subst (λ (met : AtWeighing). (met.population ≤ MAX_POPULATION)
+    × (met.nonstandard ≤ met.population)) (sym is)
     (met_few entries (Weigh c.args.lane (pos 0) c.args.prior) on.0 stand.legal)
