@@ -1,5 +1,5 @@
 -- For how many bytes a disk is asked that isn't mounted.
-use Rattle.std.proofs.Common.{◌≡◌, ⊎_elim, ℕ, zero, suc, ◌+◌, ◌-◌, ◌*◌, ◌≤◌, true, is_some, if◌then◌else◌, List, length, drop, Option, Some, None, refl, sym, ◌∙◌, ap, subst, arith}
+use Rattle.std.proofs.Common.{◌≡◌, inl, inr, ℕ, zero, suc, ◌+◌, ◌-◌, ◌*◌, ◌≤◌, true, is_some, if◌then◌else◌, List, length, drop, Option, Some, None, refl, sym, ◌∙◌, ap, subst, arith}
 use Rattle.book_snapshot.specs.declared.types.Kept.{Kept}
 use Rattle.book_snapshot.specs.declared.layout.TheConstants.{ROW_BYTES, TAIL}
 use Rattle.book_snapshot.specs.Layout.{snapshot_end}

@@ -1,4 +1,4 @@
-ghost use Rattle.std.specs.Prelude.{◌≡◌, ◌⊎◌, ◌+◌, ◌*◌, ◌<◌, ◌≤◌, ℕ, List, IfOk, IfErr, IsErr, MatchResult, length};
+ghost use Rattle.std.specs.Prelude.{◌≡◌, ◌⊎◌, ◌+◌, ◌*◌, ◌<◌, ◌≤◌, ℕ, List, IfOk, IfErr, OnErr, IsErr, MatchResult, length};
 ghost use Rattle.device_facts.specs.Known.{TellsAsBefore};
 ghost use Rattle.disk_core.specs.Disk.{WhereTold, Only};
 ghost use Rattle.disk_core.specs.Devices.{IsUnmoved, LeavesOnly};
@@ -38,8 +38,8 @@ fn open<D: Disk>(disk: &mut D) -> Result<Found, JournalFault>
         (λ why. IsCauseOf D.Disk why disk.old disk.new) }
     ensures asked { IfOk result (λ found.
         D.asked disk.new ≤ D.asked disk.old + opening_cost found.kept found.count) }
-    ensures asked_refused { WhereTold (D.reads disk.old) (λ bytes. IfErr result (λ _.
-        AsksFew bytes (D.asked disk.old) (D.asked disk.new))) }
+    ensures asked_refused { WhereTold (D.reads disk.old) (λ bytes.
+        OnErr result (AsksFew bytes (D.asked disk.old) (D.asked disk.new))) }
 {
     let size = disk.len()?;
     if size < ROW_BYTES as u64 {
@@ -79,8 +79,8 @@ fn start<D: Disk>(disk: &mut D) -> Result<Found, JournalFault>
         (λ why. IsCauseOf D.Disk why disk.old disk.new) }
     ensures asked { IfOk result (λ found.
         D.asked disk.new ≤ D.asked disk.old + opening_cost found.kept found.count) }
-    ensures asked_refused { WhereTold (D.reads disk.old) (λ bytes. IfErr result (λ _.
-        AsksFew bytes (D.asked disk.old) (D.asked disk.new))) }
+    ensures asked_refused { WhereTold (D.reads disk.old) (λ bytes.
+        OnErr result (AsksFew bytes (D.asked disk.old) (D.asked disk.new))) }
 {
     disk.sync()?;
     let found = open(disk)?;

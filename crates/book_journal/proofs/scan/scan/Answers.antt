@@ -3,6 +3,8 @@ use Rattle.book_journal.specs.declared.layout.TheConstants.{MAX_SLOTS}
 use Rattle.book_journal.specs.Rows.{Recovers, open_rows, starts_open, gate_behind}
 use Rattle.book_journal.specs.Mounting.{rows_before}
 use Rattle.book_journal.specs.Closing.{IsFull}
+use Rattle.book_journal.proofs.AskedBytes.{asks_scanning}
+use Rattle.book_journal.proofs.Results.{err_at}
 use Rattle.book_journal.proofs.EndGates.{still_recovers, still_behind}
 use Rattle.book_journal.proofs.OpenEnds.{journal_of, first_within, counted_within, slots_counted, rows_are_counted}
 use Rattle.book_journal.proofs.Moments.{leaves_on, unmoved_leaves, unmoved_on}
@@ -118,3 +120,27 @@ returns-clause-moments g c b told only rows recovers few =
     (c.close_behind.ensures.moments b (u.reads ∙ told)
     (λ f is. only f (u.images f is)) rows recovers
     (rows_are_counted b rows kept count (journal_of b rows front.header recovers) of few slots))
+
+pub returns-in_err-count-clause-asked_failed : goal.returns-in_err-count-clause-asked_failed
+returns-in_err-count-clause-asked_failed g c b told =
+    let front = c.requires b told in
+    let told_first = c.find_snapshot.ensures.unmoved.reads ∙ told in
+    let of = c.in_ok-kept.ensures.found b told front.size_is front.header front.mark_is in
+    let most = c.count_rows.ensures.asked_most b told_first front.size_is in
+    err_at c.from_residual-in_err-count.result _
+    (asks_scanning b c.in_ok-kept.kept c.rows_before-first.result c.piece_slots.result
+        (g.D.Disk.asked c.args.disk.now) (g.D.Disk.asked c.count_rows.new.disk) of
+        c.rows_before-first.ensures c.piece_slots.ensures
+    (omega (arith, c.find_snapshot.ensures.asked, most)))
+
+pub returns-in_err-close_behind-clause-asked_failed : goal.returns-in_err-close_behind-clause-asked_failed
+returns-in_err-close_behind-clause-asked_failed g c b told =
+    let front = c.requires b told in
+    let told_first = c.find_snapshot.ensures.unmoved.reads ∙ told in
+    let of = c.in_ok-kept.ensures.found b told front.size_is front.header front.mark_is in
+    let most = c.count_rows.ensures.asked_most b told_first front.size_is in
+    err_at c.from_residual-in_err-close_behind.result _
+    (asks_scanning b c.in_ok-kept.kept c.rows_before-first.result c.piece_slots.result
+        (g.D.Disk.asked c.args.disk.now) (g.D.Disk.asked c.close_behind.new.disk) of
+        c.rows_before-first.ensures c.piece_slots.ensures
+    (omega (arith, c.find_snapshot.ensures.asked, most, c.close_behind.ensures.asked)))
