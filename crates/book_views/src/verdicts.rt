@@ -18,7 +18,7 @@ use batch_sums::Totals;
 use book_samples::Sample;
 use book_state::State;
 use book_words::{Fails, Name, Verdict};
-use reference_test::{Contents, Sums, contents_check, mean_check_at};
+use reference_test::{Contents, Sums, UNIT_DENSITY, contents_check, mean_check_at};
 
 /// Whether the first sample leaves it open: more defective packs than are accepted, fewer than are
 /// rejected.
