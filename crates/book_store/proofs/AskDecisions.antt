@@ -1,5 +1,5 @@
 -- What an ask is answered, by what making its act ready gives.
-use Rattle.std.proofs.Common.{◌≡◌, Bool, true, false, ℕ, ◌+◌, ◌≤◌, nat_le, List, [], ◌∷◌, ◌++◌, length, Option, Some, None, IsSome, Result, Ok, Err, refl, sym, ◌∙◌, ap, subst, arith}
+use Rattle.std.proofs.Common.{◌≡◌, ◌⊎◌, inl, inr, Bool, true, false, ℕ, ◌+◌, ◌≤◌, nat_le, List, [], ◌∷◌, ◌++◌, length, Option, Some, None, IsSome, Result, Ok, Err, refl, sym, ◌∙◌, ap, subst, arith}
 use Rattle.std.proofs.lemmas.Bool.Decides.{nat_tests}
 use Rattle.std.specs.Option.{option_or}
 use Rattle.hall_limits.specs.declared.TheConstants.{MAX_ROWS}
@@ -16,13 +16,14 @@ use Rattle.book_words.specs.Desks.{desk_number, request_old, request_reused, req
 use Rattle.book_words.specs.Refusals.{refused_if, first_refusal, book_full, desk_refusals, refusals_of, refusal_of}
 use Rattle.book_words.specs.Answers.{accepted, answer, desk_answer, want_answer, entry_for, entry_unless, added, want_added, IsLawful}
 use Rattle.book_words.proofs.RefusalLemmas.{none_of_two, none_of_parts}
-use Rattle.book_store.specs.Offers.{list_behind}
+use Rattle.book_store.specs.Offers.{GivesAnswer, list_behind}
 use Rattle.book_core.specs.declared.types.Step.{Step}
 use Rattle.book_core.specs.declared.types.Step.TheVariants.{New, Known}
 use Rattle.book_core.specs.declared.types.BookError.{BookError}
 use Rattle.book_core.specs.declared.types.BookError.TheVariants as error
+use Rattle.book_core.specs.AskErrors.{ask_error}
 use Rattle.book_core.specs.View.{ReadyEntry, BookView}
-use Rattle.book_core.specs.Steps.{asked_act, numbered_entry, decided_step, step_for, made_ready, GivesUnlessNoMemory, HasNoRoom}
+use Rattle.book_core.specs.Steps.{asked_act, numbered_entry, decided_step, step_for, made_ready, GivesUnlessNoMemory, HasNoRoom, MayLackMemory}
 use Rattle.book_core.proofs.DecisionLemmas.{desk_decision, decision_is}
 
 isnt_full : (limit : ℕ) (test : Bool) → refused_if test (BookFull limit) ≡ None → test ≡ false
@@ -187,17 +188,31 @@ module _ (book : BookView) (by : ℕ) (ask : Ask) (act : Act) (given : Result St
       subst Says (is ∙ ap (λ (s : Step). Ok s) step_is)
       (decides book by ask act given wants most gives)
 
-  pub refused_is : (e : BookError) (refused : Refused) → given ≡ Err e → e ≡ error.Refused refused
-      → (answer book.limit book.entries ask ≡ Err refused)
-      × (added book.limit book.entries by ask ≡ None)
-  refused_is e refused is error_is =
-      subst Says (is ∙ ap (λ (e : BookError). Err e) error_is)
-      (decides book by ask act given wants most gives)
+  -- an error is told as the caller's, which is right
+  pub error_gives : (e : BookError) → given ≡ Err e
+      → GivesAnswer book by ask (added book.limit book.entries by ask) (Err (ask_error e))
+      (answer book.limit book.entries ask)
+  error_gives e is = each e (subst Says is (decides book by ask act given wants most gives))
+    where
+      each : (e : BookError) → Says (Err e)
+          → GivesAnswer book by ask (added book.limit book.entries by ask) (Err (ask_error e))
+          (answer book.limit book.entries ask)
+      each (error.Refused refused) says = sym says.0
+      each error.NoMemory says =
+          subst (λ (w : Want). MayLackMemory book by ask w) (sym wants)
+          (subst (λ (o : Option Entry). IsSome o) (sym says.1.is) refl, says.0)
 
-  pub lacking_is : (e : BookError) → given ≡ Err e → e ≡ error.NoMemory → HasNoRoom book act
-      × IsLawfulNew book.entries (added book.limit book.entries by ask)
-  lacking_is e is error_is = subst Says (is ∙ ap (λ (e : BookError). Err e) error_is)
-      (decides book by ask act given wants most gives)
+  -- behind it there is nothing new, or what is new is lawful
+  pub error_new : (e : BookError) → given ≡ Err e
+      → (added book.limit book.entries by ask ≡ None)
+      ⊎ IsLawfulNew book.entries (added book.limit book.entries by ask)
+  error_new e is = each e (subst Says is (decides book by ask act given wants most gives))
+    where
+      each : (e : BookError) → Says (Err e)
+          → (added book.limit book.entries by ask ≡ None)
+          ⊎ IsLawfulNew book.entries (added book.limit book.entries by ask)
+      each (error.Refused refused) says = inl says.1
+      each error.NoMemory says = inr says.1
 
 -- the list behind an act that is entered, and behind one that isn't
 pub list_more : (answered : Answered) (entries same list : List Entry) (entry : Entry)
