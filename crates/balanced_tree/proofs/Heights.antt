@@ -18,7 +18,8 @@ pub fewest-monotone : (h k : ℕ) → h ≤ k → fewest_items h ≤ fewest_item
 fewest-monotone h zero low = let e : h ≡ 0 = omega arith in rw e (omega arith)
 fewest-monotone h (suc k) low =
     elim (cases_lt h (suc k)) [
-      | inl less ↦ let more = fewest_rises k in let before = fewest-monotone h k (omega arith) in omega arith
+      | inl less ↦ let more = fewest_rises k in let before = fewest-monotone h k (omega arith) in
+          omega arith
       | inr not_less ↦ let e : h ≡ suc k = omega arith in rw e (omega arith)
     ]
 
@@ -35,7 +36,8 @@ fewest_above a b low high =
       | inr not_less ↦ let e : b ≡ a = omega arith in let twice = fewest_doubles a in rw e (omega arith)
     ]
 
-pub fewest_held : {T : Type 0} (t : Tree T) → IsBalanced t → fewest_items (height_of t) ≤ length (items t)
+pub fewest_held : {T : Type 0} (t : Tree T) → IsBalanced t
+    → fewest_items (height_of t) ≤ length (items t)
 fewest_held Leaf balanced = omega arith
 fewest_held (Fork' h n p l x r) balanced =
     let on_left = fewest_held l balanced.0 in
@@ -53,7 +55,8 @@ fewest_held (Fork' h n p l x r) balanced =
     ]
 
 -- a balanced tree with fewer items than the smallest of a height is lower
-pub lower_than : {T : Type 0} (t : Tree T) (height : ℕ) → IsBalanced t → length (items t) < fewest_items height → height_of t < height
+pub lower_than : {T : Type 0} (t : Tree T) (height : ℕ) → IsBalanced t
+    → length (items t) < fewest_items height → height_of t < height
 lower_than t height balanced few =
     elim (cases_lt (height_of t) height) [
       | inl less ↦ less
@@ -63,8 +66,12 @@ lower_than t height balanced few =
           absurd (omega arith)
     ]
 
-pub lower_than_47 : {T : Type 0} (t : Tree T) → IsBalanced t → length (items t) < 2 ^ 32 → height_of t < 47
-lower_than_47 t balanced few = lower_than t 47 balanced (let enough : 2 ^ 32 ≤ fewest_items 47 = lit≤ tt in omega arith)
+pub lower_than_47 : {T : Type 0} (t : Tree T) → IsBalanced t → length (items t) < 2 ^ 32
+    → height_of t < 47
+lower_than_47 t balanced few =
+    lower_than t 47 balanced (let enough : 2 ^ 32 ≤ fewest_items 47 = lit≤ tt in omega arith)
 
-pub lower_than_19 : {T : Type 0} (t : Tree T) → IsBalanced t → length (items t) ≤ 10000 → height_of t < 19
-lower_than_19 t balanced few = lower_than t 19 balanced (let enough : 10000 < fewest_items 19 = lit< tt in omega arith)
+pub lower_than_19 : {T : Type 0} (t : Tree T) → IsBalanced t → length (items t) ≤ 10000
+    → height_of t < 19
+lower_than_19 t balanced few =
+    lower_than t 19 balanced (let enough : 10000 < fewest_items 19 = lit< tt in omega arith)

@@ -20,7 +20,8 @@ use Rattle.batch_sums.proofs.Faces.{face-at}
 use Rattle.batch_sums.proofs.PackSums.{length_in_pile, gross_in_pile, length_population, net_population, below_population, counted_sum}
 
 -- the group of a pack is there, and it has the face that is seen
-module _ (batches : List Batch) (groups : List Group) (held : List Held) (sound : Sound batches groups held) where
+module _ (batches : List Batch) (groups : List Group) (held : List Held)
+    (sound : Sound batches groups held) where
   pub tared : All (λ h. pos (nth_face (faces groups) h.group).tare ≤ℤ MAX_TARE) held
   tared k d within =
       let place = (get_or held k d).group in
@@ -30,7 +31,9 @@ module _ (batches : List Batch) (groups : List Group) (held : List Held) (sound 
       at : (place : ℕ) → place < length groups → pos (nth_face (faces groups) place).tare ≤ℤ MAX_TARE
       at place there =
           elim (slice_get_cases groups place).1 [
-            | inl found ↦ subst (λ (face : Face). pos face.tare ≤ℤ MAX_TARE) (sym (face-at groups place found.0 there ∙ ap face_of found.3)) (sound.group place found.0 found.2).tare
+            | inl found ↦ subst (λ (face : Face). pos face.tare ≤ℤ MAX_TARE)
+                (sym (face-at groups place found.0 there ∙ ap face_of found.3))
+                (sound.group place found.0 found.2).tare
             | inr past ↦ absurd (omega (arith, there, past.0))
           ]
 
@@ -38,13 +41,21 @@ cond_le : (b : Bool) (n m : ℕ) → n ≤ m → cond b n 0 ≤ m
 cond_le true n m less = less
 cond_le false n m less = omega arith
 
-module _ (some : List Face) (number : ℕ) (batch : Batch) (held : List Held) (sums : AddsUp some held number batch) (light : All (λ h. pos h.gross ≤ℤ MAX_GROSS) held)
+module _ (some : List Face) (number : ℕ) (batch : Batch) (held : List Held)
+    (sums : AddsUp some held number batch) (light : All (λ h. pos h.gross ≤ℤ MAX_GROSS) held)
     (taxed : All (λ h. pos (nth_face some h.group).tare ≤ℤ MAX_TARE) held) where
-  pub gross_bound : (pile : Pile) → sum_by (added_gross some number pile) held ≤ length held * at_least_0 MAX_GROSS
-  gross_bound pile = sum_by-le (added_gross some number pile) (at_least_0 MAX_GROSS) held (λ k d within. cond_le (belongs some number (get_or held k d) && same_pile (get_or held k d).pile pile) (get_or held k d).gross (at_least_0 MAX_GROSS) (omega (arith, ints, light k d within)))
+  pub gross_bound : (pile : Pile)
+      → sum_by (added_gross some number pile) held ≤ length held * at_least_0 MAX_GROSS
+  gross_bound pile = sum_by-le (added_gross some number pile) (at_least_0 MAX_GROSS) held
+      (λ k d within. cond_le (belongs some number (get_or held k d)
+      && same_pile (get_or held k d).pile pile) (get_or held k d).gross (at_least_0 MAX_GROSS)
+      (omega (arith, ints, light k d within)))
 
   pub tare_bound : sum_by (added_tare some number) held ≤ length held * at_least_0 MAX_TARE
-  tare_bound = sum_by-le (added_tare some number) (at_least_0 MAX_TARE) held (λ k d within. cond_le (belongs some number (get_or held k d) && is_counted (get_or held k d).pile) (nth_face some (get_or held k d).group).tare (at_least_0 MAX_TARE) (omega (arith, ints, taxed k d within)))
+  tare_bound = sum_by-le (added_tare some number) (at_least_0 MAX_TARE) held
+      (λ k d within. cond_le (belongs some number (get_or held k d)
+      && is_counted (get_or held k d).pile) (nth_face some (get_or held k d).group).tare
+      (at_least_0 MAX_TARE) (omega (arith, ints, taxed k d within)))
 
   pub bounded : length held < 4294967296 → IsBounded batch
   bounded few =

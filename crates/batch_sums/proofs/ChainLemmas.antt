@@ -15,20 +15,24 @@ module _ (batch : ℕ) where
   reach-le [] = omega arith
   reach-le (home ∷ homes) = by (eqb home batch || ltb 0 (reach_of batch homes)) (reach-le homes)
     where
-      by : (b : Bool) → reach_of batch homes ≤ length homes → cond b (reach_of batch homes + 1) 0 ≤ suc (length homes)
+      by : (b : Bool) → reach_of batch homes ≤ length homes
+          → cond b (reach_of batch homes + 1) 0 ≤ suc (length homes)
       by true rest = omega (arith, rest)
       by false rest = omega arith
 
   -- one pack more
-  pub reach-push_own : (homes : List ℕ) (home : ℕ) → home ≡ batch → reach_of batch (homes ++ home ∷ []) ≡ length homes + 1
+  pub reach-push_own : (homes : List ℕ) (home : ℕ) → home ≡ batch
+      → reach_of batch (homes ++ home ∷ []) ≡ length homes + 1
   reach-push_own [] home own = ap (λ b. cond (b || false) 1 0) (eq-eqb home batch own)
   reach-push_own (first ∷ homes) home own =
       let rest = reach-push_own homes home own in
       (λ i. cond (eqb first batch || ltb 0 (rest i)) (rest i + 1) 0)
-      ∙ ap (λ b. cond b (length homes + 1 + 1) 0) (or_right (eqb first batch) _ (lt-ltb 0 (length homes + 1) (omega arith)))
+      ∙ ap (λ b. cond b (length homes + 1 + 1) 0)
+      (or_right (eqb first batch) _ (lt-ltb 0 (length homes + 1) (omega arith)))
       ∙ omega arith
 
-  pub reach-push_other : (homes : List ℕ) (home : ℕ) → (home ≡ batch → ⊥) → reach_of batch (homes ++ home ∷ []) ≡ reach_of batch homes
+  pub reach-push_other : (homes : List ℕ) (home : ℕ) → (home ≡ batch → ⊥)
+      → reach_of batch (homes ++ home ∷ []) ≡ reach_of batch homes
   reach-push_other [] home other = ap (λ b. cond (b || false) 1 0) (ne_eqb home batch other)
   reach-push_other (first ∷ homes) home other =
       let rest = reach-push_other homes home other in
@@ -43,87 +47,131 @@ module _ (batch : ℕ) where
       ∙ ap (λ b. cond (b || false) 1 0) (ne_eqb home batch (λ same. omega (arith, less, same)))
 
   -- those up to the last of a batch reach as far as all do
-  pub reach-take : (homes : List ℕ) → reach_of batch (take (reach_of batch homes) homes) ≡ reach_of batch homes
+  pub reach-take : (homes : List ℕ)
+      → reach_of batch (take (reach_of batch homes) homes) ≡ reach_of batch homes
   reach-take [] = refl
   reach-take (home ∷ homes) = by (eqb home batch || ltb 0 (reach_of batch homes)) refl (reach-take homes)
     where
-      by : (b : Bool) → (eqb home batch || ltb 0 (reach_of batch homes)) ≡ b → reach_of batch (take (reach_of batch homes) homes) ≡ reach_of batch homes → reach_of batch (take (cond b (reach_of batch homes + 1) 0) (home ∷ homes)) ≡ cond b (reach_of batch homes + 1) 0
+      by : (b : Bool) → (eqb home batch || ltb 0 (reach_of batch homes)) ≡ b
+          → reach_of batch (take (reach_of batch homes) homes) ≡ reach_of batch homes
+          → reach_of batch (take (cond b (reach_of batch homes + 1) 0) (home ∷ homes))
+          ≡ cond b (reach_of batch homes + 1) 0
       by true is rest =
           let next : suc (reach_of batch homes) ≡ reach_of batch homes + 1 = omega arith in
           subst (λ n. reach_of batch (take n (home ∷ homes)) ≡ reach_of batch homes + 1) next
-          ((λ i. cond (eqb home batch || ltb 0 (rest i)) (rest i + 1) 0) ∙ ap (λ b. cond b (reach_of batch homes + 1) 0) is)
+          ((λ i. cond (eqb home batch || ltb 0 (rest i)) (rest i + 1) 0)
+          ∙ ap (λ b. cond b (reach_of batch homes + 1) 0) is)
       by false is rest = refl
 
   -- and the last of them is of the batch
-  pub reach-at : (homes : List ℕ) (place : ℕ) → reach_of batch homes ≡ place + 1 → get_or homes place 0 ≡ batch
+  pub reach-at : (homes : List ℕ) (place : ℕ) → reach_of batch homes ≡ place + 1
+      → get_or homes place 0 ≡ batch
   reach-at [] place is = absurd (omega (arith, is))
-  reach-at (home ∷ homes) place is = by (eqb home batch || ltb 0 (reach_of batch homes)) refl (reach-at homes) place is
+  reach-at (home ∷ homes) place is =
+      by (eqb home batch || ltb 0 (reach_of batch homes)) refl (reach-at homes) place is
     where
-      by : (b : Bool) → (eqb home batch || ltb 0 (reach_of batch homes)) ≡ b → ((place : ℕ) → reach_of batch homes ≡ place + 1 → get_or homes place 0 ≡ batch) → (place : ℕ) → cond b (reach_of batch homes + 1) 0 ≡ place + 1 → get_or (home ∷ homes) place 0 ≡ batch
+      by : (b : Bool) → (eqb home batch || ltb 0 (reach_of batch homes)) ≡ b
+          → ((place : ℕ) → reach_of batch homes ≡ place + 1 → get_or homes place 0 ≡ batch)
+          → (place : ℕ) → cond b (reach_of batch homes + 1) 0 ≡ place + 1
+          → get_or (home ∷ homes) place 0 ≡ batch
       by false any rest place is = absurd (omega (arith, is))
       by true any rest (suc place) is = rest place (omega (arith, is))
       by true any rest zero is =
           let none : reach_of batch homes ≡ 0 = omega (arith, is) in
-          eqb-true home batch (sym (or-false (eqb home batch)) ∙ ap (λ n. eqb home batch || ltb 0 n) (sym none) ∙ any)
+          eqb-true home batch (sym (or-false (eqb home batch))
+          ∙ ap (λ n. eqb home batch || ltb 0 n) (sym none) ∙ any)
 
   -- all packs of a batch stand as far as they reach
-  pub of_batch-reach : (packs : List Pack) → of_batch batch (take (reach_of batch (homes_of packs)) packs) ≡ of_batch batch packs
+  pub of_batch-reach : (packs : List Pack)
+      → of_batch batch (take (reach_of batch (homes_of packs)) packs) ≡ of_batch batch packs
   of_batch-reach [] = refl
-  of_batch-reach (pack ∷ packs) = by (eqb pack.batch batch || ltb 0 (reach_of batch (homes_of packs))) refl (of_batch-reach packs)
+  of_batch-reach (pack ∷ packs) =
+      by (eqb pack.batch batch || ltb 0 (reach_of batch (homes_of packs))) refl
+      (of_batch-reach packs)
     where
-      by : (b : Bool) → (eqb pack.batch batch || ltb 0 (reach_of batch (homes_of packs))) ≡ b → of_batch batch (take (reach_of batch (homes_of packs)) packs) ≡ of_batch batch packs → of_batch batch (take (cond b (reach_of batch (homes_of packs) + 1) 0) (pack ∷ packs)) ≡ of_batch batch (pack ∷ packs)
+      by : (b : Bool) → (eqb pack.batch batch || ltb 0 (reach_of batch (homes_of packs))) ≡ b
+          → of_batch batch (take (reach_of batch (homes_of packs)) packs) ≡ of_batch batch packs
+          → of_batch batch (take (cond b (reach_of batch (homes_of packs) + 1) 0) (pack ∷ packs))
+          ≡ of_batch batch (pack ∷ packs)
       by true any rest =
-          let next : suc (reach_of batch (homes_of packs)) ≡ reach_of batch (homes_of packs) + 1 = omega arith in
+          let next : suc (reach_of batch (homes_of packs)) ≡ reach_of batch (homes_of packs) + 1 =
+          omega arith in
           subst (λ n. of_batch batch (take n (pack ∷ packs)) ≡ of_batch batch (pack ∷ packs)) next
           (ap (λ ps. cond (eqb pack.batch batch) (pack ∷ ps) ps) rest)
       by false any rest =
           let none = or_parts (eqb pack.batch batch) (ltb 0 (reach_of batch (homes_of packs))) any in
-          let short : reach_of batch (homes_of packs) ≡ 0 = omega (arith, ltb-false 0 (reach_of batch (homes_of packs)) none.1) in
+          let short : reach_of batch (homes_of packs) ≡ 0 =
+          omega (arith, ltb-false 0 (reach_of batch (homes_of packs)) none.1) in
           ap (λ n. of_batch batch (take n packs)) (sym short) ∙ rest
           ∙ sym (ap (λ b. cond b (pack ∷ of_batch batch packs) (of_batch batch packs)) none.0)
 
 pub chained_new : IsChained [] [] []
-chained_new = record { within = λ k d within. absurd (omega (arith, within)); newest = λ batch within. absurd (omega (arith, within)); before = λ place within. absurd (omega (arith, within)) }
+chained_new = record {
+  within = λ k d within. absurd (omega (arith, within));
+  newest =
+      λ batch within. absurd (omega (arith, within));
+  before =
+      λ place within. absurd (omega (arith, within));
+}
 
 module _ (reaches homes befores : List ℕ) (chained : IsChained reaches homes befores) where
   -- a batch without packs comes behind the others
   pub chained_batch : IsChained (reaches ++ 0 ∷ []) homes befores
   chained_batch =
       record {
-        within = All-weaker (λ home. home < length reaches) (λ home. home < length (reaches ++ 0 ∷ [])) (λ home less. omega (arith, less, length-append reaches (0 ∷ []))) homes chained.within;
+        within = All-weaker (λ home. home < length reaches)
+            (λ home. home < length (reaches ++ 0 ∷ []))
+            (λ home less. omega (arith, less, length-append reaches (0 ∷ []))) homes chained.within;
         newest = λ batch within.
             elim (cases_lt batch (length reaches)) [
               | inl less ↦ get_or_append_left reaches (0 ∷ []) 0 batch less ∙ chained.newest batch less
               | inr not_less ↦
-                  let same : length reaches ≡ batch = omega (arith, within, not_less, length-append reaches (0 ∷ [])) in
-                  get_or_at reaches 0 [] 0 batch same ∙ sym (ap (λ b. reach_of b homes) (sym same) ∙ reach-none (length reaches) homes chained.within)
+                  let same : length reaches ≡ batch =
+                  omega (arith, within, not_less, length-append reaches (0 ∷ [])) in
+                  get_or_at reaches 0 [] 0 batch same
+                  ∙ sym (ap (λ b. reach_of b homes) (sym same)
+                  ∙ reach-none (length reaches) homes chained.within)
             ];
         before = chained.before;
       }
 
   -- a pack comes behind the others
-  pub chained_put : (batch : ℕ) → batch < length reaches → length befores ≡ length homes → IsChained (set reaches batch (length homes + 1)) (homes ++ batch ∷ []) (befores ++ get_or reaches batch 0 ∷ [])
+  pub chained_put : (batch : ℕ) → batch < length reaches → length befores ≡ length homes
+      → IsChained (set reaches batch (length homes + 1)) (homes ++ batch ∷ [])
+      (befores ++ get_or reaches batch 0 ∷ [])
   chained_put batch there long =
       record {
-        within = subst (λ n. All (λ home. home < n) (homes ++ batch ∷ [])) (sym (length-set reaches batch (length homes + 1))) (All-push (λ home. home < length reaches) homes batch chained.within there);
+        within = subst (λ n. All (λ home. home < n) (homes ++ batch ∷ []))
+            (sym (length-set reaches batch (length homes + 1)))
+            (All-push (λ home. home < length reaches) homes batch chained.within there);
         newest = λ other within.
             elim (cases_eq other batch) [
               | inl same ↦
-                  subst (λ n. get_or (set reaches batch (length homes + 1)) n 0 ≡ reach_of n (homes ++ batch ∷ [])) (sym same)
-                  (get_or-set_same reaches batch (length homes + 1) 0 there ∙ sym (reach-push_own batch homes batch refl))
+                  subst (λ n. get_or (set reaches batch (length homes + 1)) n 0
+                  ≡ reach_of n (homes ++ batch ∷ [])) (sym same)
+                  (get_or-set_same reaches batch (length homes + 1) 0 there
+                  ∙ sym (reach-push_own batch homes batch refl))
               | inr differs ↦
-                  get_or-set_other reaches batch other (length homes + 1) 0 differs ∙ chained.newest other (omega (arith, within, length-set reaches batch (length homes + 1)))
+                  get_or-set_other reaches batch other (length homes + 1) 0 differs
+                  ∙ chained.newest other
+                  (omega (arith, within, length-set reaches batch (length homes + 1)))
                   ∙ sym (reach-push_other other homes batch (λ same. differs (sym same)))
             ];
         before = λ place within.
             elim (cases_lt place (length homes)) [
               | inl less ↦
-                  get_or_append_left befores (get_or reaches batch 0 ∷ []) 0 place (omega (arith, less, long)) ∙ chained.before place less
-                  ∙ sym (λ i. reach_of (get_or_append_left homes (batch ∷ []) 0 place less i) (take-append-le place homes (batch ∷ []) (omega (arith, less)) i))
+                  get_or_append_left befores (get_or reaches batch 0 ∷ []) 0 place
+                  (omega (arith, less, long)) ∙ chained.before place less
+                  ∙ sym (λ i. reach_of (get_or_append_left homes (batch ∷ []) 0 place less i)
+                  (take-append-le place homes (batch ∷ []) (omega (arith, less)) i))
               | inr not_less ↦
-                  let same : length homes ≡ place = omega (arith, within, not_less, length-append homes (batch ∷ [])) in
-                  let all : take place (homes ++ batch ∷ []) ≡ homes = take-append-le place homes (batch ∷ []) (omega (arith, same)) ∙ take_all place homes (omega (arith, same)) in
-                  get_or_at befores (get_or reaches batch 0) [] 0 place (long ∙ same) ∙ chained.newest batch there
+                  let same : length homes ≡ place =
+                  omega (arith, within, not_less, length-append homes (batch ∷ [])) in
+                  let all : take place (homes ++ batch ∷ []) ≡ homes =
+                  take-append-le place homes (batch ∷ []) (omega (arith, same))
+                  ∙ take_all place homes (omega (arith, same)) in
+                  get_or_at befores (get_or reaches batch 0) [] 0 place (long ∙ same)
+                  ∙ chained.newest batch there
                   ∙ sym (λ i. reach_of (get_or_at homes batch [] 0 place same i) (all i))
             ];
       }

@@ -20,14 +20,22 @@ use Rattle.batch_sums.proofs.NewGroups.{IsRising-agree}
 use Rattle.batch_sums.proofs.Underway.{IsUnderway, face_by-key}
 
 -- an order is of keys alone
-index_by : (before now : List Face) (order : List ℕ) → length now ≡ length before → ((place : ℕ) → (nth_face now place).key ≡ (nth_face before place).key) → IsIndex before order → IsIndex now order
+index_by : (before now : List Face) (order : List ℕ) → length now ≡ length before
+    → ((place : ℕ) → (nth_face now place).key ≡ (nth_face before place).key) → IsIndex before order
+    → IsIndex now order
 index_by before now order long key index =
-    let rank : (place : ℕ) → nth_rank before place ≡ nth_rank now place = λ place. ap rank_of (sym (key place)) in
+    let rank : (place : ℕ) → nth_rank before place ≡ nth_rank now place =
+    λ place. ap rank_of (sym (key place)) in
     record {
-      rising = IsRising-agree (nth_rank before) (nth_rank now) order (λ k d within. rank (get_or order k d)) index.rising;
-      within = All-weaker (λ p. p < length before) (λ p. p < length now) (λ p less. omega (arith, less, long)) order index.within;
+      rising = IsRising-agree (nth_rank before) (nth_rank now) order
+          (λ k d within. rank (get_or order k d)) index.rising;
+      within = All-weaker (λ p. p < length before) (λ p. p < length now)
+          (λ p less. omega (arith, less, long)) order index.within;
       once = λ place within. index.once place (omega (arith, within, long));
-      distinct = λ value. subst (λ n. n ≤ 1) (sum_by-same (λ p. cond (eqb (nth_rank before p) value) 1 0) (λ p. cond (eqb (nth_rank now p) value) 1 0) order (λ p. ap (λ r. cond (eqb r value) 1 0) (rank p))) (index.distinct value);
+      distinct = λ value. subst (λ n. n ≤ 1)
+          (sum_by-same (λ p. cond (eqb (nth_rank before p) value) 1 0)
+          (λ p. cond (eqb (nth_rank now p) value) 1 0) order
+          (λ p. ap (λ r. cond (eqb r value) 1 0) (rank p))) (index.distinct value);
       keys = λ place within.
           let old = index.keys place (omega (arith, within, long)) in
           record {
@@ -37,35 +45,57 @@ index_by before now order long key index =
       long = index.long ∙ sym long;
     }
 
-pub kept_after : (before now : Inside) (visited : List ℕ) (tare start steps : ℕ) → IsUnderway before now visited tare start steps → IsKept before → IsKept now
+pub kept_after : (before now : Inside) (visited : List ℕ) (tare start steps : ℕ)
+    → IsUnderway before now visited tare start steps → IsKept before → IsKept now
 kept_after before now visited tare start steps under kept =
     let settled = kept.settled in
     let room = kept.room in
-    let packs : now.packs.items ≡ before.packs.items = ap (λ (v : Vec Held Global). v.items) under.packs in
-    let groups : length now.groups.items ≡ length before.groups.items = omega (arith, under.groups_long, now.groups.ok.0, before.groups.ok.0) in
-    let long : length (faces now.groups.items) ≡ length (faces before.groups.items) = omega (arith, groups, length-map now.groups.items face_of, length-map before.groups.items face_of) in
-    let key : (place : ℕ) → (nth_face (faces now.groups.items) place).key ≡ (nth_face (faces before.groups.items) place).key =
-    λ place. ap (λ (f : Face). f.key) (under.face place) ∙ face_by-key visited tare place (nth_face (faces before.groups.items) place) in
+    let packs : now.packs.items ≡ before.packs.items =
+    ap (λ (v : Vec Held Global). v.items) under.packs in
+    let groups : length now.groups.items ≡ length before.groups.items =
+    omega (arith, under.groups_long, now.groups.ok.0, before.groups.ok.0) in
+    let long : length (faces now.groups.items) ≡ length (faces before.groups.items) =
+    omega (
+      arith,
+      groups,
+      length-map now.groups.items face_of,
+      length-map before.groups.items face_of,
+    ) in
+    let key : (place : ℕ) → (nth_face (faces now.groups.items) place).key
+    ≡ (nth_face (faces before.groups.items) place).key =
+    λ place. ap (λ (f : Face). f.key) (under.face place)
+    ∙ face_by-key visited tare place (nth_face (faces before.groups.items) place) in
     let keys : now.numbers.keys ≡ before.numbers.keys = ap (λ s. s.keys) under.numbers in
     let free : spare now.numbers ≡ spare before.numbers = ap spare under.numbers in
-    let packs_long : vec_len now.packs ≡ vec_len before.packs = ap (λ (v : Vec Held Global). vec_len v) under.packs in
-    let packs_room : vec_capacity now.packs ≡ vec_capacity before.packs = ap (λ (v : Vec Held Global). vec_capacity v) under.packs in
-    let nodes_long : vec_len now.gross_nodes ≡ vec_len before.gross_nodes = ap (λ v. vec_len v) under.gross_nodes in
-    let nodes_room : vec_capacity now.gross_nodes ≡ vec_capacity before.gross_nodes = ap (λ v. vec_capacity v) under.gross_nodes in
-    let order_long : vec_len now.order_nodes ≡ vec_len before.order_nodes = ap (λ v. vec_len v) under.order_nodes in
+    let packs_long : vec_len now.packs ≡ vec_len before.packs =
+    ap (λ (v : Vec Held Global). vec_len v) under.packs in
+    let packs_room : vec_capacity now.packs ≡ vec_capacity before.packs =
+    ap (λ (v : Vec Held Global). vec_capacity v) under.packs in
+    let nodes_long : vec_len now.gross_nodes ≡ vec_len before.gross_nodes =
+    ap (λ v. vec_len v) under.gross_nodes in
+    let nodes_room : vec_capacity now.gross_nodes ≡ vec_capacity before.gross_nodes =
+    ap (λ v. vec_capacity v) under.gross_nodes in
+    let order_long : vec_len now.order_nodes ≡ vec_len before.order_nodes =
+    ap (λ v. vec_len v) under.order_nodes in
     let ins : inside now.packs.items ≡ inside before.packs.items = ap inside packs in
     let outs : outside now.packs.items ≡ outside before.packs.items = ap outside packs in
     record {
       settled = record {
         sound = under.sound;
         balanced = subst (λ (t : Tree ℕ). IsBalanced t) (sym under.order) settled.balanced;
-        index = subst (λ (t : Tree ℕ). IsIndex (faces now.groups.items) (items t)) (sym under.order) (index_by (faces before.groups.items) (faces now.groups.items) (items before.order) long key settled.index);
-        used = λ place within. subst (λ hs. 0 < count_by (λ pack. eqb pack.group place) hs) (sym packs) (settled.used place (omega (arith, within, groups)));
+        index = subst (λ (t : Tree ℕ). IsIndex (faces now.groups.items) (items t)) (sym under.order)
+            (index_by (faces before.groups.items) (faces now.groups.items)
+            (items before.order) long key settled.index);
+        used = λ place within. subst (λ hs. 0 < count_by (λ pack. eqb pack.group place) hs)
+            (sym packs) (settled.used place (omega (arith, within, groups)));
         small = omega (arith, settled.small, groups, ap (λ (hs : List Held). length hs) packs);
-        apart = λ number. subst (λ hs. count_by (λ pack. eqb pack.number number) hs ≤ 1) (sym packs) (settled.apart number);
+        apart = λ number. subst (λ hs. count_by (λ pack. eqb pack.number number) hs ≤ 1) (sym packs)
+            (settled.apart number);
         numbered = keys ∙ settled.numbered ∙ ap (λ hs. map (λ (p : Held). p.number) hs) (sym packs);
         chained = chained_as _ _ _ _ _ _ under.reaches
-            (ap (λ hs. homes_of (map (seen (faces now.groups.items)) hs)) packs ∙ homes-keys (faces before.groups.items) (faces now.groups.items) key before.packs.items)
+            (ap (λ hs. homes_of (map (seen (faces now.groups.items)) hs)) packs
+            ∙ homes-keys (faces before.groups.items)
+            (faces now.groups.items) key before.packs.items)
             (ap befores_of packs) settled.chained;
       };
       tallied = rw (under.piles, packs) kept.tallied;

@@ -6,22 +6,32 @@ use Rattle.batch_sums.specs.Groups.{Face, nth_face}
 use Rattle.batch_sums.specs.Kept.{seen, IsChained}
 use Rattle.batch_sums.specs.Invariant.{homes_of}
 
-pub homes-seen : (some : List Face) (held : List Held) → homes_of (map (seen some) held) ≡ map (λ h. (nth_face some h.group).key.batch) held
+pub homes-seen : (some : List Face) (held : List Held)
+    → homes_of (map (seen some) held) ≡ map (λ h. (nth_face some h.group).key.batch) held
 homes-seen some [] = refl
 homes-seen some (h ∷ held) = ap (λ ns. (nth_face some h.group).key.batch ∷ ns) (homes-seen some held)
 
 -- faces with the same keys show the same batches
-pub homes-keys : (before now : List Face) → ((place : ℕ) → (nth_face now place).key ≡ (nth_face before place).key) → (held : List Held) → homes_of (map (seen now) held) ≡ homes_of (map (seen before) held)
+pub homes-keys : (before now : List Face)
+    → ((place : ℕ) → (nth_face now place).key ≡ (nth_face before place).key) → (held : List Held)
+    → homes_of (map (seen now) held) ≡ homes_of (map (seen before) held)
 homes-keys before now key [] = refl
 homes-keys before now key (h ∷ held) = λ i. (key h.group i).batch ∷ homes-keys before now key held i
 
 -- a write that a function doesn't see
-pub map-set_unseen : (f : Held → ℕ) (held : List Held) (place : ℕ) (h new : Held) → h ≡ get_or held place h → place < length held → f new ≡ f h → map f (set held place new) ≡ map f held
+pub map-set_unseen : (f : Held → ℕ) (held : List Held) (place : ℕ) (h new : Held)
+    → h ≡ get_or held place h → place < length held → f new ≡ f h
+    → map f (set held place new) ≡ map f held
 map-set_unseen f held place h new read within same =
     map-set f held place new
-    ∙ ap (λ n. set (map f held) place n) (same ∙ ap f read ∙ sym (get_or-map f held place h (f h) within))
+    ∙ ap (λ n. set (map f held) place n)
+    (same ∙ ap f read ∙ sym (get_or-map f held place h (f h) within))
     ∙ set-get_or (map f held) place (f h)
 
-pub chained_as : (reaches homes befores new_reaches new_homes new_befores : List ℕ) → new_reaches ≡ reaches → new_homes ≡ homes → new_befores ≡ befores → IsChained reaches homes befores → IsChained new_reaches new_homes new_befores
+pub chained_as : (reaches homes befores new_reaches new_homes new_befores : List ℕ)
+    → new_reaches ≡ reaches → new_homes ≡ homes → new_befores ≡ befores
+    → IsChained reaches homes befores → IsChained new_reaches new_homes new_befores
 chained_as reaches homes befores new_reaches new_homes new_befores first second third chained =
-    subst (λ rs. IsChained rs new_homes new_befores) (sym first) (subst (λ hs. IsChained reaches hs new_befores) (sym second) (subst (λ bs. IsChained reaches homes bs) (sym third) chained))
+    subst (λ rs. IsChained rs new_homes new_befores) (sym first)
+    (subst (λ hs. IsChained reaches hs new_befores) (sym second)
+    (subst (λ bs. IsChained reaches homes bs) (sym third) chained))

@@ -20,48 +20,89 @@ use Rattle.batch_sums.proofs.Homes.{homes-seen, map-set_unseen, chained_as}
 use Rattle.batch_sums.proofs.PileMoves.{in_pile}
 
 -- a number is looked for among the packs or among their numbers
-pub added_is : (some : List Face) (number : ℕ) (held : List Held) → is_added (map (seen some) held) number ≡ list_any (λ other. eqb number other) (map (λ p. p.number) held)
+pub added_is : (some : List Face) (number : ℕ) (held : List Held)
+    → is_added (map (seen some) held) number
+    ≡ list_any (λ other. eqb number other) (map (λ p. p.number) held)
 added_is some number [] = refl
 added_is some number (h ∷ held) = ap (λ b. eqb number h.number || b) (added_is some number held)
 
 -- where a number is found stands its pack
-pub number_at : (numbers : List ℕ) (held : List Held) (place number : ℕ) (h : Held) → numbers ≡ map (λ p. p.number) held → Some place ≡ position (λ other. eqb number other) numbers → h ≡ get_or held place h → (place < length held) × (h.number ≡ number)
+pub number_at : (numbers : List ℕ) (held : List Held) (place number : ℕ) (h : Held)
+    → numbers ≡ map (λ p. p.number) held → Some place ≡ position (λ other. eqb number other) numbers
+    → h ≡ get_or held place h → (place < length held) × (h.number ≡ number)
 number_at numbers held place number h numbered found read =
     let at = position-Some (λ other. eqb number other) numbers place 0 (sym found) in
-    let within : place < length held = omega (arith, at.0, ap length numbered, length-map held (λ (p : Held). p.number)) in
-    let same : number ≡ get_or numbers place 0 = eqb-true number (get_or numbers place 0) at.1 in
-    (within, ap (λ (p : Held). p.number) read ∙ sym (get_or-map (λ (p : Held). p.number) held place h 0 within) ∙ ap (λ ns. get_or ns place 0) (sym numbered) ∙ sym same)
+    let within : place < length held =
+    omega (arith, at.0, ap length numbered, length-map held (λ (p : Held). p.number)) in
+    let same : number ≡ get_or numbers place 0 = eqb-true number (get_or numbers place 0) at.1 in (
+      within,
+      ap (λ (p : Held). p.number) read
+          ∙ sym (get_or-map (λ (p : Held). p.number) held place h 0 within)
+          ∙ ap (λ ns. get_or ns place 0) (sym numbered) ∙ sym same,
+    )
 
 pub not_counts : (b : Bool) → cond (not b) 1 0 + cond b 1 0 ≡ 1
 not_counts true = omega arith
 not_counts false = omega arith
 
-module _ (held : List Held) (place : ℕ) (h : Held) (to : Pile) (read : h ≡ get_or held place h) (within : place < length held) where
+module _ (held : List Held) (place : ℕ) (h : Held) (to : Pile) (read : h ≡ get_or held place h)
+    (within : place < length held) where
   -- a sum that doesn't look at the pile stays
-  same_sum : (f : Held → ℕ) → f (in_pile h to) ≡ f h → sum_by f (set held place (in_pile h to)) ≡ sum_by f held
+  same_sum : (f : Held → ℕ) → f (in_pile h to) ≡ f h
+      → sum_by f (set held place (in_pile h to)) ≡ sum_by f held
   same_sum f same = omega (arith, sum_by-set f held place (in_pile h to) h within, same, ap f read)
 
-  pub inside_moved : inside (set held place (in_pile h to)) + cond (is_counted h.pile) 1 0 ≡ inside held + cond (is_counted to) 1 0
-  inside_moved = omega (arith, sum_by-set (λ p. cond (is_counted p.pile) 1 0) held place (in_pile h to) h within, ap (λ (p : Held). cond (is_counted p.pile) (suc zero) zero) read)
+  pub inside_moved : inside (set held place (in_pile h to)) + cond (is_counted h.pile) 1 0
+      ≡ inside held + cond (is_counted to) 1 0
+  inside_moved =
+      omega (
+        arith,
+        sum_by-set (λ p. cond (is_counted p.pile) 1 0) held place
+            (in_pile h to) h within,
+        ap (λ (p : Held). cond (is_counted p.pile) (suc zero) zero) read,
+      )
 
-  pub outside_moved : outside (set held place (in_pile h to)) + cond (is_counted to) 1 0 ≡ outside held + cond (is_counted h.pile) 1 0
-  outside_moved = omega (arith, sum_by-set (λ p. cond (not (is_counted p.pile)) 1 0) held place (in_pile h to) h within, ap (λ (p : Held). cond (not (is_counted p.pile)) (suc zero) zero) read, not_counts (is_counted h.pile), not_counts (is_counted to))
+  pub outside_moved : outside (set held place (in_pile h to)) + cond (is_counted to) 1 0
+      ≡ outside held + cond (is_counted h.pile) 1 0
+  outside_moved =
+      omega (
+        arith,
+        sum_by-set (λ p. cond (not (is_counted p.pile)) 1 0) held place
+            (in_pile h to) h within,
+        ap (λ (p : Held). cond (not (is_counted p.pile)) (suc zero) zero)
+            read,
+        not_counts (is_counted h.pile),
+        not_counts (is_counted to),
+      )
 
-  pub settled_moved : (batches new_batches : List Batch) (groups new_groups : List Group) (order : Tree ℕ) (numbers : List ℕ) → IsSettled batches groups order held numbers → reaches_of new_batches ≡ reaches_of batches → Sound new_batches new_groups (set held place (in_pile h to)) → faces new_groups ≡ faces groups → length new_groups ≡ length groups
+  pub settled_moved : (batches new_batches : List Batch) (groups new_groups : List Group)
+      (order : Tree ℕ) (numbers : List ℕ) → IsSettled batches groups order held numbers
+      → reaches_of new_batches ≡ reaches_of batches
+      → Sound new_batches new_groups (set held place (in_pile h to))
+      → faces new_groups ≡ faces groups → length new_groups ≡ length groups
       → IsSettled new_batches new_groups order (set held place (in_pile h to)) numbers
   settled_moved batches new_batches groups new_groups order numbers settled reaches sound face long =
       record {
         sound = sound;
         balanced = settled.balanced;
         index = subst (λ fs. IsIndex fs (items order)) (sym face) settled.index;
-        used = λ group there. subst (λ n. 0 < n) (sym (same_sum (λ p. cond (eqb p.group group) 1 0) refl)) (settled.used group (omega (arith, there, long)));
+        used = λ group there. subst (λ n. 0 < n)
+            (sym (same_sum (λ p. cond (eqb p.group group) 1 0) refl))
+            (settled.used group (omega (arith, there, long)));
         small = omega (arith, settled.small, long, length-set held place (in_pile h to));
-        apart = λ number. subst (λ n. n ≤ 1) (sym (same_sum (λ p. cond (eqb p.number number) 1 0) refl)) (settled.apart number);
-        numbered = settled.numbered ∙ sym (map-set (λ (p : Held). p.number) held place (in_pile h to) ∙ ap (λ n. set (map (λ (p : Held). p.number) held) place n) (ap (λ (p : Held). p.number) read ∙ sym (get_or-map (λ (p : Held). p.number) held place h h.number within)) ∙ set-get_or (map (λ (p : Held). p.number) held) place h.number);
+        apart = λ number. subst (λ n. n ≤ 1)
+            (sym (same_sum (λ p. cond (eqb p.number number) 1 0) refl)) (settled.apart number);
+        numbered = settled.numbered ∙ sym
+            (map-set (λ (p : Held). p.number) held place (in_pile h to)
+            ∙ ap (λ n. set (map (λ (p : Held). p.number) held) place n)
+            (ap (λ (p : Held). p.number) read
+            ∙ sym (get_or-map (λ (p : Held). p.number) held place h h.number within))
+            ∙ set-get_or (map (λ (p : Held). p.number) held) place h.number);
         chained = chained_as _ _ _ _ _ _ reaches
             (ap (λ fs. homes_of (map (seen fs) (set held place (in_pile h to)))) face
             ∙ homes-seen (faces groups) (set held place (in_pile h to))
-            ∙ map-set_unseen (λ p. (nth_face (faces groups) p.group).key.batch) held place h (in_pile h to) read within refl
+            ∙ map-set_unseen (λ p. (nth_face (faces groups) p.group).key.batch) held place h
+            (in_pile h to) read within refl
             ∙ sym (homes-seen (faces groups) held))
             (map-set_unseen (λ p. p.before) held place h (in_pile h to) read within refl)
             settled.chained;

@@ -27,15 +27,20 @@ abbrev weighed : Pile → Held → ℕ
 weighed pile h = cond (same_pile h.pile pile) h.gross 0
 
 module _ (some : List Face) (pile : Pile) where
-  length_lying : (held : List Held) → length (in_pile pile (map (seen some) held)) ≡ count_by (λ h. same_pile h.pile pile) held
+  length_lying : (held : List Held)
+      → length (in_pile pile (map (seen some) held)) ≡ count_by (λ h. same_pile h.pile pile) held
   length_lying [] = refl
   length_lying (h ∷ held) =
-      length_more (λ pack. same_pile pack.pile pile) (seen some h) (map (seen some) held) true _ (length_lying held) ∙ sym (sum_by-cons (counted pile) h held)
+      length_more (λ pack. same_pile pack.pile pile) (seen some h) (map (seen some) held) true _
+      (length_lying held) ∙ sym (sum_by-cons (counted pile) h held)
 
-  gross_lying : (held : List Held) → gross_sum (in_pile pile (map (seen some) held)) ≡ pos (sum_by (weighed pile) held)
+  gross_lying : (held : List Held)
+      → gross_sum (in_pile pile (map (seen some) held)) ≡ pos (sum_by (weighed pile) held)
   gross_lying [] = refl
   gross_lying (h ∷ held) =
-      gross_more (λ pack. same_pile pack.pile pile) (seen some h) (map (seen some) held) true h.gross _ refl (gross_lying held) ∙ ap pos (sym (sum_by-cons (weighed pile) h held))
+      gross_more (λ pack. same_pile pack.pile pile) (seen some h)
+      (map (seen some) held) true h.gross _ refl (gross_lying held)
+      ∙ ap pos (sym (sum_by-cons (weighed pile) h held))
 
 module _ (sums : PileSums) (held : List Held) (tallied : IsTallied sums held) where
   pub told_piles : (some : List Face) → piles_of (map (seen some) held) ≡ shown_tallies sums
@@ -60,18 +65,27 @@ module _ (sums : PileSums) (held : List Held) (tallied : IsTallied sums held) wh
       )
 
   pub few_lying : (pile : Pile) → (sum_in sums pile).count ≤ length held
-  few_lying pile = omega (arith, tallied.count pile, count_by-le-length (λ h. same_pile h.pile pile) held)
+  few_lying pile = omega (
+    arith,
+    tallied.count pile,
+    count_by-le-length (λ h. same_pile h.pile pile) held,
+  )
 
-  pub light_lying : All (λ h. pos h.gross ≤ℤ MAX_GROSS) held → length held < 4294967296 → (pile : Pile) → (sum_in sums pile).gross < 4611686018427387904
+  pub light_lying : All (λ h. pos h.gross ≤ℤ MAX_GROSS) held → length held < 4294967296
+      → (pile : Pile) → (sum_in sums pile).gross < 4611686018427387904
   light_lying light few pile =
-      let most = sum_by-le (weighed pile) (at_least_0 MAX_GROSS) held (λ k d within. cond_le (same_pile (get_or held k d).pile pile) (get_or held k d).gross (omega (arith, ints, light k d within))) in
+      let most = sum_by-le (weighed pile) (at_least_0 MAX_GROSS) held
+      (λ k d within. cond_le (same_pile (get_or held k d).pile pile) (get_or held k d).gross
+      (omega (arith, ints, light k d within))) in
       omega (arith, tallied.gross pile, most, few)
     where
       cond_le : (b : Bool) (n : ℕ) → n ≤ at_least_0 MAX_GROSS → cond b n 0 ≤ at_least_0 MAX_GROSS
       cond_le true n less = less
       cond_le false n less = omega arith
 
-  module _ (more : List Held) (pack : Held) (joins : Joins held pack more) (after : PileSums) (counts : CountsOneMore sums after pack.pile) (weighs : WeighsMore sums after pack.pile pack.gross) where
+  module _ (more : List Held) (pack : Held) (joins : Joins held pack more) (after : PileSums)
+      (counts : CountsOneMore sums after pack.pile)
+      (weighs : WeighsMore sums after pack.pile pack.gross) where
     pub tallied_in : IsTallied after more
     tallied_in =
         record {
@@ -87,10 +101,12 @@ module _ (sums : PileSums) (held : List Held) (tallied : IsTallied sums held) wh
 
     pub heavy_lying : pack.gross ≤ (sum_in sums pack.pile).gross
     heavy_lying =
-        let own : weighed pack.pile pack ≡ pack.gross = ap (λ b. cond b pack.gross 0) (same_self pack.pile) in
+        let own : weighed pack.pile pack ≡ pack.gross =
+        ap (λ b. cond b pack.gross 0) (same_self pack.pile) in
         omega (arith, tallied.gross pack.pile, joins.sum (weighed pack.pile), own)
 
-    pub tallied_out : (after : PileSums) → CountsOneMore after sums pack.pile → WeighsMore after sums pack.pile pack.gross → IsTallied after less
+    pub tallied_out : (after : PileSums) → CountsOneMore after sums pack.pile
+        → WeighsMore after sums pack.pile pack.gross → IsTallied after less
     tallied_out after counts weighs =
         record {
           count = λ pile. omega (arith, counts pile, tallied.count pile, joins.sum (counted pile));

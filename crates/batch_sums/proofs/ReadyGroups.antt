@@ -30,48 +30,79 @@ use Rattle.batch_sums.proofs.OnePackMore.{joins_push}
 use Rattle.batch_sums.proofs.GroupChanges.{sound_in, few_grosses}
 use Rattle.batch_sums.proofs.NewPacks.{sound_opened, seen_more, faces-push, get-append_new}
 
-pub record IsReady (batches : List Batch) (groups : List Group) (held : List Held) (after : List Group) (place : ℕ) (key : Key) (tare : ℕ) : Type 0 where
+pub record IsReady (batches : List Batch) (groups : List Group) (held : List Held)
+    (after : List Group) (place : ℕ) (key : Key) (tare : ℕ) : Type 0 where
   pub sound : Sound batches after held
   pub group : Group
   pub at : slice_get after place ≡ Some group
   pub face : face_of group ≡ record { key = key; tare = tare }
   pub same : map (seen (faces after)) held ≡ map (seen (faces groups)) held
-  pub used : (other : ℕ) → other < length after → (0 < count_by (λ pack. eqb pack.group other) held) ⊎ (place ≡ other)
+  pub used : (other : ℕ) → other < length after → (0 < count_by (λ pack. eqb pack.group other) held)
+      ⊎ (place ≡ other)
   pub long : length after ≤ length groups + 1
 
 -- one of those that are counted
-pub exists_by : (group : ℕ) (held : List Held) → 0 < count_by (λ pack. eqb pack.group group) held → (k : ℕ) × (k < length held) × ((d : Held) → (get_or held k d).group ≡ group)
+pub exists_by : (group : ℕ) (held : List Held) → 0 < count_by (λ pack. eqb pack.group group) held
+    → (k : ℕ) × (k < length held) × ((d : Held) → (get_or held k d).group ≡ group)
 exists_by group [] some = absurd (omega arith)
 exists_by group (h ∷ held) some =
     elim (cases_eq h.group group) [
       | inl same ↦ (0, omega arith, λ d. same)
       | inr differs ↦
-          let no : cond (eqb h.group group) (suc zero) zero ≡ zero = ap (λ b. cond b (suc zero) zero) (ne_eqb h.group group differs) in
-          let rest = exists_by group held (omega (arith, some, sum_by-cons (λ p. cond (eqb p.group group) 1 0) h held, no)) in
+          let no : cond (eqb h.group group) (suc zero) zero ≡ zero =
+          ap (λ b. cond b (suc zero) zero) (ne_eqb h.group group differs) in
+          let rest = exists_by group held
+          (omega (arith, some, sum_by-cons (λ p. cond (eqb p.group group) 1 0) h held, no)) in
           (suc rest.0, omega (arith, rest.1), λ d. rest.2 d)
     ]
 
 -- what holds of each pack that is seen
-unmap : (P : Pack → Type 0) (some : List Face) (held : List Held) → All P (map (seen some) held) → All (λ h. P (seen some h)) held
+unmap : (P : Pack → Type 0) (some : List Face) (held : List Held) → All P (map (seen some) held)
+    → All (λ h. P (seen some h)) held
 unmap P some held all k d within =
-    subst P (get_or-map (seen some) held k d (seen some d) within) (all k (seen some d) (omega (arith, within, length-map held (seen some))))
+    subst P (get_or-map (seen some) held k d (seen some d) within)
+    (all k (seen some d) (omega (arith, within, length-map held (seen some))))
 
-module _ (batches : List Batch) (groups : List Group) (held : List Held) (sound : Sound batches groups held)
+module _ (batches : List Batch) (groups : List Group) (held : List Held)
+    (sound : Sound batches groups held)
     (used : (place : ℕ) → place < length groups → 0 < count_by (λ pack. eqb pack.group place) held)
-    (key : Key) (tare : ℕ) (batch : Batch) (home : slice_get batches key.batch ≡ Some batch) (product : batch.product ≡ key.product) (light : pos tare ≤ℤ MAX_TARE)
-    (same_tare : All (λ pack. pack.batch ≡ key.batch → pack.day ≡ pos key.day → pack.tare ≡ pos tare) (map (seen (faces groups)) held)) where
+    (key : Key) (tare : ℕ) (batch : Batch) (home : slice_get batches key.batch ≡ Some batch)
+    (product : batch.product ≡ key.product) (light : pos tare ≤ℤ MAX_TARE)
+    (same_tare : All (λ pack. pack.batch ≡ key.batch → pack.day ≡ pos key.day
+    → pack.tare ≡ pos tare) (map (seen (faces groups)) held)) where
   -- a group that was there has this tare, by one of its packs
-  tare_of : (place : ℕ) (group : Group) → slice_get groups place ≡ Some group → group.key ≡ key → group.tare ≡ tare
+  tare_of : (place : ℕ) (group : Group) → slice_get groups place ≡ Some group → group.key ≡ key
+      → group.tare ≡ tare
   tare_of place group at own =
       let found = exists_by place held (used place (slice_get_within groups place group at)) in
-      let h : Held = get_or held found.0 (record { number = 0; group = 0; before = 0; gross = 0; pile = Rattle.pack_judge.specs.declared.types.Pile.TheVariants.Passed }) in
-      let face : nth_face (faces groups) h.group ≡ face_of group = ap (nth_face (faces groups)) (found.2 _) ∙ face-found groups place group at in
-      let told = unmap (λ pack. pack.batch ≡ key.batch → pack.day ≡ pos key.day → pack.tare ≡ pos tare) (faces groups) held same_tare found.0 (record { number = 0; group = 0; before = 0; gross = 0; pile = Rattle.pack_judge.specs.declared.types.Pile.TheVariants.Passed }) found.1
-      (ap (λ (f : Face). f.key.batch) face ∙ ap (λ k. k.batch) own) (ap (λ (f : Face). pos f.key.day) face ∙ ap (λ k. pos k.day) own) in
+      let h : Held = get_or held found.0
+      (record {
+        number = 0;
+        group = 0;
+        before = 0;
+        gross = 0;
+        pile =
+            Rattle.pack_judge.specs.declared.types.Pile.TheVariants.Passed;
+      }) in
+      let face : nth_face (faces groups) h.group ≡ face_of group =
+      ap (nth_face (faces groups)) (found.2 _) ∙ face-found groups place group at in
+      let told = unmap (λ pack. pack.batch ≡ key.batch → pack.day ≡ pos key.day
+      → pack.tare ≡ pos tare) (faces groups) held same_tare found.0
+      (record {
+        number = 0;
+        group = 0;
+        before = 0;
+        gross = 0;
+        pile =
+            Rattle.pack_judge.specs.declared.types.Pile.TheVariants.Passed;
+      }) found.1
+      (ap (λ (f : Face). f.key.batch) face ∙ ap (λ k. k.batch) own)
+      (ap (λ (f : Face). pos f.key.day) face ∙ ap (λ k. pos k.day) own) in
       let both : pos group.tare ≡ pos tare = sym (ap (λ (f : Face). pos f.tare) face) ∙ told in
       cc
 
-  pub ready : (after : List Group) (place : ℕ) → ((after ≡ groups) × HasKey groups place key) ⊎ IsOpened groups after place key tare → IsReady batches groups held after place key tare
+  pub ready : (after : List Group) (place : ℕ) → ((after ≡ groups) × HasKey groups place key)
+      ⊎ IsOpened groups after place key tare → IsReady batches groups held after place key tare
   ready after place (inl found) =
       let group = found.1.0 in
       let at = found.1.1 in
@@ -89,15 +120,24 @@ module _ (batches : List Batch) (groups : List Group) (held : List Held) (sound 
       let group = opened.group in
       let key_is : group.key ≡ key = ap (λ (f : Face). f.key) opened.face in
       let tare_is : group.tare ≡ tare = ap (λ (f : Face). f.tare) opened.face in
-      let there = subst (λ n. All (λ h. h.group < n) held) (sym (length-map groups face_of)) sound.grouped in
-      let more : length after ≡ length groups + 1 = omega (arith, ap length opened.is, length-append groups (group ∷ [])) in
+      let there = subst (λ n. All (λ h. h.group < n) held)
+      (sym (length-map groups face_of)) sound.grouped in
+      let more : length after ≡ length groups + 1 =
+      omega (arith, ap length opened.is, length-append groups (group ∷ [])) in
       record {
         sound = subst (λ gs. Sound batches gs held) (sym opened.is)
-            (sound_opened batches groups held sound group batch (ap (λ k. slice_get batches k.batch) key_is ∙ home) (product ∙ sym (ap (λ k. k.product) key_is)) (subst (λ t. pos t ≤ℤ MAX_TARE) (sym tare_is) light) opened.grosses opened.nonstandard opened.inadequate);
+            (sound_opened batches groups held sound group batch
+            (ap (λ k. slice_get batches k.batch) key_is ∙ home)
+            (product ∙ sym (ap (λ k. k.product) key_is))
+            (subst (λ t. pos t ≤ℤ MAX_TARE) (sym tare_is) light) opened.grosses
+            opened.nonstandard opened.inadequate);
         group = group;
-        at = ap (λ gs. slice_get gs place) opened.is ∙ ap (slice_get (groups ++ group ∷ [])) opened.place_is ∙ get-append_new groups group;
+        at = ap (λ gs. slice_get gs place) opened.is
+            ∙ ap (slice_get (groups ++ group ∷ [])) opened.place_is ∙ get-append_new groups group;
         face = opened.face;
-        same = ap (λ gs. map (seen (faces gs)) held) opened.is ∙ ap (λ fs. map (seen fs) held) (faces-push groups group) ∙ seen_more (faces groups) (face_of group) held there;
+        same = ap (λ gs. map (seen (faces gs)) held) opened.is
+            ∙ ap (λ fs. map (seen fs) held) (faces-push groups group)
+            ∙ seen_more (faces groups) (face_of group) held there;
         used = λ other within.
             elim (cases_lt other (length groups)) [
               | inl less ↦ inl (used other less)
@@ -107,21 +147,38 @@ module _ (batches : List Batch) (groups : List Group) (held : List Held) (sound 
       }
 
 -- a number that isn't among the packs stands beside none of them
-pub none_numbered : (number : ℕ) (held : List Held) → list_any (λ other. eqb number other) (map (λ p. p.number) held) ≡ false → count_by (λ p. eqb p.number number) held ≡ 0
+pub none_numbered : (number : ℕ) (held : List Held)
+    → list_any (λ other. eqb number other) (map (λ p. p.number) held) ≡ false
+    → count_by (λ p. eqb p.number number) held ≡ 0
 none_numbered number [] none = refl
 none_numbered number (h ∷ held) none =
     elim (cases_eq number h.number) [
-      | inl same ↦ absurd (Rattle.std.proofs.Common.true≢false (sym (ap (λ b. b || list_any (λ other. eqb number other) (map (λ p. p.number) held)) (eq-eqb number h.number same)) ∙ none))
+      | inl same ↦
+          absurd (Rattle.std.proofs.Common.true≢false
+          (sym (ap (λ b. b || list_any (λ other. eqb number other) (map (λ p. p.number) held))
+          (eq-eqb number h.number same)) ∙ none))
       | inr differs ↦
-          let rest = sym (ap (λ b. b || list_any (λ other. eqb number other) (map (λ p. p.number) held)) (ne_eqb number h.number differs)) ∙ none in
-          let no : cond (eqb h.number number) (suc zero) zero ≡ zero = ap (λ b. cond b (suc zero) zero) (ne_eqb h.number number (λ same. differs (sym same))) in
-          omega (arith, sum_by-cons (λ p. cond (eqb p.number number) 1 0) h held, no, none_numbered number held rest)
+          let rest = sym
+          (ap (λ b. b || list_any (λ other. eqb number other) (map (λ p. p.number) held))
+          (ne_eqb number h.number differs)) ∙ none in
+          let no : cond (eqb h.number number) (suc zero) zero ≡ zero =
+          ap (λ b. cond b (suc zero) zero)
+          (ne_eqb h.number number (λ same. differs (sym same))) in
+          omega (
+            arith,
+            sum_by-cons (λ p. cond (eqb p.number number) 1 0) h held,
+            no,
+            none_numbered number held rest,
+          )
     ]
 
-module _ (batches : List Batch) (groups : List Group) (held : List Held) (after : List Group) (place : ℕ) (key : Key) (tare : ℕ) (ready : IsReady batches groups held after place key tare)
-    (group : Group) (read : group ≡ get_or after place group) (batch : Batch) (home : slice_get batches key.batch ≡ Some batch) where
+module _ (batches : List Batch) (groups : List Group) (held : List Held) (after : List Group)
+    (place : ℕ) (key : Key) (tare : ℕ) (ready : IsReady batches groups held after place key tare)
+    (group : Group) (read : group ≡ get_or after place group) (batch : Batch)
+    (home : slice_get batches key.batch ≡ Some batch) where
   pub at_here : slice_get after place ≡ Some group
-  at_here = slice_get_read after (length after) place group refl (slice_get_within after place ready.group ready.at) read
+  at_here = slice_get_read after (length after) place group refl
+      (slice_get_within after place ready.group ready.at) read
 
   pub face_here : face_of group ≡ record { key = key; tare = tare }
   face_here = ap face_of (sym (same_Some ready.group group (sym ready.at ∙ at_here))) ∙ ready.face
@@ -133,12 +190,16 @@ module _ (batches : List Batch) (groups : List Group) (held : List Held) (after 
   kept_here = ready.sound.group place group at_here
 
   pub judged_here : IsJudged batch.limits group
-  judged_here = subst (λ (b : Batch). IsJudged b.limits group) (same_Some kept_here.batch batch (sym kept_here.is ∙ at_home)) kept_here.judged
+  judged_here = subst (λ (b : Batch). IsJudged b.limits group)
+      (same_Some kept_here.batch batch (sym kept_here.is ∙ at_home)) kept_here.judged
 
   pub few_here : length held + 1 < 4294967296 → length group.grosses + 1 < 4294967296
   few_here few = omega (arith, few, few_grosses place held group.grosses kept_here.grosses)
 
-  module _ (h : Held) (own : h.group ≡ place) (light : pos h.gross ≤ℤ MAX_GROSS) (few : length held + 1 < 4294967296) (new : Batch) (enters : IsEntered batch new h.pile h.gross tare) (next : Group) (takes : HasMoreIf (is_counted h.pile) h.gross group.grosses next.grosses)
+  module _ (h : Held) (own : h.group ≡ place) (light : pos h.gross ≤ℤ MAX_GROSS)
+      (few : length held + 1 < 4294967296) (new : Batch)
+      (enters : IsEntered batch new h.pile h.gross tare) (next : Group)
+      (takes : HasMoreIf (is_counted h.pile) h.gross group.grosses next.grosses)
       (face_next : face_of next ≡ face_of group) (judged_next : IsJudged new.limits next) where
     pub sound_put : Sound (set batches key.batch new) (set after place next) (held ++ h ∷ [])
     sound_put =
@@ -146,20 +207,36 @@ module _ (batches : List Batch) (groups : List Group) (held : List Held) (after 
         let within : h.group < length after = slice_get_within after h.group group at in
         let grouped = All-push (λ p. p.group < length after) held h ready.sound.grouped within in
         let lighter = All-push (λ p. pos p.gross ≤ℤ MAX_GROSS) held h ready.sound.light light in
-        let longer : length (held ++ h ∷ []) < 4294967296 = omega (arith, length-append held (h ∷ []), few) in
-        let there = subst (λ t. IsEntered batch new h.pile h.gross t) (sym (ap (λ (f : Face). f.tare) face_here)) enters in
-        let whole = sound_in batches after held (held ++ h ∷ []) h (joins_push held h) group next batch new at at_home face_next judged_next there takes grouped lighter longer ready.sound in
-        subst (λ n. Sound (set batches n new) (set after place next) (held ++ h ∷ [])) (ap (λ (f : Face). f.key.batch) face_here)
-        (subst (λ n. Sound (set batches group.key.batch new) (set after n next) (held ++ h ∷ [])) own whole)
+        let longer : length (held ++ h ∷ []) < 4294967296 =
+        omega (arith, length-append held (h ∷ []), few) in
+        let there = subst (λ t. IsEntered batch new h.pile h.gross t)
+        (sym (ap (λ (f : Face). f.tare) face_here)) enters in
+        let whole = sound_in batches after held (held ++ h ∷ []) h
+        (joins_push held h) group next batch new at at_home face_next judged_next there takes
+        grouped lighter longer ready.sound in
+        subst (λ n. Sound (set batches n new) (set after place next) (held ++ h ∷ []))
+        (ap (λ (f : Face). f.key.batch) face_here)
+        (subst (λ n. Sound (set batches group.key.batch new) (set after n next) (held ++ h ∷ []))
+        own whole)
 
     pub faces_put : faces (set after place next) ≡ faces after
     faces_put = faces-set after place group next at_here face_next
 
-    pub settled_put : (order : Tree ℕ) (numbers old : List ℕ) → IsBalanced order → IsIndex (faces after) (items order) → length groups ≤ length held → old ≡ map (λ p. p.number) held → ((number : ℕ) → count_by (λ p. eqb p.number number) held ≤ 1)
-        → list_any (λ other. eqb h.number other) old ≡ false → numbers ≡ insert_key eqb old h.number → IsChained (reaches_of (set batches key.batch new)) (homes_of (map (seen (faces (set after place next))) (held ++ h ∷ []))) (befores_of (held ++ h ∷ [])) → IsSettled (set batches key.batch new) (set after place next) order (held ++ h ∷ []) numbers
+    pub settled_put : (order : Tree ℕ) (numbers old : List ℕ) → IsBalanced order
+        → IsIndex (faces after) (items order) → length groups ≤ length held
+        → old ≡ map (λ p. p.number) held
+        → ((number : ℕ) → count_by (λ p. eqb p.number number) held ≤ 1)
+        → list_any (λ other. eqb h.number other) old ≡ false → numbers ≡ insert_key eqb old h.number
+        → IsChained (reaches_of (set batches key.batch new))
+        (homes_of (map (seen (faces (set after place next))) (held ++ h ∷ [])))
+        (befores_of (held ++ h ∷ [])) → IsSettled (set batches key.batch new)
+        (set after place next) order (held ++ h ∷ []) numbers
     settled_put order numbers old balanced index small numbered apart none inserted chained =
-        let absent = none_numbered h.number held (ap (λ ns. list_any (λ other. eqb h.number other) ns) (sym numbered) ∙ none) in
-        let counted : (test : Held → Bool) → count_by test (held ++ h ∷ []) ≡ count_by test held + cond (test h) 1 0 = λ test. sum_by_push (λ p. cond (test p) 1 0) held h in
+        let absent = none_numbered h.number held
+        (ap (λ ns. list_any (λ other. eqb h.number other) ns) (sym numbered) ∙ none) in
+        let counted : (test : Held → Bool)
+        → count_by test (held ++ h ∷ []) ≡ count_by test held + cond (test h) 1 0 =
+        λ test. sum_by_push (λ p. cond (test p) 1 0) held h in
         record {
           sound = sound_put;
           balanced = balanced;
@@ -168,44 +245,109 @@ module _ (batches : List Batch) (groups : List Group) (held : List Held) (after 
               elim (ready.used other (omega (arith, within, length-set after place next))) [
                 | inl some ↦ omega (arith, some, counted (λ p. eqb p.group other))
                 | inr same ↦
-                    let one : cond (eqb h.group other) (suc zero) zero ≡ suc zero = ap (λ b. cond b (suc zero) zero) (eq-eqb h.group other (own ∙ same)) in
+                    let one : cond (eqb h.group other) (suc zero) zero ≡ suc zero =
+                    ap (λ b. cond b (suc zero) zero) (eq-eqb h.group other (own ∙ same)) in
                     omega (arith, one, counted (λ p. eqb p.group other))
               ];
-          small = omega (arith, small, ready.long, length-set after place next, length-append held (h ∷ []));
+          small = omega (
+            arith,
+            small,
+            ready.long,
+            length-set after place next,
+            length-append held (h ∷ []),
+          );
           apart = λ number.
               elim (cases_eq h.number number) [
                 | inl same ↦
-                    let one : cond (eqb h.number number) (suc zero) zero ≡ suc zero = ap (λ b. cond b (suc zero) zero) (eq-eqb h.number number same) in
-                    omega (arith, one, counted (λ p. eqb p.number number), subst (λ n. count_by (λ p. eqb p.number n) held ≡ 0) same absent)
+                    let one : cond (eqb h.number number) (suc zero) zero ≡ suc zero =
+                    ap (λ b. cond b (suc zero) zero) (eq-eqb h.number number same) in
+                    omega (
+                      arith,
+                      one,
+                      counted (λ p. eqb p.number number),
+                      subst (λ n. count_by (λ p. eqb p.number n) held ≡ 0) same absent,
+                    )
                 | inr differs ↦
-                    let no : cond (eqb h.number number) (suc zero) zero ≡ zero = ap (λ b. cond b (suc zero) zero) (ne_eqb h.number number differs) in
+                    let no : cond (eqb h.number number) (suc zero) zero ≡ zero =
+                    ap (λ b. cond b (suc zero) zero) (ne_eqb h.number number differs) in
                     omega (arith, no, counted (λ p. eqb p.number number), apart number)
               ];
-          numbered = inserted ∙ ap (λ b. cond b old (old ++ h.number ∷ [])) none ∙ ap (λ ns. ns ++ h.number ∷ []) numbered ∙ sym (map-append (λ (p : Held). p.number) held (h ∷ []));
+          numbered = inserted ∙ ap (λ b. cond b old (old ++ h.number ∷ [])) none
+              ∙ ap (λ ns. ns ++ h.number ∷ []) numbered
+              ∙ sym (map-append (λ (p : Held). p.number) held (h ∷ []));
           chained = chained;
         }
 
-    pub packs_put : map (seen (faces (set after place next))) (held ++ h ∷ []) ≡ map (seen (faces groups)) held ++ record { number = h.number; batch = key.batch; day = pos key.day; gross = pos h.gross; tare = pos tare; pile = h.pile } ∷ []
+    pub packs_put : map (seen (faces (set after place next))) (held ++ h ∷ [])
+        ≡ map (seen (faces groups)) held
+        ++ record {
+          number = h.number;
+          batch = key.batch;
+          day = pos key.day;
+          gross = pos h.gross;
+          tare = pos tare;
+          pile = h.pile;
+        } ∷ []
     packs_put =
-        let face : nth_face (faces after) h.group ≡ record { key = key; tare = tare } = ap (nth_face (faces after)) own ∙ face-found after place group at_here ∙ face_here in
-        ap (λ fs. map (seen fs) (held ++ h ∷ [])) faces_put ∙ map-append (seen (faces after)) held (h ∷ [])
-        ∙ (λ i. ready.same i ++ record { number = h.number; batch = (face i).key.batch; day = pos (face i).key.day; gross = pos h.gross; tare = pos (face i).tare; pile = h.pile } ∷ [])
+        let face : nth_face (faces after) h.group ≡ record { key = key; tare = tare } =
+        ap (nth_face (faces after)) own ∙ face-found after place group at_here ∙ face_here in
+        ap (λ fs. map (seen fs) (held ++ h ∷ [])) faces_put
+        ∙ map-append (seen (faces after)) held (h ∷ [])
+        ∙ (λ i. ready.same i ++ record {
+          number = h.number;
+          batch = (face i).key.batch;
+          day = pos (face i).key.day;
+          gross =
+              pos h.gross;
+          tare = pos (face i).tare;
+          pile = h.pile;
+        } ∷ [])
 
-    pub chained_with : (read : Batch) → slice_get batches key.batch ≡ Some read → h.before ≡ read.reach → new.reach ≡ length held + 1 → IsChained (reaches_of batches) (homes_of (map (seen (faces groups)) held)) (befores_of held)
-        → IsChained (reaches_of (set batches key.batch new)) (homes_of (map (seen (faces (set after place next))) (held ++ h ∷ []))) (befores_of (held ++ h ∷ []))
+    pub chained_with : (read : Batch) → slice_get batches key.batch ≡ Some read
+        → h.before ≡ read.reach → new.reach ≡ length held + 1
+        → IsChained (reaches_of batches) (homes_of (map (seen (faces groups)) held))
+        (befores_of held)
+        → IsChained (reaches_of (set batches key.batch new))
+        (homes_of (map (seen (faces (set after place next))) (held ++ h ∷ [])))
+        (befores_of (held ++ h ∷ []))
     chained_with read is before reach chained =
         let packs = map (seen (faces groups)) held in
-        let there : key.batch < length (reaches_of batches) = omega (arith, slice_get_within batches key.batch read is, length-map batches (λ (b : Batch). b.reach)) in
-        let long : length (befores_of held) ≡ length (homes_of packs) = omega (arith, length-map held (λ (p : Held). p.before), length-map packs (λ (p : Pack). p.batch), length-map held (seen (faces groups))) in
-        let count : length (homes_of packs) + 1 ≡ new.reach = omega (arith, reach, length-map packs (λ (p : Pack). p.batch), length-map held (seen (faces groups))) in
-        let old : get_or (reaches_of batches) key.batch 0 ≡ h.before = get_or_from_slice_get (reaches_of batches) key.batch read.reach 0 (slice_get-map (λ (b : Batch). b.reach) batches key.batch ∙ ap (option_map (λ (b : Batch). b.reach)) is) ∙ sym before in
-        chained_as _ _ _ _ _ _ (map-set (λ (b : Batch). b.reach) batches key.batch new ∙ ap (λ n. set (reaches_of batches) key.batch n) (sym count))
+        let there : key.batch < length (reaches_of batches) =
+        omega (
+          arith,
+          slice_get_within batches key.batch read is,
+          length-map batches (λ (b : Batch). b.reach),
+        ) in
+        let long : length (befores_of held) ≡ length (homes_of packs) =
+        omega (
+          arith,
+          length-map held (λ (p : Held). p.before),
+          length-map packs (λ (p : Pack). p.batch),
+          length-map held (seen (faces groups)),
+        ) in
+        let count : length (homes_of packs) + 1 ≡ new.reach =
+        omega (
+          arith,
+          reach,
+          length-map packs (λ (p : Pack). p.batch),
+          length-map held (seen (faces groups)),
+        ) in
+        let old : get_or (reaches_of batches) key.batch 0 ≡ h.before =
+        get_or_from_slice_get (reaches_of batches) key.batch read.reach 0
+        (slice_get-map (λ (b : Batch). b.reach) batches key.batch
+        ∙ ap (option_map (λ (b : Batch). b.reach)) is) ∙ sym before in
+        chained_as _ _ _ _ _ _ (map-set (λ (b : Batch). b.reach) batches key.batch new
+        ∙ ap (λ n. set (reaches_of batches) key.batch n) (sym count))
         (ap homes_of packs_put ∙ map-append (λ (p : Pack). p.batch) packs _)
-        (map-append (λ (p : Held). p.before) held (h ∷ []) ∙ ap (λ n. befores_of held ++ n ∷ []) (sym old))
-        (chained_put (reaches_of batches) (homes_of packs) (befores_of held) chained key.batch there long)
+        (map-append (λ (p : Held). p.before) held (h ∷ [])
+        ∙ ap (λ n. befores_of held ++ n ∷ []) (sym old))
+        (chained_put (reaches_of batches) (homes_of packs)
+        (befores_of held) chained key.batch there long)
 
 -- a batch that a pack comes into, whatever it knew of how far its packs reach
-pub entered_from : (before : Batch) (reach : ℕ) (after : Batch) (pile : Pile) (mass tare : ℕ) → IsEntered (record before { reach = reach }) after pile mass tare → IsEntered before after pile mass tare
+pub entered_from : (before : Batch) (reach : ℕ) (after : Batch) (pile : Pile) (mass tare : ℕ)
+    → IsEntered (record before { reach = reach }) after pile mass tare
+    → IsEntered before after pile mass tare
 entered_from before reach after pile mass tare entered =
     record {
       count = entered.count;
@@ -217,6 +359,14 @@ entered_from before reach after pile mass tare entered =
       limits = entered.limits;
     }
 
-pub room_from : (before : Batch) (reach : ℕ) (pile : Pile) → HasRoom before pile → HasRoom (record before { reach = reach }) pile
+pub room_from : (before : Batch) (reach : ℕ) (pile : Pile) → HasRoom before pile
+    → HasRoom (record before { reach = reach }) pile
 room_from before reach pile room =
-    record { count = room.count; gross = room.gross; tares = room.tares; nonstandard = room.nonstandard; inadequate = room.inadequate }
+    record {
+      count = room.count;
+      gross = room.gross;
+      tares = room.tares;
+      nonstandard =
+          room.nonstandard;
+      inadequate = room.inadequate;
+    }

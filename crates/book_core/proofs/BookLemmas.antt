@@ -18,7 +18,8 @@ use Rattle.book_core.specs.BookInvariant.{pending_entry, IsKept}
 use Rattle.book_core.proofs.DecisionLemmas.{is_free, has_room, all_rules, lawful_answer}
 
 -- what is ready over a list is ready over the same list with at least as much room
-ready_on : (old new : StateView) (ready : ReadyEntry) (drawn : Drawn) → new.entries ≡ old.entries → old.spare ≤ new.spare → IsReadyIn old ready drawn → IsReadyIn new ready drawn
+ready_on : (old new : StateView) (ready : ReadyEntry) (drawn : Drawn) → new.entries ≡ old.entries
+    → old.spare ≤ new.spare → IsReadyIn old ready drawn → IsReadyIn new ready drawn
 ready_on old new ready drawn same more is =
     record {
       number = is.number ∙ ap (λ (es : List Entry). length es + 1) (sym same);
@@ -28,7 +29,9 @@ ready_on old new ready drawn same more is =
     }
 
 -- so a book is kept where its list stays and its room doesn't shrink
-pub kept_on : (old new : StateView) (limit : ℕ) (pending : Option Pending) → new.entries ≡ old.entries → old.spare ≤ new.spare → IsKept old limit pending → IsKept new limit pending
+pub kept_on : (old new : StateView) (limit : ℕ) (pending : Option Pending)
+    → new.entries ≡ old.entries → old.spare ≤ new.spare → IsKept old limit pending
+    → IsKept new limit pending
 kept_on old new limit pending same more kept =
     record {
       legal = subst IsLegal (sym same) kept.legal;
@@ -40,13 +43,17 @@ some_is : {A : Type 0} {a b : A} → Some a ≡ Some b → a ≡ b
 some_is h = cc
 
 -- what is held is what was made ready
-pub held_is : (state : StateView) (limit : ℕ) (pending : Option Pending) (held : Pending) (ready : ReadyEntry) → IsKept state limit pending → pending ≡ Some held → pending_entry pending ≡ Some ready
+pub held_is : (state : StateView) (limit : ℕ) (pending : Option Pending) (held : Pending)
+    (ready : ReadyEntry) → IsKept state limit pending → pending ≡ Some held
+    → pending_entry pending ≡ Some ready
     → IsReadyIn state ready held.drawn
 held_is state limit pending held ready kept is told =
-    subst (λ (r : ReadyEntry). IsReadyIn state r held.drawn) (some_is (sym (ap pending_entry is) ∙ told)) (kept.ready held is)
+    subst (λ (r : ReadyEntry). IsReadyIn state r held.drawn)
+    (some_is (sym (ap pending_entry is) ∙ told)) (kept.ready held is)
 
 -- a book with one lawful entry more, and nothing ready
-pub entered : (new : StateView) (entries : List Entry) (entry : Entry) (limit : ℕ) (pending : Option Pending) → new.entries ≡ entries ++ entry ∷ [] → pending ≡ None
+pub entered : (new : StateView) (entries : List Entry) (entry : Entry) (limit : ℕ)
+    (pending : Option Pending) → new.entries ≡ entries ++ entry ∷ [] → pending ≡ None
     → IsLegal entries → IsLawful entries entry → limit ≤ MAX_ROWS → IsKept new limit pending
 entered new entries entry limit pending more none legal lawful most =
     record {
@@ -59,8 +66,10 @@ entered new entries entry limit pending more none legal lawful most =
     never held h = cc
 
 -- an act that is decided to be new is lawful as the entry that it will be
-pub new_is_lawful : (limit : ℕ) (entries : List Entry) (by desk request : ℕ) (act : Act) (signal : Option Signal) → limit ≤ MAX_ROWS
-    → decision limit entries (asked_act desk request act) act ≡ Ok None → signal ≡ recorded_signal entries act
+pub new_is_lawful : (limit : ℕ) (entries : List Entry) (by desk request : ℕ) (act : Act)
+    (signal : Option Signal) → limit ≤ MAX_ROWS
+    → decision limit entries (asked_act desk request act) act ≡ Ok None
+    → signal ≡ recorded_signal entries act
     → IsLawful entries (record { by = by; desk = desk; request = request; act = act; signal = signal })
 new_is_lawful limit entries by desk request act signal most found is =
     let free = is_free limit entries (asked_act desk request act) act found in
@@ -73,23 +82,31 @@ new_is_lawful limit entries by desk request act signal most found is =
     }
 
 -- a book keeps a lawful entry ready for which it has room and has drawn
-pub holds : (state : StateView) (limit : ℕ) (held : Pending) (entry : Entry) → IsLegal state.entries → limit ≤ MAX_ROWS
-    → held.ready ≡ record { number = length state.entries + 1; entry = entry } → IsLawful state.entries entry → 0 < state.spare → held.drawn ≡ drawn_by state.entries entry.act
+pub holds : (state : StateView) (limit : ℕ) (held : Pending) (entry : Entry) → IsLegal state.entries
+    → limit ≤ MAX_ROWS
+    → held.ready ≡ record { number = length state.entries + 1; entry = entry }
+    → IsLawful state.entries entry → 0 < state.spare
+    → held.drawn ≡ drawn_by state.entries entry.act
     → IsKept state limit (Some held)
 holds state limit held entry legal most same lawful room drawn =
     record {
       legal = legal;
       most = most;
       ready = λ other there. subst (λ (p : Pending). IsReadyIn state p.ready p.drawn) (some_is there)
-          (subst (λ (r : ReadyEntry). IsReadyIn state r held.drawn) (sym same) (record { number = refl; lawful = lawful; room = room; drawn_is = drawn }));
+          (subst (λ (r : ReadyEntry). IsReadyIn state r held.drawn) (sym same)
+          (record { number = refl; lawful = lawful; room = room; drawn_is = drawn }));
     }
 
 -- what is entered is answered as in a book of the most rows
-pub entered_answer : (state : StateView) (entries : List Entry) (ready : ReadyEntry) (drawn : Drawn) (entry : Entry) (number : ℕ) (reply : Reply) → IsReadyIn state ready drawn → state.entries ≡ entries
+pub entered_answer : (state : StateView) (entries : List Entry) (ready : ReadyEntry) (drawn : Drawn)
+    (entry : Entry) (number : ℕ) (reply : Reply) → IsReadyIn state ready drawn
+    → state.entries ≡ entries
     → entry ≡ ready.entry → number ≡ ready.number → reply ≡ reply_behind state.entries entry.act
-    → Ok (record { at = number; reply = reply }) ≡ act_answer MAX_ROWS entries (ask_of ready.entry) ready.entry.act
+    → Ok (record { at = number; reply = reply })
+    ≡ act_answer MAX_ROWS entries (ask_of ready.entry) ready.entry.act
 entered_answer state entries ready drawn entry number reply is same entry_is number_is told =
     ap (λ n. Ok (record { at = n; reply = reply })) (number_is ∙ is.number)
-    ∙ ap (λ (r : Reply). Ok (record { at = length state.entries + 1; reply = r })) (told ∙ ap (λ (e : Entry). reply_behind state.entries e.act) entry_is)
+    ∙ ap (λ (r : Reply). Ok (record { at = length state.entries + 1; reply = r }))
+    (told ∙ ap (λ (e : Entry). reply_behind state.entries e.act) entry_is)
     ∙ sym (lawful_answer state.entries ready.entry is.lawful)
     ∙ ap (λ (es : List Entry). act_answer MAX_ROWS es (ask_of ready.entry) ready.entry.act) same

@@ -1,3 +1,4 @@
+pub mod AskErrors
 pub mod View
 pub mod Steps
 pub mod ReadyFacts

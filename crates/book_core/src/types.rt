@@ -1,5 +1,5 @@
 use crate::ready::Ready;
-use book_words::{Answered, Refused};
+use book_words::{Answered, AskError, Refused};
 use std::alloc::AllocError;
 
 /// Memory was refused.
@@ -21,6 +21,20 @@ pub enum BookError {
     Refused(Refused),
     /// Memory was refused.
     NoMemory,
+}
+
+impl From<BookError> for AskError {
+    ghost use Rattle.std.specs.Prelude.{◌≡◌};
+    ghost use Rattle.book_core.specs.AskErrors.{ask_error};
+
+    ghost from_gives = { λ why error. error ≡ ask_error why };
+
+    fn from(why: BookError) -> Self {
+        match why {
+            BookError::Refused(refused) => AskError::Refused(refused),
+            BookError::NoMemory => AskError::NoMemory,
+        }
+    }
 }
 
 /// Why an entry isn't taken as it stands.

@@ -18,13 +18,16 @@ one_then_same a b h =
     let parts = and_parts (a.len == b.len) (bytes_eq a.places b.places) h in
     let len : a.len ≡ b.len = eqb-true a.len b.len parts.0 in
     let places : a.places ≡ b.places = (bytes_eq-Decides a.places b.places).0 parts.1 in
-    (bytes_eq-Decides (bytes_of a) (bytes_of b)).1 (ap (λ n. take n a.places) len ∙ ap (take b.len) places)
+    (bytes_eq-Decides (bytes_of a) (bytes_of b)).1
+    (ap (λ n. take n a.places) len ∙ ap (take b.len) places)
 
 itself : (a : Name) → is_one a a ≡ true
-itself a = and_from (a.len == a.len) (bytes_eq a.places a.places) (eq-eqb a.len a.len refl) ((bytes_eq-Decides a.places a.places).1 refl)
+itself a = and_from (a.len == a.len) (bytes_eq a.places a.places) (eq-eqb a.len a.len refl)
+    ((bytes_eq-Decides a.places a.places).1 refl)
 
 pub one_is_same : (a b : Name) → is_one a b ≡ same_name a b
-one_is_same a b = bool_same (is_one a b) (same_name a b) (one_then_same a b) (λ h. subst (λ c. is_one a c ≡ true) (same_name_is a b h) (itself a))
+one_is_same a b = bool_same (is_one a b) (same_name a b) (one_then_same a b)
+    (λ h. subst (λ c. is_one a c ≡ true) (same_name_is a b h) (itself a))
 
 -- the same either way round
 pub same_name_swap : (a b : Name) → same_name a b ≡ same_name b a

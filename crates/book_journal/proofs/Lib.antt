@@ -1,3 +1,4 @@
+pub mod AskedBytes
 pub mod BehindGate
 pub mod Calls
 pub mod Contents

@@ -103,3 +103,8 @@ IsCauseOf disk (NotJournal place) old new = IsForeign disk place old new
 abbrev pub opening_cost : Option Kept → ℕ → ℕ
 opening_cost None count = OPENING_BYTES + ROW_BYTES * (count + PIECE_SLOTS)
 opening_cost (Some kept) count = OPENING_BYTES + SLOT_COST * (count - kept.rows)
+
+-- a disk of these bytes was asked for at most what opening it with all of its rows costs
+abbrev pub AsksFew : List ℕ → ℕ → ℕ → Type 0
+AsksFew bytes before now = (kept : Option Kept) → IsSnapshotOf bytes kept
+    → now ≤ before + opening_cost kept (rows_before kept + slots_behind (rows_before kept) bytes)

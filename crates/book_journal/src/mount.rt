@@ -1,10 +1,10 @@
-ghost use Rattle.std.specs.Prelude.{◌≡◌, ◌⊎◌, ◌+◌, ◌*◌, ◌<◌, ◌≤◌, ℕ, List, IfOk, IfErr, IsErr, MatchResult, length};
+ghost use Rattle.std.specs.Prelude.{◌≡◌, ◌⊎◌, ◌+◌, ◌*◌, ◌<◌, ◌≤◌, ℕ, List, IfOk, IfErr, OnErr, IsErr, MatchResult, length};
 ghost use Rattle.device_facts.specs.Known.{TellsAsBefore};
 ghost use Rattle.disk_core.specs.Disk.{WhereTold, Only};
 ghost use Rattle.disk_core.specs.Devices.{IsUnmoved, LeavesOnly};
 ghost use Rattle.book_journal.specs.Rows.{Recovers};
 ghost use Rattle.book_journal.specs.Ends.{IsSized};
-ghost use Rattle.book_journal.specs.Mounting.{IsMounted, IsCauseOf, KeepsFromSync, opening_cost};
+ghost use Rattle.book_journal.specs.Mounting.{IsMounted, IsCauseOf, KeepsFromSync, opening_cost, AsksFew};
 
 use crate::header::difference;
 use crate::journal::Journal;
@@ -38,6 +38,8 @@ fn open<D: Disk>(disk: &mut D) -> Result<Found, JournalFault>
         (λ why. IsCauseOf D.Disk why disk.old disk.new) }
     ensures asked { IfOk result (λ found.
         D.asked disk.new ≤ D.asked disk.old + opening_cost found.kept found.count) }
+    ensures asked_refused { WhereTold (D.reads disk.old) (λ bytes.
+        OnErr result (AsksFew bytes (D.asked disk.old) (D.asked disk.new))) }
 {
     let size = disk.len()?;
     if size < ROW_BYTES as u64 {
@@ -77,6 +79,8 @@ fn start<D: Disk>(disk: &mut D) -> Result<Found, JournalFault>
         (λ why. IsCauseOf D.Disk why disk.old disk.new) }
     ensures asked { IfOk result (λ found.
         D.asked disk.new ≤ D.asked disk.old + opening_cost found.kept found.count) }
+    ensures asked_refused { WhereTold (D.reads disk.old) (λ bytes.
+        OnErr result (AsksFew bytes (D.asked disk.old) (D.asked disk.new))) }
 {
     disk.sync()?;
     let found = open(disk)?;
@@ -116,6 +120,8 @@ impl<D: Disk> Journal<D> {
             (λ refused. IsCauseOf D.Disk refused.why disk refused.disk) }
         ensures asked { IfOk result (λ journal. D.asked (disk_of journal) ≤
             D.asked disk + opening_cost (kept_of journal) (count_of journal)) }
+        ensures asked_refused { WhereTold (D.reads disk) (λ bytes. IfErr result (λ refused.
+            AsksFew bytes (D.asked disk) (D.asked refused.disk))) }
         ensures tells { MatchResult result
             (λ journal. TellsAsBefore (D.reads disk) (D.reads (disk_of journal)))
             (λ refused. TellsAsBefore (D.reads disk) (D.reads refused.disk)) }

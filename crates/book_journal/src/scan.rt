@@ -1,10 +1,10 @@
-ghost use Rattle.std.specs.Prelude.{◌≡◌, ◌≢◌, ◌+◌, ◌*◌, is_some, if◌then◌else◌, ◌<◌, ◌≤◌, ℕ, List, [], Some, MatchOption, MatchResult, IfOk, IfErr, OnOk, length, slice_index};
+ghost use Rattle.std.specs.Prelude.{◌≡◌, ◌≢◌, ◌+◌, ◌*◌, is_some, if◌then◌else◌, ◌<◌, ◌≤◌, ℕ, List, [], Some, MatchOption, MatchResult, IfOk, OnOk, OnErr, length, slice_index};
 ghost use Rattle.device_facts.specs.Count.{CountsFault};
 ghost use Rattle.device_facts.specs.Known.{TellsAsBefore};
 ghost use Rattle.disk_core.specs.Disk.{WhereTold, Only};
 ghost use Rattle.disk_core.specs.Devices.{IsUnmoved, LeavesOnly};
 ghost use Rattle.book_journal.specs.Rows.{HasHeader, FirstDiffersAt, Recovers, mark_of};
-ghost use Rattle.book_journal.specs.Mounting.{new_journal, FindsJournal, rows_before, opening_cost};
+ghost use Rattle.book_journal.specs.Mounting.{new_journal, FindsJournal, rows_before, opening_cost, AsksFew};
 ghost use Rattle.book_journal.specs.Ends.{IsSized};
 ghost use Rattle.book_journal.specs.Scanning.{IsFront};
 
@@ -51,6 +51,8 @@ pub(crate) fn scan<D: Disk>(disk: &mut D, size: u64, mark: u8) -> Result<Found, 
     ensures cause { CountsFault (D.faults disk.old) (D.faults disk.new) result }
     ensures asked { IfOk result (λ found.
         D.asked disk.new + ROW_BYTES ≤ D.asked disk.old + opening_cost found.kept found.count) }
+    ensures asked_failed { WhereTold (D.reads disk.old) (λ bytes.
+        OnErr result (AsksFew bytes (D.asked disk.old) (D.asked disk.new + ROW_BYTES))) }
 {
     let kept = find_snapshot(disk, size, mark)?;
     let first = rows_before(&kept);

@@ -3,6 +3,7 @@ ghost use Rattle.device_facts.specs.Count.{CountsFault};
 ghost use Rattle.disk_core.specs.Disk.{WhereTold};
 ghost use Rattle.disk_core.specs.Devices.{IsUnmoved};
 ghost use Rattle.book_journal.specs.Rows.{open_rows, starts_open, gate_behind};
+ghost use Rattle.book_journal.specs.Mounting.{slots_behind};
 
 use crate::layout::{MAX_SLOTS, gate_behind};
 use book_snapshot::{OPEN, ROW_BYTES};
@@ -43,6 +44,9 @@ pub(crate) fn count_rows<D: Disk>(
     ensures cause { CountsFault (D.faults disk.old) (D.faults disk.new) result }
     ensures asked { IfOk result (λ count.
         D.asked disk.new ≤ D.asked disk.old + ROW_BYTES * (count - first) + ROW_BYTES * slots) }
+    ensures asked_most { WhereTold (D.reads disk.old) (λ bytes. size ≡ length bytes →
+        D.asked disk.new
+        ≤ D.asked disk.old + ROW_BYTES * slots_behind first bytes + ROW_BYTES * slots) }
 {
     let mut piece = [0; PIECE];
     let mut count = first;

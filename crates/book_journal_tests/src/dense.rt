@@ -1,55 +1,88 @@
 use crate::journals::squeeze_row;
 use crate::rows::{WORKED_SIZES, worked_rows};
 use book_snapshot::{Dense, Piece, read_one};
+use disk_core::NoMemory;
+use std::alloc::Global;
 use std::test::Fail;
+
+// The first bytes of the content of the worked rows, and its last.
+const DAY: [u8; 12] = [11, 1, 0, 0, 0, 0, 0, 0, 0, 0, 0xb6, 0x4e];
+
+const START: [u8; 13] = [12, 5, 0, 0, 0, 0, 0, 0, 0, 0, 1, 1, b'A'];
+
+// How many bytes each of the worked rows takes, if the first and the last form are these.
+fn sizes(alloc: Global) -> Result<Option<[usize; 5]>, NoMemory> {
+    let mut content = Dense::new(alloc);
+    let mut sizes = [0; 5];
+    for (row, size) in worked_rows().iter().zip(sizes.iter_mut()) {
+        let before = content.as_slice().len();
+        squeeze_row(row, &mut content)?;
+        *size = content.as_slice().len().saturating_sub(before);
+    }
+    let all = content.as_slice();
+    let right = all.len() == 171 && all.starts_with(&DAY) && all.get(158..) == Some(&START[..]);
+    Ok(if right { Some(sizes) } else { None })
+}
 
 #[test]
 fn the_worked_rows_have_171_bytes(rt: HostRuntime) -> Result<(), Fail> {
-    let mut content = Dense::new(rt.alloc());
-    for (row, size) in worked_rows().iter().zip(WORKED_SIZES) {
-        let before = content.as_slice().len();
-        squeeze_row(row, &mut content)?;
-        assert_eq!(rt; content.as_slice().len().saturating_sub(before), size);
-    }
-    assert_eq!(rt; content.as_slice().len(), 171);
-    let day = [11, 1, 0, 0, 0, 0, 0, 0, 0, 0, 0xb6, 0x4e];
-    assert!(rt; content.as_slice().starts_with(&day));
-    assert_eq!(rt;
-        content.as_slice().get(158..),
-        Some([12, 5, 0, 0, 0, 0, 0, 0, 0, 0, 1, 1, b'A'].as_slice())
-    );
+    assert!(rt; sizes(rt.alloc())? == Some(WORKED_SIZES));
     Ok(())
+}
+
+const FORM: [u8; 6] = [4, 9, 0, 0, 7, 5];
+
+// The row of that form, as row 300, and its first bytes.
+fn row_of_form<const N: usize>() -> [u8; N] {
+    let mut row = [0; N];
+    for (place, byte) in [(0, 1), (1, 9), (2, 44), (3, 1), (8, 7)] {
+        if let Some(there) = row.get_mut(place) {
+            *there = byte;
+        }
+    }
+    row
+}
+
+// Whether the form reads as its row, and no front of it does.
+fn reads_whole() -> bool {
+    let mut right = read_one::<96>(&FORM, 300)
+        == Piece::Row {
+            row: row_of_form::<96>(),
+            taken: 5,
+        }
+        && read_one::<64>(&FORM, 300)
+            == Piece::Row {
+                row: row_of_form::<64>(),
+                taken: 5,
+            };
+    for cut in 0..5usize {
+        right = right && read_one::<96>(&FORM[..cut], 300) == Piece::More;
+    }
+    right
+}
+
+// Bytes, and whether they are no front of a form.
+const FAULTS: [(&[u8], bool); 5] = [
+    (&[0, 1], true),
+    (&[1, 0], true),
+    (&[2, 5, 0], true),
+    (&[91, 1], false),
+    (&[92, 1], true),
+];
+
+// Whether faults are found where they are.
+fn finds_faults() -> bool {
+    let mut right = read_one::<64>(&[59], 1) == Piece::More
+        && read_one::<64>(&[60], 1) == Piece::Fault;
+    for (bytes, fault) in FAULTS {
+        right = right && (read_one::<96>(bytes, 1) == Piece::Fault) == fault;
+    }
+    right
 }
 
 #[test]
 fn a_dense_form_reads_as_its_row(rt: HostRuntime) -> Result<(), Fail> {
-    let form = [4, 9, 0, 0, 7, 5];
-    let mut row = [0; 96];
-    row[0] = 1;
-    row[1] = 9;
-    row[2] = 44;
-    row[3] = 1;
-    row[8] = 7;
-    assert_eq!(rt; read_one::<96>(&form, 300), Piece::Row { row, taken: 5 });
-    let mut old = [0; 64];
-    old.copy_from_slice(&row[..64]);
-    assert_eq!(rt;
-        read_one::<64>(&form, 300),
-        Piece::Row { row: old, taken: 5 }
-    );
-    for cut in 0..5usize {
-        assert_eq!(rt; read_one::<96>(&form[..cut], 300), Piece::More);
-    }
-    for (bytes, fault) in [
-        ([0, 1].as_slice(), true),
-        (&[1, 0], true),
-        (&[2, 5, 0], true),
-        (&[91, 1], false),
-        (&[92, 1], true),
-    ] {
-        assert_eq!(rt; read_one::<96>(bytes, 1) == Piece::Fault, fault);
-    }
-    assert_eq!(rt; read_one::<64>(&[59], 1), Piece::More);
-    assert_eq!(rt; read_one::<64>(&[60], 1), Piece::Fault);
+    assert!(rt; reads_whole());
+    assert!(rt; finds_faults());
     Ok(())
 }

@@ -24,27 +24,41 @@ use Rattle.std.proofs.lemmas.Option.{same_Some}
 
 -- ---- a reading by its number
 
-found_first : (n : ℕ) (act : Act) (some : List Reading) → find (λ (r : Reading). r.number == n) (map (advance act) some) ≡ option_map (advance act) (find (λ (r : Reading). r.number == n) some)
+found_first : (n : ℕ) (act : Act) (some : List Reading)
+    → find (λ (r : Reading). r.number == n) (map (advance act) some)
+    ≡ option_map (advance act) (find (λ (r : Reading). r.number == n) some)
 found_first n act [] = refl
 found_first n act (reading ∷ some) = step (reading.number == n) (found_first n act some)
   where
-    step : (b : Bool) → find (λ (r : Reading). r.number == n) (map (advance act) some) ≡ option_map (advance act) (find (λ (r : Reading). r.number == n) some)
-        → cond b (Some (advance act reading)) (find (λ (r : Reading). r.number == n) (map (advance act) some)) ≡ option_map (advance act) (cond b (Some reading) (find (λ (r : Reading). r.number == n) some))
+    step : (b : Bool) → find (λ (r : Reading). r.number == n) (map (advance act) some)
+        ≡ option_map (advance act) (find (λ (r : Reading). r.number == n) some)
+        → cond b (Some (advance act reading))
+        (find (λ (r : Reading). r.number == n) (map (advance act) some))
+        ≡ option_map (advance act) (cond b (Some reading)
+        (find (λ (r : Reading). r.number == n) some))
     step true h = refl
     step false h = h
 
 -- the reading with a number, once one more entry came
 pub reading_of-push : (entries : List Entry) (entry : Entry) (n : ℕ)
-    → reading_of (entries ++ entry ∷ []) n ≡ option_or (option_map (advance entry.act) (reading_of entries n)) (find (λ (r : Reading). r.number == n) (cons_option (own_reading entries entry) []))
+    → reading_of (entries ++ entry ∷ []) n
+    ≡ option_or (option_map (advance entry.act) (reading_of entries n))
+    (find (λ (r : Reading). r.number == n) (cons_option (own_reading entries entry) []))
 reading_of-push entries entry n =
     ap (find (λ (r : Reading). r.number == n)) (readings-push entries entry)
-    ∙ find-append (λ (r : Reading). r.number == n) (map (advance entry.act) (readings entries)) (cons_option (own_reading entries entry) [])
-    ∙ ap (λ o. option_or o (find (λ (r : Reading). r.number == n) (cons_option (own_reading entries entry) []))) (found_first n entry.act (readings entries))
+    ∙ find-append (λ (r : Reading). r.number == n) (map (advance entry.act) (readings entries))
+    (cons_option (own_reading entries entry) [])
+    ∙ ap (λ o. option_or o (find (λ (r : Reading). r.number == n)
+    (cons_option (own_reading entries entry) []))) (found_first n entry.act (readings entries))
 
 -- a reading that is found is found again, as the act after it leaves it
-pub reading_of_later : (entries : List Entry) (entry : Entry) (n : ℕ) (reading : Reading) → reading_of entries n ≡ Some reading → reading_of (entries ++ entry ∷ []) n ≡ Some (advance entry.act reading)
+pub reading_of_later : (entries : List Entry) (entry : Entry) (n : ℕ) (reading : Reading)
+    → reading_of entries n ≡ Some reading
+    → reading_of (entries ++ entry ∷ []) n ≡ Some (advance entry.act reading)
 reading_of_later entries entry n reading h =
-    reading_of-push entries entry n ∙ ap (λ o. option_or (option_map (advance entry.act) o) (find (λ (r : Reading). r.number == n) (cons_option (own_reading entries entry) []))) h
+    reading_of-push entries entry n
+    ∙ ap (λ o. option_or (option_map (advance entry.act) o)
+    (find (λ (r : Reading). r.number == n) (cons_option (own_reading entries entry) []))) h
 
 -- a number is from 1 to the number of rows
 abbrev pub IsNumber : List Entry → ℕ → Type 0
@@ -59,112 +73,173 @@ pub record AreNumbered (entries : List Entry) : Type 0 where
   pub numbers : All (λ reading. IsNumber entries reading.number) (readings entries)
   pub found : All (IsFound entries) (readings entries)
 
-absent : (n : ℕ) (some : List Reading) → All (λ reading. (reading.number == n) ≡ false) some → find (λ (r : Reading). r.number == n) some ≡ None
+absent : (n : ℕ) (some : List Reading) → All (λ reading. (reading.number == n) ≡ false) some
+    → find (λ (r : Reading). r.number == n) some ≡ None
 absent n [] h = refl
 absent n (reading ∷ some) h =
-    ap (λ b. cond b (Some reading) (find (λ (r : Reading). r.number == n) some)) (All-head (λ (r : Reading). (r.number == n) ≡ false) reading some h)
+    ap (λ b. cond b (Some reading) (find (λ (r : Reading). r.number == n) some))
+    (All-head (λ (r : Reading). (r.number == n) ≡ false) reading some h)
     ∙ absent n some (All-tail (λ (r : Reading). (r.number == n) ≡ false) reading some h)
 
 -- no reading is found by a number that isn't one of a row
-pub none_beyond : (entries : List Entry) (n : ℕ) → AreNumbered entries → (n ≡ 0) ⊎ (length entries < n) → reading_of entries n ≡ None
+pub none_beyond : (entries : List Entry) (n : ℕ) → AreNumbered entries → (n ≡ 0)
+    ⊎ (length entries < n) → reading_of entries n ≡ None
 none_beyond entries n numbered beyond =
-    absent n (readings entries) (All-weaker (λ (r : Reading). IsNumber entries r.number) (λ (r : Reading). (r.number == n) ≡ false) (λ reading is. apart reading.number is beyond) (readings entries) numbered.numbers)
+    absent n (readings entries) (All-weaker (λ (r : Reading). IsNumber entries r.number)
+    (λ (r : Reading). (r.number == n) ≡ false) (λ reading is. apart reading.number is beyond)
+    (readings entries) numbered.numbers)
   where
-    apart : (number : ℕ) → IsNumber entries number → (n ≡ 0) ⊎ (length entries < n) → (number == n) ≡ false
+    apart : (number : ℕ) → IsNumber entries number → (n ≡ 0) ⊎ (length entries < n)
+        → (number == n) ≡ false
     apart number is (inl nothing) = ne_eqb number n (λ same. absurd (omega (arith, is.0, nothing, same)))
     apart number is (inr far) = ne_eqb number n (λ same. absurd (omega (arith, is.1, far, same)))
 
-numbered-push : (entries : List Entry) (entry : Entry) → AreNumbered entries → AreNumbered (entries ++ entry ∷ [])
+numbered-push : (entries : List Entry) (entry : Entry) → AreNumbered entries
+    → AreNumbered (entries ++ entry ∷ [])
 numbered-push entries entry numbered =
-    let longer : length (entries ++ entry ∷ []) ≡ length entries + 1 = length-append entries (entry ∷ []) in
+    let longer : length (entries ++ entry ∷ []) ≡ length entries + 1 =
+    length-append entries (entry ∷ []) in
     let Numbered : Reading → Type 0 = λ reading. IsNumber (entries ++ entry ∷ []) reading.number in
     let Found : Reading → Type 0 = IsFound (entries ++ entry ∷ []) in
     record {
       numbers = subst (All Numbered) (sym (readings-push entries entry))
-          (All-append Numbered (map (advance entry.act) (readings entries)) (cons_option (own_reading entries entry) [])
+          (All-append Numbered (map (advance entry.act) (readings entries))
+          (cons_option (own_reading entries entry) [])
           (All-map Numbered (advance entry.act) (readings entries)
-          (All-weaker (λ (r : Reading). IsNumber entries r.number) Numbered (λ reading is. (is.0, omega (arith, is.1, longer))) (readings entries) numbered.numbers))
+          (All-weaker (λ (r : Reading). IsNumber entries r.number) Numbered
+          (λ reading is. (is.0, omega (arith, is.1, longer)))
+          (readings entries) numbered.numbers))
           (own_number entry.act));
       found = subst (All Found) (sym (readings-push entries entry))
-          (All-append Found (map (advance entry.act) (readings entries)) (cons_option (own_reading entries entry) [])
+          (All-append Found (map (advance entry.act) (readings entries))
+          (cons_option (own_reading entries entry) [])
           (All-map Found (advance entry.act) (readings entries)
-          (All-weaker (IsFound entries) (λ (r : Reading). Found (advance entry.act r)) (λ reading is. reading_of_later entries entry reading.number reading is) (readings entries) numbered.found))
+          (All-weaker (IsFound entries) (λ (r : Reading). Found (advance entry.act r))
+          (λ reading is. reading_of_later entries entry reading.number reading is)
+          (readings entries) numbered.found))
           (own_found entry.act refl));
     }
   where
-    own_number : (act : Act) → All (λ (r : Reading). IsNumber (entries ++ entry ∷ []) r.number) (cons_option (weighed_reading (length entries + 1) entries act entry.signal []) [])
+    own_number : (act : Act) → All (λ (r : Reading). IsNumber (entries ++ entry ∷ []) r.number)
+        (cons_option (weighed_reading (length entries + 1) entries act entry.signal []) [])
     own_number (Weigh lane gross prior) =
-        let longer : length (entries ++ entry ∷ []) ≡ length entries + 1 = length-append entries (entry ∷ []) in
-        All-cons (λ (r : Reading). IsNumber (entries ++ entry ∷ []) r.number) _ [] (omega arith, omega (arith, longer)) (All-nil (λ (r : Reading). IsNumber (entries ++ entry ∷ []) r.number))
+        let longer : length (entries ++ entry ∷ []) ≡ length entries + 1 =
+        length-append entries (entry ∷ []) in
+        All-cons (λ (r : Reading). IsNumber (entries ++ entry ∷ []) r.number) _ []
+        (omega arith, omega (arith, longer))
+        (All-nil (λ (r : Reading). IsNumber (entries ++ entry ∷ []) r.number))
     own_number act = All-nil (λ (r : Reading). IsNumber (entries ++ entry ∷ []) r.number)
 
-    own_found : (act : Act) → entry.act ≡ act → All (IsFound (entries ++ entry ∷ [])) (cons_option (weighed_reading (length entries + 1) entries act entry.signal []) [])
+    own_found : (act : Act) → entry.act ≡ act
+        → All (IsFound (entries ++ entry ∷ []))
+        (cons_option (weighed_reading (length entries + 1) entries act entry.signal []) [])
     own_found (Weigh lane gross prior) is =
         All-cons (IsFound (entries ++ entry ∷ [])) _ []
         (reading_of-push entries entry (length entries + 1)
-        ∙ ap (λ o. option_or (option_map (advance entry.act) o) (find (λ (r : Reading). r.number == length entries + 1) (cons_option (own_reading entries entry) [])))
+        ∙ ap (λ o. option_or (option_map (advance entry.act) o)
+        (find (λ (r : Reading). r.number == length entries + 1)
+        (cons_option (own_reading entries entry) [])))
         (none_beyond entries (length entries + 1) numbered (inr (omega arith)))
-        ∙ ap (λ (a : Act). find (λ (r : Reading). r.number == length entries + 1) (cons_option (weighed_reading (length entries + 1) entries a entry.signal []) [])) is
-        ∙ ap (λ b. cond b (weighed_reading (length entries + 1) entries (Weigh lane gross prior) entry.signal []) None) (eq-eqb (length entries + 1) (length entries + 1) refl))
+        ∙ ap (λ (a : Act). find (λ (r : Reading). r.number == length entries + 1)
+        (cons_option (weighed_reading (length entries + 1) entries a entry.signal []) [])) is
+        ∙ ap (λ b. cond b (weighed_reading (length entries + 1) entries
+        (Weigh lane gross prior) entry.signal []) None)
+        (eq-eqb (length entries + 1) (length entries + 1) refl))
         (All-nil (IsFound (entries ++ entry ∷ [])))
     own_found act is = All-nil (IsFound (entries ++ entry ∷ []))
 
 numbered_behind : (before after : List Entry) → AreNumbered before → AreNumbered (before ++ after)
 numbered_behind before [] numbered = subst AreNumbered (sym (append-nil before)) numbered
-numbered_behind before (entry ∷ after) numbered = subst AreNumbered (append_assoc before (entry ∷ []) after) (numbered_behind (before ++ entry ∷ []) after (numbered-push before entry numbered))
+numbered_behind before (entry ∷ after) numbered =
+    subst AreNumbered (append_assoc before (entry ∷ []) after)
+    (numbered_behind (before ++ entry ∷ []) after (numbered-push before entry numbered))
 
 -- the readings of every list are numbered
 pub numbered : (entries : List Entry) → AreNumbered entries
-numbered entries = numbered_behind [] entries (record { numbers = All-nil (λ reading. IsNumber [] reading.number); found = All-nil (IsFound []) })
+numbered entries = numbered_behind [] entries
+    (record {
+      numbers = All-nil (λ reading. IsNumber [] reading.number);
+      found =
+          All-nil (IsFound []);
+    })
 
 -- ---- the packs that are drawn
 
 -- a pack of a batch
 abbrev pub IsPackOf : List Entry → Name → ℕ → Type 0
-IsPackOf entries batch pack = (reading : Reading) × (reading_of entries pack ≡ Some reading) × (reading.batch ≡ Some batch)
+IsPackOf entries batch pack = (reading : Reading) × (reading_of entries pack ≡ Some reading)
+    × (reading.batch ≡ Some batch)
 
 -- the packs that the first sample of a batch is drawn from are packs of it
 abbrev pub DrawsOwn : List Entry → Name → Type 0
-DrawsOwn entries batch = (drawing : Drawing) → drawing_of entries batch ≡ Some drawing → All (IsPackOf entries batch) drawing.packs
+DrawsOwn entries batch = (drawing : Drawing) → drawing_of entries batch ≡ Some drawing
+    → All (IsPackOf entries batch) drawing.packs
 
 -- the batch of a reading that is one of it
-pub batch_is : (batch : Name) (o : Option Name) → option_map_or (λ (name : Name). same_name name batch) o false ≡ true → o ≡ Some batch
+pub batch_is : (batch : Name) (o : Option Name)
+    → option_map_or (λ (name : Name). same_name name batch) o false ≡ true → o ≡ Some batch
 batch_is batch None h = absurd (cc)
 batch_is batch (Some name) h = ap Some (same_name_is name batch h)
 
-population_is_own : (entries : List Entry) (batch : Name) → All (IsPackOf entries batch) (numbers_of (population entries batch))
+population_is_own : (entries : List Entry) (batch : Name)
+    → All (IsPackOf entries batch) (numbers_of (population entries batch))
 population_is_own entries batch =
     let test : Reading → Bool = λ reading. is_of_batch batch reading && is_counted reading in
     let found = All-filter test (IsFound entries) (readings entries) (numbered entries).found in
     let passes = filter_passes test (readings entries) in
     All-map (IsPackOf entries batch) (λ (r : Reading). r.number) (population entries batch)
-    (λ k d less. (get_or (population entries batch) k d, found k d less, batch_is batch (get_or (population entries batch) k d).batch (and_parts _ _ (passes k d less)).0))
+    (λ k d less. (
+      get_or (population entries batch) k d,
+      found k d less,
+      batch_is batch (get_or (population entries batch) k d).batch
+          (and_parts _ _ (passes k d less)).0,
+    ))
 
-drawn_packs : (entries : List Entry) (act : Act) (batch : Name) (drawing : Drawing) → drawing_from batch entries act ≡ Some drawing → numbers_of (population entries batch) ≡ drawing.packs
+drawn_packs : (entries : List Entry) (act : Act) (batch : Name) (drawing : Drawing)
+    → drawing_from batch entries act ≡ Some drawing
+    → numbers_of (population entries batch) ≡ drawing.packs
 drawn_packs entries (Draw name mode word) batch drawing h = each (same_name name batch) h
   where
-    each : (b : Bool) → cond b (Some (record { mode = mode; word = word; packs = numbers_of (population entries batch) })) None ≡ Some drawing → numbers_of (population entries batch) ≡ drawing.packs
+    each : (b : Bool)
+        → cond b (Some
+        (record { mode = mode; word = word; packs = numbers_of (population entries batch) })) None
+        ≡ Some drawing → numbers_of (population entries batch) ≡ drawing.packs
     each true k = ap (λ (d : Drawing). d.packs) (same_Some _ drawing k)
     each false k = absurd (cc)
 drawn_packs entries act batch drawing h = absurd (cc)
 
-pack_later : (entries : List Entry) (entry : Entry) (batch : Name) (pack : ℕ) → IsPackOf entries batch pack → IsPackOf (entries ++ entry ∷ []) batch pack
-pack_later entries entry batch pack is = (advance entry.act is.0, reading_of_later entries entry pack is.0 is.1, is.2)
+pack_later : (entries : List Entry) (entry : Entry) (batch : Name) (pack : ℕ)
+    → IsPackOf entries batch pack → IsPackOf (entries ++ entry ∷ []) batch pack
+pack_later entries entry batch pack is =
+    (advance entry.act is.0, reading_of_later entries entry pack is.0 is.1, is.2)
 
-draws_own-push : (entries : List Entry) (entry : Entry) (batch : Name) → DrawsOwn entries batch → DrawsOwn (entries ++ entry ∷ []) batch
-draws_own-push entries entry batch own drawing h = later (each (drawing_from batch entries entry.act) refl (sym (drawing_of-push entries entry batch) ∙ h))
+draws_own-push : (entries : List Entry) (entry : Entry) (batch : Name) → DrawsOwn entries batch
+    → DrawsOwn (entries ++ entry ∷ []) batch
+draws_own-push entries entry batch own drawing h =
+    later (each (drawing_from batch entries entry.act) refl
+    (sym (drawing_of-push entries entry batch) ∙ h))
   where
-    later : All (IsPackOf entries batch) drawing.packs → All (IsPackOf (entries ++ entry ∷ []) batch) drawing.packs
-    later all = All-weaker (IsPackOf entries batch) (IsPackOf (entries ++ entry ∷ []) batch) (pack_later entries entry batch) drawing.packs all
+    later : All (IsPackOf entries batch) drawing.packs
+        → All (IsPackOf (entries ++ entry ∷ []) batch) drawing.packs
+    later all = All-weaker (IsPackOf entries batch) (IsPackOf (entries ++ entry ∷ []) batch)
+        (pack_later entries entry batch) drawing.packs all
 
-    each : (o : Option Drawing) → drawing_from batch entries entry.act ≡ o → option_or o (drawing_of entries batch) ≡ Some drawing → All (IsPackOf entries batch) drawing.packs
+    each : (o : Option Drawing) → drawing_from batch entries entry.act ≡ o
+        → option_or o (drawing_of entries batch) ≡ Some drawing
+        → All (IsPackOf entries batch) drawing.packs
     each None is k = own drawing k
-    each (Some new) is k = subst (All (IsPackOf entries batch)) (drawn_packs entries entry.act batch new is ∙ ap (λ (d : Drawing). d.packs) (same_Some new drawing k)) (population_is_own entries batch)
+    each (Some new) is k = subst (All (IsPackOf entries batch))
+        (drawn_packs entries entry.act batch new is
+        ∙ ap (λ (d : Drawing). d.packs) (same_Some new drawing k)) (population_is_own entries batch)
 
-draws_own_behind : (batch : Name) (before after : List Entry) → DrawsOwn before batch → DrawsOwn (before ++ after) batch
-draws_own_behind batch before [] own = subst (λ (es : List Entry). DrawsOwn es batch) (sym (append-nil before)) own
+draws_own_behind : (batch : Name) (before after : List Entry) → DrawsOwn before batch
+    → DrawsOwn (before ++ after) batch
+draws_own_behind batch before [] own =
+    subst (λ (es : List Entry). DrawsOwn es batch) (sym (append-nil before)) own
 draws_own_behind batch before (entry ∷ after) own =
-    subst (λ (es : List Entry). DrawsOwn es batch) (append_assoc before (entry ∷ []) after) (draws_own_behind batch (before ++ entry ∷ []) after (draws_own-push before entry batch own))
+    subst (λ (es : List Entry). DrawsOwn es batch) (append_assoc before (entry ∷ []) after)
+    (draws_own_behind batch (before ++ entry ∷ []) after
+    (draws_own-push before entry batch own))
 
 -- so it is in every list
 pub draws_own : (entries : List Entry) (batch : Name) → DrawsOwn entries batch
@@ -178,14 +253,18 @@ get_from P (x ∷ xs) zero d all other = All-head P x xs all
 get_from P (x ∷ xs) (suc k) d all other = get_from P xs k d (All-tail P x xs all) other
 
 -- what is drawn is one of the packs, or no number at all where there are too few
-drawn_from : (P : ℕ → Type 0) (word : ℕ) (packs : List ℕ) (k : ℕ) → All P packs → P 0 → All P (drawn word packs k)
+drawn_from : (P : ℕ → Type 0) (word : ℕ) (packs : List ℕ) (k : ℕ) → All P packs → P 0
+    → All P (drawn word packs k)
 unfolding drawn
 drawn_from P word packs zero all none = All-nil P
 drawn_from P word packs (suc k) all none =
     let next = next_word word in
     let place = place_of next (length packs) in
-    All-cons P (get_or packs place 0) (drawn next (remove packs place) k) (get_from P packs place 0 all none)
-    (drawn_from P next (remove packs place) k (All-append P (take place packs) (drop (suc place) packs) (All-take P place packs all) (All-drop P (suc place) packs all)) none)
+    All-cons P (get_or packs place 0) (drawn next (remove packs place) k)
+    (get_from P packs place 0 all none)
+    (drawn_from P next (remove packs place) k
+    (All-append P (take place packs) (drop (suc place) packs) (All-take P place packs all)
+    (All-drop P (suc place) packs all)) none)
 
 -- a drawn pack is a pack of its batch; a draw from too few packs takes 0, which is none
 abbrev pub IsPick : List Entry → Name → ℕ → Type 0
@@ -196,25 +275,34 @@ pub record PicksOwn (entries : List Entry) (batch : Name) (sample : Sample) : Ty
   pub first : All (IsPick entries batch) sample.first
   pub second : All (IsPick entries batch) (second_packs sample)
 
-picks_by : (entries : List Entry) (batch : Name) (drawing : Drawing) (word : Option ℕ) → All (IsPackOf entries batch) drawing.packs → PicksOwn entries batch (sample_by drawing word)
+picks_by : (entries : List Entry) (batch : Name) (drawing : Drawing) (word : Option ℕ)
+    → All (IsPackOf entries batch) drawing.packs → PicksOwn entries batch (sample_by drawing word)
 picks_by entries batch drawing word own =
     let Pick : ℕ → Type 0 = IsPick entries batch in
-    let all : All Pick drawing.packs = All-weaker (IsPackOf entries batch) Pick (λ pack is. inl is) drawing.packs own in
+    let all : All Pick drawing.packs =
+    All-weaker (IsPackOf entries batch) Pick (λ pack is. inl is) drawing.packs own in
     record {
       first = drawn_from Pick drawing.word drawing.packs (plan_of_drawing drawing).first all (inr refl);
       second = each all word;
     }
   where
-    each : All (IsPick entries batch) drawing.packs → (o : Option ℕ) → All (IsPick entries batch) (unwrap_or (option_map (second_picks drawing) o) [])
+    each : All (IsPick entries batch) drawing.packs → (o : Option ℕ)
+        → All (IsPick entries batch) (unwrap_or (option_map (second_picks drawing) o) [])
     each all None = All-nil (IsPick entries batch)
     each all (Some w) =
-        drawn_from (IsPick entries batch) w (packs_left drawing.packs (first_picks drawing)) (plan_of_drawing drawing).second
+        drawn_from (IsPick entries batch) w (packs_left drawing.packs (first_picks drawing))
+        (plan_of_drawing drawing).second
         (All-filter _ (IsPick entries batch) drawing.packs all) (inr refl)
 
 -- the drawn packs of a batch are packs of it
-pub picks_own : (entries : List Entry) (batch : Name) (sample : Sample) → sample_of entries batch ≡ Some sample → PicksOwn entries batch sample
+pub picks_own : (entries : List Entry) (batch : Name) (sample : Sample)
+    → sample_of entries batch ≡ Some sample → PicksOwn entries batch sample
 picks_own entries batch sample h = each (drawing_of entries batch) refl h
   where
-    each : (o : Option Drawing) → drawing_of entries batch ≡ o → option_map (λ (d : Drawing). sample_by d (last_said (second_word batch) entries)) o ≡ Some sample → PicksOwn entries batch sample
+    each : (o : Option Drawing) → drawing_of entries batch ≡ o
+        → option_map (λ (d : Drawing). sample_by d (last_said (second_word batch) entries)) o
+        ≡ Some sample → PicksOwn entries batch sample
     each None is k = absurd (cc)
-    each (Some drawing) is k = subst (PicksOwn entries batch) (same_Some _ sample k) (picks_by entries batch drawing (last_said (second_word batch) entries) (draws_own entries batch drawing is))
+    each (Some drawing) is k = subst (PicksOwn entries batch) (same_Some _ sample k)
+        (picks_by entries batch drawing (last_said (second_word batch) entries)
+        (draws_own entries batch drawing is))

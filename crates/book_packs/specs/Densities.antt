@@ -1,12 +1,12 @@
 -- Limits in mg at a density. At a density of 1 000 000 mg a litre they are the limits themselves.
-use Rattle.std.specs.Prelude.{ℕ, ℤ, pos, negsuc, ◌+◌, ◌*◌, ◌/◌, ◌-ℤ◌}
+use Rattle.std.specs.Prelude.{ℕ, ℤ, pos, negsuc, ◌+◌, ◌-◌, ◌*◌, ◌/◌, ◌-ℤ◌}
 use Rattle.annex_tables.specs.declared.types.Limits.{Limits}
-use Rattle.book_words.specs.Classes.{UNIT_DENSITY}
+use Rattle.reference_test.specs.declared.means.TheConstants.{UNIT_DENSITY}
 
 -- the least whole number of mg that isn't below a limit at a density: a millionth of their product,
 -- rounded up
 abbrev pub limit_at : ℕ → ℤ → ℤ
-limit_at density (pos limit) = pos ((density * limit + 999999) / UNIT_DENSITY)
+limit_at density (pos limit) = pos ((density * limit + (UNIT_DENSITY - 1)) / UNIT_DENSITY)
 limit_at density (negsuc less) = pos 0 -ℤ pos ((density * (less + 1)) / UNIT_DENSITY)
 
 -- each of some limits at a density

@@ -56,15 +56,17 @@ less_if count test = count - (if test then 1 else 0)
 abbrev pub met_without : Totals → Limits → Pack → AtWeighing
 met_without totals limits pack =
     record {
+      limits = limits;
       population = less_if totals.population true;
       nonstandard = less_if totals.nonstandard (int_lt (net_of pack) limits.t1);
       inadequate = less_if totals.inadequate (int_lt (net_of pack) limits.t2);
     }
 
 -- the population of a batch as it stands
-abbrev pub met_whole : Totals → AtWeighing
-met_whole totals =
+abbrev pub met_whole : Totals → Limits → AtWeighing
+met_whole totals limits =
     record {
+      limits = limits;
       population = totals.population;
       nonstandard = totals.nonstandard;
       inadequate = totals.inadequate;
@@ -72,9 +74,9 @@ met_whole totals =
 
 -- the population of a batch without the pack that is taken out, if that is one of the batch
 abbrev pub met_less : Totals → Limits → ℕ → Option Pack → AtWeighing
-met_less totals limits batch None = met_whole totals
+met_less totals limits batch None = met_whole totals limits
 met_less totals limits batch (Some pack) =
-    if pack.batch == batch then met_without totals limits pack else met_whole totals
+    if pack.batch == batch then met_without totals limits pack else met_whole totals limits
 
 -- a pack, where it is one of a batch and counts for its population
 abbrev pub if_counts_for : ℕ → Pack → Option Pack

@@ -16,7 +16,7 @@ use Rattle.book_words.specs.Piles.{in_pile, tally}
 use Rattle.book_words.specs.Signals.{judging_population}
 use Rattle.book_words.specs.Refusals.{is_closed, is_frozen}
 use Rattle.book_packs.specs.declared.types.AtWeighing.{AtWeighing}
-use Rattle.book_packs.specs.Stand.{pack_of}
+use Rattle.book_packs.specs.Stand.{limits_told, pack_of}
 
 -- the pack of a number, where there is a reading with it
 abbrev pub pack_told : List Entry → ℕ → Option Pack
@@ -49,11 +49,13 @@ piles_told entries =
       voided = tally (in_pile entries Voided all);
     }
 
--- what a weighing meets in a batch: the population that the act leaves of the readings before it
+-- what a weighing meets in a batch: its limits, and the population that the act leaves of the
+-- readings before it
 abbrev pub met_at : List Entry → Act → Name → AtWeighing
 met_at entries act batch =
     let some = judging_population entries act batch in
     record {
+      limits = limits_told entries batch;
       population = length some;
       nonstandard = nonstandard_count entries batch some;
       inadequate = inadequate_count entries batch some;

@@ -4,9 +4,7 @@ ghost use Rattle.book_packs.specs.Densities.{limit_at, limits_at};
 
 use annex_tables::{Limits, limits};
 use hall_limits::MAX_NOMINAL;
-
-/// The density at which a mass in mg and a volume in microlitres are one number, in mg a litre.
-pub const UNIT_DENSITY: u32 = 1_000_000;
+use reference_test::UNIT_DENSITY;
 
 /// The limits in mg of a nominal quantity at a density in mg a litre. A net in mg is below one of
 /// them exactly where a million times it is below the density times the limit that the tables give.

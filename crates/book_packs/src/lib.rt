@@ -7,6 +7,6 @@ mod packs;
 mod settling;
 mod types;
 
-pub use densities::{UNIT_DENSITY, limits_by_density};
+pub use densities::limits_by_density;
 pub use packs::Packs;
 pub use types::{AtWeighing, NoMemory, Weighing};

@@ -46,6 +46,7 @@ pub fn met_less(totals: &Totals, limits: &Limits, batch: u32, leaving: Option<Pa
     match leaving {
         Some(pack) if pack.batch == batch => met_without(totals, limits, &pack),
         _ => AtWeighing {
+            limits: *limits,
             population: totals.population,
             nonstandard: totals.nonstandard,
             inadequate: totals.inadequate,
@@ -58,6 +59,7 @@ fn met_without(totals: &Totals, limits: &Limits, pack: &Pack) -> AtWeighing
     ensures { result ≡ met_without totals.now limits.now pack.now }
 {
     AtWeighing {
+        limits: *limits,
         population: less_if(totals.population, true),
         nonstandard: less_if(totals.nonstandard, is_below(pack, limits.t1)),
         inadequate: less_if(totals.inadequate, is_below(pack, limits.t2)),

@@ -1,3 +1,4 @@
+use annex_tables::Limits;
 use book_words::Prior;
 use pack_judge::Signal;
 use std::alloc::AllocError;
@@ -8,6 +9,8 @@ pub type NoMemory = AllocError;
 /// What a weighing finds in its batch: the population as the act leaves it, before its own pack.
 #[derive(Clone, Copy, Debug, PartialEq, Eq)]
 pub struct AtWeighing {
+    /// The limits of the batch, in mg.
+    pub limits: Limits,
     /// How many packs the population has.
     pub population: u32,
     /// How many of them aren't standard.

@@ -43,7 +43,8 @@ name_eq a b =
         let parts = and_parts _ _ h in
         let len : a.len ≡ b.len = eqb-true a.len b.len parts.0 in
         let places : a.places ≡ b.places = same_text a.places b.places (sym parts.1) in
-        (bytes_eq-Decides (bytes_of a) (bytes_of b)).1 (ap (λ n. take n a.places) len ∙ ap (take b.len) places)
+        (bytes_eq-Decides (bytes_of a) (bytes_of b)).1
+        (ap (λ n. take n a.places) len ∙ ap (take b.len) places)
 
 number_eq : (a b : ℤ) → int_eq a b ≡ same_number a b
 number_eq a b = same_bool (int_eq a b) (same_number a b) to from
@@ -129,12 +130,14 @@ same_mode_is Keep Keep h = refl
 same_mode_is Destroy Destroy h = refl
 same_mode_is a b h = absurd (cc)
 
-two_parts : {A B C : Type 0} (f : A → B → C) {a d : A} {b e : B} (p q : Bool) → (p ≡ true → a ≡ d) → (q ≡ true → b ≡ e) → (p && q) ≡ true → f a b ≡ f d e
+two_parts : {A B C : Type 0} (f : A → B → C) {a d : A} {b e : B} (p q : Bool) → (p ≡ true → a ≡ d)
+    → (q ≡ true → b ≡ e) → (p && q) ≡ true → f a b ≡ f d e
 two_parts f {a} {d} {b} {e} p q first second h =
     let parts = and_parts p q h in ap (λ x. f x b) (first parts.0) ∙ ap (f d) (second parts.1)
 
 three_parts : {A B C D : Type 0} (f : A → B → C → D) {a k : A} {b l : B} {c m : C} (p q r : Bool)
-    → (p ≡ true → a ≡ k) → (q ≡ true → b ≡ l) → (r ≡ true → c ≡ m) → (p && q && r) ≡ true → f a b c ≡ f k l m
+    → (p ≡ true → a ≡ k) → (q ≡ true → b ≡ l) → (r ≡ true → c ≡ m) → (p && q && r) ≡ true
+    → f a b c ≡ f k l m
 three_parts f {a} {k} {b} {l} {c} {m} p q r first second third h =
     let outer = and_parts (p && q) r h in
     let parts = and_parts p q outer.0 in
@@ -142,16 +145,31 @@ three_parts f {a} {k} {b} {l} {c} {m} p q r first second third h =
 
 pub same_act_is : (a b : Act) → same_act a b ≡ true → a ≡ b
 same_act_is (NewDay a) (NewDay b) h = ap (λ x. NewDay x) (same_number_is a b h)
-same_act_is (PutProduct a b c) (PutProduct d e f) h = three_parts (λ x y z. PutProduct x y z) (same_name a d) (same_number b e) (same_unit c f) (same_name_is a d) (same_number_is b e) (same_unit_is c f) h
-same_act_is (PutTare a b c) (PutTare d e f) h = three_parts (λ x y z. PutTare x y z) (same_name a d) (same_number b e) (same_number c f) (same_name_is a d) (same_number_is b e) (same_number_is c f) h
-same_act_is (OpenBatch a b c) (OpenBatch d e f) h = three_parts (λ x y z. OpenBatch x y z) (same_name a d) (same_name b e) (c == f) (same_name_is a d) (same_name_is b e) (eqb-true c f) h
-same_act_is (StartLane a b) (StartLane c d) h = two_parts (λ x y. StartLane x y) (a == c) (same_name b d) (eqb-true a c) (same_name_is b d) h
-same_act_is (Weigh a b c) (Weigh d e f) h = three_parts (λ x y z. Weigh x y z) (a == d) (same_number b e) (same_prior c f) (eqb-true a d) (same_number_is b e) (same_prior_is c f) h
-same_act_is (StopLane a b) (StopLane c d) h = two_parts (λ x y. StopLane x y) (a == c) (same_prior b d) (eqb-true a c) (same_prior_is b d) h
+same_act_is (PutProduct a b c) (PutProduct d e f) h =
+    three_parts (λ x y z. PutProduct x y z) (same_name a d) (same_number b e) (same_unit c f)
+    (same_name_is a d) (same_number_is b e) (same_unit_is c f) h
+same_act_is (PutTare a b c) (PutTare d e f) h =
+    three_parts (λ x y z. PutTare x y z) (same_name a d) (same_number b e) (same_number c f)
+    (same_name_is a d) (same_number_is b e) (same_number_is c f) h
+same_act_is (OpenBatch a b c) (OpenBatch d e f) h =
+    three_parts (λ x y z. OpenBatch x y z) (same_name a d) (same_name b e) (c == f)
+    (same_name_is a d) (same_name_is b e) (eqb-true c f) h
+same_act_is (StartLane a b) (StartLane c d) h =
+    two_parts (λ x y. StartLane x y) (a == c) (same_name b d) (eqb-true a c) (same_name_is b d) h
+same_act_is (Weigh a b c) (Weigh d e f) h =
+    three_parts (λ x y z. Weigh x y z) (a == d) (same_number b e) (same_prior c f) (eqb-true a d)
+    (same_number_is b e) (same_prior_is c f) h
+same_act_is (StopLane a b) (StopLane c d) h =
+    two_parts (λ x y. StopLane x y) (a == c) (same_prior b d) (eqb-true a c) (same_prior_is b d) h
 same_act_is (Void a) (Void b) h = ap (λ x. Void x) (eqb-true a b h)
 same_act_is (EndRun a) (EndRun b) h = ap (λ x. EndRun x) (same_name_is a b h)
-same_act_is (Draw a b c) (Draw d e f) h = three_parts (λ x y z. Draw x y z) (same_name a d) (same_mode b e) (c == f) (same_name_is a d) (same_mode_is b e) (eqb-true c f) h
-same_act_is (Measure a b c) (Measure d e f) h = three_parts (λ x y z. Measure x y z) (a == d) (same_number b e) (same_number c f) (eqb-true a d) (same_number_is b e) (same_number_is c f) h
-same_act_is (DrawSecond a b) (DrawSecond c d) h = two_parts (λ x y. DrawSecond x y) (same_name a c) (b == d) (same_name_is a c) (eqb-true b d) h
+same_act_is (Draw a b c) (Draw d e f) h =
+    three_parts (λ x y z. Draw x y z) (same_name a d) (same_mode b e) (c == f) (same_name_is a d)
+    (same_mode_is b e) (eqb-true c f) h
+same_act_is (Measure a b c) (Measure d e f) h =
+    three_parts (λ x y z. Measure x y z) (a == d) (same_number b e) (same_number c f) (eqb-true a d)
+    (same_number_is b e) (same_number_is c f) h
+same_act_is (DrawSecond a b) (DrawSecond c d) h =
+    two_parts (λ x y. DrawSecond x y) (same_name a c) (b == d) (same_name_is a c) (eqb-true b d) h
 same_act_is (Close a) (Close b) h = ap (λ x. Close x) (same_name_is a b h)
 same_act_is a b h = absurd (cc)

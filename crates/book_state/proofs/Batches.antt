@@ -24,48 +24,71 @@ use Rattle.book_laws.proofs.PopulationLaws.{batch_of}
 use Rattle.book_words.proofs.PlainLemmas.{none_of}
 
 -- a batch without a number isn't one
-pub no_batch : (entries : List Entry) (batch : Name) → None ≡ batch_number entries batch → product_of entries batch ≡ None
-no_batch entries batch none = none_of (product_of entries batch) (product_where_opened entries batch ∙ sym (ap is_some none))
+pub no_batch : (entries : List Entry) (batch : Name) → None ≡ batch_number entries batch
+    → product_of entries batch ≡ None
+no_batch entries batch none = none_of (product_of entries batch)
+    (product_where_opened entries batch ∙ sym (ap is_some none))
 
 -- one with a number is
-pub is_batch : (entries : List Entry) (batch : Name) (number : ℕ) → Some number ≡ batch_number entries batch → is_some (product_of entries batch) ≡ true
+pub is_batch : (entries : List Entry) (batch : Name) (number : ℕ)
+    → Some number ≡ batch_number entries batch → is_some (product_of entries batch) ≡ true
 is_batch entries batch number is = product_where_opened entries batch ∙ sym (ap is_some is)
 
 -- and what is told of it is told where it is one
-pub told_of_batch : {A B : Type 0} (o : Option A) (x : B) → is_some o ≡ true → Some x ≡ option_map (λ y. x) o
+pub told_of_batch : {A B : Type 0} (o : Option A) (x : B) → is_some o ≡ true
+    → Some x ≡ option_map (λ y. x) o
 told_of_batch None x h = absurd (let clash : false ≡ true = h in cc)
 told_of_batch (Some y) x h = refl
 
 -- the number is one of those that are kept
-pub number_within : (entries : List Entry) (standing : Standing) (batch : Name) (number : ℕ) → IsPacksOf entries standing → Some number ≡ batch_number entries batch → number < length standing.batches
+pub number_within : (entries : List Entry) (standing : Standing) (batch : Name) (number : ℕ)
+    → IsPacksOf entries standing → Some number ≡ batch_number entries batch
+    → number < length standing.batches
 number_within entries standing batch number stands is =
-    let inside : number < length (said batch_opened entries) = slice_get_within (said batch_opened entries) number batch (place_of-name (said batch_opened entries) batch number (sym is)) in
+    let inside : number < length (said batch_opened entries) =
+    slice_get_within (said batch_opened entries) number batch
+    (place_of-name (said batch_opened entries) batch number (sym is)) in
     let count : length standing.batches ≡ length (said batch_opened entries) =
-    ap (λ (some : List Terms). length some) stands.batches ∙ length-map (said batch_opened entries) (terms_of_batch entries) in
+    ap (λ (some : List Terms). length some) stands.batches
+    ∙ length-map (said batch_opened entries) (terms_of_batch entries) in
     subst (λ n. number < n) (sym count) inside
 
 -- what isn't a batch has no state
-pub stateless : (entries : List Entry) (batch : Name) → IsLegal entries → product_of entries batch ≡ None → state_of entries batch ≡ None
-stateless entries batch legal none = none_of (state_of entries batch) ((legal_named entries legal).state batch ∙ ap is_some none)
+pub stateless : (entries : List Entry) (batch : Name) → IsLegal entries
+    → product_of entries batch ≡ None → state_of entries batch ≡ None
+stateless entries batch legal none =
+    none_of (state_of entries batch) ((legal_named entries legal).state batch ∙ ap is_some none)
 
 -- and no sample
-pub no_sample_of : (entries : List Entry) (batch : Name) → IsLegal entries → product_of entries batch ≡ None → sample_of entries batch ≡ None
-no_sample_of entries batch legal none = no_sample entries batch (orderly entries legal) (ap is_fixed (stateless entries batch legal none))
+pub no_sample_of : (entries : List Entry) (batch : Name) → IsLegal entries
+    → product_of entries batch ≡ None → sample_of entries batch ≡ None
+no_sample_of entries batch legal none =
+    no_sample entries batch (orderly entries legal)
+    (ap is_fixed (stateless entries batch legal none))
 
-none_filtered : (test : Reading → Bool) (some : List Reading) → All (λ (r : Reading). test r ≡ false) some → filter test some ≡ []
+none_filtered : (test : Reading → Bool) (some : List Reading)
+    → All (λ (r : Reading). test r ≡ false) some → filter test some ≡ []
 none_filtered test [] all = refl
 none_filtered test (r ∷ rs) all =
-    ap (λ b. cond b (r ∷ filter test rs) (filter test rs)) (All-head (λ (x : Reading). test x ≡ false) r rs all)
+    ap (λ b. cond b (r ∷ filter test rs) (filter test rs))
+    (All-head (λ (x : Reading). test x ≡ false) r rs all)
     ∙ none_filtered test rs (All-tail (λ (x : Reading). test x ≡ false) r rs all)
 
 -- and no packs
-pub no_population : (entries : List Entry) (batch : Name) → IsLegal entries → product_of entries batch ≡ None → population entries batch ≡ []
+pub no_population : (entries : List Entry) (batch : Name) → IsLegal entries
+    → product_of entries batch ≡ None → population entries batch ≡ []
 no_population entries batch legal none =
     none_filtered (λ (r : Reading). is_of_batch batch r && is_counted r) (readings entries)
-    (All-weaker (Belongs entries) (λ (r : Reading). (is_of_batch batch r && is_counted r) ≡ false) (λ r has. each r has (is_of_batch batch r) refl) (readings entries) (each_belongs entries legal))
+    (All-weaker (Belongs entries) (λ (r : Reading). (is_of_batch batch r && is_counted r) ≡ false)
+    (λ r has. each r has (is_of_batch batch r) refl) (readings entries)
+    (each_belongs entries legal))
   where
-    each : (r : Reading) (has : Belongs entries r) (b : Bool) → is_of_batch batch r ≡ b → (b && is_counted r) ≡ false
+    each : (r : Reading) (has : Belongs entries r) (b : Bool) → is_of_batch batch r ≡ b
+        → (b && is_counted r) ≡ false
     each r has false is = refl
     each r has true is =
-        let there : is_some (state_of entries batch) ≡ true = subst (λ (n : Name). is_some (state_of entries n) ≡ true) (batch_of entries r batch has is) has.known in
-        absurd (let clash : false ≡ true = sym (ap is_some (stateless entries batch legal none)) ∙ there in cc)
+        let there : is_some (state_of entries batch) ≡ true =
+        subst (λ (n : Name). is_some (state_of entries n) ≡ true)
+        (batch_of entries r batch has is) has.known in
+        absurd (let clash : false ≡ true = sym (ap is_some (stateless entries batch legal none))
+        ∙ there in cc)

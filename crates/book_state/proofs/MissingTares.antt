@@ -21,10 +21,12 @@ use Rattle.book_words.proofs.AllowedActs.{IsAllowed, allowed, put_tare_tells}
 use Rattle.book_words.proofs.LegalLemmas.{legal_steps}
 
 -- no tare is put for a name that isn't a product
-not_put : (entries : List Entry) (name : Name) (act : Act) → IsAllowed entries act → is_some (nominal_of entries name) ≡ false → tare_put name act ≡ None
+not_put : (entries : List Entry) (name : Name) (act : Act) → IsAllowed entries act
+    → is_some (nominal_of entries name) ≡ false → tare_put name act ≡ None
 not_put entries name (PutTare product day tare) free none =
     let known = (put_tare_tells entries product day tare free).known in
-    let other : same_name product name ≡ false = same_name_swap product name ∙ apart (λ (n : Name). is_some (nominal_of entries n)) name product none known in
+    let other : same_name product name ≡ false = same_name_swap product name
+    ∙ apart (λ (n : Name). is_some (nominal_of entries n)) name product none known in
     ap (λ b. cond b (Some (record { day = day; tare = tare })) None) other
 not_put entries name act free none = refl
 
@@ -33,14 +35,17 @@ not_before true then none = absurd (let clash : true ≡ false = sym (then refl)
 not_before false then none = refl
 
 -- so none is there
-pub unput : (entries : List Entry) → IsLegal entries → (name : Name) → is_some (nominal_of entries name) ≡ false → tares_put entries name ≡ []
+pub unput : (entries : List Entry) → IsLegal entries → (name : Name)
+    → is_some (nominal_of entries name) ≡ false → tares_put entries name ≡ []
 unput =
-    legal_steps (λ (es : List Entry). (name : Name) → is_some (nominal_of es name) ≡ false → tares_put es name ≡ [])
+    legal_steps (λ (es : List Entry). (name : Name) → is_some (nominal_of es name) ≡ false
+    → tares_put es name ≡ [])
     (λ name none. refl)
     (λ es e legal lawful before name none.
     let earlier = not_before (is_some (nominal_of es name)) (still_said (nominal_put name) es e) none in
     filter_map-append (λ (entry : Entry). tare_put name entry.act) es (e ∷ [])
-    ∙ (λ i. before name earlier i ++ cons_option (not_put es name e.act (allowed es e lawful) earlier i) []))
+    ∙ (λ i. before name earlier i ++ cons_option
+    (not_put es name e.act (allowed es e lawful) earlier i) []))
 
 nothing : (day : ℤ) → tare_by_rule [] day ≡ None
 unfolding latest
@@ -50,6 +55,8 @@ untared : (tares : List DatedTare) (day : ℤ) → tares ≡ [] → tare_by_rule
 untared tares day none = ap (λ (some : List DatedTare). tare_by_rule some day) none ∙ nothing day
 
 -- and there is no tare of it
-pub no_tare_unknown : (entries : List Entry) (name : Name) (day : ℤ) → IsLegal entries → None ≡ product_number entries name → tare_of_product entries name day ≡ None
+pub no_tare_unknown : (entries : List Entry) (name : Name) (day : ℤ) → IsLegal entries
+    → None ≡ product_number entries name → tare_of_product entries name day ≡ None
 no_tare_unknown entries name day legal none =
-    untared (tares_put entries name) day (unput entries legal name (nominal_where_put entries name ∙ sym (ap is_some none)))
+    untared (tares_put entries name) day
+    (unput entries legal name (nominal_where_put entries name ∙ sym (ap is_some none)))

@@ -1,7 +1,6 @@
 -- What is known of the batch of a lane by the numbers of the batch and of its product.
-use Rattle.std.proofs.Common.{◌≡◌, ℕ, ℤ, ◌<◌, List, length, Option, Some, None, option_map, refl, sym, ◌∙◌, ap}
+use Rattle.std.proofs.Common.{◌≡◌, ℕ, ℤ, ◌<◌, List, length, Option, Some, None, refl, sym, ◌∙◌, ap}
 use Rattle.std.specs.Option.{option_and_then}
-use Rattle.annex_tables.specs.declared.types.Limits.{Limits}
 use Rattle.book_words.specs.declared.name.Name.{Name}
 use Rattle.book_words.specs.declared.act.Entry.{Entry}
 use Rattle.book_words.specs.Acts.{product_of, lane_batch}
@@ -9,16 +8,19 @@ use Rattle.book_words.specs.Order.{product_number, batch_number}
 use Rattle.book_words.specs.Tares.{tare_of_product}
 use Rattle.book_words.specs.Readings.{tare_of_reading}
 use Rattle.book_words.specs.Answers.{IsLegal}
-use Rattle.book_packs.specs.Stand.{Standing, IsPacksOf, limits_told}
+use Rattle.book_packs.specs.Stand.{Standing, IsPacksOf}
 use Rattle.book_index.specs.Listed.{batch_product_number}
 use Rattle.book_state.proofs.Batches.{number_within}
 use Rattle.book_state.proofs.NumberedNames.{no_product}
 use Rattle.book_state.proofs.EntryFacts.{batchless}
 
 -- without a product there is no tare
-pub untared : (entries : List Entry) (batch : Option Name) (day : Option ℤ) → IsLegal entries → None ≡ option_and_then (batch_product_number entries) batch → None ≡ tare_of_reading entries batch day
+pub untared : (entries : List Entry) (batch : Option Name) (day : Option ℤ) → IsLegal entries
+    → None ≡ option_and_then (batch_product_number entries) batch
+    → None ≡ tare_of_reading entries batch day
 untared entries None day legal none = refl
-untared entries (Some batch) day legal none = sym (batchless entries batch day (no_product entries batch legal none))
+untared entries (Some batch) day legal none =
+    sym (batchless entries batch day (no_product entries batch legal none))
 
 -- without a day neither
 pub dayless : (entries : List Entry) (batch : Option Name) → None ≡ tare_of_reading entries batch None
@@ -26,26 +28,36 @@ dayless entries None = refl
 dayless entries (Some batch) = refl
 
 -- the tare of the product of a number is that of the batch
-pub tared : (entries : List Entry) (batch : Option Name) (product : ℕ) (day : ℤ) (tare : Option ℤ) → Some product ≡ option_and_then (batch_product_number entries) batch
-    → ((name : Name) → product_number entries name ≡ Some product → tare ≡ tare_of_product entries name day) → tare ≡ tare_of_reading entries batch (Some day)
+pub tared : (entries : List Entry) (batch : Option Name) (product : ℕ) (day : ℤ) (tare : Option ℤ)
+    → Some product ≡ option_and_then (batch_product_number entries) batch
+    → ((name : Name) → product_number entries name ≡ Some product
+    → tare ≡ tare_of_product entries name day) → tare ≡ tare_of_reading entries batch (Some day)
 tared entries None product day tare is told = absurd (cc)
 tared entries (Some batch) product day tare is told = each (product_of entries batch) is
   where
-    each : (o : Option Name) → Some product ≡ option_and_then (product_number entries) o → tare ≡ option_and_then (λ name. tare_of_product entries name day) o
+    each : (o : Option Name) → Some product ≡ option_and_then (product_number entries) o
+        → tare ≡ option_and_then (λ name. tare_of_product entries name day) o
     each None h = absurd (cc)
     each (Some name) h = told name (sym h)
 
 -- a lane that has a batch has its number
-pub numbered : (entries : List Entry) (lane number : ℕ) (batch : Name) → lane_batch entries lane ≡ Some batch → Some number ≡ option_and_then (batch_number entries) (lane_batch entries lane) → Some number ≡ batch_number entries batch
+pub numbered : (entries : List Entry) (lane number : ℕ) (batch : Name)
+    → lane_batch entries lane ≡ Some batch
+    → Some number ≡ option_and_then (batch_number entries) (lane_batch entries lane)
+    → Some number ≡ batch_number entries batch
 numbered entries lane number batch on is = is ∙ ap (option_and_then (batch_number entries)) on
 
 -- the number is one of those that are kept
-pub lane_within : (entries : List Entry) (standing : Standing) (batch : Option Name) (number : ℕ) → IsPacksOf entries standing → Some number ≡ option_and_then (batch_number entries) batch → number < length standing.batches
+pub lane_within : (entries : List Entry) (standing : Standing) (batch : Option Name) (number : ℕ)
+    → IsPacksOf entries standing → Some number ≡ option_and_then (batch_number entries) batch
+    → number < length standing.batches
 lane_within entries standing None number stands is = absurd (cc)
-lane_within entries standing (Some batch) number stands is = number_within entries standing batch number stands is
+lane_within entries standing (Some batch) number stands is =
+    number_within entries standing batch number stands is
 
--- the limits that are kept at the number are those of the batch
-pub limited : (entries : List Entry) (batch : Option Name) (number : ℕ) (limits : Limits) → Some number ≡ option_and_then (batch_number entries) batch
-    → ((name : Name) → batch_number entries name ≡ Some number → limits ≡ limits_told entries name) → Some limits ≡ option_map (limits_told entries) batch
-limited entries None number limits is told = absurd (cc)
-limited entries (Some batch) number limits is told = ap (λ (l : Limits). Some l) (told batch (sym is))
+-- so the lane has a batch
+pub batch_on : (entries : List Entry) (batch : Option Name) (number : ℕ)
+    → Some number ≡ option_and_then (batch_number entries) batch → (name : Name)
+    × (batch ≡ Some name)
+batch_on entries None number is = absurd (cc)
+batch_on entries (Some name) number is = (name, refl)

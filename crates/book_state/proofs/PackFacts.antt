@@ -35,33 +35,42 @@ use Rattle.book_state.proofs.ReadingRows.{IsSeen, seen}
 abbrev pub put_for : List Entry → Option Reading → Option Signal → Option KnownPack
 put_for entries reading signal =
     put_together (option_map (pack_of entries) reading)
-    (option_and_then (λ (pack : Pack). slice_get (said batch_opened entries) pack.batch) (option_map (pack_of entries) reading))
+    (option_and_then (λ (pack : Pack). slice_get (said batch_opened entries) pack.batch)
+    (option_map (pack_of entries) reading))
     (option_map (λ (r : Reading). r.lane) reading) signal
 
 -- what is told of a reading, where there is one
-pub record IsTold (entries : List Entry) (reading : Option Reading) (told : Option KnownPack) : Type 0 where
+pub record IsTold (entries : List Entry) (reading : Option Reading)
+    (told : Option KnownPack) : Type 0 where
   pub value : told ≡ option_and_then (known_reading entries) reading
   pub there : is_none told ≡ is_none reading
-  pub batch : option_map (λ (pack : KnownPack). pack.batch) told ≡ option_and_then (λ (r : Reading). r.batch) reading
+  pub batch : option_map (λ (pack : KnownPack). pack.batch) told
+      ≡ option_and_then (λ (r : Reading). r.batch) reading
   pub pile : option_map (λ (pack : KnownPack). pack.pile) told ≡ option_map (pile_of entries) reading
   pub gross : IfSome told (λ (pack : KnownPack). IsBetween (pos 0) MAX_GROSS pack.gross)
   pub tare : IfSome told (λ (pack : KnownPack). IsBetween (pos 0) MAX_TARE pack.tare)
 
-tare_or_nothing : (o : Option ℤ) → IfSome o (IsBetween (pos 0) MAX_TARE) → IsBetween (pos 0) MAX_TARE (unwrap_or o (pos 0))
+tare_or_nothing : (o : Option ℤ) → IfSome o (IsBetween (pos 0) MAX_TARE)
+    → IsBetween (pos 0) MAX_TARE (unwrap_or o (pos 0))
 tare_or_nothing None h = (omega (arith, ints), omega (arith, ints))
 tare_or_nothing (Some tare) h = h
 
-some_told : (entries : List Entry) (r : Reading) (signal : Option Signal) → IsLegal entries → IsWeighed entries r → IsSeen signal r → IsTold entries (Some r) (put_for entries (Some r) signal)
+some_told : (entries : List Entry) (r : Reading) (signal : Option Signal) → IsLegal entries
+    → IsWeighed entries r → IsSeen signal r
+    → IsTold entries (Some r) (put_for entries (Some r) signal)
 some_told entries r signal legal weighed in_row = each r.signal refl in_row.told
   where
     batch : Name
     batch = weighed.batch
 
     numbered : unwrap_or (option_and_then (batch_number entries) r.batch) 0 ≡ weighed.number
-    numbered = ap (λ (o : Option Name). unwrap_or (option_and_then (batch_number entries) o) 0) weighed.of_batch ∙ ap (λ (o : Option ℕ). unwrap_or o 0) weighed.numbered
+    numbered = ap (λ (o : Option Name). unwrap_or (option_and_then (batch_number entries) o) 0)
+        weighed.of_batch ∙ ap (λ (o : Option ℕ). unwrap_or o 0) weighed.numbered
 
-    named : slice_get (said batch_opened entries) (unwrap_or (option_and_then (batch_number entries) r.batch) 0) ≡ Some batch
-    named = ap (slice_get (said batch_opened entries)) numbered ∙ place_of-name (said batch_opened entries) batch weighed.number weighed.numbered
+    named : slice_get (said batch_opened entries)
+        (unwrap_or (option_and_then (batch_number entries) r.batch) 0) ≡ Some batch
+    named = ap (slice_get (said batch_opened entries)) numbered
+        ∙ place_of-name (said batch_opened entries) batch weighed.number weighed.numbered
 
     on_day : unwrap_or r.day (pos 0) ≡ weighed.day
     on_day = ap (λ (o : Option ℤ). unwrap_or o (pos 0)) weighed.on_day
@@ -69,19 +78,25 @@ some_told entries r signal legal weighed in_row = each r.signal refl in_row.told
     pack_on : ℤ → Pack
     pack_on day = record (pack_of entries r) { day = day }
 
-    told : (s : Signal) → r.signal ≡ Some s → put_for entries (Some r) signal ≡ Some (known_record entries r batch weighed.day s)
+    told : (s : Signal) → r.signal ≡ Some s
+        → put_for entries (Some r) signal ≡ Some (known_record entries r batch weighed.day s)
     told s is =
-        ap (λ (name : Option Name). put_together (Some (pack_of entries r)) name (Some r.lane) signal) named
+        ap (λ (name : Option Name). put_together (Some (pack_of entries r)) name
+        (Some r.lane) signal) named
         ∙ ap (λ day. put_together (Some (pack_on day)) (Some batch) (Some r.lane) signal) on_day
         ∙ ap (put_together (Some (pack_on weighed.day)) (Some batch) (Some r.lane)) (in_row.same ∙ is)
 
-    known : (s : Signal) → r.signal ≡ Some s → known_reading entries r ≡ Some (known_record entries r batch weighed.day s)
+    known : (s : Signal) → r.signal ≡ Some s
+        → known_reading entries r ≡ Some (known_record entries r batch weighed.day s)
     known s is =
-        ap (option_and_then (λ (b : Name). option_and_then (λ day. option_map (known_record entries r b day) r.signal) r.day)) weighed.of_batch
-        ∙ ap (option_and_then (λ day. option_map (known_record entries r batch day) r.signal)) weighed.on_day
+        ap (option_and_then (λ (b : Name). option_and_then
+        (λ day. option_map (known_record entries r b day) r.signal) r.day)) weighed.of_batch
+        ∙ ap (option_and_then (λ day. option_map (known_record entries r batch day) r.signal))
+        weighed.on_day
         ∙ ap (option_map (known_record entries r batch weighed.day)) is
 
-    whole : (s : Signal) → r.signal ≡ Some s → IsTold entries (Some r) (Some (known_record entries r batch weighed.day s))
+    whole : (s : Signal) → r.signal ≡ Some s
+        → IsTold entries (Some r) (Some (known_record entries r batch weighed.day s))
     whole s is =
         record {
           value = sym (known s is);
@@ -89,58 +104,95 @@ some_told entries r signal legal weighed in_row = each r.signal refl in_row.told
           batch = sym weighed.of_batch;
           pile = refl;
           gross = in_row.range;
-          tare = tare_or_nothing (tare_of_reading entries r.batch r.day) (tare_within entries r.batch r.day legal);
+          tare = tare_or_nothing (tare_of_reading entries r.batch r.day)
+              (tare_within entries r.batch r.day legal);
         }
 
-    each : (o : Option Signal) → r.signal ≡ o → is_some o ≡ true → IsTold entries (Some r) (put_for entries (Some r) signal)
+    each : (o : Option Signal) → r.signal ≡ o → is_some o ≡ true
+        → IsTold entries (Some r) (put_for entries (Some r) signal)
     each None is h = absurd (let clash : false ≡ true = h in cc)
     each (Some s) is h = subst (IsTold entries (Some r)) (sym (told s is)) (whole s is)
 
 -- what is told of the pack of a number
 pub pack_is_told : (entries : List Entry) (number : ℕ) → IsLegal entries
-    → IsTold entries (reading_of entries number) (put_for entries (reading_of entries number) (option_and_then (λ (e : Entry). e.signal) (entry_numbered entries number)))
+    → IsTold entries (reading_of entries number)
+    (put_for entries (reading_of entries number)
+    (option_and_then (λ (e : Entry). e.signal) (entry_numbered entries number)))
 pack_is_told entries number legal = each (reading_of entries number) refl
   where
     signal : Option Signal
     signal = option_and_then (λ (e : Entry). e.signal) (entry_numbered entries number)
 
-    each : (o : Option Reading) → reading_of entries number ≡ o → IsTold entries o (put_for entries o signal)
-    each None is = record { value = refl; there = refl; batch = refl; pile = refl; gross = tt; tare = tt }
+    each : (o : Option Reading) → reading_of entries number ≡ o
+        → IsTold entries o (put_for entries o signal)
+    each None is = record {
+      value = refl;
+      there = refl;
+      batch = refl;
+      pile = refl;
+      gross = tt;
+      tare = tt;
+    }
     each (Some r) is =
-        let weighed = (of_reading (IsWeighed entries) entries number r (All-from_recursion (IsWeighed entries) (readings entries) (known_of entries legal).weighed) is).1 in
-        some_told entries r signal legal weighed (seen entries number r weighed.batch legal weighed.of_batch is)
+        let weighed =
+        (of_reading (IsWeighed entries) entries number r
+        (All-from_recursion (IsWeighed entries) (readings entries)
+        (known_of entries legal).weighed) is).1 in
+        some_told entries r signal legal weighed
+        (seen entries number r weighed.batch legal weighed.of_batch is)
 
 -- what the calls give, put together
-pub put_is : (entries : List Entry) (number : ℕ) (pack : Option Pack) (batch : Option Name) (lane : Option ℕ) (signal : Option Signal) (told : Option KnownPack)
-    → pack ≡ pack_told entries number → batch ≡ option_and_then (λ (p : Pack). slice_get (said batch_opened entries) p.batch) pack
-    → lane ≡ option_map (λ (r : Reading). r.lane) (reading_of entries number) → signal ≡ option_and_then (λ (e : Entry). e.signal) (entry_numbered entries number)
-    → told ≡ put_together pack batch lane signal → told ≡ put_for entries (reading_of entries number) (option_and_then (λ (e : Entry). e.signal) (entry_numbered entries number))
+pub put_is : (entries : List Entry) (number : ℕ) (pack : Option Pack) (batch : Option Name)
+    (lane : Option ℕ) (signal : Option Signal) (told : Option KnownPack)
+    → pack ≡ pack_told entries number
+    → batch ≡ option_and_then (λ (p : Pack). slice_get (said batch_opened entries) p.batch) pack
+    → lane ≡ option_map (λ (r : Reading). r.lane) (reading_of entries number)
+    → signal ≡ option_and_then (λ (e : Entry). e.signal) (entry_numbered entries number)
+    → told ≡ put_together pack batch lane signal
+    → told ≡ put_for entries (reading_of entries number)
+    (option_and_then (λ (e : Entry). e.signal) (entry_numbered entries number))
 put_is entries number pack batch lane signal told packs batches lanes signals is =
-    is ∙ (λ i. put_together (packs i) ((batches ∙ ap (option_and_then (λ (p : Pack). slice_get (said batch_opened entries) p.batch)) packs) i) (lanes i) (signals i))
+    is ∙ (λ i. put_together (packs i)
+    ((batches ∙ ap (option_and_then
+    (λ (p : Pack). slice_get (said batch_opened entries) p.batch)) packs) i) (lanes i)
+    (signals i))
 
 -- ---- whether it waits on its lane
 
-pub waits_told : (entries : List Entry) (number lane : ℕ) (waits : Bool) → waits ≡ option_map_or (λ other. other == number) (option_map (λ (r : Reading). r.number) (unsettled_reading entries lane)) false
-    → Some lane ≡ option_map (λ (r : Reading). r.lane) (reading_of entries number) → refused_if waits (Unsettled lane) ≡ rules.unsettled entries number
+pub waits_told : (entries : List Entry) (number lane : ℕ) (waits : Bool)
+    → waits ≡ option_map_or (λ other. other == number)
+    (option_map (λ (r : Reading). r.number) (unsettled_reading entries lane)) false
+    → Some lane ≡ option_map (λ (r : Reading). r.lane) (reading_of entries number)
+    → refused_if waits (Unsettled lane) ≡ rules.unsettled entries number
 waits_told entries number lane waits is on = each (reading_of entries number) refl on
   where
-    by_number : (o : Option Reading) (n : ℕ) → option_map_or (λ other. other == n) (option_map (λ (r : Reading). r.number) o) false ≡ option_map_or (λ (r : Reading). r.number == n) o false
+    by_number : (o : Option Reading) (n : ℕ)
+        → option_map_or (λ other. other == n) (option_map (λ (r : Reading). r.number) o) false
+        ≡ option_map_or (λ (r : Reading). r.number == n) o false
     by_number None n = refl
     by_number (Some r) n = refl
 
     same_number : (a b : ℕ) → Some a ≡ Some b → a ≡ b
     same_number a b h = cc
 
-    each : (o : Option Reading) → reading_of entries number ≡ o → Some lane ≡ option_map (λ (r : Reading). r.lane) o
-        → refused_if waits (Unsettled lane) ≡ option_and_then (λ (r : Reading). refused_if (is_unsettled r) (Unsettled r.lane)) o
+    each : (o : Option Reading) → reading_of entries number ≡ o
+        → Some lane ≡ option_map (λ (r : Reading). r.lane) o
+        → refused_if waits (Unsettled lane)
+        ≡ option_and_then (λ (r : Reading). refused_if (is_unsettled r) (Unsettled r.lane)) o
     each None found h = absurd (let clash : Some lane ≡ None = h in cc)
     each (Some r) found h =
         let lane_is : lane ≡ r.lane = same_number lane r.lane h in
-        let numbered : r.number ≡ number = (of_reading (λ (q : Reading). Unit {0}) entries number r (λ k d less. tt) found).0 in
-        let own : ((r.lane == lane) && is_unsettled r) ≡ option_map_or (λ (q : Reading). q.number == r.number) (unsettled_reading entries lane) false =
+        let numbered : r.number ≡ number =
+        (of_reading (λ (q : Reading). Unit {0}) entries number r (λ k d less. tt) found).0 in
+        let own : ((r.lane == lane) && is_unsettled r)
+        ≡ option_map_or (λ (q : Reading). q.number == r.number)
+        (unsettled_reading entries lane) false =
         waits_by_number entries lane r (found_is_one entries number r found) in
-        let alone : ((r.lane == lane) && is_unsettled r) ≡ is_unsettled r = ap (λ b. b && is_unsettled r) (eq-eqb r.lane lane (sym lane_is)) in
+        let alone : ((r.lane == lane) && is_unsettled r) ≡ is_unsettled r =
+        ap (λ b. b && is_unsettled r) (eq-eqb r.lane lane (sym lane_is)) in
         let same : waits ≡ is_unsettled r =
-        is ∙ by_number (unsettled_reading entries lane) number ∙ ap (λ n. option_map_or (λ (q : Reading). q.number == n) (unsettled_reading entries lane) false) (sym numbered)
+        is ∙ by_number (unsettled_reading entries lane) number
+        ∙ ap (λ n. option_map_or (λ (q : Reading). q.number == n)
+        (unsettled_reading entries lane) false) (sym numbered)
         ∙ sym own ∙ alone in
         (λ i. refused_if (same i) (Unsettled (lane_is i)))

@@ -9,13 +9,16 @@ use Rattle.book_state.specs.Told.{entry_numbered}
 
 -- what a place tells
 pub got : (o : Option (Bor Entry)) (entries : List Entry) (place : ℕ)
-    → MatchOption o (length entries ≤ place) (λ x. (place < length entries) × HoldsAt {X = Entry} (λ y. x.now ≡ y) entries place)
+    → MatchOption o (length entries ≤ place)
+    (λ x. (place < length entries) × HoldsAt {X = Entry} (λ y. x.now ≡ y) entries place)
     → IfSome o (λ x. x.now ≡ get_or entries place x.now) → option_copied o ≡ slice_get entries place
 got None entries place past read = sym (slice_get_past entries place past)
-got (Some x) entries place within read = sym (slice_get_read entries (length entries) place x.now refl within.0 read)
+got (Some x) entries place within read =
+    sym (slice_get_read entries (length entries) place x.now refl within.0 read)
 
 -- the place of a number is one less
-pub at_number : (entries : List Entry) (number : ℕ) → (number ≡ 0 → ⊥) → slice_get entries (number - 1) ≡ entry_numbered entries number
+pub at_number : (entries : List Entry) (number : ℕ) → (number ≡ 0 → ⊥)
+    → slice_get entries (number - 1) ≡ entry_numbered entries number
 at_number entries zero h = absurd (h refl)
 at_number entries (suc place) h =
     sym (ap (λ b. cond b (slice_get entries (suc place - 1)) None) (le-leb 1 (suc place) (omega arith)))

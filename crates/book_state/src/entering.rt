@@ -16,9 +16,10 @@ use crate::drawn::Drawn;
 use crate::weighed::{lane_batch_number, lane_tare, row_weighing};
 use batch_sums::Steps;
 use book_index::Index;
-use book_packs::{Packs, UNIT_DENSITY, limits_by_density};
+use book_packs::{Packs, limits_by_density};
 use book_samples::{Sample, Samples};
 use book_words::{Act, Entry, Name, Unit};
+use reference_test::UNIT_DENSITY;
 use sample_draw::Picks;
 use std::marker::Brand;
 use std::sync::ledger::{Blank, Ledger};
@@ -108,7 +109,6 @@ fn put_tare(
     ensures kept { IsPacksOf (entries.now ++ entry.now ∷ []) packs.new }
     ensures spare { packs.old.spare ≤ packs.new.spare + 1 }
 {
-    let _ = entries;
     let Some(number) = index.product_number(product) else {
         unreachable!()
     };
@@ -149,7 +149,6 @@ fn open_batch(
     ensures kept { IsPacksOf (entries.now ++ entry.now ∷ []) packs.new }
     ensures spare { packs.old.spare ≤ packs.new.spare + 1 }
 {
-    let _ = entries;
     let Some(number) = index.product_number(product) else {
         unreachable!()
     };
@@ -187,7 +186,6 @@ fn draw(
     ensures kept { IsPacksOf (entries.now ++ entry.now ∷ []) packs.new }
     ensures spare { packs.old.spare ≤ packs.new.spare + 1 }
 {
-    let _ = entries;
     let Some(number) = index.batch_number(batch) else {
         unreachable!()
     };
@@ -248,7 +246,6 @@ fn enter_first(
     ensures kept { IsSamplesOf (entries.now ++ entry.now ∷ []) samples.new }
     ensures spare { samples.old.spare ≤ samples.new.spare }
 {
-    let _ = entries;
     let Some(number) = index.batch_number(batch) else {
         unreachable!()
     };
@@ -273,7 +270,6 @@ fn enter_second(
     ensures kept { IsSamplesOf (entries.now ++ entry.now ∷ []) samples.new }
     ensures spare { samples.old.spare ≤ samples.new.spare }
 {
-    let _ = entries;
     let Some(number) = index.batch_number(batch) else {
         unreachable!()
     };

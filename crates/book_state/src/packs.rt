@@ -14,7 +14,6 @@ ghost use Rattle.book_words.specs.Refusals as rules;
 ghost use Rattle.book_words.specs.Answers.{IsLegal};
 ghost use Rattle.book_index.specs.Listed as listed;
 ghost use Rattle.book_packs.specs.Densities.{limits_at};
-ghost use Rattle.book_packs.specs.Stand.{limits_told};
 ghost use Rattle.book_packs.specs.Told.{piles_told, met_at};
 ghost use Rattle.book_state.specs.Told as told;
 
@@ -129,15 +128,6 @@ impl State {
         Some(self.packs.limits(number))
     }
 
-    /// The limits of the batch that a lane has, in mg. No name is looked for.
-    pub fn lane_limits(&self, lane: u8) -> Option<Limits>
-        ensures { result ≡ option_map (limits_told self.now.entries)
-            (acts.lane_batch self.now.entries lane) }
-    {
-        let batch = self.index.lane_batch_number(lane)?;
-        Some(self.packs.limits(batch))
-    }
-
     /// The totals of a batch. It takes no memory and no walk.
     pub fn totals(&self, batch: &Name) -> Option<Totals>
         ensures value { result ≡ told.totals_of_batch self.now.entries batch.now }
@@ -167,21 +157,16 @@ impl State {
     }
 
     /// What a weighing of a lane finds in its batch, once the prior has said what the gate did,
-    /// whatever its gross is.
-    pub fn met(&self, lane: u8, prior: Prior) -> AtWeighing
-        requires lane { (batch : names.Name)
-            × (acts.lane_batch self.now.entries lane ≡ Some batch) }
-        requires free { rules.prior_wrong self.now.entries lane prior ≡ None }
-        ensures value { (gross : ℤ) (batch : names.Name)
-            → acts.lane_batch self.now.entries lane ≡ Some batch
-            → result ≡ met_at self.now.entries (act.Weigh lane gross prior) batch }
-        ensures few { (result.population ≤ MAX_POPULATION)
-            × (result.nonstandard ≤ result.population) }
+    /// whatever its gross is; `None` where the lane has no batch. No name is looked for.
+    pub fn met(&self, lane: u8, prior: Prior) -> Option<AtWeighing>
+        ensures value { (gross : ℤ) → result ≡ option_map
+            (met_at self.now.entries (act.Weigh lane gross prior))
+            (acts.lane_batch self.now.entries lane) }
+        ensures few { IfSome result (λ met. (met.population ≤ MAX_POPULATION)
+            × (met.nonstandard ≤ met.population)) }
     {
-        let Some(number) = self.index.lane_batch_number(lane) else {
-            unreachable!()
-        };
-        self.packs.totals_at(lane, prior, number)
+        let batch = self.index.lane_batch_number(lane)?;
+        Some(self.packs.totals_at(lane, prior, batch))
     }
 
     /// The first closed batch, in order of opening, of which a tare gives a reading another one.

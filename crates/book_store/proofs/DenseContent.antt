@@ -36,52 +36,76 @@ dense_length row long =
     let short = trimmed_no_longer (slice_index row KIND_PLACE ∷ drop FIELDS_PLACE row) in
     omega (arith, short, length-drop FIELDS_PLACE row, long)
 
-content_more : (entries : List Entry) (entry : Entry) → book_content (entries ++ entry ∷ []) ≡ book_content entries ++ dense (row_bytes new_layout (length entries + 1) entry)
+content_more : (entries : List Entry) (entry : Entry)
+    → book_content (entries ++ entry ∷ []) ≡ book_content entries
+    ++ dense (row_bytes new_layout (length entries + 1) entry)
 content_more entries entry =
     let row = row_bytes new_layout (length entries + 1) entry in
     ap (λ (rows : List (List ℕ)). content rows) (spelled_more entries entry)
     ∙ flat_map-append dense (spelled entries) (row ∷ [])
     ∙ ap (λ (l : List ℕ). book_content entries ++ l) (append-nil (dense row))
 
-where_true : (test : Bool) (found : Option Entry) {entry : Option Entry} → test ≡ true → (if test then found else None) ≡ entry → found ≡ entry
+where_true : (test : Bool) (found : Option Entry) {entry : Option Entry} → test ≡ true
+    → (if test then found else None) ≡ entry → found ≡ entry
 where_true true found holds is = is
 where_true false found holds is = absurd (cc)
 
 -- the entry of the next number
-pub entry_there : (entries : List Entry) (before : ℕ) (entry : Entry) → entry_numbered entries (before + 1) ≡ Some entry → slice_get entries before ≡ Some entry
+pub entry_there : (entries : List Entry) (before : ℕ) (entry : Entry)
+    → entry_numbered entries (before + 1) ≡ Some entry → slice_get entries before ≡ Some entry
 entry_there entries before entry is =
     let place : before + 1 - 1 ≡ before = omega arith in
     let some : nat_le 1 (before + 1) ≡ true = grind (arith, nat_tests) in
-    ap (λ (k : ℕ). slice_get entries k) (sym place) ∙ where_true (nat_le 1 (before + 1)) (slice_get entries (before + 1 - 1)) some is
+    ap (λ (k : ℕ). slice_get entries k) (sym place)
+    ∙ where_true (nat_le 1 (before + 1)) (slice_get entries (before + 1 - 1)) some is
 
-take_more : (entries : List Entry) (before : ℕ) (entry : Entry) → before < length entries → slice_get entries before ≡ Some entry → take (before + 1) entries ≡ take before entries ++ entry ∷ []
+take_more : (entries : List Entry) (before : ℕ) (entry : Entry) → before < length entries
+    → slice_get entries before ≡ Some entry
+    → take (before + 1) entries ≡ take before entries ++ entry ∷ []
 take_more entries before entry inside is =
     let next : before + 1 ≡ suc before = omega arith in
     ap (λ (n : ℕ). take n entries) next ∙ take-suc entries before entry inside
-    ∙ ap (λ (e : Entry). take before entries ++ e ∷ []) (get_or_from_slice_get entries before entry entry is)
+    ∙ ap (λ (e : Entry). take before entries ++ e ∷ [])
+    (get_or_from_slice_get entries before entry entry is)
 
 -- one entry more
-pub squeezed_more : (entries : List Entry) (before : ℕ) (entry : Entry) (row bytes now : List ℕ) → before < length entries → entry_numbered entries (before + 1) ≡ Some entry
-    → length row ≡ ROW_BYTES → Spells new_layout row (before + 1) entry → IsSqueezed entries before bytes → now ≡ bytes ++ dense row → IsSqueezed entries (before + 1) now
+pub squeezed_more : (entries : List Entry) (before : ℕ) (entry : Entry) (row bytes now : List ℕ)
+    → before < length entries → entry_numbered entries (before + 1) ≡ Some entry
+    → length row ≡ ROW_BYTES → Spells new_layout row (before + 1) entry
+    → IsSqueezed entries before bytes → now ≡ bytes ++ dense row
+    → IsSqueezed entries (before + 1) now
 squeezed_more entries before entry row bytes now inside there long spells so_far more =
     let first = take before entries in
     let count : length first ≡ before = omega (arith, length-take before entries, inside) in
-    let here : dense row ≡ dense (row_bytes new_layout (length first + 1) entry) = ap (λ (l : List ℕ). dense l) (spells.row ∙ ap (λ (n : ℕ). row_bytes new_layout (n + 1) entry) (sym count)) in
-    let size : length now ≡ length bytes + length (dense row) = ap (λ (l : List ℕ). length l) more ∙ length-append bytes (dense row) in
+    let here : dense row ≡ dense (row_bytes new_layout (length first + 1) entry) =
+    ap (λ (l : List ℕ). dense l) (spells.row
+    ∙ ap (λ (n : ℕ). row_bytes new_layout (n + 1) entry) (sym count)) in
+    let size : length now ≡ length bytes + length (dense row) = ap (λ (l : List ℕ). length l) more
+    ∙ length-append bytes (dense row) in
     let least = so_far.least in
     let most = so_far.most in
     let some : 1 ≤ length (dense row) = omega arith in
     record {
-      is = more ∙ ap (λ (l : List ℕ). l ++ dense row) so_far.is ∙ ap (λ (l : List ℕ). book_content first ++ l) here
-          ∙ sym (content_more first entry) ∙ ap book_content (sym (take_more entries before entry inside (entry_there entries before entry there)));
+      is = more ∙ ap (λ (l : List ℕ). l ++ dense row) so_far.is
+          ∙ ap (λ (l : List ℕ). book_content first ++ l) here
+          ∙ sym (content_more first entry)
+          ∙ ap book_content
+          (sym (take_more entries before entry inside
+          (entry_there entries before entry there)));
       least = omega (arith, size, least, some);
       most = omega (arith, size, most, dense_length row long);
     }
 
 -- each entry of a legal list may stand in a row
-pub allowed_at : (entries : List Entry) (before : ℕ) (entry : Entry) → IsLegal entries → IsAllowedWhereLawful → before < length entries → entry_numbered entries (before + 1) ≡ Some entry → IsAllowed NAME_BYTES entry
+pub allowed_at : (entries : List Entry) (before : ℕ) (entry : Entry) → IsLegal entries
+    → IsAllowedWhereLawful → before < length entries
+    → entry_numbered entries (before + 1) ≡ Some entry → IsAllowed NAME_BYTES entry
 allowed_at entries before entry legal allowed inside there =
     let is = get_or_from_slice_get entries before entry entry (entry_there entries before entry there) in
     let split : entries ≡ take before entries ++ entry ∷ drop (before + 1) entries =
-    sym (take-append-drop before entries) ∙ ap (λ (l : List Entry). take before entries ++ l) (drop_more entries before entry inside ∙ ap (λ (e : Entry). e ∷ drop (before + 1) entries) is) in
-    allowed (take before entries) entry (legal (take before entries) entry (drop (before + 1) entries) split)
+    sym (take-append-drop before entries)
+    ∙ ap (λ (l : List Entry). take before entries ++ l)
+    (drop_more entries before entry inside
+    ∙ ap (λ (e : Entry). e ∷ drop (before + 1) entries) is) in
+    allowed (take before entries) entry
+    (legal (take before entries) entry (drop (before + 1) entries) split)

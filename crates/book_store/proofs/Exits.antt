@@ -8,7 +8,8 @@ use Rattle.book_core.specs.View.{BookView}
 use Rattle.book_store.specs.Opening.{OnlyRead, Grows}
 
 -- what holds of an error holds where it is handed on
-pub handed_on : {T E : Type 0} (P : Result T E → Type 0) (result : Result T E) (error why : E) → result ≡ Err error → error ≡ why → P (Err why) → P result
+pub handed_on : {T E : Type 0} (P : Result T E → Type 0) (result : Result T E) (error why : E)
+    → result ≡ Err error → error ≡ why → P (Err why) → P result
 handed_on P result error why is same holds = subst P (sym (is ∙ ap (λ e. Err e) same)) holds
 
 -- a book that wasn't read on
@@ -17,11 +18,18 @@ grows_none book = record { limit = refl; legal = λ legal. legal }
 
 -- one walk after another
 pub grows_on : (old mid new : BookView) → Grows old mid → Grows mid new → Grows old new
-grows_on old mid new first second = record { limit = second.limit ∙ first.limit; legal = λ legal. second.legal (first.legal legal) }
+grows_on old mid new first second =
+    record { limit = second.limit ∙ first.limit; legal = λ legal. second.legal (first.legal legal) }
 
 module _ {D : Type 0} (g : disk.Ghosts D) where
   pub read_none : (old : Journal D) → OnlyRead g old old
-  read_none old = record { same = refl; unmoved = unmoved_none g (disk_of old); rows = λ rows has. has; sound = λ sound. sound }
+  read_none old = record {
+    same = refl;
+    unmoved = unmoved_none g (disk_of old);
+    rows =
+        λ rows has. has;
+    sound = λ sound. sound;
+  }
 
   pub read_on : (old mid new : Journal D) → OnlyRead g old mid → OnlyRead g mid new → OnlyRead g old new
   read_on old mid new first second = record {

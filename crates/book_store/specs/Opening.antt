@@ -152,6 +152,8 @@ pub record Refused {D : Type 0} (disk : disk.Ghosts D) (journal : Journal D)
   pub unmoved : IsUnmoved disk (journals.disk_of journal) refused.disk
   pub counts : CountsRefusal (disk.faults (journals.disk_of journal)) (disk.faults refused.disk)
       refused.why
+  pub asked : disk.asked refused.disk ≤ disk.asked (journals.disk_of journal)
+      + reading_cost (journals.kept_of journal) (journals.count_of journal)
   pub stops : WhereTold (disk.reads (journals.disk_of journal)) (λ bytes.
       IsReadable (journals.kept_of journal) (journals.count_of journal) bytes
       → Stops (rows_there (journals.kept_of journal) (journals.count_of journal) bytes) refused.why)

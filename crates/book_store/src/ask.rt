@@ -1,5 +1,5 @@
 use crate::store::Store;
-use book_core::{BookError, Step};
+use book_core::Step;
 use book_words::{Answered, Ask, AskError, Want};
 use disk_core::Disk;
 
@@ -47,20 +47,17 @@ impl<D: Disk> Store<D> {
         ensures sound { IsSound D.Disk self.new }
     {
         match &ask.want {
-            Want::Act(act) => match self.book.ready(by, ask.desk, ask.request, act) {
-                Ok(Step::New(ready)) => match self.enter(ready) {
+            Want::Act(act) => match self.book.ready(by, ask.desk, ask.request, act)? {
+                Step::New(ready) => match self.enter(ready) {
                     Ok(answered) => Ok(answered),
                     Err(_) => Err(AskError::DiskFault),
                 },
-                Ok(Step::Known(answered)) => Ok(answered),
-                Err(BookError::Refused(refused)) => Err(AskError::Refused(refused)),
-                Err(BookError::NoMemory) => Err(AskError::NoMemory),
+                Step::Known(answered) => Ok(answered),
             },
-            Want::Question(question) => match self.book.look(question) {
-                Ok(answered) => Ok(answered),
-                Err(BookError::Refused(refused)) => Err(AskError::Refused(refused)),
-                Err(BookError::NoMemory) => Err(AskError::NoMemory),
-            },
+            Want::Question(question) => {
+                let answered = self.book.look(question)?;
+                Ok(answered)
+            }
         }
     }
 }

@@ -116,8 +116,8 @@ fn read_content<D: Disk>(
     ensures cause { CountsReading (D.faults (disk_of journal.old)) (D.faults (disk_of journal.new))
         result }
     ensures passing { IfErr result IsPassing }
-    ensures asked { OnOk result (D.asked (disk_of journal.new)
-        ≤ D.asked (disk_of journal.old) + CALL_BYTES * calls_for kept.bytes) }
+    ensures asked { D.asked (disk_of journal.new)
+        ≤ D.asked (disk_of journal.old) + CALL_BYTES * calls_for kept.bytes }
 {
     let Ok(mut content) = Vec::with_capacity(alloc, kept.bytes as usize) else {
         return Err(MountError::NoMemory);
@@ -148,8 +148,8 @@ pub(crate) fn read_snapshot<D: Disk>(
     ensures read { OnlyRead D.Disk journal.old journal.new }
     ensures cause { CountsReading (D.faults (disk_of journal.old)) (D.faults (disk_of journal.new))
         result }
-    ensures asked { OnOk result (D.asked (disk_of journal.new)
-        ≤ D.asked (disk_of journal.old) + content_cost (kept_of journal.old)) }
+    ensures asked { D.asked (disk_of journal.new)
+        ≤ D.asked (disk_of journal.old) + content_cost (kept_of journal.old) }
 {
     let Some(kept) = journal.kept() else {
         return Ok(());

@@ -23,6 +23,7 @@ impl<D: Disk> Store<D> {
     ghost use Rattle.book_words.specs.declared.act.Entry.{Entry};
     ghost use Rattle.book_words.specs.Answers.{IsLegal};
     ghost use Rattle.book_journal.specs.Rows.{FitsSnapshot};
+    ghost use Rattle.book_journal.specs.Mounting.{slots_behind};
     ghost use Rattle.book_store.specs.Images.{HoldsBook};
     ghost use Rattle.book_store.specs.Stores.{disk_of, entries_of, limit_of, held_of, Hangs, IsSound};
     ghost use Rattle.book_store.specs.Listing.{IsOpenedAs};
@@ -66,6 +67,9 @@ impl<D: Disk> Store<D> {
         ensures asked { WhereTold (D.reads disk) (λ bytes. (rows size : ℕ) →
             FitsSnapshot rows size bytes → IfOk result (λ store. D.asked (disk_of store) ≤
             D.asked disk + opening_bytes rows size (length (entries_of store)))) }
+        ensures asked_refused { WhereTold (D.reads disk) (λ bytes. (rows size : ℕ) →
+            FitsSnapshot rows size bytes → IfErr result (λ refused. D.asked refused.disk ≤
+            D.asked disk + opening_bytes rows size (rows + slots_behind rows bytes))) }
         ensures tells { MatchResult result
             (λ store. TellsAsBefore (D.reads disk) (D.reads (disk_of store)))
             (λ refused. TellsAsBefore (D.reads disk) (D.reads refused.disk)) }

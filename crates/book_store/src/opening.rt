@@ -43,8 +43,8 @@ fn read_rows<D: Disk>(
     ensures read { OnlyRead D.Disk journal.old journal.new }
     ensures cause { CountsReading (D.faults (disk_of journal.old)) (D.faults (disk_of journal.new))
         result }
-    ensures asked { OnOk result (D.asked (disk_of journal.new) ≤ D.asked (disk_of journal.old)
-        + reading_cost (kept_of journal.old) (count_of journal.old)) }
+    ensures asked { D.asked (disk_of journal.new) ≤ D.asked (disk_of journal.old)
+        + reading_cost (kept_of journal.old) (count_of journal.old) }
 {
     read_snapshot(alloc, journal, book)?;
     read_slots(journal, book)?;

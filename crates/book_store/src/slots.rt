@@ -54,8 +54,8 @@ pub(crate) fn read_slots<D: Disk>(
     ensures read { OnlyRead D.Disk journal.old journal.new }
     ensures cause { CountsReading (D.faults (disk_of journal.old)) (D.faults (disk_of journal.new))
         result }
-    ensures asked { OnOk result (D.asked (disk_of journal.new) ≤ D.asked (disk_of journal.old)
-        + ROW_BYTES * (count_of journal.old - length book.old.entries)) }
+    ensures asked { D.asked (disk_of journal.new) ≤ D.asked (disk_of journal.old)
+        + ROW_BYTES * (count_of journal.old - length book.old.entries) }
 {
     let first = book.len();
     let count = journal.count();

@@ -8,6 +8,8 @@ mod adopting;
 #[cfg(test)]
 mod books;
 #[cfg(test)]
+mod callers;
+#[cfg(test)]
 mod crashes;
 #[cfg(test)]
 mod damages;

@@ -31,8 +31,8 @@ fn told_of(reply: &Reply) -> Told {
     }
 }
 
-// What an answer tells.
-fn read_answer(answer: &Result<Answered, AskError>) -> Told {
+/// What an answer tells.
+pub(crate) fn read_answer(answer: &Result<Answered, AskError>) -> Told {
     match answer {
         Ok(answered) => told_of(&answered.reply),
         Err(AskError::Refused(_)) => Told::Refused,

@@ -3,9 +3,9 @@ ghost use Rattle.hall_limits.specs.declared.TheConstants.{MIN_NOMINAL, MAX_NOMIN
 ghost use Rattle.book_words.specs.Acts.{product_of};
 ghost use Rattle.book_words.specs.Classes.{nominal_of_batch, density_of_batch};
 
-use book_packs::UNIT_DENSITY;
 use book_state::State;
 use book_words::{Name, Unit};
+use reference_test::UNIT_DENSITY;
 
 /// The nominal quantity of a batch that is there, in mg or microlitres by its unit.
 pub fn nominal_of_batch(state: &State, batch: &Name) -> i64

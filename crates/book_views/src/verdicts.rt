@@ -7,7 +7,7 @@ ghost use Rattle.book_words.specs.Acts.{product_of};
 ghost use Rattle.book_words.specs.Population.{population};
 ghost use Rattle.book_words.specs.Samples as samples;
 ghost use Rattle.book_words.specs.Verdicts as verdicts;
-ghost use Rattle.book_packs.specs.declared.densities.TheConstants.{UNIT_DENSITY};
+ghost use Rattle.reference_test.specs.declared.means.TheConstants.{UNIT_DENSITY};
 ghost use Rattle.book_packs.specs.Told.{totals_told};
 ghost use Rattle.book_state.specs.Prepared.{IsSampleOf};
 
@@ -15,11 +15,10 @@ use crate::contents::{count_defective, sum_contents};
 use crate::limits::{density_of_batch, nominal_of_batch};
 use annex_tables::Plan;
 use batch_sums::Totals;
-use book_packs::UNIT_DENSITY;
 use book_samples::Sample;
 use book_state::State;
 use book_words::{Fails, Name, Verdict};
-use reference_test::{Contents, Sums, contents_check, mean_check_at};
+use reference_test::{Contents, Sums, UNIT_DENSITY, contents_check, mean_check_at};
 
 /// Whether the first sample leaves it open: more defective packs than are accepted, fewer than are
 /// rejected.

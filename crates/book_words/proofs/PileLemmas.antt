@@ -10,7 +10,8 @@ use Rattle.book_words.specs.declared.act.Prior.TheVariants.{Nothing, Opened, Sta
 use Rattle.book_words.specs.Population.{settled_pile}
 
 -- without a look at samples nothing lies among the sampled
-pub unsampled : (voided : Bool) (signal : Option Signal) (next : Option Prior) → same_pile (settled_pile voided signal next) Sampled ≡ false
+pub unsampled : (voided : Bool) (signal : Option Signal) (next : Option Prior)
+    → same_pile (settled_pile voided signal next) Sampled ≡ false
 unsampled true signal next = refl
 unsampled false None next = refl
 unsampled false (Some Pass) None = refl

@@ -7,15 +7,12 @@ use Rattle.annex_tables.specs.declared.types.Limits.{Limits}
 use Rattle.annex_tables.specs.Errors.{limits_of}
 use Rattle.pack_judge.specs.declared.types.Class.{Class}
 use Rattle.pack_judge.specs.declared.types.Class.TheVariants.{Standard, NonStandard, Inadequate}
+use Rattle.reference_test.specs.declared.means.TheConstants.{UNIT_DENSITY}
 use Rattle.book_words.specs.declared.name.Name.{Name}
 use Rattle.book_words.specs.declared.act.Unit as units
 use Rattle.book_words.specs.declared.act.Unit.TheVariants.{Mass, Volume}
 use Rattle.book_words.specs.declared.act.Entry.{Entry}
 use Rattle.book_words.specs.Acts.{nominal_of, unit_of, product_of, density_of}
-
--- the density at which a mass in mg and a volume in microlitres are one number
-abbrev pub UNIT_DENSITY : ℕ
-UNIT_DENSITY = 1000000
 
 -- whether a mass is below a limit at a density
 abbrev pub is_below : ℕ → ℤ → ℤ → Bool

@@ -5,6 +5,7 @@ use Rattle.annex_tables.specs.declared.types.Plan.{Plan}
 use Rattle.reference_test.specs.declared.types.Contents.{Contents}
 use Rattle.reference_test.specs.declared.types.Contents.TheVariants.{Accept}
 use Rattle.reference_test.specs.Contents.{contents_of}
+use Rattle.reference_test.specs.declared.means.TheConstants.{UNIT_DENSITY}
 use Rattle.reference_test.specs.Means.{mean_accepts}
 use Rattle.book_words.specs.declared.name.Name.{Name}
 use Rattle.book_words.specs.declared.act.Entry.{Entry}
@@ -12,7 +13,7 @@ use Rattle.book_words.specs.declared.act.Reading.{Reading}
 use Rattle.book_words.specs.declared.views.Fails.{Fails}
 use Rattle.book_words.specs.declared.views.Verdict.{Verdict}
 use Rattle.book_words.specs.declared.views.Verdict.TheVariants.{Empty, Released, Withheld}
-use Rattle.book_words.specs.Classes.{UNIT_DENSITY, nominal_of_batch, density_of_batch}
+use Rattle.book_words.specs.Classes.{nominal_of_batch, density_of_batch}
 use Rattle.book_words.specs.Population.{population, nonstandard_count, inadequate_count, net_sum}
 use Rattle.book_words.specs.Samples.{Sample, sample_of}
 use Rattle.book_words.specs.Measures.{contents_among, defective_count}

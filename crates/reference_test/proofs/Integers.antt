@@ -44,7 +44,8 @@ pub suc-*ℤ : (n : ℕ) (a : ℤ) → pos (suc n) *ℤ a ≡ a +ℤ pos n *ℤ 
 suc-*ℤ n a = let h = suc_ℤ-*ℤ (pos n) a in omega (arith, ints, h)
 
 -- the square of a difference, as it is known, with natural numbers for the parts of the two numbers
-square_of_parts : (u d p q : ℕ) → u + q ≡ d + p → u * u + d * d + 2 * (p * q) ≡ p * p + q * q + 2 * (u * d)
+square_of_parts : (u d p q : ℕ) → u + q ≡ d + p
+    → u * u + d * d + 2 * (p * q) ≡ p * p + q * q + 2 * (u * d)
 square_of_parts u d p q h =
     let hu = ap (λ t. u * t) h in
     let hd = ap (λ t. d * t) h in

@@ -1,4 +1,4 @@
-pub mod Computed
+pub mod SignedNumbers
 pub mod Deviations
 pub mod Integers
 pub mod Sides

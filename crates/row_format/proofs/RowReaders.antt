@@ -26,18 +26,27 @@ module _ (total width number : ℕ) where
 
   -- the fields of a row, one behind the other
   abbrev Parts : Entry → List ℕ → Type 0
-  Parts = Then (OneNumber 1 OPEN) (λ _. Then (CodeField number_of_kind) (λ kind. Then (OneNumber 4 number) (λ _. Then Two (λ by. Then Two (λ desk. Then Four (λ request. Body kind by desk request))))))
+  Parts = Then (OneNumber 1 OPEN)
+      (λ _. Then (CodeField number_of_kind)
+      (λ kind. Then (OneNumber 4 number)
+      (λ _. Then Two (λ by. Then Two (λ desk. Then Four (λ request. Body kind by desk request))))))
 
   abbrev Spelled : Entry → List ℕ → Type 0
   Spelled entry text = Spells (layout_of total width) text number entry
 
   join : (front rest a r text : List ℕ) → text ≡ front ++ rest → front ≡ a → rest ≡ r → text ≡ a ++ r
-  join front rest a r text parts p q = parts ∙ ap (λ (xs : List ℕ). xs ++ rest) p ∙ ap (λ (xs : List ℕ). a ++ xs) q
+  join front rest a r text parts p q = parts ∙ ap (λ (xs : List ℕ). xs ++ rest) p
+      ∙ ap (λ (xs : List ℕ). a ++ xs) q
 
   -- the zeros behind the fields of a kind are those of the row
-  whole_row : (by desk request : ℕ) (told : Told) → OPEN ∷ kind_code told.act ∷ (four number ++ (two by ++ (two desk ++ (four request ++ filled total (fields_of width told.act told.signal))))) ≡ row_bytes (layout_of total width) number (entry_of by desk request told)
+  whole_row : (by desk request : ℕ) (told : Told)
+      → OPEN ∷ kind_code told.act ∷ (four number
+      ++ (two by ++
+      (two desk ++ (four request ++ filled total (fields_of width told.act told.signal)))))
+      ≡ row_bytes (layout_of total width) number (entry_of by desk request told)
   whole_row by desk request told =
-      let zeros : total - length (fields_of width told.act told.signal) ≡ 14 + total - length (spelled_fields width number (entry_of by desk request told)) = omega arith in
+      let zeros : total - length (fields_of width told.act told.signal) ≡ 14 + total
+      - length (spelled_fields width number (entry_of by desk request told)) = omega arith in
       ap (λ k. spelled_fields width number (entry_of by desk request told) ++ replicate k 0) zeros
 
   to_spelled : (entry : Entry) (text : List ℕ) → Parts entry text → Spelled entry text
@@ -50,19 +59,36 @@ module _ (total width number : ℕ) where
       let body = x6.goes in
       let told = body.from in
       let is = body.spelled in
-      let kind : number_of_kind x2.first ≡ kind_code told.act = ap number_of_kind (sym is.of_kind) ∙ kind_number told.act in
+      let kind : number_of_kind x2.first ≡ kind_code told.act = ap number_of_kind (sym is.of_kind)
+      ∙ kind_number told.act in
       let fields = filled total (fields_of width told.act told.signal) in
-      let six : x5.rest ≡ four x6.first ++ fields = join x6.front x6.rest (four x6.first) fields x5.rest x6.parts x6.starts.is is.spelled in
-      let five : x4.rest ≡ two x5.first ++ (four x6.first ++ fields) = join x5.front x5.rest (two x5.first) _ x4.rest x5.parts x5.starts.is six in
-      let three : x3.rest ≡ two x4.first ++ (two x5.first ++ (four x6.first ++ fields)) = join x4.front x4.rest (two x4.first) _ x3.rest x4.parts x4.starts.is five in
-      let second : x2.rest ≡ four number ++ (two x4.first ++ (two x5.first ++ (four x6.first ++ fields))) = join x3.front x3.rest (four number) _ x2.rest x3.parts (x3.starts.1 ∙ sym (written_low 4 number)) three in
-      let first : x.rest ≡ kind_code told.act ∷ (four number ++ (two x4.first ++ (two x5.first ++ (four x6.first ++ fields)))) = join x2.front x2.rest (kind_code told.act ∷ []) _ x.rest x2.parts (x2.starts ∙ ap (λ (k : ℕ). k ∷ []) kind) second in
-      let row : text ≡ OPEN ∷ kind_code told.act ∷ (four number ++ (two x4.first ++ (two x5.first ++ (four x6.first ++ fields)))) = join x.front x.rest (OPEN ∷ []) _ text x.parts x.starts.1 first in
+      let six : x5.rest ≡ four x6.first ++ fields =
+      join x6.front x6.rest (four x6.first) fields x5.rest x6.parts x6.starts.is is.spelled in
+      let five : x4.rest ≡ two x5.first ++ (four x6.first ++ fields) =
+      join x5.front x5.rest (two x5.first) _ x4.rest x5.parts x5.starts.is six in
+      let three : x3.rest ≡ two x4.first ++ (two x5.first ++ (four x6.first ++ fields)) =
+      join x4.front x4.rest (two x4.first) _ x3.rest x4.parts x4.starts.is five in
+      let second : x2.rest ≡ four number
+      ++ (two x4.first ++ (two x5.first ++ (four x6.first ++ fields))) =
+      join x3.front x3.rest (four number) _ x2.rest x3.parts
+      (x3.starts.1 ∙ sym (written_low 4 number)) three in
+      let first : x.rest ≡ kind_code told.act
+      ∷ (four number ++ (two x4.first ++ (two x5.first ++ (four x6.first ++ fields)))) =
+      join x2.front x2.rest (kind_code told.act ∷ []) _ x.rest x2.parts
+      (x2.starts ∙ ap (λ (k : ℕ). k ∷ []) kind) second in
+      let row : text ≡ OPEN ∷ kind_code told.act
+      ∷ (four number ++ (two x4.first ++ (two x5.first ++ (four x6.first ++ fields)))) =
+      join x.front x.rest (OPEN ∷ []) _ text x.parts x.starts.1 first in
       subst (λ e. Spelled e text) (sym body.is) (record {
         row = row ∙ whole_row x4.first x5.first x6.first told;
         can = record {
           allowed = record { act = is.allowed; signal = is.signalled };
-          fits = record { by = x4.starts.below; desk = x5.starts.below; request = x6.starts.below; act = is.fits };
+          fits = record {
+            by = x4.starts.below;
+            desk = x5.starts.below;
+            request = x6.starts.below;
+            act = is.fits;
+          };
         };
       })
 
@@ -107,7 +133,14 @@ module _ (total width number : ℕ) where
                   starts = record { below = x.can.fits.request; is = refl };
                   goes = record {
                     from = told;
-                    spelled = record { of_kind = refl; allowed = x.can.allowed.act; signalled = x.can.allowed.signal; fits = x.can.fits.act; spelled = refl };
+                    spelled = record {
+                      of_kind = refl;
+                      allowed = x.can.allowed.act;
+                      signalled =
+                          x.can.allowed.signal;
+                      fits = x.can.fits.act;
+                      spelled = refl;
+                    };
                     is = refl;
                   };
                   parts = refl;
@@ -127,25 +160,36 @@ module _ (total width number : ℕ) where
     row_reads : IsReader Fills (14 + total) Spelled (row_at width number)
     unfolding row_at
     row_reads =
-        same_reader Fills (1 + (1 + (4 + (2 + (2 + (4 + total)))))) (14 + total) Parts Spelled (row_at width number) (omega arith) to_spelled from_spelled
-        (and_then gate_reads λ gate. and_then kind_reads λ kind. and_then (row_number_reads number below) λ same. and_then two_reads λ by. and_then two_reads λ desk. and_then any_four_reads λ request.
-        image_reads Fills (entry_of by desk request) total (IsBody total width kind) (act_at kind width) (act_reads total width kind room))
+        same_reader Fills (1 + (1 + (4 + (2 + (2 + (4 + total)))))) (14 + total) Parts Spelled
+        (row_at width number) (omega arith) to_spelled from_spelled
+        (and_then gate_reads λ gate. and_then kind_reads λ kind. and_then
+        (row_number_reads number below) λ same. and_then two_reads λ by.
+        and_then two_reads λ desk. and_then any_four_reads λ request.
+        image_reads Fills (entry_of by desk request) total (IsBody total width kind)
+        (act_at kind width) (act_reads total width kind room))
 
-  pub row_told : HasRoom total width → number < 2 ^ 32 → (bytes : List ℕ) → length bytes ≡ 14 + total → IsBytes bytes → Tells Spelled (14 + total) bytes 0 (row_at width number 0 bytes)
+  pub row_told : HasRoom total width → number < 2 ^ 32 → (bytes : List ℕ)
+      → length bytes ≡ 14 + total → IsBytes bytes
+      → Tells Spelled (14 + total) bytes 0 (row_at width number 0 bytes)
   row_told room below bytes long are =
       let all : take (14 + total) bytes ≡ bytes = take_all (14 + total) bytes (omega (arith, long)) in
-      subst (λ w. Tells Spelled (14 + total) w 0 (row_at width number 0 bytes)) all ((row_reads room below).tells 0 bytes (omega (arith, long)) are)
+      subst (λ w. Tells Spelled (14 + total) w 0 (row_at width number 0 bytes)) all
+      ((row_reads room below).tells 0 bytes (omega (arith, long)) are)
 
   pub row_field : HasRoom total width → number < 2 ^ 32 → IsField (14 + total) Spelled
   row_field room below = (row_reads room below).field
 
 -- what is told of a row, in the words of the contracts
-pub record TellsRow (layout : Layout) (number : ℕ) (bytes : List ℕ) (result : Result Entry RowFault) : Type 0 where
+pub record TellsRow (layout : Layout) (number : ℕ) (bytes : List ℕ)
+    (result : Result Entry RowFault) : Type 0 where
   pub row : IfOk result (Spells layout bytes number)
   pub back : (entry : Entry) → Spells layout bytes number entry → result ≡ Ok entry
   pub fault : IfErr result (λ fault. FirstFault layout number bytes fault.place)
 
-tells_row : (total width number : ℕ) (bytes : List ℕ) (result : Result Entry RowFault) → IsField (14 + total) (Spelled total width number) → Tells (Spelled total width number) (14 + total) bytes 0 result → TellsRow (layout_of total width) number bytes result
+tells_row : (total width number : ℕ) (bytes : List ℕ) (result : Result Entry RowFault)
+    → IsField (14 + total) (Spelled total width number)
+    → Tells (Spelled total width number) (14 + total) bytes 0 result
+    → TellsRow (layout_of total width) number bytes result
 tells_row total width number bytes (Ok found) field told =
     record {
       row = told;
@@ -156,7 +200,8 @@ tells_row total width number bytes (Err fault) field told =
     let at : fault.place ≡ told.count = omega (arith, told.behind) in
     record {
       row = tt;
-      back = λ entry spells. absurd (told.wrong (record { value = entry; text = bytes; is = spells; same = refl }));
+      back = λ entry spells. absurd (told.wrong
+          (record { value = entry; text = bytes; is = spells; same = refl }));
       fault = subst (FirstFault (layout_of total width) number bytes) (sym at) (record {
         inside = told.inside;
         before = record {
@@ -164,11 +209,22 @@ tells_row total width number bytes (Err fault) field told =
           can = told.before.is.can;
           same = ap (take told.count) (sym told.before.is.row) ∙ told.before.same;
         };
-        wrong = λ x. told.wrong (record { value = x.entry; text = row_bytes (layout_of total width) number x.entry; is = record { row = refl; can = x.can }; same = x.same });
+        wrong = λ x. told.wrong (record {
+          value = x.entry;
+          text = row_bytes (layout_of total width) number x.entry;
+          is =
+              record { row = refl; can = x.can };
+          same = x.same;
+        });
       });
     }
 
-pub row_is_told : (total width number : ℕ) (bytes : List ℕ) (result : Result Entry RowFault) → HasRoom total width → number < 2 ^ 32 → length bytes ≡ 14 + total → IsBytes bytes → result ≡ row_at width number 0 bytes
+pub row_is_told : (total width number : ℕ) (bytes : List ℕ) (result : Result Entry RowFault)
+    → HasRoom total width → number < 2 ^ 32 → length bytes ≡ 14 + total → IsBytes bytes
+    → result ≡ row_at width number 0 bytes
     → TellsRow (layout_of total width) number bytes result
 row_is_told total width number bytes result room below long are is =
-    subst (TellsRow (layout_of total width) number bytes) (sym is) (tells_row total width number bytes (row_at width number 0 bytes) (row_field total width number room below) (row_told total width number room below bytes long are))
+    subst (TellsRow (layout_of total width) number bytes) (sym is)
+    (tells_row total width number bytes (row_at width number 0 bytes)
+    (row_field total width number room below)
+    (row_told total width number room below bytes long are))

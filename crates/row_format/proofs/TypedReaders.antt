@@ -29,11 +29,13 @@ false_is_not_true : false ≡ true → ⊥
 false_is_not_true h = cc
 
 -- one of the numbers from one to another
-pub one_between : (least greatest number : ℕ) → IsOneOf (between least greatest) number → (least ≤ number) × (number ≤ greatest)
+pub one_between : (least greatest number : ℕ) → IsOneOf (between least greatest) number
+    → (least ≤ number) × (number ≤ greatest)
 one_between least greatest number (inl h) = absurd (false_is_not_true h.0)
 one_between least greatest number (inr h) = h
 
-pub between_fits : (least greatest size : ℕ) → 1 ≤ size → least ≤ greatest → greatest < modulus size → HasSize (between least greatest) size
+pub between_fits : (least greatest size : ℕ) → 1 ≤ size → least ≤ greatest → greatest < modulus size
+    → HasSize (between least greatest) size
 between_fits least greatest size positive some below =
     record {
       positive = positive;
@@ -47,22 +49,33 @@ between_fits least greatest size positive some below =
 abbrev pub OneNumber : ℕ → ℕ → ℕ → List ℕ → Type 0
 OneNumber size number value text = (value ≡ number) × (text ≡ low size number)
 
-only_number : (size number value : ℕ) (text : List ℕ) → NumberField (between number number) size value text → OneNumber size number value text
+only_number : (size number value : ℕ) (text : List ℕ)
+    → NumberField (between number number) size value text → OneNumber size number value text
 only_number size number value text x =
     let h = one_between number number value x.0 in
     let is : value ≡ number = omega (arith, h.0, h.1) in
     (is, x.1 ∙ ap (low size) is)
 
-number_only : (size number value : ℕ) (text : List ℕ) → OneNumber size number value text → NumberField (between number number) size value text
-number_only size number value text x = (inr (omega (arith, x.0), omega (arith, x.0)), x.1 ∙ ap (low size) (sym x.0))
+number_only : (size number value : ℕ) (text : List ℕ) → OneNumber size number value text
+    → NumberField (between number number) size value text
+number_only size number value text x =
+    (inr (omega (arith, x.0), omega (arith, x.0)), x.1 ∙ ap (low size) (sym x.0))
 
 pub gate_reads : IsReader Within 1 (OneNumber 1 OPEN) gate_at
 unfolding gate_at
-gate_reads = same_reader Within 1 1 (NumberField (between OPEN OPEN) 1) (OneNumber 1 OPEN) (byte_in (between OPEN OPEN)) refl (only_number 1 OPEN) (number_only 1 OPEN) (byte_reads (between OPEN OPEN) (between_fits OPEN OPEN 1 (omega arith) (omega arith) (omega arith)))
+gate_reads = same_reader Within 1 1 (NumberField (between OPEN OPEN) 1) (OneNumber 1 OPEN)
+    (byte_in (between OPEN OPEN)) refl (only_number 1 OPEN) (number_only 1 OPEN)
+    (byte_reads (between OPEN OPEN)
+    (between_fits OPEN OPEN 1 (omega arith) (omega arith) (omega arith)))
 
-pub row_number_reads : (number : ℕ) → number < 2 ^ 32 → IsReader Within 4 (OneNumber 4 number) (row_number_at number)
+pub row_number_reads : (number : ℕ) → number < 2 ^ 32
+    → IsReader Within 4 (OneNumber 4 number) (row_number_at number)
 unfolding row_number_at
-row_number_reads number below = same_reader Within 4 4 (NumberField (between number number) 4) (OneNumber 4 number) (bounded_four (between number number)) refl (only_number 4 number) (number_only 4 number) (four_reads (between number number) (between_fits number number 4 (omega arith) (omega arith) (omega arith)))
+row_number_reads number below =
+    same_reader Within 4 4 (NumberField (between number number) 4) (OneNumber 4 number)
+    (bounded_four (between number number)) refl (only_number 4 number) (number_only 4 number)
+    (four_reads (between number number)
+    (between_fits number number 4 (omega arith) (omega arith) (omega arith)))
 
 -- ---- days and masses
 
@@ -72,37 +85,84 @@ FourBytes least greatest number text = IsBetween least greatest number × (text 
 abbrev pub EightBytes : ℤ → ℤ → ℤ → List ℕ → Type 0
 EightBytes least greatest number text = IsBetween least greatest number × (text ≡ eight_field number)
 
-signed_between : (least greatest number : ℕ) → (least ≤ number) × (number ≤ greatest) → IsBetween (pos least) (pos greatest) (pos number)
-signed_between least greatest number h = let a = h.0 in let b = h.1 in (omega (arith, ints), omega (arith, ints))
+signed_between : (least greatest number : ℕ) → (least ≤ number) × (number ≤ greatest)
+    → IsBetween (pos least) (pos greatest) (pos number)
+signed_between least greatest number h = let a = h.0 in let b = h.1 in
+    (omega (arith, ints), omega (arith, ints))
 
-between_signed : (least greatest number : ℕ) → IsBetween (pos least) (pos greatest) (pos number) → IsOneOf (between least greatest) number
-between_signed least greatest number h = let a = h.0 in let b = h.1 in inr (omega (arith, ints), omega (arith, ints))
+between_signed : (least greatest number : ℕ) → IsBetween (pos least) (pos greatest) (pos number)
+    → IsOneOf (between least greatest) number
+between_signed least greatest number h = let a = h.0 in let b = h.1 in
+    inr (omega (arith, ints), omega (arith, ints))
 
-four_to : (least greatest : ℕ) (value : ℤ) (text : List ℕ) → Image pos (NumberField (between least greatest) 4) value text → FourBytes (pos least) (pos greatest) value text
+four_to : (least greatest : ℕ) (value : ℤ) (text : List ℕ)
+    → Image pos (NumberField (between least greatest) 4) value text
+    → FourBytes (pos least) (pos greatest) value text
 four_to least greatest value text x =
-    subst (λ z. FourBytes (pos least) (pos greatest) z text) (sym x.is) (signed_between least greatest x.from (one_between least greatest x.from x.spelled.0), x.spelled.1 ∙ sym (written_low 4 x.from))
+    subst (λ z. FourBytes (pos least) (pos greatest) z text) (sym x.is) (
+      signed_between least greatest x.from (one_between least greatest x.from x.spelled.0),
+      x.spelled.1 ∙ sym (written_low 4 x.from),
+    )
 
-four_back : (least greatest : ℕ) (value : ℤ) (text : List ℕ) → FourBytes (pos least) (pos greatest) value text → Image pos (NumberField (between least greatest) 4) value text
-four_back least greatest (pos number) text x = record { from = number; spelled = (between_signed least greatest number x.0, x.1 ∙ written_low 4 number); is = refl }
+four_back : (least greatest : ℕ) (value : ℤ) (text : List ℕ)
+    → FourBytes (pos least) (pos greatest) value text
+    → Image pos (NumberField (between least greatest) 4) value text
+four_back least greatest (pos number) text x =
+    record {
+      from = number;
+      spelled =
+          (between_signed least greatest number x.0, x.1 ∙ written_low 4 number);
+      is = refl;
+    }
 four_back least greatest (negsuc number) text x = let a = x.0.0 in absurd (omega (arith, ints))
 
-eight_to : (least greatest : ℕ) (value : ℤ) (text : List ℕ) → Image pos (NumberField (between least greatest) 8) value text → EightBytes (pos least) (pos greatest) value text
+eight_to : (least greatest : ℕ) (value : ℤ) (text : List ℕ)
+    → Image pos (NumberField (between least greatest) 8) value text
+    → EightBytes (pos least) (pos greatest) value text
 eight_to least greatest value text x =
-    subst (λ z. EightBytes (pos least) (pos greatest) z text) (sym x.is) (signed_between least greatest x.from (one_between least greatest x.from x.spelled.0), x.spelled.1 ∙ sym (written_low 8 x.from))
+    subst (λ z. EightBytes (pos least) (pos greatest) z text) (sym x.is) (
+      signed_between least greatest x.from (one_between least greatest x.from x.spelled.0),
+      x.spelled.1 ∙ sym (written_low 8 x.from),
+    )
 
-eight_back : (least greatest : ℕ) (value : ℤ) (text : List ℕ) → EightBytes (pos least) (pos greatest) value text → Image pos (NumberField (between least greatest) 8) value text
-eight_back least greatest (pos number) text x = record { from = number; spelled = (between_signed least greatest number x.0, x.1 ∙ written_low 8 number); is = refl }
+eight_back : (least greatest : ℕ) (value : ℤ) (text : List ℕ)
+    → EightBytes (pos least) (pos greatest) value text
+    → Image pos (NumberField (between least greatest) 8) value text
+eight_back least greatest (pos number) text x =
+    record {
+      from = number;
+      spelled =
+          (between_signed least greatest number x.0, x.1 ∙ written_low 8 number);
+      is = refl;
+    }
 eight_back least greatest (negsuc number) text x = let a = x.0.0 in absurd (omega (arith, ints))
 
-four_bytes : (least greatest : ℕ) → least ≤ greatest → greatest < 2 ^ 32 → IsReader Within 4 (FourBytes (pos least) (pos greatest)) (λ place bytes. bounded_four (between least greatest) place bytes >>= λ number. Ok (pos number))
+four_bytes : (least greatest : ℕ) → least ≤ greatest → greatest < 2 ^ 32
+    → IsReader Within 4 (FourBytes (pos least) (pos greatest))
+    (λ place bytes. bounded_four (between least greatest) place bytes >>= λ number. Ok (pos number))
 four_bytes least greatest some below =
-    same_reader Within 4 4 (Image pos (NumberField (between least greatest) 4)) (FourBytes (pos least) (pos greatest)) (λ place bytes. bounded_four (between least greatest) place bytes >>= λ number. Ok (pos number)) refl (four_to least greatest) (four_back least greatest)
-    (image_reads Within pos 4 (NumberField (between least greatest) 4) (bounded_four (between least greatest)) (four_reads (between least greatest) (between_fits least greatest 4 (omega arith) some (omega arith))))
+    same_reader Within 4 4 (Image pos (NumberField (between least greatest) 4))
+    (FourBytes (pos least) (pos greatest))
+    (λ place bytes. bounded_four (between least greatest) place bytes >>= λ number. Ok
+    (pos number)) refl (four_to least greatest) (four_back least greatest)
+    (image_reads Within pos 4 (NumberField (between least greatest) 4)
+    (bounded_four (between least greatest))
+    (four_reads (between least greatest)
+    (between_fits least greatest 4 (omega arith) some (omega arith))))
 
-eight_bytes : (least greatest : ℕ) → least ≤ greatest → greatest < 2 ^ 64 → IsReader Within 8 (EightBytes (pos least) (pos greatest)) (λ place bytes. bounded_eight (between least greatest) place bytes >>= λ number. Ok (pos number))
+eight_bytes : (least greatest : ℕ) → least ≤ greatest → greatest < 2 ^ 64
+    → IsReader Within 8 (EightBytes (pos least) (pos greatest))
+    (λ place bytes. bounded_eight (between least greatest) place bytes >>= λ number. Ok
+    (pos number))
 eight_bytes least greatest some below =
-    same_reader Within 8 8 (Image pos (NumberField (between least greatest) 8)) (EightBytes (pos least) (pos greatest)) (λ place bytes. bounded_eight (between least greatest) place bytes >>= λ number. Ok (pos number)) refl (eight_to least greatest) (eight_back least greatest)
-    (image_reads Within pos 8 (NumberField (between least greatest) 8) (bounded_eight (between least greatest)) (eight_reads (between least greatest) (between_fits least greatest 8 (omega arith) some (omega arith))))
+    same_reader Within 8 8 (Image pos (NumberField (between least greatest) 8))
+    (EightBytes (pos least) (pos greatest))
+    (λ place bytes. bounded_eight (between least greatest) place bytes >>= λ number. Ok
+    (pos number)) refl (eight_to least greatest) (eight_back least greatest)
+    (image_reads Within pos 8 (NumberField (between least greatest) 8)
+    (bounded_eight (between least greatest))
+    (eight_reads (between least greatest)
+    (between_fits least greatest 8 (omega arith) some (omega arith))))
 
 pub day_reads : IsReader Within 4 (FourBytes (pos 0) MAX_DAY) day_at
 unfolding day_at
@@ -118,7 +178,8 @@ tare_reads = four_bytes 0 (unsigned_abs MAX_TARE) (omega arith) (omega arith)
 
 pub nominal_reads : IsReader Within 8 (EightBytes MIN_NOMINAL MAX_NOMINAL) nominal_at
 unfolding nominal_at
-nominal_reads = eight_bytes (unsigned_abs MIN_NOMINAL) (unsigned_abs MAX_NOMINAL) (omega arith) (omega arith)
+nominal_reads = eight_bytes (unsigned_abs MIN_NOMINAL) (unsigned_abs MAX_NOMINAL) (omega arith)
+    (omega arith)
 
 -- ---- densities and lanes
 
@@ -143,8 +204,17 @@ densities_fit density (inr h) = omega (arith, h.1)
 pub density_reads : IsReader Within 4 DensityField density_at
 unfolding density_at
 density_reads =
-    same_reader Within 4 4 (NumberField densities 4) DensityField (bounded_four densities) refl (λ value text x. (density_is value x.0, x.1 ∙ sym (written_low 4 value))) (λ value text x. (is_density value x.0, x.1 ∙ written_low 4 value))
-    (four_reads densities (record { positive = omega arith; below = densities_fit; example = 0; is = inl (refl, refl) }))
+    same_reader Within 4 4 (NumberField densities 4) DensityField (bounded_four densities) refl
+    (λ value text x. (density_is value x.0, x.1 ∙ sym (written_low 4 value)))
+    (λ value text x. (is_density value x.0, x.1 ∙ written_low 4 value))
+    (four_reads densities
+    (record {
+      positive = omega arith;
+      below = densities_fit;
+      example = 0;
+      is =
+          inl (refl, refl);
+    }))
 
 abbrev pub LaneField : ℕ → List ℕ → Type 0
 LaneField lane text = IsLane lane × (text ≡ lane ∷ [])
@@ -155,10 +225,13 @@ small_byte number small = let e : number % 256 ≡ number = omega arith in ap (�
 pub lane_reads : IsReader Within 1 LaneField lane_at
 unfolding lane_at
 lane_reads =
-    same_reader Within 1 1 (NumberField (between 1 MAX_LANE) 1) LaneField (byte_in (between 1 MAX_LANE)) refl
-    (λ value text x. let h = one_between 1 MAX_LANE value x.0 in (h, x.1 ∙ small_byte value (omega (arith, h.1))))
+    same_reader Within 1 1 (NumberField (between 1 MAX_LANE) 1) LaneField
+    (byte_in (between 1 MAX_LANE)) refl
+    (λ value text x. let h = one_between 1 MAX_LANE value x.0 in
+    (h, x.1 ∙ small_byte value (omega (arith, h.1))))
     (λ value text x. (inr x.0, x.1 ∙ sym (small_byte value (omega (arith, x.0.1)))))
-    (byte_reads (between 1 MAX_LANE) (between_fits 1 MAX_LANE 1 (omega arith) (omega arith) (omega arith)))
+    (byte_reads (between 1 MAX_LANE)
+    (between_fits 1 MAX_LANE 1 (omega arith) (omega arith) (omega arith)))
 
 -- ---- codes
 
@@ -245,10 +318,16 @@ pub record Eight (number : ℕ) (text : List ℕ) : Type 0 where
   pub is : text ≡ eight number
 
 pub two_reads : IsReader Within 2 Two two_at
-two_reads = same_reader Within 2 2 (AnyField 2) Two two_at refl (λ value text x. record { below = x.below; is = x.is ∙ sym (written_low 2 value) }) (λ value text x. record { below = x.below; is = x.is ∙ written_low 2 value }) any_two
+two_reads = same_reader Within 2 2 (AnyField 2) Two two_at refl
+    (λ value text x. record { below = x.below; is = x.is ∙ sym (written_low 2 value) })
+    (λ value text x. record { below = x.below; is = x.is ∙ written_low 2 value }) any_two
 
 pub any_four_reads : IsReader Within 4 Four four_at
-any_four_reads = same_reader Within 4 4 (AnyField 4) Four four_at refl (λ value text x. record { below = x.below; is = x.is ∙ sym (written_low 4 value) }) (λ value text x. record { below = x.below; is = x.is ∙ written_low 4 value }) any_four
+any_four_reads = same_reader Within 4 4 (AnyField 4) Four four_at refl
+    (λ value text x. record { below = x.below; is = x.is ∙ sym (written_low 4 value) })
+    (λ value text x. record { below = x.below; is = x.is ∙ written_low 4 value }) any_four
 
 pub any_eight_reads : IsReader Within 8 Eight eight_at
-any_eight_reads = same_reader Within 8 8 (AnyField 8) Eight eight_at refl (λ value text x. record { below = x.below; is = x.is ∙ sym (written_low 8 value) }) (λ value text x. record { below = x.below; is = x.is ∙ written_low 8 value }) any_eight
+any_eight_reads = same_reader Within 8 8 (AnyField 8) Eight eight_at refl
+    (λ value text x. record { below = x.below; is = x.is ∙ sym (written_low 8 value) })
+    (λ value text x. record { below = x.below; is = x.is ∙ written_low 8 value }) any_eight

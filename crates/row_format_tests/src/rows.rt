@@ -1,56 +1,81 @@
 use crate::words::{Broken, Piece, Row, from_desk, from_script, named, put, row_of, weighed};
 use annex_tables::Mode;
-use book_words::{Act, Entry, Prior, Unit};
+use book_words::{Act, Entry, Name, Prior, Unit};
 use pack_judge::{Cause, Signal};
 use row_format::{RowFault, read_row, write_row};
 use std::fmt;
 use std::test::Fail;
 
+// A first sample of a batch, whose packs are destroyed.
+fn draw(batch: Name) -> Act {
+    Act::Draw {
+        batch,
+        mode: Mode::Destroy,
+        word: 0x0102_0304_0506_0708,
+    }
+}
+
+// A batch of a product, at 916 grams a litre.
+fn opening(batch: Name, product: Name) -> Act {
+    Act::OpenBatch {
+        batch,
+        product,
+        density: 916_000,
+    }
+}
+
+// A product by volume.
+fn product(name: Name) -> Act {
+    Act::PutProduct {
+        name,
+        nominal: 750_000,
+        unit: Unit::Volume,
+    }
+}
+
+// A tare of a product.
+fn tare(product: Name) -> Act {
+    Act::PutTare {
+        product,
+        day: 20_150,
+        tare: 31_250,
+    }
+}
+
+// The measurement of a pack.
+const MEASURED: Act = Act::Measure {
+    pack: 6,
+    gross: 251_000,
+    empty: 31_250,
+};
+
+// The stop of a lane whose gate stayed shut.
+const STOPPED: Act = Act::StopLane {
+    lane: 3,
+    prior: Prior::Stayed,
+};
+
 fn entries() -> Result<[Entry; 14], fmt::Error> {
     let oil = named(b"oil")?;
     let batch = named(b"B")?;
+    let cans = named(b"O-2025-03-03_oil.of.1-litre-cans")?;
     let allowance = Signal::Reject(Cause::Allowance);
+    let word = 0xFFFF_0000_0000_0001;
     Ok([
         from_script(Act::NewDay { day: 20_150 }),
-        from_desk(Act::PutProduct {
-            name: oil,
-            nominal: 750_000,
-            unit: Unit::Volume,
-        }),
-        from_desk(Act::PutTare {
-            product: oil,
-            day: 20_150,
-            tare: 31_250,
-        }),
-        from_script(Act::OpenBatch {
-            batch: named(b"O-2025-03-03_oil.of.1-litre-cans")?,
-            product: oil,
-            density: 916_000,
-        }),
+        from_desk(product(oil)),
+        from_desk(tare(oil)),
+        from_script(opening(cans, oil)),
         from_desk(Act::EndRun { batch }),
         from_script(Act::Close { batch }),
         from_script(Act::StartLane { lane: 16, batch }),
         weighed(1, 251_000, Prior::Nothing, Signal::Pass),
         weighed(2, 30_000_000, Prior::Unknown, allowance),
-        from_script(Act::StopLane {
-            lane: 3,
-            prior: Prior::Stayed,
-        }),
+        from_script(STOPPED),
         from_desk(Act::Void { pack: 70_000 }),
-        from_script(Act::Draw {
-            batch,
-            mode: Mode::Destroy,
-            word: 0x0102_0304_0506_0708,
-        }),
-        from_script(Act::Measure {
-            pack: 6,
-            gross: 251_000,
-            empty: 31_250,
-        }),
-        from_script(Act::DrawSecond {
-            batch,
-            word: 0xFFFF_0000_0000_0001,
-        }),
+        from_script(draw(batch)),
+        from_script(MEASURED),
+        from_script(Act::DrawSecond { batch, word }),
     ])
 }
 

@@ -187,98 +187,68 @@ const NAMELESS: [Row; 28] = [
     ),
 ];
 
-// Commands with the names of a product and of a batch.
-fn with_names(rice: Name, batch: Name) -> [Row; 14] {
+// A command of the script's own.
+fn plain(line: &'static [u8], verb: Verb) -> Row {
+    (line, 0, 0, verb)
+}
+
+// The opening of a product.
+fn product(name: Name, nominal: i64, unit: Unit) -> Verb {
+    Verb::Product {
+        name,
+        nominal,
+        unit,
+    }
+}
+
+// Commands with the name of a product.
+fn with_product(rice: Name) -> [Row; 5] {
+    let tare = Verb::Tare {
+        product: rice,
+        day: DAY,
+        tare: 1_500,
+    };
     [
-        (
-            b"product rice250 250",
-            0,
-            0,
-            Verb::Product {
-                name: rice,
-                nominal: 250_000,
-                unit: Unit::Mass,
-            },
-        ),
-        (
-            b"product rice250 0.25",
-            0,
-            0,
-            Verb::Product {
-                name: rice,
-                nominal: 250,
-                unit: Unit::Mass,
-            },
-        ),
-        (
+        plain(b"product rice250 250", product(rice, 250_000, Unit::Mass)),
+        plain(b"product rice250 0.25", product(rice, 250, Unit::Mass)),
+        plain(
             b"product rice250 250 ml",
-            0,
-            0,
-            Verb::Product {
-                name: rice,
-                nominal: 250_000,
-                unit: Unit::Volume,
-            },
+            product(rice, 250_000, Unit::Volume),
         ),
-        (
+        plain(
             b"product rice250 1.5\tml ",
-            0,
-            0,
-            Verb::Product {
-                name: rice,
-                nominal: 1_500,
-                unit: Unit::Volume,
-            },
+            product(rice, 1_500, Unit::Volume),
         ),
-        (
-            b"tare rice250 2025-03-03 1.5",
-            0,
-            0,
-            Verb::Tare {
-                product: rice,
-                day: DAY,
-                tare: 1_500,
-            },
-        ),
-        (
+        plain(b"tare rice250 2025-03-03 1.5", tare),
+    ]
+}
+
+// The draw of a first sample.
+fn draw(batch: Name, mode: Mode, word: u64) -> Verb {
+    Verb::Draw { batch, mode, word }
+}
+
+// Commands with the name of a batch, the last of them a desk's.
+fn with_batch(batch: Name) -> [Row; 9] {
+    let second = Verb::Second {
+        batch,
+        word: u64::MAX,
+    };
+    [
+        plain(
             b"start 00000000000000000255 b1",
-            0,
-            0,
             Verb::Start { lane: 255, batch },
         ),
-        (b"end b1", 0, 0, Verb::End { batch }),
-        (
-            b"draw b1 keep 7",
-            0,
-            0,
-            Verb::Draw {
-                batch,
-                mode: Mode::Keep,
-                word: 7,
-            },
-        ),
-        (
+        plain(b"end b1", Verb::End { batch }),
+        plain(b"draw b1 keep 7", draw(batch, Mode::Keep, 7)),
+        plain(
             b"draw b1 destroy 18446744073709551615",
-            0,
-            0,
-            Verb::Draw {
-                batch,
-                mode: Mode::Destroy,
-                word: u64::MAX,
-            },
+            draw(batch, Mode::Destroy, u64::MAX),
         ),
-        (
-            b"second b1 18446744073709551615",
-            0,
-            0,
-            Verb::Second {
-                batch,
-                word: u64::MAX,
-            },
-        ),
-        (b"close b1", 0, 0, Verb::Close { batch }),
-        (b"sheet b1", 0, 0, Verb::Sheet { batch }),
-        (b"sample b1", 0, 0, Verb::Sample { batch }),
+        plain(b"second b1 18446744073709551615", second),
+        plain(b"close b1", Verb::Close { batch }),
+        plain(b"sheet b1", Verb::Sheet { batch }),
+        plain(b"sample b1", Verb::Sample { batch }),
         (
             b"@00000000000000065535 4294967295 end b1",
             u16::MAX,
@@ -338,9 +308,9 @@ fn wrong_opening(batch: Name, product: Name) -> Option<&'static [u8]> {
 
 #[test]
 fn commands_are_read(rt: HostRuntime) -> Result<(), Fail> {
-    let named = with_names(name(b"rice250")?, name(b"b1")?);
     assert_eq!(rt; wrong_command(&NAMELESS), None);
-    assert_eq!(rt; wrong_command(&named), None);
+    assert_eq!(rt; wrong_command(&with_product(name(b"rice250")?)), None);
+    assert_eq!(rt; wrong_command(&with_batch(name(b"b1")?)), None);
     assert_eq!(rt; wrong_opening(name(b"J")?, name(b"juice")?), None);
     Ok(())
 }

@@ -25,7 +25,9 @@ impl<D: Disk, N: Session> Model for HeldStore<D, N> {
 impl<D: Disk, N: Session> HeldStore<D, N> {
     ghost use Rattle.std.specs.Prelude.{◌≡◌};
     ghost use Rattle.device_facts.specs.Prefix.{IsPrefixOf};
-    ghost use Rattle.book_store.specs.Stores.{entries_of, IsSound};
+    ghost use Rattle.book_words.specs.Answers.{answer, added};
+    ghost use Rattle.book_store.specs.Stores.{book_of, entries_of, limit_of, IsSound};
+    ghost use Rattle.book_store.specs.Offers.{GivesAnswer, list_behind};
     ghost use Rattle.session_laws.specs.Sessions.{Begins, IsKeptSince};
 
     /// Begins a session with this store.
@@ -42,6 +44,11 @@ impl<D: Disk, N: Session> HeldStore<D, N> {
 
     /// Answers an ask of the caller `by`, as the store does.
     pub fn ask(&mut self, by: u16, ask: &Ask) -> Result<Answered, AskError>
+        ensures answer { GivesAnswer (book_of self.old) by ask.now
+            (added (limit_of self.old) (entries_of self.old) by ask.now) result
+            (answer (limit_of self.old) (entries_of self.old) ask.now) }
+        ensures entries { entries_of self.new ≡ list_behind result (entries_of self.old)
+            (added (limit_of self.old) (entries_of self.old) by ask.now) }
         ensures begins { IsPrefixOf (entries_of self.old) (entries_of self.new) }
     {
         self.store.ask(by, ask)

@@ -1,11 +1,12 @@
 //! A session from its begin to its end, and a whole run with one.
-ghost use Rattle.std.specs.Prelude.{◌≡◌, ◌≤◌, ℕ, List, IfOk};
+ghost use Rattle.std.specs.Prelude.{◌≡◌, ◌≤◌, ℕ, List, IfOk, IfErr};
 ghost use Rattle.hall_limits.specs.declared.TheConstants.{MAX_ROWS};
 ghost use Rattle.disk_core.specs.Disk.{WhereTold};
 ghost use Rattle.book_words.specs.declared.act.Entry.{Entry};
 ghost use Rattle.book_words.specs.Answers.{IsLegal};
 ghost use Rattle.book_store.specs.Images.{HoldsBook};
 ghost use Rattle.book_store.specs.Stores.{Hangs, IsSound};
+ghost use Rattle.book_store.specs.Mounting.{IsCauseOf};
 ghost use Rattle.session_laws.specs.Sessions.{Begins, IsKeptSince, RestsOnDisk, KeepsRun};
 
 use crate::held::HeldStore;
@@ -56,6 +57,7 @@ pub fn mount_session<D: Disk, R: Wait>(
     ensures kept { WhereTold (D.reads disk) (λ bytes.
         (held : List Entry) → HoldsBook held bytes → IsLegal held
         → IfOk result (λ store. KeepsRun D.Disk held disk store)) }
+    ensures refused { IfErr result (λ refused. IsCauseOf D.Disk refused.why disk refused.disk) }
 {
     match Store::mount(alloc, disk, limit) {
         Ok(store) => Ok(hold_session(rt, store, asks)),

@@ -11,15 +11,18 @@ use Rattle.tare_register.specs.declared.types.ProductDay.{ProductDay}
 use Rattle.tare_register.specs.InOrder.{IsInOrder, IsCut, is_up_to, key_of, no_entry, leads, none_up_to, all_up_to}
 
 -- what is up to the key of an entry is up to each key that the entry is up to
-pub up_to_chain : (entry other : ProductTare) (key : ProductDay) → is_up_to (key_of other) entry ≡ true → is_up_to key other ≡ true → is_up_to key entry ≡ true
+pub up_to_chain : (entry other : ProductTare) (key : ProductDay)
+    → is_up_to (key_of other) entry ≡ true → is_up_to key other ≡ true → is_up_to key entry ≡ true
 up_to_chain entry other key h k = grind (arith, ints, nat_tests)
 
 -- of two entries one is up to the key of the other
-up_to_either_way : (entry other : ProductTare) → is_up_to (key_of entry) other ≡ false → is_up_to (key_of other) entry ≡ true
+up_to_either_way : (entry other : ProductTare) → is_up_to (key_of entry) other ≡ false
+    → is_up_to (key_of other) entry ≡ true
 up_to_either_way entry other h = grind (arith, ints, nat_tests)
 
 -- where the first entry isn't up to a key, none is
-pub none_after : (entry : ProductTare) (xs : List ProductTare) (key : ProductDay) → leads entry xs ≡ true → is_up_to key entry ≡ false →
+pub none_after : (entry : ProductTare) (xs : List ProductTare) (key : ProductDay)
+    → leads entry xs ≡ true → is_up_to key entry ≡ false →
     none_up_to key xs ≡ true
 none_after entry [] key all h = refl
 none_after entry (x ∷ xs) key all h =
@@ -30,42 +33,56 @@ none_after entry (x ∷ xs) key all h =
     ]) (none_after entry xs key parts.1 h)
 
 -- an entry that leads some is up to the key of each
-all_at : (entry : ProductTare) (xs : List ProductTare) (i : ℕ) → i < length xs → leads entry xs ≡ true → is_up_to (key_of (get_or xs i no_entry)) entry ≡ true
+all_at : (entry : ProductTare) (xs : List ProductTare) (i : ℕ) → i < length xs
+    → leads entry xs ≡ true → is_up_to (key_of (get_or xs i no_entry)) entry ≡ true
 all_at entry [] i within all = absurd (omega (arith, within))
 all_at entry (x ∷ xs) zero within all = (and_parts (is_up_to (key_of x) entry) (leads entry xs) all).0
-all_at entry (x ∷ xs) (suc i) within all = all_at entry xs i (omega (arith, within)) (and_parts (is_up_to (key_of x) entry) (leads entry xs) all).1
+all_at entry (x ∷ xs) (suc i) within all =
+    all_at entry xs i (omega (arith, within))
+    (and_parts (is_up_to (key_of x) entry) (leads entry xs) all).1
 
 -- where the entry at a place is up to a key, all before it are
-pub cut_before : (xs : List ProductTare) (i : ℕ) (key : ProductDay) → IsInOrder xs → i < length xs → is_up_to key (get_or xs i no_entry) ≡ true →
+pub cut_before : (xs : List ProductTare) (i : ℕ) (key : ProductDay) → IsInOrder xs → i < length xs
+    → is_up_to key (get_or xs i no_entry) ≡ true →
     all_up_to key (take (suc i) xs) ≡ true
 cut_before [] i key order within h = refl
 cut_before (x ∷ xs) zero key order within h = and_from (is_up_to key x) true h refl
 cut_before (x ∷ xs) (suc i) key order within h =
     let inside : i < length xs = omega (arith, within) in
-    and_from (is_up_to key x) (all_up_to key (take (suc i) xs)) (up_to_chain x (get_or xs i no_entry) key (all_at x xs i inside order.0) h) (cut_before xs i key order.1 inside h)
+    and_from (is_up_to key x) (all_up_to key (take (suc i) xs))
+    (up_to_chain x (get_or xs i no_entry) key (all_at x xs i inside order.0) h)
+    (cut_before xs i key order.1 inside h)
 
 -- where it isn't, none behind it is
-pub cut_behind : (xs : List ProductTare) (i : ℕ) (key : ProductDay) → IsInOrder xs → i < length xs → is_up_to key (get_or xs i no_entry) ≡ false →
+pub cut_behind : (xs : List ProductTare) (i : ℕ) (key : ProductDay) → IsInOrder xs → i < length xs
+    → is_up_to key (get_or xs i no_entry) ≡ false →
     none_up_to key (drop i xs) ≡ true
 cut_behind [] i key order within h = absurd (omega (arith, within))
-cut_behind (x ∷ xs) zero key order within h = and_from (not (is_up_to key x)) (none_up_to key xs) (rw h refl) (none_after x xs key order.0 h)
+cut_behind (x ∷ xs) zero key order within h =
+    and_from (not (is_up_to key x)) (none_up_to key xs) (rw h refl) (none_after x xs key order.0 h)
 cut_behind (x ∷ xs) (suc i) key order within h = cut_behind xs i key order.1 (omega (arith, within)) h
 
 -- an entry is up to the keys of those that aren't up to its own
-up_to_before : (entry : ProductTare) (xs : List ProductTare) → none_up_to (key_of entry) xs ≡ true → leads entry xs ≡ true
+up_to_before : (entry : ProductTare) (xs : List ProductTare) → none_up_to (key_of entry) xs ≡ true
+    → leads entry xs ≡ true
 up_to_before entry [] all = refl
 up_to_before entry (x ∷ xs) all =
     let parts = and_parts (not (is_up_to (key_of entry) x)) (none_up_to (key_of entry) xs) all in
-    and_from (is_up_to (key_of x) entry) (leads entry xs) (up_to_either_way entry x (not-true (is_up_to (key_of entry) x) parts.0)) (up_to_before entry xs parts.1)
+    and_from (is_up_to (key_of x) entry) (leads entry xs)
+    (up_to_either_way entry x (not-true (is_up_to (key_of entry) x) parts.0))
+    (up_to_before entry xs parts.1)
 
-all_with : (front : ProductTare) (xs ys : List ProductTare) (entry : ProductTare) → leads front (xs ++ ys) ≡ true → is_up_to (key_of entry) front ≡ true →
+all_with : (front : ProductTare) (xs ys : List ProductTare) (entry : ProductTare)
+    → leads front (xs ++ ys) ≡ true → is_up_to (key_of entry) front ≡ true →
     leads front (xs ++ entry ∷ ys) ≡ true
 all_with front [] ys entry all h = and_from (is_up_to (key_of entry) front) (leads front ys) h all
 all_with front (x ∷ xs) ys entry all h =
     let parts = and_parts (is_up_to (key_of x) front) (leads front (xs ++ ys)) all in
-    and_from (is_up_to (key_of x) front) (leads front (xs ++ entry ∷ ys)) parts.0 (all_with front xs ys entry parts.1 h)
+    and_from (is_up_to (key_of x) front) (leads front (xs ++ entry ∷ ys)) parts.0
+    (all_with front xs ys entry parts.1 h)
 
-in_order_with : (xs ys : List ProductTare) (entry : ProductTare) → IsInOrder (xs ++ ys) → all_up_to (key_of entry) xs ≡ true →
+in_order_with : (xs ys : List ProductTare) (entry : ProductTare) → IsInOrder (xs ++ ys)
+    → all_up_to (key_of entry) xs ≡ true →
     none_up_to (key_of entry) ys ≡ true → IsInOrder (xs ++ entry ∷ ys)
 in_order_with [] ys entry order before behind = (up_to_before entry ys behind, order)
 in_order_with (x ∷ xs) ys entry order before behind =
@@ -73,5 +90,8 @@ in_order_with (x ∷ xs) ys entry order before behind =
     (all_with x xs ys entry order.0 parts.0, in_order_with xs ys entry order.1 parts.1 behind)
 
 -- an entry put at its cut
-pub in_order_put : (xs : List ProductTare) (entry : ProductTare) (count : ℕ) → IsInOrder xs → IsCut (key_of entry) count xs → IsInOrder (insert xs count entry)
-in_order_put xs entry count order cut = in_order_with (take count xs) (drop count xs) entry (subst IsInOrder (sym (take-append-drop count xs)) order) cut.before cut.behind
+pub in_order_put : (xs : List ProductTare) (entry : ProductTare) (count : ℕ) → IsInOrder xs
+    → IsCut (key_of entry) count xs → IsInOrder (insert xs count entry)
+in_order_put xs entry count order cut =
+    in_order_with (take count xs) (drop count xs) entry
+    (subst IsInOrder (sym (take-append-drop count xs)) order) cut.before cut.behind

@@ -406,7 +406,8 @@ module _ {E : Type 0} (h : ℕ) where
         truth = t';
         word = r.word;
         each = each_end (λ j u. IsRole u.role h t' j u) (set s.views id (with_by v by))
-            (pass_view v by) (new_pass r.truth by seat id v (not_first s.views id v (with_by v by) at) is)
+            (pass_view v by) (new_pass r.truth by seat id v
+            (not_first s.views id v (with_by v by) at) is)
             (each_set (λ j u. IsRole u.role h t' j u) s.views id (with_by v by)
             (subst (λ (role : Role). IsRole role h t' id (with_by v by)) (sym book)
             (book_recorded r.truth by seat id v new' is))

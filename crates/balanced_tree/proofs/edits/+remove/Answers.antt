@@ -22,4 +22,5 @@ pub returns-clause-items : goal.returns-clause-items
 returns-clause-items g t c =
     let counted = count_is c.in-Some.field-0.left c.in-Some.ensures.some.balanced_left in
     c.rebalance-2.ensures.items
-    ∙ root_out _ _ _ _ _ _ _ c.in-Some.ensures.some.items c.remove-right-2.ensures.item c.remove-right-2.ensures.items (omega (arith, counted, c.count-before.ensures))
+    ∙ root_out _ _ _ _ _ _ _ c.in-Some.ensures.some.items c.remove-right-2.ensures.item
+    c.remove-right-2.ensures.items (omega (arith, counted, c.count-before.ensures))

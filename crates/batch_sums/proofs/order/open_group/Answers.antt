@@ -12,10 +12,17 @@ returns-clause-index c =
     let old = c.args.groups.now.items in
     let order = items c.args.order.now in
     let face : Face = record { key = c.args.key; tare = c.args.tare } in
-    let own : face_of c.new.result ≡ face = λ i. record { key = c.new.ensures.key i; tare = c.new.ensures.tare i } in
+    let own : face_of c.new.result ≡ face =
+    λ i. record { key = c.new.ensures.key i; tare = c.new.ensures.tare i } in
     let pushed : c.push.new.self.items ≡ old ++ c.new.result ∷ [] = c.in-Ok.ensures.items in
-    let more = ap faces pushed ∙ map-append face_of old (c.new.result ∷ []) ∙ ap (λ f. faces old ++ f ∷ []) own in
+    let more = ap faces pushed ∙ map-append face_of old (c.new.result ∷ [])
+    ∙ ap (λ f. faces old ++ f ∷ []) own in
     let made = rw c.replace.ensures.value at c.insert.ensures.items in
-    let at = c.place_of-place.ensures ∙ ap (λ (gs : List Group). below (nth_rank (faces gs)) (rank_of c.args.key) order) c.deref.ensures.value in
-    let group : c.len-group.result ≡ length (faces old) = omega (arith, c.len-group.ensures, length-map old face_of, c.args.groups.now.ok.0) in
-    index_made (faces old) (faces c.push.new.self.items) face order (items c.insert.result) c.place_of-place.result c.len-group.result more made at group c.requires.index c.requires.absent c.requires.key
+    let at = c.place_of-place.ensures
+    ∙ ap (λ (gs : List Group). below (nth_rank (faces gs)) (rank_of c.args.key) order)
+    c.deref.ensures.value in
+    let group : c.len-group.result ≡ length (faces old) =
+    omega (arith, c.len-group.ensures, length-map old face_of, c.args.groups.now.ok.0) in
+    index_made (faces old) (faces c.push.new.self.items) face order
+    (items c.insert.result) c.place_of-place.result c.len-group.result more made at group
+    c.requires.index c.requires.absent c.requires.key

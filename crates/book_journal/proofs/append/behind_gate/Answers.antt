@@ -8,4 +8,5 @@ pub returns : goal.returns
 returns c =
     let row = c.args.row.now in
     let short : length (drop 1 row) ≤ ROW_BYTES - 1 = omega (arith, length-drop 1 row, c.told-row) in
-    ap (λ (l : List ℕ). l ++ CLOSED ∷ []) (c.copy_from_slice.ensures.after ∙ take_all (ROW_BYTES - 1) (drop 1 row) short)
+    ap (λ (l : List ℕ). l ++ CLOSED ∷ [])
+    (c.copy_from_slice.ensures.after ∙ take_all (ROW_BYTES - 1) (drop 1 row) short)

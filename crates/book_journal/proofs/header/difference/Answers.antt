@@ -14,7 +14,9 @@ pub loop-place-preserved : goal.loop-place-preserved
 loop-place-preserved c =
     let place = c.loop-place.place in
     below_more _ _ c.loop-place.invariant (elim c.else-place-ne-MARK.branch [
-      | else-place-ne-MARK-via-then-place-ne-MARK+else-bytes-place w ↦ λ other. w.if-bytes-place.false ∙ titled c.new_journal-header.result place c.new_journal-header.ensures
+      | else-place-ne-MARK-via-then-place-ne-MARK+else-bytes-place w ↦
+          λ other. w.if-bytes-place.false
+          ∙ titled c.new_journal-header.result place c.new_journal-header.ensures
       | else-place-ne-MARK-via-else-place-ne-MARK w ↦ λ other. absurd (other w.if-place-ne-MARK.false)
     ])
 
@@ -24,6 +26,7 @@ returns-then-bytes-place c =
     record {
       inside = c.loop-place-test.true;
       counts = c.if-place-ne-MARK.true;
-      differs = λ is. c.if-bytes-place.true (is ∙ sym (titled c.new_journal-header.result place c.new_journal-header.ensures));
+      differs = λ is. c.if-bytes-place.true
+          (is ∙ sym (titled c.new_journal-header.result place c.new_journal-header.ensures));
       first = c.loop-place.invariant;
     }

@@ -13,9 +13,13 @@ pub loop-piece-init : goal.loop-piece-init
 loop-piece-init g c = record {
   writes = λ there told.
       let none : blocks_before 0 (length c.args.content.now) ≡ 0 = omega arith in
-      behind_as g.D.Disk c.args.place [] (content_blocks (blocks_before 0 (length c.args.content.now)) c.args.content.now) all_done all_done there c.args.disk.now c.args.disk.now
-      (sym (ap (λ (n : ℕ). content_blocks n c.args.content.now) none ∙ content_blocks-none c.args.content.now))
-      (behind_none g.D.Disk c.args.place there c.args.disk.now told) (behind_none g.D.Disk c.args.place there c.args.disk.now told).done;
+      behind_as g.D.Disk c.args.place []
+      (content_blocks (blocks_before 0 (length c.args.content.now)) c.args.content.now) all_done
+      all_done there c.args.disk.now c.args.disk.now
+      (sym (ap (λ (n : ℕ). content_blocks n c.args.content.now) none
+      ∙ content_blocks-none c.args.content.now))
+      (behind_none g.D.Disk c.args.place there c.args.disk.now told)
+      (behind_none g.D.Disk c.args.place there c.args.disk.now told).done;
   tells = refl;
   calm = refl;
   asked = refl;
@@ -33,7 +37,8 @@ write_at-requires-clause-within g c now told_now =
     let lt = piece_within piece (length content) c.loop-piece-test.true in
     let blocks = before_piece piece (length content) lt in
     let written = length-content_blocks (blocks_before piece (length content)) content in
-    let size = overwritten_size there c.args.place (content_blocks (blocks_before piece (length content)) content) within in
+    let size = overwritten_size there c.args.place
+    (content_blocks (blocks_before piece (length content)) content) within in
     omega (arith, ap length same, ap length w.done, size, written, blocks)
 
 pub returns-in_err-write_at-clause-writes : goal.returns-in_err-write_at-clause-writes
@@ -45,10 +50,20 @@ returns-in_err-write_at-clause-writes g c there told =
     let lt = piece_within piece (length content) c.loop-piece-test.true in
     let blocks = before_piece piece (length content) lt in
     let written = length-content_blocks (blocks_before piece (length content)) content in
-    let next : c.args.place + BLOCKS_BYTES * piece ≡ c.args.place + length (content_blocks (blocks_before piece (length content)) content) = omega (arith, written, blocks) in
-    let one = behind_one g.D.Disk (c.args.place + BLOCKS_BYTES * piece) c.put_blocks.new.into c.write_at.result w.now c.loop-piece.disk c.write_at.new.self (c.write_at.ensures.writes w.now w.told) c.write_at.ensures.time in
-    let both = behind_both g.D.Disk c.args.place (c.args.place + BLOCKS_BYTES * piece) (content_blocks (blocks_before piece (length content)) content) c.put_blocks.new.into all_done c.write_at.result there c.args.disk.now c.loop-piece.disk c.write_at.new.self w w.done one next within in
-    behind_err g.D.Disk c.args.place _ (content_blocks (blocks_for (length content)) content) c.write_at.result c.from_residual.result _ there c.args.disk.now c.write_at.new.self c.from_residual.ensures.1 both
+    let next : c.args.place + BLOCKS_BYTES * piece ≡ c.args.place
+    + length (content_blocks (blocks_before piece (length content)) content) =
+    omega (arith, written, blocks) in
+    let one = behind_one g.D.Disk (c.args.place + BLOCKS_BYTES * piece) c.put_blocks.new.into
+    c.write_at.result w.now c.loop-piece.disk c.write_at.new.self
+    (c.write_at.ensures.writes w.now w.told) c.write_at.ensures.time in
+    let both = behind_both g.D.Disk c.args.place (c.args.place + BLOCKS_BYTES * piece)
+    (content_blocks (blocks_before piece (length content)) content) c.put_blocks.new.into
+    all_done c.write_at.result there c.args.disk.now c.loop-piece.disk c.write_at.new.self w
+    w.done one next within in
+    behind_err g.D.Disk c.args.place _
+    (content_blocks (blocks_for (length content)) content) c.write_at.result
+    c.from_residual.result _ there c.args.disk.now c.write_at.new.self c.from_residual.ensures.1
+    both
 
 pub loop-piece-preserved : goal.loop-piece-preserved
 loop-piece-preserved g c =
@@ -57,15 +72,27 @@ loop-piece-preserved g c =
     let lt = piece_within piece (length content) c.loop-piece-test.true in
     let blocks = before_piece piece (length content) lt in
     let written = length-content_blocks (blocks_before piece (length content)) content in
-    let next : c.args.place + BLOCKS_BYTES * piece ≡ c.args.place + length (content_blocks (blocks_before piece (length content)) content) = omega (arith, written, blocks) in
+    let next : c.args.place + BLOCKS_BYTES * piece ≡ c.args.place
+    + length (content_blocks (blocks_before piece (length content)) content) =
+    omega (arith, written, blocks) in
     record {
       writes = λ there told.
           let w = c.loop-piece.invariant.writes there told in
           let within = c.requires.within there told in
-          let one = behind_one g.D.Disk (c.args.place + BLOCKS_BYTES * piece) c.put_blocks.new.into _ w.now c.loop-piece.disk c.write_at.new.self (c.in_ok-write_at.ensures.writes w.now w.told) c.write_at.ensures.time in
-          let both = behind_both g.D.Disk c.args.place (c.args.place + BLOCKS_BYTES * piece) (content_blocks (blocks_before piece (length content)) content) c.put_blocks.new.into all_done _ there c.args.disk.now c.loop-piece.disk c.write_at.new.self w w.done one next within in
-          behind_as g.D.Disk c.args.place (content_blocks (blocks_before piece (length content)) content ++ c.put_blocks.new.into) (content_blocks (blocks_before (piece + 1) (length content)) content) _ all_done there c.args.disk.now c.write_at.new.self
-          (ap (λ (l : List ℕ). content_blocks (blocks_before piece (length content)) content ++ l) c.put_blocks.ensures ∙ one_piece piece c.min-end.result content lt c.min-end.ensures)
+          let one = behind_one g.D.Disk (c.args.place + BLOCKS_BYTES * piece) c.put_blocks.new.into
+          _ w.now c.loop-piece.disk c.write_at.new.self
+          (c.in_ok-write_at.ensures.writes w.now w.told) c.write_at.ensures.time in
+          let both = behind_both g.D.Disk c.args.place (c.args.place + BLOCKS_BYTES * piece)
+          (content_blocks (blocks_before piece (length content)) content) c.put_blocks.new.into
+          all_done _ there c.args.disk.now c.loop-piece.disk c.write_at.new.self w w.done one
+          next within in
+          behind_as g.D.Disk c.args.place
+          (content_blocks (blocks_before piece (length content)) content
+          ++ c.put_blocks.new.into) (content_blocks
+          (blocks_before (piece + 1) (length content)) content) _ all_done there c.args.disk.now
+          c.write_at.new.self
+          (ap (λ (l : List ℕ). content_blocks (blocks_before piece (length content)) content ++ l)
+          c.put_blocks.ensures ∙ one_piece piece c.min-end.result content lt c.min-end.ensures)
           both both.done;
       tells = tells_on _ _ _ c.loop-piece.invariant.tells c.write_at.ensures.tells;
       calm = c.in_ok-write_at.ensures.cause ∙ c.loop-piece.invariant.calm;
@@ -77,5 +104,8 @@ returns-clause-writes g c there told =
     let content = c.args.content.now in
     let w = c.loop-piece.invariant.writes there told in
     let all = behind_pieces c.loop-piece.piece (length content) (omega arith) in
-    behind_as g.D.Disk c.args.place (content_blocks (blocks_before c.loop-piece.piece (length content)) content) (content_blocks (blocks_for (length content)) content) all_done _ there c.args.disk.now c.loop-piece.disk
+    behind_as g.D.Disk c.args.place
+    (content_blocks (blocks_before c.loop-piece.piece (length content)) content)
+    (content_blocks (blocks_for (length content)) content) all_done _ there c.args.disk.now
+    c.loop-piece.disk
     (ap (λ (n : ℕ). content_blocks n content) all) w w.done

@@ -14,7 +14,8 @@ scan-requires g c b told_mid =
     let told = sym c.len.ensures.reads ∙ told_len in
     let size = c.in_ok-size.ensures.length b told in
     let long : ROW_BYTES ≤ length b = omega (arith, size, c.if-size.false) in
-    let same = front_read b c.read_at.new.into c.in_ok-read_at.field-0 c.read_at.auto.into long (c.in_ok-read_at.ensures.count b told_len) (c.in_ok-read_at.ensures.bytes b told_len) in
+    let same = front_read b c.read_at.new.into c.in_ok-read_at.field-0 c.read_at.auto.into long
+    (c.in_ok-read_at.ensures.count b told_len) (c.in_ok-read_at.ensures.bytes b told_len) in
     record {
       size_is = size;
       header = header_read b c.read_at.new.into long same c.in_default.ensures;
@@ -26,9 +27,13 @@ returns-in_err-found-clause-moments g c b told only rows recovers few =
     let old = c.args.disk.now in
     let first = c.len.new.self in
     let mid = c.read_at.new.self in
-    let u = unmoved_on g.D.Disk old first mid (unmoved_by g.D.Disk old first c.len.ensures.reads c.len.ensures.images c.len.ensures.time) (unmoved_by g.D.Disk first mid c.read_at.ensures.reads c.read_at.ensures.images c.read_at.ensures.time) in
+    let u = unmoved_on g.D.Disk old first mid
+    (unmoved_by g.D.Disk old first c.len.ensures.reads c.len.ensures.images c.len.ensures.time)
+    (unmoved_by g.D.Disk first mid c.read_at.ensures.reads c.read_at.ensures.images
+    c.read_at.ensures.time) in
     leaves_on g.D.Disk old mid c.scan.new.disk (λ f. Recovers f rows)
-    (unmoved_leaves g.D.Disk old mid (λ f. Recovers f rows) g.met.D.Disk.only_now u (still_recovers g.D.Disk old b rows only recovers))
+    (unmoved_leaves g.D.Disk old mid (λ f. Recovers f rows) g.met.D.Disk.only_now u
+    (still_recovers g.D.Disk old b rows only recovers))
     (c.scan.ensures.moments b (u.reads ∙ told) (λ f is. only f (u.images f is)) rows recovers few)
 
 pub returns-in_default-clause-moments : goal.returns-in_default-clause-moments
@@ -36,9 +41,13 @@ returns-in_default-clause-moments g c b told only rows recovers few =
     let old = c.args.disk.now in
     let first = c.len.new.self in
     let mid = c.read_at.new.self in
-    let u = unmoved_on g.D.Disk old first mid (unmoved_by g.D.Disk old first c.len.ensures.reads c.len.ensures.images c.len.ensures.time) (unmoved_by g.D.Disk first mid c.read_at.ensures.reads c.read_at.ensures.images c.read_at.ensures.time) in
+    let u = unmoved_on g.D.Disk old first mid
+    (unmoved_by g.D.Disk old first c.len.ensures.reads c.len.ensures.images c.len.ensures.time)
+    (unmoved_by g.D.Disk first mid c.read_at.ensures.reads c.read_at.ensures.images
+    c.read_at.ensures.time) in
     leaves_on g.D.Disk old mid c.scan.new.disk (λ f. Recovers f rows)
-    (unmoved_leaves g.D.Disk old mid (λ f. Recovers f rows) g.met.D.Disk.only_now u (still_recovers g.D.Disk old b rows only recovers))
+    (unmoved_leaves g.D.Disk old mid (λ f. Recovers f rows) g.met.D.Disk.only_now u
+    (still_recovers g.D.Disk old b rows only recovers))
     (c.scan.ensures.moments b (u.reads ∙ told) (λ f is. only f (u.images f is)) rows recovers few)
 
 pub returns-then-size-2-clause-cause : goal.returns-then-size-2-clause-cause
@@ -51,9 +60,16 @@ returns-then-size-2-clause-cause g c =
           let told_len = c.len.ensures.reads ∙ told in
           let size = c.in_ok-size.ensures.length b told in
           let long : ROW_BYTES ≤ length b = omega (arith, size, c.if-size.false) in
-          let same = front_read b c.read_at.new.into c.in_ok-read_at.field-0 c.read_at.auto.into long (c.in_ok-read_at.ensures.count b told_len) (c.in_ok-read_at.ensures.bytes b told_len) in
-          (omega (arith, size, c.if-size-2.true), difference_read b c.read_at.new.into c.in-Some.place same c.in-Some.ensures);
-      unmoved = unmoved_on g.D.Disk old first mid (unmoved_by g.D.Disk old first c.len.ensures.reads c.len.ensures.images c.len.ensures.time) (unmoved_by g.D.Disk first mid c.read_at.ensures.reads c.read_at.ensures.images c.read_at.ensures.time);
+          let same = front_read b c.read_at.new.into c.in_ok-read_at.field-0 c.read_at.auto.into
+          long (c.in_ok-read_at.ensures.count b told_len)
+          (c.in_ok-read_at.ensures.bytes b told_len) in (
+            omega (arith, size, c.if-size-2.true),
+            difference_read b c.read_at.new.into c.in-Some.place same c.in-Some.ensures,
+          );
+      unmoved = unmoved_on g.D.Disk old first mid
+          (unmoved_by g.D.Disk old first c.len.ensures.reads c.len.ensures.images
+          c.len.ensures.time) (unmoved_by g.D.Disk first mid c.read_at.ensures.reads
+          c.read_at.ensures.images c.read_at.ensures.time);
       calm = c.in_ok-read_at.ensures.cause ∙ c.in_ok-size.ensures.cause;
       asked = omega (arith, c.len.ensures.asked, c.read_at.ensures.asked_most, c.read_at.auto.into);
     }
@@ -63,24 +79,38 @@ returns-in_err-create-2-clause-moments g c b told only rows recovers few =
     let old = c.args.disk.now in
     let first = c.len.new.self in
     let mid = c.read_at.new.self in
-    let u = unmoved_on g.D.Disk old first mid (unmoved_by g.D.Disk old first c.len.ensures.reads c.len.ensures.images c.len.ensures.time) (unmoved_by g.D.Disk first mid c.read_at.ensures.reads c.read_at.ensures.images c.read_at.ensures.time) in
-    let short : length b ≤ NEW_BYTES = omega (arith, c.in_ok-size.ensures.length b told, c.if-size-2.false) in
+    let u = unmoved_on g.D.Disk old first mid
+    (unmoved_by g.D.Disk old first c.len.ensures.reads c.len.ensures.images c.len.ensures.time)
+    (unmoved_by g.D.Disk first mid c.read_at.ensures.reads c.read_at.ensures.images
+    c.read_at.ensures.time) in
+    let short : length b ≤ NEW_BYTES =
+    omega (arith, c.in_ok-size.ensures.length b told, c.if-size-2.false) in
     let none = short_none b rows short recovers in
     leaves_on g.D.Disk old mid c.create-2.new.disk (λ f. Recovers f rows)
-    (unmoved_leaves g.D.Disk old mid (λ f. Recovers f rows) g.met.D.Disk.only_now u (still_recovers g.D.Disk old b rows only recovers))
-    (leaves_in g.D.Disk mid c.create-2.new.disk _ (λ f. Recovers f rows) (c.create-2.ensures.moments b (u.reads ∙ told) (λ f is. only f (u.images f is)) short) (λ f is. subst (λ (rs : List (List ℕ)). Recovers f rs) (sym none) is))
+    (unmoved_leaves g.D.Disk old mid (λ f. Recovers f rows) g.met.D.Disk.only_now u
+    (still_recovers g.D.Disk old b rows only recovers))
+    (leaves_in g.D.Disk mid c.create-2.new.disk _ (λ f. Recovers f rows)
+    (c.create-2.ensures.moments b (u.reads ∙ told) (λ f is. only f (u.images f is)) short)
+    (λ f is. subst (λ (rs : List (List ℕ)). Recovers f rs) (sym none) is))
 
 pub returns-clause-moments : goal.returns-clause-moments
 returns-clause-moments g c b told only rows recovers few =
     let old = c.args.disk.now in
     let first = c.len.new.self in
     let mid = c.read_at.new.self in
-    let u = unmoved_on g.D.Disk old first mid (unmoved_by g.D.Disk old first c.len.ensures.reads c.len.ensures.images c.len.ensures.time) (unmoved_by g.D.Disk first mid c.read_at.ensures.reads c.read_at.ensures.images c.read_at.ensures.time) in
-    let short : length b ≤ NEW_BYTES = omega (arith, c.in_ok-size.ensures.length b told, c.if-size-2.false) in
+    let u = unmoved_on g.D.Disk old first mid
+    (unmoved_by g.D.Disk old first c.len.ensures.reads c.len.ensures.images c.len.ensures.time)
+    (unmoved_by g.D.Disk first mid c.read_at.ensures.reads c.read_at.ensures.images
+    c.read_at.ensures.time) in
+    let short : length b ≤ NEW_BYTES =
+    omega (arith, c.in_ok-size.ensures.length b told, c.if-size-2.false) in
     let none = short_none b rows short recovers in
     leaves_on g.D.Disk old mid c.create-2.new.disk (λ f. Recovers f rows)
-    (unmoved_leaves g.D.Disk old mid (λ f. Recovers f rows) g.met.D.Disk.only_now u (still_recovers g.D.Disk old b rows only recovers))
-    (leaves_in g.D.Disk mid c.create-2.new.disk _ (λ f. Recovers f rows) (c.create-2.ensures.moments b (u.reads ∙ told) (λ f is. only f (u.images f is)) short) (λ f is. subst (λ (rs : List (List ℕ)). Recovers f rs) (sym none) is))
+    (unmoved_leaves g.D.Disk old mid (λ f. Recovers f rows) g.met.D.Disk.only_now u
+    (still_recovers g.D.Disk old b rows only recovers))
+    (leaves_in g.D.Disk mid c.create-2.new.disk _ (λ f. Recovers f rows)
+    (c.create-2.ensures.moments b (u.reads ∙ told) (λ f is. only f (u.images f is)) short)
+    (λ f is. subst (λ (rs : List (List ℕ)). Recovers f rs) (sym none) is))
 
 pub returns-clause-mounted : goal.returns-clause-mounted
 returns-clause-mounted g c b told only =
@@ -89,10 +119,12 @@ returns-clause-mounted g c b told only =
     let size = c.in_ok-size.ensures.length b told in
     let long : ROW_BYTES ≤ length b = omega (arith, size, c.if-size.false) in
     let short : length b ≤ NEW_BYTES = omega (arith, size, c.if-size-2.false) in
-    let same = front_read b c.read_at.new.into c.in_ok-read_at.field-0 c.read_at.auto.into long (c.in_ok-read_at.ensures.count b told_len) (c.in_ok-read_at.ensures.bytes b told_len) in
+    let same = front_read b c.read_at.new.into c.in_ok-read_at.field-0 c.read_at.auto.into long
+    (c.in_ok-read_at.ensures.count b told_len) (c.in_ok-read_at.ensures.bytes b told_len) in
     let made = c.in_ok-create-2.ensures.reads b told_mid short in
     inr record {
-      foreign = no_header b c.in-Some.place (difference_read b c.read_at.new.into c.in-Some.place same c.in-Some.ensures);
+      foreign = no_header b c.in-Some.place
+          (difference_read b c.read_at.new.into c.in-Some.place same c.in-Some.ensures);
       short = short;
       snapshot = refl;
       slots = refl;

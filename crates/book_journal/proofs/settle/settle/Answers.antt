@@ -22,15 +22,21 @@ returns-in_err-sync-clause-settles g c there told =
     let w = c.in_ok-write_at.ensures.writes there told in
     let bytes = c.args.bytes.now in
     let within = c.requires.within there told in
-    let torn : Torn c.args.place (length bytes) (c.args.place + length bytes) there (overwritten there c.args.place bytes) = torn_by there c.args.place (length bytes) (c.args.place + length bytes) bytes refl (omega (arith, within, length-overwritten there c.args.place bytes)) in
-    let images = λ (f : List ℕ) (is : g.D.Disk.image c.sync.new.self f). w.images f (c.sync.ensures.images f is) in
+    let torn : Torn c.args.place (length bytes) (c.args.place + length bytes) there
+    (overwritten there c.args.place bytes) =
+    torn_by there c.args.place (length bytes) (c.args.place + length bytes) bytes refl
+    (omega (arith, within, length-overwritten there c.args.place bytes)) in
+    let images = λ (f : List ℕ) (is : g.D.Disk.image c.sync.new.self f). w.images f
+    (c.sync.ensures.images f is) in
     record {
       now = w.now;
       told = c.sync.ensures.reads ∙ w.told_now;
       done = ok_at_err _ c.from_residual-in_err-sync.result _ c.from_residual-in_err-sync.ensures.1;
-      torn = subst (λ (f : List ℕ). Torn c.args.place (length bytes) (c.args.place + length bytes) there f) (sym w.done) torn;
+      torn = subst (λ (f : List ℕ). Torn c.args.place (length bytes)
+          (c.args.place + length bytes) there f) (sym w.done) torn;
       images = images;
-      moments = elapses_on _ (elapses_in _ _ c.write_at.ensures.time w.images) (elapses_in _ _ c.sync.ensures.time images);
+      moments = elapses_on _ (elapses_in _ _ c.write_at.ensures.time w.images)
+          (elapses_in _ _ c.sync.ensures.time images);
     }
 
 pub returns-clause-settles : goal.returns-clause-settles
@@ -38,13 +44,19 @@ returns-clause-settles g c there told =
     let w = c.in_ok-write_at.ensures.writes there told in
     let bytes = c.args.bytes.now in
     let within = c.requires.within there told in
-    let torn : Torn c.args.place (length bytes) (c.args.place + length bytes) there (overwritten there c.args.place bytes) = torn_by there c.args.place (length bytes) (c.args.place + length bytes) bytes refl (omega (arith, within, length-overwritten there c.args.place bytes)) in
-    let images = λ (f : List ℕ) (is : g.D.Disk.image c.sync.new.self f). w.images f (c.sync.ensures.images f is) in
+    let torn : Torn c.args.place (length bytes) (c.args.place + length bytes) there
+    (overwritten there c.args.place bytes) =
+    torn_by there c.args.place (length bytes) (c.args.place + length bytes) bytes refl
+    (omega (arith, within, length-overwritten there c.args.place bytes)) in
+    let images = λ (f : List ℕ) (is : g.D.Disk.image c.sync.new.self f). w.images f
+    (c.sync.ensures.images f is) in
     record {
       now = w.now;
       told = c.sync.ensures.reads ∙ w.told_now;
       done = (w.done, c.in_ok-sync.ensures.stable w.now w.told_now);
-      torn = subst (λ (f : List ℕ). Torn c.args.place (length bytes) (c.args.place + length bytes) there f) (sym w.done) torn;
+      torn = subst (λ (f : List ℕ). Torn c.args.place (length bytes)
+          (c.args.place + length bytes) there f) (sym w.done) torn;
       images = images;
-      moments = elapses_on _ (elapses_in _ _ c.write_at.ensures.time w.images) (elapses_in _ _ c.sync.ensures.time images);
+      moments = elapses_on _ (elapses_in _ _ c.write_at.ensures.time w.images)
+          (elapses_in _ _ c.sync.ensures.time images);
     }

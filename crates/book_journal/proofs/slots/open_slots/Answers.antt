@@ -6,4 +6,5 @@ pub loop-slot-init : goal.loop-slot-init
 loop-slot-init c = ap length (open_rows-none c.args.bytes.now)
 
 pub loop-slot-preserved : goal.loop-slot-preserved
-loop-slot-preserved c = counts_more c.loop-slot.slot c.args.bytes.now c.loop-slot.invariant (omega (arith, c.loop-slot-test.true)) c.if-bytes-slot-ne-OPEN.false
+loop-slot-preserved c = counts_more c.loop-slot.slot c.args.bytes.now c.loop-slot.invariant
+    (omega (arith, c.loop-slot-test.true)) c.if-bytes-slot-ne-OPEN.false

@@ -9,5 +9,6 @@ returns c =
     let entries = c.args.state.now.entries in
     c.tell_act.ensures
     ∙ ap (λ n. reply_with entries (n + 1) c.args.act.now c.args.signal) c.len.ensures.count
-    ∙ ap (λ (s : Option Signal). reply_with entries (length entries + 1) c.args.act.now s) c.requires.signal
+    ∙ ap (λ (s : Option Signal). reply_with entries (length entries + 1) c.args.act.now s)
+    c.requires.signal
     ∙ told_new entries c.args.act.now

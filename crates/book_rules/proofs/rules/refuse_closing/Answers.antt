@@ -4,4 +4,5 @@ use Rattle.book_rules.proofs.rules.refuse_closing.Goals as goal
 pub returns : goal.returns
 returns c =
     rw (c.or-5.ensures, c.or-4.ensures, c.or-3.ensures, c.or-2.ensures, c.or.ensures)
-    (six_told c.day_unset.ensures c.batch_unknown.ensures c.batch_state.ensures c.not_drawn.ensures c.needed_wanting.ensures c.second_needed.ensures)
+    (six_told c.day_unset.ensures c.batch_unknown.ensures c.batch_state.ensures c.not_drawn.ensures
+    c.needed_wanting.ensures c.second_needed.ensures)

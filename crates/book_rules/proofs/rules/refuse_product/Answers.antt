@@ -7,4 +7,6 @@ use Rattle.book_rules.proofs.rules.refuse_product.Goals as goal
 pub returns : goal.returns
 returns c =
     rw (c.or-3.ensures, c.or-2.ensures, c.or.ensures)
-    (four_told c.day_unset.ensures c.product_known.ensures c.name_shape.ensures (c.nominal_range.ensures ∙ ap nominal_range (to_z-of_z w64 c.args.nominal c.ranges.nominal)))
+    (four_told c.day_unset.ensures c.product_known.ensures c.name_shape.ensures
+    (c.nominal_range.ensures ∙ ap nominal_range
+    (to_z-of_z w64 c.args.nominal c.ranges.nominal)))

@@ -7,7 +7,9 @@ use Rattle.book_samples.proofs.places.put_second.Goals as goal
 pub returns-then-place-drawn : goal.returns-then-place-drawn
 returns-then-place-drawn c =
     ap (λ (o : Option Sample). set c.args.drawn.now c.args.place o) c.join_second.ensures
-    ∙ change-written (with_second c.args.picks) c.args.place c.args.drawn.now c.index-drawn-place.result c.if-place-drawn.true
+    ∙ change-written (with_second c.args.picks) c.args.place c.args.drawn.now
+    c.index-drawn-place.result c.if-place-drawn.true
 
 pub returns-else-place-drawn : goal.returns-else-place-drawn
-returns-else-place-drawn c = change-past (with_second c.args.picks) c.args.place c.args.drawn.now c.if-place-drawn.false
+returns-else-place-drawn c = change-past
+    (with_second c.args.picks) c.args.place c.args.drawn.now c.if-place-drawn.false

@@ -13,7 +13,8 @@ pub loop-block-init : goal.loop-block-init
 loop-block-init c =
     let none : min 0 (length c.args.into.now) ≡ 0 = omega arith in
     ap (λ (n : ℕ). take n c.args.into.now) none
-    ∙ sym (ap (λ (l : List ℕ). take (length c.args.into.now) l) (block_content-none c.args.blocks.now) ∙ take_none (length c.args.into.now))
+    ∙ sym (ap (λ (l : List ℕ). take (length c.args.into.now) l)
+    (block_content-none c.args.blocks.now) ∙ take_none (length c.args.into.now))
 
 pub loop-block-preserved : goal.loop-block-preserved
 loop-block-preserved c =
@@ -22,8 +23,13 @@ loop-block-preserved c =
     let count = room_blocks (length c.args.blocks.now) size c.requires.blocks in
     let lt : block < blocks_for size = omega (arith, count, c.loop-block-test.true) in
     let within = block_within block size lt in
-    let end = c.min-end.ensures ∙ ap (λ (n : ℕ). min (BLOCK_CONTENT * block + BLOCK_CONTENT) n) c.loop-block.auto.into in
-    let part : ROW_BYTES * block + BLOCK_HEAD + (c.min-end.result - BLOCK_CONTENT * block) - (ROW_BYTES * block + BLOCK_HEAD) ≡ c.min-end.result - BLOCK_CONTENT * block = omega arith in
-    content_taken block (blocks_for size) size c.min-end.result c.args.blocks.now c.loop-block.into c.copy_from_slice.new.self end
+    let end = c.min-end.ensures ∙ ap
+    (λ (n : ℕ). min (BLOCK_CONTENT * block + BLOCK_CONTENT) n) c.loop-block.auto.into in
+    let part : ROW_BYTES * block + BLOCK_HEAD + (c.min-end.result - BLOCK_CONTENT * block)
+    - (ROW_BYTES * block + BLOCK_HEAD) ≡ c.min-end.result - BLOCK_CONTENT * block =
+    omega arith in
+    content_taken block (blocks_for size) size c.min-end.result c.args.blocks.now c.loop-block.into
+    c.copy_from_slice.new.self end
     c.loop-block.auto.into c.requires.blocks lt within c.loop-block.invariant
-    (c.copy_from_slice.ensures.after ∙ ap (λ (n : ℕ). take n (drop (ROW_BYTES * block + BLOCK_HEAD) c.args.blocks.now)) part)
+    (c.copy_from_slice.ensures.after
+    ∙ ap (λ (n : ℕ). take n (drop (ROW_BYTES * block + BLOCK_HEAD) c.args.blocks.now)) part)

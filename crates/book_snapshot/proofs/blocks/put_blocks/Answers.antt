@@ -15,4 +15,5 @@ loop-block-preserved c =
     let lt : block < blocks_for (length content) = omega (arith, count, c.loop-block-test.true) in
     let within = block_within block (length content) lt in
     blocks_put block c.min-end.result content c.loop-block.into c.put_block.new.into c.min-end.ensures
-    (omega (arith, lt, c.requires.room, c.loop-block.auto.into)) (omega (arith, within)) c.loop-block.invariant c.put_block.ensures
+    (omega (arith, lt, c.requires.room, c.loop-block.auto.into))
+    (omega (arith, within)) c.loop-block.invariant c.put_block.ensures

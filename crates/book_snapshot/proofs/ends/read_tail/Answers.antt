@@ -17,12 +17,19 @@ true_and_false is = absurd cc
 
 pub returns : goal.returns
 returns c rows bytes size is =
-    let rows_are = c.get_u32.ensures ∙ end_rows TAIL rows bytes c.args.block.now (omega (arith, size.few_rows)) is in
-    let bytes_are = c.get_u64.ensures ∙ end_bytes TAIL rows bytes c.args.block.now (omega (arith, size.few_bytes)) is in
-    let as_read : IsSnapshotSize c.get_u32.result c.get_u64.result = subst (λ (n : ℕ). IsSnapshotSize n c.get_u64.result) (sym rows_are) (subst (λ (n : ℕ). IsSnapshotSize rows n) (sym bytes_are) size) in
+    let rows_are = c.get_u32.ensures
+    ∙ end_rows TAIL rows bytes c.args.block.now (omega (arith, size.few_rows)) is in
+    let bytes_are = c.get_u64.ensures
+    ∙ end_bytes TAIL rows bytes c.args.block.now (omega (arith, size.few_bytes)) is in
+    let as_read : IsSnapshotSize c.get_u32.result c.get_u64.result =
+    subst (λ (n : ℕ). IsSnapshotSize n c.get_u64.result) (sym rows_are)
+    (subst (λ (n : ℕ). IsSnapshotSize rows n) (sym bytes_are) size) in
     elim c.else-is_size.branch [
       | else-is_size-via-then-is_size+else-eq w ↦
-          let same : c.args.block.now ≡ w.tail_block.result = is ∙ ap (λ (n : ℕ). end_block TAIL n bytes) (sym rows_are) ∙ ap (λ (n : ℕ). end_block TAIL c.get_u32.result n) (sym bytes_are) ∙ sym w.tail_block.ensures in
+          let same : c.args.block.now ≡ w.tail_block.result = is
+          ∙ ap (λ (n : ℕ). end_block TAIL n bytes) (sym rows_are)
+          ∙ ap (λ (n : ℕ). end_block TAIL c.get_u32.result n) (sym bytes_are)
+          ∙ sym w.tail_block.ensures in
           true_and_false (sym ((slice_eq-Decides Decides-eqb _ _ _ w.eq.ensures).1 same) ∙ w.if-eq.false)
       | else-is_size-via-else-is_size w ↦ c.is_size.ensures.no w.if-is_size.false as_read
     ]

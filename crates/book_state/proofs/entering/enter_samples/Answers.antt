@@ -5,10 +5,46 @@ use Rattle.book_state.proofs.entering.enter_samples.Goals as goal
 
 pub returns-in-OpenBatch-clause-kept : goal.returns-in-OpenBatch-clause-kept
 returns-in-OpenBatch-clause-kept c =
-    c.open_batch.ensures.opened c.args.entries.now c.args.entry.now c.requires.samples c.requires.next.legal c.requires.next.lawful
-    (record { batch = c.in-OpenBatch.batch; product = c.in-OpenBatch.product; density = c.in-OpenBatch.density; act_is = c.in-OpenBatch.is })
+    c.open_batch.ensures.opened c.args.entries.now c.args.entry.now c.requires.samples
+    c.requires.next.legal c.requires.next.lawful
+    (record {
+      batch = c.in-OpenBatch.batch;
+      product = c.in-OpenBatch.product;
+      density =
+          c.in-OpenBatch.density;
+      act_is = c.in-OpenBatch.is;
+    })
 
 pub returns-in-NewDay-clause-kept : goal.returns-in-NewDay-clause-kept
 returns-in-NewDay-clause-kept c =
-    let other : is_of_samples c.args.entry.now.act ≡ false = elim c.in-NewDay.is [ inl h ↦ ap is_of_samples h.1 | inr more ↦ elim more [ inl h ↦ ap is_of_samples h.3 | inr more ↦ elim more [ inl h ↦ ap is_of_samples h.3 | inr more ↦ elim more [ inl h ↦ ap is_of_samples h.2 | inr more ↦ elim more [ inl h ↦ ap is_of_samples h.3 | inr more ↦ elim more [ inl h ↦ ap is_of_samples h.2 | inr more ↦ elim more [ inl h ↦ ap is_of_samples h.1 | inr more ↦ elim more [ inl h ↦ ap is_of_samples h.1 | inr more ↦ ap is_of_samples more.1 ] ] ] ] ] ] ] ] in
+    let other : is_of_samples c.args.entry.now.act ≡ false =
+    elim c.in-NewDay.is [
+      | inl h ↦ ap is_of_samples h.1
+      | inr more ↦
+          elim more [
+            | inl h ↦ ap is_of_samples h.3
+            | inr more ↦
+                elim more [
+                  | inl h ↦ ap is_of_samples h.3
+                  | inr more ↦
+                      elim more [
+                        | inl h ↦ ap is_of_samples h.2
+                        | inr more ↦
+                            elim more [
+                              | inl h ↦ ap is_of_samples h.3
+                              | inr more ↦
+                                  elim more [
+                                    | inl h ↦ ap is_of_samples h.2
+                                    | inr more ↦
+                                        elim more [
+                                          | inl h ↦ ap is_of_samples h.1
+                                          | inr more ↦
+                                              elim more [ inl h ↦ ap is_of_samples h.1 | inr more ↦ ap is_of_samples more.1 ]
+                                        ]
+                                  ]
+                            ]
+                      ]
+                ]
+          ]
+    ] in
     stands_on c.args.entries.now c.args.entry.now c.args.samples.now other c.requires.samples

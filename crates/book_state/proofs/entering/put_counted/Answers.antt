@@ -9,5 +9,8 @@ returns-clause-kept g c =
     let day_fits : FitsSigned w32 c.args.dated.now.day = search rules in
     let tare_fits : FitsSigned w64 c.args.dated.now.tare = search rules in
     c.put_tare.ensures.kept entries entry stands
-    (subst (λ (day : ℤ). IsTarePut entries entry c.args.number day (to_z w64 (of_z w64 c.args.dated.now.tare))) (sym (to_z-of_z w32 c.args.dated.now.day day_fits))
-    (subst (λ (tare : ℤ). IsTarePut entries entry c.args.number c.args.dated.now.day tare) (sym (to_z-of_z w64 c.args.dated.now.tare tare_fits)) put))
+    (subst (λ (day : ℤ). IsTarePut entries entry c.args.number day
+    (to_z w64 (of_z w64 c.args.dated.now.tare)))
+    (sym (to_z-of_z w32 c.args.dated.now.day day_fits))
+    (subst (λ (tare : ℤ). IsTarePut entries entry c.args.number c.args.dated.now.day tare)
+    (sym (to_z-of_z w64 c.args.dated.now.tare tare_fits)) put))

@@ -6,30 +6,53 @@ use Rattle.book_state.proofs.entering.weigh.Goals as goal
 
 pub unreachable-requires : goal.unreachable-requires
 unreachable-requires c =
-    let made = weighing_made c.args.entries.now c.args.entry.now c.args.entry.now.act c.args.lane c.lane_batch_number-batch.result c.day.result c.lane_tare-tare.result c.requires.next refl c.requires.act
-    (c.lane_batch_number-batch.ensures c.args.entries.now c.requires.index c.requires.next.legal) (c.day.ensures c.args.entries.now c.requires.index)
-    (c.lane_tare-tare.ensures c.args.entries.now c.requires.index c.requires.packs c.requires.next.legal) in
-    (let clash : None ≡ Some made.weighing = sym c.in_default.is ∙ c.row_weighing.ensures ∙ made.is in cc)
+    let made = weighing_made c.args.entries.now c.args.entry.now c.args.entry.now.act c.args.lane
+    c.lane_batch_number-batch.result c.day.result c.lane_tare-tare.result c.requires.next refl
+    c.requires.act
+    (c.lane_batch_number-batch.ensures c.args.entries.now c.requires.index c.requires.next.legal)
+    (c.day.ensures c.args.entries.now c.requires.index)
+    (c.lane_tare-tare.ensures c.args.entries.now c.requires.index c.requires.packs
+    c.requires.next.legal) in
+    (let clash : None ≡ Some made.weighing = sym c.in_default.is ∙ c.row_weighing.ensures
+    ∙ made.is in cc)
 
 pub weigh-requires-clause-next : goal.weigh-requires-clause-next
 weigh-requires-clause-next c =
-    let made = weighing_made c.args.entries.now c.args.entry.now c.args.entry.now.act c.args.lane c.lane_batch_number-batch.result c.day.result c.lane_tare-tare.result c.requires.next refl c.requires.act
-    (c.lane_batch_number-batch.ensures c.args.entries.now c.requires.index c.requires.next.legal) (c.day.ensures c.args.entries.now c.requires.index)
-    (c.lane_tare-tare.ensures c.args.entries.now c.requires.index c.requires.packs c.requires.next.legal) in
-    let same : c.in-Some.weighing ≡ made.weighing = weighing_is (sym c.in-Some.is ∙ c.row_weighing.ensures ∙ made.is) in
-    let entered : IsWeighing c.args.entries.now c.args.entry.now c.in-Some.weighing = subst (IsWeighing c.args.entries.now c.args.entry.now) (sym same) made.entered in
-    record { entries = c.args.entries.now; entry = c.args.entry.now; stands = c.requires.packs; is = entered }
+    let made = weighing_made c.args.entries.now c.args.entry.now c.args.entry.now.act c.args.lane
+    c.lane_batch_number-batch.result c.day.result c.lane_tare-tare.result c.requires.next refl
+    c.requires.act
+    (c.lane_batch_number-batch.ensures c.args.entries.now c.requires.index c.requires.next.legal)
+    (c.day.ensures c.args.entries.now c.requires.index)
+    (c.lane_tare-tare.ensures c.args.entries.now c.requires.index c.requires.packs
+    c.requires.next.legal) in
+    let same : c.in-Some.weighing ≡ made.weighing =
+    weighing_is (sym c.in-Some.is ∙ c.row_weighing.ensures ∙ made.is) in
+    let entered : IsWeighing c.args.entries.now c.args.entry.now c.in-Some.weighing =
+    subst (IsWeighing c.args.entries.now c.args.entry.now) (sym same) made.entered in
+    record {
+      entries = c.args.entries.now;
+      entry = c.args.entry.now;
+      stands = c.requires.packs;
+      is =
+          entered;
+    }
   where
     weighing_is : {a b : Weighing} → Some a ≡ Some b → a ≡ b
     weighing_is h = cc
 
 pub returns-clause-kept : goal.returns-clause-kept
 returns-clause-kept c =
-    let made = weighing_made c.args.entries.now c.args.entry.now c.args.entry.now.act c.args.lane c.lane_batch_number-batch.result c.day.result c.lane_tare-tare.result c.requires.next refl c.requires.act
-    (c.lane_batch_number-batch.ensures c.args.entries.now c.requires.index c.requires.next.legal) (c.day.ensures c.args.entries.now c.requires.index)
-    (c.lane_tare-tare.ensures c.args.entries.now c.requires.index c.requires.packs c.requires.next.legal) in
-    let same : c.in-Some.weighing ≡ made.weighing = weighing_is (sym c.in-Some.is ∙ c.row_weighing.ensures ∙ made.is) in
-    let entered : IsWeighing c.args.entries.now c.args.entry.now c.in-Some.weighing = subst (IsWeighing c.args.entries.now c.args.entry.now) (sym same) made.entered in
+    let made = weighing_made c.args.entries.now c.args.entry.now c.args.entry.now.act c.args.lane
+    c.lane_batch_number-batch.result c.day.result c.lane_tare-tare.result c.requires.next refl
+    c.requires.act
+    (c.lane_batch_number-batch.ensures c.args.entries.now c.requires.index c.requires.next.legal)
+    (c.day.ensures c.args.entries.now c.requires.index)
+    (c.lane_tare-tare.ensures c.args.entries.now c.requires.index c.requires.packs
+    c.requires.next.legal) in
+    let same : c.in-Some.weighing ≡ made.weighing =
+    weighing_is (sym c.in-Some.is ∙ c.row_weighing.ensures ∙ made.is) in
+    let entered : IsWeighing c.args.entries.now c.args.entry.now c.in-Some.weighing =
+    subst (IsWeighing c.args.entries.now c.args.entry.now) (sym same) made.entered in
     c.weigh.ensures.kept c.args.entries.now c.args.entry.now c.requires.packs entered
   where
     weighing_is : {a b : Weighing} → Some a ≡ Some b → a ≡ b

@@ -13,10 +13,14 @@ loop-from-init g c = record {
 }
 
 pub read_piece-requires-clause-kept : goal.read_piece-requires-clause-kept
-read_piece-requires-clause-kept g c = kept_kept g.D.Disk c.args.journal.now c.loop-from.journal c.loop-from.invariant.read ∙ c.requires.kept
+read_piece-requires-clause-kept g c =
+    kept_kept g.D.Disk c.args.journal.now c.loop-from.journal c.loop-from.invariant.read
+    ∙ c.requires.kept
 
 pub returns-in_err-read_piece-clause-read : goal.returns-in_err-read_piece-clause-read
-returns-in_err-read_piece-clause-read g c = read_on g.D.Disk c.args.journal.now c.loop-from.journal c.read_piece.new.journal c.loop-from.invariant.read c.read_piece.ensures.read
+returns-in_err-read_piece-clause-read g c =
+    read_on g.D.Disk c.args.journal.now c.loop-from.journal c.read_piece.new.journal
+    c.loop-from.invariant.read c.read_piece.ensures.read
 
 pub loop-from-preserved : goal.loop-from-preserved
 loop-from-preserved g c =
@@ -25,9 +29,13 @@ loop-from-preserved g c =
     let kept = c.args.kept in
     record {
       content = λ bytes told ends.
-          part_joins so_far.from kept.bytes (snapshot_content kept.rows kept.bytes bytes) so_far.content.items c.read_piece.new.content.items (content_most kept.rows kept.bytes bytes)
-          (so_far.invariant.content bytes told ends) (step.content bytes (so_far.invariant.read.unmoved.reads ∙ told) ends);
-      read = read_on g.D.Disk c.args.journal.now so_far.journal c.read_piece.new.journal so_far.invariant.read c.read_piece.ensures.read;
+          part_joins so_far.from kept.bytes
+          (snapshot_content kept.rows kept.bytes bytes) so_far.content.items
+          c.read_piece.new.content.items (content_most kept.rows kept.bytes bytes)
+          (so_far.invariant.content bytes told ends)
+          (step.content bytes (so_far.invariant.read.unmoved.reads ∙ told) ends);
+      read = read_on g.D.Disk c.args.journal.now so_far.journal c.read_piece.new.journal
+          so_far.invariant.read c.read_piece.ensures.read;
       calm = step.cause ∙ so_far.invariant.calm;
       asked = omega (arith, c.read_piece.ensures.asked, so_far.invariant.asked);
     }
@@ -36,5 +44,8 @@ pub returns-clause-content : goal.returns-clause-content
 returns-clause-content g c bytes told ends =
     let so_far = c.loop-from in
     let kept = c.args.kept in
-    parts_all so_far.from kept.bytes (snapshot_content kept.rows kept.bytes bytes) so_far.content.items (content_most kept.rows kept.bytes bytes)
-    (omega (arith, c.loop-from-test.false, c.calls_for-from-end.ensures)) (so_far.invariant.content bytes told ends)
+    parts_all so_far.from kept.bytes
+    (snapshot_content kept.rows kept.bytes bytes) so_far.content.items
+    (content_most kept.rows kept.bytes bytes)
+    (omega (arith, c.loop-from-test.false, c.calls_for-from-end.ensures))
+    (so_far.invariant.content bytes told ends)

@@ -8,9 +8,12 @@ use Rattle.book_store.proofs.content.read_content.Given as goal
 
 abbrev pub invariant-loop-from : goal.invariant-loop-from
 invariant-loop-from g l = record {
-  content : (bytes : List ℕ) → g.D.Disk.reads (disk_of l.fn.journal) ≡ Some bytes → EndsWithSnapshot l.kept.rows l.kept.bytes bytes
-      → l.content.items ≡ take (BLOCKS_CONTENT * l.from) (snapshot_content l.kept.rows l.kept.bytes bytes);
+  content : (bytes : List ℕ) → g.D.Disk.reads (disk_of l.fn.journal) ≡ Some bytes
+      → EndsWithSnapshot l.kept.rows l.kept.bytes bytes
+      → l.content.items ≡ take (BLOCKS_CONTENT * l.from)
+      (snapshot_content l.kept.rows l.kept.bytes bytes);
   read : OnlyRead g.D.Disk l.fn.journal l.journal;
   calm : g.D.Disk.faults (disk_of l.journal) ≡ g.D.Disk.faults (disk_of l.fn.journal);
-  asked : g.D.Disk.asked (disk_of l.journal) ≤ g.D.Disk.asked (disk_of l.fn.journal) + CALL_BYTES * l.from;
+  asked : g.D.Disk.asked (disk_of l.journal) ≤ g.D.Disk.asked (disk_of l.fn.journal) + CALL_BYTES
+      * l.from;
 }

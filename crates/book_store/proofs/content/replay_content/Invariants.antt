@@ -9,6 +9,7 @@ invariant-loop-before l = record {
   within : l.place ≤ length l.content;
   count : length l.book.entries ≡ l.before;
   grows : Grows l.fn.book l.book;
-  reads : (listed left : List (Option (List ℕ))) → HasRead listed [] (content_rows l.rows 1 l.content ++ left)
+  reads : (listed left : List (Option (List ℕ)))
+      → HasRead listed [] (content_rows l.rows 1 l.content ++ left)
       → HasRead listed l.book.entries (content_left l.rows l.before l.place l.content ++ left);
 }

@@ -11,7 +11,9 @@ returns-in-Ok g c =
     record {
       read = c.read_rows.ensures.read;
       limited = c.read_rows.ensures.grows.limit ∙ ap (λ (b : BookView). b.limit) new;
-      legal = c.read_rows.ensures.grows.legal (subst (λ (entries : List Entry). IsLegal entries) (sym (ap (λ (b : BookView). b.entries) new)) none_legal);
+      legal = c.read_rows.ensures.grows.legal
+          (subst (λ (entries : List Entry). IsLegal entries)
+          (sym (ap (λ (b : BookView). b.entries) new)) none_legal);
       held = c.len.ensures;
       count = c.in-Ok.ensures.count;
       calm = c.in-Ok.ensures.cause;

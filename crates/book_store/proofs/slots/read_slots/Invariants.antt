@@ -12,9 +12,13 @@ invariant-loop-before g l = record {
   grows : Grows l.fn.book l.book;
   read : OnlyRead g.D.Disk l.fn.journal l.journal;
   calm : g.D.Disk.faults (disk_of l.journal) ≡ g.D.Disk.faults (disk_of l.fn.journal);
-  asked : g.D.Disk.asked (disk_of l.journal) ≤ g.D.Disk.asked (disk_of l.fn.journal) + ROW_BYTES * (l.before - length l.fn.book.entries);
-  reads : (bytes : List ℕ) → g.D.Disk.reads (disk_of l.fn.journal) ≡ Some bytes → gate_behind (count_of l.fn.journal) ≤ length bytes
+  asked : g.D.Disk.asked (disk_of l.journal) ≤ g.D.Disk.asked (disk_of l.fn.journal) + ROW_BYTES
+      * (l.before - length l.fn.book.entries);
+  reads : (bytes : List ℕ) → g.D.Disk.reads (disk_of l.fn.journal) ≡ Some bytes
+      → gate_behind (count_of l.fn.journal) ≤ length bytes
       → (rows : List (Option (List ℕ)))
-      → HasRead rows l.fn.book.entries (slots_from (count_of l.fn.journal - length l.fn.book.entries) (length l.fn.book.entries + 1) bytes)
+      → HasRead rows l.fn.book.entries
+      (slots_from (count_of l.fn.journal - length l.fn.book.entries)
+      (length l.fn.book.entries + 1) bytes)
       → HasRead rows l.book.entries (slots_from (count_of l.fn.journal - l.before) (l.before + 1) bytes);
 }

@@ -22,6 +22,9 @@ loop-pack-preserved c =
     let before = c.loop-pack.invariant.0 in (
       omega (arith, step, one, before),
       ap (λ n. n + c.from-count.result) c.loop-pack.invariant.1
-          ∙ ap (λ n. defective_count entries c.args.batch.now c.args.mode (take place packs) + n) (c.from-count.ensures ∙ one_if c.is_defective.result ∙ ap (λ b. cond b 1 0) c.is_defective.ensures)
-          ∙ sym (defective-more entries c.args.batch.now c.args.mode packs place 0 c.loop-pack-test.true),
+          ∙ ap (λ n. defective_count entries c.args.batch.now c.args.mode (take place packs) + n)
+          (c.from-count.ensures ∙ one_if c.is_defective.result
+          ∙ ap (λ b. cond b 1 0) c.is_defective.ensures)
+          ∙ sym (defective-more entries c.args.batch.now c.args.mode packs place 0
+          c.loop-pack-test.true),
     )

@@ -4,4 +4,5 @@ use Rattle.book_views.proofs.contents.count_defective.Given as goal
 
 abbrev pub invariant-loop-pack : goal.invariant-loop-pack
 invariant-loop-pack l =
-    (l.count ≤ l.pack-index) × (l.count ≡ defective_count l.state.entries l.batch l.mode (take l.pack-index l.packs))
+    (l.count ≤ l.pack-index) × (l.count
+    ≡ defective_count l.state.entries l.batch l.mode (take l.pack-index l.packs))

@@ -1,7 +1,7 @@
 use Rattle.std.proofs.Common.{refl, sym, ◌∙◌, ap, arith, lit<, ℤ, ◌≤◌, unsigned_abs, int_lt, w64}
 use Rattle.std.proofs.lemmas.Int.{ints, to_z-of_z}
 use Rattle.hall_limits.specs.declared.TheConstants.{MAX_GROSS}
-use Rattle.reference_test.proofs.Computed.{again, computes_read}
+use Rattle.reference_test.proofs.SignedNumbers.{again, computes_read}
 use Rattle.book_views.proofs.ContentsLemmas.{defective_by}
 use Rattle.book_views.proofs.contents.is_defective.Goals as goal
 
@@ -11,6 +11,8 @@ returns-in-Some c =
     let least = c.in-Some.ensures.least in
     let greatest = c.in-Some.ensures.greatest in
     let near : unsigned_abs mass ≤ unsigned_abs MAX_GROSS = omega (arith, ints, least, greatest) in
-    ap (λ (a : ℤ). int_lt a (again w64 c.args.limit)) (computes_read w64 mass mass (unsigned_abs MAX_GROSS) (lit< tt) refl near).same
+    ap (λ (a : ℤ). int_lt a (again w64 c.args.limit))
+    (computes_read w64 mass mass (unsigned_abs MAX_GROSS) (lit< tt) refl near).same
     ∙ ap (int_lt mass) (to_z-of_z w64 c.args.limit c.ranges.limit)
-    ∙ defective_by c.args.state.now.entries c.args.batch.now c.args.mode c.args.pack mass c.args.limit (sym c.contents_of.ensures.value ∙ c.in-Some.is) c.requires.limit
+    ∙ defective_by c.args.state.now.entries c.args.batch.now c.args.mode c.args.pack mass
+    c.args.limit (sym c.contents_of.ensures.value ∙ c.in-Some.is) c.requires.limit

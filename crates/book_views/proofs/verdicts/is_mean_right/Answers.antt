@@ -7,4 +7,5 @@ use Rattle.book_views.proofs.verdicts.is_mean_right.Goals as goal
 pub returns-else-number-eq0 : goal.returns-else-number-eq0
 returns-else-number-eq0 c values is =
     c.mean_check_at.ensures values is
-    ∙ ap (λ (nominal : ℤ). mean_accepts values nominal c.args.density c.args.k1000) (to_z-of_z w64 c.args.nominal c.ranges.nominal)
+    ∙ ap (λ (nominal : ℤ). mean_accepts values nominal c.args.density c.args.k1000)
+    (to_z-of_z w64 c.args.nominal c.ranges.nominal)

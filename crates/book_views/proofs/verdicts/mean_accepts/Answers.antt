@@ -3,7 +3,7 @@ use Rattle.std.proofs.lemmas.Int.{ints}
 use Rattle.hall_limits.specs.declared.TheConstants.{MAX_NOMINAL}
 use Rattle.annex_tables.specs.declared.types.Plan.{Plan}
 use Rattle.reference_test.specs.Means.{sums_of, mean_accepts}
-use Rattle.reference_test.proofs.Computed.{computes_read}
+use Rattle.reference_test.proofs.SignedNumbers.{computes_read}
 use Rattle.book_words.specs.Classes.{nominal_of_batch, density_of_batch}
 use Rattle.book_words.specs.Measures.{contents_among}
 use Rattle.book_views.proofs.verdicts.mean_accepts.Goals as goal
@@ -21,6 +21,10 @@ returns c =
     let near : unsigned_abs nominal ≤ unsigned_abs MAX_NOMINAL = omega (arith, ints, least, greatest) in
     let sums : c.sum_contents-sums.result ≡ sums_of values = search rules in
     c.is_mean_right.ensures values sums
-    ∙ ap (λ (n : ℤ). mean_accepts values n density c.plan-plan.result.now.k1000) ((computes_read w64 nominal nominal (unsigned_abs MAX_NOMINAL) (lit< tt) refl near).same ∙ c.nominal_of_batch-nominal.ensures.value)
-    ∙ ap (λ d. mean_accepts values (nominal_of_batch entries batch) d c.plan-plan.result.now.k1000) c.density_of_batch-density.ensures.value
-    ∙ ap (λ (p : Plan). mean_accepts values (nominal_of_batch entries batch) (density_of_batch entries batch) p.k1000) c.plan-plan.ensures
+    ∙ ap (λ (n : ℤ). mean_accepts values n density c.plan-plan.result.now.k1000)
+    ((computes_read w64 nominal nominal (unsigned_abs MAX_NOMINAL) (lit< tt) refl near).same
+    ∙ c.nominal_of_batch-nominal.ensures.value)
+    ∙ ap (λ d. mean_accepts values (nominal_of_batch entries batch) d c.plan-plan.result.now.k1000)
+    c.density_of_batch-density.ensures.value
+    ∙ ap (λ (p : Plan). mean_accepts values (nominal_of_batch entries batch)
+    (density_of_batch entries batch) p.k1000) c.plan-plan.ensures

@@ -13,5 +13,6 @@ returns c =
     let batch = c.args.batch.now in
     c.class.ensures
     ∙ ap (λ (net : ℤ). class_of net c.in-Some.limits) (to_z-of_z w64 c.args.net c.ranges.net)
-    ∙ ap (λ (limits : Limits). class_of c.args.net limits) (told_limits _ _ c.in-Some.limits (sym c.in-Some.is ∙ c.limits.ensures))
+    ∙ ap (λ (limits : Limits). class_of c.args.net limits)
+    (told_limits _ _ c.in-Some.limits (sym c.in-Some.is ∙ c.limits.ensures))
     ∙ class_is (density_of_batch entries batch) (limits_of_batch entries batch) c.args.net

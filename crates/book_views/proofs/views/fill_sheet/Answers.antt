@@ -3,7 +3,7 @@ use Rattle.std.proofs.lemmas.Int.{to_z-of_z}
 use Rattle.annex_tables.specs.Errors.{IsNominal, tolerable_error}
 use Rattle.pack_judge.specs.declared.types.Pile.TheVariants.{Passed, Rejected, Sampled, Voided}
 use Rattle.batch_sums.specs.declared.types.Totals.{Totals}
-use Rattle.reference_test.proofs.Computed.{again}
+use Rattle.reference_test.proofs.SignedNumbers.{again}
 use Rattle.book_words.specs.Population.{readings_of_batch}
 use Rattle.book_words.specs.Piles.{tally}
 use Rattle.book_words.specs.Classes.{limits_of_batch}
@@ -14,19 +14,30 @@ use Rattle.book_views.proofs.views.fill_sheet.Goals as goal
 
 pub error_of-requires : goal.error_of-requires
 error_of-requires c =
-    record { nominal = subst (λ (n : ℤ). IsNominal n) (sym (to_z-of_z w64 c.args.nominal c.ranges.nominal)) c.requires.terms.range }
+    record {
+      nominal = subst (λ (n : ℤ). IsNominal n)
+          (sym (to_z-of_z w64 c.args.nominal c.ranges.nominal)) c.requires.terms.range;
+    }
 
 pub add_up-requires-clause-passed : goal.add_up-requires-clause-passed
-add_up-requires-clause-passed c = subst (λ (t : Totals). IsTally t.passed) (sym c.totals_of-totals.ensures) (batch_tally c.args.state.now.entries c.args.batch.now Passed c.requires.legal)
+add_up-requires-clause-passed c =
+    subst (λ (t : Totals). IsTally t.passed) (sym c.totals_of-totals.ensures)
+    (batch_tally c.args.state.now.entries c.args.batch.now Passed c.requires.legal)
 
 pub add_up-requires-clause-rejected : goal.add_up-requires-clause-rejected
-add_up-requires-clause-rejected c = subst (λ (t : Totals). IsTally t.rejected) (sym c.totals_of-totals.ensures) (batch_tally c.args.state.now.entries c.args.batch.now Rejected c.requires.legal)
+add_up-requires-clause-rejected c =
+    subst (λ (t : Totals). IsTally t.rejected) (sym c.totals_of-totals.ensures)
+    (batch_tally c.args.state.now.entries c.args.batch.now Rejected c.requires.legal)
 
 pub add_up-requires-clause-sampled : goal.add_up-requires-clause-sampled
-add_up-requires-clause-sampled c = subst (λ (t : Totals). IsTally t.sampled) (sym c.totals_of-totals.ensures) (batch_tally c.args.state.now.entries c.args.batch.now Sampled c.requires.legal)
+add_up-requires-clause-sampled c =
+    subst (λ (t : Totals). IsTally t.sampled) (sym c.totals_of-totals.ensures)
+    (batch_tally c.args.state.now.entries c.args.batch.now Sampled c.requires.legal)
 
 pub add_up-requires-clause-voided : goal.add_up-requires-clause-voided
-add_up-requires-clause-voided c = subst (λ (t : Totals). IsTally t.voided) (sym c.totals_of-totals.ensures) (batch_tally c.args.state.now.entries c.args.batch.now Voided c.requires.legal)
+add_up-requires-clause-voided c =
+    subst (λ (t : Totals). IsTally t.voided) (sym c.totals_of-totals.ensures)
+    (batch_tally c.args.state.now.entries c.args.batch.now Voided c.requires.legal)
 
 pub returns : goal.returns
 returns c =
@@ -38,9 +49,12 @@ returns c =
     let nets : FitsSigned w64 c.totals_of-totals.result.net = search rules in
     let error : again w64 c.error_of.result ≡ (limits_of_batch entries batch).tne =
     to_z-of_z w64 c.error_of.result errors ∙ c.error_of.ensures
-    ∙ ap tolerable_error (read ∙ sym (nominal_by_product entries batch c.args.product c.args.nominal c.requires.terms.product c.requires.terms.nominal)) in
+    ∙ ap tolerable_error (read ∙ sym
+    (nominal_by_product entries batch c.args.product c.args.nominal c.requires.terms.product
+    c.requires.terms.nominal)) in
     let all : c.add_up.result ≡ tally (readings_of_batch entries batch) =
-    c.add_up.ensures ∙ ap (λ (t : Totals). all_of t.passed t.rejected t.sampled t.voided) told ∙ tally_of_piles entries (readings_of_batch entries batch) in
+    c.add_up.ensures ∙ ap (λ (t : Totals). all_of t.passed t.rejected t.sampled t.voided) told
+    ∙ tally_of_piles entries (readings_of_batch entries batch) in
     let net = to_z-of_z w64 c.totals_of-totals.result.net nets ∙ ap (λ (t : Totals). t.net) told in
     λ i. record {
       batch = batch;

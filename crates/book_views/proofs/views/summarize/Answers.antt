@@ -8,16 +8,24 @@ use Rattle.book_views.proofs.PileLemmas.{hall_tally, tally_of_piles}
 use Rattle.book_views.proofs.views.summarize.Goals as goal
 
 pub add_up-requires-clause-passed : goal.add_up-requires-clause-passed
-add_up-requires-clause-passed c = subst (λ (some : Piles). IsTally some.passed) (sym c.piles-piles.ensures) (hall_tally c.args.state.now.entries Passed c.len.ensures.legal)
+add_up-requires-clause-passed c =
+    subst (λ (some : Piles). IsTally some.passed) (sym c.piles-piles.ensures)
+    (hall_tally c.args.state.now.entries Passed c.len.ensures.legal)
 
 pub add_up-requires-clause-rejected : goal.add_up-requires-clause-rejected
-add_up-requires-clause-rejected c = subst (λ (some : Piles). IsTally some.rejected) (sym c.piles-piles.ensures) (hall_tally c.args.state.now.entries Rejected c.len.ensures.legal)
+add_up-requires-clause-rejected c =
+    subst (λ (some : Piles). IsTally some.rejected) (sym c.piles-piles.ensures)
+    (hall_tally c.args.state.now.entries Rejected c.len.ensures.legal)
 
 pub add_up-requires-clause-sampled : goal.add_up-requires-clause-sampled
-add_up-requires-clause-sampled c = subst (λ (some : Piles). IsTally some.sampled) (sym c.piles-piles.ensures) (hall_tally c.args.state.now.entries Sampled c.len.ensures.legal)
+add_up-requires-clause-sampled c =
+    subst (λ (some : Piles). IsTally some.sampled) (sym c.piles-piles.ensures)
+    (hall_tally c.args.state.now.entries Sampled c.len.ensures.legal)
 
 pub add_up-requires-clause-voided : goal.add_up-requires-clause-voided
-add_up-requires-clause-voided c = subst (λ (some : Piles). IsTally some.voided) (sym c.piles-piles.ensures) (hall_tally c.args.state.now.entries Voided c.len.ensures.legal)
+add_up-requires-clause-voided c =
+    subst (λ (some : Piles). IsTally some.voided) (sym c.piles-piles.ensures)
+    (hall_tally c.args.state.now.entries Voided c.len.ensures.legal)
 
 pub returns : goal.returns
 returns c =
@@ -25,7 +33,9 @@ returns c =
     let told = c.piles-piles.ensures in
     let states = c.states-states.ensures in
     let all : c.add_up.result ≡ tally (readings entries) =
-    c.add_up.ensures ∙ ap (λ (some : Piles). all_of some.passed some.rejected some.sampled some.voided) told ∙ tally_of_piles entries (readings entries) in
+    c.add_up.ensures
+    ∙ ap (λ (some : Piles). all_of some.passed some.rejected some.sampled some.voided) told
+    ∙ tally_of_piles entries (readings entries) in
     λ i. record {
       rows = c.len.ensures.count i;
       readings = all i;

@@ -1,7 +1,7 @@
 use Rattle.std.proofs.Common.{rules, sym, ◌∙◌, ap, refl, arith, lit<, Some, option_map, ◌≤◌, unsigned_abs, FitsSigned, w32, w64}
 use Rattle.std.proofs.lemmas.Int.{ints, to_z-of_z}
 use Rattle.hall_limits.specs.declared.TheConstants.{MAX_GROSS, MAX_TARE}
-use Rattle.reference_test.proofs.Computed.{computes_read, computes_difference}
+use Rattle.reference_test.proofs.SignedNumbers.{computes_read, computes_difference}
 use Rattle.book_words.specs.Acts.{product_of}
 use Rattle.book_words.specs.Classes.{class_in_batch}
 use Rattle.book_state.specs.declared.types.KnownPack.{KnownPack}
@@ -13,8 +13,10 @@ pub returns-in_err-product-clause-there : goal.returns-in_err-product-clause-the
 returns-in_err-product-clause-there c =
     let entries = c.args.state.now.entries in
     let known = c.in_ok-known.known in
-    let of_batch = sym c.pack.ensures.batch ∙ ap (option_map (λ (pack : KnownPack). pack.batch)) c.in_ok-known.was in
-    absurd (never_none (product_of entries known.batch) c.product.result (pack_product entries c.args.number known.batch c.pack.ensures.legal of_batch)
+    let of_batch = sym c.pack.ensures.batch
+    ∙ ap (option_map (λ (pack : KnownPack). pack.batch)) c.in_ok-known.was in
+    absurd (never_none (product_of entries known.batch) c.product.result
+    (pack_product entries c.args.number known.batch c.pack.ensures.legal of_batch)
     c.product.ensures.value c.in_err-product.was)
 
 pub returns-clause-view : goal.returns-clause-view
@@ -24,7 +26,8 @@ returns-clause-view c =
     let product = c.in_ok-product.product in
     let weighed = c.in_ok-known.ensures.gross in
     let light = c.in_ok-known.ensures.tare in
-    let near : unsigned_abs known.gross ≤ unsigned_abs MAX_GROSS = omega (arith, ints, weighed.0, weighed.1) in
+    let near : unsigned_abs known.gross ≤ unsigned_abs MAX_GROSS =
+    omega (arith, ints, weighed.0, weighed.1) in
     let less : unsigned_abs known.tare ≤ unsigned_abs MAX_TARE = omega (arith, ints, light.0, light.1) in
     let gross = computes_read w64 known.gross known.gross (unsigned_abs MAX_GROSS) (lit< tt) refl near in
     let tare = computes_read w64 known.tare known.tare (unsigned_abs MAX_TARE) (lit< tt) refl less in
@@ -43,5 +46,7 @@ returns-clause-view c =
       signal = known.signal;
       pile = known.pile;
     }))
-    ∙ known_view entries c.args.number known product c.class_in.result (sym c.pack.ensures.value ∙ c.in_ok-known.was) (sym c.product.ensures.value ∙ c.in_ok-product.was)
+    ∙ known_view entries c.args.number known product c.class_in.result
+    (sym c.pack.ensures.value ∙ c.in_ok-known.was)
+    (sym c.product.ensures.value ∙ c.in_ok-product.was)
     (c.class_in.ensures ∙ ap (class_in_batch entries known.batch) net.same)

@@ -2,4 +2,5 @@ use Rattle.disk_core.proofs.Pieces.{kept_consumes}
 use Rattle.disk_core.proofs.standard.read_again.Goals as goal
 
 pub returns-in-Ok-clause-bytes : goal.returns-in-Ok-clause-bytes
-returns-in-Ok-clause-bytes g c = (kept_consumes _ _ _ _ c.loop-turn.invariant c.in-Ok.ensures.bytes.0, c.in-Ok.ensures.bytes.1)
+returns-in-Ok-clause-bytes g c =
+    (kept_consumes _ _ _ _ c.loop-turn.invariant c.in-Ok.ensures.bytes.0, c.in-Ok.ensures.bytes.1)

@@ -16,8 +16,10 @@ pub returns-clause-value : goal.returns-clause-value
 returns-clause-value c = value c
 
 pub returns-clause-range : goal.returns-clause-range
-returns-clause-range c = IfOk-result_ok IsDay c.ok_or.result (day_of c.args.text.now) (value c) (IsDay-day_of c.args.text.now)
+returns-clause-range c = IfOk-result_ok IsDay c.ok_or.result (day_of c.args.text.now) (value c)
+    (IsDay-day_of c.args.text.now)
 
 pub returns-clause-spelled : goal.returns-clause-spelled
 returns-clause-spelled c =
-    IfOk-result_ok (λ day. c.args.text.now ≡ day_text day) c.ok_or.result (day_of c.args.text.now) (value c) (day_text-day_of c.args.text.now)
+    IfOk-result_ok (λ day. c.args.text.now ≡ day_text day) c.ok_or.result (day_of c.args.text.now)
+    (value c) (day_text-day_of c.args.text.now)

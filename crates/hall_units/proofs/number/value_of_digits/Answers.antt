@@ -7,7 +7,14 @@ use Rattle.hall_units.proofs.number.value_of_digits.Goals as goal
 
 pub overflow_mul-value : goal.overflow_mul-value
 overflow_mul-value c =
-    record { fits = omega (arith, digit_fits c.loop-byte.byte-index c.loop-byte.value 0 (omega arith) c.loop-byte.invariant.1 (omega arith)) }
+    record {
+      fits =
+          omega (
+            arith,
+            digit_fits c.loop-byte.byte-index c.loop-byte.value 0
+                (omega arith) c.loop-byte.invariant.1 (omega arith),
+          );
+    }
 
 pub overflow_sub-byte : goal.overflow_sub-byte
 overflow_sub-byte c =
@@ -16,7 +23,10 @@ overflow_sub-byte c =
 pub overflow_add-value : goal.overflow_add-value
 overflow_add-value c =
     let digit = digit_at c.args.text.now c.loop-byte.byte-index c.requires.digits (omega arith) in
-    record { fits = digit_fits c.loop-byte.byte-index c.loop-byte.value c.from.result (omega arith) c.loop-byte.invariant.1 (omega arith) }
+    record {
+      fits = digit_fits c.loop-byte.byte-index c.loop-byte.value c.from.result
+          (omega arith) c.loop-byte.invariant.1 (omega arith);
+    }
 
 pub loop-byte-preserved : goal.loop-byte-preserved
 loop-byte-preserved c =
@@ -24,5 +34,8 @@ loop-byte-preserved c =
     let text = c.args.text.now in
     let digit = digit_at text i c.requires.digits (omega arith) in
     let is = digit_value_digit (get_or text i 0) digit in
-    let step = digits_value_more 10 text i (omega arith) in
-    (omega (arith, step, is), next_digit_below i c.loop-byte.value c.from.result c.loop-byte.invariant.1 (omega arith))
+    let step = digits_value_more 10 text i (omega arith) in (
+      omega (arith, step, is),
+      next_digit_below i c.loop-byte.value c.from.result
+          c.loop-byte.invariant.1 (omega arith),
+    )

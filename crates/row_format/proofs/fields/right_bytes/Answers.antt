@@ -18,7 +18,8 @@ nonzero_rem-number c =
 pub can_begin-requires-clause-low : goal.can_begin-requires-clause-low
 can_begin-requires-clause-low c =
     let power = power_bounds c.loop-count.count 6 (omega (arith, c.requires.size.1)) in
-    let positive : 0 < c.loop-count.modulus * 256 = omega (arith, c.loop-count.invariant.power, power.positive) in
+    let positive : 0 < c.loop-count.modulus * 256 =
+    omega (arith, c.loop-count.invariant.power, power.positive) in
     mod_below c.args.number (c.loop-count.modulus * 256) positive
 
 pub can_begin-requires-clause-modulus : goal.can_begin-requires-clause-modulus
@@ -33,7 +34,8 @@ returns-then-not-can_begin c =
     let count = c.loop-count.count in
     let rest = c.args.size - 1 - (count + 1) in
     let wrong : can_begin numbers (c.args.number % (modulus * 256)) (modulus * 256) ≡ false = cc in
-    wrong_next numbers c.args.number modulus count (c.args.size - 1 - count) rest (omega arith) wrong ∙ c.loop-count.invariant.same
+    wrong_next numbers c.args.number modulus count (c.args.size - 1 - count) rest
+    (omega arith) wrong ∙ c.loop-count.invariant.same
 
 pub loop-count-preserved : goal.loop-count-preserved
 loop-count-preserved c =
@@ -44,10 +46,12 @@ loop-count-preserved c =
     let right : can_begin numbers (c.args.number % (modulus * 256)) (modulus * 256) ≡ true = cc in
     record {
       power = ap (λ n. n * 256) c.loop-count.invariant.power ∙ sym (power_more count);
-      same = right_more numbers c.args.number modulus count (c.args.size - 1 - count) rest (omega arith) right ∙ c.loop-count.invariant.same;
+      same = right_more numbers c.args.number modulus count (c.args.size - 1 - count) rest
+          (omega arith) right ∙ c.loop-count.invariant.same;
     }
 
 pub returns : goal.returns
 returns c =
     let ends : c.loop-count.count ≡ c.args.size - 1 = omega arith in
-    sym ends ∙ wrong_last c.args.numbers.now c.args.number c.loop-count.modulus c.loop-count.count (c.args.size - 1 - c.loop-count.count) (omega arith) ∙ c.loop-count.invariant.same
+    sym ends ∙ wrong_last c.args.numbers.now c.args.number c.loop-count.modulus c.loop-count.count
+    (c.args.size - 1 - c.loop-count.count) (omega arith) ∙ c.loop-count.invariant.same

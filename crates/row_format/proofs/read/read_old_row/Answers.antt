@@ -9,5 +9,12 @@ returns c =
     let long : length c.args.bytes.now ≡ 14 + 50 = omega arith in
     let are : IsBytes c.args.bytes.now = c.fits-bytes in
     let below : c.args.number < 2 ^ 32 = omega arith in
-    let told = row_is_told 50 OLD_NAME_BYTES c.args.number c.args.bytes.now c.row_at.result (record { some = omega arith; short = omega arith; names = omega arith; name = omega arith; others = omega arith }) below long are c.row_at.ensures in
+    let told = row_is_told 50 OLD_NAME_BYTES c.args.number c.args.bytes.now c.row_at.result
+    (record {
+      some = omega arith;
+      short = omega arith;
+      names = omega arith;
+      name = omega arith;
+      others = omega arith;
+    }) below long are c.row_at.ensures in
     record { row = told.row; back = told.back; fault = told.fault }

@@ -4,6 +4,7 @@ use Rattle.session_laws.proofs.run.mount_session.Goals as goal
 
 pub returns-in-Ok : goal.returns-in-Ok
 returns-in-Ok g c = record {
+  refused = tt;
   kept = λ bytes told held holds legal.
       let store = c.in-Ok.store in
       let has : HasHeld g.D.Disk c.args.disk held store =

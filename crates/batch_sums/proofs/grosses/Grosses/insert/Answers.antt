@@ -10,6 +10,12 @@ invariant_of-self c =
     let old = items c.self.inside.tree in
     let at = c.place-place.ensures ∙ ap (below mass_of c.args.gross) (sym c.self.view_is) in
     let made = rw c.replace-tree.ensures.value at c.insert.ensures.items in
-    let longer = longer_put old (items c.insert.result) c.place-place.result c.args.gross (record { mass = c.args.gross }) at made in
-    let same = ap length c.self.view_is in
-    (c.insert.ensures.balanced, rising_put old (items c.insert.result) c.place-place.result c.args.gross (record { mass = c.args.gross }) c.self.invariant.1 refl at made, omega (arith, longer, same, c.requires.few))
+    let longer = longer_put old (items c.insert.result) c.place-place.result c.args.gross
+    (record { mass = c.args.gross }) at made in
+    let same = ap length c.self.view_is in (
+      c.insert.ensures.balanced,
+      rising_put old
+          (items c.insert.result) c.place-place.result c.args.gross
+          (record { mass = c.args.gross }) c.self.invariant.1 refl at made,
+      omega (arith, longer, same, c.requires.few),
+    )

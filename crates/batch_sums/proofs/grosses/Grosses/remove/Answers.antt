@@ -11,7 +11,8 @@ remove-rest-requires-clause-within c =
     let old = items c.self.inside.tree in
     let at = c.place-place.ensures ∙ ap (below mass_of c.args.gross) (sym c.self.view_is) in
     let some = rw (← c.self.view_is) at c.requires.contained in
-    rw c.replace-tree.ensures.value (within_order old old c.place-place.result c.args.gross c.self.invariant.1 some at)
+    rw c.replace-tree.ensures.value
+    (within_order old old c.place-place.result c.args.gross c.self.invariant.1 some at)
 
 pub invariant_of-self : goal.invariant_of-self
 invariant_of-self c =
@@ -20,8 +21,11 @@ invariant_of-self c =
     let some = rw (← c.self.view_is) at c.requires.contained in
     let within = within_order old old c.place-place.result c.args.gross c.self.invariant.1 some at in
     let made = rw c.replace-tree.ensures.value at c.remove-rest.ensures.items in
-    let shorter = length-remove old c.place-place.result within in
-    (c.remove-rest.ensures.balanced, rw made (IsRising-remove mass_of old c.place-place.result c.self.invariant.1), rw made (omega (arith, shorter, c.self.invariant.2)))
+    let shorter = length-remove old c.place-place.result within in (
+      c.remove-rest.ensures.balanced,
+      rw made (IsRising-remove mass_of old c.place-place.result c.self.invariant.1),
+      rw made (omega (arith, shorter, c.self.invariant.2)),
+    )
 
 pub returns : goal.returns
 returns c =
@@ -29,4 +33,6 @@ returns c =
     let at = c.place-place.ensures ∙ ap (below mass_of c.args.gross) (sym c.self.view_is) in
     let some = rw (← c.self.view_is) at c.requires.contained in
     let made = rw c.replace-tree.ensures.value at c.remove-rest.ensures.items in
-    rw (← c.self.view_is) (taken_out old (items c.remove-rest.result.0) c.place-place.result c.args.gross c.self.invariant.1 some at made)
+    rw (← c.self.view_is) (taken_out old
+    (items c.remove-rest.result.0) c.place-place.result c.args.gross c.self.invariant.1 some at
+    made)

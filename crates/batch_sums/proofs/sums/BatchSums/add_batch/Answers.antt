@@ -16,29 +16,48 @@ invariant_of-self c =
     let room = c.self.invariant.room in
     let made = c.new.ensures in
     let spare = ap (λ (s : Sums). s.spare) c.self.view_is in
-    let pushed : c.push.new.self.items ≡ sums.batches.items ++ c.new.result ∷ [] = c.in-Ok.ensures.items in
+    let pushed : c.push.new.self.items ≡ sums.batches.items ++ c.new.result ∷ [] =
+    c.in-Ok.ensures.items in
     record {
       settled = record {
-        sound = subst (λ bs. Sound bs sums.groups.items sums.packs.items) (sym pushed) (sound_batch sums.batches.items sums.groups.items sums.packs.items settled.sound c.new.result made.piles made.tares made.nonstandard made.inadequate);
+        sound = subst (λ bs. Sound bs sums.groups.items sums.packs.items) (sym pushed)
+            (sound_batch sums.batches.items sums.groups.items sums.packs.items settled.sound
+            c.new.result made.piles made.tares made.nonstandard made.inadequate);
         balanced = settled.balanced;
         index = settled.index;
         used = settled.used;
         small = settled.small;
         apart = settled.apart;
         numbered = settled.numbered;
-        chained = chained_as _ _ _ _ _ _ (ap reaches_of pushed ∙ map-append (λ (b : Batch). b.reach) sums.batches.items (c.new.result ∷ []) ∙ ap (λ n. reaches_of sums.batches.items ++ n ∷ []) made.reach) refl refl
+        chained = chained_as _ _ _ _ _ _
+            (ap reaches_of pushed ∙ map-append (λ (b : Batch). b.reach) sums.batches.items
+            (c.new.result ∷ []) ∙ ap (λ n. reaches_of sums.batches.items ++ n ∷ []) made.reach) refl
+            refl
             (chained_batch _ _ _ settled.chained);
       };
       tallied = c.self.invariant.tallied;
       room = record {
-        batches = omega (arith, room.batches, c.in-Ok.ensures.len, c.in-Ok.ensures.capacity, c.in_ok-reserve.ensures.ok, spare);
+        batches = omega (
+          arith,
+          room.batches,
+          c.in-Ok.ensures.len,
+          c.in-Ok.ensures.capacity,
+          c.in_ok-reserve.ensures.ok,
+          spare,
+        );
         groups = omega (arith, room.groups);
         packs = omega (arith, room.packs);
         numbers = omega (arith, room.numbers);
         nodes = omega (arith, room.nodes);
         back = room.back;
         order_nodes = omega (arith, room.order_nodes);
-        few_batches = omega (arith, room.few_batches, c.in-Ok.ensures.len, c.in_ok-reserve.ensures.ok, spare);
+        few_batches = omega (
+          arith,
+          room.few_batches,
+          c.in-Ok.ensures.len,
+          c.in_ok-reserve.ensures.ok,
+          spare,
+        );
         few_packs = omega (arith, room.few_packs);
       };
     }

@@ -21,12 +21,35 @@ unreachable-requires c =
     let sums = c.self.inside in
     let gs = sums.groups.items in
     let order = items sums.order in
-    let first_is : c.stretch_of-first.result.first ≡ below (nth_rank (faces gs)) ((c.args.product * 4294967296 + c.days_of.result.from) * 4294967296 + 0) order =
-    c.stretch_of-first.ensures.first ∙ ap (λ (some : List Group). below (nth_rank (faces some)) ((c.args.product * 4294967296 + c.days_of.result.from) * 4294967296 + 0) order) c.deref.ensures.value in
-    let end_is : c.stretch_of-first.result.end ≡ max c.stretch_of-first.result.first (below (nth_rank (faces gs)) ((c.args.product * 4294967296 + c.days_of.result.until) * 4294967296 + 0) order) =
-    c.stretch_of-first.ensures.end ∙ ap (λ (some : List Group). max c.stretch_of-first.result.first (below (nth_rank (faces some)) ((c.args.product * 4294967296 + c.days_of.result.until) * 4294967296 + 0) order)) c.deref.ensures.value in
-    let inside : c.loop-position.position < length order = omega (arith, c.loop-position-test.true, end_is, first_is, below-le-length (nth_rank (faces gs)) ((c.args.product * 4294967296 + c.days_of.result.from) * 4294967296 + 0) order, below-le-length (nth_rank (faces gs)) ((c.args.product * 4294967296 + c.days_of.result.until) * 4294967296 + 0) order) in
-    none-some _ (sym c.in_default.is ∙ c.get.ensures ∙ slice_get-get_or order c.loop-position.position 0 inside)
+    let first_is : c.stretch_of-first.result.first
+    ≡ below (nth_rank (faces gs)) ((c.args.product * 4294967296 + c.days_of.result.from)
+    * 4294967296 + 0) order =
+    c.stretch_of-first.ensures.first
+    ∙ ap (λ (some : List Group). below (nth_rank (faces some))
+    ((c.args.product * 4294967296 + c.days_of.result.from) * 4294967296 + 0) order)
+    c.deref.ensures.value in
+    let end_is : c.stretch_of-first.result.end
+    ≡ max c.stretch_of-first.result.first
+    (below (nth_rank (faces gs)) ((c.args.product * 4294967296 + c.days_of.result.until)
+    * 4294967296 + 0) order) =
+    c.stretch_of-first.ensures.end
+    ∙ ap (λ (some : List Group). max c.stretch_of-first.result.first
+    (below (nth_rank (faces some))
+    ((c.args.product * 4294967296 + c.days_of.result.until) * 4294967296 + 0) order))
+    c.deref.ensures.value in
+    let inside : c.loop-position.position < length order =
+    omega (
+      arith,
+      c.loop-position-test.true,
+      end_is,
+      first_is,
+      below-le-length (nth_rank (faces gs))
+          ((c.args.product * 4294967296 + c.days_of.result.from) * 4294967296 + 0) order,
+      below-le-length (nth_rank (faces gs))
+          ((c.args.product * 4294967296 + c.days_of.result.until) * 4294967296 + 0) order,
+    ) in
+    none-some _ (sym c.in_default.is ∙ c.get.ensures
+    ∙ slice_get-get_or order c.loop-position.position 0 inside)
 
 pub index-requires : goal.index-requires
 index-requires c =
@@ -34,8 +57,11 @@ index-requires c =
     let settled = c.self.invariant.settled in
     let gs = sums.groups.items in
     let order = items sums.order in
-    let placed : slice_get order c.loop-position.position ≡ Some c.in-Some.group = sym c.get.ensures ∙ c.in-Some.is in
-    let among : c.in-Some.group < length (faces gs) = All-found (λ place. place < length (faces gs)) order c.loop-position.position c.in-Some.group settled.index.within placed in
+    let placed : slice_get order c.loop-position.position ≡ Some c.in-Some.group = sym c.get.ensures
+    ∙ c.in-Some.is in
+    let among : c.in-Some.group < length (faces gs) =
+    All-found (λ place. place < length (faces gs)) order c.loop-position.position
+    c.in-Some.group settled.index.within placed in
     let within : c.in-Some.group < length gs = omega (arith, among, length-map gs face_of) in
     omega (arith, within, sums.groups.ok.0)
 
@@ -45,13 +71,24 @@ bounds-chosen-batch c =
     let settled = c.self.invariant.settled in
     let gs = sums.groups.items in
     let order = items sums.order in
-    let placed : slice_get order c.loop-position.position ≡ Some c.in-Some.group = sym c.get.ensures ∙ c.in-Some.is in
-    let among : c.in-Some.group < length (faces gs) = All-found (λ place. place < length (faces gs)) order c.loop-position.position c.in-Some.group settled.index.within placed in
+    let placed : slice_get order c.loop-position.position ≡ Some c.in-Some.group = sym c.get.ensures
+    ∙ c.in-Some.is in
+    let among : c.in-Some.group < length (faces gs) =
+    All-found (λ place. place < length (faces gs)) order c.loop-position.position
+    c.in-Some.group settled.index.within placed in
     let within : c.in-Some.group < length gs = omega (arith, among, length-map gs face_of) in
-    let at : slice_get gs c.in-Some.group ≡ Some c.index.result.now = slice_get_read gs (length gs) c.in-Some.group c.index.result.now refl within c.index.ensures in
+    let at : slice_get gs c.in-Some.group ≡ Some c.index.result.now =
+    slice_get_read gs (length gs) c.in-Some.group c.index.result.now refl within
+    c.index.ensures in
     let kept = settled.sound.group c.in-Some.group c.index.result.now at in
     let there = slice_get_within sums.batches.items c.index.result.now.key.batch kept.batch kept.is in
-    omega (arith, there, length-map sums.batches.items terms_of, ap (λ (s : Sums). length s.batches) c.self.view_is, c.requires)
+    omega (
+      arith,
+      there,
+      length-map sums.batches.items terms_of,
+      ap (λ (s : Sums). length s.batches) c.self.view_is,
+      c.requires,
+    )
 
 pub loop-position-preserved : goal.loop-position-preserved
 loop-position-preserved c =
@@ -59,26 +96,46 @@ loop-position-preserved c =
     let settled = c.self.invariant.settled in
     let gs = sums.groups.items in
     let order = items sums.order in
-    let placed : slice_get order c.loop-position.position ≡ Some c.in-Some.group = sym c.get.ensures ∙ c.in-Some.is in
-    let among : c.in-Some.group < length (faces gs) = All-found (λ place. place < length (faces gs)) order c.loop-position.position c.in-Some.group settled.index.within placed in
+    let placed : slice_get order c.loop-position.position ≡ Some c.in-Some.group = sym c.get.ensures
+    ∙ c.in-Some.is in
+    let among : c.in-Some.group < length (faces gs) =
+    All-found (λ place. place < length (faces gs)) order c.loop-position.position
+    c.in-Some.group settled.index.within placed in
     let within : c.in-Some.group < length gs = omega (arith, among, length-map gs face_of) in
-    let at : slice_get gs c.in-Some.group ≡ Some c.index.result.now = slice_get_read gs (length gs) c.in-Some.group c.index.result.now refl within c.index.ensures in
-    let more : between c.stretch_of-first.result.first (c.loop-position.position + 1) order ≡ between c.stretch_of-first.result.first c.loop-position.position order ++ c.in-Some.group ∷ [] =
-    between_more order c.stretch_of-first.result.first c.loop-position.position c.in-Some.group (omega (arith, c.loop-position.auto)) (slice_get_within order c.loop-position.position c.in-Some.group placed)
-    ∙ ap (λ x. between c.stretch_of-first.result.first c.loop-position.position order ++ x ∷ []) (get_or_from_slice_get order c.loop-position.position c.in-Some.group c.in-Some.group placed) in
+    let at : slice_get gs c.in-Some.group ≡ Some c.index.result.now =
+    slice_get_read gs (length gs) c.in-Some.group c.index.result.now refl within
+    c.index.ensures in
+    let more : between c.stretch_of-first.result.first (c.loop-position.position + 1) order
+    ≡ between c.stretch_of-first.result.first c.loop-position.position order ++ c.in-Some.group
+    ∷ [] =
+    between_more order c.stretch_of-first.result.first c.loop-position.position c.in-Some.group
+    (omega (arith, c.loop-position.auto))
+    (slice_get_within order c.loop-position.position c.in-Some.group placed)
+    ∙ ap (λ x. between c.stretch_of-first.result.first c.loop-position.position order ++ x ∷ [])
+    (get_or_from_slice_get order c.loop-position.position c.in-Some.group c.in-Some.group
+    placed) in
     let fs = faces gs in
     let chosen = c.args.chosen.now in
     let before = between c.stretch_of-first.result.first c.loop-position.position order in
-    let batch : (nth_face fs c.in-Some.group).key.batch ≡ c.index.result.now.key.batch = ap (λ (f : Face). f.key.batch) (face-found gs c.in-Some.group c.index.result.now at) in
-    let flagged : flag chosen (nth_face fs c.in-Some.group).key.batch ≡ get_or chosen c.index.result.now.key.batch false = ap (flag chosen) batch ∙ unwrap_or-slice_get chosen c.index.result.now.key.batch false in
+    let batch : (nth_face fs c.in-Some.group).key.batch ≡ c.index.result.now.key.batch =
+    ap (λ (f : Face). f.key.batch) (face-found gs c.in-Some.group c.index.result.now at) in
+    let flagged : flag chosen (nth_face fs c.in-Some.group).key.batch
+    ≡ get_or chosen c.index.result.now.key.batch false = ap (flag chosen) batch
+    ∙ unwrap_or-slice_get chosen c.index.result.now.key.batch false in
     elim (cases_Bool (get_or chosen c.index.result.now.key.batch false)) [
       | inl is ↦
-          let homes = ap (chosen_homes chosen fs) more ∙ homes_chosen chosen fs before c.in-Some.group (flagged ∙ is) ∙ ap (λ n. chosen_homes chosen fs before ++ n ∷ []) batch in
-          subst (λ ns. IsLeast ns c.lesser-least.result) (sym homes) (c.lesser-least.ensures.chosen is (chosen_homes chosen fs before) c.loop-position.invariant)
-      | inr other ↦
-          let homes = ap (chosen_homes chosen fs) more ∙ homes_left chosen fs before c.in-Some.group (flagged ∙ other) in
+          let homes = ap (chosen_homes chosen fs) more
+          ∙ homes_chosen chosen fs before c.in-Some.group (flagged ∙ is)
+          ∙ ap (λ n. chosen_homes chosen fs before ++ n ∷ []) batch in
           subst (λ ns. IsLeast ns c.lesser-least.result) (sym homes)
-          (subst (λ least. IsLeast (chosen_homes chosen fs before) least) (sym (c.lesser-least.ensures.others other)) c.loop-position.invariant)
+          (c.lesser-least.ensures.chosen is
+          (chosen_homes chosen fs before) c.loop-position.invariant)
+      | inr other ↦
+          let homes = ap (chosen_homes chosen fs) more
+          ∙ homes_left chosen fs before c.in-Some.group (flagged ∙ other) in
+          subst (λ ns. IsLeast ns c.lesser-least.result) (sym homes)
+          (subst (λ least. IsLeast (chosen_homes chosen fs before) least)
+          (sym (c.lesser-least.ensures.others other)) c.loop-position.invariant)
     ]
 
 pub returns : goal.returns
@@ -87,12 +144,34 @@ returns c =
     let settled = c.self.invariant.settled in
     let gs = sums.groups.items in
     let order = items sums.order in
-    let first_is : c.stretch_of-first.result.first ≡ below (nth_rank (faces gs)) ((c.args.product * 4294967296 + c.days_of.result.from) * 4294967296 + 0) order =
-    c.stretch_of-first.ensures.first ∙ ap (λ (some : List Group). below (nth_rank (faces some)) ((c.args.product * 4294967296 + c.days_of.result.from) * 4294967296 + 0) order) c.deref.ensures.value in
-    let end_is : c.stretch_of-first.result.end ≡ max c.stretch_of-first.result.first (below (nth_rank (faces gs)) ((c.args.product * 4294967296 + c.days_of.result.until) * 4294967296 + 0) order) =
-    c.stretch_of-first.ensures.end ∙ ap (λ (some : List Group). max c.stretch_of-first.result.first (below (nth_rank (faces some)) ((c.args.product * 4294967296 + c.days_of.result.until) * 4294967296 + 0) order)) c.deref.ensures.value in
-    let at : c.loop-position.position ≡ c.stretch_of-first.result.end = omega (arith, c.loop-position-test.false, c.loop-position.auto, end_is) in
+    let first_is : c.stretch_of-first.result.first
+    ≡ below (nth_rank (faces gs)) ((c.args.product * 4294967296 + c.days_of.result.from)
+    * 4294967296 + 0) order =
+    c.stretch_of-first.ensures.first
+    ∙ ap (λ (some : List Group). below (nth_rank (faces some))
+    ((c.args.product * 4294967296 + c.days_of.result.from) * 4294967296 + 0) order)
+    c.deref.ensures.value in
+    let end_is : c.stretch_of-first.result.end
+    ≡ max c.stretch_of-first.result.first
+    (below (nth_rank (faces gs)) ((c.args.product * 4294967296 + c.days_of.result.until)
+    * 4294967296 + 0) order) =
+    c.stretch_of-first.ensures.end
+    ∙ ap (λ (some : List Group). max c.stretch_of-first.result.first
+    (below (nth_rank (faces some))
+    ((c.args.product * 4294967296 + c.days_of.result.until) * 4294967296 + 0) order))
+    c.deref.ensures.value in
+    let at : c.loop-position.position ≡ c.stretch_of-first.result.end =
+    omega (arith, c.loop-position-test.false, c.loop-position.auto, end_is) in
     let fs = faces gs in
-    rw (← c.self.view_is) (least_same (chosen_homes c.args.chosen.now fs (between c.stretch_of-first.result.first c.stretch_of-first.result.end order)) _ c.loop-position.least
-    (concerning sums.batches.items gs sums.packs.items settled.sound settled.used order settled.index c.args.product c.days_of.result.from c.days_of.result.until c.stretch_of-first.result.first c.stretch_of-first.result.end c.days_of.ensures.small.0 c.days_of.ensures.small.1 first_is end_is c.args.span.now c.days_of.ensures.covers c.args.chosen.now)
-    (subst (λ place. IsLeast (chosen_homes c.args.chosen.now fs (between c.stretch_of-first.result.first place order)) c.loop-position.least) at c.loop-position.invariant))
+    rw (← c.self.view_is) (least_same
+    (chosen_homes c.args.chosen.now fs
+    (between c.stretch_of-first.result.first c.stretch_of-first.result.end order)) _
+    c.loop-position.least
+    (concerning sums.batches.items gs sums.packs.items settled.sound settled.used order
+    settled.index c.args.product c.days_of.result.from c.days_of.result.until
+    c.stretch_of-first.result.first c.stretch_of-first.result.end c.days_of.ensures.small.0
+    c.days_of.ensures.small.1 first_is end_is c.args.span.now c.days_of.ensures.covers
+    c.args.chosen.now)
+    (subst (λ place. IsLeast (chosen_homes c.args.chosen.now fs
+    (between c.stretch_of-first.result.first place order)) c.loop-position.least) at
+    c.loop-position.invariant))

@@ -7,4 +7,5 @@ use Rattle.batch_sums.proofs.sums.BatchSums.first_concerned.Given as goal
 
 abbrev pub invariant-loop-position : goal.invariant-loop-position
 invariant-loop-position l =
-    IsLeast (chosen_homes l.chosen (faces l.self-inside.groups.items) (between l.first l.position (items l.self-inside.order))) l.least
+    IsLeast (chosen_homes l.chosen (faces l.self-inside.groups.items)
+    (between l.first l.position (items l.self-inside.order))) l.least

@@ -22,7 +22,8 @@ returns-in_err-place c =
     c.from_residual.ensures
     ∙ sym (ap (λ (s : Sums). find (λ pack. eqb pack.number c.args.number) s.packs) (sym c.self.view_is)
     ∙ find-numbered fs c.args.number held
-    ∙ ap (λ ns. option_and_then (slice_get (map (seen fs) held)) (position (λ other. eqb c.args.number other) ns)) (sym c.self.invariant.settled.numbered)
+    ∙ ap (λ ns. option_and_then (slice_get (map (seen fs) held))
+    (position (λ other. eqb c.args.number other) ns)) (sym c.self.invariant.settled.numbered)
     ∙ ap (option_and_then (slice_get (map (seen fs) held))) (sym c.in_err-place.ensures.index))
 
 pub returns : goal.returns
@@ -35,18 +36,45 @@ returns c =
     let held = sums.packs.items in
     let h = c.index-held.result.now in
     let group = c.index-group.result.now in
-    let found = number_at sums.numbers.keys held c.in_ok-place.place c.args.number h settled.numbered c.in_ok-place.ensures.index c.index-held.ensures in
-    let face = face-found gs h.group group (at_group bs gs held settled.sound c.in_ok-place.place h c.index-held.ensures found.0 group c.index-group.ensures) in
-    let kept = kept_group bs gs held settled.sound c.in_ok-place.place h c.index-held.ensures found.0 group c.index-group.ensures in
-    let there : h.group < length fs = omega (arith, in_group bs gs held settled.sound c.in_ok-place.place h c.index-held.ensures found.0, length-map gs face_of) in
+    let found = number_at sums.numbers.keys held c.in_ok-place.place c.args.number h
+    settled.numbered c.in_ok-place.ensures.index c.index-held.ensures in
+    let face = face-found gs h.group group
+    (at_group bs gs held settled.sound c.in_ok-place.place h c.index-held.ensures found.0 group
+    c.index-group.ensures) in
+    let kept = kept_group bs gs held settled.sound c.in_ok-place.place h c.index-held.ensures
+    found.0 group c.index-group.ensures in
+    let there : h.group < length fs =
+    omega (
+      arith,
+      in_group bs gs held settled.sound c.in_ok-place.place h c.index-held.ensures
+          found.0,
+      length-map gs face_of,
+    ) in
     let key = subst IsKey face (settled.index.keys h.group there) in
     let day : to_z w32 group.key.day ≡ pos group.key.day = omega (arith, ints, key.day) in
-    let gross : to_z w64 h.gross ≡ pos h.gross = omega (arith, ints, light_pack bs gs held settled.sound c.in_ok-place.place h c.index-held.ensures found.0) in
+    let gross : to_z w64 h.gross ≡ pos h.gross =
+    omega (
+      arith,
+      ints,
+      light_pack bs gs held settled.sound c.in_ok-place.place h
+          c.index-held.ensures found.0,
+    ) in
     let tare : to_z w64 group.tare ≡ pos group.tare = omega (arith, ints, kept.tare) in
-    let at : slice_get held c.in_ok-place.place ≡ Some h = slice_get_read held (length held) c.in_ok-place.place h refl found.0 c.index-held.ensures in
-    (λ i. Some (record { number = sym found.1 i; batch = (sym face i).key.batch; day = (day ∙ ap (λ (f : Face). pos f.key.day) (sym face)) i; gross = gross i; tare = (tare ∙ ap (λ (f : Face). pos f.tare) (sym face)) i; pile = h.pile }))
+    let at : slice_get held c.in_ok-place.place ≡ Some h =
+    slice_get_read held (length held) c.in_ok-place.place h refl found.0 c.index-held.ensures in
+    (λ i. Some (record {
+      number = sym found.1 i;
+      batch = (sym face i).key.batch;
+      day =
+          (day ∙ ap (λ (f : Face). pos f.key.day) (sym face)) i;
+      gross = gross i;
+      tare =
+          (tare ∙ ap (λ (f : Face). pos f.tare) (sym face)) i;
+      pile = h.pile;
+    }))
     ∙ sym (ap (λ (s : Sums). find (λ pack. eqb pack.number c.args.number) s.packs) (sym c.self.view_is)
     ∙ find-numbered fs c.args.number held
-    ∙ ap (λ ns. option_and_then (slice_get (map (seen fs) held)) (position (λ other. eqb c.args.number other) ns)) (sym settled.numbered)
+    ∙ ap (λ ns. option_and_then (slice_get (map (seen fs) held))
+    (position (λ other. eqb c.args.number other) ns)) (sym settled.numbered)
     ∙ ap (option_and_then (slice_get (map (seen fs) held))) (sym c.in_ok-place.ensures.index)
     ∙ slice_get-map (seen fs) held c.in_ok-place.place ∙ ap (option_map (seen fs)) at)

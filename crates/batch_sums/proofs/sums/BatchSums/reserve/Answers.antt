@@ -11,8 +11,16 @@ invariant_of-self-in_err-reserve_nodes c =
     let grown = c.reserve_places.ensures in
     let nodes = c.reserve_nodes.ensures in
     let held = c.self.inside.packs.items in
-    let within : inside held ≤ c.len-2.result = omega (arith, count_by-le-length (λ pack. is_counted pack.pile) held, c.self.inside.packs.ok.0, grown.packs.long, c.len-2.ensures) in
-    kept_on c.self.inside _ c.self.invariant grown.batches.same grown.groups.same refl grown.packs.same grown.keys refl
+    let within : inside held ≤ c.len-2.result =
+    omega (
+      arith,
+      count_by-le-length (λ pack. is_counted pack.pile) held,
+      c.self.inside.packs.ok.0,
+      grown.packs.long,
+      c.len-2.ensures,
+    ) in
+    kept_on c.self.inside _ c.self.invariant grown.batches.same grown.groups.same refl
+    grown.packs.same grown.keys refl
     (record {
       batches = omega (arith, room.batches, grown.batches.long, grown.batches.room);
       groups = omega (arith, room.groups, grown.groups.long, grown.groups.room);
@@ -31,8 +39,16 @@ invariant_of-self-2 c =
     let grown = c.in_ok-reserve_places.ensures in
     let nodes = c.in_ok-reserve_nodes.ensures in
     let held = c.self.inside.packs.items in
-    let within : inside held ≤ c.len-2.result = omega (arith, count_by-le-length (λ pack. is_counted pack.pile) held, c.self.inside.packs.ok.0, grown.packs.long, c.len-2.ensures) in
-    kept_on c.self.inside _ c.self.invariant grown.batches.same grown.groups.same refl grown.packs.same grown.keys refl
+    let within : inside held ≤ c.len-2.result =
+    omega (
+      arith,
+      count_by-le-length (λ pack. is_counted pack.pile) held,
+      c.self.inside.packs.ok.0,
+      grown.packs.long,
+      c.len-2.ensures,
+    ) in
+    kept_on c.self.inside _ c.self.invariant grown.batches.same grown.groups.same refl
+    grown.packs.same grown.keys refl
     (record {
       batches = omega (arith, grown.ok_batches);
       groups = omega (arith, grown.ok_groups);

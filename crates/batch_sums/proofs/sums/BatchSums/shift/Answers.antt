@@ -25,7 +25,10 @@ unreachable-requires c =
     let sums = c.self.inside in
     let there : is_added c.args.self.now.packs c.args.pack ≡ true = search rules in
     let among = added_is (faces sums.groups.items) c.args.pack sums.packs.items in
-    true≢false (sym there ∙ ap (λ (s : Sums). is_added s.packs c.args.pack) (sym c.self.view_is) ∙ among ∙ ap (λ ns. Rattle.std.specs.List.list_any (λ other. Rattle.std.proofs.Common.eqb c.args.pack other) ns) (sym c.self.invariant.settled.numbered) ∙ sym c.in_default.ensures.found)
+    true≢false (sym there ∙ ap (λ (s : Sums). is_added s.packs c.args.pack) (sym c.self.view_is)
+    ∙ among ∙ ap (λ ns. Rattle.std.specs.List.list_any
+    (λ other. Rattle.std.proofs.Common.eqb c.args.pack other) ns)
+    (sym c.self.invariant.settled.numbered) ∙ sym c.in_default.ensures.found)
 
 pub index_mut-batch-requires : goal.index_mut-batch-requires
 index_mut-batch-requires c =
@@ -35,8 +38,11 @@ index_mut-batch-requires c =
     let gs = sums.groups.items in
     let held = sums.packs.items in
     let h = c.index-held.result.now in
-    let found = number_at sums.numbers.keys held c.in-Some.place c.args.pack h settled.numbered c.in-Some.ensures.index c.index-held.ensures in
-    let there = batch_there bs gs held settled.sound c.in-Some.place h c.index-held.ensures found.0 c.index_mut-group.result.now c.index_mut-group.ensures.value in omega (arith, there, sums.batches.ok.0)
+    let found = number_at sums.numbers.keys held c.in-Some.place c.args.pack h settled.numbered
+    c.in-Some.ensures.index c.index-held.ensures in
+    let there = batch_there bs gs held settled.sound c.in-Some.place h c.index-held.ensures found.0
+    c.index_mut-group.result.now c.index_mut-group.ensures.value in
+    omega (arith, there, sums.batches.ok.0)
 
 pub leave-requires-clause-tare : goal.leave-requires-clause-tare
 leave-requires-clause-tare c =
@@ -46,8 +52,10 @@ leave-requires-clause-tare c =
     let gs = sums.groups.items in
     let held = sums.packs.items in
     let h = c.index-held.result.now in
-    let found = number_at sums.numbers.keys held c.in-Some.place c.args.pack h settled.numbered c.in-Some.ensures.index c.index-held.ensures in
-    (kept_group bs gs held settled.sound c.in-Some.place h c.index-held.ensures found.0 c.index_mut-group.result.now c.index_mut-group.ensures.value).tare
+    let found = number_at sums.numbers.keys held c.in-Some.place c.args.pack h settled.numbered
+    c.in-Some.ensures.index c.index-held.ensures in
+    (kept_group bs gs held settled.sound c.in-Some.place h c.index-held.ensures found.0
+    c.index_mut-group.result.now c.index_mut-group.ensures.value).tare
 
 pub leave-requires-clause-covered : goal.leave-requires-clause-covered
 leave-requires-clause-covered c =
@@ -57,8 +65,11 @@ leave-requires-clause-covered c =
     let gs = sums.groups.items in
     let held = sums.packs.items in
     let h = c.index-held.result.now in
-    let found = number_at sums.numbers.keys held c.in-Some.place c.args.pack h settled.numbered c.in-Some.ensures.index c.index-held.ensures in
-    covers bs gs held settled.sound c.in-Some.place h c.index-held.ensures found.0 c.index_mut-group.result.now c.index_mut-group.ensures.value c.index_mut-batch.result.now c.index_mut-batch.ensures.value
+    let found = number_at sums.numbers.keys held c.in-Some.place c.args.pack h settled.numbered
+    c.in-Some.ensures.index c.index-held.ensures in
+    covers bs gs held settled.sound c.in-Some.place h c.index-held.ensures found.0
+    c.index_mut-group.result.now c.index_mut-group.ensures.value c.index_mut-batch.result.now
+    c.index_mut-batch.ensures.value
 
 pub leave-requires-2-clause-tare : goal.leave-requires-2-clause-tare
 leave-requires-2-clause-tare c =
@@ -68,8 +79,10 @@ leave-requires-2-clause-tare c =
     let gs = sums.groups.items in
     let held = sums.packs.items in
     let h = c.index-held.result.now in
-    let found = number_at sums.numbers.keys held c.in-Some.place c.args.pack h settled.numbered c.in-Some.ensures.index c.index-held.ensures in
-    (kept_group bs gs held settled.sound c.in-Some.place h c.index-held.ensures found.0 c.index_mut-group.result.now c.index_mut-group.ensures.value).tare
+    let found = number_at sums.numbers.keys held c.in-Some.place c.args.pack h settled.numbered
+    c.in-Some.ensures.index c.index-held.ensures in
+    (kept_group bs gs held settled.sound c.in-Some.place h c.index-held.ensures found.0
+    c.index_mut-group.result.now c.index_mut-group.ensures.value).tare
 
 pub leave-requires-2-clause-contained : goal.leave-requires-2-clause-contained
 leave-requires-2-clause-contained c =
@@ -79,8 +92,10 @@ leave-requires-2-clause-contained c =
     let gs = sums.groups.items in
     let held = sums.packs.items in
     let h = c.index-held.result.now in
-    let found = number_at sums.numbers.keys held c.in-Some.place c.args.pack h settled.numbered c.in-Some.ensures.index c.index-held.ensures in
-    has_gross bs gs held settled.sound c.in-Some.place h c.index-held.ensures found.0 c.index_mut-group.result.now c.index_mut-group.ensures.value
+    let found = number_at sums.numbers.keys held c.in-Some.place c.args.pack h settled.numbered
+    c.in-Some.ensures.index c.index-held.ensures in
+    has_gross bs gs held settled.sound c.in-Some.place h c.index-held.ensures found.0
+    c.index_mut-group.result.now c.index_mut-group.ensures.value
 
 pub leave-requires-2-clause-judged : goal.leave-requires-2-clause-judged
 leave-requires-2-clause-judged c =
@@ -90,8 +105,12 @@ leave-requires-2-clause-judged c =
     let gs = sums.groups.items in
     let held = sums.packs.items in
     let h = c.index-held.result.now in
-    let found = number_at sums.numbers.keys held c.in-Some.place c.args.pack h settled.numbered c.in-Some.ensures.index c.index-held.ensures in
-    subst (λ l. IsJudged l c.index_mut-group.result.now) c.leave.ensures.entered.limits (judged_before bs gs held settled.sound c.in-Some.place h c.index-held.ensures found.0 c.index_mut-group.result.now c.index_mut-group.ensures.value c.index_mut-batch.result.now c.index_mut-batch.ensures.value)
+    let found = number_at sums.numbers.keys held c.in-Some.place c.args.pack h settled.numbered
+    c.in-Some.ensures.index c.index-held.ensures in
+    subst (λ l. IsJudged l c.index_mut-group.result.now) c.leave.ensures.entered.limits
+    (judged_before bs gs held settled.sound c.in-Some.place h c.index-held.ensures found.0
+    c.index_mut-group.result.now c.index_mut-group.ensures.value c.index_mut-batch.result.now
+    c.index_mut-batch.ensures.value)
 
 pub enter-requires-clause-tare : goal.enter-requires-clause-tare
 enter-requires-clause-tare c =
@@ -101,9 +120,13 @@ enter-requires-clause-tare c =
     let gs = sums.groups.items in
     let held = sums.packs.items in
     let h = c.index-held.result.now in
-    let found = number_at sums.numbers.keys held c.in-Some.place c.args.pack h settled.numbered c.in-Some.ensures.index c.index-held.ensures in
-    let tare : c.leave-2.new.self.tare ≡ c.index_mut-group.result.now.tare = ap (λ (f : Face). f.tare) c.leave-2.ensures.face in
-    subst (λ t. pos t ≤ℤ MAX_TARE) (sym tare) (kept_group bs gs held settled.sound c.in-Some.place h c.index-held.ensures found.0 c.index_mut-group.result.now c.index_mut-group.ensures.value).tare
+    let found = number_at sums.numbers.keys held c.in-Some.place c.args.pack h settled.numbered
+    c.in-Some.ensures.index c.index-held.ensures in
+    let tare : c.leave-2.new.self.tare ≡ c.index_mut-group.result.now.tare =
+    ap (λ (f : Face). f.tare) c.leave-2.ensures.face in
+    subst (λ t. pos t ≤ℤ MAX_TARE) (sym tare)
+    (kept_group bs gs held settled.sound c.in-Some.place h c.index-held.ensures found.0
+    c.index_mut-group.result.now c.index_mut-group.ensures.value).tare
 
 pub enter-requires-clause-room : goal.enter-requires-clause-room
 enter-requires-clause-room c =
@@ -113,8 +136,12 @@ enter-requires-clause-room c =
     let gs = sums.groups.items in
     let held = sums.packs.items in
     let h = c.index-held.result.now in
-    let found = number_at sums.numbers.keys held c.in-Some.place c.args.pack h settled.numbered c.in-Some.ensures.index c.index-held.ensures in
-    room_to bs gs held settled.sound c.in-Some.place h c.index-held.ensures found.0 c.index_mut-group.result.now c.index_mut-group.ensures.value c.index_mut-batch.result.now c.index_mut-batch.ensures.value c.leave.new.self c.leave.ensures.entered c.leave-2.new.self c.leave-2.ensures.grosses c.leave-2.ensures.face c.leave-2.ensures.judged c.args.to
+    let found = number_at sums.numbers.keys held c.in-Some.place c.args.pack h settled.numbered
+    c.in-Some.ensures.index c.index-held.ensures in
+    room_to bs gs held settled.sound c.in-Some.place h c.index-held.ensures found.0
+    c.index_mut-group.result.now c.index_mut-group.ensures.value c.index_mut-batch.result.now
+    c.index_mut-batch.ensures.value c.leave.new.self c.leave.ensures.entered c.leave-2.new.self
+    c.leave-2.ensures.grosses c.leave-2.ensures.face c.leave-2.ensures.judged c.args.to
 
 pub enter-requires-2-clause-tare : goal.enter-requires-2-clause-tare
 enter-requires-2-clause-tare c =
@@ -124,9 +151,13 @@ enter-requires-2-clause-tare c =
     let gs = sums.groups.items in
     let held = sums.packs.items in
     let h = c.index-held.result.now in
-    let found = number_at sums.numbers.keys held c.in-Some.place c.args.pack h settled.numbered c.in-Some.ensures.index c.index-held.ensures in
-    let tare : c.leave-2.new.self.tare ≡ c.index_mut-group.result.now.tare = ap (λ (f : Face). f.tare) c.leave-2.ensures.face in
-    subst (λ t. pos t ≤ℤ MAX_TARE) (sym tare) (kept_group bs gs held settled.sound c.in-Some.place h c.index-held.ensures found.0 c.index_mut-group.result.now c.index_mut-group.ensures.value).tare
+    let found = number_at sums.numbers.keys held c.in-Some.place c.args.pack h settled.numbered
+    c.in-Some.ensures.index c.index-held.ensures in
+    let tare : c.leave-2.new.self.tare ≡ c.index_mut-group.result.now.tare =
+    ap (λ (f : Face). f.tare) c.leave-2.ensures.face in
+    subst (λ t. pos t ≤ℤ MAX_TARE) (sym tare)
+    (kept_group bs gs held settled.sound c.in-Some.place h c.index-held.ensures found.0
+    c.index_mut-group.result.now c.index_mut-group.ensures.value).tare
 
 pub enter-requires-2-clause-few : goal.enter-requires-2-clause-few
 enter-requires-2-clause-few c =
@@ -136,12 +167,17 @@ enter-requires-2-clause-few c =
     let gs = sums.groups.items in
     let held = sums.packs.items in
     let h = c.index-held.result.now in
-    let found = number_at sums.numbers.keys held c.in-Some.place c.args.pack h settled.numbered c.in-Some.ensures.index c.index-held.ensures in
-    few_less bs gs held settled.sound c.in-Some.place h c.index-held.ensures found.0 c.index_mut-group.result.now c.index_mut-group.ensures.value c.index_mut-batch.result.now c.index_mut-batch.ensures.value c.leave.new.self c.leave.ensures.entered c.leave-2.new.self c.leave-2.ensures.grosses c.leave-2.ensures.face c.leave-2.ensures.judged
+    let found = number_at sums.numbers.keys held c.in-Some.place c.args.pack h settled.numbered
+    c.in-Some.ensures.index c.index-held.ensures in
+    few_less bs gs held settled.sound c.in-Some.place h c.index-held.ensures found.0
+    c.index_mut-group.result.now c.index_mut-group.ensures.value c.index_mut-batch.result.now
+    c.index_mut-batch.ensures.value c.leave.new.self c.leave.ensures.entered c.leave-2.new.self
+    c.leave-2.ensures.grosses c.leave-2.ensures.face c.leave-2.ensures.judged
 
 pub enter-requires-2-clause-judged : goal.enter-requires-2-clause-judged
 enter-requires-2-clause-judged c =
-    subst (λ l. IsJudged l c.leave-2.new.self) (sym c.enter.ensures.entered.limits) c.leave-2.ensures.judged
+    subst (λ l. IsJudged l c.leave-2.new.self)
+    (sym c.enter.ensures.entered.limits) c.leave-2.ensures.judged
 
 pub leave-requires-3-clause-count : goal.leave-requires-3-clause-count
 leave-requires-3-clause-count c =
@@ -151,7 +187,8 @@ leave-requires-3-clause-count c =
     let gs = sums.groups.items in
     let held = sums.packs.items in
     let h = c.index-held.result.now in
-    let found = number_at sums.numbers.keys held c.in-Some.place c.args.pack h settled.numbered c.in-Some.ensures.index c.index-held.ensures in
+    let found = number_at sums.numbers.keys held c.in-Some.place c.args.pack h settled.numbered
+    c.in-Some.ensures.index c.index-held.ensures in
     let gone = joins bs gs held settled.sound c.in-Some.place h c.index-held.ensures found.0 in
     some_lying sums.piles held c.self.invariant.tallied (remove held c.in-Some.place) h gone
 
@@ -163,7 +200,8 @@ leave-requires-3-clause-gross c =
     let gs = sums.groups.items in
     let held = sums.packs.items in
     let h = c.index-held.result.now in
-    let found = number_at sums.numbers.keys held c.in-Some.place c.args.pack h settled.numbered c.in-Some.ensures.index c.index-held.ensures in
+    let found = number_at sums.numbers.keys held c.in-Some.place c.args.pack h settled.numbered
+    c.in-Some.ensures.index c.index-held.ensures in
     let gone = joins bs gs held settled.sound c.in-Some.place h c.index-held.ensures found.0 in
     heavy_lying sums.piles held c.self.invariant.tallied (remove held c.in-Some.place) h gone
 
@@ -175,10 +213,18 @@ enter-requires-3-clause-count c =
     let gs = sums.groups.items in
     let held = sums.packs.items in
     let h = c.index-held.result.now in
-    let found = number_at sums.numbers.keys held c.in-Some.place c.args.pack h settled.numbered c.in-Some.ensures.index c.index-held.ensures in
+    let found = number_at sums.numbers.keys held c.in-Some.place c.args.pack h settled.numbered
+    c.in-Some.ensures.index c.index-held.ensures in
     let gone = joins bs gs held settled.sound c.in-Some.place h c.index-held.ensures found.0 in
-    let left = tallied_out sums.piles held c.self.invariant.tallied (remove held c.in-Some.place) h gone c.leave-3.new.self c.leave-3.ensures.count c.leave-3.ensures.gross in
-    omega (arith, few_lying c.leave-3.new.self (remove held c.in-Some.place) left c.args.to, length-remove held c.in-Some.place found.0, settled.sound.few)
+    let left = tallied_out sums.piles held c.self.invariant.tallied
+    (remove held c.in-Some.place) h gone c.leave-3.new.self c.leave-3.ensures.count
+    c.leave-3.ensures.gross in
+    omega (
+      arith,
+      few_lying c.leave-3.new.self (remove held c.in-Some.place) left c.args.to,
+      length-remove held c.in-Some.place found.0,
+      settled.sound.few,
+    )
 
 pub enter-requires-3-clause-gross : goal.enter-requires-3-clause-gross
 enter-requires-3-clause-gross c =
@@ -188,11 +234,18 @@ enter-requires-3-clause-gross c =
     let gs = sums.groups.items in
     let held = sums.packs.items in
     let h = c.index-held.result.now in
-    let found = number_at sums.numbers.keys held c.in-Some.place c.args.pack h settled.numbered c.in-Some.ensures.index c.index-held.ensures in
+    let found = number_at sums.numbers.keys held c.in-Some.place c.args.pack h settled.numbered
+    c.in-Some.ensures.index c.index-held.ensures in
     let gone = joins bs gs held settled.sound c.in-Some.place h c.index-held.ensures found.0 in
-    let left = tallied_out sums.piles held c.self.invariant.tallied (remove held c.in-Some.place) h gone c.leave-3.new.self c.leave-3.ensures.count c.leave-3.ensures.gross in
+    let left = tallied_out sums.piles held c.self.invariant.tallied
+    (remove held c.in-Some.place) h gone c.leave-3.new.self c.leave-3.ensures.count
+    c.leave-3.ensures.gross in
     let light = All-remove (λ p. pos p.gross ≤ℤ MAX_GROSS) held c.in-Some.place settled.sound.light in
-    omega (arith, light_lying c.leave-3.new.self (remove held c.in-Some.place) left light (omega (arith, length-remove held c.in-Some.place found.0, settled.sound.few)) c.args.to)
+    omega (
+      arith,
+      light_lying c.leave-3.new.self (remove held c.in-Some.place) left light
+          (omega (arith, length-remove held c.in-Some.place found.0, settled.sound.few)) c.args.to,
+    )
 
 pub invariant_of-self : goal.invariant_of-self
 invariant_of-self c =
@@ -202,19 +255,48 @@ invariant_of-self c =
     let gs = sums.groups.items in
     let held = sums.packs.items in
     let h = c.index-held.result.now in
-    let found = number_at sums.numbers.keys held c.in-Some.place c.args.pack h settled.numbered c.in-Some.ensures.index c.index-held.ensures in
-    let tare : c.leave-2.new.self.tare ≡ c.index_mut-group.result.now.tare = ap (λ (f : Face). f.tare) c.leave-2.ensures.face in
-    let enters = subst (λ t. IsEntered c.leave.new.self c.enter.new.self c.args.to h.gross t) tare c.enter.ensures.entered in
-    let sound = sound_moved bs gs held settled.sound c.in-Some.place h c.index-held.ensures found.0 c.index_mut-group.result.now c.index_mut-group.ensures.value c.index_mut-batch.result.now c.index_mut-batch.ensures.value c.leave.new.self c.leave.ensures.entered c.leave-2.new.self c.leave-2.ensures.grosses c.leave-2.ensures.face c.leave-2.ensures.judged c.args.to c.enter.new.self enters c.enter-2.new.self c.enter-2.ensures.grosses c.enter-2.ensures.face c.enter-2.ensures.judged in
-    let face = faces_moved bs gs held settled.sound c.in-Some.place h c.index-held.ensures found.0 c.index_mut-group.result.now c.index_mut-group.ensures.value c.index_mut-batch.result.now c.index_mut-batch.ensures.value c.leave.new.self c.leave.ensures.entered c.leave-2.new.self c.leave-2.ensures.grosses c.leave-2.ensures.face c.leave-2.ensures.judged c.args.to c.enter.new.self enters c.enter-2.new.self c.enter-2.ensures.grosses c.enter-2.ensures.face c.enter-2.ensures.judged in
+    let found = number_at sums.numbers.keys held c.in-Some.place c.args.pack h settled.numbered
+    c.in-Some.ensures.index c.index-held.ensures in
+    let tare : c.leave-2.new.self.tare ≡ c.index_mut-group.result.now.tare =
+    ap (λ (f : Face). f.tare) c.leave-2.ensures.face in
+    let enters = subst (λ t. IsEntered c.leave.new.self c.enter.new.self c.args.to h.gross t) tare
+    c.enter.ensures.entered in
+    let sound = sound_moved bs gs held settled.sound c.in-Some.place h c.index-held.ensures found.0
+    c.index_mut-group.result.now c.index_mut-group.ensures.value c.index_mut-batch.result.now
+    c.index_mut-batch.ensures.value c.leave.new.self c.leave.ensures.entered c.leave-2.new.self
+    c.leave-2.ensures.grosses c.leave-2.ensures.face c.leave-2.ensures.judged c.args.to
+    c.enter.new.self enters c.enter-2.new.self c.enter-2.ensures.grosses c.enter-2.ensures.face
+    c.enter-2.ensures.judged in
+    let face = faces_moved bs gs held settled.sound c.in-Some.place h c.index-held.ensures found.0
+    c.index_mut-group.result.now c.index_mut-group.ensures.value c.index_mut-batch.result.now
+    c.index_mut-batch.ensures.value c.leave.new.self c.leave.ensures.entered c.leave-2.new.self
+    c.leave-2.ensures.grosses c.leave-2.ensures.face c.leave-2.ensures.judged c.args.to
+    c.enter.new.self enters c.enter-2.new.self c.enter-2.ensures.grosses c.enter-2.ensures.face
+    c.enter-2.ensures.judged in
     let gone = joins bs gs held settled.sound c.in-Some.place h c.index-held.ensures found.0 in
-    let left = tallied_out sums.piles held c.self.invariant.tallied (remove held c.in-Some.place) h gone c.leave-3.new.self c.leave-3.ensures.count c.leave-3.ensures.gross in
-    let there = at_batch bs gs held settled.sound c.in-Some.place h c.index-held.ensures found.0 c.index_mut-group.result.now c.index_mut-group.ensures.value c.index_mut-batch.result.now c.index_mut-batch.ensures.value in
-    let reaches = map-set (λ (b : Batch). b.reach) bs c.index_mut-group.result.now.key.batch c.enter.new.self ∙ ap (λ n. set (reaches_of bs) c.index_mut-group.result.now.key.batch n) (c.enter.ensures.reach ∙ c.leave.ensures.reach)
-    ∙ set_same (reaches_of bs) c.index_mut-group.result.now.key.batch c.index_mut-batch.result.now.reach (slice_get-map (λ (b : Batch). b.reach) bs c.index_mut-group.result.now.key.batch ∙ rw there refl) in
+    let left = tallied_out sums.piles held c.self.invariant.tallied
+    (remove held c.in-Some.place) h gone c.leave-3.new.self c.leave-3.ensures.count
+    c.leave-3.ensures.gross in
+    let there = at_batch bs gs held settled.sound c.in-Some.place h c.index-held.ensures found.0
+    c.index_mut-group.result.now c.index_mut-group.ensures.value c.index_mut-batch.result.now
+    c.index_mut-batch.ensures.value in
+    let reaches = map-set (λ (b : Batch). b.reach) bs c.index_mut-group.result.now.key.batch
+    c.enter.new.self ∙ ap (λ n. set (reaches_of bs) c.index_mut-group.result.now.key.batch n)
+    (c.enter.ensures.reach ∙ c.leave.ensures.reach)
+    ∙ set_same (reaches_of bs) c.index_mut-group.result.now.key.batch
+    c.index_mut-batch.result.now.reach
+    (slice_get-map (λ (b : Batch). b.reach) bs c.index_mut-group.result.now.key.batch
+    ∙ rw there refl) in
     record {
-      tallied = tallied_in c.leave-3.new.self (remove held c.in-Some.place) left (set held c.in-Some.place (Rattle.batch_sums.proofs.PileMoves.in_pile h c.args.to)) (Rattle.batch_sums.proofs.PileMoves.in_pile h c.args.to) (joins_set held c.in-Some.place h (Rattle.batch_sums.proofs.PileMoves.in_pile h c.args.to) found.0) c.enter-3.new.self c.enter-3.ensures.count c.enter-3.ensures.gross;
-      settled = settled_moved held c.in-Some.place h c.args.to c.index-held.ensures found.0 bs _ gs _ sums.order sums.numbers.keys settled reaches sound face (length-set gs h.group c.enter-2.new.self);
+      tallied = tallied_in c.leave-3.new.self (remove held c.in-Some.place) left
+          (set held c.in-Some.place (Rattle.batch_sums.proofs.PileMoves.in_pile h c.args.to))
+          (Rattle.batch_sums.proofs.PileMoves.in_pile h c.args.to)
+          (joins_set held c.in-Some.place h
+          (Rattle.batch_sums.proofs.PileMoves.in_pile h c.args.to) found.0) c.enter-3.new.self
+          c.enter-3.ensures.count c.enter-3.ensures.gross;
+      settled = settled_moved held c.in-Some.place h c.args.to c.index-held.ensures found.0 bs _ gs
+          _ sums.order sums.numbers.keys settled reaches sound face
+          (length-set gs h.group c.enter-2.new.self);
       room =
           let room = c.self.invariant.room in
           let ins = inside_moved held c.in-Some.place h c.args.to c.index-held.ensures found.0 in
@@ -225,7 +307,15 @@ invariant_of-self c =
             packs = room.packs;
             numbers = room.numbers;
             nodes = omega (arith, room.nodes, outs, c.leave-2.ensures.nodes, c.enter-2.ensures.nodes);
-            back = omega (arith, room.back, ins, c.leave-2.ensures.nodes, c.enter-2.ensures.nodes, c.leave-2.ensures.capacity, c.enter-2.ensures.capacity);
+            back = omega (
+              arith,
+              room.back,
+              ins,
+              c.leave-2.ensures.nodes,
+              c.enter-2.ensures.nodes,
+              c.leave-2.ensures.capacity,
+              c.enter-2.ensures.capacity,
+            );
             order_nodes = room.order_nodes;
             few_batches = room.few_batches;
             few_packs = room.few_packs;
@@ -240,12 +330,23 @@ returns-clause-packs c =
     let gs = sums.groups.items in
     let held = sums.packs.items in
     let h = c.index-held.result.now in
-    let found = number_at sums.numbers.keys held c.in-Some.place c.args.pack h settled.numbered c.in-Some.ensures.index c.index-held.ensures in
-    let tare : c.leave-2.new.self.tare ≡ c.index_mut-group.result.now.tare = ap (λ (f : Face). f.tare) c.leave-2.ensures.face in
-    let enters = subst (λ t. IsEntered c.leave.new.self c.enter.new.self c.args.to h.gross t) tare c.enter.ensures.entered in
-    let face = faces_moved bs gs held settled.sound c.in-Some.place h c.index-held.ensures found.0 c.index_mut-group.result.now c.index_mut-group.ensures.value c.index_mut-batch.result.now c.index_mut-batch.ensures.value c.leave.new.self c.leave.ensures.entered c.leave-2.new.self c.leave-2.ensures.grosses c.leave-2.ensures.face c.leave-2.ensures.judged c.args.to c.enter.new.self enters c.enter-2.new.self c.enter-2.ensures.grosses c.enter-2.ensures.face c.enter-2.ensures.judged in
-    rw (← c.self.view_is) (ap (λ fs. map (Rattle.batch_sums.specs.Kept.seen fs) (set held c.in-Some.place (Rattle.batch_sums.proofs.PileMoves.in_pile h c.args.to))) face
-    ∙ moved_is (faces gs) c.args.pack c.args.to held c.in-Some.place h (settled.apart c.args.pack) found.0 c.index-held.ensures found.1)
+    let found = number_at sums.numbers.keys held c.in-Some.place c.args.pack h settled.numbered
+    c.in-Some.ensures.index c.index-held.ensures in
+    let tare : c.leave-2.new.self.tare ≡ c.index_mut-group.result.now.tare =
+    ap (λ (f : Face). f.tare) c.leave-2.ensures.face in
+    let enters = subst (λ t. IsEntered c.leave.new.self c.enter.new.self c.args.to h.gross t) tare
+    c.enter.ensures.entered in
+    let face = faces_moved bs gs held settled.sound c.in-Some.place h c.index-held.ensures found.0
+    c.index_mut-group.result.now c.index_mut-group.ensures.value c.index_mut-batch.result.now
+    c.index_mut-batch.ensures.value c.leave.new.self c.leave.ensures.entered c.leave-2.new.self
+    c.leave-2.ensures.grosses c.leave-2.ensures.face c.leave-2.ensures.judged c.args.to
+    c.enter.new.self enters c.enter-2.new.self c.enter-2.ensures.grosses c.enter-2.ensures.face
+    c.enter-2.ensures.judged in
+    rw (← c.self.view_is)
+    (ap (λ fs. map (Rattle.batch_sums.specs.Kept.seen fs)
+    (set held c.in-Some.place (Rattle.batch_sums.proofs.PileMoves.in_pile h c.args.to))) face
+    ∙ moved_is (faces gs) c.args.pack c.args.to held c.in-Some.place h
+    (settled.apart c.args.pack) found.0 c.index-held.ensures found.1)
 
 pub returns-clause-batches : goal.returns-clause-batches
 returns-clause-batches c =
@@ -255,8 +356,21 @@ returns-clause-batches c =
     let gs = sums.groups.items in
     let held = sums.packs.items in
     let h = c.index-held.result.now in
-    let found = number_at sums.numbers.keys held c.in-Some.place c.args.pack h settled.numbered c.in-Some.ensures.index c.index-held.ensures in
-    let there = at_batch bs gs held settled.sound c.in-Some.place h c.index-held.ensures found.0 c.index_mut-group.result.now c.index_mut-group.ensures.value c.index_mut-batch.result.now c.index_mut-batch.ensures.value in
-    let terms : terms_of c.enter.new.self ≡ terms_of c.index_mut-batch.result.now = λ i. record { product = (c.enter.ensures.entered.product ∙ sym c.leave.ensures.entered.product) i; limits = (c.enter.ensures.entered.limits ∙ sym c.leave.ensures.entered.limits) i } in
-    rw (← c.self.view_is) (map-set terms_of bs c.index_mut-group.result.now.key.batch c.enter.new.self ∙ ap (λ t. set (map terms_of bs) c.index_mut-group.result.now.key.batch t) terms
-    ∙ set_same (map terms_of bs) c.index_mut-group.result.now.key.batch (terms_of c.index_mut-batch.result.now) (slice_get-map terms_of bs c.index_mut-group.result.now.key.batch ∙ rw there refl))
+    let found = number_at sums.numbers.keys held c.in-Some.place c.args.pack h settled.numbered
+    c.in-Some.ensures.index c.index-held.ensures in
+    let there = at_batch bs gs held settled.sound c.in-Some.place h c.index-held.ensures found.0
+    c.index_mut-group.result.now c.index_mut-group.ensures.value c.index_mut-batch.result.now
+    c.index_mut-batch.ensures.value in
+    let terms : terms_of c.enter.new.self ≡ terms_of c.index_mut-batch.result.now =
+    λ i. record {
+      product = (c.enter.ensures.entered.product
+          ∙ sym c.leave.ensures.entered.product) i;
+      limits =
+          (c.enter.ensures.entered.limits ∙ sym c.leave.ensures.entered.limits) i;
+    } in
+    rw (← c.self.view_is) (map-set terms_of bs c.index_mut-group.result.now.key.batch
+    c.enter.new.self ∙ ap (λ t. set (map terms_of bs) c.index_mut-group.result.now.key.batch t)
+    terms
+    ∙ set_same (map terms_of bs) c.index_mut-group.result.now.key.batch
+    (terms_of c.index_mut-batch.result.now)
+    (slice_get-map terms_of bs c.index_mut-group.result.now.key.batch ∙ rw there refl))

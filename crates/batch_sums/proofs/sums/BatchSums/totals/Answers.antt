@@ -12,15 +12,28 @@ pub totals-requires : goal.totals-requires
 totals-requires c =
     let sums = c.self.inside in
     let sound = c.self.invariant.settled.sound in
-    let long : length sums.batches.items ≡ length c.args.self.now.batches = sym (length-map sums.batches.items terms_of) ∙ ap (λ (s : Sums). length s.batches) c.self.view_is in
-    let at : slice_get sums.batches.items c.args.batch ≡ Some c.index-batch.result.now = slice_get_read sums.batches.items _ c.args.batch c.index-batch.result.now refl (omega (arith, long, c.requires)) c.index-batch.ensures in
-    bounded (faces sums.groups.items) c.args.batch c.index-batch.result.now sums.packs.items (sound.batch c.args.batch c.index-batch.result.now at) sound.light (tared sums.batches.items sums.groups.items sums.packs.items sound) sound.few
+    let long : length sums.batches.items ≡ length c.args.self.now.batches =
+    sym (length-map sums.batches.items terms_of)
+    ∙ ap (λ (s : Sums). length s.batches) c.self.view_is in
+    let at : slice_get sums.batches.items c.args.batch ≡ Some c.index-batch.result.now =
+    slice_get_read sums.batches.items _ c.args.batch c.index-batch.result.now refl
+    (omega (arith, long, c.requires)) c.index-batch.ensures in
+    bounded (faces sums.groups.items) c.args.batch c.index-batch.result.now sums.packs.items
+    (sound.batch c.args.batch c.index-batch.result.now at) sound.light
+    (tared sums.batches.items sums.groups.items sums.packs.items sound) sound.few
 
 pub returns : goal.returns
 returns c =
     let sums = c.self.inside in
     let sound = c.self.invariant.settled.sound in
-    let long : length sums.batches.items ≡ length c.args.self.now.batches = sym (length-map sums.batches.items terms_of) ∙ ap (λ (s : Sums). length s.batches) c.self.view_is in
-    let at : slice_get sums.batches.items c.args.batch ≡ Some c.index-batch.result.now = slice_get_read sums.batches.items _ c.args.batch c.index-batch.result.now refl (omega (arith, long, c.requires)) c.index-batch.ensures in
-    let own = told (faces sums.groups.items) c.args.batch c.index-batch.result.now sums.packs.items (sound.batch c.args.batch c.index-batch.result.now at) sound.light (tared sums.batches.items sums.groups.items sums.packs.items sound) in
-    rw (← c.self.view_is) (rw (slice_get-map terms_of sums.batches.items c.args.batch, at) (ap Some (own ∙ sym c.totals.ensures)))
+    let long : length sums.batches.items ≡ length c.args.self.now.batches =
+    sym (length-map sums.batches.items terms_of)
+    ∙ ap (λ (s : Sums). length s.batches) c.self.view_is in
+    let at : slice_get sums.batches.items c.args.batch ≡ Some c.index-batch.result.now =
+    slice_get_read sums.batches.items _ c.args.batch c.index-batch.result.now refl
+    (omega (arith, long, c.requires)) c.index-batch.ensures in
+    let own = told (faces sums.groups.items) c.args.batch c.index-batch.result.now sums.packs.items
+    (sound.batch c.args.batch c.index-batch.result.now at) sound.light
+    (tared sums.batches.items sums.groups.items sums.packs.items sound) in
+    rw (← c.self.view_is) (rw (slice_get-map terms_of sums.batches.items c.args.batch, at)
+    (ap Some (own ∙ sym c.totals.ensures)))

@@ -13,51 +13,65 @@ pub reply_new-reply-requires-clause-free : goal.reply_new-reply-requires-clause-
 reply_new-reply-requires-clause-free c =
     allowed c.self.inside.state.entries c.entry.result.now
     (subst (λ (e : Entry). IsLawful c.self.inside.state.entries e) (sym c.entry.ensures)
-    (held_is c.self.inside.state c.self.inside.limit c.self.inside.pending c.in-Some.field-0 c.args.ready c.self.invariant (sym c.take.ensures.value ∙ c.in-Some.is)
+    (held_is c.self.inside.state c.self.inside.limit c.self.inside.pending c.in-Some.field-0
+    c.args.ready c.self.invariant (sym c.take.ensures.value ∙ c.in-Some.is)
     (ap (λ (b : BookView). b.pending) c.self.view_is ∙ c.requires)).lawful)
 
 pub enter-requires-clause-room : goal.enter-requires-clause-room
 enter-requires-clause-room c =
-    (held_is c.self.inside.state c.self.inside.limit c.self.inside.pending c.in-Some.field-0 c.args.ready c.self.invariant (sym c.take.ensures.value ∙ c.in-Some.is)
+    (held_is c.self.inside.state c.self.inside.limit c.self.inside.pending c.in-Some.field-0
+    c.args.ready c.self.invariant (sym c.take.ensures.value ∙ c.in-Some.is)
     (ap (λ (b : BookView). b.pending) c.self.view_is ∙ c.requires)).room
 
 pub enter-requires-clause-lawful : goal.enter-requires-clause-lawful
 enter-requires-clause-lawful c =
     subst (λ (e : Entry). IsLawful c.self.inside.state.entries e) (sym c.entry.ensures)
-    (held_is c.self.inside.state c.self.inside.limit c.self.inside.pending c.in-Some.field-0 c.args.ready c.self.invariant (sym c.take.ensures.value ∙ c.in-Some.is)
+    (held_is c.self.inside.state c.self.inside.limit c.self.inside.pending c.in-Some.field-0
+    c.args.ready c.self.invariant (sym c.take.ensures.value ∙ c.in-Some.is)
     (ap (λ (b : BookView). b.pending) c.self.view_is ∙ c.requires)).lawful
 
 pub invariant_of-self : goal.invariant_of-self
 invariant_of-self c =
-    let is = held_is c.self.inside.state c.self.inside.limit c.self.inside.pending c.in-Some.field-0 c.args.ready c.self.invariant (sym c.take.ensures.value ∙ c.in-Some.is)
+    let is = held_is c.self.inside.state c.self.inside.limit c.self.inside.pending c.in-Some.field-0
+    c.args.ready c.self.invariant (sym c.take.ensures.value ∙ c.in-Some.is)
     (ap (λ (b : BookView). b.pending) c.self.view_is ∙ c.requires) in
-    entered c.enter.new.self c.self.inside.state.entries c.args.ready.entry c.self.inside.limit c.take.new.self
-    (c.enter.ensures.entries ∙ ap (λ (e : Entry). c.self.inside.state.entries ++ e ∷ []) c.entry.ensures) c.take.ensures.after
+    entered c.enter.new.self c.self.inside.state.entries c.args.ready.entry c.self.inside.limit
+    c.take.new.self
+    (c.enter.ensures.entries ∙ ap (λ (e : Entry). c.self.inside.state.entries ++ e ∷ [])
+    c.entry.ensures) c.take.ensures.after
     c.self.invariant.legal is.lawful c.self.invariant.most
 
 pub returns-clause-lawful : goal.returns-clause-lawful
 returns-clause-lawful c =
-    let is = held_is c.self.inside.state c.self.inside.limit c.self.inside.pending c.in-Some.field-0 c.args.ready c.self.invariant (sym c.take.ensures.value ∙ c.in-Some.is)
+    let is = held_is c.self.inside.state c.self.inside.limit c.self.inside.pending c.in-Some.field-0
+    c.args.ready c.self.invariant (sym c.take.ensures.value ∙ c.in-Some.is)
     (ap (λ (b : BookView). b.pending) c.self.view_is ∙ c.requires) in
     subst (λ (b : BookView). IsLawful b.entries c.args.ready.entry) c.self.view_is is.lawful
 
 pub returns-clause-moves : goal.returns-clause-moves
 returns-clause-moves c =
-    let is = held_is c.self.inside.state c.self.inside.limit c.self.inside.pending c.in-Some.field-0 c.args.ready c.self.invariant (sym c.take.ensures.value ∙ c.in-Some.is)
+    let is = held_is c.self.inside.state c.self.inside.limit c.self.inside.pending c.in-Some.field-0
+    c.args.ready c.self.invariant (sym c.take.ensures.value ∙ c.in-Some.is)
     (ap (λ (b : BookView). b.pending) c.self.view_is ∙ c.requires) in
     subst (λ (b : BookView). MovesOnly b.entries c.args.ready.entry) c.self.view_is
     (moves_only c.self.inside.state.entries c.args.ready.entry c.self.invariant.legal is.lawful)
 
 pub returns-clause-legal : goal.returns-clause-legal
 returns-clause-legal c =
-    let is = held_is c.self.inside.state c.self.inside.limit c.self.inside.pending c.in-Some.field-0 c.args.ready c.self.invariant (sym c.take.ensures.value ∙ c.in-Some.is)
+    let is = held_is c.self.inside.state c.self.inside.limit c.self.inside.pending c.in-Some.field-0
+    c.args.ready c.self.invariant (sym c.take.ensures.value ∙ c.in-Some.is)
     (ap (λ (b : BookView). b.pending) c.self.view_is ∙ c.requires) in
-    subst IsLegal (sym (c.enter.ensures.entries ∙ ap (λ (e : Entry). c.self.inside.state.entries ++ e ∷ []) c.entry.ensures))
+    subst IsLegal
+    (sym (c.enter.ensures.entries ∙ ap
+    (λ (e : Entry). c.self.inside.state.entries ++ e ∷ []) c.entry.ensures))
     (legal-push c.self.inside.state.entries c.args.ready.entry c.self.invariant.legal is.lawful)
 
 pub returns-clause-answer : goal.returns-clause-answer
 returns-clause-answer c =
-    let is = held_is c.self.inside.state c.self.inside.limit c.self.inside.pending c.in-Some.field-0 c.args.ready c.self.invariant (sym c.take.ensures.value ∙ c.in-Some.is)
+    let is = held_is c.self.inside.state c.self.inside.limit c.self.inside.pending c.in-Some.field-0
+    c.args.ready c.self.invariant (sym c.take.ensures.value ∙ c.in-Some.is)
     (ap (λ (b : BookView). b.pending) c.self.view_is ∙ c.requires) in
-    entered_answer c.self.inside.state c.args.self.now.entries c.args.ready c.in-Some.field-0.drawn c.entry.result.now c.number.result c.reply_new-reply.result is
-    (ap (λ (b : BookView). b.entries) c.self.view_is) c.entry.ensures c.number.ensures c.reply_new-reply.ensures
+    entered_answer c.self.inside.state c.args.self.now.entries c.args.ready c.in-Some.field-0.drawn
+    c.entry.result.now c.number.result c.reply_new-reply.result is
+    (ap (λ (b : BookView). b.entries) c.self.view_is) c.entry.ensures c.number.ensures
+    c.reply_new-reply.ensures

@@ -13,15 +13,20 @@ pub recorded_signal-requires : goal.recorded_signal-requires
 recorded_signal-requires c =
     let entry = c.args.entry.now in
     let found : decision MAX_ROWS c.args.self.now.entries (ask_of entry) entry.act ≡ Ok None =
-    sym c.decide.ensures ∙ c.in-Ok-None.is ∙ ap (λ (o : Option Answered). Ok o) c.in-Ok-None.field-0-is in
-    subst (λ (b : BookView). IsAllowed b.entries entry.act) (sym c.self.view_is) (new_is_free MAX_ROWS c.args.self.now.entries (ask_of entry) entry.act found)
+    sym c.decide.ensures ∙ c.in-Ok-None.is
+    ∙ ap (λ (o : Option Answered). Ok o) c.in-Ok-None.field-0-is in
+    subst (λ (b : BookView). IsAllowed b.entries entry.act) (sym c.self.view_is)
+    (new_is_free MAX_ROWS c.args.self.now.entries (ask_of entry) entry.act found)
 
 pub returns-in-Ok-None : goal.returns-in-Ok-None
 returns-in-Ok-None c =
     let entry = c.args.entry.now in
     let found : decision MAX_ROWS c.args.self.now.entries (ask_of entry) entry.act ≡ Ok None =
-    sym c.decide.ensures ∙ c.in-Ok-None.is ∙ ap (λ (o : Option Answered). Ok o) c.in-Ok-None.field-0-is in
-    let told = c.recorded_signal.ensures ∙ ap (λ (b : BookView). recorded_signal b.entries entry.act) c.self.view_is in (
-      λ same. decided_lawful c.args.self.now.entries entry found (c.is_same_signal.ensures.0 same ∙ told),
+    sym c.decide.ensures ∙ c.in-Ok-None.is
+    ∙ ap (λ (o : Option Answered). Ok o) c.in-Ok-None.field-0-is in
+    let told = c.recorded_signal.ensures
+    ∙ ap (λ (b : BookView). recorded_signal b.entries entry.act) c.self.view_is in (
+      λ same. decided_lawful c.args.self.now.entries entry found
+          (c.is_same_signal.ensures.0 same ∙ told),
       λ lawful. c.is_same_signal.ensures.1 (lawful.signal ∙ sym told),
     )

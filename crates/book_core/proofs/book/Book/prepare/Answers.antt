@@ -11,10 +11,13 @@ use Rattle.book_core.proofs.book.Book.prepare.Goals as goal
 pub recorded_signal-requires : goal.recorded_signal-requires
 recorded_signal-requires c =
     subst (λ (b : BookView). IsAllowed b.entries c.args.act.now) (sym c.self.view_is)
-    (new_is_free c.args.self.now.limit c.args.self.now.entries (asked_act c.args.desk c.args.request c.args.act.now) c.args.act.now c.requires.found)
+    (new_is_free c.args.self.now.limit c.args.self.now.entries
+    (asked_act c.args.desk c.args.request c.args.act.now) c.args.act.now c.requires.found)
 
 pub hold-requires-clause-lawful : goal.hold-requires-clause-lawful
 hold-requires-clause-lawful c =
-    new_is_lawful c.args.self.now.limit c.args.self.now.entries c.args.by c.args.desk c.args.request c.args.act.now c.recorded_signal.result
+    new_is_lawful c.args.self.now.limit c.args.self.now.entries c.args.by c.args.desk c.args.request
+    c.args.act.now c.recorded_signal.result
     (subst (λ (b : BookView). b.limit ≤ MAX_ROWS) c.self.view_is c.self.invariant.most) c.requires.found
-    (c.recorded_signal.ensures ∙ ap (λ (b : BookView). recorded_signal b.entries c.args.act.now) c.self.view_is)
+    (c.recorded_signal.ensures ∙ ap
+    (λ (b : BookView). recorded_signal b.entries c.args.act.now) c.self.view_is)

@@ -9,11 +9,15 @@ use Rattle.book_core.proofs.book.Book.ready.Goals as goal
 pub returns-in-Err-clause-exact : goal.returns-in-Err-clause-exact
 returns-in-Err-clause-exact c =
     error_gives c.args.self.now c.args.by c.args.desk c.args.request c.args.act.now c.in-Err.error
-    (subst (λ (book : BookView). ◌≡◌ {A = Result (Option Answered) BookError} (Err c.in-Err.error) (decision book.limit book.entries (asked_act c.args.desk c.args.request c.args.act.now) c.args.act.now)) c.self.view_is
+    (subst (λ (book : BookView). ◌≡◌ {A = Result (Option Answered) BookError} (Err c.in-Err.error)
+    (decision book.limit book.entries
+    (asked_act c.args.desk c.args.request c.args.act.now) c.args.act.now)) c.self.view_is
     (sym c.in-Err.is ∙ c.decide.ensures))
 
 pub returns-in-Err-clause-least : goal.returns-in-Err-clause-least
 returns-in-Err-clause-least c =
     error_least c.args.self.now c.args.desk c.args.request c.args.act.now c.in-Err.error
-    (subst (λ (book : BookView). ◌≡◌ {A = Result (Option Answered) BookError} (Err c.in-Err.error) (decision book.limit book.entries (asked_act c.args.desk c.args.request c.args.act.now) c.args.act.now)) c.self.view_is
+    (subst (λ (book : BookView). ◌≡◌ {A = Result (Option Answered) BookError} (Err c.in-Err.error)
+    (decision book.limit book.entries
+    (asked_act c.args.desk c.args.request c.args.act.now) c.args.act.now)) c.self.view_is
     (sym c.in-Err.is ∙ c.decide.ensures))

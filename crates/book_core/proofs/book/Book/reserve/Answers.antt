@@ -5,4 +5,5 @@ pub invariant_of-self : goal.invariant_of-self
 invariant_of-self c = kept_on _ _ _ _ c.reserve.ensures.entries c.reserve.ensures.spare c.self.invariant
 
 pub invariant_of-self-2 : goal.invariant_of-self-2
-invariant_of-self-2 c = kept_on _ _ _ _ c.reserve.ensures.entries c.reserve.ensures.spare c.self.invariant
+invariant_of-self-2 c = kept_on _ _ _ _ c.reserve.ensures.entries c.reserve.ensures.spare
+    c.self.invariant

@@ -5,4 +5,5 @@ use Rattle.book_core.proofs.book.Book.rows.Goals as goal
 
 pub returns-clause-sound : goal.returns-clause-sound
 returns-clause-sound c =
-    sound_of_legal c.new.result (subst IsLegal (sym (c.new.ensures ∙ c.into_entries.ensures.entries)) c.self.invariant.legal)
+    sound_of_legal c.new.result (subst IsLegal
+    (sym (c.new.ensures ∙ c.into_entries.ensures.entries)) c.self.invariant.legal)

@@ -15,4 +15,7 @@ returns c entries is =
     c.as_slice.ensures.value ∙ c.self.invariant.closed
     ∙ ap (λ (known : Known). flags_of known.batches) c.self.view_is
     ∙ ap flags_of is.batches
-    ∙ map_twice (λ (name : Name). (name, terms_of_batch entries name)) (λ (batch : Name × BatchTerms). is_closed (Some batch.1.state)) (λ (name : Name). is_closed (state_of entries name)) (λ name. closed_told (state_of entries name)) (said batch_opened entries)
+    ∙ map_twice (λ (name : Name). (name, terms_of_batch entries name))
+    (λ (batch : Name × BatchTerms). is_closed (Some batch.1.state))
+    (λ (name : Name). is_closed (state_of entries name))
+    (λ name. closed_told (state_of entries name)) (said batch_opened entries)

@@ -10,7 +10,9 @@ loop-place-preserved c =
     let batches = c.args.self.now.batches in
     let place = c.loop-place.place in
     let terms = c.index-terms.result.now in
-    let at : slice_get (values_of batches) place ≡ Some terms = ap (λ (known : Known). slice_get (values_of known.batches) place) (sym c.self.view_is) ∙ c.index-terms.ensures in
+    let at : slice_get (values_of batches) place ≡ Some terms =
+    ap (λ (known : Known). slice_get (values_of known.batches) place) (sym c.self.view_is)
+    ∙ c.index-terms.ensures in
     let once = one_at_most (same_state terms.state c.args.state) in (
       ap (λ n. n + c.one_if_same-count.result) c.loop-place.invariant.0
           ∙ ap (λ n. count_by (is_in c.args.state) (take place batches) + n) c.one_if_same-count.ensures

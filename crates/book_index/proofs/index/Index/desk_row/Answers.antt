@@ -12,4 +12,5 @@ returns-clause-row c entries is desk =
     let most : c.args.desk < MAX_DESK + 1 = grind (arith, nat_tests) in
     ap (λ (known : Known). get_or known.desks (c.args.desk - MIN_DESK) None) c.self.view_is
     ∙ ap (λ desks. get_or desks (c.args.desk - MIN_DESK) None) is.desks
-    ∙ of_number (newest_row_number entries) None MIN_DESK (MAX_DESK - MIN_DESK + 1) c.args.desk least most
+    ∙ of_number (newest_row_number entries) None MIN_DESK
+    (MAX_DESK - MIN_DESK + 1) c.args.desk least most

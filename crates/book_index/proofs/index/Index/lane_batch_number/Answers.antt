@@ -10,4 +10,6 @@ pub returns : goal.returns
 returns c entries is legal =
     in_both (is_lane c.args.lane)
     (λ one. c.held_number.ensures.on entries is one)
-    (λ off. c.held_number.ensures.off off ∙ sym (ap (option_and_then (batch_number entries)) ((legal_named entries legal).off_lanes c.args.lane off)))
+    (λ off. c.held_number.ensures.off off
+    ∙ sym (ap (option_and_then (batch_number entries))
+    ((legal_named entries legal).off_lanes c.args.lane off)))

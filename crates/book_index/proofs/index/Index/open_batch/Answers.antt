@@ -11,7 +11,12 @@ returns-then-contains_key c =
     let index = c.self.inside in
     let name = c.args.name.now in
     let terms = c.args.terms.now in
-    (λ i. record (the_view index) { batches = sym (named_there name terms index.batches.entries (sym c.contains_key.ensures ∙ c.if-contains_key.true)) i; spare = index.spare - 1 })
+    (λ i. record (the_view index) {
+      batches =
+          sym (named_there name terms index.batches.entries
+          (sym c.contains_key.ensures ∙ c.if-contains_key.true)) i;
+      spare = index.spare - 1;
+    })
     ∙ ap (with_batch name terms) c.self.view_is
 
 pub invariant_of-self-2 : goal.invariant_of-self-2
@@ -20,7 +25,8 @@ invariant_of-self-2 c =
     let kept = c.self.invariant in
     let name = c.args.name.now in
     let terms = c.args.terms.now in
-    let room : 0 < index.spare = omega (arith, c.requires, ap (λ (known : Known). known.spare) c.self.view_is) in
+    let room : 0 < index.spare = omega
+    (arith, c.requires, ap (λ (known : Known). known.spare) c.self.view_is) in
     let new = sym c.contains_key.ensures ∙ c.if-contains_key.false in
     let put = put_new index.batches name terms c.insert.new.self.entries new c.in-Ok.ensures.entries in
     let longer = ap length put ∙ length-append index.batches.entries ((name, terms) ∷ []) in
@@ -46,6 +52,7 @@ returns c =
     let name = c.args.name.now in
     let terms = c.args.terms.now in
     let new = sym c.contains_key.ensures ∙ c.if-contains_key.false in
-    let put = put_new index.batches name terms c.insert.new.self.entries new c.in-Ok.ensures.entries ∙ sym (named_new name terms index.batches.entries new) in
+    let put = put_new index.batches name terms c.insert.new.self.entries new c.in-Ok.ensures.entries
+    ∙ sym (named_new name terms index.batches.entries new) in
     (λ i. record (the_view index) { batches = put i; spare = index.spare - 1 })
     ∙ ap (with_batch name terms) c.self.view_is

@@ -7,11 +7,13 @@ use Rattle.book_index.proofs.index.Index.product_number.Goals as goal
 
 pub returns-clause-place : goal.returns-clause-place
 returns-clause-place c =
-    c.number_at.ensures ∙ c.get_index_of.ensures.index ∙ place_is c.args.product.now (names_of c.self.inside.products.entries)
+    c.number_at.ensures ∙ c.get_index_of.ensures.index
+    ∙ place_is c.args.product.now (names_of c.self.inside.products.entries)
     ∙ ap (λ (known : Known). place_of (names_of known.products) c.args.product.now) c.self.view_is
 
 pub returns-clause-number : goal.returns-clause-number
 returns-clause-number c entries is =
-    c.number_at.ensures ∙ c.get_index_of.ensures.index ∙ place_is c.args.product.now (names_of c.self.inside.products.entries)
+    c.number_at.ensures ∙ c.get_index_of.ensures.index
+    ∙ place_is c.args.product.now (names_of c.self.inside.products.entries)
     ∙ ap (λ (known : Known). place_of (names_of known.products) c.args.product.now) c.self.view_is
     ∙ ap (λ names. place_of names c.args.product.now) (products_named entries c.args.self.now is)

@@ -9,7 +9,12 @@ returns-then-contains_key c =
     let index = c.self.inside in
     let name = c.args.name.now in
     let terms = c.args.terms.now in
-    (λ i. record (the_view index) { products = sym (named_there name terms index.products.entries (sym c.contains_key.ensures ∙ c.if-contains_key.true)) i; spare = index.spare - 1 })
+    (λ i. record (the_view index) {
+      products =
+          sym (named_there name terms index.products.entries
+          (sym c.contains_key.ensures ∙ c.if-contains_key.true)) i;
+      spare = index.spare - 1;
+    })
     ∙ ap (with_product name terms) c.self.view_is
 
 pub returns : goal.returns
@@ -18,6 +23,7 @@ returns c =
     let name = c.args.name.now in
     let terms = c.args.terms.now in
     let new = sym c.contains_key.ensures ∙ c.if-contains_key.false in
-    let put = put_new index.products name terms c.insert.new.self.entries new c.in-Ok.ensures.entries ∙ sym (named_new name terms index.products.entries new) in
+    let put = put_new index.products name terms c.insert.new.self.entries new
+    c.in-Ok.ensures.entries ∙ sym (named_new name terms index.products.entries new) in
     (λ i. record (the_view index) { products = put i; spare = index.spare - 1 })
     ∙ ap (with_product name terms) c.self.view_is

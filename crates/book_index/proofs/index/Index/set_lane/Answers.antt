@@ -7,10 +7,12 @@ use Rattle.book_index.proofs.index.Index.set_lane.Goals as goal
 
 pub returns-then-not-is_lane : goal.returns-then-not-is_lane
 returns-then-not-is_lane c =
-    lane_outside c.args.lane c.args.batch c.args.self.now (sym (ap (λ (known : Known). length known.lanes) c.self.view_is) ∙ c.self.invariant.lanes)
+    lane_outside c.args.lane c.args.batch c.args.self.now
+    (sym (ap (λ (known : Known). length known.lanes) c.self.view_is) ∙ c.self.invariant.lanes)
     (sym c.is_lane.ensures ∙ c.if-not-is_lane.true)
 
 pub returns : goal.returns
 returns c =
-    lane_inside c.args.lane c.args.batch (the_view c.self.inside) c.self.invariant.lanes (sym c.is_lane.ensures ∙ c.if-not-is_lane.false)
+    lane_inside c.args.lane c.args.batch (the_view c.self.inside) c.self.invariant.lanes
+    (sym c.is_lane.ensures ∙ c.if-not-is_lane.false)
     ∙ ap (with_lane c.args.lane c.args.batch) c.self.view_is

@@ -7,10 +7,12 @@ use Rattle.book_index.proofs.index.Index.set_row.Goals as goal
 
 pub returns-then-not-is_desk : goal.returns-then-not-is_desk
 returns-then-not-is_desk c =
-    desk_outside c.args.desk c.args.row c.args.self.now (sym (ap (λ (known : Known). length known.desks) c.self.view_is) ∙ c.self.invariant.desks)
+    desk_outside c.args.desk c.args.row c.args.self.now
+    (sym (ap (λ (known : Known). length known.desks) c.self.view_is) ∙ c.self.invariant.desks)
     (sym c.is_desk.ensures ∙ c.if-not-is_desk.true)
 
 pub returns : goal.returns
 returns c =
-    desk_inside c.args.desk c.args.row (the_view c.self.inside) c.self.invariant.desks (sym c.is_desk.ensures ∙ c.if-not-is_desk.false)
+    desk_inside c.args.desk c.args.row (the_view c.self.inside) c.self.invariant.desks
+    (sym c.is_desk.ensures ∙ c.if-not-is_desk.false)
     ∙ ap (with_row c.args.desk c.args.row) c.self.view_is

@@ -23,7 +23,8 @@ returns-in_err-close-clause-appends g c rows has =
     }
 
 pub returns-in_err-close-clause-images : goal.returns-in_err-close-clause-images
-returns-in_err-close-clause-images g c = images_keep g.D.Disk g.met.D.Disk.reads_image g.met.D.Disk.only_now c.close.new.self
+returns-in_err-close-clause-images g c =
+    images_keep g.D.Disk g.met.D.Disk.reads_image g.met.D.Disk.only_now c.close.new.self
 
 -- the mark couldn't be cleared
 pub returns-in_err-unmark-clause-appends : goal.returns-in_err-unmark-clause-appends
@@ -42,11 +43,14 @@ returns-in_err-unmark-clause-appends g c rows has =
       hung = λ hung hangs. no_both new.hanging hangs.hangs (c.unmark.ensures.hanging ∙ calm);
       moments = leaves_on g.D.Disk old.disk mid.disk new.disk P
           (leaves_in g.D.Disk old.disk mid.disk _ P kept.moments (λ f left. inl left))
-          (leaves_in g.D.Disk mid.disk new.disk _ P quiet.moments (λ f left. inl (inl (none_hangs g.D.Disk g.met.D.Disk.reads_image g.met.D.Disk.only_now mid rows f calm left))));
+          (leaves_in g.D.Disk mid.disk new.disk _ P quiet.moments
+          (λ f left. inl (inl (none_hangs g.D.Disk g.met.D.Disk.reads_image
+          g.met.D.Disk.only_now mid rows f calm left))));
     }
 
 pub returns-in_err-unmark-clause-images : goal.returns-in_err-unmark-clause-images
-returns-in_err-unmark-clause-images g c = images_keep g.D.Disk g.met.D.Disk.reads_image g.met.D.Disk.only_now c.unmark.new.self
+returns-in_err-unmark-clause-images g c =
+    images_keep g.D.Disk g.met.D.Disk.reads_image g.met.D.Disk.only_now c.unmark.new.self
 
 pub returns-in_err-unmark-clause-touched : goal.returns-in_err-unmark-clause-touched
 returns-in_err-unmark-clause-touched g c b told now told_now =
@@ -54,7 +58,8 @@ returns-in_err-unmark-clause-touched g c b told now told_now =
     let mid = told_after _ _ b c.close.ensures.tells told in
     let first = c.close.ensures.touched b told mid.0 mid.1 in
     let second = c.unmark.ensures.touched mid.0 mid.1 now told_now in
-    touches_on old.count b mid.0 now first (subst (λ (n : ℕ). TouchesSlot n mid.0 now) c.close.ensures.count second)
+    touches_on old.count b mid.0 now first
+    (subst (λ (n : ℕ). TouchesSlot n mid.0 now) c.close.ensures.count second)
 
 -- the row couldn't be put
 pub returns-in_err-put-clause-appends : goal.returns-in_err-put-clause-appends
@@ -76,12 +81,16 @@ returns-in_err-put-clause-appends g c rows has =
       moments = leaves_on g.D.Disk old.disk mid.disk new.disk P
           (leaves_in g.D.Disk old.disk mid.disk _ P kept.moments (λ f left. inl left))
           (leaves_on g.D.Disk mid.disk clear.disk new.disk P
-          (leaves_in g.D.Disk mid.disk clear.disk _ P quiet.moments (λ f left. inl (inl (none_hangs g.D.Disk g.met.D.Disk.reads_image g.met.D.Disk.only_now mid rows f calm left))))
-          (leaves_in g.D.Disk clear.disk new.disk _ P puts.moments (λ f left. ⊎_elim (λ without. inl (inl without)) (λ with_it. inr with_it) left)));
+          (leaves_in g.D.Disk mid.disk clear.disk _ P quiet.moments
+          (λ f left. inl (inl (none_hangs g.D.Disk g.met.D.Disk.reads_image
+          g.met.D.Disk.only_now mid rows f calm left))))
+          (leaves_in g.D.Disk clear.disk new.disk _ P puts.moments
+          (λ f left. ⊎_elim (λ without. inl (inl without)) (λ with_it. inr with_it) left)));
     }
 
 pub returns-in_err-put-clause-images : goal.returns-in_err-put-clause-images
-returns-in_err-put-clause-images g c = images_keep g.D.Disk g.met.D.Disk.reads_image g.met.D.Disk.only_now c.put.new.self
+returns-in_err-put-clause-images g c =
+    images_keep g.D.Disk g.met.D.Disk.reads_image g.met.D.Disk.only_now c.put.new.self
 
 pub returns-in_err-put-clause-touched : goal.returns-in_err-put-clause-touched
 returns-in_err-put-clause-touched g c b told now told_now =
@@ -94,7 +103,8 @@ returns-in_err-put-clause-touched g c b told now told_now =
     touches_on old.count b mid.0 now first
     (touches_on old.count mid.0 clear.0 now
     (subst (λ (n : ℕ). TouchesSlot n mid.0 clear.0) c.close.ensures.count second)
-    (subst (λ (n : ℕ). TouchesSlot n clear.0 now) (c.unmark.ensures.count ∙ c.close.ensures.count) third))
+    (subst (λ (n : ℕ). TouchesSlot n clear.0 now)
+    (c.unmark.ensures.count ∙ c.close.ensures.count) third))
 
 -- the row was appended
 pub returns-clause-appends : goal.returns-clause-appends
@@ -116,12 +126,16 @@ returns-clause-appends g c rows has =
       moments = leaves_on g.D.Disk old.disk mid.disk new.disk P
           (leaves_in g.D.Disk old.disk mid.disk _ P kept.moments (λ f left. inl left))
           (leaves_on g.D.Disk mid.disk clear.disk new.disk P
-          (leaves_in g.D.Disk mid.disk clear.disk _ P quiet.moments (λ f left. inl (inl (none_hangs g.D.Disk g.met.D.Disk.reads_image g.met.D.Disk.only_now mid rows f calm left))))
-          (leaves_in g.D.Disk clear.disk new.disk _ P puts.moments (λ f left. ⊎_elim (λ without. inl (inl without)) (λ with_it. inr with_it) left)));
+          (leaves_in g.D.Disk mid.disk clear.disk _ P quiet.moments
+          (λ f left. inl (inl (none_hangs g.D.Disk g.met.D.Disk.reads_image
+          g.met.D.Disk.only_now mid rows f calm left))))
+          (leaves_in g.D.Disk clear.disk new.disk _ P puts.moments
+          (λ f left. ⊎_elim (λ without. inl (inl without)) (λ with_it. inr with_it) left)));
     }
 
 pub returns-clause-images : goal.returns-clause-images
-returns-clause-images g c = images_keep g.D.Disk g.met.D.Disk.reads_image g.met.D.Disk.only_now c.put.new.self
+returns-clause-images g c = images_keep g.D.Disk g.met.D.Disk.reads_image g.met.D.Disk.only_now
+    c.put.new.self
 
 pub returns-clause-written : goal.returns-clause-written
 returns-clause-written g c b told =
@@ -133,9 +147,12 @@ returns-clause-written g c b told =
     let put = c.in_ok-put.ensures.written (cleared mid.marked (closed_gate old b)) clear in
     let long = (c.requires.sound.gate b told).long in
     put ∙ ap (λ (l : List ℕ). Some l)
-    (ap (λ (n : ℕ). overwritten (cleared mid.marked (closed_gate old b)) (gate_behind n) (row ++ CLOSED ∷ [])) (c.unmark.ensures.count ∙ c.close.ensures.count)
-    ∙ ap (λ m. overwritten (cleared m (closed_gate old b)) (gate_behind old.count) (row ++ CLOSED ∷ [])) c.close.ensures.marked
-    ∙ row_over_gate old.hanging old.marked b row (gate_behind old.count) (omega arith) (omega (arith, long)))
+    (ap (λ (n : ℕ). overwritten (cleared mid.marked (closed_gate old b)) (gate_behind n)
+    (row ++ CLOSED ∷ [])) (c.unmark.ensures.count ∙ c.close.ensures.count)
+    ∙ ap (λ m. overwritten (cleared m (closed_gate old b)) (gate_behind old.count)
+    (row ++ CLOSED ∷ [])) c.close.ensures.marked
+    ∙ row_over_gate old.hanging old.marked b row (gate_behind old.count) (omega arith)
+    (omega (arith, long)))
 
 pub returns-clause-touched : goal.returns-clause-touched
 returns-clause-touched g c b told now told_now =
@@ -148,4 +165,5 @@ returns-clause-touched g c b told now told_now =
     touches_on old.count b mid.0 now first
     (touches_on old.count mid.0 clear.0 now
     (subst (λ (n : ℕ). TouchesSlot n mid.0 clear.0) c.close.ensures.count second)
-    (subst (λ (n : ℕ). TouchesSlot n clear.0 now) (c.unmark.ensures.count ∙ c.close.ensures.count) third))
+    (subst (λ (n : ℕ). TouchesSlot n clear.0 now)
+    (c.unmark.ensures.count ∙ c.close.ensures.count) third))

@@ -9,14 +9,19 @@ use Rattle.book_journal.specs.Reading.{ReadsContent, HasContentFrom}
 use Rattle.book_journal.proofs.Contents.{content_from}
 use Rattle.book_journal.proofs.journal.Journal.blocks.Goals as goal
 
-reads_as : {E : Type 0} (kept : Option Kept) (found : Kept) (bytes : List ℕ) (from : ℕ) (result : Result ℕ E) (into : List ℕ) → kept ≡ Some found → ReadsContent (Some found) bytes from result into → ReadsContent kept bytes from result into
-reads_as kept found bytes from result into is reads = subst (λ (o : Option Kept). ReadsContent o bytes from result into) (sym is) reads
+reads_as : {E : Type 0} (kept : Option Kept) (found : Kept) (bytes : List ℕ) (from : ℕ)
+    (result : Result ℕ E) (into : List ℕ) → kept ≡ Some found
+    → ReadsContent (Some found) bytes from result into → ReadsContent kept bytes from result into
+reads_as kept found bytes from result into is reads =
+    subst (λ (o : Option Kept). ReadsContent o bytes from result into) (sym is) reads
 
-within_of : (kept : Option Kept) (found : Kept) (from : ℕ) → kept ≡ Some found → HasContentFrom from kept → BLOCKS_CONTENT * from < found.bytes
+within_of : (kept : Option Kept) (found : Kept) (from : ℕ) → kept ≡ Some found
+    → HasContentFrom from kept → BLOCKS_CONTENT * from < found.bytes
 within_of kept found from is has = (subst (λ (o : Option Kept). HasContentFrom from o) is has).1
 
 part_of : (n : ℕ) → n ≤ BLOCKS_BYTES → length (take n (replicate {A = ℕ} BLOCKS_BYTES 0)) ≡ n
-part_of n small = length-take-le n (replicate BLOCKS_BYTES 0) (omega (arith, small, length-replicate {A = ℕ} BLOCKS_BYTES 0))
+part_of n small = length-take-le n (replicate BLOCKS_BYTES 0)
+    (omega (arith, small, length-replicate {A = ℕ} BLOCKS_BYTES 0))
 
 pub returns-clause-content : goal.returns-clause-content
 returns-clause-content g c b told =
@@ -24,18 +29,29 @@ returns-clause-content g c b told =
     let from = c.args.from in
     let count = c.min-count.result in
     let within = within_of c.args.self.now.kept kept from c.in-Some.is c.requires in
-    let count_is : count ≡ min BLOCKS_CONTENT (kept.bytes - BLOCKS_CONTENT * from) = omega (arith, c.min-count.ensures) in
+    let count_is : count ≡ min BLOCKS_CONTENT (kept.bytes - BLOCKS_CONTENT * from) =
+    omega (arith, c.min-count.ensures) in
     reads_as c.args.self.now.kept kept b from _ _ c.in-Some.is (λ ends.
     let read = c.in_ok-read_at.ensures in
-    let room : length (take count c.args.into.now) ≡ count = length-take-le count c.args.into.now (omega (arith, count_is, c.told-into)) in
-    let taken = subst (λ (n : ℕ). c.content_of_blocks.new.into ≡ take n (block_content (blocks_for n) c.read_at.new.into)) room c.content_of_blocks.ensures in
+    let room : length (take count c.args.into.now) ≡ count =
+    length-take-le count c.args.into.now (omega (arith, count_is, c.told-into)) in
+    let taken = subst (λ (n : ℕ). c.content_of_blocks.new.into
+    ≡ take n (block_content (blocks_for n) c.read_at.new.into)) room
+    c.content_of_blocks.ensures in
     let size : length c.content_of_blocks.new.into ≡ count = c.content_of_blocks.auto.into ∙ room in
-    let place : c.snapshot_place.result + ROW_BYTES + BLOCKS_BYTES * from ≡ snapshot_place kept.rows + ROW_BYTES + BLOCKS_BYTES * from = ap (λ (n : ℕ). n + ROW_BYTES + BLOCKS_BYTES * from) c.snapshot_place.ensures in
-    let long : length c.read_at.new.into ≡ ROW_BYTES * blocks_for count = c.read_at.auto.into ∙ part_of (ROW_BYTES * c.blocks_for.result) (omega (arith, c.blocks_for.ensures, count_is)) ∙ ap (λ (n : ℕ). ROW_BYTES * n) c.blocks_for.ensures in (
+    let place : c.snapshot_place.result + ROW_BYTES + BLOCKS_BYTES * from ≡ snapshot_place kept.rows
+    + ROW_BYTES + BLOCKS_BYTES * from =
+    ap (λ (n : ℕ). n + ROW_BYTES + BLOCKS_BYTES * from) c.snapshot_place.ensures in
+    let long : length c.read_at.new.into ≡ ROW_BYTES * blocks_for count = c.read_at.auto.into
+    ∙ part_of (ROW_BYTES * c.blocks_for.result) (omega (arith, c.blocks_for.ensures, count_is))
+    ∙ ap (λ (n : ℕ). ROW_BYTES * n) c.blocks_for.ensures in (
       count_is,
       take_at c.content_of_blocks.new.into _ count size
-          ∙ content_from kept.rows kept.bytes from b c.read_at.new.into c.content_of_blocks.new.into count c.in_ok-read_at.field-0 ends within count_is long
-          (subst (λ (p : ℕ). c.in_ok-read_at.field-0 ≡ min (length c.read_at.new.into) (length b - p)) place (read.count b told))
-          (subst (λ (p : ℕ). take c.in_ok-read_at.field-0 c.read_at.new.into ≡ take c.in_ok-read_at.field-0 (drop p b)) place (read.bytes b told))
+          ∙ content_from kept.rows kept.bytes from b c.read_at.new.into c.content_of_blocks.new.into
+          count c.in_ok-read_at.field-0 ends within count_is long
+          (subst (λ (p : ℕ). c.in_ok-read_at.field-0
+          ≡ min (length c.read_at.new.into) (length b - p)) place (read.count b told))
+          (subst (λ (p : ℕ). take c.in_ok-read_at.field-0 c.read_at.new.into
+          ≡ take c.in_ok-read_at.field-0 (drop p b)) place (read.bytes b told))
           taken,
     ))

@@ -10,4 +10,6 @@ sample-requires c =
 
 pub returns-clause-kept : goal.returns-clause-kept
 returns-clause-kept c entries entry stands is =
-    draw-push entries entry c.args.batch c.args.picks.now is _ _ (subst (IsPacksOf entries) (sym c.self.view_is) stands) refl c.sample.ensures.batches c.sample.ensures.packs refl
+    draw-push entries entry c.args.batch c.args.picks.now is _ _
+    (subst (IsPacksOf entries) (sym c.self.view_is) stands) refl c.sample.ensures.batches
+    c.sample.ensures.packs refl

@@ -8,4 +8,5 @@ use Rattle.book_packs.proofs.packs.Packs.pack.Goals as goal
 
 pub returns : goal.returns
 returns c entries is =
-    c.pack.ensures ∙ ap (find (λ (pack : Pack). pack.number == c.args.number)) (ap (λ (s : Standing). s.packs) c.self.view_is ∙ is.packs) ∙ pack_is entries c.args.number
+    c.pack.ensures ∙ ap (find (λ (pack : Pack). pack.number == c.args.number))
+    (ap (λ (s : Standing). s.packs) c.self.view_is ∙ is.packs) ∙ pack_is entries c.args.number

@@ -6,4 +6,5 @@ use Rattle.book_packs.proofs.packs.Packs.piles.Goals as goal
 
 pub returns : goal.returns
 returns c entries is =
-    c.piles.ensures ∙ ap piles_of (ap (λ (s : Standing). s.packs) c.self.view_is ∙ is.packs) ∙ piles_are entries
+    c.piles.ensures ∙ ap piles_of (ap (λ (s : Standing). s.packs) c.self.view_is ∙ is.packs)
+    ∙ piles_are entries

@@ -15,10 +15,18 @@ if_ok P Q (Err e) h k = tt
 
 pub returns-clause-exact : goal.returns-clause-exact
 returns-clause-exact c entries name is legal known =
-    if_ok _ _ c.population.result c.population.ensures (λ v told. told ∙ ap (λ some. asked.numbers_of (sums.population (sums.of_batch c.args.batch some))) (ap (λ (s : Standing). s.packs) c.self.view_is ∙ is.packs)
+    if_ok _ _ c.population.result c.population.ensures
+    (λ v told. told
+    ∙ ap (λ some. asked.numbers_of (sums.population (sums.of_batch c.args.batch some)))
+    (ap (λ (s : Standing). s.packs) c.self.view_is ∙ is.packs)
     ∙ numbers_are entries name c.args.batch known (known_of entries legal).weighed)
 
 pub returns-clause-ascending : goal.returns-clause-ascending
 returns-clause-ascending c entries name is legal known =
-    if_ok _ _ c.population.result c.population.ensures (λ v told. subst IsStrictlyIncreasing (sym (told ∙ ap (λ some. asked.numbers_of (sums.population (sums.of_batch c.args.batch some))) (ap (λ (s : Standing). s.packs) c.self.view_is ∙ is.packs)
-    ∙ numbers_are entries name c.args.batch known (known_of entries legal).weighed)) (population_increases entries name))
+    if_ok _ _ c.population.result c.population.ensures
+    (λ v told. subst IsStrictlyIncreasing
+    (sym (told ∙ ap (λ some. asked.numbers_of
+    (sums.population (sums.of_batch c.args.batch some)))
+    (ap (λ (s : Standing). s.packs) c.self.view_is ∙ is.packs)
+    ∙ numbers_are entries name c.args.batch known (known_of entries legal).weighed))
+    (population_increases entries name))

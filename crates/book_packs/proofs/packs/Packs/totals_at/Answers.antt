@@ -15,12 +15,22 @@ pub returns : goal.returns
 returns c entries name gross is legal known =
     let here = subst (IsPacksOf entries) (sym c.self.view_is) is in
     let weighed = (known_of entries legal).weighed in
-    let totals : c.totals-totals.result ≡ totals_told entries name = same_Some _ _ (sym c.totals-totals.ensures ∙ totals_are entries c.self.inside.sums name c.args.batch here.batches here.packs known weighed) in
+    let totals : c.totals-totals.result ≡ totals_told entries name =
+    same_Some _ _ (sym c.totals-totals.ensures
+    ∙ totals_are entries c.self.inside.sums name c.args.batch here.batches here.packs known
+    weighed) in
     let limits : c.limits-limits.result ≡ (terms_of_batch entries name).limits =
-    same_Some _ _ (sym c.limits-limits.ensures ∙ ap (λ some. option_map (λ (terms : Terms). terms.limits) (slice_get some c.args.batch)) here.batches ∙ ap (option_map (λ (terms : Terms). terms.limits)) (terms_at entries name c.args.batch known)) in
+    same_Some _ _ (sym c.limits-limits.ensures
+    ∙ ap (λ some. option_map (λ (terms : Terms). terms.limits) (slice_get some c.args.batch))
+    here.batches ∙ ap (option_map (λ (terms : Terms). terms.limits))
+    (terms_at entries name c.args.batch known)) in
     let left : c.leaving-leaving.result ≡ leaving _ c.args.prior (packs_in entries) =
-    c.leaving-leaving.ensures ∙ ap (λ some. leaving (slice_index_or c.self.inside.unsettled (c.args.lane - 1) None) c.args.prior some) here.packs
-    ∙ ap (λ o. leaving o c.args.prior (packs_in entries)) (ap (λ some. slice_index_or some (c.args.lane - 1) None) here.unsettled ∙ lane_at entries c.args.lane c.requires.least c.requires.greatest) in
+    c.leaving-leaving.ensures ∙ ap
+    (λ some. leaving (slice_index_or c.self.inside.unsettled (c.args.lane - 1) None)
+    c.args.prior some) here.packs
+    ∙ ap (λ o. leaving o c.args.prior (packs_in entries))
+    (ap (λ some. slice_index_or some (c.args.lane - 1) None) here.unsettled
+    ∙ lane_at entries c.args.lane c.requires.least c.requires.greatest) in
     c.met_less.ensures
     ∙ ap (λ t. met_less t c.limits-limits.result c.args.batch c.leaving-leaving.result) totals
     ∙ ap (λ l. met_less (totals_told entries name) l c.args.batch c.leaving-leaving.result) limits

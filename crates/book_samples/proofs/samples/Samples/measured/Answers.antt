@@ -4,4 +4,5 @@ use Rattle.book_samples.proofs.samples.Samples.measured.Goals as goal
 
 pub returns : goal.returns
 returns c entries stands =
-    c.measured_at.ensures ∙ ap (λ (k : Kept). measured_in k.measured c.args.pack) c.self.view_is ∙ stands.measured c.args.pack
+    c.measured_at.ensures ∙ ap (λ (k : Kept). measured_in k.measured c.args.pack) c.self.view_is
+    ∙ stands.measured c.args.pack

@@ -5,10 +5,12 @@ use Rattle.book_samples.proofs.samples.Samples.reserve.Goals as goal
 
 pub returns-in_err-reserve_room-clause-kept : goal.returns-in_err-reserve_room-clause-kept
 returns-in_err-reserve_room-clause-kept c =
-    same_stands c.args.self.now _ (c.reserve_room.ensures.drawn ∙ ap (λ (k : Kept). k.samples) c.self.view_is)
+    same_stands c.args.self.now _ (c.reserve_room.ensures.drawn
+    ∙ ap (λ (k : Kept). k.samples) c.self.view_is)
     (c.reserve_room.ensures.measured ∙ ap (λ (k : Kept). k.measured) c.self.view_is)
 
 pub returns-clause-kept : goal.returns-clause-kept
 returns-clause-kept c =
-    same_stands c.args.self.now _ (c.reserve_room.ensures.drawn ∙ ap (λ (k : Kept). k.samples) c.self.view_is)
+    same_stands c.args.self.now _ (c.reserve_room.ensures.drawn
+    ∙ ap (λ (k : Kept). k.samples) c.self.view_is)
     (c.reserve_room.ensures.measured ∙ ap (λ (k : Kept). k.measured) c.self.view_is)

@@ -11,22 +11,33 @@ pub returns-in_err-number : goal.returns-in_err-number
 returns-in_err-number c =
     let stand = parts_of c.self.inside c.args.self.now c.self.invariant c.self.view_is in
     let none : c.from_residual.result ≡ None = search rules in
-    none ∙ sym (nothing_frozen c.args.self.now.entries c.args.product.now c.args.day c.args.tare stand.legal (c.in_err-number.ensures.number c.args.self.now.entries stand.index))
+    none ∙ sym (nothing_frozen c.args.self.now.entries c.args.product.now c.args.day c.args.tare
+    stand.legal (c.in_err-number.ensures.number c.args.self.now.entries stand.index))
 
 pub returns-in_err-batch : goal.returns-in_err-batch
 returns-in_err-batch c =
     let stand = parts_of c.self.inside c.args.self.now c.self.invariant c.self.view_is in
     let none : c.from_residual-in_err-batch.result ≡ None = search rules in
-    let told : None ≡ frozen_told c.args.self.now.entries (PutTare c.args.product.now c.args.day c.args.tare) =
-    rw (to_z-of_z w32 c.args.day c.ranges.day, to_z-of_z w64 c.args.tare c.ranges.tare) at c.in_err-batch.ensures c.args.self.now.entries c.args.product.now stand.packs stand.legal
-    (sym (c.in_ok-number.ensures.number c.args.self.now.entries stand.index)) (c.closed.ensures c.args.self.now.entries stand.index) in
-    none ∙ sym (none_by_number c.args.self.now.entries (is_frozen c.args.self.now.entries (PutTare c.args.product.now c.args.day c.args.tare)) told)
+    let told : None ≡ frozen_told c.args.self.now.entries
+    (PutTare c.args.product.now c.args.day c.args.tare) =
+    rw (to_z-of_z w32 c.args.day c.ranges.day, to_z-of_z w64 c.args.tare c.ranges.tare) at
+    c.in_err-batch.ensures c.args.self.now.entries c.args.product.now stand.packs stand.legal
+    (sym (c.in_ok-number.ensures.number c.args.self.now.entries stand.index))
+    (c.closed.ensures c.args.self.now.entries stand.index) in
+    none ∙ sym (none_by_number c.args.self.now.entries
+    (is_frozen c.args.self.now.entries (PutTare c.args.product.now c.args.day c.args.tare))
+    told)
 
 pub returns : goal.returns
 returns c =
     let stand = parts_of c.self.inside c.args.self.now c.self.invariant c.self.view_is in
-    let told : Some c.in_ok-batch.batch ≡ frozen_told c.args.self.now.entries (PutTare c.args.product.now c.args.day c.args.tare) =
-    rw (to_z-of_z w32 c.args.day c.ranges.day, to_z-of_z w64 c.args.tare c.ranges.tare) at c.in_ok-batch.ensures c.args.self.now.entries c.args.product.now stand.packs stand.legal
-    (sym (c.in_ok-number.ensures.number c.args.self.now.entries stand.index)) (c.closed.ensures c.args.self.now.entries stand.index) in
+    let told : Some c.in_ok-batch.batch
+    ≡ frozen_told c.args.self.now.entries (PutTare c.args.product.now c.args.day c.args.tare) =
+    rw (to_z-of_z w32 c.args.day c.ranges.day, to_z-of_z w64 c.args.tare c.ranges.tare) at
+    c.in_ok-batch.ensures c.args.self.now.entries c.args.product.now stand.packs stand.legal
+    (sym (c.in_ok-number.ensures.number c.args.self.now.entries stand.index))
+    (c.closed.ensures c.args.self.now.entries stand.index) in
     c.batch_name.ensures c.args.self.now.entries stand.index
-    ∙ found_by_number c.args.self.now.entries (is_frozen c.args.self.now.entries (PutTare c.args.product.now c.args.day c.args.tare)) c.in_ok-batch.batch told
+    ∙ found_by_number c.args.self.now.entries
+    (is_frozen c.args.self.now.entries (PutTare c.args.product.now c.args.day c.args.tare))
+    c.in_ok-batch.batch told

@@ -8,8 +8,10 @@ use Rattle.book_state.proofs.state.State.lane_of_pack.Goals as goal
 pub returns-in_err-entry : goal.returns-in_err-entry
 returns-in_err-entry c =
     let none : c.from_residual.result ≡ None = search rules in
-    none ∙ ap (option_and_then (λ (e : Entry). lane_weighed e.act)) c.in_err-entry.ensures.value ∙ lane_told c.args.self.now.entries c.args.number
+    none ∙ ap (option_and_then (λ (e : Entry). lane_weighed e.act)) c.in_err-entry.ensures.value
+    ∙ lane_told c.args.self.now.entries c.args.number
 
 pub returns : goal.returns
 returns c =
-    c.lane_weighed.ensures ∙ ap (option_and_then (λ (e : Entry). lane_weighed e.act)) c.in_ok-entry.ensures.value ∙ lane_told c.args.self.now.entries c.args.number
+    c.lane_weighed.ensures ∙ ap (option_and_then (λ (e : Entry). lane_weighed e.act))
+    c.in_ok-entry.ensures.value ∙ lane_told c.args.self.now.entries c.args.number

@@ -15,5 +15,6 @@ pub returns-clause-range : goal.returns-clause-range
 returns-clause-range c =
     let entries = c.args.self.now.entries in
     let stand = parts_of c.self.inside c.args.self.now c.self.invariant c.self.view_is in
-    subst (λ (o : Option ℤ). IfSome o (IsBetween (pos 0) MAX_TARE)) (sym (c.lane_tare.ensures entries stand.index stand.packs stand.legal))
+    subst (λ (o : Option ℤ). IfSome o (IsBetween (pos 0) MAX_TARE))
+    (sym (c.lane_tare.ensures entries stand.index stand.packs stand.legal))
     (tare_within entries (lane_batch entries c.args.lane) (newest_day entries) stand.legal)

@@ -1,51 +1,74 @@
-use Rattle.std.proofs.Common.{◌≡◌, pos, ◌∙◌, None, true, false, is_some, nat_le, sym, ap, subst, ◌≤◌}
-use Rattle.std.specs.Option.{option_and_then}
+use Rattle.std.proofs.Common.{rules, ◌≡◌, pos, ◌∙◌, None, Some, nat_le, sym, ap, subst, ◌≤◌, option_map}
 use Rattle.hall_limits.specs.declared.TheConstants.{MAX_LANE, MAX_POPULATION}
 use Rattle.std.proofs.lemmas.Bool.{and_parts, leb-true}
 use Rattle.book_packs.specs.declared.types.AtWeighing.{AtWeighing}
+use Rattle.book_packs.specs.Told.{met_at}
 use Rattle.book_words.specs.declared.act.Act.TheVariants.{Weigh}
+use Rattle.book_words.specs.Acts.{lane_batch}
+use Rattle.book_index.proofs.LegalNames.{legal_named}
+use Rattle.book_index.proofs.LaneLemmas.{no_lane}
 use Rattle.book_laws.proofs.BatchLaws.{orderly}
 use Rattle.book_state.proofs.Parts.{parts_of}
-use Rattle.book_state.proofs.Batches.{number_within}
 use Rattle.book_state.proofs.PopulationLimits.{met_few}
-use Rattle.book_words.specs.Order.{batch_number}
-use Rattle.book_state.proofs.NumberedNames.{lane_has_batch}
-use Rattle.book_state.proofs.OnLanes.{numbered}
+use Rattle.book_state.proofs.OnLanes.{batch_on, lane_within, numbered}
 use Rattle.book_state.proofs.state.State.met.Goals as goal
 
-pub unreachable-requires : goal.unreachable-requires
-unreachable-requires c =
+pub returns-in_err-batch-clause-value : goal.returns-in_err-batch-clause-value
+returns-in_err-batch-clause-value c gross =
+    let entries = c.args.self.now.entries in
     let stand = parts_of c.self.inside c.args.self.now c.self.invariant c.self.view_is in
-    let none : None ≡ batch_number c.args.self.now.entries c.requires.lane.0 = sym c.in_default.is ∙ c.lane_batch_number.ensures c.args.self.now.entries stand.index stand.legal ∙ ap (option_and_then (batch_number c.args.self.now.entries)) c.requires.lane.1 in
-    let has = lane_has_batch c.args.self.now.entries c.args.lane c.requires.lane.0 stand.legal c.requires.lane.1 in
-    (let clash : false ≡ true = ap is_some none ∙ has in cc)
+    let none : c.from_residual.result ≡ None = search rules in
+    none ∙ ap (option_map (met_at entries (Weigh c.args.lane gross c.args.prior)))
+    (no_lane entries (legal_named entries stand.legal) c.args.lane
+    (sym (c.in_err-batch.ensures entries stand.index stand.legal)))
 
 pub totals_at-requires-clause-least : goal.totals_at-requires-clause-least
 totals_at-requires-clause-least c =
+    let entries = c.args.self.now.entries in
     let stand = parts_of c.self.inside c.args.self.now c.self.invariant c.self.view_is in
-    let parts = and_parts (nat_le 1 c.args.lane) (nat_le c.args.lane MAX_LANE) ((orderly c.args.self.now.entries stand.legal).numbers c.args.lane c.requires.lane.0 c.requires.lane.1) in
+    let on = batch_on entries (lane_batch entries c.args.lane) c.in_ok-batch.batch
+    (c.in_ok-batch.ensures entries stand.index stand.legal) in
+    let parts = and_parts (nat_le 1 c.args.lane) (nat_le c.args.lane MAX_LANE)
+    ((orderly entries stand.legal).numbers c.args.lane on.0 on.1) in
     leb-true 1 c.args.lane parts.0
 
 pub totals_at-requires-clause-greatest : goal.totals_at-requires-clause-greatest
 totals_at-requires-clause-greatest c =
+    let entries = c.args.self.now.entries in
     let stand = parts_of c.self.inside c.args.self.now c.self.invariant c.self.view_is in
-    let parts = and_parts (nat_le 1 c.args.lane) (nat_le c.args.lane MAX_LANE) ((orderly c.args.self.now.entries stand.legal).numbers c.args.lane c.requires.lane.0 c.requires.lane.1) in
+    let on = batch_on entries (lane_batch entries c.args.lane) c.in_ok-batch.batch
+    (c.in_ok-batch.ensures entries stand.index stand.legal) in
+    let parts = and_parts (nat_le 1 c.args.lane) (nat_le c.args.lane MAX_LANE)
+    ((orderly entries stand.legal).numbers c.args.lane on.0 on.1) in
     leb-true c.args.lane MAX_LANE parts.1
 
 pub totals_at-requires-clause-batch : goal.totals_at-requires-clause-batch
 totals_at-requires-clause-batch c =
+    let entries = c.args.self.now.entries in
     let stand = parts_of c.self.inside c.args.self.now c.self.invariant c.self.view_is in
-    number_within c.args.self.now.entries c.self.inside.packs c.requires.lane.0 c.in-Some.number stand.packs (numbered c.args.self.now.entries c.args.lane c.in-Some.number c.requires.lane.0 c.requires.lane.1 (c.in-Some.ensures c.args.self.now.entries stand.index stand.legal))
+    lane_within entries c.self.inside.packs
+    (lane_batch entries c.args.lane) c.in_ok-batch.batch stand.packs
+    (c.in_ok-batch.ensures entries stand.index stand.legal)
 
 pub returns-clause-value : goal.returns-clause-value
-returns-clause-value c gross batch on =
+returns-clause-value c gross =
+    let entries = c.args.self.now.entries in
     let stand = parts_of c.self.inside c.args.self.now c.self.invariant c.self.view_is in
-    c.totals_at.ensures c.args.self.now.entries batch gross stand.packs stand.legal (sym (numbered c.args.self.now.entries c.args.lane c.in-Some.number batch on (c.in-Some.ensures c.args.self.now.entries stand.index stand.legal)))
+    let is = c.in_ok-batch.ensures entries stand.index stand.legal in
+    let on = batch_on entries (lane_batch entries c.args.lane) c.in_ok-batch.batch is in
+    ap (λ (met : AtWeighing). Some met)
+    (c.totals_at.ensures entries on.0 gross stand.packs stand.legal
+    (sym (numbered entries c.args.lane c.in_ok-batch.batch on.0 on.1 is)))
+    ∙ sym (ap (option_map (met_at entries (Weigh c.args.lane gross c.args.prior))) on.1)
 
 pub returns-clause-few : goal.returns-clause-few
 returns-clause-few c =
+    let entries = c.args.self.now.entries in
     let stand = parts_of c.self.inside c.args.self.now c.self.invariant c.self.view_is in
-    let batch = c.requires.lane.0 in
-    let is = c.totals_at.ensures c.args.self.now.entries batch (pos 0) stand.packs stand.legal (sym (numbered c.args.self.now.entries c.args.lane c.in-Some.number batch c.requires.lane.1 (c.in-Some.ensures c.args.self.now.entries stand.index stand.legal))) in
-    subst (λ (met : AtWeighing). (met.population ≤ MAX_POPULATION) × (met.nonstandard ≤ met.population)) (sym is)
-    (met_few c.args.self.now.entries (Weigh c.args.lane (pos 0) c.args.prior) batch stand.legal)
+    let number_is = c.in_ok-batch.ensures entries stand.index stand.legal in
+    let on = batch_on entries (lane_batch entries c.args.lane) c.in_ok-batch.batch number_is in
+    let is = c.totals_at.ensures entries on.0 (pos 0) stand.packs stand.legal
+    (sym (numbered entries c.args.lane c.in_ok-batch.batch on.0 on.1 number_is)) in
+    subst (λ (met : AtWeighing). (met.population ≤ MAX_POPULATION)
+    × (met.nonstandard ≤ met.population)) (sym is)
+    (met_few entries (Weigh c.args.lane (pos 0) c.args.prior) on.0 stand.legal)

@@ -10,4 +10,5 @@ pub returns-clause-range : goal.returns-clause-range
 returns-clause-range c =
     let stand = parts_of c.self.inside c.args.self.now c.self.invariant c.self.view_is in
     let value : c.map.result ≡ nominal_of c.args.self.now.entries c.args.product.now = search rules in
-    subst (λ (o : Option ℤ). IfSome o (IsBetween MIN_NOMINAL MAX_NOMINAL)) (sym value) (nominal_within c.args.self.now.entries c.args.product.now stand.legal)
+    subst (λ (o : Option ℤ). IfSome o (IsBetween MIN_NOMINAL MAX_NOMINAL)) (sym value)
+    (nominal_within c.args.self.now.entries c.args.product.now stand.legal)

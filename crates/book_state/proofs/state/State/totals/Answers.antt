@@ -12,22 +12,28 @@ returns-in_err-number-clause-value c =
     let stand = parts_of c.self.inside c.args.self.now c.self.invariant c.self.view_is in
     let none : c.from_residual.result ≡ None = search rules in
     none ∙ sym (ap (option_map (λ product. totals_told c.args.self.now.entries c.args.batch.now))
-    (no_batch c.args.self.now.entries c.args.batch.now (c.in_err-number.ensures.number c.args.self.now.entries stand.index)))
+    (no_batch c.args.self.now.entries c.args.batch.now
+    (c.in_err-number.ensures.number c.args.self.now.entries stand.index)))
 
 pub totals-requires : goal.totals-requires
 totals-requires c =
     let stand = parts_of c.self.inside c.args.self.now c.self.invariant c.self.view_is in
-    number_within c.args.self.now.entries c.self.inside.packs c.args.batch.now c.in_ok-number.number stand.packs (c.in_ok-number.ensures.number c.args.self.now.entries stand.index)
+    number_within c.args.self.now.entries c.self.inside.packs c.args.batch.now c.in_ok-number.number
+    stand.packs (c.in_ok-number.ensures.number c.args.self.now.entries stand.index)
 
 pub returns-clause-value : goal.returns-clause-value
 returns-clause-value c =
     let stand = parts_of c.self.inside c.args.self.now c.self.invariant c.self.view_is in
     let is = c.in_ok-number.ensures.number c.args.self.now.entries stand.index in
-    ap (λ (t : Totals). Some t) (c.totals.ensures c.args.self.now.entries c.args.batch.now stand.packs stand.legal (sym is))
-    ∙ told_of_batch (product_of c.args.self.now.entries c.args.batch.now) (totals_told c.args.self.now.entries c.args.batch.now) (is_batch c.args.self.now.entries c.args.batch.now c.in_ok-number.number is)
+    ap (λ (t : Totals). Some t) (c.totals.ensures c.args.self.now.entries c.args.batch.now
+    stand.packs stand.legal (sym is))
+    ∙ told_of_batch (product_of c.args.self.now.entries c.args.batch.now)
+    (totals_told c.args.self.now.entries c.args.batch.now)
+    (is_batch c.args.self.now.entries c.args.batch.now c.in_ok-number.number is)
 
 pub returns-clause-few : goal.returns-clause-few
 returns-clause-few c =
     let stand = parts_of c.self.inside c.args.self.now c.self.invariant c.self.view_is in
     let is = c.in_ok-number.ensures.number c.args.self.now.entries stand.index in
-    totals_few c.args.self.now.entries c.args.batch.now c.totals.result stand.legal (c.totals.ensures c.args.self.now.entries c.args.batch.now stand.packs stand.legal (sym is))
+    totals_few c.args.self.now.entries c.args.batch.now c.totals.result stand.legal
+    (c.totals.ensures c.args.self.now.entries c.args.batch.now stand.packs stand.legal (sym is))

@@ -10,8 +10,11 @@ loop-call-preserved c =
     let calls = take c.args.after c.deref-3.result.now in
     let first = c.args.self.now.first in
     record {
-      read = next_read first calls i c.call-item.result c.loop-call-test.true c.call-item.is _ _ c.loop-call.invariant.read c.in_ok-play.ensures.now;
-      kept = next_kept first calls i c.call-item.result c.loop-call-test.true c.call-item.is c.args.keep _ _ _ c.loop-call.invariant.read c.loop-call.invariant.kept c.in_ok-play.ensures.image;
+      read = next_read first calls i c.call-item.result c.loop-call-test.true c.call-item.is _ _
+          c.loop-call.invariant.read c.in_ok-play.ensures.now;
+      kept = next_kept first calls i c.call-item.result c.loop-call-test.true c.call-item.is
+          c.args.keep _ _ _ c.loop-call.invariant.read c.loop-call.invariant.kept
+          c.in_ok-play.ensures.image;
       items = c.loop-call.invariant.items;
     }
 
@@ -19,6 +22,7 @@ pub returns-clause-image : goal.returns-clause-image
 returns-clause-image c =
     let first = c.args.self.now.first in
     let calls = take c.args.after c.args.self.now.calls in
-    let whole : take c.loop-call.call-index (take c.args.after c.deref-3.result.now) ≡ calls = take_all _ _ c.loop-call-test.false ∙ c.loop-call.invariant.items in
+    let whole : take c.loop-call.call-index (take c.args.after c.deref-3.result.now) ≡ calls =
+    take_all _ _ c.loop-call-test.false ∙ c.loop-call.invariant.items in
     let is = c.loop-call.invariant.kept ∙ ap (λ l. kept_after c.args.keep l first first) whole in
     subst (λ (b : List ℕ). IsImage first calls b) (sym is) (kept_is_image c.args.keep first calls)

@@ -7,4 +7,5 @@ pub invariant_of-self-2 : goal.invariant_of-self-2
 invariant_of-self-2 c =
     let first = c.self.inside.first.items in
     let calls = c.self.inside.calls.items in
-    c.self.invariant ∙ sym (ap (λ l. read_after l first) c.in_ok-push.ensures.items ∙ read_after-append calls c.args.call first ∙ c.requires (read_after calls first))
+    c.self.invariant ∙ sym (ap (λ l. read_after l first) c.in_ok-push.ensures.items
+    ∙ read_after-append calls c.args.call first ∙ c.requires (read_after calls first))

@@ -11,12 +11,16 @@ invariant_of-self-2 c =
     let first = c.self.inside.first.items in
     let calls = c.self.inside.calls.items in
     let call = Wrote c.args.place c.in_ok-kept.kept in
-    let pushed : c.push.new.self.items ≡ calls ++ call ∷ [] = (rw c.unwrap.ensures at c.push.ensures.items) ∙ ap (λ (l : List DiskCall). l ++ call ∷ []) c.in_ok-reserve.ensures.items in
+    let pushed : c.push.new.self.items ≡ calls ++ call ∷ [] =
+    (rw c.unwrap.ensures at c.push.ensures.items)
+    ∙ ap (λ (l : List DiskCall). l ++ call ∷ []) c.in_ok-reserve.ensures.items in
     ap (λ (f : List ℕ). content f c.write_over.new.written) (sym c.deref.ensures.value)
     ∙ c.in_ok-write_over.ensures.ok
-    ∙ ap (λ (f : List ℕ). overwritten (content f c.self.inside.written) c.args.place c.args.bytes.now) c.deref.ensures.value
+    ∙ ap (λ (f : List ℕ). overwritten
+    (content f c.self.inside.written) c.args.place c.args.bytes.now) c.deref.ensures.value
     ∙ ap (λ (o : List ℕ). overwritten o c.args.place c.args.bytes.now) c.self.invariant
-    ∙ ap (λ (b : List ℕ). overwritten (read_after calls first) c.args.place b) (sym c.in_ok-kept.ensures.items)
+    ∙ ap (λ (b : List ℕ). overwritten (read_after calls first) c.args.place b)
+    (sym c.in_ok-kept.ensures.items)
     ∙ sym (read_after-append calls call first)
     ∙ ap (λ (l : List DiskCall). read_after l first) (sym pushed)
 
@@ -25,6 +29,19 @@ returns-clause-ok c =
     let calls = c.self.inside.calls.items in
     let kept = c.in_ok-kept.kept in
     let call = Wrote c.args.place kept in
-    let pushed : c.push.new.self.items ≡ calls ++ call ∷ [] = (rw c.unwrap.ensures at c.push.ensures.items) ∙ ap (λ (l : List DiskCall). l ++ call ∷ []) c.in_ok-reserve.ensures.items in
-    let view : DiskLog = record { first = c.self.inside.first.items; calls = calls; fails = c.self.inside.fails.items; faults = c.self.inside.faults; asked = c.self.inside.asked } in
-    (kept, c.in_ok-kept.ensures.items, ap (λ (l : List DiskCall). record view { calls = l }) pushed ∙ ap (λ (v : DiskLog). record v { calls = v.calls ++ call ∷ [] }) c.self.view_is)
+    let pushed : c.push.new.self.items ≡ calls ++ call ∷ [] =
+    (rw c.unwrap.ensures at c.push.ensures.items)
+    ∙ ap (λ (l : List DiskCall). l ++ call ∷ []) c.in_ok-reserve.ensures.items in
+    let view : DiskLog = record {
+      first = c.self.inside.first.items;
+      calls = calls;
+      fails =
+          c.self.inside.fails.items;
+      faults = c.self.inside.faults;
+      asked = c.self.inside.asked;
+    } in (
+      kept,
+      c.in_ok-kept.ensures.items,
+      ap (λ (l : List DiskCall). record view { calls = l }) pushed
+          ∙ ap (λ (v : DiskLog). record v { calls = v.calls ++ call ∷ [] }) c.self.view_is,
+    )

@@ -11,7 +11,8 @@ len-tells c =
     let new = c.new.self.now in
     let step = stepped _ _ c.result old new c.ensures.made in
     record {
-      length = λ bytes told. subst (λ (b : List ℕ). IfOk c.result (λ count. count ≡ length b)) (told_same _ _ told) c.ensures.length;
+      length = λ bytes told. subst (λ (b : List ℕ). IfOk c.result (λ count. count ≡ length b))
+          (told_same _ _ told) c.ensures.length;
       reads = ap (λ (b : List ℕ). Some b) (reads_on _ old new looks step);
       images = looked_images old new step;
       time = goes_on _ old new step;
@@ -25,11 +26,16 @@ read_at-tells c =
     let new = c.new.self.now in
     let more = counted old.asked (length c.new.into.now) in
     let step = stepped _ _ c.result (record old { asked = more }) new c.ensures.made in
-    let asked : new.asked ≡ more = made_asked _ _ c.result (record old { asked = more }) new c.ensures.made in
+    let asked : new.asked ≡ more =
+    made_asked _ _ c.result (record old { asked = more }) new c.ensures.made in
     record {
       bound = search rules;
-      count = λ bytes told. subst (λ (b : List ℕ). IfOk c.result (λ count. count ≡ min (length c.new.into.now) (length b - c.args.place))) (told_same _ _ told) c.ensures.count;
-      bytes = λ bytes told. subst (λ (b : List ℕ). IfOk c.result (λ count. take count c.new.into.now ≡ take count (drop c.args.place b))) (told_same _ _ told) c.ensures.bytes;
+      count = λ bytes told. subst (λ (b : List ℕ). IfOk c.result
+          (λ count. count ≡ min (length c.new.into.now) (length b - c.args.place)))
+          (told_same _ _ told) c.ensures.count;
+      bytes = λ bytes told. subst (λ (b : List ℕ). IfOk c.result
+          (λ count. take count c.new.into.now ≡ take count (drop c.args.place b)))
+          (told_same _ _ told) c.ensures.bytes;
       reads = ap (λ (b : List ℕ). Some b) (reads_on _ (record old { asked = more }) new looks step);
       images = looked_images (record old { asked = more }) new step;
       time = goes_on _ (record old { asked = more }) new step;
@@ -44,7 +50,8 @@ write_at-tells c =
     let new = c.new.self.now in
     let step = stepped _ _ c.result old new c.ensures.made in
     record {
-      writes = λ there told. made_writes old new c.args.place c.args.bytes.now there (c.requires.within there told) told c.result c.ensures.made;
+      writes = λ there told. made_writes old new c.args.place c.args.bytes.now there
+          (c.requires.within there told) told c.result c.ensures.made;
       tells = refl;
       time = goes_on _ old new step;
       cause = made_counts _ _ c.result old new c.ensures.made;

@@ -12,8 +12,17 @@ returns-clause-step c =
     let slot = c.fill-count.new.slot in
     let piece = c.piece_in-piece.result in
     let size : length slot ≡ OLD_ROW_BYTES = c.fill-count.ensures.size in
-    let all : c.self.inside.filled + c.fill-count.result ≡ OLD_ROW_BYTES = omega (arith, c.fill-count.ensures.fits, c.if-self-count-lt-OLD_ROW_BYTES.false) in
-    let is = sym c.fill-count.ensures.filled ∙ ap (λ n. take n slot) all ∙ take_all OLD_ROW_BYTES slot (omega (arith, size)) in
-    let new = the_view (record { stage = c.stage_behind-self-inside.result; rows = c.rows_with-self-inside.result; slot = slot; filled = 0 }) in
+    let all : c.self.inside.filled + c.fill-count.result ≡ OLD_ROW_BYTES =
+    omega (arith, c.fill-count.ensures.fits, c.if-self-count-lt-OLD_ROW_BYTES.false) in
+    let is = sym c.fill-count.ensures.filled ∙ ap (λ n. take n slot) all
+    ∙ take_all OLD_ROW_BYTES slot (omega (arith, size)) in
+    let new = the_view
+    (record {
+      stage = c.stage_behind-self-inside.result;
+      rows = c.rows_with-self-inside.result;
+      slot = slot;
+      filled = 0;
+    }) in
     inr (subst (λ v. IsWhole v new part piece) c.self.view_is
-    (whole_by (the_view c.self.inside) slot part piece _ _ is size c.piece_in-piece.ensures c.stage_behind-self-inside.ensures c.rows_with-self-inside.ensures))
+    (whole_by (the_view c.self.inside) slot part piece _ _ is size c.piece_in-piece.ensures
+    c.stage_behind-self-inside.ensures c.rows_with-self-inside.ensures))

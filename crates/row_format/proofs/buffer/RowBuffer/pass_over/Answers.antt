@@ -4,7 +4,8 @@ use Rattle.row_format.proofs.buffer.RowBuffer.pass_over.Goals as goal
 
 -- src/buffer.rt:57:5
 pub invariant_of-self : goal.invariant_of-self
-invariant_of-self c = filled_further c.self.inside.place c.args.count c.self.inside.bytes c.self.invariant (search rules)
+invariant_of-self c = filled_further c.self.inside.place c.args.count c.self.inside.bytes
+    c.self.invariant (search rules)
 
 -- src/buffer.rt:57:5
 pub returns : goal.returns

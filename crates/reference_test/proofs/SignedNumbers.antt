@@ -16,7 +16,8 @@ pub record Computes (seen z : ℤ) (bound : ℕ) : Type 0 where
   pub near : unsigned_abs z ≤ bound
 
 -- a number that is read
-pub computes_read : (w : Width) (seen z : ℤ) (bound : ℕ) → bound < 2 ^ hbits w → seen ≡ z → unsigned_abs z ≤ bound → Computes (again w seen) z bound
+pub computes_read : (w : Width) (seen z : ℤ) (bound : ℕ) → bound < 2 ^ hbits w → seen ≡ z
+    → unsigned_abs z ≤ bound → Computes (again w seen) z bound
 computes_read w seen z bound fits same near =
     record {
       same = ap (λ t. to_z w (of_z w t)) same ∙ to_z-of_z w z (fits_signed_from_abs w z (omega arith));
@@ -24,26 +25,32 @@ computes_read w seen z bound fits same near =
     }
 
 -- a number that was computed, and is read again
-pub computes_again : (w : Width) (result : ℤ) {seen z : ℤ} {bound : ℕ} → bound < 2 ^ hbits w → result ≡ seen → Computes seen z bound → Computes (again w result) z bound
-computes_again w result {seen} {z} {bound} fits is x = computes_read w result z bound fits (is ∙ x.same) x.near
+pub computes_again : (w : Width) (result : ℤ) {seen z : ℤ} {bound : ℕ} → bound < 2 ^ hbits w
+    → result ≡ seen → Computes seen z bound → Computes (again w result) z bound
+computes_again w result {seen} {z} {bound} fits is x =
+    computes_read w result z bound fits (is ∙ x.same) x.near
 
-pub computes_product : (w : Width) {a' a b' b : ℤ} {m n : ℕ} → m * n < 2 ^ hbits w → Computes a' a m → Computes b' b n → Computes (again w (a' *ℤ b')) (a *ℤ b) (m * n)
+pub computes_product : (w : Width) {a' a b' b : ℤ} {m n : ℕ} → m * n < 2 ^ hbits w → Computes a' a m
+    → Computes b' b n → Computes (again w (a' *ℤ b')) (a *ℤ b) (m * n)
 computes_product w {a'} {a} {b'} {b} {m} {n} fits x y =
     computes_read w (a' *ℤ b') (a *ℤ b) (m * n) fits (ap (λ t. t *ℤ b') x.same ∙ ap (λ t. a *ℤ t) y.same)
     (rw (unsigned_abs-mul a b) (mul-le-mul x.near y.near))
 
-pub computes_difference : (w : Width) {a' a b' b : ℤ} {m n : ℕ} → m + n < 2 ^ hbits w → Computes a' a m → Computes b' b n → Computes (again w (a' -ℤ b')) (a -ℤ b) (m + n)
+pub computes_difference : (w : Width) {a' a b' b : ℤ} {m n : ℕ} → m + n < 2 ^ hbits w
+    → Computes a' a m → Computes b' b n → Computes (again w (a' -ℤ b')) (a -ℤ b) (m + n)
 computes_difference w {a'} {a} {b'} {b} {m} {n} fits x y =
     computes_read w (a' -ℤ b') (a -ℤ b) (m + n) fits (ap (λ t. t -ℤ b') x.same ∙ ap (λ t. a -ℤ t) y.same)
     (omega (arith, ints, x.near, y.near))
 
-pub computes_sum : (w : Width) {a' a b' b : ℤ} {m n : ℕ} → m + n < 2 ^ hbits w → Computes a' a m → Computes b' b n → Computes (again w (a' +ℤ b')) (a +ℤ b) (m + n)
+pub computes_sum : (w : Width) {a' a b' b : ℤ} {m n : ℕ} → m + n < 2 ^ hbits w → Computes a' a m
+    → Computes b' b n → Computes (again w (a' +ℤ b')) (a +ℤ b) (m + n)
 computes_sum w {a'} {a} {b'} {b} {m} {n} fits x y =
     computes_read w (a' +ℤ b') (a +ℤ b) (m + n) fits (ap (λ t. t +ℤ b') x.same ∙ ap (λ t. a +ℤ t) y.same)
     (omega (arith, ints, x.near, y.near))
 
 -- a product fits
-pub fits-product : (w : Width) {a' a b' b : ℤ} {m n : ℕ} → m * n < 2 ^ hbits w → Computes a' a m → Computes b' b n → FitsSigned w (a' *ℤ b')
+pub fits-product : (w : Width) {a' a b' b : ℤ} {m n : ℕ} → m * n < 2 ^ hbits w → Computes a' a m
+    → Computes b' b n → FitsSigned w (a' *ℤ b')
 fits-product w {a'} {a} {b'} {b} {m} {n} fits x y =
     let same : a' *ℤ b' ≡ a *ℤ b = ap (λ t. t *ℤ b') x.same ∙ ap (λ t. a *ℤ t) y.same in
     let le : unsigned_abs a * unsigned_abs b ≤ m * n = mul-le-mul x.near y.near in
@@ -51,7 +58,8 @@ fits-product w {a'} {a} {b'} {b} {m} {n} fits x y =
     rw same (fits_signed_from_abs w (a *ℤ b) (omega arith))
 
 -- a difference fits
-pub fits-difference : (w : Width) {a' a b' b : ℤ} {m n : ℕ} → m + n < 2 ^ hbits w → Computes a' a m → Computes b' b n → FitsSigned w (a' -ℤ b')
+pub fits-difference : (w : Width) {a' a b' b : ℤ} {m n : ℕ} → m + n < 2 ^ hbits w → Computes a' a m
+    → Computes b' b n → FitsSigned w (a' -ℤ b')
 fits-difference w {a'} {a} {b'} {b} {m} {n} fits x y =
     let same : a' -ℤ b' ≡ a -ℤ b = ap (λ t. t -ℤ b') x.same ∙ ap (λ t. a -ℤ t) y.same in
     let near : unsigned_abs (a -ℤ b) ≤ m + n = omega (arith, ints, x.near, y.near) in

@@ -1,0 +1,108 @@
+use crate::books::long_run;
+use crate::stores::{Told, read_answer};
+use book_store::{OneCaller, Store};
+use book_words::{Act, Ask, Caller, Entry, Question, Want};
+use disk_core::{Disk, MemoryDisk};
+use std::alloc::{AllocError, Global};
+use std::test::Fail;
+
+const FIRST: u16 = 3;
+
+const SECOND: u16 = 7;
+
+// What a caller is told of the first act, of a question, and twice of the second act as another
+// caller; how many faults it was answered; and whose the two rows are.
+#[derive(Clone, Copy, PartialEq, Eq)]
+struct Spoken {
+    told: [Told; 4],
+    faults: u64,
+    by: [Option<u16>; 2],
+    rows: u32,
+}
+
+const BY: [Option<u16>; 2] = [Some(FIRST), Some(SECOND)];
+
+// Mounting makes four calls and each act four: call 9 writes the second row. Behind its row an act
+// is refused, since the product is known.
+const CASES: [(&[u32], Spoken); 2] = [
+    (
+        &[],
+        Spoken {
+            told: [
+                Told::Row(1, None),
+                Told::View,
+                Told::Row(2, None),
+                Told::Refused,
+            ],
+            faults: 0,
+            by: BY,
+            rows: 2,
+        },
+    ),
+    (
+        &[9],
+        Spoken {
+            told: [
+                Told::Row(1, None),
+                Told::View,
+                Told::DiskFault,
+                Told::Row(2, None),
+            ],
+            faults: 1,
+            by: BY,
+            rows: 2,
+        },
+    ),
+];
+
+fn asked(want: Want) -> Ask {
+    Ask {
+        desk: 0,
+        request: 0,
+        want,
+    }
+}
+
+// Asks two acts and a question.
+fn speak<D: Disk>(caller: &mut OneCaller<D>, first: Act, second: Act) -> Spoken {
+    let one = read_answer(&caller.ask(&asked(Want::Act(first))));
+    let view = read_answer(&caller.ask(&asked(Want::Question(Question::Summary))));
+    caller.turn(SECOND);
+    let two = read_answer(&caller.ask(&asked(Want::Act(second))));
+    let again = read_answer(&caller.ask(&asked(Want::Act(second))));
+    let store = caller.store();
+    Spoken {
+        told: [one, view, two, again],
+        faults: caller.faults(),
+        by: [
+            store.entry(1).map(|entry| entry.by),
+            store.entry(2).map(|entry| entry.by),
+        ],
+        rows: 0,
+    }
+}
+
+// The same over an empty disk of which these calls fail. The store that is given back has the rows.
+fn speak_over(
+    alloc: Global,
+    fails: &[u32],
+    entries: &[Entry; 20],
+) -> Result<Option<Spoken>, AllocError> {
+    let disk = MemoryDisk::new(alloc, Vec::new(alloc), Vec::from_slice(alloc, fails)?);
+    let Ok(store) = Store::mount(alloc, disk, 2) else {
+        return Ok(None);
+    };
+    let mut caller = OneCaller::new(store, FIRST);
+    let spoken = speak(&mut caller, entries[0].act, entries[1].act);
+    let rows = caller.back().len();
+    Ok(Some(Spoken { rows, ..spoken }))
+}
+
+#[test]
+fn one_caller_and_its_faults(rt: HostRuntime) -> Result<(), Fail> {
+    let entries = long_run()?;
+    for (fails, wanted) in &CASES {
+        assert!(rt; speak_over(rt.alloc(), fails, &entries)? == Some(*wanted));
+    }
+    Ok(())
+}
