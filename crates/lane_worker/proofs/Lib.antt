@@ -1,0 +1,6 @@
+mod AddedRows
+mod AskOrder
+mod GivenItems
+mod OpenedPacks
+mod RightReplies
+mod WorkSteps
