@@ -1,5 +1,5 @@
 -- The rows that a caller adds, with one ask more.
-use Rattle.std.proofs.Common.{◌≡◌, ℕ, zero, suc, ◌+◌, ◌-◌, ◌<◌, ◌≤◌, min, List, [], ◌∷◌, ◌++◌, length, slice_get, Option, Some, None, Result, Ok, Err, refl, sym, ◌∙◌, ap, subst, arith, append_assoc, append-nil, length-append}
+use Rattle.std.proofs.Common.{◌≡◌, ℕ, zero, suc, ◌+◌, ◌-◌, ◌<◌, ◌≤◌, min, List, [], ◌∷◌, ◌++◌, length, slice_get, Option, Some, None, Result, Ok, Err, OnOk, refl, sym, ◌∙◌, ap, subst, arith, append_assoc, append-nil, length-append}
 use Rattle.std.proofs.lemmas.Option.{none-some, slice_get_within}
 use Rattle.std.specs.List.{cons_option}
 use Rattle.std.specs.Option.{option_map}
@@ -247,3 +247,8 @@ faults_broken was mid now ask why calm asked =
     let counts : now.faults ≡ min (mid.faults + faults_at (stop_at why)) FAULTS_END =
         asked.faults ∙ ap (λ n. min (mid.faults + n) FAULTS_END) (told_at why) in
     omega (arith, calm, counts)
+
+-- an act that is taken down makes the list longer
+pub grows_if : (mid now : Known) (act : Act) (given : Result Answered AskError) → IsAsked mid now (act_ask act) given → OnOk given (length mid.seen < length now.seen)
+grows_if mid now act (Ok answered) asked = let taken = act_is_taken mid now act answered asked in omega (arith, taken.newer, taken.least)
+grows_if mid now act (Err why) asked = tt

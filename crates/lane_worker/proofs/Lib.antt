@@ -2,5 +2,6 @@ mod AddedRows
 mod AskOrder
 mod GivenItems
 mod OpenedPacks
+mod ReadLines
 mod RightReplies
 mod WorkSteps

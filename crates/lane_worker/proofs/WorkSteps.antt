@@ -1,6 +1,6 @@
 -- How the work of a lane goes on with each ask, each item of the cell and each call of the gate, and
 -- how it comes to its end.
-use Rattle.std.proofs.Common.{◌≡◌, inl, inr, ℕ, ℤ, ◌+◌, ◌<◌, min, true, false, List, [], ◌∷◌, ◌++◌, length, drop, Option, Some, None, Result, Ok, Err, refl, sym, ◌∙◌, ap, subst, arith, append_assoc, append-nil, length-append, cond}
+use Rattle.std.proofs.Common.{◌≡◌, inl, inr, ℕ, ℤ, ◌+◌, ◌<◌, min, true, false, List, [], ◌∷◌, ◌++◌, length, drop, Option, IfSome, Some, None, Result, Ok, Err, refl, sym, ◌∙◌, ap, subst, arith, append_assoc, append-nil, length-append, cond}
 use Rattle.std.specs.List.{cons_option}
 use Rattle.device_facts.specs.Count.{Counted}
 use Rattle.device_facts.specs.Prefix.{IsPrefixOf}
@@ -27,7 +27,7 @@ use Rattle.lane_worker.specs.declared.ending.Ending.TheVariants as ends
 use Rattle.lane_worker.specs.declared.ending.Ending.TheVariants.{CellFailed, GateFailed}
 use Rattle.lane_worker.specs.declared.progress.Progress.{Progress}
 use Rattle.lane_worker.specs.Asks.{act_ask, lane_ask, stop_found, is_among, prior_behind, weighing_asks, starting_asks, stopping_asks, passed_pack, passed_packs, work_asks}
-use Rattle.lane_worker.specs.Gates.{with_packs}
+use Rattle.lane_worker.specs.Gates.{with_packs, HasPassed}
 use Rattle.lane_worker.specs.Replies.{pack_told}
 use Rattle.lane_worker.specs.Endings.{stop_by, stop_at, faults_at, last_items, cell_failed, gate_failed, FailsIf}
 use Rattle.lane_worker.specs.Works.{Site, Work, HasAdded, HasGiven, AreOpened, HasOpened, Finishes, BreaksOff, asks_of_work, IsWork}
@@ -36,7 +36,7 @@ use Rattle.lane_worker.proofs.RightReplies.{weighing_told, passed_row}
 use Rattle.lane_worker.proofs.AddedRows.{IsTaken, IsLost, added_row, added_none, nothing_added, calm_more, faults_finished, faults_broken, prefix_itself}
 use Rattle.lane_worker.proofs.AskOrder.{asks_more, course_weighed, course_opened, course_started, next_weighing, next_stop}
 use Rattle.lane_worker.proofs.GivenItems.{given_gross, given_last, given_none, given_same, given_to_gate}
-use Rattle.lane_worker.proofs.OpenedPacks.{packs_more, packs_none, passed_push, fresh_more, says_nothing, says_opened, says_stayed}
+use Rattle.lane_worker.proofs.OpenedPacks.{packs_more, packs_none, passed_push, fresh_more, says_nothing, says_opened, says_stayed, holds_passed}
 
 -- ---- the end
 
@@ -251,6 +251,17 @@ weighed Before Reached was mid at now lane batch gross progress answered weighs 
       new = is.fresh row.number taken.newer;
       least = taken.least;
     }
+
+-- the pack that is told to have passed is among the caller's own rows
+pub if_passed : (mid now : Known) (lane : ℕ) (gross : ℤ) (prior : Prior) (answered : Answered) → IsTaken mid now (Weigh lane gross prior) answered → IfSome (pack_told answered.reply) (HasPassed now.mine)
+if_passed mid now lane gross prior answered taken = by_pack (pack_told answered.reply) told
+  where
+    told : passed_pack taken.row ≡ pack_told answered.reply
+    told = sym (ap pack_told taken.told ∙ weighing_told taken.before lane gross prior taken.row taken.number taken.signal)
+
+    by_pack : (pack : Option ℕ) → passed_pack taken.row ≡ pack → IfSome pack (HasPassed now.mine)
+    by_pack None is = tt
+    by_pack (Some pack) is = holds_passed now.mine mid.mine taken.row lane gross prior pack taken.mine taken.act_is is
 
 -- ---- the gate
 

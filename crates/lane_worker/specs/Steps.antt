@@ -1,7 +1,7 @@
 -- How a worker goes on: where it stands, said from the begin of its work.
-use Rattle.std.specs.Prelude.{◌≡◌, ⊤, ℕ, ℤ, ◌<◌, ◌≤◌, min, List, [], ◌∷◌, ◌++◌, length, map, Option, option_map, Some, None, Result, Ok, Err}
+use Rattle.std.specs.Prelude.{◌≡◌, ⊤, ℕ, ℤ, ◌<◌, ◌≤◌, min, false, List, [], ◌∷◌, ◌++◌, length, map, Option, option_map, Some, None, Result, Ok, Err}
 use Rattle.std.specs.List.{cons_option}
-use Rattle.device_facts.specs.Prefix.{IsPrefixOf}
+use Rattle.hall_limits.specs.declared.TheConstants.{MAX_ROWS}
 use Rattle.book_words.specs.declared.name.Name.{Name}
 use Rattle.book_words.specs.declared.act.Ask.{Ask}
 use Rattle.book_words.specs.declared.act.Entry.{Entry}
@@ -137,5 +137,5 @@ GoesTo Reached was now lane batch (Err why) progress =
 
 -- a weighing that goes on has added a row, and no more stand than a book may have
 abbrev pub HasRoom : Option Ending → List Entry → List Entry → Type 0
-HasRoom None was now = length was < length now
+HasRoom None was now = (length was < length now) × (length now ≤ MAX_ROWS)
 HasRoom (Some ending) was now = Unit {0}

@@ -47,6 +47,7 @@ impl HeldLines {
         ensures end { IfOk result (λ end. S.ended source.new ≡ end) }
         ensures unended { OnErr result (S.ended source.new ≡ false) }
         ensures grows { IfOk result (λ end. end ≡ false → self.old.count < self.new.count) }
+        ensures kept { self.old.count ≤ self.new.count }
     {
         let count = source.read(&mut self.bytes[self.count..])?;
         self.count += count;
