@@ -65,8 +65,7 @@ stand_more : (entries others : List Entry) (by number : ℕ) (rows : List Row) (
     → number ≤ length entries → length entries < row.number → slice_get others (row.number - 1) ≡ Some row.entry → row.entry.by ≡ by → StandBehind others by number (rows ++ row ∷ [])
 stand_more entries others by number [] row begins h few new at own = (omega (arith, few, new), at, own, tt)
 stand_more entries others by number (r ∷ rs) row begins h few new at own =
-    let inside = slice_get_within entries (r.number - 1) r.entry h.1 in
-    (
+    let inside = slice_get_within entries (r.number - 1) r.entry h.1 in (
       h.0,
       subst (λ (es : List Entry). slice_get es (r.number - 1) ≡ Some r.entry) (sym begins.1) (at_longer entries begins.0 (r.number - 1) r.entry h.1),
       h.2,
@@ -101,9 +100,9 @@ taken_in mid now act answered has =
     let row = row_of mid before act in
     let taken = act_taken mid.limit mid.by before act answered has.right.answered in
     let parts : now.seen ≡ before ++ row.entry ∷ after =
-        has.right.parts ∙ ap (λ (o : Option Entry). before ++ cons_option o after) taken.0 in
+    has.right.parts ∙ ap (λ (o : Option Entry). before ++ cons_option o after) taken.0 in
     let mine : now.mine ≡ mid.mine ++ row ∷ [] =
-        has.mine ∙ ap (λ (o : Option Entry). mid.mine ++ cons_option (option_map (λ (entry : Entry). record { number = length before + 1; entry = entry }) o) []) taken.0 in
+    has.mine ∙ ap (λ (o : Option Entry). mid.mine ++ cons_option (option_map (λ (entry : Entry). record { number = length before + 1; entry = entry }) o) []) taken.0 in
     let one : (length before + 1) - 1 ≡ length before = omega arith in
     let seen : length mid.seen ≤ length before = prefix_short mid.seen before (has.unseen, has.grows) in
     record {
@@ -144,7 +143,7 @@ lost_in mid now ask refused has none limit by =
       begins = (
         has.unseen ++ right.after,
         right.parts ∙ ap (λ (o : Option Entry). right.before ++ cons_option o right.after) none
-        ∙ ap (λ (es : List Entry). es ++ right.after) has.grows ∙ append_assoc mid.seen has.unseen right.after,
+            ∙ ap (λ (es : List Entry). es ++ right.after) has.grows ∙ append_assoc mid.seen has.unseen right.after,
       );
       mine = has.mine ∙ ap (λ (o : Option Entry). mid.mine ++ cons_option (option_map (λ (entry : Entry). record { number = length right.before + 1; entry = entry }) o) []) none ∙ append-nil mid.mine;
       refused = subst (λ (n : ℕ). IsRight n now.by now.seen ask (Err refused)) (sym limit) (subst (λ (n : ℕ). IsRight mid.limit n now.seen ask (Err refused)) (sym by) right);
@@ -245,7 +244,7 @@ told_at error.NoMemory = refl
 pub faults_broken : (was mid now : Known) (ask : Ask) (why : AskError) → IsCalm was mid → IsAsked mid now ask (Err why) → now.faults ≡ min (was.faults + faults_at (stop_at why)) FAULTS_END
 faults_broken was mid now ask why calm asked =
     let counts : now.faults ≡ min (mid.faults + faults_at (stop_at why)) FAULTS_END =
-        asked.faults ∙ ap (λ n. min (mid.faults + n) FAULTS_END) (told_at why) in
+    asked.faults ∙ ap (λ n. min (mid.faults + n) FAULTS_END) (told_at why) in
     omega (arith, calm, counts)
 
 -- an act that is taken down makes the list longer

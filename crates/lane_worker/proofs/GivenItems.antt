@@ -31,7 +31,7 @@ gave_next was mid now grosses item given takes =
 pub given_gross : (was mid now : Site) (grosses : List ℤ) (gross : ℤ) → HasGiven was mid grosses None → TakesItem mid now (Gross gross) → HasGiven was now (grosses ++ gross ∷ []) None
 given_gross was mid now grosses gross given takes =
     let parts : gross_items grosses ++ Gross gross ∷ [] ≡ gross_items (grosses ++ gross ∷ []) ++ [] =
-        sym (map-append (λ (g : ℤ). Gross g) grosses (gross ∷ [])) ∙ sym (append-nil (gross_items (grosses ++ gross ∷ []))) in
+    sym (map-append (λ (g : ℤ). Gross g) grosses (gross ∷ [])) ∙ sym (append-nil (gross_items (grosses ++ gross ∷ []))) in
     record {
       items = subst (λ (items : List CellNext). Gave was.left items now.left) parts (gave_next was mid now grosses (Gross gross) given takes);
       faults = takes.cell ∙ given.faults;

@@ -142,9 +142,9 @@ start_breaks Before Reached devices was mid now lane batch found seen why is sto
     let next = act_ask (StartLane lane batch) in
     let work : Work = record { asked = seen; rows = rows; grosses = []; opened = []; ending = None; answered = lane_ask lane ∷ row_asks rows } in
     let order : stopping_asks lane batch (stop_found (lane_view seen lane)) [] [] rows ≡ row_asks rows ++ next ∷ [] =
-        ap (λ (f : Option Prior). stopping_asks lane batch f [] [] rows) is
-        ∙ ap (λ (rs : List Row). stopping_asks lane batch found [] [] rs) (sym (append-nil rows))
-        ∙ stopped.course [] [] [] in
+    ap (λ (f : Option Prior). stopping_asks lane batch f [] [] rows) is
+    ∙ ap (λ (rs : List Row). stopping_asks lane batch found [] [] rs) (sym (append-nil rows))
+    ∙ stopped.course [] [] [] in
     breaks Reached (with_caller devices was) (with_caller devices now) mid lane batch work 0 next why
     stopped.added stopped.calm (record { items = refl; faults = refl }) (record { grows = packs_none devices.opened; passed = stopped.passed; faults = refl }) refl refl asked lost
     (ask_follows (lane_ask lane ∷ row_asks rows) (asks_of_work lane batch work) next (ap (λ (asks : List Ask). lane_ask lane ∷ asks) order)) later
@@ -159,7 +159,7 @@ starts Before Reached devices was mid now lane batch found seen answered is stop
     let rows = stopped.rows ++ taken.row ∷ [] in
     let none : passed_pack taken.row ≡ None = no_pack taken.row taken.signal in
     let asks : row_asks rows ≡ row_asks stopped.rows ++ act_ask (StartLane lane batch) ∷ [] =
-        asks_more stopped.rows taken.row ∙ ap (λ (a : Ask). row_asks stopped.rows ++ a ∷ []) taken.asks in
+    asks_more stopped.rows taken.row ∙ ap (λ (a : Ask). row_asks stopped.rows ++ a ∷ []) taken.asks in
     record {
       done = record { asked = seen; rows = rows; grosses = []; opened = []; ending = None; answered = lane_ask lane ∷ row_asks rows };
       last = taken.row;
@@ -202,8 +202,8 @@ weighing_breaks Before Reached was mid at now lane batch gross progress why weig
     let passed : passed_packs done.rows ≡ done.opened = is.passed ∙ append-nil done.opened in
     let calm : mid.gate_faults ≡ was.gate_faults = subst (λ (e : Option Ending). FailsIf (gate_failed e) was.gate_faults mid.gate_faults) weighs.unended is.gate in
     let order : asks_of_work lane batch work ≡ done.answered ++ next ∷ [] =
-        ap (λ (asks : List Ask). lane_ask lane ∷ asks) (next_weighing lane batch (stop_found (lane_view done.asked lane)) done.opened done.grosses done.rows weighs.last gross progress.prior weighs.prior is.course)
-        ∙ ap (λ (asks : List Ask). asks ++ next ∷ []) (sym is.answered) in
+    ap (λ (asks : List Ask). lane_ask lane ∷ asks) (next_weighing lane batch (stop_found (lane_view done.asked lane)) done.opened done.grosses done.rows weighs.last gross progress.prior weighs.prior is.course)
+    ∙ ap (λ (asks : List Ask). asks ++ next ∷ []) (sym is.answered) in
     breaks Reached was (with_caller at now) mid.caller lane batch work progress.opened next why
     is.added is.calm
     (subst (λ (e : Option Ending). HasGiven was (with_caller at now) work.grosses e) (sym weighs.unended) (given_gross was mid (with_caller at now) done.grosses gross given (takes_with mid at now (Gross gross) takes)))
@@ -225,10 +225,10 @@ weighed Before Reached was mid at now lane batch gross progress answered weighs 
     let rows = done.rows ++ row ∷ [] in
     let given : HasGiven was mid done.grosses None = subst (λ (e : Option Ending). HasGiven was mid done.grosses e) weighs.unended is.given in
     let told : passed_pack row ≡ pack_told answered.reply =
-        sym (ap pack_told taken.told ∙ weighing_told taken.before lane gross progress.prior row taken.number taken.signal) in
+    sym (ap pack_told taken.told ∙ weighing_told taken.before lane gross progress.prior row taken.number taken.signal) in
     let all : lane_ask lane ∷ row_asks rows ≡ done.answered ++ act_ask act ∷ [] =
-        ap (λ (asks : List Ask). lane_ask lane ∷ asks) (asks_more done.rows row ∙ ap (λ (a : Ask). row_asks done.rows ++ a ∷ []) taken.asks)
-        ∙ ap (λ (asks : List Ask). asks ++ act_ask act ∷ []) (sym is.answered) in
+    ap (λ (asks : List Ask). lane_ask lane ∷ asks) (asks_more done.rows row ∙ ap (λ (a : Ask). row_asks done.rows ++ a ∷ []) taken.asks)
+    ∙ ap (λ (asks : List Ask). asks ++ act_ask act ∷ []) (sym is.answered) in
     let packs : passed_packs done.rows ≡ done.opened = is.passed ∙ append-nil done.opened in
     record {
       done = record done { rows = rows; grosses = done.grosses ++ gross ∷ []; answered = lane_ask lane ∷ row_asks rows };
@@ -431,12 +431,12 @@ last_stop Before Reached was mid now lane batch ending progress answered has ask
     let stop = act_ask (StopLane lane progress.prior) in
     let rows = done.rows ++ row ∷ [] in
     let asks : row_asks rows ≡ row_asks done.rows ++ stop ∷ [] =
-        asks_more done.rows row ∙ ap (λ (a : Ask). row_asks done.rows ++ a ∷ []) taken.asks in
+    asks_more done.rows row ∙ ap (λ (a : Ask). row_asks done.rows ++ a ∷ []) taken.asks in
     let whole : asks_of_work lane batch (record done { rows = rows }) ≡ lane_ask lane ∷ row_asks rows =
-        ap (λ (all : List Ask). lane_ask lane ∷ all)
-        (next_stop lane batch (stop_found (lane_view done.asked lane)) done.opened done.grosses done.rows (row ∷ []) has.last progress.prior has.prior is.course ∙ sym asks) in
+    ap (λ (all : List Ask). lane_ask lane ∷ all)
+    (next_stop lane batch (stop_found (lane_view done.asked lane)) done.opened done.grosses done.rows (row ∷ []) has.last progress.prior has.prior is.course ∙ sym asks) in
     let all : lane_ask lane ∷ row_asks rows ≡ done.answered ++ stop ∷ [] =
-        ap (λ (a : List Ask). lane_ask lane ∷ a) asks ∙ ap (λ (a : List Ask). a ++ stop ∷ []) (sym is.answered) in
+    ap (λ (a : List Ask). lane_ask lane ∷ a) asks ∙ ap (λ (a : List Ask). a ++ stop ∷ []) (sym is.answered) in
     finishes Reached was (with_caller mid now) mid.caller lane batch done row progress.opened ending stop answered
     (added_row was.caller mid.caller now done.asked done.rows (StopLane lane progress.prior) answered is.added asked taken)
     is.calm (record { items = is.given.items; faults = is.given.faults })
@@ -458,9 +458,9 @@ last_stop_breaks Before Reached was mid now lane batch ending progress why has a
     let is = has.weighing in
     let stop = act_ask (StopLane lane progress.prior) in
     let order : asks_of_work lane batch done ≡ done.answered ++ stop ∷ [] =
-        ap (λ (rs : List Row). asks_of_work lane batch (record done { rows = rs })) (sym (append-nil done.rows))
-        ∙ ap (λ (asks : List Ask). lane_ask lane ∷ asks) (next_stop lane batch (stop_found (lane_view done.asked lane)) done.opened done.grosses done.rows [] has.last progress.prior has.prior is.course)
-        ∙ ap (λ (asks : List Ask). asks ++ stop ∷ []) (sym is.answered) in
+    ap (λ (rs : List Row). asks_of_work lane batch (record done { rows = rs })) (sym (append-nil done.rows))
+    ∙ ap (λ (asks : List Ask). lane_ask lane ∷ asks) (next_stop lane batch (stop_found (lane_view done.asked lane)) done.opened done.grosses done.rows [] has.last progress.prior has.prior is.course)
+    ∙ ap (λ (asks : List Ask). asks ++ stop ∷ []) (sym is.answered) in
     breaks Reached was (with_caller mid now) mid.caller lane batch done progress.opened stop why
     is.added is.calm (record { items = is.given.items; faults = is.given.faults })
     (record {

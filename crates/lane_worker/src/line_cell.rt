@@ -49,6 +49,13 @@ impl<S: Source> LineCell<S> {
         }
     }
 
+    /// The source, to be looked at.
+    pub fn source(&self) -> &S
+        ensures { result.now ≡ self.now.reader }
+    {
+        &self.source
+    }
+
     // Reads until the next item is known, and takes it.
     fn next_item(&mut self) -> Result<CellNext, Failed>
         ensures { self.new.faults ≡ self.old.faults }

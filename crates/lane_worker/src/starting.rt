@@ -23,7 +23,13 @@ fn stop_found<C: Caller>(
         number batch.now found asked result }
 {
     if let Some(prior) = found {
-        ask_act(caller, Act::StopLane { lane: number, prior })?;
+        ask_act(
+            caller,
+            Act::StopLane {
+                lane: number,
+                prior,
+            },
+        )?;
     }
     Ok(())
 }
@@ -39,6 +45,12 @@ pub(crate) fn start_lane<C: Caller>(caller: &mut C, number: u8, batch: Name) -> 
 {
     let answered = ask_lane(caller, number)?;
     stop_found(caller, number, &batch, stop_told(&answered.reply))?;
-    ask_act(caller, Act::StartLane { lane: number, batch })?;
+    ask_act(
+        caller,
+        Act::StartLane {
+            lane: number,
+            batch,
+        },
+    )?;
     Ok(())
 }

@@ -47,7 +47,12 @@ fn work_lane<C: Caller, L: Lane>(
 ///
 /// It ends where the cell gives its end, or something that isn't a weight, or has reached its bound;
 /// where the cell or the gate fails; and where the book doesn't answer. It takes no memory.
-pub fn run_lane<C: Caller, L: Lane>(caller: &mut C, lane: &mut L, number: u8, batch: Name) -> LaneEnd
+pub fn run_lane<C: Caller, L: Lane>(
+    caller: &mut C,
+    lane: &mut L,
+    number: u8,
+    batch: Name,
+) -> LaneEnd
     ensures works { IsWork (C.later caller.old caller.new)
         (site C.Caller L.Cell L.Gate caller.old lane.old)
         (site C.Caller L.Cell L.Gate caller.new lane.new) number batch result }

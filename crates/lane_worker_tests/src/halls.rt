@@ -19,12 +19,12 @@ pub(crate) type Hall = OneCaller<MemoryDisk>;
 /// What a worker is given: the number of its lane and its batch, the items of its cell, and which
 /// calls of the cell and of the gate fail.
 #[derive(Clone, Copy)]
-pub(crate) struct Given {
+pub(crate) struct Given<'g> {
     pub(crate) number: u8,
-    pub(crate) batch: &'static [u8],
-    pub(crate) items: &'static [CellNext],
-    pub(crate) cell_fails: &'static [u32],
-    pub(crate) gate_fails: &'static [u32],
+    pub(crate) batch: &'g [u8],
+    pub(crate) items: &'g [CellNext],
+    pub(crate) cell_fails: &'g [u32],
+    pub(crate) gate_fails: &'g [u32],
 }
 
 // The opening acts. A gross of 251 g or more is a good pack of 250 g in a package of 10 g, and one

@@ -10,7 +10,7 @@ use CellNext::{Bad, End, Gross, Spent};
 // packs, the book then has so many rows, and the last of them says this of the gate. The cell gives
 // this item next.
 struct Case {
-    given: Given,
+    given: Given<'static>,
     disk_fails: &'static [u32],
     stop: LaneStop,
     opened: &'static [u32],
@@ -19,7 +19,7 @@ struct Case {
     next: CellNext,
 }
 
-const LANE: Given = Given {
+const LANE: Given<'static> = Given {
     number: 1,
     batch: b"A",
     items: &[],
