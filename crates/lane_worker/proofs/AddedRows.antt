@@ -19,7 +19,7 @@ use Rattle.book_words.specs.Views.{lane_view}
 use Rattle.lane_worker.specs.Asks.{act_ask, lane_ask, stop_found}
 use Rattle.lane_worker.specs.Replies.{stop_told}
 use Rattle.lane_worker.specs.Endings.{stop_at, faults_at}
-use Rattle.lane_worker.specs.Works.{StandBehind, HasAdded, IsRefused}
+use Rattle.lane_worker.specs.Works.{StandBehind, HasAdded}
 use Rattle.lane_worker.specs.Steps.{IsCalm}
 use Rattle.lane_worker.proofs.RightReplies.{act_taken, act_refused, lane_told}
 
@@ -129,15 +129,13 @@ act_is_taken mid now act answered asked = taken_in mid now act answered asked.sa
 
 -- ---- an ask that isn't answered
 
--- a caller got nothing new but what it has seen
-pub record IsLost (mid now : Known) (ask : Ask) (why : AskError) : Type 0 where
+-- a caller has nothing new but what it has seen
+pub record IsLost (mid now : Known) : Type 0 where
   pub begins : IsPrefixOf mid.seen now.seen
   pub mine : now.mine ≡ mid.mine
-  pub refused : IsRefused now why ask
 
-lost_in : (mid now : Known) (ask : Ask) (refused : Refused) → (has : HasAnswer mid now ask (Err refused)) → added mid.limit has.right.before mid.by ask ≡ None
-    → now.limit ≡ mid.limit → now.by ≡ mid.by → IsLost mid now ask (error.Refused refused)
-lost_in mid now ask refused has none limit by =
+lost_in : (mid now : Known) (ask : Ask) (refused : Refused) → (has : HasAnswer mid now ask (Err refused)) → added mid.limit has.right.before mid.by ask ≡ None → IsLost mid now
+lost_in mid now ask refused has none =
     let right = has.right in
     record {
       begins = (
@@ -146,20 +144,19 @@ lost_in mid now ask refused has none limit by =
             ∙ ap (λ (es : List Entry). es ++ right.after) has.grows ∙ append_assoc mid.seen has.unseen right.after,
       );
       mine = has.mine ∙ ap (λ (o : Option Entry). mid.mine ++ cons_option (option_map (λ (entry : Entry). record { number = length right.before + 1; entry = entry }) o) []) none ∙ append-nil mid.mine;
-      refused = subst (λ (n : ℕ). IsRight n now.by now.seen ask (Err refused)) (sym limit) (subst (λ (n : ℕ). IsRight mid.limit n now.seen ask (Err refused)) (sym by) right);
     }
 
-pub act_is_lost : (mid now : Known) (act : Act) (why : AskError) → IsAsked mid now (act_ask act) (Err why) → IsLost mid now (act_ask act) why
+pub act_is_lost : (mid now : Known) (act : Act) (why : AskError) → IsAsked mid now (act_ask act) (Err why) → IsLost mid now
 act_is_lost mid now act (error.Refused refused) asked =
     let has : HasAnswer mid now (act_ask act) (Err refused) = asked.says in
-    lost_in mid now (act_ask act) refused has (act_refused mid.limit mid.by has.right.before act refused has.right.answered) asked.limit asked.by
-act_is_lost mid now act error.DiskFault asked = record { begins = (asked.says.0.unseen, asked.says.0.grows); mine = asked.says.0.mine; refused = tt }
-act_is_lost mid now act error.NoMemory asked = record { begins = (asked.says.0.unseen, asked.says.0.grows); mine = asked.says.0.mine; refused = tt }
+    lost_in mid now (act_ask act) refused has (act_refused mid.limit mid.by has.right.before act refused has.right.answered)
+act_is_lost mid now act error.DiskFault asked = record { begins = (asked.says.0.unseen, asked.says.0.grows); mine = asked.says.0.mine }
+act_is_lost mid now act error.NoMemory asked = record { begins = (asked.says.0.unseen, asked.says.0.grows); mine = asked.says.0.mine }
 
-pub question_is_lost : (mid now : Known) (lane : ℕ) (why : AskError) → IsAsked mid now (lane_ask lane) (Err why) → IsLost mid now (lane_ask lane) why
-question_is_lost mid now lane (error.Refused refused) asked = lost_in mid now (lane_ask lane) refused asked.says refl asked.limit asked.by
-question_is_lost mid now lane error.DiskFault asked = record { begins = (asked.says.0.unseen, asked.says.0.grows); mine = asked.says.0.mine; refused = tt }
-question_is_lost mid now lane error.NoMemory asked = record { begins = (asked.says.0.unseen, asked.says.0.grows); mine = asked.says.0.mine; refused = tt }
+pub question_is_lost : (mid now : Known) (lane : ℕ) (why : AskError) → IsAsked mid now (lane_ask lane) (Err why) → IsLost mid now
+question_is_lost mid now lane (error.Refused refused) asked = lost_in mid now (lane_ask lane) refused asked.says refl
+question_is_lost mid now lane error.DiskFault asked = record { begins = (asked.says.0.unseen, asked.says.0.grows); mine = asked.says.0.mine }
+question_is_lost mid now lane error.NoMemory asked = record { begins = (asked.says.0.unseen, asked.says.0.grows); mine = asked.says.0.mine }
 
 -- ---- so the rows that were added
 

@@ -1,6 +1,7 @@
 -- How the work of a lane goes on with each ask, each item of the cell and each call of the gate, and
 -- how it comes to its end.
 use Rattle.std.proofs.Common.{◌≡◌, inl, inr, ℕ, ℤ, ◌+◌, ◌<◌, min, true, false, List, [], ◌∷◌, ◌++◌, length, drop, Option, IfSome, Some, None, Result, Ok, Err, refl, sym, ◌∙◌, ap, subst, arith, append_assoc, append-nil, length-append, cond}
+use Rattle.std.proofs.lemmas.Option.{same_Some}
 use Rattle.std.specs.List.{cons_option}
 use Rattle.device_facts.specs.Count.{Counted}
 use Rattle.device_facts.specs.Prefix.{IsPrefixOf}
@@ -13,6 +14,7 @@ use Rattle.book_words.specs.declared.act.Entry.{Entry}
 use Rattle.book_words.specs.declared.act.Prior.{Prior}
 use Rattle.book_words.specs.declared.act.Prior.TheVariants.{Nothing, Opened, Stayed}
 use Rattle.book_words.specs.declared.caller.AskError.{AskError}
+use Rattle.book_words.specs.declared.caller.AskError.TheVariants as error
 use Rattle.book_words.specs.declared.reply.Answered.{Answered}
 use Rattle.book_words.specs.Answers.{ask_of}
 use Rattle.book_words.specs.Callers.{Known, FAULTS_END, IsAsked}
@@ -25,6 +27,7 @@ use Rattle.lane_worker.specs.declared.types.CellNext.TheVariants.{Gross}
 use Rattle.lane_worker.specs.declared.ending.Ending.{Ending}
 use Rattle.lane_worker.specs.declared.ending.Ending.TheVariants as ends
 use Rattle.lane_worker.specs.declared.ending.Ending.TheVariants.{CellFailed, GateFailed}
+use Rattle.lane_worker.specs.declared.ending.LaneStop.TheVariants.{Done}
 use Rattle.lane_worker.specs.declared.progress.Progress.{Progress}
 use Rattle.lane_worker.specs.Asks.{act_ask, lane_ask, stop_found, is_among, prior_behind, weighing_asks, starting_asks, stopping_asks, passed_pack, passed_packs, work_asks}
 use Rattle.lane_worker.specs.Gates.{with_packs, HasPassed}
@@ -40,11 +43,30 @@ use Rattle.lane_worker.proofs.OpenedPacks.{packs_more, packs_none, passed_push, 
 
 -- ---- the end
 
+-- only the end of the cell is `Done`
+done_by : (ending : Ending) → stop_by ending ≡ Done → ending ≡ ends.End
+done_by ends.End is = refl
+done_by (ends.Bad line) is = absurd (cc)
+done_by ends.Spent is = absurd (cc)
+done_by ends.CellFailed is = absurd (cc)
+done_by ends.GateFailed is = absurd (cc)
+
+not_done : (why : AskError) → stop_at why ≡ Done → ⊥
+not_done (error.Refused refused) is = cc
+not_done error.DiskFault is = cc
+not_done error.NoMemory is = cc
+
+-- an ask that wasn't answered is more than was answered
+one_more : (answered asks : List Ask) (next : Ask) → IsPrefixOf (answered ++ next ∷ []) asks → asks ≡ answered → ⊥
+one_more answered asks next first same =
+    let long : length answered ≡ length ((answered ++ next ∷ []) ++ first.0) = ap length (sym same ∙ first.1) in
+    omega (arith, long, length-append (answered ++ next ∷ []) first.0, length-append answered (next ∷ []))
+
 -- the next ask has no answer
 pub breaks : (Reached : List Ask → Type 0) (was now : Site) (mid : Known) (lane : ℕ) (batch : Name) (work : Work) (count : ℕ) (next : Ask) (why : AskError)
     → HasAdded was.caller mid work.asked work.rows → IsCalm was.caller mid → HasGiven was now work.grosses work.ending → HasOpened was now work.rows work.opened work.ending
     → count ≡ length work.opened → drop 1 work.answered ≡ row_asks work.rows
-    → IsAsked mid now.caller next (Err why) → IsLost mid now.caller next why
+    → IsAsked mid now.caller next (Err why) → IsLost mid now.caller
     → IsPrefixOf (work.answered ++ next ∷ []) (asks_of_work lane batch work) → Reached (work.answered ++ next ∷ [])
     → IsWork Reached was now lane batch (broken_end count why)
 breaks Reached was now mid lane batch work count next why added calm given opened is accepted asked lost first later = record {
@@ -56,7 +78,8 @@ breaks Reached was now mid lane batch work count next why added calm given opene
   opened = opened;
   count = is;
   accepted = accepted;
-  stops = inr (record { next = next; why = why; told = refl; refused = lost.refused; first = first; later = later });
+  done = (λ is. absurd (not_done why is), λ both. absurd (one_more work.answered (asks_of_work lane batch work) next first both.1));
+  stops = inr (record { next = next; why = why; told = refl; before = mid; answer = asked; first = first; later = later });
 }
 
 -- one ask follows, and no other is known
@@ -64,20 +87,24 @@ ask_follows : (answered asks : List Ask) (next : Ask) → asks ≡ answered ++ n
 ask_follows answered asks next is = ([], is ∙ sym (append-nil (answered ++ next ∷ [])))
 
 -- the last stop is answered
-pub finishes : (Reached : List Ask → Type 0) (was now : Site) (mid : Known) (lane : ℕ) (batch : Name) (work : Work) (row : Row) (count : ℕ) (ending : Ending) (stop : Ask) (answered : Answered)
+pub finishes : (Reached : List Ask → Type 0) (was now : Site) (mid : Known) (lane : ℕ) (batch : Name) (work : Work) (row : Row) (count : ℕ) (ending : Ending) (last : Ask) (answered : Answered)
     → HasAdded was.caller now.caller work.asked (work.rows ++ row ∷ []) → IsCalm was.caller mid → HasGiven was now work.grosses work.ending → HasOpened was now (work.rows ++ row ∷ []) work.opened work.ending
-    → count ≡ length work.opened → work.ending ≡ Some ending → IsAsked mid now.caller stop (Ok answered)
+    → count ≡ length work.opened → work.ending ≡ Some ending → IsAsked mid now.caller last (Ok answered)
     → asks_of_work lane batch (record work { rows = work.rows ++ row ∷ [] }) ≡ lane_ask lane ∷ row_asks (work.rows ++ row ∷ []) → Reached (lane_ask lane ∷ row_asks (work.rows ++ row ∷ []))
     → IsWork Reached was now lane batch (record { opened = count; stop = stop_by ending })
-finishes Reached was now mid lane batch work row count ending stop answered added calm given opened is ended asked whole later = record {
+finishes Reached was now mid lane batch work row count ending last answered added calm given opened is ended asked whole later = record {
   work = record work { rows = work.rows ++ row ∷ []; answered = lane_ask lane ∷ row_asks (work.rows ++ row ∷ []) };
   added = added;
   legal = asked.legal;
-  faults = by_ending ending (faults_finished was.caller mid now.caller stop answered calm asked);
+  faults = by_ending ending (faults_finished was.caller mid now.caller last answered calm asked);
   given = given;
   opened = opened;
   count = is;
   accepted = refl;
+  done = (
+    λ is. (ended ∙ ap (λ (e : Ending). Some e) (done_by ending is), whole),
+    λ both. ap stop_by (same_Some ending ends.End (sym ended ∙ both.0)),
+  );
   stops = inl (record { ending = ending; ended = ended; told = refl; whole = whole; later = later });
 }
   where
@@ -92,7 +119,7 @@ finishes Reached was now mid lane batch work row count ending stop answered adde
 
 -- the question isn't answered
 pub question_breaks : (Reached : List Ask → Type 0) (devices : Site) (was now : Known) (lane : ℕ) (batch : Name) (why : AskError)
-    → IsAsked was now (lane_ask lane) (Err why) → IsLost was now (lane_ask lane) why → Reached (lane_ask lane ∷ [])
+    → IsAsked was now (lane_ask lane) (Err why) → IsLost was now → Reached (lane_ask lane ∷ [])
     → IsWork Reached (with_caller devices was) (with_caller devices now) lane batch (broken_end 0 why)
 question_breaks Reached devices was now lane batch why asked lost later =
     breaks Reached (with_caller devices was) (with_caller devices now) was lane batch (record { asked = was.seen; rows = []; grosses = []; opened = []; ending = None; answered = [] }) 0 (lane_ask lane) why
@@ -102,7 +129,7 @@ question_breaks Reached devices was now lane batch why asked lost later =
 -- the stop of a lane that was found with a batch isn't answered
 pub stop_breaks : (Reached : List Ask → Type 0) (devices : Site) (was mid now : Known) (lane : ℕ) (batch : Name) (prior : Prior) (seen : List Entry) (why : AskError)
     → stop_found (lane_view seen lane) ≡ Some prior → HasAdded was mid seen [] → IsCalm was mid
-    → IsAsked mid now (act_ask (StopLane lane prior)) (Err why) → IsLost mid now (act_ask (StopLane lane prior)) why → Reached (lane_ask lane ∷ act_ask (StopLane lane prior) ∷ [])
+    → IsAsked mid now (act_ask (StopLane lane prior)) (Err why) → IsLost mid now → Reached (lane_ask lane ∷ act_ask (StopLane lane prior) ∷ [])
     → IsWork Reached (with_caller devices was) (with_caller devices now) lane batch (broken_end 0 why)
 stop_breaks Reached devices was mid now lane batch prior seen why is added calm asked lost later =
     breaks Reached (with_caller devices was) (with_caller devices now) mid lane batch (record { asked = seen; rows = []; grosses = []; opened = []; ending = None; answered = lane_ask lane ∷ [] }) 0 (act_ask (StopLane lane prior)) why
@@ -134,7 +161,7 @@ stopped_some Reached was mid now lane batch prior seen answered added calm asked
 -- the start isn't answered
 pub start_breaks : (Before Reached : List Ask → Type 0) (devices : Site) (was mid now : Known) (lane : ℕ) (batch : Name) (found : Option Prior) (seen : List Entry) (why : AskError)
     → stop_found (lane_view seen lane) ≡ found → (stopped : IsStopped Before was mid lane batch found seen)
-    → IsAsked mid now (act_ask (StartLane lane batch)) (Err why) → IsLost mid now (act_ask (StartLane lane batch)) why
+    → IsAsked mid now (act_ask (StartLane lane batch)) (Err why) → IsLost mid now
     → Reached ((lane_ask lane ∷ row_asks stopped.rows) ++ act_ask (StartLane lane batch) ∷ [])
     → IsWork Reached (with_caller devices was) (with_caller devices now) lane batch (broken_end 0 why)
 start_breaks Before Reached devices was mid now lane batch found seen why is stopped asked lost later =
@@ -190,7 +217,7 @@ takes_with mid at now item takes = record { next = takes.next; left = takes.left
 -- the weighing isn't answered
 pub weighing_breaks : (Before Reached : List Ask → Type 0) (was mid at : Site) (now : Known) (lane : ℕ) (batch : Name) (gross : ℤ) (progress : Progress) (why : AskError)
     → (weighs : Weighs Before was mid lane batch progress) → TakesItem mid at (Gross gross)
-    → IsAsked mid.caller now (act_ask (Weigh lane gross progress.prior)) (Err why) → IsLost mid.caller now (act_ask (Weigh lane gross progress.prior)) why
+    → IsAsked mid.caller now (act_ask (Weigh lane gross progress.prior)) (Err why) → IsLost mid.caller now
     → Reached (weighs.done.answered ++ act_ask (Weigh lane gross progress.prior) ∷ [])
     → IsWork Reached was (with_caller at now) lane batch (broken_end progress.opened why)
 weighing_breaks Before Reached was mid at now lane batch gross progress why weighs takes asked lost later =
@@ -450,7 +477,7 @@ last_stop Before Reached was mid now lane batch ending progress answered has ask
 
 pub last_stop_breaks : (Before Reached : List Ask → Type 0) (was mid : Site) (now : Known) (lane : ℕ) (batch : Name) (ending : Ending) (progress : Progress) (why : AskError)
     → (has : HasEnded Before was mid lane batch ending progress)
-    → IsAsked mid.caller now (act_ask (StopLane lane progress.prior)) (Err why) → IsLost mid.caller now (act_ask (StopLane lane progress.prior)) why
+    → IsAsked mid.caller now (act_ask (StopLane lane progress.prior)) (Err why) → IsLost mid.caller now
     → Reached (has.done.answered ++ act_ask (StopLane lane progress.prior) ∷ [])
     → IsWork Reached was (with_caller mid now) lane batch (broken_end progress.opened why)
 last_stop_breaks Before Reached was mid now lane batch ending progress why has asked lost later =

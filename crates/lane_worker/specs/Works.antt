@@ -1,20 +1,21 @@
 -- What the work of a lane is, from a state of its caller, its cell and its gate to a later one.
-use Rattle.std.specs.Prelude.{◌≡◌, ◌⊎◌, ℕ, ℤ, ◌+◌, ◌-◌, ◌<◌, min, Bool, true, false, List, [], ◌∷◌, ◌++◌, length, map, drop, slice_get, Option, Some, Err}
+use Rattle.std.specs.Prelude.{◌≡◌, ◌↔◌, ◌⊎◌, ℕ, ℤ, ◌+◌, ◌-◌, ◌<◌, min, Bool, true, false, List, [], ◌∷◌, ◌++◌, length, map, drop, slice_get, Option, Some, Err}
 use Rattle.device_facts.specs.Prefix.{IsPrefixOf}
 use Rattle.book_words.specs.declared.name.Name.{Name}
 use Rattle.book_words.specs.declared.act.Ask.{Ask}
 use Rattle.book_words.specs.declared.act.Entry.{Entry}
 use Rattle.book_words.specs.declared.caller.AskError.{AskError}
-use Rattle.book_words.specs.declared.caller.AskError.TheVariants as error
 use Rattle.book_words.specs.declared.caller.Caller as caller
 use Rattle.book_words.specs.Answers.{ask_of, IsLegal}
-use Rattle.book_words.specs.Callers.{Known, FAULTS_END, IsRight}
+use Rattle.book_words.specs.Callers.{Known, FAULTS_END, IsAsked}
 use Rattle.book_words.specs.Desks.{Row}
 use Rattle.book_words.specs.Views.{lane_view}
 use Rattle.lane_worker.specs.declared.types.CellNext.{CellNext}
 use Rattle.lane_worker.specs.declared.types.CellNext.TheVariants.{Gross}
 use Rattle.lane_worker.specs.declared.ending.Ending.{Ending}
+use Rattle.lane_worker.specs.declared.ending.Ending.TheVariants.{End}
 use Rattle.lane_worker.specs.declared.ending.LaneStop.{LaneStop}
+use Rattle.lane_worker.specs.declared.ending.LaneStop.TheVariants.{Done}
 use Rattle.lane_worker.specs.declared.ending.LaneEnd.{LaneEnd}
 use Rattle.lane_worker.specs.declared.cell.Cell as cell
 use Rattle.lane_worker.specs.declared.gate.Gate as gate
@@ -90,11 +91,6 @@ pub record HasOpened (was now : Site) (rows : List Row) (opened : List ℕ)
   pub passed : AreOpened (gate_failed ending) (passed_packs rows) opened
   pub faults : FailsIf (gate_failed ending) was.gate_faults now.gate_faults
 
--- what is wanted of the caller for a stop: a refusal is the answer to the ask
-abbrev pub IsRefused : Known → AskError → Ask → Type 0
-IsRefused now (error.Refused refused) ask = IsRight now.limit now.by now.seen ask (Err refused)
-IsRefused now why ask = Unit {0}
-
 -- a worker finishes: all that it was to ask was answered, and its stop is what ended the weighing
 pub record Finishes (Reached : List Ask → Type 0) (asks : List Ask) (work : Work)
     (stop : LaneStop) : Type 0 where
@@ -104,13 +100,14 @@ pub record Finishes (Reached : List Ask → Type 0) (asks : List Ask) (work : Wo
   pub whole : asks ≡ work.answered
   pub later : Reached work.answered
 
--- a worker breaks off: the next that it was to ask wasn't answered, and its stop says why
+-- a worker breaks off: the next that it was to ask is answered by an error, and its stop says which
 pub record BreaksOff (Reached : List Ask → Type 0) (now : Known) (asks : List Ask) (work : Work)
     (stop : LaneStop) : Type 0 where
   pub next : Ask
   pub why : AskError
   pub told : stop ≡ stop_at why
-  pub refused : IsRefused now why next
+  pub before : Known
+  pub answer : IsAsked before now next (Err why)
   pub first : IsPrefixOf (work.answered ++ next ∷ []) asks
   pub later : Reached (work.answered ++ next ∷ [])
 
@@ -119,8 +116,8 @@ abbrev pub asks_of_work : ℕ → Name → Work → List Ask
 asks_of_work lane batch work =
     work_asks lane batch (lane_view work.asked lane) work.opened work.grosses work.rows
 
--- The work of a lane for a batch, which came to this end. `Reached` says of some asks that the
--- caller went on by just these.
+-- The work of a lane for a batch, which came to this end: `Done` exactly where the cell gave its end
+-- and all was answered. `Reached` says of some asks that the caller went on by just these.
 pub record IsWork (Reached : List Ask → Type 0) (was now : Site) (lane : ℕ) (batch : Name)
     (end : LaneEnd) : Type 0 where
   pub work : Work
@@ -131,5 +128,7 @@ pub record IsWork (Reached : List Ask → Type 0) (was now : Site) (lane : ℕ) 
   pub opened : HasOpened was now work.rows work.opened work.ending
   pub count : end.opened ≡ length work.opened
   pub accepted : drop 1 work.answered ≡ map (λ row. ask_of row.entry) work.rows
+  pub done : (end.stop ≡ Done)
+      ↔ ((work.ending ≡ Some End) × (asks_of_work lane batch work ≡ work.answered))
   pub stops : Finishes Reached (asks_of_work lane batch work) work end.stop
       ⊎ BreaksOff Reached now.caller (asks_of_work lane batch work) work end.stop

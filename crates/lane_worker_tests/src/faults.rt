@@ -58,7 +58,11 @@ fn ends_so(
 fn cell_fails_right(alloc: Global, call: u32) -> Option<bool> {
     let fails = [call];
     let weighed = call.saturating_sub(1);
-    let prior = if weighed == 0 { Prior::Nothing } else { Prior::Opened };
+    let prior = if weighed == 0 {
+        Prior::Nothing
+    } else {
+        Prior::Opened
+    };
     let given = Given {
         cell_fails: &fails,
         ..TWENTY
@@ -75,7 +79,14 @@ fn gate_fails_right(alloc: Global, call: u32) -> Option<bool> {
         ..TWENTY
     };
     let rows = ROWS.saturating_add(3).saturating_add(call);
-    ends_so(alloc, &given, LaneStop::Gate, call.saturating_sub(1), rows, Prior::Stayed)
+    ends_so(
+        alloc,
+        &given,
+        LaneStop::Gate,
+        call.saturating_sub(1),
+        rows,
+        Prior::Stayed,
+    )
 }
 
 // What the first stop of the next worker says of the gate, where so many rows stand; behind six rows

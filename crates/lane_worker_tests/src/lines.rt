@@ -1,11 +1,10 @@
 use crate::halls::open_hall;
+use CellNext::{Bad, End, Gross};
 use book_words::Name;
 use disk_core::{Failed, MemorySink, MemorySource, Source};
 use lane_worker::{Cell, CellNext, LaneEnd, LaneStop, LineCell, LineGate, PairLane, run_lane};
 use std::alloc::Global;
 use std::test::Fail;
-
-use CellNext::{Bad, End, Gross};
 
 // A source that gives at most so many bytes a read, and counts those that it gave.
 #[derive(Drop)]
@@ -58,16 +57,35 @@ const LINES: [(&[u8], [CellNext; 4]); 16] = [
     (b"", [End, End, End, End]),
     (b"251\n0.5\n", [Gross(251_000), Gross(500), End, End]),
     // a CR before the LF, and a last line without one
-    (b"251.000\r\n30000", [Gross(251_000), Gross(30_000_000), End, End]),
+    (
+        b"251.000\r\n30000",
+        [Gross(251_000), Gross(30_000_000), End, End],
+    ),
     (b"12345678.999\n", [Gross(12_345_678_999), End, End, End]),
     // after a bad line nothing more is read
-    (b"251\n\n252\n", [Gross(251_000), Bad { line: 2 }, Bad { line: 2 }, Bad { line: 2 }]),
+    (
+        b"251\n\n252\n",
+        [
+            Gross(251_000),
+            Bad { line: 2 },
+            Bad { line: 2 },
+            Bad { line: 2 },
+        ],
+    ),
     (b"-1\n", [Bad { line: 1 }; 4]),
     (b"+1\n", [Bad { line: 1 }; 4]),
     (b" 251\n", [Bad { line: 1 }; 4]),
     (b"251 g\n", [Bad { line: 1 }; 4]),
     (b"251.\n", [Bad { line: 1 }; 4]),
-    (b"251\n251.0005\n", [Gross(251_000), Bad { line: 2 }, Bad { line: 2 }, Bad { line: 2 }]),
+    (
+        b"251\n251.0005\n",
+        [
+            Gross(251_000),
+            Bad { line: 2 },
+            Bad { line: 2 },
+            Bad { line: 2 },
+        ],
+    ),
     (b"123456789\n", [Bad { line: 1 }; 4]),
     (b"251\r\r\n", [Bad { line: 1 }; 4]),
     // a CR at the end of a last line without an LF
@@ -122,7 +140,12 @@ fn work_lines(
     alloc: Global,
     read_fails: &[u32],
     write_fails: &[u32],
-) -> Option<(LaneEnd, PairLane<LineCell<MemorySource>, LineGate<MemorySink>>)> {
+) -> Option<
+    (
+        LaneEnd,
+        PairLane<LineCell<MemorySource>, LineGate<MemorySink>>,
+    ),
+> {
     let mut hall = open_hall(alloc, &[])?;
     let text = Vec::from_slice(alloc, b"260\n240\n261.5\n262").ok()?;
     let source = MemorySource::new(text, Vec::from_slice(alloc, read_fails).ok()?);

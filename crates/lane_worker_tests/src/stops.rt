@@ -1,10 +1,9 @@
 use crate::halls::{Given, open_hall, prior_at, work};
+use CellNext::{Bad, End, Gross, Spent};
 use book_words::{Prior, Refusal, Refused};
 use lane_worker::{Cell, CellNext, LaneEnd, LaneStop};
 use std::alloc::Global;
 use std::test::Fail;
-
-use CellNext::{Bad, End, Gross, Spent};
 
 // A worker that is given so, on a disk of which a call may fail, stops so: the gate opened for these
 // packs, the book then has so many rows, and the last of them says this of the gate. The cell gives
@@ -32,7 +31,13 @@ const CASES: [Case; 11] = [
     // a reject between two packs that pass
     Case {
         given: Given {
-            items: &[Gross(260_000), Gross(240_000), Gross(261_000), End, Gross(1)],
+            items: &[
+                Gross(260_000),
+                Gross(240_000),
+                Gross(261_000),
+                End,
+                Gross(1),
+            ],
             ..LANE
         },
         disk_fails: &[],
