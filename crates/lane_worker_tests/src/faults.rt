@@ -1,4 +1,4 @@
-use crate::halls::{CALLS, Given, ROWS, open_hall, prior_at, work};
+use crate::halls::{CALLS, Given, NONE, ROWS, Seen, work_twice};
 use book_words::Prior;
 use lane_worker::{CellNext, LaneEnd, LaneStop};
 use std::alloc::Global;
@@ -9,49 +9,27 @@ const COUNT: u32 = 20;
 // Twenty packs, which all pass. The worker stops the lane (row 6), starts it (row 7), weighs them,
 // and stops it.
 const TWENTY: Given<'static> = Given {
-    number: 1,
-    batch: b"A",
     items: &[CellNext::Gross(260_000); 20],
-    cell_fails: &[],
-    gate_fails: &[],
+    ..NONE
 };
 
-// The next worker weighs nothing.
-const NONE: Given<'static> = Given {
-    items: &[],
-    ..TWENTY
-};
+// Their numbers.
+const PACKS: [u32; 20] = [
+    8, 9, 10, 11, 12, 13, 14, 15, 16, 17, 18, 19, 20, 21, 22, 23, 24, 25, 26, 27,
+];
 
-// Whether a gate opened for the packs from row 8 on, so many.
-fn are_first(opened: &[u32], count: u32) -> bool {
-    let mut next = 8;
-    for pack in opened {
-        if *pack != next {
-            return false;
-        }
-        next = next.saturating_add(1);
-    }
-    opened.len() == count as usize
+// The first so many of them.
+fn packs(count: u32) -> &'static [u32] {
+    PACKS.get(..count as usize).unwrap_or(&[])
 }
 
-// Whether a run in which one call of a device fails ends so, with so many openings and rows, and
-// with this said of the gate in the last of them.
-fn ends_so(
-    alloc: Global,
-    given: &Given,
-    stop: LaneStop,
-    opened: u32,
-    rows: u32,
-    prior: Prior,
-) -> Option<bool> {
-    let mut hall = open_hall(alloc, &[])?;
-    let (end, lane) = work(alloc, &mut hall, given)?;
-    Some(
-        end == LaneEnd { opened, stop }
-            && are_first(lane.gate.opened(), opened)
-            && hall.store().len() == rows
-            && prior_at(&hall, rows) == Some(prior),
-    )
+// Whether a work is seen to end so, with so many openings and rows, and this said of the gate in the
+// last of them.
+fn ends_so(seen: &Seen, stop: LaneStop, opened: u32, rows: u32, prior: Prior) -> bool {
+    seen.end == LaneEnd { opened, stop }
+        && seen.opened
+        && seen.rows == rows
+        && seen.last == Some(prior)
 }
 
 // A call of the cell fails, the one that would give its end among them: what came before is weighed.
@@ -67,29 +45,25 @@ fn cell_fails_right(alloc: Global, call: u32) -> Option<bool> {
         cell_fails: &fails,
         ..TWENTY
     };
-    let rows = ROWS.saturating_add(3).saturating_add(weighed);
-    ends_so(alloc, &given, LaneStop::Cell, weighed, rows, prior)
+    let [seen, _] = work_twice(alloc, &[], &given, packs(weighed))?;
+    let rows = weighed.saturating_add(ROWS + 3);
+    Some(ends_so(&seen, LaneStop::Cell, weighed, rows, prior))
 }
 
 // A call of the gate fails: its pack is weighed, and the stop says that the gate stayed shut.
 fn gate_fails_right(alloc: Global, call: u32) -> Option<bool> {
     let fails = [call];
+    let opened = call.saturating_sub(1);
     let given = Given {
         gate_fails: &fails,
         ..TWENTY
     };
-    let rows = ROWS.saturating_add(3).saturating_add(call);
-    ends_so(
-        alloc,
-        &given,
-        LaneStop::Gate,
-        call.saturating_sub(1),
-        rows,
-        Prior::Stayed,
-    )
+    let [seen, _] = work_twice(alloc, &[], &given, packs(opened))?;
+    let rows = call.saturating_add(ROWS + 3);
+    Some(ends_so(&seen, LaneStop::Gate, opened, rows, Prior::Stayed))
 }
 
-// What the first stop of the next worker says of the gate, where so many rows stand; behind six rows
+// What the first row of the next worker says of the gate, where so many rows stand; behind six rows
 // the lane has no batch, and the row is a start.
 fn said_next(rows: u32) -> Option<Prior> {
     match rows {
@@ -102,42 +76,45 @@ fn said_next(rows: u32) -> Option<Prior> {
 // A call of the disk fails: the rows before are acknowledged, four calls each, and where the last of
 // them is a pack the next worker doesn't know what the gate did.
 fn disk_fails_right(alloc: Global, call: u32) -> Option<bool> {
-    let mut hall = open_hall(alloc, &[call])?;
-    let (end, lane) = work(alloc, &mut hall, &TWENTY)?;
-    let rows = hall.store().len();
+    let rows = (call.saturating_sub(CALLS + 1) / 4).saturating_add(ROWS);
     let opened = rows.saturating_sub(7);
-    let (next, _) = work(alloc, &mut hall, &NONE)?;
+    let [seen, next] = work_twice(alloc, &[call], &TWENTY, packs(opened))?;
     let stop = LaneStop::DiskFault;
     Some(
-        end == LaneEnd { opened, stop }
-            && rows == ROWS.saturating_add(call.saturating_sub(CALLS + 1) / 4)
-            && are_first(lane.gate.opened(), opened)
-            && next.stop == LaneStop::Done
-            && prior_at(&hall, rows.saturating_add(1)) == said_next(rows),
+        seen.end == LaneEnd { opened, stop }
+            && seen.opened
+            && seen.rows == rows
+            && next.end.stop == LaneStop::Done
+            && next.first == said_next(rows),
     )
 }
 
-#[test]
-fn each_call_of_the_cell_fails(rt: HostRuntime) -> Result<(), Fail> {
-    for call in 1..COUNT + 2 {
-        assert!(rt; cell_fails_right(rt.alloc(), call) == Some(true), "{call}");
-    }
-    Ok(())
-}
-
-#[test]
-fn each_call_of_the_gate_fails(rt: HostRuntime) -> Result<(), Fail> {
+// The first call of the cell, or of the gate, that doesn't come out right.
+fn first_wrong(alloc: Global) -> Option<u32> {
     for call in 1..COUNT + 1 {
-        assert!(rt; gate_fails_right(rt.alloc(), call) == Some(true), "{call}");
+        if cell_fails_right(alloc, call) != Some(true)
+            || gate_fails_right(alloc, call) != Some(true)
+        {
+            return Some(call);
+        }
     }
-    Ok(())
+    None
 }
 
-// Twenty-three rows are added.
-#[test]
-fn each_call_of_the_disk_fails(rt: HostRuntime) -> Result<(), Fail> {
+// The first call of the disk that doesn't. Twenty-three rows are added.
+fn first_wrong_of_disk(alloc: Global) -> Option<u32> {
     for call in CALLS + 1..CALLS + 4 * (COUNT + 3) + 1 {
-        assert!(rt; disk_fails_right(rt.alloc(), call) == Some(true), "{call}");
+        if disk_fails_right(alloc, call) != Some(true) {
+            return Some(call);
+        }
     }
+    None
+}
+
+#[test]
+fn each_call_fails(rt: HostRuntime) -> Result<(), Fail> {
+    assert_eq!(rt; first_wrong(rt.alloc()), None);
+    assert_eq!(rt; first_wrong_of_disk(rt.alloc()), None);
+    assert!(rt; cell_fails_right(rt.alloc(), COUNT + 1) == Some(true));
     Ok(())
 }

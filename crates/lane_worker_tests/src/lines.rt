@@ -3,8 +3,11 @@ use CellNext::{Bad, End, Gross};
 use book_words::Name;
 use disk_core::{Failed, MemorySink, MemorySource, Source};
 use lane_worker::{Cell, CellNext, LaneEnd, LaneStop, LineCell, LineGate, PairLane, run_lane};
-use std::alloc::Global;
+use std::alloc::{AllocError, Global};
 use std::test::Fail;
+
+// A lane of lines in memory.
+type TestLane = PairLane<LineCell<MemorySource>, LineGate<MemorySink>>;
 
 // A source that gives at most so many bytes a read, and counts those that it gave.
 #[derive(Drop)]
@@ -134,27 +137,6 @@ fn no_more_is_read_than_a_line(rt: HostRuntime) -> Result<(), Fail> {
     Ok(())
 }
 
-// Works a lane of lines, of which a read and a write may fail: how it ends, and the lines of the
-// gate.
-fn work_lines(
-    alloc: Global,
-    read_fails: &[u32],
-    write_fails: &[u32],
-) -> Option<
-    (
-        LaneEnd,
-        PairLane<LineCell<MemorySource>, LineGate<MemorySink>>,
-    ),
-> {
-    let mut hall = open_hall(alloc, &[])?;
-    let text = Vec::from_slice(alloc, b"260\n240\n261.5\n262").ok()?;
-    let source = MemorySource::new(text, Vec::from_slice(alloc, read_fails).ok()?);
-    let sink = MemorySink::new(alloc, Vec::from_slice(alloc, write_fails).ok()?);
-    let mut lane = PairLane::new(LineCell::new(source), LineGate::new(sink));
-    let end = run_lane(&mut hall, &mut lane, 1, Name::new(b"A".as_slice())?);
-    Some((end, lane))
-}
-
 // Which reads and writes fail, how the work ends, how often the gate opened, and its lines.
 type Case = (&'static [u32], &'static [u32], LaneStop, u32, &'static [u8]);
 
@@ -166,11 +148,26 @@ const CASES: [Case; 3] = [
     (&[2], &[], LaneStop::Cell, 2, b"open 8\nopen 10\n"),
 ];
 
+// A lane of lines, of which these reads and writes fail.
+fn lane_of(alloc: Global, case: &Case) -> Result<TestLane, AllocError> {
+    let text = Vec::from_slice(alloc, b"260\n240\n261.5\n262")?;
+    let source = MemorySource::new(text, Vec::from_slice(alloc, case.0)?);
+    let sink = MemorySink::new(alloc, Vec::from_slice(alloc, case.1)?);
+    Ok(PairLane::new(LineCell::new(source), LineGate::new(sink)))
+}
+
 // Whether a case comes out so.
 fn is_right(alloc: Global, case: &Case) -> Option<bool> {
-    let (reads, writes, stop, opened, text) = *case;
-    let (end, lane) = work_lines(alloc, reads, writes)?;
-    Some(end == LaneEnd { opened, stop } && lane.gate.sink().bytes() == text)
+    let mut lane = lane_of(alloc, case).ok()?;
+    let batch = Name::new(b"A".as_slice())?;
+    let mut hall = open_hall(alloc, Vec::new(alloc))?;
+    let end = run_lane(&mut hall, &mut lane, 1, batch);
+    let _ = hall.back().close();
+    let wanted = LaneEnd {
+        opened: case.3,
+        stop: case.2,
+    };
+    Some(end == wanted && lane.gate.sink().bytes() == case.4)
 }
 
 #[test]

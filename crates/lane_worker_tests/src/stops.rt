@@ -1,7 +1,7 @@
-use crate::halls::{Given, open_hall, prior_at, work};
+use crate::halls::{Given, NONE, work_twice};
 use CellNext::{Bad, End, Gross, Spent};
 use book_words::{Prior, Refusal, Refused};
-use lane_worker::{Cell, CellNext, LaneEnd, LaneStop};
+use lane_worker::{CellNext, LaneEnd, LaneStop};
 use std::alloc::Global;
 use std::test::Fail;
 
@@ -18,14 +18,6 @@ struct Case {
     next: CellNext,
 }
 
-const LANE: Given<'static> = Given {
-    number: 1,
-    batch: b"A",
-    items: &[],
-    cell_fails: &[],
-    gate_fails: &[],
-};
-
 // The worker stops the lane (row 6), starts it (row 7), weighs, and stops it.
 const CASES: [Case; 11] = [
     // a reject between two packs that pass
@@ -38,7 +30,7 @@ const CASES: [Case; 11] = [
                 End,
                 Gross(1),
             ],
-            ..LANE
+            ..NONE
         },
         disk_fails: &[],
         stop: LaneStop::Done,
@@ -51,7 +43,7 @@ const CASES: [Case; 11] = [
     Case {
         given: Given {
             items: &[Gross(260_000), Gross(240_000)],
-            ..LANE
+            ..NONE
         },
         disk_fails: &[],
         stop: LaneStop::Done,
@@ -65,7 +57,7 @@ const CASES: [Case; 11] = [
         given: Given {
             items: &[Gross(260_000), Gross(261_000)],
             cell_fails: &[2],
-            ..LANE
+            ..NONE
         },
         disk_fails: &[],
         stop: LaneStop::Cell,
@@ -79,7 +71,7 @@ const CASES: [Case; 11] = [
         given: Given {
             items: &[Gross(260_000), Gross(261_000), Gross(262_000)],
             gate_fails: &[2],
-            ..LANE
+            ..NONE
         },
         disk_fails: &[],
         stop: LaneStop::Gate,
@@ -92,7 +84,7 @@ const CASES: [Case; 11] = [
     Case {
         given: Given {
             items: &[Gross(260_000), Bad { line: 2 }, Gross(261_000)],
-            ..LANE
+            ..NONE
         },
         disk_fails: &[],
         stop: LaneStop::Bad { line: 2 },
@@ -105,7 +97,7 @@ const CASES: [Case; 11] = [
     Case {
         given: Given {
             items: &[Spent, Gross(261_000)],
-            ..LANE
+            ..NONE
         },
         disk_fails: &[],
         stop: LaneStop::Turns,
@@ -116,7 +108,7 @@ const CASES: [Case; 11] = [
     },
     // no such lane: the question is refused
     Case {
-        given: Given { number: 17, ..LANE },
+        given: Given { number: 17, ..NONE },
         disk_fails: &[],
         stop: LaneStop::Refused(Refused {
             at: 5,
@@ -132,7 +124,7 @@ const CASES: [Case; 11] = [
         given: Given {
             batch: b"B",
             items: &[Gross(260_000)],
-            ..LANE
+            ..NONE
         },
         disk_fails: &[],
         stop: LaneStop::Refused(Refused {
@@ -148,7 +140,7 @@ const CASES: [Case; 11] = [
     Case {
         given: Given {
             items: &[Gross(260_000), Gross(30_000_001), Gross(261_000)],
-            ..LANE
+            ..NONE
         },
         disk_fails: &[],
         stop: LaneStop::Refused(Refused {
@@ -164,7 +156,7 @@ const CASES: [Case; 11] = [
     Case {
         given: Given {
             items: &[Gross(260_000), Gross(261_000), Gross(262_000)],
-            ..LANE
+            ..NONE
         },
         disk_fails: &[37],
         stop: LaneStop::DiskFault,
@@ -178,7 +170,7 @@ const CASES: [Case; 11] = [
         given: Given {
             items: &[Gross(260_000)],
             cell_fails: &[2],
-            ..LANE
+            ..NONE
         },
         disk_fails: &[37],
         stop: LaneStop::DiskFault,
@@ -191,18 +183,17 @@ const CASES: [Case; 11] = [
 
 // Whether a case comes out as it is to.
 fn is_right(alloc: Global, case: &Case) -> Option<bool> {
-    let mut hall = open_hall(alloc, case.disk_fails)?;
-    let (end, mut lane) = work(alloc, &mut hall, &case.given)?;
+    let [seen, _] = work_twice(alloc, case.disk_fails, &case.given, case.opened)?;
     let wanted = LaneEnd {
         opened: case.opened.len() as u32,
         stop: case.stop,
     };
     Some(
-        end == wanted
-            && lane.gate.opened() == case.opened
-            && hall.store().len() == case.rows
-            && prior_at(&hall, case.rows) == case.prior
-            && lane.cell.next() == Ok(case.next),
+        seen.end == wanted
+            && seen.opened
+            && seen.rows == case.rows
+            && seen.last == case.prior
+            && seen.next == Some(case.next),
     )
 }
 
