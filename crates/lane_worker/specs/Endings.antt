@@ -1,0 +1,52 @@
+-- How a worker comes to its end, and what its devices did then.
+use Rattle.std.specs.Prelude.{◌≡◌, ℕ, Bool, true, false, List, [], ◌∷◌, Option, Some, None}
+use Rattle.device_facts.specs.Count.{Counted}
+use Rattle.book_words.specs.declared.caller.AskError.{AskError}
+use Rattle.book_words.specs.declared.caller.AskError.TheVariants as error
+use Rattle.lane_worker.specs.declared.types.CellNext as items
+use Rattle.lane_worker.specs.declared.types.CellNext.TheVariants as item
+use Rattle.lane_worker.specs.declared.ending.Ending.{Ending}
+use Rattle.lane_worker.specs.declared.ending.Ending.TheVariants.{End, Bad, Spent, CellFailed, GateFailed}
+use Rattle.lane_worker.specs.declared.ending.LaneStop.{LaneStop}
+use Rattle.lane_worker.specs.declared.ending.LaneStop.TheVariants as stop
+
+-- the stop of a worker all of whose asks were answered
+abbrev pub stop_by : Ending → LaneStop
+stop_by End = stop.Done
+stop_by (Bad line) = stop.Bad line
+stop_by Spent = stop.Turns
+stop_by CellFailed = stop.Cell
+stop_by GateFailed = stop.Gate
+
+-- the stop of a worker whose ask wasn't answered
+abbrev pub stop_at : AskError → LaneStop
+stop_at (error.Refused refused) = stop.Refused refused
+stop_at error.DiskFault = stop.DiskFault
+stop_at error.NoMemory = stop.NoMemory
+
+-- how many faults of the disk a stop tells
+abbrev pub faults_at : LaneStop → ℕ
+faults_at stop.DiskFault = 1
+faults_at _ = 0
+
+-- the last item that the cell gave, where it isn't the gross of a pack
+abbrev pub last_items : Option Ending → List items.CellNext
+last_items (Some End) = item.End ∷ []
+last_items (Some (Bad line)) = item.Bad line ∷ []
+last_items (Some Spent) = item.Spent ∷ []
+last_items _ = []
+
+-- whether the cell failed
+abbrev pub cell_failed : Option Ending → Bool
+cell_failed (Some CellFailed) = true
+cell_failed _ = false
+
+-- whether the gate failed
+abbrev pub gate_failed : Option Ending → Bool
+gate_failed (Some GateFailed) = true
+gate_failed _ = false
+
+-- a device failed once, or didn't fail
+abbrev pub FailsIf : Bool → ℕ → ℕ → Type 0
+FailsIf true before now = Counted before now 1
+FailsIf false before now = now ≡ before

@@ -1,0 +1,9 @@
+pub mod Asks
+pub mod CellLines
+pub mod Cells
+pub mod Endings
+pub mod GateLines
+pub mod Gates
+pub mod Replies
+pub mod Steps
+pub mod Works

@@ -1,0 +1,28 @@
+ghost use Rattle.std.specs.Prelude.{◌≡◌};
+ghost use Rattle.lane_worker.specs.CellLines.{text_says};
+
+use crate::types::CellNext;
+use hall_units::read_grams;
+
+/// The most bytes of a line of a cell, its CR among them and its LF not. No text of grams is half as
+/// long, so a longer line is bad before it ends.
+pub const MAX_CELL_LINE: usize = 64;
+
+// What a text says in the line of this number: the mass of a pack in grams, or nothing that is a
+// weight.
+pub(crate) fn read_text(text: &[u8], line: u32) -> CellNext
+    ensures { result ≡ text_says text.now line }
+{
+    match read_grams(text) {
+        Ok(gross) => CellNext::Gross(gross),
+        Err(_) => CellNext::Bad { line },
+    }
+}
+
+// What a line says whose LF was read; it comes without it. One CR at its end is passed over.
+pub(crate) fn read_line(line: &[u8], number: u32) -> CellNext {
+    match line.split_last() {
+        Some((b'\r', text)) => read_text(text, number),
+        _ => read_text(line, number),
+    }
+}

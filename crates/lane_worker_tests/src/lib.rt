@@ -1,0 +1,12 @@
+//! Tests of the worker of a lane by its public calls: each of its stops, each call of its cell, its
+//! gate and its disk failing in a run of twenty weights, and the lines of cells and gates.
+#![tactic(auto)]
+
+#[cfg(test)]
+mod faults;
+#[cfg(test)]
+mod halls;
+#[cfg(test)]
+mod lines;
+#[cfg(test)]
+mod stops;

@@ -1,0 +1,179 @@
+use crate::halls::open_hall;
+use CellNext::{Bad, End, Gross};
+use book_words::Name;
+use disk_core::{Failed, MemorySink, MemorySource, Source};
+use lane_worker::{Cell, CellNext, LaneEnd, LaneStop, LineCell, LineGate, PairLane, run_lane};
+use std::alloc::{AllocError, Global};
+use std::test::Fail;
+
+// A lane of lines in memory.
+type TestLane = PairLane<LineCell<MemorySource>, LineGate<MemorySink>>;
+
+// A source that gives at most so many bytes a read, and counts those that it gave.
+#[derive(Drop)]
+struct Pieces {
+    bytes: &'static [u8],
+    piece: usize,
+    given: usize,
+    ended: bool,
+}
+
+impl Source for Pieces {
+    ghost use Rattle.std.specs.Prelude.{None};
+    ghost use Rattle.device_facts.specs.Frame.{NothingElse, nothing_else};
+
+    ghost left = { λ _. None };
+
+    ghost ended = { λ s. s.ended };
+
+    ghost faults = { λ _. 0 };
+
+    ghost keeps_rest = { NothingElse };
+
+    ghost frame = { nothing_else };
+
+    fn read(&mut self, into: &mut [u8]) -> Result<usize, Failed> {
+        let count = self.piece.min(into.len()).min(self.bytes.len());
+        let (front, rest) = self.bytes.split_at(count);
+        into[..count].copy_from_slice(front);
+        self.bytes = rest;
+        self.given = self.given.saturating_add(count);
+        self.ended = count == 0 && !into.is_empty();
+        Ok(count)
+    }
+}
+
+// A cell over a source that gives at most so many bytes a read.
+fn cell_of(bytes: &'static [u8], piece: usize) -> LineCell<Pieces> {
+    LineCell::new(Pieces {
+        bytes,
+        piece,
+        given: 0,
+        ended: false,
+    })
+}
+
+const OVER: &[u8] = b"00000000000000000000000000000000000000000000000000000000000000001";
+
+// The bytes of a cell, and what it gives, call by call.
+const LINES: [(&[u8], [CellNext; 4]); 16] = [
+    (b"", [End, End, End, End]),
+    (b"251\n0.5\n", [Gross(251_000), Gross(500), End, End]),
+    // a CR before the LF, and a last line without one
+    (
+        b"251.000\r\n30000",
+        [Gross(251_000), Gross(30_000_000), End, End],
+    ),
+    (b"12345678.999\n", [Gross(12_345_678_999), End, End, End]),
+    // after a bad line nothing more is read
+    (
+        b"251\n\n252\n",
+        [
+            Gross(251_000),
+            Bad { line: 2 },
+            Bad { line: 2 },
+            Bad { line: 2 },
+        ],
+    ),
+    (b"-1\n", [Bad { line: 1 }; 4]),
+    (b"+1\n", [Bad { line: 1 }; 4]),
+    (b" 251\n", [Bad { line: 1 }; 4]),
+    (b"251 g\n", [Bad { line: 1 }; 4]),
+    (b"251.\n", [Bad { line: 1 }; 4]),
+    (
+        b"251\n251.0005\n",
+        [
+            Gross(251_000),
+            Bad { line: 2 },
+            Bad { line: 2 },
+            Bad { line: 2 },
+        ],
+    ),
+    (b"123456789\n", [Bad { line: 1 }; 4]),
+    (b"251\r\r\n", [Bad { line: 1 }; 4]),
+    // a CR at the end of a last line without an LF
+    (b"251\r", [Bad { line: 1 }; 4]),
+    (b"\r\n", [Bad { line: 1 }; 4]),
+    // 65 bytes without an LF
+    (OVER, [Bad { line: 1 }; 4]),
+];
+
+// Whether a cell gives these items.
+fn gives(mut cell: LineCell<Pieces>, items: &[CellNext; 4]) -> bool {
+    for item in items {
+        if cell.next() != Ok(*item) {
+            return false;
+        }
+    }
+    true
+}
+
+// The place of the first row that comes out otherwise, with so many bytes a read.
+fn first_wrong(piece: usize) -> Option<usize> {
+    for (place, (bytes, items)) in LINES.iter().enumerate() {
+        if !gives(cell_of(bytes, piece), items) {
+            return Some(place);
+        }
+    }
+    None
+}
+
+#[test]
+fn the_lines_of_a_cell(rt: HostRuntime) -> Result<(), Fail> {
+    assert_eq!(rt; first_wrong(1), None);
+    assert_eq!(rt; first_wrong(7), None);
+    assert_eq!(rt; first_wrong(100), None);
+    Ok(())
+}
+
+// What a cell that gets a byte a read has read when it gives its first item: that line, and of a
+// long one no more than shows that it is too long.
+#[test]
+fn no_more_is_read_than_a_line(rt: HostRuntime) -> Result<(), Fail> {
+    let mut cell = cell_of(b"251\n252\n", 1);
+    assert!(rt; cell.next() == Ok(Gross(251_000)) && cell.source().given == 4);
+    let mut cell = cell_of(OVER, 1);
+    assert!(rt; cell.next() == Ok(Bad { line: 1 }) && cell.source().given == 65);
+    Ok(())
+}
+
+// Which reads and writes fail, how the work ends, how often the gate opened, and its lines.
+type Case = (&'static [u32], &'static [u32], LaneStop, u32, &'static [u8]);
+
+// The second pack is rejected. Each line of the gate is one write; the second read, which would
+// give the end, fails before the last line is known.
+const CASES: [Case; 3] = [
+    (&[], &[], LaneStop::Done, 3, b"open 8\nopen 10\nopen 11\n"),
+    (&[], &[2], LaneStop::Gate, 1, b"open 8\n"),
+    (&[2], &[], LaneStop::Cell, 2, b"open 8\nopen 10\n"),
+];
+
+// A lane of lines, of which these reads and writes fail.
+fn lane_of(alloc: Global, case: &Case) -> Result<TestLane, AllocError> {
+    let text = Vec::from_slice(alloc, b"260\n240\n261.5\n262")?;
+    let source = MemorySource::new(text, Vec::from_slice(alloc, case.0)?);
+    let sink = MemorySink::new(alloc, Vec::from_slice(alloc, case.1)?);
+    Ok(PairLane::new(LineCell::new(source), LineGate::new(sink)))
+}
+
+// Whether a case comes out so.
+fn is_right(alloc: Global, case: &Case) -> Option<bool> {
+    let mut lane = lane_of(alloc, case).ok()?;
+    let batch = Name::new(b"A".as_slice())?;
+    let mut hall = open_hall(alloc, Vec::new(alloc))?;
+    let end = run_lane(&mut hall, &mut lane, 1, batch);
+    let _ = hall.back().close();
+    let wanted = LaneEnd {
+        opened: case.3,
+        stop: case.2,
+    };
+    Some(end == wanted && lane.gate.sink().bytes() == case.4)
+}
+
+#[test]
+fn a_lane_of_lines(rt: HostRuntime) -> Result<(), Fail> {
+    for case in &CASES {
+        assert!(rt; is_right(rt.alloc(), case) == Some(true));
+    }
+    Ok(())
+}
