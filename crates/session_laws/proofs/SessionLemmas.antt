@@ -1,6 +1,6 @@
 -- What is kept of a store in a session: as it begins, with each ask, and at its end.
 use Rattle.std.proofs.Common.{◌≡◌, ◌⊎◌, inl, inr, ⊎_elim, ℕ, ◌≤◌, List, [], ◌∷◌, ◌++◌, length, take}
-use Rattle.std.proofs.Common.{Option, Some, None, IsSome, Result, Ok, Err, OnOk, refl, sym, ap, ◌∙◌}
+use Rattle.std.proofs.Common.{Bool, Option, Some, None, IsSome, Result, Ok, Err, OnOk, refl, sym, ap, ◌∙◌}
 use Rattle.std.proofs.Common.{subst, arith, append_assoc, append-nil, length-append}
 use Rattle.std.proofs.Math.Seq.{take-append_seam}
 use Rattle.std.proofs.lemmas.List.{take-append-le}
@@ -13,13 +13,18 @@ use Rattle.book_words.specs.declared.caller.AskError.{AskError}
 use Rattle.book_words.specs.declared.caller.AskError.TheVariants as error
 use Rattle.book_words.specs.declared.reply.Answered.{Answered}
 use Rattle.book_words.specs.Answers.{IsLawful}
+use Rattle.book_core.specs.View.{BookView}
 use Rattle.book_journal.specs.Mounting.{KeepsFromSync}
 use Rattle.book_store.specs.declared.store.Store.{Store}
 use Rattle.book_store.specs.Images.{HoldsBook}
-use Rattle.book_store.specs.Stores.{disk_of, entries_of, Hangs, HasBook, HangsWith, HoldsOrHangs}
+use Rattle.book_store.specs.Stores.{disk_of, book_of, KeepsBook, entries_of, Hangs, HasBook, HangsWith, HoldsOrHangs}
 use Rattle.book_store.specs.Stores.{ImagesHoldBook, IsSound}
 use Rattle.book_store.specs.Offers.{Offers, OffersEntry, LeavesDisk, CountsDiskFault, list_behind}
 use Rattle.book_store.specs.Mounting.{HasHeld}
+use Rattle.book_store.specs.Resting.{CountsRestFault}
+use Rattle.book_store.specs.declared.types.RestError.{RestError}
+use Rattle.book_store.specs.declared.types.RestError.TheVariants as rest
+use Rattle.book_store.proofs.KeptLemmas.{synced_on}
 use Rattle.session_laws.specs.declared.session.Session as session
 use Rattle.session_laws.specs.Sessions.{HoldsOrOneMore, LeavesFrom, RestsOnDisk, Begins}
 use Rattle.session_laws.specs.Sessions.{HasBookSince, IsKeptSince, KeepsRun}
@@ -353,6 +358,61 @@ module _ {D : Type 0} (g : disk.Ghosts D) where
           moments = moments_on held start first last rows began past run kept.begins book;
           end = λ c image. end_on start last c before kept.fault book (book.images c image);
         }
+
+  -- ---- a snapshot behind a session
+
+  -- the disk's count behind it: it stayed, or one more was counted
+  rest_counts : (before now : ℕ) (result : Result Bool RestError)
+      → CountsRestFault before now result → (now ≡ before) ⊎ Counted before now 1
+  rest_counts before now (Ok kept) counts = inl counts
+  rest_counts before now (Err rest.DiskFault) counts = inr counts
+  rest_counts before now (Err rest.NoMemory) counts = inl counts
+
+  -- a whole run goes on over it
+  pub run_rested : (held : List Entry) (start : D) (old new : Store D)
+      → book_of new ≡ book_of old → (HasBook g old → KeepsBook g old new)
+      → ImagesHoldBook g new → (result : Result Bool RestError)
+      → CountsRestFault (g.faults (disk_of old)) (g.faults (disk_of new)) result
+      → KeepsRun g held start old → KeepsRun g held start new
+  run_rested held start old new same keeps images result counts run =
+      let rested = keeps run.has in
+      let entries : entries_of new ≡ entries_of old = ap (λ (b : BookView). b.entries) same in
+      let counted = rest_counts (g.faults (disk_of old)) (g.faults (disk_of new)) result counts in
+      let front = begins_same (entries_of old) (entries_of new) entries in
+      let rises : Rose (g.faults start) (g.faults (disk_of old))
+      → Rose (g.faults start) (g.faults (disk_of new)) =
+      λ rose. ⊎_elim (λ is. subst (Rose (g.faults start)) (sym is) rose)
+      (λ more. rose_on (g.faults start) (g.faults (disk_of old)) (g.faults (disk_of new)) more
+      (inr rose))
+      counted in
+      let hung : (entry : Entry) → HangsWith g new entry
+      → Rose (g.faults start) (g.faults (disk_of new)) × IsLawful (entries_of new) entry =
+      λ entry hangs. let was = run.hung entry (rested.hung entry hangs) in (
+        rises was.0,
+        subst (λ (es : List Entry). IsLawful es entry) (sym entries) was.1,
+      ) in
+      record {
+        has = rested.has;
+        begins = subst (IsPrefixOf held) (sym entries) run.begins;
+        faults = ⊎_elim
+            (λ is. ⊎_elim (λ stayed. inl (is ∙ stayed)) (λ rose. inr (rises rose)) run.faults)
+            (λ more. inr (rose_on (g.faults start) (g.faults (disk_of old))
+            (g.faults (disk_of new)) more run.faults))
+            counted;
+        hung = hung;
+        moments = synced_on g start (disk_of old) (disk_of new) (LeavesFrom held (entries_of old))
+            (HoldsOrHangs g old) (LeavesFrom held (entries_of new))
+            (λ c left. leaves_of_more held (entries_of old) (entries_of new) c front left)
+            (λ c was. leaves_front held (entries_of old) (entries_of new) c run.begins front
+            (⊎_elim (λ holds. inl holds)
+            (λ hangs. inr (hangs.0, (run.hung hangs.0 hangs.1).1, hangs.2)) was))
+            run.moments rested.moments;
+        end = λ c image. ⊎_elim
+            (λ holds. inl holds)
+            (λ hangs. let it = hung hangs.0 hangs.1 in
+            inr (it.0, inr (hangs.0, it.1, hangs.2)))
+            (images rested.has c image);
+      }
 
   -- ---- a store that was mounted on a disk that held these rows
 

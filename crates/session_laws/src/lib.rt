@@ -8,5 +8,5 @@ mod run;
 mod session;
 
 pub use held::HeldStore;
-pub use run::{hold_session, mount_session};
+pub use run::{hold_session, mount_session, rest_session};
 pub use session::Session;

@@ -11,7 +11,7 @@ ghost use Rattle.session_laws.specs.Sessions.{Begins, IsKeptSince, RestsOnDisk, 
 
 use crate::held::HeldStore;
 use crate::session::Session;
-use book_store::{Store, Unmounted};
+use book_store::{RestError, Store, Unmounted};
 use book_words::Ask;
 use disk_core::Disk;
 use std::alloc::Global;
@@ -63,4 +63,14 @@ pub fn mount_session<D: Disk, R: Wait>(
         Ok(store) => Ok(hold_session(rt, store, asks)),
         Err(refused) => Err(refused),
     }
+}
+
+/// Keeps a snapshot behind a session. What the whole run kept of its disk, it keeps.
+pub fn rest_session<D: Disk>(store: &mut Store<D>) -> Result<bool, RestError>
+    requires sound { IsSound D.Disk store.old }
+    ensures kept { (held : List Entry) (start : D)
+        → KeepsRun D.Disk held start store.old → KeepsRun D.Disk held start store.new }
+    ensures sound { IsSound D.Disk store.new }
+{
+    store.rest()
 }
