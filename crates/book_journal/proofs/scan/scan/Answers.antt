@@ -129,8 +129,8 @@ returns-in_err-count-clause-asked_failed g c b told =
     let most = c.count_rows.ensures.asked_most b told_first front.size_is in
     err_at c.from_residual-in_err-count.result _
     (asks_scanning b c.in_ok-kept.kept c.rows_before-first.result c.piece_slots.result
-        (g.D.Disk.asked c.args.disk.now) (g.D.Disk.asked c.count_rows.new.disk) of
-        c.rows_before-first.ensures c.piece_slots.ensures
+    (g.D.Disk.asked c.args.disk.now) (g.D.Disk.asked c.count_rows.new.disk) of
+    c.rows_before-first.ensures c.piece_slots.ensures
     (omega (arith, c.find_snapshot.ensures.asked, most)))
 
 pub returns-in_err-close_behind-clause-asked_failed : goal.returns-in_err-close_behind-clause-asked_failed
@@ -141,6 +141,6 @@ returns-in_err-close_behind-clause-asked_failed g c b told =
     let most = c.count_rows.ensures.asked_most b told_first front.size_is in
     err_at c.from_residual-in_err-close_behind.result _
     (asks_scanning b c.in_ok-kept.kept c.rows_before-first.result c.piece_slots.result
-        (g.D.Disk.asked c.args.disk.now) (g.D.Disk.asked c.close_behind.new.disk) of
-        c.rows_before-first.ensures c.piece_slots.ensures
+    (g.D.Disk.asked c.args.disk.now) (g.D.Disk.asked c.close_behind.new.disk) of
+    c.rows_before-first.ensures c.piece_slots.ensures
     (omega (arith, c.find_snapshot.ensures.asked, most, c.close_behind.ensures.asked)))

@@ -29,8 +29,12 @@ returns-in_err-open-clause-asked_most g c bytes told size =
     let so_far = c.loop-piece.invariant in
     let n = c.loop-piece.count in
     let room : length c.count_piece.new.piece ≤ ROW_BYTES * min c.args.slots (MAX_SLOTS - n) =
-    omega (arith, c.count_piece.auto.piece, length-take c.wanted-wanted.result c.loop-piece.piece,
-        c.wanted-wanted.ensures) in
+    omega (
+      arith,
+      c.count_piece.auto.piece,
+      length-take c.wanted-wanted.result c.loop-piece.piece,
+      c.wanted-wanted.ensures,
+    ) in
     let among = counted_among c.args.first n bytes so_far.most (so_far.counts bytes told size) in
     omega (arith, so_far.asked, c.count_piece.ensures.asked, room, among)
 
@@ -39,8 +43,12 @@ returns-then-open-slots-clause-asked_most g c bytes told size =
     let so_far = c.loop-piece.invariant in
     let n = c.loop-piece.count in
     let room : length c.count_piece.new.piece ≤ ROW_BYTES * min c.args.slots (MAX_SLOTS - n) =
-    omega (arith, c.count_piece.auto.piece, length-take c.wanted-wanted.result c.loop-piece.piece,
-        c.wanted-wanted.ensures) in
+    omega (
+      arith,
+      c.count_piece.auto.piece,
+      length-take c.wanted-wanted.result c.loop-piece.piece,
+      c.wanted-wanted.ensures,
+    ) in
     let among = counted_among c.args.first n bytes so_far.most (so_far.counts bytes told size) in
     omega (arith, so_far.asked, c.count_piece.ensures.asked, room, among)
 
