@@ -1,5 +1,5 @@
 -- Lemmas on how a migration ends.
-use Rattle.std.proofs.Common.{◌≡◌, ◌↔◌, Bool, true, false, IsTrue, ℕ, ◌+◌, ◌<◌, ◌≤◌, List, [], ◌++◌, length, Ok, Err, inl, inr, refl, sym, ap, ◌∙◌, append_assoc, length-append, subst, arith}
+use Rattle.std.proofs.Common.{◌≡◌, ◌↔◌, Bool, true, false, IsTrue, ℕ, ◌<◌, List, [], ◌++◌, length, Ok, Err, inl, inr, refl, sym, ap, ◌∙◌, append_assoc, length-append, subst, arith}
 use Rattle.std.specs.Io.KnownBytes.{Consumes, IsAtEnd}
 use Rattle.std.proofs.KnownBytes.{Consumes-trans}
 use Rattle.disk_core.specs.declared.disk.Disk as disk
@@ -22,7 +22,7 @@ use Rattle.store_runs.specs.Runs.{FailsToKeep, Goes}
 use Rattle.store_runs.specs.Stops.{stop_of}
 use Rattle.store_runs.proofs.StoreSteps.{goes_with}
 use Rattle.book_migration.specs.declared.migrate.TheConstants.{MAX_OLD_READS}
-use Rattle.book_migration.specs.Migration.{InputMoment, HasCarried, StopsInJournal, EndsMigration, StopsAtJournalEnd, IsUnbegun, ExplainsMigration}
+use Rattle.book_migration.specs.Migration.{InputMoment, HasCarried, StopsInJournal, EndsMigration, StopsAtJournalEnd, ExplainsMigration}
 use Rattle.book_migration.specs.Carrying.{MigrationState, Carried, CarriesOn, StopsCarrying, CarriesAll}
 use Rattle.book_migration.proofs.SlotSteps.{untouched}
 

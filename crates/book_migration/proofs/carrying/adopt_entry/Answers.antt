@@ -1,6 +1,5 @@
-use Rattle.std.proofs.Common.{rules, ◌≡◌, ◌∙◌, Ok, Err, inl, inr, refl, sym, ap, subst}
+use Rattle.std.proofs.Common.{rules, ◌≡◌, ◌∙◌, Err, inl, inr, sym, ap, subst}
 use Rattle.book_words.specs.Answers.{IsLawful}
-use Rattle.book_store.specs.declared.types.AdoptError.TheVariants as adopt
 use Rattle.book_store.specs.Stores.{entries_of}
 use Rattle.store_runs.specs.Runs.{Goes}
 use Rattle.store_runs.specs.Stops.{step_adopted}
