@@ -6,15 +6,20 @@ ghost use Rattle.std.specs.Process.{exit_status};
 ghost use Rattle.hall_limits.specs.declared.TheConstants.{MAX_ROWS};
 ghost use Rattle.command_line.specs.Words.{Wanted, bytes_of, wanted_of};
 ghost use Rattle.hall_top.specs.declared.ended.Ended.{Ended};
-ghost use Rattle.hall_top.specs.Run.{call};
-ghost use Rattle.hall_top.specs.Calls.{EndsAs};
+ghost use Rattle.book_store.specs.declared.types.MountError.TheVariants as why;
+ghost use Rattle.text_streams.specs.Streams.{output_at};
+ghost use Rattle.store_runs.specs.Calls.{call};
+ghost use Rattle.hall_top.specs.declared.ending.Ending.TheVariants as ending;
+ghost use Rattle.hall_top.specs.Endings.{SaysLast};
+ghost use Rattle.hall_top.specs.Calls.{EndsAs, LeavesOutcome};
 
 use book_snapshot::ROW_BYTES;
+use book_store::MountError;
 use command_line::{Wants, WantsError, wants};
-use disk_core::{Disk, QuietDisk, Sink, Source, StdSink, StdSource, write_all};
+use disk_core::{Disk, QuietDisk, Sink, Source, StdSink, StdSource};
 use file_disk::FileDisk;
 use hall_limits::MAX_ROWS;
-use hall_top::hall;
+use hall_top::{Ending, hall, say_last};
 use std::alloc::{AllocError, Global};
 use std::env;
 use std::process::ExitCode;
@@ -26,9 +31,6 @@ const BYTES_A_ROW: usize = 2 * ROW_BYTES;
 
 /// The rows more that its room is for: the header, the closed gates and the ends of the snapshot.
 const ROWS_MORE: usize = 4;
-
-/// The status where there is no memory.
-const NO_MEMORY: u8 = 7;
 
 // The words after the program's name. Where one isn't UTF-8, or there is no memory for them,
 // there are none: no command is without words.
@@ -52,7 +54,8 @@ fn run<S: Source, K: Sink, D: Disk + Drop>(
     requires { S.ended input.old ≡ false }
     ensures words { (exit_status result ≡ 2) ↔ (wanted_of (bytes_of words.now) ≡ None) }
     ensures ends { (wanted : Wanted) → wanted_of (bytes_of words.now) ≡ Some wanted →
-        (ended : Ended D) × (ended.status ≡ exit_status result) × EndsAs D.Disk wanted disk ended
+        (ended : Ended D) × (ended.status ≡ exit_status result)
+        × LeavesOutcome (EndsAs D.Disk wanted disk) ended
         (call S.Source K.Sink input.old output.old input.new output.new ended.rows) }
 {
     ExitCode::from(hall(alloc, words, input, output, disk).status)
@@ -73,12 +76,12 @@ fn open_book(rt: &HostRuntime, path: &str) -> FileDisk {
     disk
 }
 
-// The end of a call for which there is no memory.
+// The end of a call for which there is no memory: its last line and its status.
 fn end_without_memory<K: Sink>(output: &mut K) -> ExitCode
-    ensures { exit_status result ≡ NO_MEMORY }
+    ensures { SaysLast (ending.Unopened why.NoMemory) (output_at K.Sink output.old)
+        (output_at K.Sink output.new) (exit_status result) }
 {
-    let _ = write_all(output, b"no memory\n");
-    ExitCode::from(NO_MEMORY)
+    ExitCode::from(say_last(Ending::Unopened(MountError::NoMemory), output))
 }
 
 fn main(rt: HostRuntime) -> ExitCode {

@@ -1,4 +1,4 @@
--- What a whole call of the program does: its words, its disk, its command.
+-- What a whole call of the program does: its words, its disk, its command, its last line.
 use Rattle.std.specs.Prelude.{◌≡◌, ◌⊎◌, ℕ, ◌≤◌, List, [], length, take, Option, Some}
 use Rattle.disk_core.specs.Disk.{WhereTold}
 use Rattle.disk_core.specs.Devices.{IsUnmoved}
@@ -8,113 +8,87 @@ use Rattle.book_words.specs.Answers.{IsLegal}
 use Rattle.book_journal.specs.Rows.{FitsSnapshot}
 use Rattle.book_journal.specs.Mounting.{KeepsFromSync}
 use Rattle.book_store.specs.declared.types.MountError.{MountError}
-use Rattle.book_store.specs.declared.types.MountError.TheVariants as mount
 use Rattle.book_store.specs.declared.store.Store.{Store}
 use Rattle.book_store.specs.Images.{HoldsBook}
+use Rattle.book_store.specs.Kept.{with_offered, CrashLeaves}
 use Rattle.book_store.specs.Stores.{disk_of, entries_of}
 use Rattle.book_store.specs.Listing.{IsOpenedAs}
 use Rattle.book_store.specs.Mounting.{IsCauseOf, IsPassing}
 use Rattle.book_store.specs.Resting.{HoldsSnapshotOf}
+use Rattle.text_streams.specs.Streams.{Stream, Devices, WroteAll, IsCutIn}
+use Rattle.store_runs.specs.declared.stop.Stop.{Stop}
+use Rattle.store_runs.specs.declared.stop.Stop.TheVariants.{Finished, WriteFault}
+use Rattle.store_runs.specs.Books.{BookState, stored_book}
+use Rattle.store_runs.specs.Calls.{Call}
+use Rattle.store_runs.specs.Runs.{HasGrown, CountsStop, SparesDisk, RunGoes}
+use Rattle.store_runs.specs.Stops.{stop_row}
+use Rattle.script_run.specs.Runs.{ExplainsRun}
+use Rattle.book_migration.specs.Migration.{InputMoment, ExplainsMigration}
+use Rattle.hall_top.specs.declared.ending.Ending.TheVariants.{Usage, Unopened, Stopped}
 use Rattle.hall_top.specs.declared.ended.Ended.{Ended}
-use Rattle.hall_top.specs.declared.stop.Stop.{Stop}
-use Rattle.hall_top.specs.declared.stop.Stop.TheVariants.{Finished, WriteFault}
-use Rattle.hall_top.specs.Texts.{usage, disk_fault, no_memory, not_journal, damaged_row, whole}
-use Rattle.hall_top.specs.Transcript.{BookState}
-use Rattle.hall_top.specs.Streams.{Stream, WroteAll, IsCutIn, Wrote}
-use Rattle.hall_top.specs.Run.{Call, Explains, HasGrown, IsComplete, status_of}
-use Rattle.hall_top.specs.Kept.{CrashLeaves, HoldsOffered, CountsStop, SparesDisk, RunGoes}
-use Rattle.hall_top.specs.Books.{stored_book}
-use Rattle.hall_top.specs.Offers.{stop_row}
-use Rattle.hall_top.specs.Migration.{ExplainsMigration}
+use Rattle.hall_top.specs.declared.ended.Outcome.{Outcome}
+use Rattle.hall_top.specs.Endings.{SaysLast}
+use Rattle.hall_top.specs.Texts.{whole}
 use Rattle.command_line.specs.Words.{Wanted}
 use Rattle.command_line.specs.declared.types.Command.{Command}
 use Rattle.command_line.specs.declared.types.Command.TheVariants.{Run, Check, Migrate}
 
--- nothing was read, and there are no rows
+-- nothing was read or written, and there are no rows
 pub record NothingDone {S : Type 0} (call : Call S) : Type 0 where
   pub unread : call.now.source ≡ call.before.source
+  pub quiet : call.now.output ≡ call.before.output
   pub none : call.rows ≡ []
 
--- why a disk wasn't opened as a book, as a line says it, and the status
-abbrev pub line_of : MountError → List ℕ
-line_of (mount.NotJournal place) = not_journal place
-line_of (mount.Damaged row) = damaged_row row
-line_of mount.DiskFault = disk_fault
-line_of mount.NoMemory = no_memory
-
-abbrev pub mount_status : MountError → ℕ
-mount_status (mount.NotJournal place) = 8
-mount_status (mount.Damaged row) = 9
-mount_status mount.DiskFault = 6
-mount_status mount.NoMemory = 7
-
--- the line that says why went out, or was cut
-abbrev pub SaysWhy : MountError → Stream → Stream → ℕ → Type 0
-SaysWhy why before now status =
-    (WroteAll before now (line_of why) × (status ≡ mount_status why))
-    ⊎ (IsCutIn before now [] (line_of why) × (status ≡ 5))
-
--- The disk wasn't opened as a book: nothing was read, and one line says why. A disk that holds a
--- book is then as it was, or a crash leaves the book.
-pub record IsUnopened {S D : Type 0} (disk : disk.Ghosts D) (before : D) (ended : Ended D)
+-- The disk wasn't opened as a book: nothing was read. A disk that holds a book is then as it was, or
+-- a crash leaves the book.
+pub record IsUnopened {S D : Type 0} (disk : disk.Ghosts D) (before : D) (outcome : Outcome D)
     (call : Call S) : Type 0 where
   pub why : MountError
-  pub cause : IsCauseOf disk why before ended.disk
+  pub ending : outcome.ending ≡ Unopened why
+  pub cause : IsCauseOf disk why before outcome.disk
   pub nothing : NothingDone call
-  pub says : SaysWhy why call.before.output call.now.output ended.status
-  pub none : ended.held ≡ 0
+  pub none : outcome.held ≡ 0
   pub kept : WhereTold (disk.reads before) (λ bytes.
       (held : List Entry) → HoldsBook held bytes → IsLegal held → IsPassing why
-      × (KeepsFromSync disk before ended.disk (HoldsBook held) ⊎ IsUnmoved disk before ended.disk))
+      × (KeepsFromSync disk before outcome.disk (HoldsBook held)
+      ⊎ IsUnmoved disk before outcome.disk))
 
 -- what is left of a disk that held a book, where this row was offered last, if any: its rows begin
 -- with those that it held; each crash from the first sync on leaves the first so many, or all and
 -- the one that was offered; and at the end one leaves all rows, or all and that one
 pub record KeepsRows {D : Type 0} (disk : disk.Ghosts D) (held : List Entry)
-    (offered : Option Entry) (before : D) (ended : Ended D) : Type 0 where
-  pub same : take ended.held ended.rows ≡ held
-  pub moments : KeepsFromSync disk before ended.disk (CrashLeaves held ended.rows offered)
-  pub end : (c : List ℕ) → disk.image ended.disk c
-      → HoldsBook ended.rows c ⊎ HoldsOffered ended.rows offered c
+    (offered : Option Entry) (before : D) (outcome : Outcome D) : Type 0 where
+  pub same : take outcome.held outcome.rows ≡ held
+  pub moments : KeepsFromSync disk before outcome.disk
+      (CrashLeaves held (with_offered outcome.rows offered))
+  pub end : (c : List ℕ) → disk.image outcome.disk c
+      → HoldsBook outcome.rows c ⊎ HoldsBook (with_offered outcome.rows offered) c
 
--- The disk was opened as a book, and the command ended in one of its ways, which has its status.
--- What `Explains` says of that way is the command's own meaning over the book as it was opened, and
--- names what was offered to a disk that failed; a crash may leave no other row behind the rows. A
--- command that is done and added rows leaves a snapshot of all rows; one that added none, where the
--- disk didn't fail, leaves every byte of a disk with a snapshot.
+-- The disk was opened as a book, and the command stopped in one of its ways. What `Explains` says of
+-- that way is the command's own meaning over the book as it was opened, and names what was offered
+-- to a disk that failed; a crash may leave no other row behind the rows. A command that is done and
+-- added rows leaves a snapshot of all rows; one that added none, where the disk didn't fail, leaves
+-- every byte of a disk with a snapshot.
 pub record IsOpened {S D : Type 0} (disk : disk.Ghosts D) (limit : ℕ)
-    (Explains : BookState → Call S → Stop → Type 0) (status_of : Stop → ℕ) (before : D)
-    (ended : Ended D) (call : Call S) : Type 0 where
-  pub few : ended.held ≤ length ended.rows
+    (Explains : BookState → Call S → Stop → Type 0) (before : D) (outcome : Outcome D)
+    (call : Call S) : Type 0 where
+  pub few : outcome.held ≤ length outcome.rows
   pub opened : WhereTold (disk.reads before) (λ bytes.
-      IsOpenedAs bytes (take ended.held ended.rows))
+      IsOpenedAs bytes (take outcome.held outcome.rows))
   pub stop : Stop
-  pub status : ended.status ≡ status_of stop
+  pub ending : outcome.ending ≡ Stopped stop
   pub explained :
-      Explains (record { limit = limit; entries = take ended.held ended.rows }) call stop
-  pub cause : CountsStop (disk.faults before) (disk.faults ended.disk) stop
+      Explains (record { limit = limit; entries = take outcome.held outcome.rows }) call stop
+  pub cause : CountsStop (disk.faults before) (disk.faults outcome.disk) stop
   pub kept : WhereTold (disk.reads before) (λ bytes.
       (held : List Entry) → HoldsBook held bytes → IsLegal held
-      → KeepsRows disk held (stop_row (record { limit = limit; entries = ended.rows }) stop)
-      before ended)
-  pub snapshot : stop ≡ Finished → HasGrown ended.held ended.rows
-      → HoldsSnapshotOf disk ended.rows ended.disk
-  pub unwritten : SparesDisk stop → ¬ HasGrown ended.held ended.rows
+      → KeepsRows disk held (stop_row (record { limit = limit; entries = outcome.rows }) stop)
+      before outcome)
+  pub snapshot : stop ≡ Finished → HasGrown outcome.held outcome.rows
+      → HoldsSnapshotOf disk outcome.rows outcome.disk
+  pub unwritten : SparesDisk stop → ¬ HasGrown outcome.held outcome.rows
       → WhereTold (disk.reads before) (λ bytes. (rows size : ℕ) → FitsSnapshot rows size bytes
-      → disk.reads ended.disk ≡ Some bytes)
-
--- the book was found whole: the input wasn't read, the line went out that says so, and the rows are
--- those that the disk held
-pub record IsChecked {S : Type 0} (book : BookState) (call : Call S) : Type 0 where
-  pub unread : call.now.source ≡ call.before.source
-  pub rows : call.rows ≡ book.entries
-  pub wrote : WroteAll call.before.output call.now.output (whole (length call.rows))
-
--- that line was cut
-pub record IsCheckCut {S : Type 0} (book : BookState) (call : Call S) : Type 0 where
-  pub unread : call.now.source ≡ call.before.source
-  pub rows : call.rows ≡ book.entries
-  pub cut : IsCutIn call.before.output call.now.output [] (whole (length call.rows))
+      → disk.reads outcome.disk ≡ Some bytes)
 
 -- the line that says that the book is whole went out, or was cut
 abbrev pub SaysWhole : Stream → Stream → ℕ → Stop → Type 0
@@ -122,48 +96,84 @@ SaysWhole before now rows Finished = WroteAll before now (whole rows)
 SaysWhole before now rows WriteFault = IsCutIn before now [] (whole rows)
 SaysWhole before now rows _ = ⊥
 
--- how a check ends
-abbrev pub ExplainsCheck : {S : Type 0} → BookState → Call S → Stop → Type 0
-ExplainsCheck book call Finished = IsChecked book call
-ExplainsCheck book call WriteFault = IsCheckCut book call
-ExplainsCheck book call _ = ⊥
+-- a check: the input wasn't read, the rows are those that the disk held, and the line that says how
+-- many went out or was cut
+pub record ExplainsCheck {S : Type 0} (book : BookState) (call : Call S) (stop : Stop) : Type 0
+  where
+    pub unread : call.now.source ≡ call.before.source
+    pub rows : call.rows ≡ book.entries
+    pub says : SaysWhole call.before.output call.now.output (length call.rows) stop
 
--- how a run of a script ends, and that a good script which nothing stops is done
-pub record ExplainsRun {S : Type 0} (book : BookState) (call : Call S) (stop : Stop) : Type 0 where
-  pub explained : Explains book call stop
-  pub complete : IsComplete call stop
+-- the input among some devices
+abbrev pub input_of : {S : Type 0} → Devices S → InputMoment S
+input_of devices = record { source = devices.source; stream = devices.input }
+
+-- the rows of a journal were carried into a book, or that stopped so
+abbrev pub CarriesJournal : {S : Type 0} → BookState → Call S → Stop → Type 0
+CarriesJournal book call stop =
+    ExplainsMigration book.entries (input_of call.before) (input_of call.now) call.rows stop
+
+-- a migration that carried its journal then says how many rows the book has, or that line is cut;
+-- one that stopped writes nothing
+abbrev pub ExplainsMigrate : {S : Type 0} → BookState → Call S → Stop → Type 0
+ExplainsMigrate book call Finished =
+    CarriesJournal book call Finished
+    × SaysWhole call.before.output call.now.output (length call.rows) Finished
+ExplainsMigrate book call WriteFault =
+    CarriesJournal book call Finished
+    × SaysWhole call.before.output call.now.output (length call.rows) WriteFault
+ExplainsMigrate book call stop =
+    CarriesJournal book call stop × (call.now.output ≡ call.before.output)
 
 -- how each command ends
 abbrev pub ExplainsCommand : {S : Type 0} → Command → BookState → Call S → Stop → Type 0
 ExplainsCommand Run book call stop = ExplainsRun book call stop
 ExplainsCommand Check book call stop = ExplainsCheck book call stop
-ExplainsCommand Migrate book call stop = ExplainsMigration book call stop
+ExplainsCommand Migrate book call stop = ExplainsMigrate book call stop
 
 -- A call with right words: the disk was opened as a book and the command ended in one of its ways,
 -- or it wasn't opened.
-abbrev pub EndsAs : {S D : Type 0} → disk.Ghosts D → Wanted → D → Ended D → Call S → Type 0
-EndsAs disk wanted before ended call =
-    IsOpened disk wanted.limit (ExplainsCommand wanted.command) status_of before ended call
-    ⊎ IsUnopened disk before ended call
+abbrev pub EndsAs : {S D : Type 0} → disk.Ghosts D → Wanted → D → Outcome D → Call S → Type 0
+EndsAs disk wanted before outcome call =
+    IsOpened disk wanted.limit (ExplainsCommand wanted.command) before outcome call
+    ⊎ IsUnopened disk before outcome call
 
--- status 2: nothing was read, the disk is as it was, the line on the usage went out or was cut, and
--- there are no rows
-pub record IsUsage {S D : Type 0} (before : D) (ended : Ended D) (call : Call S) : Type 0 where
-  pub same : ended.disk ≡ before
-  pub nothing : NothingDone call
-  pub wrote : Wrote call.before.output call.now.output [] usage
-  pub none : ended.held ≡ 0
+-- a call with wrong words: nothing was read, the disk is as it was, and there are no rows
+pub record IsUsage {S D : Type 0} (before : D) (outcome : Outcome D) (call : Call S) : Type 0
+  where
+    pub ending : outcome.ending ≡ Usage
+    pub same : outcome.disk ≡ before
+    pub nothing : NothingDone call
+    pub none : outcome.held ≡ 0
 
--- A command was done over a store: it ended in one of its ways, and the disk and the rows are those
+-- A call ended with an outcome of which this holds, and then came its last line. Disk and rows are
+-- those of the outcome.
+pub record LeavesOutcome {S D : Type 0} (Holds : Outcome D → Call S → Type 0) (ended : Ended D)
+    (call : Call S) : Type 0 where
+  pub outcome : Outcome D
+  pub said : Stream
+  pub disk_left : ended.disk ≡ outcome.disk
+  pub held : ended.held ≡ outcome.held
+  pub rows : ended.rows ≡ outcome.rows
+  pub holds : Holds outcome (record call { now = record call.now { output = said } })
+  pub last : SaysLast outcome.ending said call.now.output ended.status
+
+-- A command was done over a store: it stopped in one of its ways, and the disk and the rows are those
 -- of the store that it left.
-pub record CommandEnded {S D : Type 0} (disk : disk.Ghosts D)
-    (Explains : BookState → Call S → Stop → Type 0) (status_of : Stop → ℕ) (store : Store D)
-    (ended : Ended D) (call : Call S) : Type 0 where
+pub record CommandDone {S D : Type 0} (disk : disk.Ghosts D)
+    (Explains : BookState → Call S → Stop → Type 0) (store : Store D) (outcome : Outcome D)
+    (call : Call S) : Type 0 where
   pub last : Store D
   pub stop : Stop
-  pub status : ended.status ≡ status_of stop
-  pub disk_left : ended.disk ≡ disk_of last
-  pub rows : ended.rows ≡ entries_of last
-  pub held : ended.held ≡ length (entries_of store)
+  pub ending : outcome.ending ≡ Stopped stop
+  pub disk_left : outcome.disk ≡ disk_of last
+  pub rows : outcome.rows ≡ entries_of last
+  pub held : outcome.held ≡ length (entries_of store)
   pub goes : RunGoes disk stop store last
   pub explained : Explains (stored_book store) call stop
+
+-- how a migration that stopped so is ended: where it carried its journal, by the line that says how
+-- many rows the book has, and else as it stopped, with nothing written
+abbrev pub SaysMigration : Stream → Stream → ℕ → Stop → Stop → Type 0
+SaysMigration before now rows Finished stop = SaysWhole before now rows stop
+SaysMigration before now rows other stop = (stop ≡ other) × (now ≡ before)

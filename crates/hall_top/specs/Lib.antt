@@ -1,15 +1,4 @@
-pub mod Books
 pub mod Calls
-pub mod Kept
-pub mod Migration
-pub mod Offers
-pub mod Reached
-pub mod Reading
+pub mod Endings
 pub mod Requests
-pub mod Run
-pub mod Runs
-pub mod Snapshots
-pub mod Streams
 pub mod Texts
-pub mod Transcript
-pub mod Unanswered

@@ -1,21 +1,12 @@
-//! The program: a script of commands in, the book's answers and the summary out.
+//! The program: words and a disk in, a command done over the book, and its last line out.
 #![tactic(auto)]
 
-mod asking;
-mod carrying;
-mod check;
-mod composing;
 mod ended;
-mod migrate;
-mod numbered;
-mod open;
-mod reads;
-mod run;
-mod session;
-mod stop;
+mod ending;
 mod top;
-mod writing;
+mod whole;
 
 pub use command_line::{Command, Text, Wants, WantsError, wants};
 pub use ended::Ended;
+pub use ending::{Ending, say_last};
 pub use top::hall;

@@ -3,24 +3,28 @@ ghost use Rattle.hall_limits.specs.declared.TheConstants.{MAX_ROWS};
 ghost use Rattle.book_words.specs.Answers.{IsLegal};
 ghost use Rattle.book_words.specs.Soundness.{IsSound as IsSoundBook};
 ghost use Rattle.book_store.specs.Stores.{entries_of, held_of, IsSound};
-ghost use Rattle.hall_top.specs.Requests.{RequestsOnce};
-ghost use Rattle.hall_top.specs.Run.{call, is_status, status_of};
-ghost use Rattle.hall_top.specs.Kept.{RunGoes};
-ghost use Rattle.hall_top.specs.Books.{stored_book};
 ghost use Rattle.command_line.specs.Words.{Wanted, bytes_of, wanted_of};
-ghost use Rattle.hall_top.specs.Texts.{usage};
-ghost use Rattle.hall_top.specs.Streams.{output_at, Wrote};
-ghost use Rattle.hall_top.specs.Calls.{ExplainsCommand, EndsAs, CommandEnded, IsOpened, IsUnopened, IsUsage};
+ghost use Rattle.command_line.specs.Taken.{seen};
+ghost use Rattle.store_runs.specs.Books.{stored_book};
+ghost use Rattle.store_runs.specs.Calls.{call};
+ghost use Rattle.store_runs.specs.Runs.{RunGoes};
+ghost use Rattle.hall_top.specs.declared.ending.Ending.TheVariants as ending;
+ghost use Rattle.hall_top.specs.Requests.{RequestsOnce};
+ghost use Rattle.hall_top.specs.Endings.{is_status};
+ghost use Rattle.hall_top.specs.Calls.{ExplainsCommand, EndsAs, CommandDone, IsUsage, LeavesOutcome};
 
-use crate::check::check_book;
-use crate::ended::Ended;
-use crate::migrate::migrate_journal;
-use crate::open::{end_unopened, no_rows};
-use crate::reads::{RunEnd, run_script};
-use book_store::{MountError, Store, Unmounted};
-use command_line::{Command, WantsError, wants};
-use disk_core::{Disk, Sink, Source, write_all};
+use crate::ended::{Ended, Outcome};
+use crate::ending::{Ending, say_last};
+use crate::whole::{end_migration, say_whole};
+use book_core::{Book, Rows};
+use book_migration::migrate_journal;
+use book_store::{MountError, Store};
+use command_line::{Command, Wants, WantsError, wants};
+use disk_core::{Disk, Sink, Source};
+use hall_limits::MAX_ROWS;
+use script_run::run_script;
 use std::alloc::Global;
+use store_runs::RunEnd;
 
 // Does a command over a store.
 fn run_command<S: Source, K: Sink, D: Disk>(
@@ -41,11 +45,8 @@ fn run_command<S: Source, K: Sink, D: Disk>(
 {
     match command {
         Command::Run => run_script(alloc, store, input, output),
-        Command::Check => {
-            let stop = check_book(&store, output);
-            RunEnd { stop, store }
-        }
-        Command::Migrate => migrate_journal(alloc, store, input, output),
+        Command::Check => say_whole(store, output),
+        Command::Migrate => end_migration(migrate_journal(alloc, store, input), output),
     }
 }
 
@@ -56,68 +57,94 @@ fn do_command<S: Source, K: Sink, D: Disk>(
     store: Store<D>,
     input: &mut S,
     output: &mut K,
-) -> Ended<D>
+) -> Outcome<D>
     requires unended { S.ended input.old ≡ false }
     requires opened { held_of store ≡ length (entries_of store) }
     requires sound { IsSound D.Disk store }
     requires legal { IsLegal (entries_of store) }
-    ensures done { CommandEnded D.Disk (ExplainsCommand command) status_of store result
+    ensures done { CommandDone D.Disk (ExplainsCommand command) store result
         (call S.Source K.Sink input.old output.old input.new output.new result.rows) }
     ensures sound { IsSoundBook result.rows }
 {
     let held = store.len();
     let end = run_command(alloc, command, store, input, output);
     let (disk, rows) = end.store.close();
-    Ended {
-        status: end.stop.status(),
+    Outcome {
+        ending: Ending::Stopped(end.stop),
         disk,
         held,
         rows,
     }
 }
 
-// Opens a disk as a book that may have `limit` rows, and does a command over it.
-#[tactic(auto, using(crate::proofs::RequestOrder::requests_once))]
-fn carry_out<S: Source, K: Sink, D: Disk>(
-    alloc: Global,
-    command: Command,
-    limit: u32,
-    input: &mut S,
-    output: &mut K,
-    disk: D,
-) -> Ended<D>
-    requires unended { S.ended input.old ≡ false }
-    requires least { 1 ≤ limit }
-    requires most { limit ≤ MAX_ROWS }
-    ensures ends { IsOpened D.Disk limit (ExplainsCommand command) status_of disk result
-        (call S.Source K.Sink input.old output.old input.new output.new result.rows)
-        ⊎ IsUnopened D.Disk disk result
-        (call S.Source K.Sink input.old output.old input.new output.new result.rows) }
-    ensures status { IsTrue (is_status result.status) }
-    ensures rows { IsSoundBook result.rows }
-    ensures requests { RequestsOnce result.rows }
+// No rows.
+fn no_rows(alloc: Global) -> Rows
+    ensures rows { result ≡ [] }
+    ensures sound { IsSoundBook result }
 {
-    match Store::mount(alloc, disk, limit) {
-        Ok(store) => do_command(alloc, command, store, input, output),
-        Err(refused) => end_unopened(alloc, refused, output),
-    }
+    Book::new(alloc, MAX_ROWS).rows()
 }
 
-// The end of a call with wrong words: the line that says how it is used.
-fn end_with_usage<K: Sink, D>(alloc: Global, disk: D, output: &mut K) -> Ended<D>
-    ensures wrote { Wrote (output_at K.Sink output.old) (output_at K.Sink output.new) [] usage }
-    ensures status { result.status ≡ 2 }
-    ensures same { result.disk ≡ disk }
+// The outcome of a call whose disk wasn't opened as a book.
+fn leave_unopened<D>(alloc: Global, ending: Ending, disk: D) -> Outcome<D>
+    ensures ending { result.ending ≡ ending }
+    ensures disk { result.disk ≡ disk }
     ensures held { result.held ≡ 0 }
     ensures rows { result.rows ≡ [] }
     ensures sound { IsSoundBook result.rows }
 {
-    let _ = write_all(output, b"usage: hall COMMAND [OPTIONS]\n");
-    Ended {
-        status: 2,
+    Outcome {
+        ending,
         disk,
         held: 0,
         rows: no_rows(alloc),
+    }
+}
+
+// Opens a disk as a book, and does a command over it.
+fn do_wanted<S: Source, K: Sink, D: Disk>(
+    alloc: Global,
+    wanted: &Wants,
+    input: &mut S,
+    output: &mut K,
+    disk: D,
+) -> Outcome<D>
+    requires unended { S.ended input.old ≡ false }
+    requires least { 1 ≤ wanted.now.limit }
+    requires most { wanted.now.limit ≤ MAX_ROWS }
+    ensures ends { EndsAs D.Disk (seen wanted.now) disk result
+        (call S.Source K.Sink input.old output.old input.new output.new result.rows) }
+    ensures rows { IsSoundBook result.rows }
+{
+    match Store::mount(alloc, disk, wanted.limit) {
+        Ok(store) => do_command(alloc, wanted.command, store, input, output),
+        Err(refused) => leave_unopened(alloc, Ending::Unopened(refused.why), refused.disk),
+    }
+}
+
+// Does what the words say.
+fn do_words<S: Source, K: Sink, D: Disk>(
+    alloc: Global,
+    words: &[String],
+    input: &mut S,
+    output: &mut K,
+    disk: D,
+) -> Outcome<D>
+    requires { S.ended input.old ≡ false }
+    ensures words { (result.ending ≡ ending.Usage) ↔ (wanted_of (bytes_of words.now) ≡ None) }
+    ensures usage { result.ending ≡ ending.Usage → IsUsage disk result
+        (call S.Source K.Sink input.old output.old input.new output.new result.rows) }
+    ensures ends { (wanted : Wanted) → wanted_of (bytes_of words.now) ≡ Some wanted →
+        EndsAs D.Disk wanted disk result
+        (call S.Source K.Sink input.old output.old input.new output.new result.rows) }
+    ensures rows { IsSoundBook result.rows }
+{
+    match wants(alloc, words) {
+        Ok(wanted) => do_wanted(alloc, &wanted, input, output, disk),
+        Err(WantsError::Usage) => leave_unopened(alloc, Ending::Usage, disk),
+        Err(WantsError::NoMemory) => {
+            leave_unopened(alloc, Ending::Unopened(MountError::NoMemory), disk)
+        }
     }
 }
 
@@ -153,6 +180,7 @@ fn end_with_usage<K: Sink, D>(alloc: Global, disk: D, output: &mut K) -> Ended<D
 ///
 /// At each status the rows that the disk held stand first among the rows, and a crash at any moment
 /// leaves them. The end of the input wasn't given before, and nothing is read after it.
+#[tactic(auto, using(crate::proofs::RequestOrder::requests_once))]
 pub fn hall<S: Source, K: Sink, D: Disk>(
     alloc: Global,
     words: &[String],
@@ -162,10 +190,10 @@ pub fn hall<S: Source, K: Sink, D: Disk>(
 ) -> Ended<D>
     requires { S.ended input.old ≡ false }
     ensures words { (result.status ≡ 2) ↔ (wanted_of (bytes_of words.now) ≡ None) }
-    ensures usage { result.status ≡ 2 → IsUsage disk result
+    ensures usage { result.status ≡ 2 → LeavesOutcome (IsUsage disk) result
         (call S.Source K.Sink input.old output.old input.new output.new result.rows) }
     ensures ends { (wanted : Wanted) → wanted_of (bytes_of words.now) ≡ Some wanted →
-        EndsAs D.Disk wanted disk result
+        LeavesOutcome (EndsAs D.Disk wanted disk) result
         (call S.Source K.Sink input.old output.old input.new output.new result.rows) }
 
     // At every status.
@@ -173,12 +201,11 @@ pub fn hall<S: Source, K: Sink, D: Disk>(
     ensures rows { IsSoundBook result.rows }
     ensures requests { RequestsOnce result.rows }
 {
-    match wants(alloc, words) {
-        Ok(wanted) => carry_out(alloc, wanted.command, wanted.limit, input, output, disk),
-        Err(WantsError::Usage) => end_with_usage(alloc, disk, output),
-        Err(WantsError::NoMemory) => {
-            let why = MountError::NoMemory;
-            end_unopened(alloc, Unmounted { disk, why }, output)
-        }
+    let outcome = do_words(alloc, words, input, output, disk);
+    Ended {
+        status: say_last(outcome.ending, output),
+        disk: outcome.disk,
+        held: outcome.held,
+        rows: outcome.rows,
     }
 }

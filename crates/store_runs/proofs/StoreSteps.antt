@@ -1,5 +1,5 @@
 -- What the steps of a run make of its store, one after another.
-use Rattle.std.proofs.Common.{◌≡◌, ◌≢◌, ◌⊎◌, ◌≤◌, Bool, true, false, inl, inr, ⊎_elim, ℕ, List, [], ◌∷◌, ◌++◌, length, Option, Some, None, Result, Ok, Err, OnOk, IfErr, refl, sym, ap, ◌∙◌, subst, arith, append-nil, length-append}
+use Rattle.std.proofs.Common.{◌≡◌, ◌≢◌, ◌⊎◌, ◌≤◌, Bool, true, false, inl, inr, ⊎_elim, ℕ, [], ◌∷◌, ◌++◌, length, Option, None, Result, Ok, Err, OnOk, IfErr, refl, sym, ap, ◌∙◌, subst, arith, length-append}
 use Rattle.std.proofs.lemmas.Bool.{cases_lt}
 use Rattle.disk_core.specs.declared.disk.Disk as disk
 use Rattle.book_words.specs.declared.act.Ask.{Ask}
@@ -16,18 +16,16 @@ use Rattle.book_store.specs.declared.types.AdoptError.TheVariants as adopt
 use Rattle.book_store.specs.declared.types.RestError.{RestError}
 use Rattle.book_store.specs.Adopting.{Adopts, list_adopted, CountsAdoptFault, offered_adopted}
 use Rattle.book_store.specs.Callers.{CallerView, IsReachedBy}
-use Rattle.book_store.specs.Kept.{HasKept, KeepsOn}
+use Rattle.book_store.specs.Kept.{KeepsOn}
 use Rattle.book_store.specs.Offers.{OffersEntry, LeavesDisk, list_behind, offered_behind, CountsDiskFault}
 use Rattle.book_store.specs.Resting.{HasNothingToKeep, HoldsOwnSnapshot}
 use Rattle.book_store.specs.Stores.{disk_of, book_of, entries_of, limit_of, held_of, Hangs, HasBook, ImagesHoldBook, KeepsBook}
 use Rattle.book_store.proofs.KeptLemmas.{same_begins, begins_on, begins_short, adopted_begins, kept_adopted, kept_rested, keeps_offered}
-use Rattle.store_runs.specs.declared.stop.Offer.{Offer}
-use Rattle.store_runs.specs.declared.stop.Offer.TheVariants as offering
 use Rattle.store_runs.specs.declared.stop.Stop.{Stop}
-use Rattle.store_runs.specs.declared.stop.Stop.TheVariants.{Finished, BadLine, DiskFault, NoMemory}
+use Rattle.store_runs.specs.declared.stop.Stop.TheVariants.{Finished}
 use Rattle.store_runs.specs.Books.{BookState, stored_book}
-use Rattle.store_runs.specs.Stops.{stop_row, step_row, step_asked, step_adopted}
-use Rattle.store_runs.specs.Runs.{HasAddedRows, LeavesSnapshot, CountsStop, CountsStep, SparesDisk, Goes}
+use Rattle.store_runs.specs.Stops.{step_row, step_asked, step_adopted}
+use Rattle.store_runs.specs.Runs.{HasAddedRows, LeavesSnapshot, CountsStep, SparesDisk, Goes}
 
 -- a step that goes on isn't the end of a run
 pub on_unfinished : {T : Type 0} (done : T) → Ok done ≢ Err Finished

@@ -1,11 +1,11 @@
 -- Lemmas on what was taken of an input.
-use Rattle.std.proofs.Common.{◌≡◌, ℕ, ◌+◌, ◌<◌, ◌≤◌, List, [], ◌++◌, length, refl, ◌∙◌, length-append, append-nil, ap, subst, arith}
+use Rattle.std.proofs.Common.{◌≡◌, ℕ, ◌+◌, ◌<◌, List, [], ◌++◌, length, refl, ◌∙◌, length-append, append-nil, ap, subst, arith}
 use Rattle.std.specs.Io.KnownBytes.{Consumes, Keeps, IsAtEnd}
 use Rattle.std.proofs.KnownBytes.{Consumes-nil, Consumes-trans, Consumes-kept, Consumes-whole}
 use Rattle.device_facts.specs.Count.{Counted}
 use Rattle.text_streams.specs.Readers.{ReaderView}
-use Rattle.text_streams.specs.Streams.{Stream, IsCalm, HasFailed}
-use Rattle.text_streams.specs.Reading.{TakesPiece, HasTaken, HasMadeReads, FailsBehind, ReadsWhole}
+use Rattle.text_streams.specs.Streams.{Stream, HasFailed}
+use Rattle.text_streams.specs.Reading.{TakesPiece, HasTaken, FailsBehind, ReadsWhole}
 
 -- nothing was taken yet
 pub taken_nothing : (now : Stream) → HasTaken now now 0 []

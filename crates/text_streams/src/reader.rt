@@ -33,7 +33,10 @@ impl Model for Reader {
     ghost Value = { ReaderView };
 
     ghost view = { λ r. record {
-        piece = take r.count r.buffer.items; reads = r.reads; most = r.most } };
+      piece = take r.count r.buffer.items;
+      reads = r.reads;
+      most = r.most;
+    } };
 
     ghost invariant = { λ r. (length r.buffer.items ≡ PIECE) × (r.count ≤ PIECE)
         × (r.reads ≤ r.most) };

@@ -1,9 +1,9 @@
-use Rattle.std.proofs.Common.{List, sym, subst}
+use Rattle.std.proofs.Common.{List, sym, subst, refl}
 use Rattle.book_words.specs.declared.act.Entry.{Entry}
-use Rattle.hall_top.specs.Streams.{devices}
-use Rattle.hall_top.specs.Books.{stored_book}
+use Rattle.text_streams.specs.Streams.{devices}
+use Rattle.store_runs.specs.Books.{stored_book}
 use Rattle.hall_top.specs.Calls.{ExplainsCommand}
-use Rattle.hall_top.proofs.RunEnds.{call_from}
+use Rattle.hall_top.proofs.OpenedBooks.{call_from}
 use Rattle.hall_top.proofs.top.do_command.Goals as goal
 
 pub returns-clause-done : goal.returns-clause-done
@@ -13,7 +13,7 @@ returns-clause-done g c =
     record {
       last = c.run_command-end.result.store;
       stop = c.run_command-end.result.stop;
-      status = c.status.ensures;
+      ending = refl;
       disk_left = c.close-disk.ensures.disk;
       rows = c.close-disk.ensures.rows;
       held = c.len-held.ensures;

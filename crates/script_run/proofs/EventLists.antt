@@ -1,0 +1,47 @@
+-- The events of lines, one after another.
+use Rattle.std.proofs.Common.{◌≡◌, List, [], ◌∷◌, ◌++◌, ℕ, flat_map, refl, sym, ap, ◌∙◌, subst}
+use Rattle.std.proofs.lemmas.Grind.{flat_map-append}
+use Rattle.script_lines.specs.declared.command.Line.{Line}
+use Rattle.script_lines.specs.declared.command.Line.TheVariants.{Nothing, Asks, Bad}
+use Rattle.store_runs.specs.Books.{BookState}
+use Rattle.script_run.specs.Transcript.{Event, answered, text_of, after_event, after_events, AreEventsOf, texts}
+
+-- a last line that says nothing has no event
+pub events-nothing : (book : BookState) (lines : List Line) (events : List Event) → AreEventsOf book (lines ++ Nothing ∷ []) events → AreEventsOf book lines events
+events-nothing book [] events are = are
+events-nothing book (Nothing ∷ lines) events are = events-nothing book lines events are
+events-nothing book (Asks command ∷ lines) [] are = are
+events-nothing book (Asks command ∷ lines) (event ∷ events) are = (are.0, events-nothing (after_event book event) lines events are.1)
+events-nothing book (Bad ∷ lines) [] are = are
+events-nothing book (Bad ∷ lines) (event ∷ events) are = absurd are.0
+
+-- the events of lines, and then of more
+pub events-append : (book : BookState) (lines more : List Line) (events later : List Event) → AreEventsOf book lines events → AreEventsOf (after_events book events) more later → AreEventsOf book (lines ++ more) (events ++ later)
+events-append book [] more events later are then =
+    subst (λ (es : List Event). AreEventsOf book more (es ++ later)) (sym are) (subst (λ (es : List Event). AreEventsOf (after_events book es) more later) are then)
+events-append book (Nothing ∷ lines) more events later are then = events-append book lines more events later are then
+events-append book (Asks command ∷ lines) more [] later are then = absurd are
+events-append book (Asks command ∷ lines) more (event ∷ events) later are then = (are.0, events-append (after_event book event) lines more events later are.1 then)
+events-append book (Bad ∷ lines) more [] later are then = absurd are
+events-append book (Bad ∷ lines) more (event ∷ events) later are then = absurd are.0
+
+pub after_events-append : (book : BookState) (events more : List Event) → after_events book (events ++ more) ≡ after_events (after_events book events) more
+after_events-append book [] more = refl
+after_events-append book (event ∷ events) more = after_events-append (after_event book event) events more
+
+pub texts-append : (events more : List Event) → texts (events ++ more) ≡ texts events ++ texts more
+texts-append events more = flat_map-append text_of events more
+
+-- commands leave no choice: lines that ask nothing but commands have one list of events
+pub only_events : (book : BookState) (lines : List Line) (events others : List Event) → AreEventsOf book lines events → AreEventsOf book lines others → events ≡ others
+only_events book [] events others are same = are ∙ sym same
+only_events book (Nothing ∷ lines) events others are same = only_events book lines events others are same
+only_events book (Bad ∷ lines) [] others are same = absurd are
+only_events book (Bad ∷ lines) (event ∷ events) others are same = absurd are.0
+only_events book (Asks command ∷ lines) [] others are same = absurd are
+only_events book (Asks command ∷ lines) (event ∷ events) [] are same = absurd same
+only_events book (Asks command ∷ lines) (answered exchange ∷ events) (answered other ∷ others) are same =
+    let event : answered exchange ≡ answered other = ap (λ x. answered x) (are.0 ∙ sym same.0) in
+    ap (λ (e : Event). e ∷ events) event
+    ∙ ap (λ (es : List Event). answered other ∷ es)
+    (only_events (after_event book (answered other)) lines events others (subst (λ (e : Event). AreEventsOf (after_event book e) lines events) event are.1) same.1)

@@ -1,0 +1,11 @@
+pub mod EventLists
+pub mod ScriptLines
+pub mod RepeatLemmas
+pub mod AcknowledgedRows
+pub mod AskedCommands
+pub mod AnsweredLines
+pub mod Summaries
+pub mod ByteSteps
+pub mod ScriptEnds
+pub mod RunEnds
+pub mod WholeScripts

@@ -1,0 +1,298 @@
+-- Lemmas on how a run ends.
+use Rattle.std.proofs.Common.{◌≡◌, ℕ, ◌+◌, ◌*◌, ◌<◌, ◌≤◌, false, List, [], ◌∷◌, ◌++◌, length, Option, Some, None, IfSome, Result, Ok, Err, MatchResult, inl, inr, refl, sym, ap, ◌∙◌, append_assoc, append-nil, length-append, subst, arith, lit<}
+use Rattle.std.specs.Io.KnownBytes.{Consumes, IsAtEnd}
+use Rattle.std.proofs.KnownBytes.{Consumes-whole, Consumes-trans}
+use Rattle.device_facts.specs.Count.{Counted}
+use Rattle.book_words.specs.declared.act.Entry.{Entry}
+use Rattle.book_words.specs.Views.{summary}
+use Rattle.script_lines.specs.declared.command.Line.{Line}
+use Rattle.script_lines.specs.declared.command.Line.TheVariants.{Nothing, Asks, Bad}
+use Rattle.script_lines.specs.Feed.{FeedView, feed_after}
+use Rattle.script_lines.specs.Script.{all_good}
+use Rattle.script_lines.proofs.LineLists.{ended_lines-few}
+use Rattle.batch_reports.specs.Texts.{summary_text}
+use Rattle.text_streams.specs.declared.reader.TheConstants.{PIECE}
+use Rattle.text_streams.specs.declared.reader.ReadError.{ReadError}
+use Rattle.text_streams.specs.declared.reader.ReadError.TheVariants as reading
+use Rattle.text_streams.specs.Readers.{ReaderView}
+use Rattle.text_streams.specs.Reading.{TakesPiece, TakesNone, HasTaken, ReadsWhole}
+use Rattle.text_streams.specs.Streams.{Stream, Devices, IsCalm, HasFailed, WroteAll}
+use Rattle.text_streams.proofs.ReadingLemmas.{taken_nothing, taken_more, taken_whole, fails_behind}
+use Rattle.store_runs.specs.declared.stop.Offer.{Offer}
+use Rattle.store_runs.specs.declared.stop.Stop.{Stop}
+use Rattle.store_runs.specs.declared.stop.Stop.TheVariants.{Finished, BadLine, ReadFault, WriteFault, DiskFault, NoMemory, Spent}
+use Rattle.store_runs.specs.Books.{BookState}
+use Rattle.store_runs.specs.Calls.{Call}
+use Rattle.store_runs.specs.Stops.{stop_of}
+use Rattle.script_run.specs.declared.script.TheConstants.{MAX_READS}
+use Rattle.script_run.specs.Scripts.{ended_lines_of, lines_of, HasLine}
+use Rattle.script_run.specs.Transcript.{Event, after_events, texts, transcript}
+use Rattle.script_run.specs.Ends.{StopsAtLine, StopsInScript, StopsAtSummary, EndsEarly}
+use Rattle.script_run.specs.Acknowledged.{AreLeft}
+use Rattle.script_run.specs.Runs.{StopsInInput, StopsAtEnd, IsGoodStill, Explains}
+use Rattle.script_run.specs.Reached.{RunState, Reached, Steps, StopsAfter, IsWholeSoFar, EndsAtSummary}
+use Rattle.script_run.specs.Books.{HasRead, HasReadWhole}
+use Rattle.script_run.proofs.AcknowledgedRows.{are_left}
+use Rattle.script_run.proofs.AnsweredLines.{answered_none, wrote_nothing, wrote_on, cut_on, wrote_still}
+use Rattle.script_run.proofs.ScriptLines.{all_good-bad}
+
+-- a call that began with these devices
+abbrev pub call_from : {S : Type 0} → Devices S → Devices S → List Entry → Call S
+call_from before now rows = record { before = before; now = now; rows = rows }
+
+-- what holds whatever follows the bytes taken holds of all that a source tells
+whatever_follows : (a b : Option (List ℕ)) (taken : List ℕ) (Q : List ℕ → Type 0) → Consumes a b taken → ((more : List ℕ) → Q (taken ++ more)) → IfSome a Q
+whatever_follows None b taken Q read h = tt
+whatever_follows (Some xs) None taken Q read h = absurd read
+whatever_follows (Some xs) (Some ys) taken Q read h = subst Q (sym read) (h ys)
+
+-- ---- a run that stops at a line
+
+module _ (book : BookState) (before now : Stream) (rows : List Entry) (events : List Event) (number : ℕ) where
+  -- where a write stopped it, the output failed
+  cut_failed : (line : Line) → StopsAtLine book before now rows events number line WriteFault → HasFailed before now
+  cut_failed (Asks command) stops = stops.cut.failed
+  cut_failed Nothing stops = absurd stops
+  cut_failed Bad stops = absurd stops
+
+  -- and else the output didn't fail
+  bad_calm : (named : ℕ) (line : Line) → StopsAtLine book before now rows events number line (BadLine named) → IsCalm before now
+  bad_calm named Bad stops = stops.1.wrote.calm
+  bad_calm named (Asks command) stops = absurd stops.1
+  bad_calm named Nothing stops = absurd stops
+
+  memory_calm : (line : Line) → StopsAtLine book before now rows events number line NoMemory → IsCalm before now
+  memory_calm (Asks command) stops = stops.0.wrote.calm
+  memory_calm Nothing stops = absurd stops
+  memory_calm Bad stops = absurd stops
+
+  disk_calm : (offer : Offer) (line : Line) → StopsAtLine book before now rows events number line (DiskFault offer) → IsCalm before now
+  disk_calm offer (Asks command) stops = stops.0.wrote.calm
+  disk_calm offer Nothing stops = absurd stops
+  disk_calm offer Bad stops = absurd stops
+
+  -- and no line stops it in another way
+  never_finished : (line : Line) → StopsAtLine book before now rows events number line Finished → ⊥
+  never_finished (Asks command) stops = stops.1
+  never_finished Nothing stops = stops
+  never_finished Bad stops = stops
+
+  never_read : (line : Line) → StopsAtLine book before now rows events number line ReadFault → ⊥
+  never_read (Asks command) stops = stops.1
+  never_read Nothing stops = stops
+  never_read Bad stops = stops
+
+  never_spent : (line : Line) → StopsAtLine book before now rows events number line Spent → ⊥
+  never_spent (Asks command) stops = stops.1
+  never_spent Nothing stops = stops
+  never_spent Bad stops = stops
+
+-- a script in which a run stops at a bad line has one
+bad_stops : (book : BookState) (before now : Stream) (rows : List Entry) (events : List Event) (number named : ℕ) (lines more : List Line) (line : Line) → StopsAtLine book before now rows events number line (BadLine named) → all_good (lines ++ line ∷ more) ≡ false
+bad_stops book before now rows events number named lines more Bad stops = all_good-bad lines more
+bad_stops book before now rows events number named lines more Nothing stops = absurd stops
+bad_stops book before now rows events number named lines more (Asks command) stops = absurd stops.1
+
+-- so has the whole script
+whole_bad : (left : Option (List ℕ)) (lines : List Line) (line : Line) → ((more : List Line) → all_good (lines ++ line ∷ more) ≡ false) → IfSome left (HasLine lines line) → IfSome left (λ script. all_good (lines_of script) ≡ false)
+whole_bad None lines line bad has = tt
+whole_bad (Some script) lines line bad has = ap all_good has.parts ∙ bad has.more
+
+-- what a run stops at in its input explains the call
+explain : {S : Type 0} (book : BookState) (call : Call S) (stop : Stop) → StopsInInput book call stop → IsCalm call.before.input call.now.input → Explains book call stop
+explain book call (BadLine named) stops calm =
+    let here = stops.stops in
+    record {
+      stops = stops;
+      cause = whole_bad call.before.input.bytes here.lines here.line
+          (λ more. bad_stops book call.before.output call.now.output call.rows here.events _ named here.lines more here.line here.stops) stops.whole;
+      calm = calm;
+      output_calm = bad_calm book call.before.output call.now.output call.rows here.events _ named here.line here.stops;
+    }
+explain book call WriteFault stops calm =
+    record { stops = inl stops; cause = cut_failed book call.before.output call.now.output call.rows _ _ stops.stops.line stops.stops.stops; calm = calm }
+explain book call NoMemory stops calm =
+    record { stops = inl stops; calm = calm; output_calm = memory_calm book call.before.output call.now.output call.rows _ _ stops.stops.line stops.stops.stops }
+explain book call (DiskFault offer) stops calm =
+    record { stops = inl stops; calm = calm; output_calm = disk_calm book call.before.output call.now.output call.rows _ _ offer stops.stops.line stops.stops.stops }
+explain book call Finished stops calm = absurd (never_finished book call.before.output call.now.output call.rows _ _ stops.stops.line stops.stops.stops)
+explain book call ReadFault stops calm = absurd (never_read book call.before.output call.now.output call.rows _ _ stops.stops.line stops.stops.stops)
+explain book call Spent stops calm = absurd (never_spent book call.before.output call.now.output call.rows _ _ stops.stops.line stops.stops.stops)
+
+-- ---- a piece of the input
+
+-- a part of the last piece was judged
+stops_early : {S : Type 0} (book : BookState) (call : Call S) (old : Stream) (taken more : List ℕ) (run : RunState) (stop : Stop) → length more ≤ PIECE → StopsAfter old call.now.output run call.rows more stop
+    → Reached book call.before.output old taken run → Consumes call.before.input.bytes call.now.input.bytes (taken ++ more) → StopsInInput book call stop
+stops_early book call old taken more run stop small after stands read =
+    let over = after.stops book call.before.output taken stands in
+    let follows = λ (more' : List ℕ).
+    subst (HasLine over.here.lines over.here.line)
+    (append_assoc taken after.judged (after.rest ++ more') ∙ ap (λ bytes. taken ++ bytes) (sym (append_assoc after.judged after.rest more')) ∙ ap (λ bytes. taken ++ (bytes ++ more')) (sym after.parts) ∙ sym (append_assoc taken more more'))
+    (over.whole (after.rest ++ more')) in
+    record {
+      judged = taken ++ after.judged;
+      rest = after.rest;
+      read = subst (Consumes call.before.input.bytes call.now.input.bytes) (ap (λ bytes. taken ++ bytes) after.parts ∙ sym (append_assoc taken after.judged after.rest)) read;
+      near = omega (arith, small, after.some, ap length after.parts, length-append after.judged after.rest);
+      stops = over.here;
+      whole = whatever_follows call.before.input.bytes call.now.input.bytes (taken ++ more) (HasLine over.here.lines over.here.line) read follows;
+    }
+
+-- a piece of the input was taken
+pub explained_after : {T S : Type 0} (book : BookState) (before old now : Devices S) (first next : ReaderView) (run run' : RunState) (result : Result T Stop)
+    → HasRead book before old first run → TakesPiece old.input now.input first next → 0 < length next.piece → Steps old.output now.output run run' next.piece result
+    → MatchResult result (λ _. HasRead book before now next run') (Explains book (call_from before now run'.book.entries))
+explained_after book before old now first next run run' (Ok done) has takes some steps =
+    record {
+      taken = has.taken ++ next.piece;
+      read = subst (λ (n : ℕ). HasTaken before.input now.input n (has.taken ++ next.piece)) (sym takes.counted)
+          (taken_more before.input old.input now.input first next first.reads has.taken has.read takes some);
+      reached = steps book before.output has.taken has.reached;
+    }
+explained_after book before old now first next run run' (Err stop) has takes some steps =
+    let read = taken_more before.input old.input now.input first next first.reads has.taken has.read takes some in
+    explain book (call_from before now run'.book.entries) stop
+    (stops_early book (call_from before now run'.book.entries) old.output has.taken next.piece run stop takes.few steps has.reached read.read) read.calm
+
+-- ---- the end of the input
+
+-- the last line of the whole script stopped the run
+stops_at_end : {S : Type 0} (book : BookState) (call : Call S) (script : List ℕ) (stop : Stop) → StopsInScript book call.before.output call.now.output call.rows stop script
+    → ReadsWhole call.before.input call.now.input script → StopsInInput book call stop
+stops_at_end book call script stop stops reads =
+    record {
+      judged = script;
+      rest = [];
+      read = subst (Consumes call.before.input.bytes call.now.input.bytes) (sym (append-nil script)) reads.read;
+      near = lit< tt;
+      stops = stops;
+      whole = Consumes-whole call.before.input.bytes call.now.input.bytes script (HasLine stops.lines stops.line) reads.read reads.at_end (record { more = []; parts = stops.last });
+    }
+
+pub explained_last : {S : Type 0} (book : BookState) (before old now : Devices S) (first next : ReaderView) (run run' : RunState) (stop : Stop)
+    → (has : HasRead book before old first run) → TakesPiece old.input now.input first next → next.piece ≡ [] → IsAtEnd now.input.bytes
+    → StopsInScript book before.output now.output run'.book.entries stop has.taken → Explains book (call_from before now run'.book.entries) stop
+explained_last book before old now first next run run' stop has takes empty at_end stops =
+    let reads = taken_whole before.input old.input now.input first next first.reads has.taken has.read takes empty at_end in
+    explain book (call_from before now run'.book.entries) stop (stops_at_end book (call_from before now run'.book.entries) has.taken stop stops reads) reads.calm
+
+pub read_whole : {S : Type 0} (book left : BookState) (before old now : Devices S) (first next : ReaderView) (run : RunState)
+    → (has : HasRead book before old first run) → TakesPiece old.input now.input first next → next.piece ≡ [] → IsAtEnd now.input.bytes
+    → IsWholeSoFar book before.output now.output has.taken left → HasReadWhole book before now left
+read_whole book left before old now first next run has takes empty at_end whole =
+    record { script = has.taken; read = taken_whole before.input old.input now.input first next first.reads has.taken has.read takes empty at_end; whole = whole }
+
+-- ---- no piece
+
+-- the bytes taken are good so far and answered
+good_still : {S : Type 0} (book : BookState) (before now : Devices S) (taken : List ℕ) (run : RunState) → Reached book before.output now.output taken run → IsGoodStill book (call_from before now run.book.entries) taken
+good_still book before now taken run stands =
+    let answered = stands.answered in
+    record {
+      good = record { ended = stands.good; begun = stands.short };
+      events = answered.events;
+      right = answered.right;
+      told = record {
+        wrote = answered.wrote;
+        rows_left = are_left book (ended_lines_of taken) answered.events run.book.entries answered.right (ap (λ (b : BookState). b.entries) answered.left);
+      };
+    }
+
+pub explained_unread : {S : Type 0} (book : BookState) (before old now : Devices S) (reader : ReaderView) (run : RunState) (why : ReadError)
+    → HasRead book before old reader run → TakesNone old.input now.input reader why → reader.most ≡ MAX_READS → now.output ≡ old.output → Explains book (call_from before now run.book.entries) (stop_of why)
+explained_unread book before old now reader run reading.Failed has none most same =
+    fails_behind before.input old.input now.input (IsGoodStill book (call_from before now run.book.entries)) reader.reads has.taken has.read none.1 none.0
+    (good_still book before now has.taken run (subst (λ (s : Stream). Reached book before.output s has.taken run) (sym same) has.reached))
+explained_unread book before old now reader run reading.Spent has none most same =
+    record {
+      taken = has.taken;
+      all = subst (λ (s : Stream). HasTaken before.input s MAX_READS has.taken) (sym none.1)
+          (subst (λ (n : ℕ). HasTaken before.input old.input n has.taken) (none.0 ∙ most) has.read);
+      holds = good_still book before now has.taken run (subst (λ (s : Stream). Reached book before.output s has.taken run) (sym same) has.reached);
+    }
+
+-- ---- where a run begins
+
+pub begins : {S : Type 0} (now : Devices S) (reader : ReaderView) (run : RunState) → run.feed ≡ feed_after [] → reader.reads ≡ 0 → HasRead run.book now now reader run
+begins now reader run fed none =
+    record {
+      taken = [];
+      read = subst (λ (n : ℕ). HasTaken now.input now.input n []) (sym none) (taken_nothing now.input);
+      reached = record { good = refl; fed = fed; short = omega arith; answered = answered_none run.book now.output };
+    }
+
+-- there are no more lines than bytes
+pub lines_few : {S : Type 0} (book : BookState) (before now : Devices S) (reader : ReaderView) (run : RunState) → HasRead book before now reader run → run.feed.ended ≤ reader.reads * PIECE
+lines_few book before now reader run has =
+    omega (arith, ap (λ (f : FeedView). f.ended) has.reached.fed, ended_lines-few has.taken, has.read.most)
+
+-- a run that had no memory to begin with
+pub explained_unbegun : {S : Type 0} (book : BookState) (now : Devices S) (rows : List Entry) → rows ≡ book.entries → Explains book (call_from now now rows) NoMemory
+explained_unbegun book now rows none =
+    record {
+      stops = inr (inr (record { same = refl; told = record { wrote = wrote_nothing now.output; rows_left = are_left book [] [] rows refl none } }));
+      calm = refl;
+      output_calm = refl;
+    }
+
+-- ---- the end of a run whose lines are all answered
+
+failed_behind : (a b c : Stream) → IsCalm a b → HasFailed b c → HasFailed a c
+failed_behind a b c calm failed = subst (λ (n : ℕ). Counted n c.faults 1) calm failed
+
+-- what holds from the moment at which all lines were answered holds behind all that went out
+summary_stops : (opened : ℕ) (before old now : Stream) (rows : List Entry) (events : List Event) (stop : Stop) → WroteAll before old (texts events) → StopsAtSummary opened old now rows [] stop → StopsAtSummary opened before now rows events stop
+summary_stops opened before old now rows events WriteFault wrote stops = cut_on before old now (texts events) (summary_text (summary rows)) wrote stops
+summary_stops opened before old now rows events (DiskFault offer) wrote stops = (wrote_still before old now (texts events) wrote stops.0, stops.1)
+summary_stops opened before old now rows events NoMemory wrote stops = (wrote_still before old now (texts events) wrote stops.0, stops.1)
+summary_stops opened before old now rows events Finished wrote stops = absurd stops.1
+summary_stops opened before old now rows events (BadLine named) wrote stops = absurd stops.1
+summary_stops opened before old now rows events ReadFault wrote stops = absurd stops.1
+summary_stops opened before old now rows events Spent wrote stops = absurd stops.1
+
+module _ {S : Type 0} (book left : BookState) (before now : Devices S) (old : Stream) (script : List ℕ) (reads : ReadsWhole before.input now.input script) (whole : IsWholeSoFar book before.output old script left) (opened : ℕ)
+    (begun : opened ≡ length book.entries) (rows : List Entry) (same : rows ≡ left.entries) where
+  left_whole : AreLeft book whole.answered.events rows
+  left_whole = are_left book (lines_of script) whole.answered.events rows whole.answered.right (same ∙ ap (λ (b : BookState). b.entries) whole.answered.left)
+
+  early : (stop : Stop) → StopsAtSummary opened old now.output left.entries [] stop → StopsAtEnd book (call_from before now rows) stop
+  early stop stops =
+      let events = whole.answered.events in
+      let here = subst (λ (n : ℕ). StopsAtSummary n old now.output rows [] stop) begun (subst (λ (es : List Entry). StopsAtSummary opened old now.output es [] stop) (sym same) stops) in
+      record {
+        script = script;
+        read = reads;
+        ends = record {
+          good = whole.good;
+          events = events;
+          right = whole.answered.right;
+          stops = summary_stops (length book.entries) before.output old now.output rows events stop whole.answered.wrote here;
+          rows_left = left_whole;
+        };
+      }
+
+  pub explained_end : (stop : Stop) → EndsAtSummary opened old now.output left.entries stop → Explains book (call_from before now rows) stop
+  explained_end Finished wrote =
+      let events = whole.answered.events in
+      record {
+        script = script;
+        read = reads;
+        done = record {
+          good = whole.good;
+          events = events;
+          right = whole.answered.right;
+          wrote = subst (λ (b : BookState). WroteAll before.output now.output (texts events ++ summary_text (summary b.entries))) whole.answered.left
+              (wrote_on before.output old now.output (texts events) (summary_text (summary left.entries)) whole.answered.wrote wrote);
+          rows_left = left_whole;
+        };
+      }
+  explained_end WriteFault stops =
+      record { stops = inr (early WriteFault stops); cause = failed_behind before.output old now.output whole.answered.wrote.calm stops.failed; calm = reads.calm }
+  explained_end (DiskFault offer) stops =
+      record { stops = inr (early (DiskFault offer) stops); calm = reads.calm; output_calm = stops.0.calm ∙ whole.answered.wrote.calm }
+  explained_end NoMemory stops =
+      record { stops = inr (inl (early NoMemory stops)); calm = reads.calm; output_calm = stops.0.calm ∙ whole.answered.wrote.calm }
+  explained_end (BadLine named) stops = absurd stops.1
+  explained_end ReadFault stops = absurd stops.1
+  explained_end Spent stops = absurd stops.1

@@ -1,0 +1,9 @@
+pub mod Acknowledged
+pub mod Asking
+pub mod Books
+pub mod Ends
+pub mod Reached
+pub mod Runs
+pub mod Scripts
+pub mod Transcript
+pub mod Unanswered

@@ -1,0 +1,16 @@
+//! A run of a script over a book on a disk: each line is answered before the next is read, and the
+//! balance comes last.
+#![tactic(auto)]
+
+mod asking;
+mod composing;
+mod run;
+mod script;
+mod session;
+mod writing;
+
+pub use asking::{Unanswered, ask_at, ask_command};
+pub use composing::{compose_answer, compose_summary};
+pub use script::{MAX_READS, run_script};
+pub use session::Session;
+pub use writing::write_whole;

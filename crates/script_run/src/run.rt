@@ -1,0 +1,138 @@
+use crate::session::Session;
+use book_store::Store;
+use disk_core::{Disk, Sink};
+use script_lines::{Allowed, Feed, TooLong, split_line};
+use std::alloc::Global;
+use store_runs::{RunEnd, Stop};
+
+/// A script may have every command.
+const EVERY_COMMAND: Allowed = Allowed { questions: true };
+
+/// A run of a script: its book, and the lines that it was given.
+#[derive(Drop)]
+pub struct Run<D: Disk> {
+    pub session: Session<D>,
+    pub feed: Feed,
+}
+
+impl<D: Disk> Run<D> {
+    ghost use Rattle.std.specs.Prelude.{◌≡◌, ◌+◌, ◌<◌, ℕ, List, [], ◌∷◌, ◌++◌, length, false, OnOk, IfOk, IfErr};
+    ghost use Rattle.script_lines.specs.Lines.{has_end};
+    ghost use Rattle.script_lines.specs.Feed.{feed_after};
+    ghost use Rattle.book_store.specs.Stores.{entries_of, held_of, IsSound};
+    ghost use Rattle.text_streams.specs.Streams.{Stream, output_at};
+    ghost use Rattle.store_runs.specs.Books.{BookState};
+    ghost use Rattle.store_runs.specs.Runs.{Goes, RunGoes};
+    ghost use Rattle.script_run.specs.Books.{book_in, store_in, run_state, IsReady};
+    ghost use Rattle.script_run.specs.Ends.{StopsInScript};
+    ghost use Rattle.script_run.specs.Reached.{Reached, Steps, IsWholeSoFar, EndsAtSummary};
+
+    /// A run over a store that was given nothing, with room for all that it keeps but the entries
+    /// of its book; or the store where there is no memory for it.
+    pub fn new(alloc: Global, store: Store<D>) -> Result<Run<D>, Store<D>>
+        requires sound { IsSound D.Disk store }
+        ensures fed { IfOk result (λ run. run.feed ≡ feed_after []) }
+        ensures store { IfOk result (λ run. store_in run.session ≡ store) }
+        ensures ready { IfOk result (λ run. IsReady run.session) }
+        ensures back { IfErr result (λ back. back ≡ store) }
+    {
+        let Ok(feed) = Feed::new(alloc) else {
+            return Err(store);
+        };
+        match Session::new(alloc, store) {
+            Ok(session) => Ok(Run { session, feed }),
+            Err(store) => Err(store),
+        }
+    }
+
+    /// Its store.
+    pub fn into_store(self) -> Store<D>
+        ensures { result ≡ store_in self.session }
+    {
+        self.session.into_store()
+    }
+
+    /// Ends the run of a script that was read and answered to its end.
+    pub fn finish<K: Sink>(self, output: &mut K) -> RunEnd<D>
+        requires ready { IsReady self.session }
+        ensures ends { EndsAtSummary (held_of (store_in self.session))
+            (output_at K.Sink output.old) (output_at K.Sink output.new)
+            (entries_of (store_in self.session)) result.stop }
+        ensures same { entries_of result.store ≡ entries_of (store_in self.session) }
+        ensures goes { RunGoes D.Disk result.stop (store_in self.session) result.store }
+    {
+        self.session.finish(output)
+    }
+
+    /// Takes a piece of the script: each line that ends in it is answered before the next.
+    pub fn take_piece<K: Sink>(&mut self, piece: &[u8], output: &mut K) -> Result<(), Stop>
+        requires room { self.old.feed.ended + length piece.now < u64.MAX }
+        requires ready { IsReady self.old.session }
+        ensures steps { Steps (output_at K.Sink output.old) (output_at K.Sink output.new)
+            (run_state self.old) (run_state self.new) piece.now result }
+        ensures goes { Goes D.Disk result (store_in self.old.session) (store_in self.new.session) }
+        ensures ready { OnOk result (IsReady self.new.session) }
+    {
+        let mut rest = piece;
+        while let Some((part, after)) = split_line(rest) {
+            self.end_line(part, output)?;
+            rest = after;
+        }
+        self.begin_line(rest)?;
+        Ok(())
+    }
+
+    // Takes the bytes up to an LF, and does what the line says that they end.
+    fn end_line<K: Sink>(&mut self, part: &[u8], output: &mut K) -> Result<(), Stop>
+        requires room { self.old.feed.ended < u64.MAX }
+        requires no_end { has_end part.now ≡ false }
+        requires ready { IsReady self.old.session }
+        ensures steps { Steps (output_at K.Sink output.old) (output_at K.Sink output.new)
+            (run_state self.old) (run_state self.new) (part.now ++ 10 ∷ []) result }
+        ensures one { self.new.feed.ended ≡ self.old.feed.ended + 1 }
+        ensures goes { Goes D.Disk result (store_in self.old.session) (store_in self.new.session) }
+        ensures ready { OnOk result (IsReady self.new.session) }
+    {
+        let number = self.feed.line_number();
+        let line = self.feed.end_line(EVERY_COMMAND, part);
+        self.session.handle_line(&line, number, output)?;
+        Ok(())
+    }
+
+    // Takes more bytes of the line that has begun: one that is longer than any may be is bad at
+    // once.
+    fn begin_line(&mut self, part: &[u8]) -> Result<(), Stop>
+        requires room { self.old.feed.ended < u64.MAX }
+        requires no_end { has_end part.now ≡ false }
+        ensures steps { (now : Stream) → Steps now now (run_state self.old) (run_state self.new)
+            part.now result }
+        ensures session { self.new.session ≡ self.old.session }
+        ensures goes { Goes D.Disk result (store_in self.old.session) (store_in self.new.session) }
+    {
+        match self.feed.begin_line(part) {
+            Ok(()) => Ok(()),
+            Err(TooLong) => Err(Stop::BadLine(self.feed.line_number())),
+        }
+    }
+
+    /// Does what a last line says that lacks its LF; without one nothing is left to do.
+    pub fn finish_line<K: Sink>(&mut self, output: &mut K) -> Result<(), Stop>
+        requires room { self.old.feed.ended < u64.MAX }
+        requires ready { IsReady self.old.session }
+        ensures whole { (book : BookState) (before : Stream) (taken : List ℕ)
+            → Reached book before (output_at K.Sink output.old) taken (run_state self.old)
+            → OnOk result (IsWholeSoFar book before (output_at K.Sink output.new) taken
+            (book_in self.new.session)) }
+        ensures stops { (book : BookState) (before : Stream) (taken : List ℕ)
+            → Reached book before (output_at K.Sink output.old) taken (run_state self.old)
+            → IfErr result (λ stop. StopsInScript book before (output_at K.Sink output.new)
+            (entries_of (store_in self.new.session)) stop taken) }
+        ensures goes { Goes D.Disk result (store_in self.old.session) (store_in self.new.session) }
+        ensures ready { OnOk result (IsReady self.new.session) }
+    {
+        let line = self.feed.read_last(EVERY_COMMAND);
+        let number = self.feed.line_number();
+        self.session.handle_line(&line, number, output)?;
+        Ok(())
+    }
+}
