@@ -11,7 +11,8 @@ use Rattle.book_migration.proofs.migrate.carry_all.Given as goal
 -- the rows of what was taken so far were carried, and nothing failed
 abbrev pub invariant-loop-reader : goal.invariant-loop-reader
 invariant-loop-reader g l = record {
-  taken : HasMadeReads (input_at g.S.Source l.fn.input) (input_at g.S.Source l.input) (Carried (entries_of l.fn.migration.store) (migration_state l.migration)) l.reader.reads;
+  taken : HasMadeReads (input_at g.S.Source l.fn.input) (input_at g.S.Source l.input)
+      (Carried (entries_of l.fn.migration.store) (migration_state l.migration)) l.reader.reads;
   most : l.reader.most ≡ MAX_OLD_READS;
   reads : l.reader.reads ≤ l.reader.most;
   unended : g.S.Source.ended l.input ≡ false;

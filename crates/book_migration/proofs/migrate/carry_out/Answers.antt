@@ -9,16 +9,22 @@ pub returns-in-Ok-clause-explained : goal.returns-in-Ok-clause-explained
 returns-in-Ok-clause-explained g c =
     let all = c.in-Ok.ensures.all in
     let held = entries_of c.args.migration.now.store in
-    explains_behind held (input_moment g.S.Source c.args.input.now) (input_moment g.S.Source c.carry_all.new.input) (entries_of c.finish.new.migration.store) c.finish.result (record {
+    explains_behind held (input_moment g.S.Source c.args.input.now)
+    (input_moment g.S.Source c.carry_all.new.input)
+    (entries_of c.finish.new.migration.store) c.finish.result (record {
       journal = all.taken;
       read = all.read;
-      ends = c.finish.ensures.ends held all.taken (c.in-Ok.ensures.goes.held ∙ c.requires.opened) all.carried;
+      ends = c.finish.ensures.ends held all.taken
+          (c.in-Ok.ensures.goes.held ∙ c.requires.opened) all.carried;
     })
 
 pub returns-in-Ok-clause-goes : goal.returns-in-Ok-clause-goes
 returns-in-Ok-clause-goes g c =
-    goes_on g.D.Disk tt (Err c.finish.result) c.args.migration.now.store c.carry_all.new.migration.store c.finish.new.migration.store c.in-Ok.ensures.goes c.finish.ensures.goes
+    goes_on g.D.Disk tt (Err c.finish.result) c.args.migration.now.store
+    c.carry_all.new.migration.store c.finish.new.migration.store c.in-Ok.ensures.goes
+    c.finish.ensures.goes
 
 pub returns-in-Err-clause-goes : goal.returns-in-Err-clause-goes
 returns-in-Err-clause-goes g c =
-    goes_as g.D.Disk c.in-Err.stop c.args.migration.now.store c.carry_all.new.migration.store c.in-Err.ensures.goes
+    goes_as g.D.Disk c.in-Err.stop c.args.migration.now.store c.carry_all.new.migration.store
+    c.in-Err.ensures.goes
