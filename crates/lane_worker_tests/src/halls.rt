@@ -94,7 +94,9 @@ fn open_batch(hall: &mut Hall) -> Option<()> {
 /// A hall over a disk of which these calls fail, with the opening rows. The worker of lane 1 speaks.
 pub(crate) fn open_hall(alloc: Global, fails: Vec<u32>) -> Option<Hall> {
     let disk = MemoryDisk::new(alloc, Vec::new(alloc), fails);
-    let store = Store::mount(alloc, disk, 1_000_000).ok()?;
+    let Ok(store) = Store::mount(alloc, disk, 1_000_000) else {
+        return None;
+    };
     let mut hall = OneCaller::new(store, 0);
     let _ = open_batch(&mut hall);
     hall.turn(1);
