@@ -185,7 +185,7 @@ const CASES: [Case; 11] = [
 fn is_right(alloc: Global, case: &Case) -> Option<bool> {
     let [seen, _] = work_twice(alloc, case.disk_fails, &case.given, case.opened)?;
     let wanted = LaneEnd {
-        opened: case.opened.len() as u32,
+        opened: u32::try_from(case.opened.len()).ok()?,
         stop: case.stop,
     };
     Some(
