@@ -144,8 +144,13 @@ alone_step by entries next None owns is =
 alone_step by entries next (Some entry) owns is =
     let row : Row = record { number = length entries + 1; entry = entry } in
     let own = ap length (own_step by entries next (Some entry) owns is) in
-    omega (arith, ap length is, length-append entries (entry ∷ []), own,
-    length-append (own_rows by entries) (row ∷ []))
+    omega (
+      arith,
+      ap length is,
+      length-append entries (entry ∷ []),
+      own,
+      length-append (own_rows by entries) (row ∷ []),
+    )
 
 -- an answer over all that was seen before
 answered_over : (was now : Known) (ask : Ask) (given : Result Answered Refused)

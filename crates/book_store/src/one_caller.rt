@@ -142,11 +142,7 @@ fn told(faults: u64, given: &Result<Answered, AskError>) -> u64
 }
 
 // The ask at which the disk failed last, behind an answer.
-fn failed_last(
-    failed: Option<Ask>,
-    ask: &Ask,
-    given: &Result<Answered, AskError>,
-) -> Option<Ask>
+fn failed_last(failed: Option<Ask>, ask: &Ask, given: &Result<Answered, AskError>) -> Option<Ask>
     ensures { result ≡ failed_behind given.now ask.now failed }
 {
     match given {

@@ -73,20 +73,6 @@ are_all entries by number (row ∷ rows) stand fills =
     less : (a b : ℕ) → a ≡ b + 1 → a - 1 ≡ b
     less a b is = omega (arith, is)
 
--- ---- lists that go on
-
--- lists that begin with each other are the same
-pub same_list : (a b : List Entry) → IsPrefixOf a b → length b ≤ length a → b ≡ a
-same_list a b (more, parts) few =
-    parts ∙ ap (λ (es : List Entry). a ++ es) (nothing more less) ∙ append-nil a
-  where
-    less : length more ≤ 0
-    less = omega (arith, few, ap length parts, length-append a more)
-
-    nothing : (es : List Entry) → length es ≤ 0 → es ≡ []
-    nothing [] none = refl
-    nothing (e ∷ es) none = absurd (omega (arith, none))
-
 -- a list that begins with another goes on by what is left without it
 pub goes_by : (a b : List Entry) → IsPrefixOf a b → b ≡ a ++ drop (length a) b
 goes_by a b (more, parts) = parts

@@ -1,5 +1,6 @@
 -- What the work of a lane makes of the book of a caller that has it for itself.
-use Rattle.std.proofs.Common.{◌≡◌, ◌⊎◌, inl, inr, ⊎_elim, ⊤, tt, ℕ, zero, suc, ◌+◌, ◌<◌, ◌≤◌, min, List, [], ◌∷◌, ◌++◌, length, map, drop, Option, Some, None, option_map, IsSome, Result, Ok, Err, OnOk, Contains, refl, sym, ◌∙◌, ap, subst, arith, append-nil, length-append}
+use Rattle.std.proofs.Common.{◌≡◌, ◌⊎◌, inl, inr, ⊎_elim, ℕ, zero, suc, ◌+◌, ◌<◌, ◌≤◌, min, List, [], ◌∷◌, ◌++◌, length, map, drop, Option, Some, None, option_map, IsSome, Result, Ok, Err, OnOk, Contains, refl, sym, ◌∙◌, ap, subst, arith, append-nil, length-append}
+use Rattle.std.specs.Bool.{⊤}
 use Rattle.std.specs.List.{cons_option, AllByRecursion}
 use Rattle.device_facts.specs.Prefix.{IsPrefixOf}
 use Rattle.disk_core.specs.Disk.{WhereTold}
@@ -28,9 +29,9 @@ use Rattle.store_runs.specs.declared.stop.Stop.TheVariants.{NoMemory}
 use Rattle.store_runs.specs.Books.{BookState, stored_book}
 use Rattle.store_runs.specs.Runs.{Goes}
 use Rattle.store_runs.proofs.StoreSteps.{goes_on, goes_with}
-use Rattle.store_runs.proofs.CallerGoes.{goes_reached, goes_failed}
+use Rattle.store_runs.proofs.CallerGoes.{same_list, goes_reached, goes_failed}
 use Rattle.lane_runs.specs.LaneWorks.{LaneState, AreNumbered, book_behind, step_behind, MayHaveError, IsFinished, IsBrokenOff, IsWorked}
-use Rattle.lane_runs.proofs.FilledRows.{have_room, are_numbered, are_own, are_all, same_list, goes_by}
+use Rattle.lane_runs.proofs.FilledRows.{have_room, are_numbered, are_own, are_all, goes_by}
 
 -- a caller was answered some asks, and then an error to the next
 pub record Broke {D : Type 0} (g : disk.Ghosts D) (old new : CallerView D) (answered : List Ask)
@@ -51,8 +52,12 @@ module _ {D : Type 0} (g : disk.Ghosts D) (old new : CallerView D) (asks : List 
       let own : own_rows old.by (entries_of new.store)
       ≡ own_rows old.by (entries_of old.store) ++ rows =
       ap (λ (n : ℕ). own_rows n (entries_of new.store)) (sym reached.by) ∙ added_rows.mine in
-      omega (arith, reached.alone, ap length own,
-      length-append (own_rows old.by (entries_of old.store)) rows)
+      omega (
+        arith,
+        reached.alone,
+        ap length own,
+        length-append (own_rows old.by (entries_of old.store)) rows,
+      )
 
   pub asked_is : asked ≡ entries_of old.store
   asked_is =
@@ -114,8 +119,12 @@ module _ {D : Type 0} (g : disk.Ghosts D) (mid new : CallerView D) (next : Ask)
       ∙ ap (λ (o : Option Entry). before ++ cons_option o has.right.after) none in
       let all : entries_of new.store ≡ before =
       same_list before (entries_of new.store) (has.right.after, parts)
-      (omega (arith, ap length same, ap length has.grows,
-      length-append (entries_of mid.store) has.unseen)) in
+      (omega (
+        arith,
+        ap length same,
+        ap length has.grows,
+        length-append (entries_of mid.store) has.unseen,
+      )) in
       (λ i. answer (later.limit i) (all i) next) ∙ has.right.answered
 
   pub cause_of : (lane : ℕ) → mid.by ≡ lane → (why : AskError)
@@ -149,7 +158,7 @@ module _ {D : Type 0} (g : disk.Ghosts D) (reads_image : (d : D) → WhereTold (
     (only_now : (d : D) (c : List ℕ) → g.since d (g.time d) c → g.image d c)
     (old new : CallerView D) (calm : old.faults ≡ 0) where
   pub goes_finished : (asks : List Ask) → IsReachedBy g old new asks → new.faults ≡ 0
-      → Goes g (Ok tt) old.store new.store
+      → Goes {T = ⊤} g (Ok tt) old.store new.store
   goes_finished asks reached calm_now =
       goes_reached g reads_image only_now old new asks reached calm calm_now tt
 
@@ -168,18 +177,47 @@ module _ {D : Type 0} (g : disk.Ghosts D) (reads_image : (d : D) → WhereTold (
   goes_broken lane by answered next error.NoMemory broke faults =
       let goes = goes_finished (answered ++ next ∷ [])
       (both_asked answered next error.NoMemory broke) (omega (arith, calm, faults)) in
-      goes_with g tt (Err NoMemory) old.store new.store goes goes.cause (λ is. absurd (cc))
+      goes_with {T = ⊤} g tt (Err NoMemory) old.store new.store goes goes.cause (λ is. absurd (cc))
   goes_broken lane by answered next error.DiskFault broke faults =
       let mid = broke.between in
       let one : new.faults ≡ 1 = omega (arith, calm, faults) in
       let none : mid.faults ≡ 0 = omega (arith, broke.answer.faults, one) in
       let same = none_more g mid new (next ∷ []) broke.later broke.answer.says.0.mine in
-      goes_on g tt (step_behind lane next error.DiskFault) old.store mid.store new.store
+      goes_on {T = ⊤} g tt (step_behind lane next error.DiskFault) old.store mid.store new.store
       (goes_reached g reads_image only_now old mid answered broke.before calm none tt)
       (goes_failed g reads_image only_now mid new next broke.later none one same lane
       (broke.before.by ∙ by))
 
 -- ---- the whole work
+
+-- what a break says may be said in other words
+pub with_broke : {Reached : List Ask → Type 0} {One Other : List Ask → Ask → AskError → Type 0}
+    (was now : Site) (lane : ℕ) (batch : Name) (end : LaneEnd)
+    → ((answered : List Ask) (next : Ask) (why : AskError) → One answered next why
+    → Other answered next why)
+    → IsWork Reached One was now lane batch end → IsWork Reached Other was now lane batch end
+with_broke was now lane batch end said is =
+    record {
+      work = is.work;
+      added = is.added;
+      legal = is.legal;
+      faults = is.faults;
+      given = is.given;
+      opened = is.opened;
+      count = is.count;
+      accepted = is.accepted;
+      done = is.done;
+      stops = ⊎_elim
+          (λ done. inl done)
+          (λ broke. inr (record {
+            next = broke.next;
+            why = broke.why;
+            told = broke.told;
+            first = broke.first;
+            broke = said is.work.answered broke.next broke.why broke.broke;
+          }))
+          is.stops;
+    }
 
 abbrev pub site_with : Known → LaneState → Site
 site_with known lane =
@@ -200,7 +238,7 @@ module _ {D : Type 0} (g : disk.Ghosts D) (reads_image : (d : D) → WhereTold (
     (goes_so : (ending : Ending) → end.stop ≡ stop_by ending → step ≡ Ok tt)
     (stops_so : (next : Ask) (why : AskError) → end.stop ≡ stop_at why
     → (why ≡ error.DiskFault → new.failed ≡ Some next) → step ≡ step_behind lane next why) where
-  asks : List Ask
+  abbrev asks : List Ask
   asks = asks_of_work lane batch is.work
 
   none_at : (ending : Ending) → faults_at (stop_by ending) ≡ 0

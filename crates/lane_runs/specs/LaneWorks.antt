@@ -1,5 +1,5 @@
 -- What the work of a lane makes of a book on a disk, of the lane's cell and of its gate.
-use Rattle.std.specs.Prelude.{◌≡◌, ◌⊎◌, ⊤, tt, ℕ, ◌+◌, List, [], ◌∷◌, ◌++◌, length, map, drop, Option, Some, IsSome, Result, Ok, Err}
+use Rattle.std.specs.Prelude.{◌≡◌, ◌⊎◌, ⊤, ℕ, ◌+◌, List, [], ◌∷◌, ◌++◌, length, map, drop, Option, Some, IsSome, Result, Ok, Err}
 use Rattle.std.specs.List.{AllByRecursion}
 use Rattle.device_facts.specs.Prefix.{IsPrefixOf}
 use Rattle.book_words.specs.declared.name.Name.{Name}

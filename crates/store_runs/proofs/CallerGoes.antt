@@ -1,5 +1,5 @@
 -- What the asks of a caller that has a store for itself make of the store, as a step of a run.
-use Rattle.std.proofs.Common.{◌≡◌, ◌⊎◌, inl, inr, ⊎_elim, ⊤, ⊥, ℕ, ◌<◌, ◌≤◌, List, [], ◌∷◌, ◌++◌, length, Option, Some, None, Result, Ok, Err, refl, sym, ap, ◌∙◌, subst, arith, append-nil, length-append}
+use Rattle.std.proofs.Common.{◌≡◌, ◌⊎◌, inl, inr, ⊎_elim, ℕ, ◌<◌, ◌≤◌, List, [], ◌∷◌, ◌++◌, length, Option, Some, None, Result, Ok, Err, refl, sym, ap, ◌∙◌, subst, arith, append-nil, length-append}
 use Rattle.std.proofs.lemmas.Bool.{cases_lt}
 use Rattle.device_facts.specs.Count.{Counted, Rose, Calm}
 use Rattle.device_facts.specs.Prefix.{IsPrefixOf}
@@ -13,6 +13,7 @@ use Rattle.book_store.specs.Callers.{CallerView, IsAskedFor, MayStandBehind, Lea
 use Rattle.book_store.specs.Images.{HoldsBook}
 use Rattle.book_store.specs.Kept.{with_offered, CrashLeaves, HasKept, KeepsOn}
 use Rattle.book_store.specs.Stores.{disk_of, entries_of, limit_of, held_of, HangsWith, HoldsOrHangs}
+use Rattle.book_store.proofs.CallerSteps.{crash_between}
 use Rattle.book_store.proofs.KeptLemmas.{same_begins, begins_on, begins_short, leaves_front, kept_on}
 use Rattle.book_store.proofs.StoreFacts.{images_hold}
 use Rattle.store_runs.specs.declared.stop.Offer.TheVariants as offering
@@ -22,7 +23,7 @@ use Rattle.store_runs.specs.Runs.{HasAddedRows, Goes}
 use Rattle.store_runs.proofs.StoreSteps.{on_unfinished}
 
 -- lists that begin with each other are the same
-same_list : (a b : List Entry) → IsPrefixOf a b → length b ≤ length a → b ≡ a
+pub same_list : (a b : List Entry) → IsPrefixOf a b → length b ≤ length a → b ≡ a
 same_list a b (more, parts) few = parts ∙ ap (λ (es : List Entry). a ++ es) (nothing more less) ∙ append-nil a
   where
     less : length more ≤ 0
@@ -45,7 +46,6 @@ few_rows old new held few small = ⊎_elim
 
 module _ {D : Type 0} (g : disk.Ghosts D) (reads_image : (d : D) → WhereTold (g.reads d) (g.image d))
     (only_now : (d : D) (c : List ℕ) → g.since d (g.time d) c → g.image d c) where
-
   -- ---- asks without a fault
 
   module _ (old new : CallerView D) (asks : List Ask) (reached : IsReachedBy g old new asks)
@@ -76,7 +76,7 @@ module _ {D : Type 0} (g : disk.Ghosts D) (reads_image : (d : D) → WhereTold (
         λ entry hangs. none_stands held start (entries_of new.store) entry was (keeps.hung entry hangs) in
         kept_on g held start None old.store new.store (LeavesRows g old new asks) was keeps.has reached.begins hung
         (λ c left. leaves_calm held start c was left)
-        (record { later = keeps.later; before = keeps.moments })
+        (record { later = keeps.later; each = crash_between g reads_image only_now old new asks reached was.has; before = keeps.moments })
         (λ c image. ⊎_elim (λ holds. inl holds)
         (λ hangs. absurd (let none : None ≡ Some hangs.0 = hung hangs.0 hangs.1 in cc))
         (images_hold g reads_image only_now new.store keeps.has c image))
@@ -102,7 +102,7 @@ module _ {D : Type 0} (g : disk.Ghosts D) (reads_image : (d : D) → WhereTold (
       (calm : old.faults ≡ 0) (failed : new.faults ≡ 1) (same : entries_of new.store ≡ entries_of old.store)
       (by : ℕ) (is_by : old.by ≡ by) where
     -- what it offered
-    offered : Option Entry
+    abbrev offered : Option Entry
     offered = added (limit_of new.store) (entries_of new.store) by next
 
     offers : (rows : List Entry) (entry : Entry) → rows ≡ entries_of new.store
@@ -157,7 +157,7 @@ module _ {D : Type 0} (g : disk.Ghosts D) (reads_image : (d : D) → WhereTold (
         λ entry hangs. stands_offered held start (entries_of new.store) entry refl was (keeps.hung entry hangs) in
         kept_on g held start offered old.store new.store (LeavesRows g old new (next ∷ [])) was keeps.has reached.begins hung
         (λ c left. leaves_failed held start c was left)
-        (record { later = keeps.later; before = keeps.moments })
+        (record { later = keeps.later; each = crash_between g reads_image only_now old new (next ∷ []) reached was.has; before = keeps.moments })
         (λ c image. ⊎_elim (λ holds. inl holds)
         (λ hangs. inr (subst (λ (es : List Entry). HoldsBook es c)
         (sym (with_entry hangs.0 (hung hangs.0 hangs.1))) hangs.2))
