@@ -3,6 +3,7 @@ ghost use Rattle.toml.specs.View.{table_view};
 ghost use Rattle.hall_plan.specs.declared.types.Plan.{Plan};
 ghost use Rattle.hall_plan.specs.declared.types.PlanError.TheVariants.{Bad, NoMemory};
 ghost use Rattle.hall_plan.specs.Documents.{IsPlan, IsShortText};
+ghost use Rattle.hall_plan.specs.Limits.{IsWithinLimits};
 ghost use Rattle.hall_plan.specs.Plans.{plan_said};
 
 use crate::document::read_document;
@@ -17,6 +18,7 @@ use toml::Table;
 /// `NoMemory` comes only of a UTF-8 text of at most `MAX_PLAN` bytes; it says nothing of the text.
 pub fn read_plan(alloc: Global, bytes: &[u8], lanes: u8) -> Result<Plan, PlanError>
     ensures ok { IfOk result (IsPlan lanes bytes.now) }
+    ensures limits { IfOk result (IsWithinLimits lanes) }
     ensures bad { IfErr result (λ why.
         why ≡ Bad → (plan : Plan) → ¬ IsPlan lanes bytes.now plan) }
     ensures no_memory { IfErr result (λ why. why ≡ NoMemory → IsShortText bytes.now) }
