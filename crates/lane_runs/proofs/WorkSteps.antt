@@ -1,5 +1,5 @@
 -- What the work of a lane makes of the book of a caller that has it for itself.
-use Rattle.std.proofs.Common.{◌≡◌, ◌⊎◌, inl, inr, ⊎_elim, ℕ, zero, suc, ◌+◌, ◌<◌, ◌≤◌, min, List, [], ◌∷◌, ◌++◌, length, map, drop, Option, Some, None, option_map, IsSome, Result, Ok, Err, OnOk, Contains, refl, sym, ◌∙◌, ap, subst, arith, append-nil, length-append}
+use Rattle.std.proofs.Common.{◌≡◌, ◌⊎◌, inl, inr, ⊎_elim, ℕ, zero, suc, ◌+◌, ◌≤◌, min, List, [], ◌∷◌, ◌++◌, length, map, drop, Option, Some, None, option_map, IsSome, Result, Ok, Err, OnOk, Contains, refl, sym, ◌∙◌, ap, subst, arith, append-nil, length-append}
 use Rattle.std.specs.Bool.{⊤}
 use Rattle.std.specs.List.{cons_option, AllByRecursion}
 use Rattle.device_facts.specs.Prefix.{IsPrefixOf}

@@ -4,7 +4,6 @@ use Rattle.std.specs.List.{AllByRecursion}
 use Rattle.device_facts.specs.Prefix.{IsPrefixOf}
 use Rattle.book_words.specs.declared.name.Name.{Name}
 use Rattle.book_words.specs.declared.act.Ask.{Ask}
-use Rattle.book_words.specs.declared.act.Entry.{Entry}
 use Rattle.book_words.specs.declared.caller.AskError.{AskError}
 use Rattle.book_words.specs.declared.caller.AskError.TheVariants as error
 use Rattle.book_words.specs.Answers.{answer, added, ask_of}

@@ -1,6 +1,6 @@
 -- How the work of a lane goes on with each ask, each item of the cell and each call of the gate, and
 -- how it comes to its end.
-use Rattle.std.proofs.Common.{◌≡◌, inl, inr, ℕ, ℤ, ◌+◌, ◌<◌, min, true, false, List, [], ◌∷◌, ◌++◌, length, drop, Option, IfSome, Some, None, Result, Ok, Err, refl, sym, ◌∙◌, ap, subst, arith, append_assoc, append-nil, length-append, cond}
+use Rattle.std.proofs.Common.{◌≡◌, inl, inr, ℕ, ℤ, ◌+◌, ◌<◌, min, false, List, [], ◌∷◌, ◌++◌, length, drop, Option, IfSome, Some, None, Ok, Err, refl, sym, ◌∙◌, ap, subst, arith, append-nil, length-append, cond}
 use Rattle.std.proofs.lemmas.Option.{same_Some}
 use Rattle.std.specs.List.{cons_option}
 use Rattle.device_facts.specs.Count.{Counted}
@@ -16,11 +16,9 @@ use Rattle.book_words.specs.declared.act.Prior.TheVariants.{Nothing, Opened, Sta
 use Rattle.book_words.specs.declared.caller.AskError.{AskError}
 use Rattle.book_words.specs.declared.caller.AskError.TheVariants as error
 use Rattle.book_words.specs.declared.reply.Answered.{Answered}
-use Rattle.book_words.specs.Answers.{ask_of}
 use Rattle.book_words.specs.Callers.{Known, FAULTS_END, IsAsked}
 use Rattle.book_words.specs.Desks.{Row}
 use Rattle.book_words.specs.Population.{is_pass}
-use Rattle.book_words.specs.Signals.{recorded_signal}
 use Rattle.book_words.specs.Views.{lane_view}
 use Rattle.lane_worker.specs.declared.types.CellNext.{CellNext}
 use Rattle.lane_worker.specs.declared.types.CellNext.TheVariants.{Gross}
@@ -29,14 +27,14 @@ use Rattle.lane_worker.specs.declared.ending.Ending.TheVariants as ends
 use Rattle.lane_worker.specs.declared.ending.Ending.TheVariants.{CellFailed, GateFailed}
 use Rattle.lane_worker.specs.declared.ending.LaneStop.TheVariants.{Done}
 use Rattle.lane_worker.specs.declared.progress.Progress.{Progress}
-use Rattle.lane_worker.specs.Asks.{act_ask, lane_ask, stop_found, is_among, prior_behind, weighing_asks, starting_asks, stopping_asks, passed_pack, passed_packs, work_asks}
+use Rattle.lane_worker.specs.Asks.{act_ask, lane_ask, stop_found, prior_behind, weighing_asks, starting_asks, stopping_asks, passed_pack, passed_packs}
 use Rattle.lane_worker.specs.Gates.{with_packs, HasPassed}
 use Rattle.lane_worker.specs.Replies.{pack_told}
 use Rattle.lane_worker.specs.Endings.{stop_by, stop_at, faults_at, last_items, cell_failed, gate_failed, FailsIf}
-use Rattle.lane_worker.specs.Works.{Site, Work, HasAdded, HasGiven, AreOpened, HasOpened, Finishes, BreaksOff, asks_of_work, IsWork}
-use Rattle.lane_worker.specs.Steps.{row_asks, with_caller, IsCalm, IsStopped, TakesItem, IsWeighing, Weighs, HasWeighed, HasEnded, broken_end}
+use Rattle.lane_worker.specs.Works.{Site, Work, HasAdded, HasGiven, AreOpened, HasOpened, asks_of_work, IsWork}
+use Rattle.lane_worker.specs.Steps.{row_asks, with_caller, IsCalm, IsStopped, TakesItem, Weighs, HasWeighed, HasEnded, broken_end}
 use Rattle.lane_worker.proofs.RightReplies.{weighing_told, passed_row}
-use Rattle.lane_worker.proofs.AddedRows.{IsTaken, IsLost, added_row, added_none, nothing_added, calm_more, faults_finished, faults_broken, prefix_itself}
+use Rattle.lane_worker.proofs.AddedRows.{IsTaken, IsLost, added_row, added_none, nothing_added, calm_more, faults_finished, faults_broken}
 use Rattle.lane_worker.proofs.AskOrder.{asks_more, course_weighed, course_opened, course_started, next_weighing, next_stop}
 use Rattle.lane_worker.proofs.GivenItems.{given_gross, given_last, given_none, given_same, given_to_gate}
 use Rattle.lane_worker.proofs.OpenedPacks.{packs_more, packs_none, passed_push, fresh_more, says_nothing, says_opened, says_stayed, holds_passed}

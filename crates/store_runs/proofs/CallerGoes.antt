@@ -1,7 +1,7 @@
 -- What the asks of a caller that has a store for itself make of the store, as a step of a run.
-use Rattle.std.proofs.Common.{◌≡◌, ◌⊎◌, inl, inr, ⊎_elim, ℕ, ◌<◌, ◌≤◌, List, [], ◌∷◌, ◌++◌, length, Option, Some, None, Result, Ok, Err, refl, sym, ap, ◌∙◌, subst, arith, append-nil, length-append}
+use Rattle.std.proofs.Common.{◌≡◌, ◌⊎◌, inl, inr, ⊎_elim, ℕ, ◌≤◌, List, [], ◌∷◌, ◌++◌, length, Option, Some, None, Ok, Err, refl, sym, ap, ◌∙◌, subst, arith, append-nil, length-append}
 use Rattle.std.proofs.lemmas.Bool.{cases_lt}
-use Rattle.device_facts.specs.Count.{Counted, Rose, Calm}
+use Rattle.device_facts.specs.Count.{Rose}
 use Rattle.device_facts.specs.Prefix.{IsPrefixOf}
 use Rattle.disk_core.specs.Disk.{WhereTold}
 use Rattle.disk_core.specs.declared.disk.Disk as disk
@@ -9,15 +9,14 @@ use Rattle.book_words.specs.declared.act.Ask.{Ask}
 use Rattle.book_words.specs.declared.act.Entry.{Entry}
 use Rattle.book_words.specs.Answers.{added}
 use Rattle.book_store.specs.declared.store.Store.{Store}
-use Rattle.book_store.specs.Callers.{CallerView, IsAskedFor, MayStandBehind, LeavesRows, KeepsRows, IsReachedBy}
+use Rattle.book_store.specs.Callers.{CallerView, IsAskedFor, MayStandBehind, LeavesRows, IsReachedBy}
 use Rattle.book_store.specs.Images.{HoldsBook}
 use Rattle.book_store.specs.Kept.{with_offered, CrashLeaves, HasKept, KeepsOn}
-use Rattle.book_store.specs.Stores.{disk_of, entries_of, limit_of, held_of, HangsWith, HoldsOrHangs}
+use Rattle.book_store.specs.Stores.{entries_of, limit_of, held_of, HangsWith}
 use Rattle.book_store.proofs.CallerSteps.{crash_between}
 use Rattle.book_store.proofs.KeptLemmas.{same_begins, begins_on, begins_short, leaves_front, kept_on}
 use Rattle.book_store.proofs.StoreFacts.{images_hold}
 use Rattle.store_runs.specs.declared.stop.Offer.TheVariants as offering
-use Rattle.store_runs.specs.declared.stop.Stop.{Stop}
 use Rattle.store_runs.specs.declared.stop.Stop.TheVariants.{Finished, DiskFault}
 use Rattle.store_runs.specs.Runs.{HasAddedRows, Goes}
 use Rattle.store_runs.proofs.StoreSteps.{on_unfinished}

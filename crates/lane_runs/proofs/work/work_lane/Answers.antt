@@ -1,13 +1,10 @@
-use Rattle.std.proofs.Common.{◌≡◌, OnOk, Some, Err, ap, ◌∙◌, subst}
-use Rattle.book_words.specs.declared.act.Ask.{Ask as Asked}
-use Rattle.book_words.specs.declared.caller.AskError.{AskError}
+use Rattle.std.proofs.Common.{ap, ◌∙◌, subst}
 use Rattle.book_store.specs.declared.store.Store.{Store}
-use Rattle.book_store.specs.Callers.{CallerView, known_of, IsReachedBy}
-use Rattle.lane_worker.specs.Works.{IsWork}
+use Rattle.book_store.specs.Callers.{CallerView, known_of}
 use Rattle.store_runs.specs.Books.{stored_book}
 use Rattle.store_runs.specs.Runs.{Goes}
-use Rattle.lane_runs.specs.LaneWorks.{LaneState, lane_state, IsWorked}
-use Rattle.lane_runs.proofs.WorkSteps.{Broke, site_with, with_broke, works, goes, calm_on}
+use Rattle.lane_runs.specs.LaneWorks.{lane_state, IsWorked}
+use Rattle.lane_runs.proofs.WorkSteps.{site_with, with_broke, works, goes, calm_on}
 use Rattle.lane_runs.proofs.work.work_lane.Goals as goal
 
 pub returns-clause-works : goal.returns-clause-works

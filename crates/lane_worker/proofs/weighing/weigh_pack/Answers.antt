@@ -1,4 +1,4 @@
-use Rattle.std.proofs.Common.{◌≡◌, ℕ, ℤ, [], ◌∷◌, Option, IfSome, Ok, Err, sym, subst, w64}
+use Rattle.std.proofs.Common.{ℕ, ℤ, [], ◌∷◌, Option, IfSome, Ok, Err, sym, subst, w64}
 use Rattle.std.proofs.lemmas.Int.{to_z-of_z}
 use Rattle.std.proofs.lemmas.Result.{err_from_is_err_and}
 use Rattle.book_words.specs.Callers.{IsAsked}
