@@ -1,4 +1,4 @@
-ghost use Rattle.std.specs.Prelude.{◌≡◌, ◌↔◌, ◌<◌, IsNone, IsSome, IsErr, IfOk};
+ghost use Rattle.std.specs.Prelude.{◌≡◌, ◌↔◌, ◌<◌, IsNone, IsSome, IsOk, IsErr, IfOk};
 
 use disk_core::Failed;
 use std::io;
@@ -14,6 +14,7 @@ pub(crate) fn admit(
     quiet: Duration,
 ) -> Result<Option<TcpStream>, Failed>
     ensures closed { IsNone listener.entry → IsErr result }
+    ensures ends { IsSome listener.entry → awaited ≡ 0 → IsOk result }
     ensures awaited { IfOk result (λ link. IsSome link ↔ (0 < awaited)) }
 {
     let Some(listener) = listener else {

@@ -215,7 +215,7 @@ impl Sink for TcpDoor {
 }
 
 impl Door for TcpDoor {
-    ghost use Rattle.std.specs.Prelude.{◌≡◌, ◌+◌, ◌<◌, ◌↔◌, true, false, None, IfOk, IsErr, IsTrue, OnOk, OnErr, refl};
+    ghost use Rattle.std.specs.Prelude.{◌≡◌, ◌+◌, ◌<◌, ◌↔◌, true, false, None, IfOk, IsOk, IsErr, IsTrue, OnOk, OnErr, refl};
     ghost use Rattle.device_facts.specs.Count.{CountsFault};
     ghost use Rattle.tcp_door.specs.OpenDoors.{one_if};
 
@@ -235,6 +235,7 @@ impl Door for TcpDoor {
 
     fn next(&mut self) -> Result<bool, Failed>
         ensures closed { self.old.listens ≡ false → IsErr result }
+        ensures ends { self.old.listens ≡ true → self.old.awaited ≡ 0 → IsOk result }
         ensures awaited { IfOk result (λ found. IsTrue found ↔ (0 < self.old.awaited)) }
         ensures counted { IfOk result (λ found.
             self.new.awaited + one_if found ≡ self.old.awaited) }

@@ -1,4 +1,4 @@
-use disk_core::{Door, Failed, Sink, Source, write_all};
+use disk_core::{Door, Failed, ListDoor, Sink, Source, write_all};
 use std::io::{Read, Write};
 use std::net::{Ipv4Addr, Net, Shutdown, TcpListener, TcpStream};
 use std::test::Fail;
@@ -82,6 +82,11 @@ fn a_quiet_client_is_lost_within_a_request_and_has_ended_behind_a_response(
     Ok(())
 }
 
+// That a door may go to a thread of its own is said by its type.
+fn may_move<O: Door + Send>(_door: &O) -> bool {
+    true
+}
+
 #[test]
 fn a_port_that_is_taken_fails_at_each_call(rt: HostRuntime) -> Result<(), Fail> {
     let first = TcpDoor::listen(&rt, 0, 1);
@@ -92,6 +97,9 @@ fn a_port_that_is_taken_fails_at_each_call(rt: HostRuntime) -> Result<(), Fail> 
     assert!(rt; second.next() == Err(Failed));
     assert!(rt; read(&mut second, &mut [0; 4]) == Err(Failed));
     assert!(rt; second.write(b"x") == Err(Failed));
+    let alloc = rt.alloc();
+    let listed = ListDoor::new(alloc, Vec::new(alloc), Vec::new(alloc));
+    assert!(rt; may_move(&second) && may_move(&listed));
     Ok(())
 }
 
