@@ -74,6 +74,9 @@ pub(crate) fn work(alloc: Global, fails: &[u32], gross: i64) -> Option<(Worked, 
     let mut lane = lane_of(alloc, gross).ok()?;
     let batch = Name::new(b"A".as_slice())?;
     let mut hall = open_hall(alloc, fails)?;
+    if hall.faults() != 0 {
+        return None;
+    }
     let worked = work_lane(&mut hall, &mut lane, 1, batch);
     let rows = hall.store().len();
     let _ = hall.back().close();
