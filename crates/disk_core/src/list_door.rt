@@ -138,10 +138,9 @@ impl Source for ListDoor {
     ghost use Rattle.std.proofs.Common.{◌∙◌};
     ghost use Rattle.std.specs.Io.KnownBytes.{ReadConsumes};
     ghost use Rattle.device_facts.specs.Count.{CountsFault};
-    ghost use Rattle.device_facts.specs.Known.{TellsAsBefore};
     ghost use Rattle.disk_core.specs.Streams.{gave_end, next_call};
     ghost use Rattle.disk_core.specs.Doors.{left_now};
-    ghost use Rattle.disk_core.specs.ListDoors.{DoorState, all_unread};
+    ghost use Rattle.disk_core.specs.ListDoors.{all_unread};
 
     ghost left = { λ d. Some (left_now d.connections) };
 
@@ -179,10 +178,9 @@ impl Sink for ListDoor {
     ghost use Rattle.std.proofs.Common.{◌∙◌};
     ghost use Rattle.std.specs.Io.KnownBytes.{WriteAppends};
     ghost use Rattle.device_facts.specs.Count.{CountsFault};
-    ghost use Rattle.device_facts.specs.Known.{TellsAsBefore};
     ghost use Rattle.disk_core.specs.Streams.{next_call};
     ghost use Rattle.disk_core.specs.Doors.{written_now};
-    ghost use Rattle.disk_core.specs.ListDoors.{DoorState, all_unwritten};
+    ghost use Rattle.disk_core.specs.ListDoors.{all_unwritten};
 
     ghost held = { λ d. Some (written_now d.connections) };
 
@@ -229,7 +227,6 @@ impl Door for ListDoor {
     ghost use Rattle.disk_core.specs.Streams.{next_call};
     ghost use Rattle.disk_core.specs.Doors.{AdmitsNext};
     ghost use Rattle.disk_core.specs.DoorLaws.{read_adds, write_adds};
-    ghost use Rattle.disk_core.specs.ListDoors.{DoorState};
 
     ghost connections = { λ d. Some d.connections };
 
