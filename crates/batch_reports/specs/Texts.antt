@@ -270,33 +270,33 @@ abbrev pub wanted_text : Bool → List ℕ
 wanted_text true = codes "wanted"
 wanted_text false = codes "unwanted"
 
--- what a refusal keeps, after a blank; the others keep nothing
-abbrev pub kept_text : Refusal → List ℕ
-kept_text (why.RequestOld last) = codes " " ++ decimal last
-kept_text (why.RequestReused row) = codes " " ++ decimal row
-kept_text (why.RequestGap last) = codes " " ++ decimal last
-kept_text (why.BookFull limit) = codes " " ++ decimal limit
-kept_text (why.DayBack last) = codes " " ++ day_text last
-kept_text (why.BatchState state) = codes " " ++ state_text state
-kept_text (why.LaneBusy batch) = codes " " ++ bytes_of batch
-kept_text (why.NoTare product) = codes " " ++ bytes_of product
-kept_text (why.PriorWrong wanted) = codes " " ++ wanted_text wanted
-kept_text (why.LanesRunning lane) = codes " " ++ decimal lane
-kept_text (why.PackPile pile) = codes " " ++ pile_text pile
-kept_text (why.Unsettled lane) = codes " " ++ decimal lane
-kept_text (why.ModeSmall n) = codes " " ++ decimal n
-kept_text (why.MeasuredAlready value) = codes " " ++ gram_text value
-kept_text (why.SecondNotNeeded d1) = codes " " ++ decimal d1
-kept_text (why.Unmeasured pack) = codes " " ++ decimal pack
-kept_text (why.SecondNeeded d1) = codes " " ++ decimal d1
-kept_text (why.TareFrozen batch) = codes " " ++ bytes_of batch
-kept_text _ = []
+-- what a refusal keeps, behind a lead as a blank; the others keep nothing
+abbrev pub kept_text : List ℕ → Refusal → List ℕ
+kept_text lead (why.RequestOld last) = lead ++ decimal last
+kept_text lead (why.RequestReused row) = lead ++ decimal row
+kept_text lead (why.RequestGap last) = lead ++ decimal last
+kept_text lead (why.BookFull limit) = lead ++ decimal limit
+kept_text lead (why.DayBack last) = lead ++ day_text last
+kept_text lead (why.BatchState state) = lead ++ state_text state
+kept_text lead (why.LaneBusy batch) = lead ++ bytes_of batch
+kept_text lead (why.NoTare product) = lead ++ bytes_of product
+kept_text lead (why.PriorWrong wanted) = lead ++ wanted_text wanted
+kept_text lead (why.LanesRunning lane) = lead ++ decimal lane
+kept_text lead (why.PackPile pile) = lead ++ pile_text pile
+kept_text lead (why.Unsettled lane) = lead ++ decimal lane
+kept_text lead (why.ModeSmall n) = lead ++ decimal n
+kept_text lead (why.MeasuredAlready value) = lead ++ gram_text value
+kept_text lead (why.SecondNotNeeded d1) = lead ++ decimal d1
+kept_text lead (why.Unmeasured pack) = lead ++ decimal pack
+kept_text lead (why.SecondNeeded d1) = lead ++ decimal d1
+kept_text lead (why.TareFrozen batch) = lead ++ bytes_of batch
+kept_text _ _ = []
 
 -- the text of a refusal: its number, its name and what it keeps, and the length of the list
 unfoldable pub refusal_text : Refused → List ℕ
 refusal_text refused =
     codes "refused " ++ decimal (refusal_number refused.refusal)
-    ++ codes " " ++ refusal_name refused.refusal ++ kept_text refused.refusal
+    ++ codes " " ++ refusal_name refused.refusal ++ kept_text (codes " ") refused.refusal
     ++ codes " at " ++ decimal refused.at ++ codes "\n"
 
 -- the text of whatever is answered

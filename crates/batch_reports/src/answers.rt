@@ -4,9 +4,9 @@ ghost use Rattle.hall_units.specs.Printing.{Prints};
 ghost use Rattle.batch_reports.specs.Appending.{HasRoom, Appended};
 ghost use Rattle.batch_reports.specs.Texts.{answer_text, reply_text, done_line, judged_line, closed_line};
 
-use crate::append::{append, append_count, append_word};
 use crate::lanes::push_lane;
 use crate::packs::push_pack;
+use crate::pieces::{append, append_count, append_word};
 use crate::samples::push_sample;
 use crate::sheets::push_sheet;
 use crate::summaries::push_summary;
@@ -17,8 +17,9 @@ use hall_units::{NoMemory, make_room};
 use pack_judge::Signal;
 
 /// No text of an answer or of a refusal has more bytes. The longest is that of the samples: 160
-/// packs in 20 digits and a blank each, and a name of 32 bytes, which is 3 413 bytes.
-pub const TEXT_ROOM: usize = 4_096;
+/// packs in 20 digits and a blank each, and a name of 32 bytes, which is 3 413 bytes. So a response
+/// of 4 096 bytes has room for a text and the head before it.
+pub const TEXT_ROOM: usize = 3_584;
 
 /// Appends the text of an answer. With room for `TEXT_ROOM` bytes it takes no memory; where memory
 /// is refused nothing is appended.

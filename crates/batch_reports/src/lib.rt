@@ -3,9 +3,9 @@
 #![tactic(auto)]
 
 mod answers;
-mod append;
 mod lanes;
 mod packs;
+mod pieces;
 mod refusals;
 mod samples;
 mod sheets;
@@ -15,4 +15,6 @@ mod verdicts;
 mod words;
 
 pub use answers::{TEXT_ROOM, answer_text};
-pub use refusals::refusal_text;
+pub use pieces::{append, append_count, append_number};
+pub use refusals::{MAX_KEPT, MAX_LEAD, push_kept, refusal_text};
+pub use verdicts::{MAX_VERDICT, push_verdict};

@@ -2,7 +2,7 @@ ghost use Rattle.book_words.specs.Ranges.{IsPackInRange};
 ghost use Rattle.batch_reports.specs.Appending.{HasRoom, Appended};
 ghost use Rattle.batch_reports.specs.Texts.{masses_text, found_text, pack_text};
 
-use crate::append::{
+use crate::pieces::{
     MAX_NAMED, MAX_NUMBERED, MAX_WEIGHED, MAX_WORD, append, append_named, append_numbered,
     append_weighed, append_word,
 };

@@ -1,4 +1,4 @@
-ghost use Rattle.std.specs.Prelude.{pos, ◌≡◌, ◌≤◌, ◌++◌, codes, decimal, length};
+ghost use Rattle.std.specs.Prelude.{pos, ◌≡◌, ◌≤◌, ◌++◌, decimal, length};
 ghost use Rattle.hall_units.specs.Days.{IsDay, day_text};
 ghost use Rattle.hall_units.specs.Grams.{gram_text};
 ghost use Rattle.hall_units.specs.Printing.{Prints};
@@ -9,14 +9,18 @@ ghost use Rattle.batch_reports.specs.Appending.{HasRoom, Appended};
 ghost use Rattle.batch_reports.specs.Texts.{refusal_text, kept_text, wanted_text};
 
 use crate::answers::TEXT_ROOM;
-use crate::append::{append, append_count, append_day, append_grams, append_word};
+use crate::pieces::{append, append_count, append_day, append_grams};
 use crate::words::{MAX_WORDS, pile_word, state_word};
 use book_words::{Name, Refusal, Refused};
 use hall_limits::MAX_GROSS;
 use hall_units::{MAX_GRAM_TEXT, NoMemory, make_room};
 
-/// The most bytes of what a refusal keeps: a blank and a mass. A name is shorter.
-const MAX_KEPT: usize = 1 + MAX_GRAM_TEXT;
+/// The most bytes that stand before what a refusal keeps.
+pub const MAX_LEAD: usize = 1;
+
+/// The most bytes of what a refusal keeps, and of what stands before it: a blank and a mass. A name
+/// is shorter.
+pub const MAX_KEPT: usize = MAX_LEAD + MAX_GRAM_TEXT;
 
 /// Appends the text of a refusal: its number, its name and what it keeps, and the length of the
 /// list. With room for `TEXT_ROOM` bytes it takes no memory; where memory is refused nothing is
@@ -42,85 +46,93 @@ fn push_refused(to: &mut Vec<u8>, refused: &Refused)
     append_count(to, u32::from(refused.refusal.number()));
     append(to, b" ");
     append(to, refused.refusal.name().as_bytes());
-    push_kept(to, &refused.refusal);
+    push_kept(to, b" ", &refused.refusal);
     append(to, b" at ");
     append_count(to, refused.at);
     append(to, b"\n");
 }
 
-// Appends what a refusal keeps, after a blank; the others keep nothing.
-fn push_kept(to: &mut Vec<u8>, refusal: &Refusal)
+/// Appends a lead, as a blank, and what a refusal keeps; where it keeps nothing, nothing.
+pub fn push_kept(to: &mut Vec<u8>, lead: &[u8], refusal: &Refusal)
     requires room { HasRoom to.old MAX_KEPT }
+    requires short { length lead.now ≤ MAX_LEAD }
     requires range { IsRefusalInRange refusal.now }
-    ensures { Appended to.old to.new (kept_text refusal.now) MAX_KEPT }
+    ensures { Appended to.old to.new (kept_text lead.now refusal.now) MAX_KEPT }
 {
     match refusal {
-        Refusal::RequestOld { last } => push_count(to, *last),
-        Refusal::RequestReused { row } => push_count(to, *row),
-        Refusal::RequestGap { last } => push_count(to, *last),
-        Refusal::BookFull { limit } => push_count(to, *limit),
-        Refusal::DayBack { last } => push_day(to, *last),
-        Refusal::BatchState { state } => push_word(to, state_word(*state)),
-        Refusal::LaneBusy { batch } => push_name(to, batch),
-        Refusal::NoTare { product } => push_name(to, product),
-        Refusal::PriorWrong { wanted } => push_word(to, wanted_word(*wanted)),
-        Refusal::LanesRunning { lane } => push_count(to, u32::from(*lane)),
-        Refusal::PackPile { pile } => push_word(to, pile_word(*pile)),
-        Refusal::Unsettled { lane } => push_count(to, u32::from(*lane)),
-        Refusal::ModeSmall { n } => push_count(to, *n),
-        Refusal::MeasuredAlready { value } => push_gross(to, *value),
-        Refusal::SecondNotNeeded { d1 } => push_count(to, *d1),
-        Refusal::Unmeasured { pack } => push_count(to, *pack),
-        Refusal::SecondNeeded { d1 } => push_count(to, *d1),
-        Refusal::TareFrozen { batch } => push_name(to, batch),
+        Refusal::RequestOld { last } => push_count(to, lead, *last),
+        Refusal::RequestReused { row } => push_count(to, lead, *row),
+        Refusal::RequestGap { last } => push_count(to, lead, *last),
+        Refusal::BookFull { limit } => push_count(to, lead, *limit),
+        Refusal::DayBack { last } => push_day(to, lead, *last),
+        Refusal::BatchState { state } => push_word(to, lead, state_word(*state)),
+        Refusal::LaneBusy { batch } => push_name(to, lead, batch),
+        Refusal::NoTare { product } => push_name(to, lead, product),
+        Refusal::PriorWrong { wanted } => push_word(to, lead, wanted_word(*wanted)),
+        Refusal::LanesRunning { lane } => push_count(to, lead, u32::from(*lane)),
+        Refusal::PackPile { pile } => push_word(to, lead, pile_word(*pile)),
+        Refusal::Unsettled { lane } => push_count(to, lead, u32::from(*lane)),
+        Refusal::ModeSmall { n } => push_count(to, lead, *n),
+        Refusal::MeasuredAlready { value } => push_gross(to, lead, *value),
+        Refusal::SecondNotNeeded { d1 } => push_count(to, lead, *d1),
+        Refusal::Unmeasured { pack } => push_count(to, lead, *pack),
+        Refusal::SecondNeeded { d1 } => push_count(to, lead, *d1),
+        Refusal::TareFrozen { batch } => push_name(to, lead, batch),
         _ => (),
     }
 }
 
-// Appends a blank and a count.
-fn push_count(to: &mut Vec<u8>, count: u32)
-    requires { HasRoom to.old MAX_KEPT }
-    ensures { Appended to.old to.new (codes " " ++ decimal count) MAX_KEPT }
+// Appends a lead and a count.
+fn push_count(to: &mut Vec<u8>, lead: &[u8], count: u32)
+    requires room { HasRoom to.old MAX_KEPT }
+    requires short { length lead.now ≤ MAX_LEAD }
+    ensures { Appended to.old to.new (lead.now ++ decimal count) MAX_KEPT }
 {
-    append(to, b" ");
+    append(to, lead);
     append_count(to, count);
 }
 
-// Appends a blank and a day.
-fn push_day(to: &mut Vec<u8>, day: i32)
+// Appends a lead and a day.
+fn push_day(to: &mut Vec<u8>, lead: &[u8], day: i32)
     requires room { HasRoom to.old MAX_KEPT }
+    requires short { length lead.now ≤ MAX_LEAD }
     requires range { IsDay day }
-    ensures { Appended to.old to.new (codes " " ++ day_text day) MAX_KEPT }
+    ensures { Appended to.old to.new (lead.now ++ day_text day) MAX_KEPT }
 {
-    append(to, b" ");
+    append(to, lead);
     append_day(to, day);
 }
 
-// Appends a blank and a gross in grams.
-fn push_gross(to: &mut Vec<u8>, gross: i64)
+// Appends a lead and a gross in grams.
+fn push_gross(to: &mut Vec<u8>, lead: &[u8], gross: i64)
     requires room { HasRoom to.old MAX_KEPT }
+    requires short { length lead.now ≤ MAX_LEAD }
     requires range { IsBetween (pos 0) MAX_GROSS gross }
-    ensures { Appended to.old to.new (codes " " ++ gram_text gross) MAX_KEPT }
+    ensures { Appended to.old to.new (lead.now ++ gram_text gross) MAX_KEPT }
 {
-    append(to, b" ");
+    append(to, lead);
     append_grams(to, gross);
 }
 
-// Appends a blank and a name.
-fn push_name(to: &mut Vec<u8>, name: &Name)
-    requires { HasRoom to.old MAX_KEPT }
-    ensures { Appended to.old to.new (codes " " ++ bytes_of name.now) MAX_KEPT }
+// Appends a lead and a name.
+fn push_name(to: &mut Vec<u8>, lead: &[u8], name: &Name)
+    requires room { HasRoom to.old MAX_KEPT }
+    requires short { length lead.now ≤ MAX_LEAD }
+    ensures { Appended to.old to.new (lead.now ++ bytes_of name.now) MAX_KEPT }
 {
-    append_word(to, name.as_bytes());
+    append(to, lead);
+    append(to, name.as_bytes());
 }
 
-// Appends a blank and a word.
-fn push_word(to: &mut Vec<u8>, word: &[u8])
+// Appends a lead and a word.
+fn push_word(to: &mut Vec<u8>, lead: &[u8], word: &[u8])
     requires room { HasRoom to.old MAX_KEPT }
+    requires lead { length lead.now ≤ MAX_LEAD }
     requires short { length word.now ≤ MAX_WORDS }
-    ensures { Appended to.old to.new (codes " " ++ word.now) MAX_KEPT }
+    ensures { Appended to.old to.new (lead.now ++ word.now) MAX_KEPT }
 {
-    append_word(to, word);
+    append(to, lead);
+    append(to, word);
 }
 
 // Whether the lane's act has to say what the gate did, or must not.

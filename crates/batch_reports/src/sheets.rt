@@ -3,7 +3,7 @@ ghost use Rattle.book_words.specs.Ranges.{IsSheetInRange};
 ghost use Rattle.batch_reports.specs.Appending.{HasRoom, Appended};
 ghost use Rattle.batch_reports.specs.Texts.{quantity_text, density_text, goods_line, state_line, population_line, held_line, counts_line, first_line, second_line, test_lines, verdict_line, sheet_text};
 
-use crate::append::{
+use crate::pieces::{
     MAX_LABEL, MAX_NAMED, MAX_NUMBERED, MAX_WEIGHED, append, append_named, append_numbered,
     append_weighed,
 };

@@ -2,7 +2,7 @@ ghost use Rattle.book_words.specs.Ranges.{IsSummaryInRange};
 ghost use Rattle.batch_reports.specs.Appending.{HasRoom, Appended};
 ghost use Rattle.batch_reports.specs.Texts.{batches_line, summary_text};
 
-use crate::append::{MAX_NUMBERED, append, append_numbered};
+use crate::pieces::{MAX_NUMBERED, append, append_numbered};
 use crate::tallies::{MAX_TALLIES, push_tallies};
 use book_words::SummaryView;
 

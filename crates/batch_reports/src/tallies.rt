@@ -3,7 +3,7 @@ ghost use Rattle.book_words.specs.Ranges.{IsGrossInRange};
 ghost use Rattle.batch_reports.specs.Appending.{HasRoom, Appended};
 ghost use Rattle.batch_reports.specs.Texts.{tally_line, tally_lines};
 
-use crate::append::{
+use crate::pieces::{
     MAX_LABEL, MAX_NUMBERED, MAX_WEIGHED, append, append_numbered, append_weighed,
 };
 use pack_judge::Tally;

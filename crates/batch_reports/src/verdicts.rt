@@ -2,7 +2,7 @@ ghost use Rattle.std.specs.Prelude.{◌≤◌, ◌++◌, codes, length};
 ghost use Rattle.batch_reports.specs.Appending.{HasRoom, Appended};
 ghost use Rattle.batch_reports.specs.Texts.{part_text, fails_text, verdict_text};
 
-use crate::append::append;
+use crate::pieces::append;
 use book_words::{Fails, Verdict};
 
 /// The most bytes of a blank and the word for a part of the test.

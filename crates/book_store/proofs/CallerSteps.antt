@@ -28,7 +28,7 @@ use Rattle.book_core.specs.View.{BookView}
 use Rattle.book_core.specs.Steps.{MayLackMemory}
 use Rattle.book_store.specs.Stores.{disk_of, book_of, entries_of, limit_of, held_of, Hangs, HasBook, HoldsOrHangs}
 use Rattle.book_store.specs.Offers.{Offers, OffersEntry, LeavesDisk, GivesAnswer, list_behind, CountsDiskFault}
-use Rattle.book_store.specs.Callers.{CallerView, own_rows, known_of, MayStandBehind, LeavesRows, KeepsRows, FailsAlike, IsReachedBy}
+use Rattle.book_store.specs.Callers.{CallerView, own_rows, known_of, failed_behind, MayStandBehind, LeavesRows, KeepsRows, FailsAlike, KeepsFailed, IsReachedBy}
 use Rattle.book_store.proofs.StoreFacts.{images_hold}
 use Rattle.book_store.proofs.KeptLemmas.{same_begins, asked_begins}
 
@@ -134,6 +134,23 @@ own_step by entries next None owns is = ap (own_rows by) (is ∙ append-nil entr
     ∙ sym (append-nil (own_rows by entries))
 own_step by entries next (Some entry) owns is = ap (own_rows by) is
     ∙ own_more by entries entry (same_by entry.by by (owns entry refl))
+
+alone_step : (by : ℕ) (entries next : List Entry) (new : Option Entry)
+    → ((entry : Entry) → new ≡ Some entry → entry.by ≡ by) → next ≡ entries ++ cons_option new []
+    → length next + length (own_rows by entries) ≡ length entries + length (own_rows by next)
+alone_step by entries next None owns is =
+    let same = is ∙ append-nil entries in
+    omega (arith, ap length same, ap (λ (es : List Entry). length (own_rows by es)) same)
+alone_step by entries next (Some entry) owns is =
+    let row : Row = record { number = length entries + 1; entry = entry } in
+    let own = ap length (own_step by entries next (Some entry) owns is) in
+    omega (
+      arith,
+      ap length is,
+      length-append entries (entry ∷ []),
+      own,
+      length-append (own_rows by entries) (row ∷ []),
+    )
 
 -- an answer over all that was seen before
 answered_over : (was now : Known) (ask : Ask) (given : Result Answered Refused)
@@ -410,12 +427,34 @@ module _ {D : Type 0} (g : disk.Ghosts D) (old new : CallerView D) (ask : Ask)
   alike_asked (Err (error.Refused why)) cause range is =
       inl (cause, none_counted old.faults new.faults range is)
   alike_asked (Err error.DiskFault) cause range is =
-      inr (
-        fault_rose (g.faults (disk_of old.store)) (g.faults (disk_of new.store)) cause,
-        fault_rose old.faults new.faults is,
-      )
+      inr (1, omega arith, cause, is)
   alike_asked (Err error.NoMemory) cause range is =
       inl (cause, none_counted old.faults new.faults range is)
+
+  failed_asked : (result : Result Answered AskError) → old.faults ≤ FAULTS_END
+      → new.faults ≡ min (old.faults + faults_told result) FAULTS_END
+      → new.failed ≡ failed_behind result ask old.failed → KeepsFailed old new (ask ∷ [])
+  failed_asked (Ok answered) range is failed =
+      inl (none_counted old.faults new.faults range is, failed)
+  failed_asked (Err (error.Refused why)) range is failed =
+      inl (none_counted old.faults new.faults range is, failed)
+  failed_asked (Err error.DiskFault) range is failed =
+      inr (fault_rose old.faults new.faults is, ask, (0, omega arith, refl), failed)
+  failed_asked (Err error.NoMemory) range is failed =
+      inl (none_counted old.faults new.faults range is, failed)
+
+  -- the list grows by an entry of the caller's, or stays
+  alone_asked : (result : Result Answered AskError) (offered : Option Entry)
+      → ((entry : Entry) → offered ≡ Some entry → entry.by ≡ old.by)
+      → entries_of new.store ≡ list_behind result (entries_of old.store) offered
+      → length (entries_of new.store) + length (own_rows old.by (entries_of old.store))
+      ≡ length (entries_of old.store) + length (own_rows old.by (entries_of new.store))
+  alone_asked (Ok answered) offered owns is =
+      alone_step old.by (entries_of old.store) (entries_of new.store) offered owns
+      (seen_more answered (entries_of old.store) (entries_of new.store) offered is)
+  alone_asked (Err why) offered owns is =
+      let same = list_stays why (entries_of old.store) (entries_of new.store) offered is in
+      omega (arith, ap length same, ap (λ (es : List Entry). length (own_rows old.by es)) same)
 
   -- an ask, from what the store promises of it
   pub reached_by_ask : (result : Result Answered AskError)
@@ -432,8 +471,9 @@ module _ {D : Type 0} (g : disk.Ghosts D) (old new : CallerView D) (ask : Ask)
       → limit_of new.store ≡ limit_of old.store → held_of new.store ≡ held_of old.store
       → CountsDiskFault (g.faults (disk_of old.store)) (g.faults (disk_of new.store)) result
       → old.faults ≤ FAULTS_END → new.faults ≡ min (old.faults + faults_told result) FAULTS_END
+      → new.failed ≡ failed_behind result ask old.failed
       → IsReachedBy g old new (ask ∷ [])
-  reached_by_ask result is gives offers lacks hangs settled limit held cause range faults =
+  reached_by_ask result is gives offers lacks hangs settled limit held cause range faults failing =
       let offered = added (limit_of old.store) (entries_of old.store) old.by ask in
       let refused = refused_adds (book_of old.store) old.by ask result in
       let failed = failed_adds (book_of old.store) old.by ask offered result
@@ -447,8 +487,11 @@ module _ {D : Type 0} (g : disk.Ghosts D) (old new : CallerView D) (ask : Ask)
         limit = limit;
         held = held;
         by = by;
+        alone = alone_asked result offered
+            (added_by (limit_of old.store) old.by (entries_of old.store) ask) is;
         counted = omega (arith, range, faults);
         alike = alike_asked result cause range faults;
+        failed = failed_asked result range faults failing;
         hangs = λ hung. ⊎_elim (λ told. inr (rose told)) (λ was. inl was) (hangs hung);
         still = still_asked result offered is offers (λ why told. refused why gives told) lacks rose;
         keeps = keeps_asked result offered refl is offers

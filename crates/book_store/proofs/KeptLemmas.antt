@@ -134,7 +134,7 @@ module _ {D : Type 0} (g : disk.Ghosts D) where
       absurd (let none : None ≡ Some hangs.0 = kept.hung hangs.0 hangs.1 in cc)
 
   -- a call over which a crash leaves what it may
-  kept_on : (held : List Entry) (start : D) (offered : Option Entry) (old new : Store D)
+  pub kept_on : (held : List Entry) (start : D) (offered : Option Entry) (old new : Store D)
       (Q : List ℕ → Type 0) → HasKept g held start None old → HasBook g new
       → IsPrefixOf (entries_of old) (entries_of new)
       → ((entry : Entry) → HangsWith g new entry → offered ≡ Some entry)

@@ -1,5 +1,6 @@
 -- A caller is reached from itself by no ask, and by two lists of asks one after the other.
-use Rattle.std.proofs.Common.{inl, inr, ⊎_elim, ℕ, ◌≤◌, List, [], ◌∷◌, ◌++◌, length, refl, sym, ◌∙◌, ap, subst, arith, append_assoc, append-nil, length-append}
+use Rattle.std.proofs.Common.{◌≡◌, inl, inr, ⊎_elim, ℕ, ◌+◌, ◌≤◌, List, [], ◌∷◌, ◌++◌, length, refl, sym, ◌∙◌, ap, subst, arith, append_assoc, append-nil, length-append}
+use Rattle.std.proofs.lemmas.List.Elements.{Contains-append_left, Contains-append_right}
 use Rattle.device_facts.specs.Count.{Rose}
 use Rattle.device_facts.specs.Prefix.{IsPrefixOf}
 use Rattle.disk_core.specs.declared.disk.Disk as disk
@@ -7,7 +8,7 @@ use Rattle.book_words.specs.declared.act.Ask.{Ask}
 use Rattle.book_words.specs.declared.act.Entry.{Entry}
 use Rattle.book_words.specs.Callers.{IsReached}
 use Rattle.book_store.specs.Stores.{disk_of, entries_of, limit_of}
-use Rattle.book_store.specs.Callers.{CallerView, IsAskedFor, MayStandBehind, LeavesRows, KeepsRows, FailsAlike, IsReachedBy}
+use Rattle.book_store.specs.Callers.{CallerView, own_rows, IsAskedFor, MayStandBehind, LeavesRows, KeepsRows, FailsAlike, KeepsFailed, IsReachedBy}
 
 begins_itself : (a : List Entry) → IsPrefixOf a a
 begins_itself a = ([], sym (append-nil a))
@@ -64,7 +65,9 @@ module _ {D : Type 0} (g : disk.Ghosts D) where
         held = refl;
         by = refl;
         counted = omega arith;
+        alone = refl;
         alike = inl (refl, refl);
+        failed = inl (refl, refl);
         hangs = λ hangs. inl hangs;
         still = λ few calm. refl;
         keeps = λ has. record {
@@ -82,18 +85,46 @@ module _ {D : Type 0} (g : disk.Ghosts D) where
         (λ stays. ⊎_elim
         (λ then. inl (then.0 ∙ stays.0, then.1 ∙ stays.1))
         (λ then. inr (
-          subst (λ (n : ℕ). Rose n (g.faults (disk_of third.store))) stays.0 then.0,
-          subst (λ (n : ℕ). Rose n third.faults) stays.1 then.1,
+          then.0,
+          then.1,
+          omega (arith, stays.0, then.2),
+          omega (arith, stays.1, then.3),
         ))
         two.alike)
         (λ rose. ⊎_elim
         (λ then. inr (
-          subst (Rose (g.faults (disk_of first.store))) (sym then.0) rose.0,
-          subst (Rose first.faults) (sym then.1) rose.1,
+          rose.0,
+          rose.1,
+          omega (arith, rose.2, then.0),
+          omega (arith, rose.3, then.1),
         ))
-        (λ then. inr (omega (arith, rose.0, then.0), rose_before _ _ _ rose.1 two.counted))
+        (λ then. inr (
+          rose.0 + then.0,
+          omega (arith, rose.1),
+          omega (arith, rose.2, then.2),
+          omega (arith, rose.3, then.3),
+        ))
         two.alike)
         one.alike
+
+    failed_both : KeepsFailed first third (some ++ more)
+    failed_both = ⊎_elim
+        (λ stays. ⊎_elim
+        (λ then. inl (stays.0 ∙ then.0, stays.1 ∙ then.1))
+        (λ then. inr (
+          subst (Rose first.faults) (sym stays.0) then.0,
+          then.1,
+          Contains-append_left some more then.1 then.2,
+          stays.1 ∙ then.3,
+        ))
+        one.failed)
+        (λ rose. inr (
+          rose_behind _ _ _ one.counted rose.0,
+          rose.1,
+          Contains-append_right some more rose.1 rose.2,
+          rose.3,
+        ))
+        two.failed
 
     -- what may stand behind rows after the first asks, or after the others
     stands_before : (rows : List Entry) (entry : Entry)
@@ -167,8 +198,14 @@ module _ {D : Type 0} (g : disk.Ghosts D) where
           limit = two.limit ∙ one.limit;
           held = two.held ∙ one.held;
           by = two.by ∙ one.by;
+          alone =
+              let own = λ (n : ℕ). length (entries_of third.store)
+              + length (own_rows n (entries_of second.store))
+              ≡ length (entries_of second.store) + length (own_rows n (entries_of third.store)) in
+              omega (arith, one.alone, subst own one.by two.alone);
           counted = omega (arith, one.counted, two.counted);
           alike = alike_both;
+          failed = failed_both;
           hangs = λ hangs. ⊎_elim
               (λ was. ⊎_elim (λ is. inl is) (λ rose. inr (rose_before _ _ _ rose two.counted))
               (one.hangs was))

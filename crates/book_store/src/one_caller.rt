@@ -1,5 +1,6 @@
 ghost use Rattle.std.specs.Prelude.{◌≡◌, ◌+◌, min};
 ghost use Rattle.book_words.specs.Callers.{FAULTS_END, faults_told};
+ghost use Rattle.book_store.specs.Callers.{failed_behind};
 
 use crate::store::Store;
 use book_words::{Answered, Ask, AskError, Caller};
@@ -12,6 +13,7 @@ pub struct OneCaller<D: Disk> {
     store: Store<D>,
     by: u16,
     faults: u64,
+    failed: Option<Ask>,
 }
 
 impl<D: Disk> Model for OneCaller<D> {
@@ -20,24 +22,30 @@ impl<D: Disk> Model for OneCaller<D> {
 
     ghost Value = { CallerView D };
 
-    ghost view = { λ c. record { store = c.store; by = c.by; faults = c.faults } };
+    ghost view = { λ c. record {
+      store = c.store;
+      by = c.by;
+      faults = c.faults;
+      failed = c.failed;
+    } };
 
     ghost invariant = { λ c. IsSound D.Disk c.store };
 }
 
 impl<D: Disk> OneCaller<D> {
-    ghost use Rattle.std.specs.Prelude.{◌≡◌};
+    ghost use Rattle.std.specs.Prelude.{◌≡◌, None};
     ghost use Rattle.book_store.specs.Stores.{IsSound};
 
     /// A caller of this store whose entries bear the number `by`. It was answered no fault.
     pub fn new(store: Store<D>, by: u16) -> OneCaller<D>
         requires sound { IsSound D.Disk store }
-        ensures { result ≡ record { store = store; by = by; faults = 0 } }
+        ensures { result ≡ record { store = store; by = by; faults = 0; failed = None } }
     {
         OneCaller {
             store,
             by,
             faults: 0,
+            failed: None,
         }
     }
 
@@ -53,6 +61,13 @@ impl<D: Disk> OneCaller<D> {
         ensures { result ≡ self.now.faults }
     {
         self.faults
+    }
+
+    /// The ask at which the disk failed last, if it did.
+    pub fn failed(&self) -> Option<Ask>
+        ensures { result ≡ self.now.failed }
+    {
+        self.failed
     }
 
     /// The store, to be read.
@@ -109,6 +124,7 @@ impl<D: Disk> Caller for OneCaller<D> {
     {
         let given = self.store.ask(self.by, ask);
         self.faults = told(self.faults, &given);
+        self.failed = failed_last(self.failed, ask, &given);
         given
     }
 
@@ -122,5 +138,15 @@ fn told(faults: u64, given: &Result<Answered, AskError>) -> u64
     match given {
         Err(AskError::DiskFault) => faults.saturating_add(1),
         _ => faults,
+    }
+}
+
+// The ask at which the disk failed last, behind an answer.
+fn failed_last(failed: Option<Ask>, ask: &Ask, given: &Result<Answered, AskError>) -> Option<Ask>
+    ensures { result ≡ failed_behind given.now ask.now failed }
+{
+    match given {
+        Err(AskError::DiskFault) => Some(*ask),
+        _ => failed,
     }
 }

@@ -1,10 +1,13 @@
-//! The outside as the hall sees it: a source of bytes, a sink for bytes and a disk, in memory
-//! and over the real streams.
+//! The outside as the hall sees it: a source of bytes, a sink for bytes, a door to connections and
+//! a disk, in memory; sources and sinks over the real streams too.
 #![tactic(auto)]
 
 mod disk;
 mod disk_call;
 mod disk_types;
+mod door;
+mod list_connection;
+mod list_door;
 mod memory_disk;
 mod memory_sink;
 mod memory_source;
@@ -19,6 +22,8 @@ mod types;
 
 pub use disk::Disk;
 pub use disk_types::{DISK_END, Keep};
+pub use door::Door;
+pub use list_door::ListDoor;
 pub use memory_disk::MemoryDisk;
 pub use memory_sink::MemorySink;
 pub use memory_source::MemorySource;

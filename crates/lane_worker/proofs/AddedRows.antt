@@ -12,7 +12,7 @@ use Rattle.book_words.specs.declared.caller.AskError.TheVariants as error
 use Rattle.book_words.specs.declared.reply.Answered.{Answered}
 use Rattle.book_words.specs.declared.reply.Refused.{Refused}
 use Rattle.book_words.specs.Answers.{added, entry_for, reply_behind, ask_of}
-use Rattle.book_words.specs.Callers.{Known, FAULTS_END, IsAsked, IsRight, HasAnswer, faults_told, row_added}
+use Rattle.book_words.specs.Callers.{Known, FAULTS_END, IsAsked, HasAnswer, faults_told}
 use Rattle.book_words.specs.Desks.{Row}
 use Rattle.book_words.specs.Signals.{recorded_signal}
 use Rattle.book_words.specs.Views.{lane_view}

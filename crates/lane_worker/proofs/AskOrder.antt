@@ -1,5 +1,5 @@
 -- The asks of a worker in their order, with one row more.
-use Rattle.std.proofs.Common.{◌≡◌, ℕ, ℤ, List, [], ◌∷◌, ◌++◌, map, Option, Some, None, refl, sym, ◌∙◌, ap, subst, append_assoc, append-nil}
+use Rattle.std.proofs.Common.{◌≡◌, ℕ, ℤ, List, [], ◌∷◌, ◌++◌, map, Option, sym, ◌∙◌, ap, subst, append_assoc, append-nil}
 use Rattle.std.proofs.lemmas.List.{map-append}
 use Rattle.book_words.specs.declared.name.Name.{Name}
 use Rattle.book_words.specs.declared.act.Act.TheVariants.{StartLane, Weigh, StopLane}
@@ -7,7 +7,7 @@ use Rattle.book_words.specs.declared.act.Ask.{Ask}
 use Rattle.book_words.specs.declared.act.Prior.{Prior}
 use Rattle.book_words.specs.Answers.{ask_of}
 use Rattle.book_words.specs.Desks.{Row}
-use Rattle.lane_worker.specs.Asks.{act_ask, prior_behind, behind, weighing_asks, starting_asks, stopping_asks}
+use Rattle.lane_worker.specs.Asks.{act_ask, prior_behind, weighing_asks, starting_asks, stopping_asks}
 use Rattle.lane_worker.specs.Steps.{row_asks}
 
 -- the asks of some rows and of one more

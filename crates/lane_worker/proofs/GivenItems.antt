@@ -1,5 +1,5 @@
 -- What a cell gave, with one item more.
-use Rattle.std.proofs.Common.{◌≡◌, ℕ, ℤ, false, List, [], ◌∷◌, ◌++◌, map, Option, option_map, Some, None, refl, sym, ◌∙◌, ap, subst, append-nil}
+use Rattle.std.proofs.Common.{◌≡◌, ℕ, ℤ, false, List, [], ◌∷◌, ◌++◌, map, Option, option_map, Some, None, sym, ◌∙◌, ap, subst, append-nil}
 use Rattle.std.proofs.lemmas.List.{map-append}
 use Rattle.device_facts.specs.Count.{Counted}
 use Rattle.lane_worker.specs.declared.types.CellNext.{CellNext}

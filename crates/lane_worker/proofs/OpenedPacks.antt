@@ -1,14 +1,11 @@
 -- The packs for which the gate opened, with one more, and what is said of it behind a row.
-use Rattle.std.proofs.Common.{◌≡◌, ℕ, ℤ, ◌<◌, cond, subst, Bool, true, false, ◌||◌, ◌==◌, List, [], ◌∷◌, ◌++◌, length, Option, option_map, Some, None, refl, sym, ◌∙◌, ap, arith, append_assoc, append-nil, length-append, Contains}
+use Rattle.std.proofs.Common.{◌≡◌, ℕ, ℤ, ◌<◌, cond, subst, Bool, true, false, ◌||◌, ◌==◌, List, [], ◌∷◌, ◌++◌, Option, Some, None, refl, sym, ◌∙◌, ap, arith, append_assoc, append-nil, Contains}
 use Rattle.std.proofs.lemmas.Bool.{eq-eqb}
 use Rattle.std.proofs.lemmas.Option.{none-some}
 use Rattle.std.proofs.lemmas.Bool.Decides.{nat_tests}
 use Rattle.std.proofs.lemmas.List.Elements.{filter_map-append, Contains-push}
 use Rattle.std.proofs.lemmas.List.Folds.{list_any-append}
 use Rattle.std.specs.List.{cons_option}
-use Rattle.pack_judge.specs.declared.types.Signal.{Signal}
-use Rattle.pack_judge.specs.declared.types.Signal.TheVariants.{Pass, Reject}
-use Rattle.book_words.specs.declared.act.Act.{Act}
 use Rattle.book_words.specs.declared.act.Act.TheVariants.{Weigh}
 use Rattle.book_words.specs.declared.act.Prior.{Prior}
 use Rattle.book_words.specs.declared.act.Prior.TheVariants.{Nothing, Opened, Stayed}

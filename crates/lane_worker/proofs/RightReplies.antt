@@ -1,28 +1,25 @@
 -- What an answer to the ask of a worker tells.
-use Rattle.std.proofs.Common.{◌≡◌, ℕ, ◌+◌, true, false, List, [], ◌∷◌, length, ℤ, cond, Option, Some, None, Result, Ok, Err, refl, sym, ◌∙◌, ap}
+use Rattle.std.proofs.Common.{◌≡◌, ℕ, ◌+◌, List, ◌∷◌, length, ℤ, cond, Option, Some, None, Result, Ok, Err, refl, sym, ◌∙◌, ap}
 use Rattle.std.proofs.lemmas.Option.{none-some, same_Some}
 use Rattle.pack_judge.specs.declared.types.Signal.{Signal}
 use Rattle.pack_judge.specs.declared.types.Signal.TheVariants.{Pass, Reject}
 use Rattle.book_words.specs.declared.act.Act.{Act}
 use Rattle.book_words.specs.declared.act.Act.TheVariants.{Weigh}
 use Rattle.book_words.specs.declared.act.Prior.{Prior}
-use Rattle.book_words.specs.declared.act.Question.TheVariants.{Lane}
 use Rattle.book_words.specs.declared.act.Entry.{Entry}
 use Rattle.book_words.specs.declared.refusal.Refusal.{Refusal}
 use Rattle.book_words.specs.declared.reply.Answered.{Answered}
 use Rattle.book_words.specs.declared.reply.Refused.{Refused}
-use Rattle.book_words.specs.declared.reply.Reply.{Reply}
 use Rattle.book_words.specs.declared.reply.Reply.TheVariants.{LaneIs}
-use Rattle.book_words.specs.declared.views.LaneView.{LaneView}
 use Rattle.std.specs.Option.{option_or}
-use Rattle.book_words.specs.Desks.{Row, desk_number, request_old, request_reused, request_gap, repeated_row}
+use Rattle.book_words.specs.Desks.{Row, desk_number, request_old, request_reused, request_gap}
 use Rattle.book_words.specs.Population.{is_pass}
 use Rattle.book_words.specs.Refusals.{first_refusal, book_full, refusals_of, refusal_of, lane_number}
 use Rattle.book_words.specs.Signals.{recorded_signal}
 use Rattle.book_words.specs.Views.{lane_view, refused_or}
 use Rattle.book_words.specs.Answers.{answer, accepted, desk_answer, question_answer, entry_unless, entry_for, added, judged_or_done, reply_behind}
 use Rattle.lane_worker.specs.Asks.{act_ask, lane_ask, passed_pack}
-use Rattle.lane_worker.specs.Replies.{pack_told, stop_told}
+use Rattle.lane_worker.specs.Replies.{pack_told}
 
 abbrev ok_or : {T E : Type 0} → T → Result T E → T
 ok_or other (Ok x) = x

@@ -1,6 +1,6 @@
 -- How the work of a lane goes on with each ask, each item of the cell and each call of the gate, and
 -- how it comes to its end.
-use Rattle.std.proofs.Common.{◌≡◌, inl, inr, ℕ, ℤ, ◌+◌, ◌<◌, min, true, false, List, [], ◌∷◌, ◌++◌, length, drop, Option, IfSome, Some, None, Result, Ok, Err, refl, sym, ◌∙◌, ap, subst, arith, append_assoc, append-nil, length-append, cond}
+use Rattle.std.proofs.Common.{◌≡◌, inl, inr, ℕ, ℤ, ◌+◌, ◌<◌, min, false, List, [], ◌∷◌, ◌++◌, length, drop, Option, IfSome, Some, None, Ok, Err, refl, sym, ◌∙◌, ap, subst, arith, append-nil, length-append, cond}
 use Rattle.std.proofs.lemmas.Option.{same_Some}
 use Rattle.std.specs.List.{cons_option}
 use Rattle.device_facts.specs.Count.{Counted}
@@ -16,11 +16,9 @@ use Rattle.book_words.specs.declared.act.Prior.TheVariants.{Nothing, Opened, Sta
 use Rattle.book_words.specs.declared.caller.AskError.{AskError}
 use Rattle.book_words.specs.declared.caller.AskError.TheVariants as error
 use Rattle.book_words.specs.declared.reply.Answered.{Answered}
-use Rattle.book_words.specs.Answers.{ask_of}
 use Rattle.book_words.specs.Callers.{Known, FAULTS_END, IsAsked}
 use Rattle.book_words.specs.Desks.{Row}
 use Rattle.book_words.specs.Population.{is_pass}
-use Rattle.book_words.specs.Signals.{recorded_signal}
 use Rattle.book_words.specs.Views.{lane_view}
 use Rattle.lane_worker.specs.declared.types.CellNext.{CellNext}
 use Rattle.lane_worker.specs.declared.types.CellNext.TheVariants.{Gross}
@@ -29,14 +27,14 @@ use Rattle.lane_worker.specs.declared.ending.Ending.TheVariants as ends
 use Rattle.lane_worker.specs.declared.ending.Ending.TheVariants.{CellFailed, GateFailed}
 use Rattle.lane_worker.specs.declared.ending.LaneStop.TheVariants.{Done}
 use Rattle.lane_worker.specs.declared.progress.Progress.{Progress}
-use Rattle.lane_worker.specs.Asks.{act_ask, lane_ask, stop_found, is_among, prior_behind, weighing_asks, starting_asks, stopping_asks, passed_pack, passed_packs, work_asks}
+use Rattle.lane_worker.specs.Asks.{act_ask, lane_ask, stop_found, prior_behind, weighing_asks, starting_asks, stopping_asks, passed_pack, passed_packs}
 use Rattle.lane_worker.specs.Gates.{with_packs, HasPassed}
 use Rattle.lane_worker.specs.Replies.{pack_told}
 use Rattle.lane_worker.specs.Endings.{stop_by, stop_at, faults_at, last_items, cell_failed, gate_failed, FailsIf}
-use Rattle.lane_worker.specs.Works.{Site, Work, HasAdded, HasGiven, AreOpened, HasOpened, Finishes, BreaksOff, asks_of_work, IsWork}
-use Rattle.lane_worker.specs.Steps.{row_asks, with_caller, IsCalm, IsStopped, TakesItem, IsWeighing, Weighs, HasWeighed, HasEnded, broken_end}
+use Rattle.lane_worker.specs.Works.{Site, Work, HasAdded, HasGiven, AreOpened, HasOpened, asks_of_work, IsWork}
+use Rattle.lane_worker.specs.Steps.{row_asks, with_caller, IsCalm, IsStopped, TakesItem, Weighs, HasWeighed, HasEnded, broken_end}
 use Rattle.lane_worker.proofs.RightReplies.{weighing_told, passed_row}
-use Rattle.lane_worker.proofs.AddedRows.{IsTaken, IsLost, added_row, added_none, nothing_added, calm_more, faults_finished, faults_broken, prefix_itself}
+use Rattle.lane_worker.proofs.AddedRows.{IsTaken, IsLost, added_row, added_none, nothing_added, calm_more, faults_finished, faults_broken}
 use Rattle.lane_worker.proofs.AskOrder.{asks_more, course_weighed, course_opened, course_started, next_weighing, next_stop}
 use Rattle.lane_worker.proofs.GivenItems.{given_gross, given_last, given_none, given_same, given_to_gate}
 use Rattle.lane_worker.proofs.OpenedPacks.{packs_more, packs_none, passed_push, fresh_more, says_nothing, says_opened, says_stayed, holds_passed}
@@ -63,13 +61,13 @@ one_more answered asks next first same =
     omega (arith, long, length-append (answered ++ next ∷ []) first.0, length-append answered (next ∷ []))
 
 -- the next ask has no answer
-pub breaks : (Reached : List Ask → Type 0) (was now : Site) (mid : Known) (lane : ℕ) (batch : Name) (work : Work) (count : ℕ) (next : Ask) (why : AskError)
+pub breaks : (Reached : List Ask → Type 0) (Broke : List Ask → Ask → AskError → Type 0) (was now : Site) (mid : Known) (lane : ℕ) (batch : Name) (work : Work) (count : ℕ) (next : Ask) (why : AskError)
     → HasAdded was.caller mid work.asked work.rows → IsCalm was.caller mid → HasGiven was now work.grosses work.ending → HasOpened was now work.rows work.opened work.ending
     → count ≡ length work.opened → drop 1 work.answered ≡ row_asks work.rows
     → IsAsked mid now.caller next (Err why) → IsLost mid now.caller
-    → IsPrefixOf (work.answered ++ next ∷ []) (asks_of_work lane batch work) → Reached (work.answered ++ next ∷ [])
-    → IsWork Reached was now lane batch (broken_end count why)
-breaks Reached was now mid lane batch work count next why added calm given opened is accepted asked lost first later = record {
+    → IsPrefixOf (work.answered ++ next ∷ []) (asks_of_work lane batch work) → Broke work.answered next why
+    → IsWork Reached Broke was now lane batch (broken_end count why)
+breaks Reached Broke was now mid lane batch work count next why added calm given opened is accepted asked lost first broke = record {
   work = work;
   added = added_none was.caller mid now.caller work.asked work.rows added lost.begins lost.mine asked.limit asked.by;
   legal = asked.legal;
@@ -79,7 +77,7 @@ breaks Reached was now mid lane batch work count next why added calm given opene
   count = is;
   accepted = accepted;
   done = (λ is. absurd (not_done why is), λ both. absurd (one_more work.answered (asks_of_work lane batch work) next first both.1));
-  stops = inr (record { next = next; why = why; told = refl; before = mid; answer = asked; first = first; later = later });
+  stops = inr (record { next = next; why = why; told = refl; first = first; broke = broke });
 }
 
 -- one ask follows, and no other is known
@@ -87,12 +85,12 @@ ask_follows : (answered asks : List Ask) (next : Ask) → asks ≡ answered ++ n
 ask_follows answered asks next is = ([], is ∙ sym (append-nil (answered ++ next ∷ [])))
 
 -- the last stop is answered
-pub finishes : (Reached : List Ask → Type 0) (was now : Site) (mid : Known) (lane : ℕ) (batch : Name) (work : Work) (row : Row) (count : ℕ) (ending : Ending) (last : Ask) (answered : Answered)
+pub finishes : (Reached : List Ask → Type 0) (Broke : List Ask → Ask → AskError → Type 0) (was now : Site) (mid : Known) (lane : ℕ) (batch : Name) (work : Work) (row : Row) (count : ℕ) (ending : Ending) (last : Ask) (answered : Answered)
     → HasAdded was.caller now.caller work.asked (work.rows ++ row ∷ []) → IsCalm was.caller mid → HasGiven was now work.grosses work.ending → HasOpened was now (work.rows ++ row ∷ []) work.opened work.ending
     → count ≡ length work.opened → work.ending ≡ Some ending → IsAsked mid now.caller last (Ok answered)
     → asks_of_work lane batch (record work { rows = work.rows ++ row ∷ [] }) ≡ lane_ask lane ∷ row_asks (work.rows ++ row ∷ []) → Reached (lane_ask lane ∷ row_asks (work.rows ++ row ∷ []))
-    → IsWork Reached was now lane batch (record { opened = count; stop = stop_by ending })
-finishes Reached was now mid lane batch work row count ending last answered added calm given opened is ended asked whole later = record {
+    → IsWork Reached Broke was now lane batch (record { opened = count; stop = stop_by ending })
+finishes Reached Broke was now mid lane batch work row count ending last answered added calm given opened is ended asked whole later = record {
   work = record work { rows = work.rows ++ row ∷ []; answered = lane_ask lane ∷ row_asks (work.rows ++ row ∷ []) };
   added = added;
   legal = asked.legal;
@@ -118,23 +116,23 @@ finishes Reached was now mid lane batch work row count ending last answered adde
 -- ---- the begin
 
 -- the question isn't answered
-pub question_breaks : (Reached : List Ask → Type 0) (devices : Site) (was now : Known) (lane : ℕ) (batch : Name) (why : AskError)
-    → IsAsked was now (lane_ask lane) (Err why) → IsLost was now → Reached (lane_ask lane ∷ [])
-    → IsWork Reached (with_caller devices was) (with_caller devices now) lane batch (broken_end 0 why)
-question_breaks Reached devices was now lane batch why asked lost later =
-    breaks Reached (with_caller devices was) (with_caller devices now) was lane batch (record { asked = was.seen; rows = []; grosses = []; opened = []; ending = None; answered = [] }) 0 (lane_ask lane) why
+pub question_breaks : (Reached : List Ask → Type 0) (Broke : List Ask → Ask → AskError → Type 0) (devices : Site) (was now : Known) (lane : ℕ) (batch : Name) (why : AskError)
+    → IsAsked was now (lane_ask lane) (Err why) → IsLost was now → Broke [] (lane_ask lane) why
+    → IsWork Reached Broke (with_caller devices was) (with_caller devices now) lane batch (broken_end 0 why)
+question_breaks Reached Broke devices was now lane batch why asked lost broke =
+    breaks Reached Broke (with_caller devices was) (with_caller devices now) was lane batch (record { asked = was.seen; rows = []; grosses = []; opened = []; ending = None; answered = [] }) 0 (lane_ask lane) why
     (nothing_added was) refl (record { items = refl; faults = refl }) (record { grows = packs_none devices.opened; passed = refl; faults = refl }) refl refl asked lost
-    (stopping_asks lane batch (stop_found (lane_view was.seen lane)) [] [] [], refl) later
+    (stopping_asks lane batch (stop_found (lane_view was.seen lane)) [] [] [], refl) broke
 
 -- the stop of a lane that was found with a batch isn't answered
-pub stop_breaks : (Reached : List Ask → Type 0) (devices : Site) (was mid now : Known) (lane : ℕ) (batch : Name) (prior : Prior) (seen : List Entry) (why : AskError)
+pub stop_breaks : (Reached : List Ask → Type 0) (Broke : List Ask → Ask → AskError → Type 0) (devices : Site) (was mid now : Known) (lane : ℕ) (batch : Name) (prior : Prior) (seen : List Entry) (why : AskError)
     → stop_found (lane_view seen lane) ≡ Some prior → HasAdded was mid seen [] → IsCalm was mid
-    → IsAsked mid now (act_ask (StopLane lane prior)) (Err why) → IsLost mid now → Reached (lane_ask lane ∷ act_ask (StopLane lane prior) ∷ [])
-    → IsWork Reached (with_caller devices was) (with_caller devices now) lane batch (broken_end 0 why)
-stop_breaks Reached devices was mid now lane batch prior seen why is added calm asked lost later =
-    breaks Reached (with_caller devices was) (with_caller devices now) mid lane batch (record { asked = seen; rows = []; grosses = []; opened = []; ending = None; answered = lane_ask lane ∷ [] }) 0 (act_ask (StopLane lane prior)) why
+    → IsAsked mid now (act_ask (StopLane lane prior)) (Err why) → IsLost mid now → Broke (lane_ask lane ∷ []) (act_ask (StopLane lane prior)) why
+    → IsWork Reached Broke (with_caller devices was) (with_caller devices now) lane batch (broken_end 0 why)
+stop_breaks Reached Broke devices was mid now lane batch prior seen why is added calm asked lost broke =
+    breaks Reached Broke (with_caller devices was) (with_caller devices now) mid lane batch (record { asked = seen; rows = []; grosses = []; opened = []; ending = None; answered = lane_ask lane ∷ [] }) 0 (act_ask (StopLane lane prior)) why
     added calm (record { items = refl; faults = refl }) (record { grows = packs_none devices.opened; passed = refl; faults = refl }) refl refl asked lost
-    ([], ap (λ (found : Option Prior). lane_ask lane ∷ stopping_asks lane batch found [] [] []) is) later
+    ([], ap (λ (found : Option Prior). lane_ask lane ∷ stopping_asks lane batch found [] [] []) is) broke
 
 -- the lane was found without a batch
 pub stopped_none : (Reached : List Ask → Type 0) (was now : Known) (lane : ℕ) (batch : Name) (seen : List Entry) → HasAdded was now seen [] → IsCalm was now → Reached (lane_ask lane ∷ [])
@@ -159,12 +157,12 @@ stopped_some Reached was mid now lane batch prior seen answered added calm asked
 }
 
 -- the start isn't answered
-pub start_breaks : (Before Reached : List Ask → Type 0) (devices : Site) (was mid now : Known) (lane : ℕ) (batch : Name) (found : Option Prior) (seen : List Entry) (why : AskError)
+pub start_breaks : (Before Reached : List Ask → Type 0) (Broke : List Ask → Ask → AskError → Type 0) (devices : Site) (was mid now : Known) (lane : ℕ) (batch : Name) (found : Option Prior) (seen : List Entry) (why : AskError)
     → stop_found (lane_view seen lane) ≡ found → (stopped : IsStopped Before was mid lane batch found seen)
     → IsAsked mid now (act_ask (StartLane lane batch)) (Err why) → IsLost mid now
-    → Reached ((lane_ask lane ∷ row_asks stopped.rows) ++ act_ask (StartLane lane batch) ∷ [])
-    → IsWork Reached (with_caller devices was) (with_caller devices now) lane batch (broken_end 0 why)
-start_breaks Before Reached devices was mid now lane batch found seen why is stopped asked lost later =
+    → Broke (lane_ask lane ∷ row_asks stopped.rows) (act_ask (StartLane lane batch)) why
+    → IsWork Reached Broke (with_caller devices was) (with_caller devices now) lane batch (broken_end 0 why)
+start_breaks Before Reached Broke devices was mid now lane batch found seen why is stopped asked lost broke =
     let rows = stopped.rows in
     let next = act_ask (StartLane lane batch) in
     let work : Work = record { asked = seen; rows = rows; grosses = []; opened = []; ending = None; answered = lane_ask lane ∷ row_asks rows } in
@@ -172,9 +170,9 @@ start_breaks Before Reached devices was mid now lane batch found seen why is sto
     ap (λ (f : Option Prior). stopping_asks lane batch f [] [] rows) is
     ∙ ap (λ (rs : List Row). stopping_asks lane batch found [] [] rs) (sym (append-nil rows))
     ∙ stopped.course [] [] [] in
-    breaks Reached (with_caller devices was) (with_caller devices now) mid lane batch work 0 next why
+    breaks Reached Broke (with_caller devices was) (with_caller devices now) mid lane batch work 0 next why
     stopped.added stopped.calm (record { items = refl; faults = refl }) (record { grows = packs_none devices.opened; passed = stopped.passed; faults = refl }) refl refl asked lost
-    (ask_follows (lane_ask lane ∷ row_asks rows) (asks_of_work lane batch work) next (ap (λ (asks : List Ask). lane_ask lane ∷ asks) order)) later
+    (ask_follows (lane_ask lane ∷ row_asks rows) (asks_of_work lane batch work) next (ap (λ (asks : List Ask). lane_ask lane ∷ asks) order)) broke
 
 -- the start is answered
 pub starts : (Before Reached : List Ask → Type 0) (devices : Site) (was mid now : Known) (lane : ℕ) (batch : Name) (found : Option Prior) (seen : List Entry) (answered : Answered)
@@ -215,12 +213,12 @@ takes_with : (mid at : Site) (now : Known) (item : CellNext) → TakesItem mid a
 takes_with mid at now item takes = record { next = takes.next; left = takes.left; cell = takes.cell; opened = takes.opened; gate = takes.gate }
 
 -- the weighing isn't answered
-pub weighing_breaks : (Before Reached : List Ask → Type 0) (was mid at : Site) (now : Known) (lane : ℕ) (batch : Name) (gross : ℤ) (progress : Progress) (why : AskError)
+pub weighing_breaks : (Before Reached : List Ask → Type 0) (Broke : List Ask → Ask → AskError → Type 0) (was mid at : Site) (now : Known) (lane : ℕ) (batch : Name) (gross : ℤ) (progress : Progress) (why : AskError)
     → (weighs : Weighs Before was mid lane batch progress) → TakesItem mid at (Gross gross)
     → IsAsked mid.caller now (act_ask (Weigh lane gross progress.prior)) (Err why) → IsLost mid.caller now
-    → Reached (weighs.done.answered ++ act_ask (Weigh lane gross progress.prior) ∷ [])
-    → IsWork Reached was (with_caller at now) lane batch (broken_end progress.opened why)
-weighing_breaks Before Reached was mid at now lane batch gross progress why weighs takes asked lost later =
+    → Broke weighs.done.answered (act_ask (Weigh lane gross progress.prior)) why
+    → IsWork Reached Broke was (with_caller at now) lane batch (broken_end progress.opened why)
+weighing_breaks Before Reached Broke was mid at now lane batch gross progress why weighs takes asked lost broke =
     let done = weighs.done in
     let is = weighs.weighing in
     let next = act_ask (Weigh lane gross progress.prior) in
@@ -231,12 +229,12 @@ weighing_breaks Before Reached was mid at now lane batch gross progress why weig
     let order : asks_of_work lane batch work ≡ done.answered ++ next ∷ [] =
     ap (λ (asks : List Ask). lane_ask lane ∷ asks) (next_weighing lane batch (stop_found (lane_view done.asked lane)) done.opened done.grosses done.rows weighs.last gross progress.prior weighs.prior is.course)
     ∙ ap (λ (asks : List Ask). asks ++ next ∷ []) (sym is.answered) in
-    breaks Reached was (with_caller at now) mid.caller lane batch work progress.opened next why
+    breaks Reached Broke was (with_caller at now) mid.caller lane batch work progress.opened next why
     is.added is.calm
     (subst (λ (e : Option Ending). HasGiven was (with_caller at now) work.grosses e) (sym weighs.unended) (given_gross was mid (with_caller at now) done.grosses gross given (takes_with mid at now (Gross gross) takes)))
     (subst (λ (e : Option Ending). HasOpened was (with_caller at now) done.rows done.opened e) (sym weighs.unended) (record { grows = takes.opened ∙ is.grows; passed = passed; faults = takes.gate ∙ calm }))
     weighs.count (ap (λ (asks : List Ask). drop 1 asks) is.answered) asked lost
-    (ask_follows done.answered (asks_of_work lane batch work) next order) later
+    (ask_follows done.answered (asks_of_work lane batch work) next order) broke
 
 -- the weighing is answered
 pub weighed : (Before Reached : List Ask → Type 0) (was mid at : Site) (now : Known) (lane : ℕ) (batch : Name) (gross : ℤ) (progress : Progress) (answered : Answered)
@@ -446,12 +444,12 @@ ends_failed Reached was mid at lane batch progress weighs left failed opened gat
 passed_on : (rows : List Row) (row : Row) → passed_pack row ≡ None → passed_packs (rows ++ row ∷ []) ≡ passed_packs rows
 passed_on rows row none = passed_push rows row ∙ ap (λ (o : Option ℕ). passed_packs rows ++ cons_option o []) none ∙ append-nil (passed_packs rows)
 
-pub last_stop : (Before Reached : List Ask → Type 0) (was mid : Site) (now : Known) (lane : ℕ) (batch : Name) (ending : Ending) (progress : Progress) (answered : Answered)
+pub last_stop : (Before Reached : List Ask → Type 0) (Broke : List Ask → Ask → AskError → Type 0) (was mid : Site) (now : Known) (lane : ℕ) (batch : Name) (ending : Ending) (progress : Progress) (answered : Answered)
     → (has : HasEnded Before was mid lane batch ending progress)
     → IsAsked mid.caller now (act_ask (StopLane lane progress.prior)) (Ok answered) → IsTaken mid.caller now (StopLane lane progress.prior) answered
     → Reached (has.done.answered ++ act_ask (StopLane lane progress.prior) ∷ [])
-    → IsWork Reached was (with_caller mid now) lane batch (record { opened = progress.opened; stop = stop_by ending })
-last_stop Before Reached was mid now lane batch ending progress answered has asked taken later =
+    → IsWork Reached Broke was (with_caller mid now) lane batch (record { opened = progress.opened; stop = stop_by ending })
+last_stop Before Reached Broke was mid now lane batch ending progress answered has asked taken later =
     let done = has.done in
     let is = has.weighing in
     let row = taken.row in
@@ -464,7 +462,7 @@ last_stop Before Reached was mid now lane batch ending progress answered has ask
     (next_stop lane batch (stop_found (lane_view done.asked lane)) done.opened done.grosses done.rows (row ∷ []) has.last progress.prior has.prior is.course ∙ sym asks) in
     let all : lane_ask lane ∷ row_asks rows ≡ done.answered ++ stop ∷ [] =
     ap (λ (a : List Ask). lane_ask lane ∷ a) asks ∙ ap (λ (a : List Ask). a ++ stop ∷ []) (sym is.answered) in
-    finishes Reached was (with_caller mid now) mid.caller lane batch done row progress.opened ending stop answered
+    finishes Reached Broke was (with_caller mid now) mid.caller lane batch done row progress.opened ending stop answered
     (added_row was.caller mid.caller now done.asked done.rows (StopLane lane progress.prior) answered is.added asked taken)
     is.calm (record { items = is.given.items; faults = is.given.faults })
     (record {
@@ -475,12 +473,12 @@ last_stop Before Reached was mid now lane batch ending progress answered has ask
     })
     has.count has.ended asked whole (subst Reached (sym all) later)
 
-pub last_stop_breaks : (Before Reached : List Ask → Type 0) (was mid : Site) (now : Known) (lane : ℕ) (batch : Name) (ending : Ending) (progress : Progress) (why : AskError)
+pub last_stop_breaks : (Before Reached : List Ask → Type 0) (Broke : List Ask → Ask → AskError → Type 0) (was mid : Site) (now : Known) (lane : ℕ) (batch : Name) (ending : Ending) (progress : Progress) (why : AskError)
     → (has : HasEnded Before was mid lane batch ending progress)
     → IsAsked mid.caller now (act_ask (StopLane lane progress.prior)) (Err why) → IsLost mid.caller now
-    → Reached (has.done.answered ++ act_ask (StopLane lane progress.prior) ∷ [])
-    → IsWork Reached was (with_caller mid now) lane batch (broken_end progress.opened why)
-last_stop_breaks Before Reached was mid now lane batch ending progress why has asked lost later =
+    → Broke has.done.answered (act_ask (StopLane lane progress.prior)) why
+    → IsWork Reached Broke was (with_caller mid now) lane batch (broken_end progress.opened why)
+last_stop_breaks Before Reached Broke was mid now lane batch ending progress why has asked lost broke =
     let done = has.done in
     let is = has.weighing in
     let stop = act_ask (StopLane lane progress.prior) in
@@ -488,7 +486,7 @@ last_stop_breaks Before Reached was mid now lane batch ending progress why has a
     ap (λ (rs : List Row). asks_of_work lane batch (record done { rows = rs })) (sym (append-nil done.rows))
     ∙ ap (λ (asks : List Ask). lane_ask lane ∷ asks) (next_stop lane batch (stop_found (lane_view done.asked lane)) done.opened done.grosses done.rows [] has.last progress.prior has.prior is.course)
     ∙ ap (λ (asks : List Ask). asks ++ stop ∷ []) (sym is.answered) in
-    breaks Reached was (with_caller mid now) mid.caller lane batch done progress.opened stop why
+    breaks Reached Broke was (with_caller mid now) mid.caller lane batch done progress.opened stop why
     is.added is.calm (record { items = is.given.items; faults = is.given.faults })
     (record {
       grows = is.grows;
@@ -496,4 +494,4 @@ last_stop_breaks Before Reached was mid now lane batch ending progress why has a
       faults = is.gate;
     })
     has.count (ap (λ (asks : List Ask). drop 1 asks) is.answered) asked lost
-    (ask_follows done.answered (asks_of_work lane batch done) stop order) later
+    (ask_follows done.answered (asks_of_work lane batch done) stop order) broke

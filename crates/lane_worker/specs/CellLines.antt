@@ -1,6 +1,5 @@
 -- What the lines of a cell say.
 use Rattle.std.specs.Prelude.{ℕ, ℤ, ◌==◌, List, [], ◌∷◌, if◌then◌else◌, Option, Some, None}
-use Rattle.std.specs.List.{last_or}
 use Rattle.hall_units.specs.Grams.{milligrams_of}
 use Rattle.lane_worker.specs.declared.types.CellNext.{CellNext}
 use Rattle.lane_worker.specs.declared.types.CellNext.TheVariants.{Gross, Bad}

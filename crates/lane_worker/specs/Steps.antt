@@ -51,13 +51,13 @@ abbrev pub with_caller : Site → Known → Site
 with_caller now known = record now { caller = known }
 
 -- so, or it breaks off there
-abbrev pub StopsFound : (List Ask → Type 0) → Known → Known → ℕ → Name → Option Prior → List Entry
-    → Result ⊤ AskError → Type 0
-StopsFound Reached was now lane batch found asked (Ok done) =
+abbrev pub StopsFound : (List Ask → Type 0) → (List Ask → Ask → AskError → Type 0) → Known → Known
+    → ℕ → Name → Option Prior → List Entry → Result ⊤ AskError → Type 0
+StopsFound Reached Broke was now lane batch found asked (Ok done) =
     IsStopped Reached was now lane batch found asked
-StopsFound Reached was now lane batch found asked (Err why) = (devices : Site)
+StopsFound Reached Broke was now lane batch found asked (Err why) = (devices : Site)
     → stop_found (lane_view asked lane) ≡ found
-    → IsWork Reached (with_caller devices was) (with_caller devices now) lane batch
+    → IsWork Reached Broke (with_caller devices was) (with_caller devices now) lane batch
     (broken_end 0 why)
 
 -- All asks of a worker were answered so far, up to its row `last`, and the next is a weighing or the
@@ -128,12 +128,12 @@ GoesOn Reached was now lane batch (Some ending) progress =
     HasEnded Reached was now lane batch ending progress
 
 -- so, or it breaks off
-abbrev pub GoesTo : (List Ask → Type 0) → Site → Site → ℕ → Name
-    → Result (Option Ending) AskError → Progress → Type 0
-GoesTo Reached was now lane batch (Ok ending) progress =
+abbrev pub GoesTo : (List Ask → Type 0) → (List Ask → Ask → AskError → Type 0) → Site → Site → ℕ
+    → Name → Result (Option Ending) AskError → Progress → Type 0
+GoesTo Reached Broke was now lane batch (Ok ending) progress =
     GoesOn Reached was now lane batch ending progress
-GoesTo Reached was now lane batch (Err why) progress =
-    IsWork Reached was now lane batch (broken_end progress.opened why)
+GoesTo Reached Broke was now lane batch (Err why) progress =
+    IsWork Reached Broke was now lane batch (broken_end progress.opened why)
 
 -- a weighing that goes on has added a row, and no more stand than a book may have
 abbrev pub HasRoom : Option Ending → List Entry → List Entry → Type 0

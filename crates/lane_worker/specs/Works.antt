@@ -100,16 +100,22 @@ pub record Finishes (Reached : List Ask → Type 0) (asks : List Ask) (work : Wo
   pub whole : asks ≡ work.answered
   pub later : Reached work.answered
 
+-- a caller was answered some asks, and then an error to the next
+pub record BreaksAt {C : Type 0} (asks : caller.Ghosts C) (first last : C) (answered : List Ask)
+    (next : Ask) (why : AskError) : Type 0 where
+  pub between : C
+  pub before : asks.later first between answered
+  pub later : asks.later between last (next ∷ [])
+  pub answer : IsAsked (asks.known between) (asks.known last) next (Err why)
+
 -- a worker breaks off: the next that it was to ask is answered by an error, and its stop says which
-pub record BreaksOff (Reached : List Ask → Type 0) (now : Known) (asks : List Ask) (work : Work)
+pub record BreaksOff (Broke : List Ask → Ask → AskError → Type 0) (asks : List Ask) (work : Work)
     (stop : LaneStop) : Type 0 where
   pub next : Ask
   pub why : AskError
   pub told : stop ≡ stop_at why
-  pub before : Known
-  pub answer : IsAsked before now next (Err why)
   pub first : IsPrefixOf (work.answered ++ next ∷ []) asks
-  pub later : Reached (work.answered ++ next ∷ [])
+  pub broke : Broke work.answered next why
 
 -- the asks of a work
 abbrev pub asks_of_work : ℕ → Name → Work → List Ask
@@ -117,9 +123,10 @@ asks_of_work lane batch work =
     work_asks lane batch (lane_view work.asked lane) work.opened work.grosses work.rows
 
 -- The work of a lane for a batch, which came to this end: `Done` exactly where the cell gave its end
--- and all was answered. `Reached` says of some asks that the caller went on by just these.
-pub record IsWork (Reached : List Ask → Type 0) (was now : Site) (lane : ℕ) (batch : Name)
-    (end : LaneEnd) : Type 0 where
+-- and all was answered. `Reached` says of some asks that the caller went on by just these, and
+-- `Broke` that it did so and then had an error to the next.
+pub record IsWork (Reached : List Ask → Type 0) (Broke : List Ask → Ask → AskError → Type 0)
+    (was now : Site) (lane : ℕ) (batch : Name) (end : LaneEnd) : Type 0 where
   pub work : Work
   pub added : HasAdded was.caller now.caller work.asked work.rows
   pub legal : IsLegal now.caller.seen
@@ -131,4 +138,4 @@ pub record IsWork (Reached : List Ask → Type 0) (was now : Site) (lane : ℕ) 
   pub done : (end.stop ≡ Done)
       ↔ ((work.ending ≡ Some End) × (asks_of_work lane batch work ≡ work.answered))
   pub stops : Finishes Reached (asks_of_work lane batch work) work end.stop
-      ⊎ BreaksOff Reached now.caller (asks_of_work lane batch work) work end.stop
+      ⊎ BreaksOff Broke (asks_of_work lane batch work) work end.stop

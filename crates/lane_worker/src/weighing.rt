@@ -3,7 +3,7 @@ ghost use Rattle.hall_limits.specs.declared.TheConstants.{MAX_ROWS};
 ghost use Rattle.book_words.specs.declared.name.Name.{Name};
 ghost use Rattle.lane_worker.specs.Gates.{HasPassed};
 ghost use Rattle.lane_worker.specs.declared.types.CellNext.TheVariants.{Gross};
-ghost use Rattle.lane_worker.specs.Works.{site, IsWork};
+ghost use Rattle.lane_worker.specs.Works.{site, BreaksAt, IsWork};
 ghost use Rattle.lane_worker.specs.Steps.{Weighs, HasWeighed, HasEnded, TakesItem, GoesOn, GoesTo, HasRoom, broken_end};
 
 use crate::asking::{ask_act, pack_told};
@@ -65,7 +65,8 @@ fn weigh_pack<C: Caller, L: Lane>(
         (site C.Caller L.Cell L.Gate caller.old before) number batch progress.old
         → TakesItem (site C.Caller L.Cell L.Gate caller.old before)
         (site C.Caller L.Cell L.Gate caller.old lane.old) (Gross gross)
-        → GoesTo (C.later first caller.new) (site C.Caller L.Cell L.Gate first start)
+        → GoesTo (C.later first caller.new) (BreaksAt C.Caller first caller.new)
+        (site C.Caller L.Cell L.Gate first start)
         (site C.Caller L.Cell L.Gate caller.new lane.new) number batch result progress.new }
 {
     let act = Act::Weigh {
@@ -91,7 +92,8 @@ fn weigh_next<C: Caller, L: Lane>(
     ensures goes { (first : C) (start : L) (batch : Name)
         → Weighs (C.later first caller.old) (site C.Caller L.Cell L.Gate first start)
         (site C.Caller L.Cell L.Gate caller.old lane.old) number batch progress.old
-        → GoesTo (C.later first caller.new) (site C.Caller L.Cell L.Gate first start)
+        → GoesTo (C.later first caller.new) (BreaksAt C.Caller first caller.new)
+        (site C.Caller L.Cell L.Gate first start)
         (site C.Caller L.Cell L.Gate caller.new lane.new) number batch result progress.new }
 {
     match lane.next() {
@@ -118,7 +120,8 @@ pub(crate) fn weigh_packs<C: Caller, L: Lane>(
         → MatchResult result
         (λ ending. HasEnded (C.later first caller.new) (site C.Caller L.Cell L.Gate first start)
         (site C.Caller L.Cell L.Gate caller.new lane.new) number batch ending progress.new)
-        (λ why. IsWork (C.later first caller.new) (site C.Caller L.Cell L.Gate first start)
+        (λ why. IsWork (C.later first caller.new) (BreaksAt C.Caller first caller.new)
+        (site C.Caller L.Cell L.Gate first start)
         (site C.Caller L.Cell L.Gate caller.new lane.new) number batch
         (broken_end progress.new.opened why)) }
 {

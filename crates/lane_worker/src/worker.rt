@@ -1,6 +1,6 @@
 ghost use Rattle.std.specs.Prelude.{◌≡◌, MatchResult};
 ghost use Rattle.book_words.specs.declared.act.Prior.TheVariants.{Nothing};
-ghost use Rattle.lane_worker.specs.Works.{site, IsWork};
+ghost use Rattle.lane_worker.specs.Works.{site, BreaksAt, IsWork};
 ghost use Rattle.lane_worker.specs.Steps.{broken_end};
 
 use crate::asking::ask_act;
@@ -21,11 +21,11 @@ fn work_lane<C: Caller, L: Lane>(
 ) -> Result<LaneStop, AskError>
     requires unbegun { progress.old ≡ record { opened = 0; prior = Nothing } }
     ensures works { MatchResult result
-        (λ stop. IsWork (C.later caller.old caller.new)
+        (λ stop. IsWork (C.later caller.old caller.new) (BreaksAt C.Caller caller.old caller.new)
         (site C.Caller L.Cell L.Gate caller.old lane.old)
         (site C.Caller L.Cell L.Gate caller.new lane.new) number batch
         (record { opened = progress.new.opened; stop = stop }))
-        (λ why. IsWork (C.later caller.old caller.new)
+        (λ why. IsWork (C.later caller.old caller.new) (BreaksAt C.Caller caller.old caller.new)
         (site C.Caller L.Cell L.Gate caller.old lane.old)
         (site C.Caller L.Cell L.Gate caller.new lane.new) number batch
         (broken_end progress.new.opened why)) }
@@ -53,7 +53,7 @@ pub fn run_lane<C: Caller, L: Lane>(
     number: u8,
     batch: Name,
 ) -> LaneEnd
-    ensures works { IsWork (C.later caller.old caller.new)
+    ensures works { IsWork (C.later caller.old caller.new) (BreaksAt C.Caller caller.old caller.new)
         (site C.Caller L.Cell L.Gate caller.old lane.old)
         (site C.Caller L.Cell L.Gate caller.new lane.new) number batch result }
 {

@@ -13,9 +13,9 @@ use Rattle.script_lines.specs.declared.command.Command.{Command}
 use Rattle.script_lines.specs.declared.command.Verb.{Verb}
 use Rattle.script_lines.specs.declared.command.Verb.TheVariants.{Day, Product, Tare, Open, Start, Weigh, Stop, Void, End, Draw, Measure, Second, Close, Sheet, Pack, Lane, Sample, Summary}
 use Rattle.script_lines.specs.declared.command.Line.{Line}
-use Rattle.script_lines.specs.declared.command.Line.TheVariants.{Nothing, Asks, Bad}
+use Rattle.script_lines.specs.declared.command.Line.TheVariants.{Nothing, Asks, Works, Bad}
 use Rattle.script_lines.specs.Lines.{ended_lines, rest_of, last_line}
-use Rattle.script_lines.specs.Words.{words_of, is_comment, desk_digits, desk_in, request_in, lane_in, pack_in, draw_word_in, mode_in, unit_said, density_said, empty_said, prior_said}
+use Rattle.script_lines.specs.Words.{words_of, is_comment, desk_digits, desk_in, request_in, lane_in, working_lane_in, pack_in, draw_word_in, mode_in, unit_said, density_said, empty_said, prior_said}
 
 -- what two things make, where both are there
 abbrev pub from_both : {A B C : Type 0} → (A → B → C) → Option A → Option B → Option C
@@ -167,7 +167,7 @@ plain_command allowed word others =
 
 -- acts alone: what a desk may ask by a script
 abbrev pub acts_alone : Allowed
-acts_alone = record { questions = false }
+acts_alone = record { questions = false; lanes = 0 }
 
 -- `@DESK REQUEST` and an act, from the digits of the desk on
 abbrev pub desk_command : List ℕ → List (List ℕ) → Option Command
@@ -187,16 +187,29 @@ abbrev pub command_by : Allowed → List ℕ → List (List ℕ) → Option Comm
 command_by allowed word others =
     desk_or_plain_command allowed (desk_digits word) word others
 
--- a line without a command is bad
-abbrev pub line_by : Option Command → Line
-line_by (Some command) = Asks command
-line_by None = Bad
+-- `work LANE BATCH`, without its first word, where so many lanes may work
+abbrev pub work_line : ℕ → List (List ℕ) → Option Line
+work_line lanes (number ∷ batch ∷ []) =
+    from_both (λ lane weighed. Works lane weighed) (working_lane_in lanes number) (name_of batch)
+work_line lanes _ = None
 
--- what words say: nothing where there are none or the first begins a comment, and else a command
+-- what a first word and the others say, where they say something: work, or a command
+abbrev pub line_by : Allowed → List ℕ → List (List ℕ) → Option Line
+line_by allowed word others =
+    if bytes_eq word (codes "work") then work_line allowed.lanes others
+    else option_map (λ command. Asks command) (command_by allowed word others)
+
+-- a line that says nothing of these is bad
+abbrev pub line_or_bad : Option Line → Line
+line_or_bad (Some line) = line
+line_or_bad None = Bad
+
+-- what words say: nothing where there are none or the first begins a comment, and else work or a
+-- command
 abbrev pub words_say : Allowed → List (List ℕ) → Line
 words_say allowed [] = Nothing
 words_say allowed (word ∷ others) =
-    if is_comment word then Nothing else line_by (command_by allowed word others)
+    if is_comment word then Nothing else line_or_bad (line_by allowed word others)
 
 -- what a line says whose words stand in a text; a line of more than 200 bytes is bad
 abbrev pub line_says : Allowed → List ℕ → List ℕ → Line

@@ -1,5 +1,5 @@
 -- The words of a line, and what single words of it spell.
-use Rattle.std.specs.Prelude.{ℕ, ◌^◌, ◌-◌, Bool, true, false, ◌||◌, ℤ, pos, negsuc, List, [], ◌∷◌, length, filter, ◌==◌, nat_lt, nat_le, if◌then◌else◌, Option, Some, None, option_map, codes}
+use Rattle.std.specs.Prelude.{ℕ, ◌^◌, ◌-◌, Bool, true, false, ◌||◌, ◌&&◌, ℤ, pos, negsuc, List, [], ◌∷◌, length, filter, ◌==◌, nat_lt, nat_le, if◌then◌else◌, Option, Some, None, option_map, codes}
 use Rattle.std.specs.List.{slice_split}
 use Rattle.std.specs.Option.{option_and_then}
 use Rattle.std.specs.Str.{bytes_eq}
@@ -52,6 +52,14 @@ request_in word = bounded_number 20 (2 ^ 32 - 1) word
 -- the number of a lane in a word: 1 to 20 digits, and no more than 8 bits hold
 abbrev pub lane_in : List ℕ → Option ℕ
 lane_in word = bounded_number 20 (2 ^ 8 - 1) word
+
+-- one of so many lanes, the first of which is 1
+abbrev pub one_of_lanes : ℕ → ℕ → Option ℕ
+one_of_lanes lanes lane = if nat_le 1 lane && nat_le lane lanes then Some lane else None
+
+-- the number of one of so many lanes, in a word
+abbrev pub working_lane_in : ℕ → List ℕ → Option ℕ
+working_lane_in lanes word = option_and_then (one_of_lanes lanes) (lane_in word)
 
 -- the number of a pack in a word: 1 to 20 digits, and no more than 32 bits hold
 abbrev pub pack_in : List ℕ → Option ℕ

@@ -100,11 +100,14 @@ pub enum Verb {
     Summary,
 }
 
-/// Which commands a script may have, beside acts.
+/// What a script may have, beside acts.
 #[derive(Clone, Copy, Debug, PartialEq, Eq)]
 pub struct Allowed {
     /// Whether it may ask questions.
     pub questions: bool,
+    /// How many lanes were handed in, at most `MAX_LANE` of `hall_limits`: it may set those of the
+    /// numbers 1 to this one to work.
+    pub lanes: u8,
 }
 
 /// What a line of a script says.
@@ -114,6 +117,9 @@ pub enum Line {
     Nothing,
     /// It is a command.
     Asks(Command),
-    /// It is outside the grammar: no command, one that isn't allowed, or longer than a line may be.
+    /// `work LANE BATCH`: the worker of a lane weighs for a batch.
+    Works { lane: u8, batch: Name },
+    /// It is outside the grammar: none of these, one that isn't allowed, or longer than a line may
+    /// be.
     Bad,
 }

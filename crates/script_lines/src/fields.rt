@@ -1,5 +1,5 @@
 ghost use Rattle.std.specs.Prelude.{◌≡◌};
-ghost use Rattle.script_lines.specs.Words.{lane_in, pack_in, draw_word_in, desk_in, request_in};
+ghost use Rattle.script_lines.specs.Words.{lane_in, working_lane_in, pack_in, draw_word_in, desk_in, request_in};
 ghost use Rattle.script_lines.specs.Words.{density_in, mode_in, prior_in};
 
 use annex_tables::Mode;
@@ -15,6 +15,17 @@ pub fn read_lane(word: &[u8]) -> Option<u8>
 {
     let number = read_bounded(NUMBER_DIGITS, u64::from(u8::MAX), word)?;
     Some(number as u8)
+}
+
+/// A word as the number of one of so many lanes, the first of which is 1.
+pub fn read_working_lane(lanes: u8, word: &[u8]) -> Option<u8>
+    ensures { result ≡ working_lane_in lanes word.now }
+{
+    let lane = read_lane(word)?;
+    if lane == 0 || lane > lanes {
+        return None;
+    }
+    Some(lane)
 }
 
 /// A word as the number of a pack.

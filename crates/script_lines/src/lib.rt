@@ -10,6 +10,7 @@ mod optional;
 mod questions;
 mod verbs;
 mod words;
+mod work;
 
 pub use command::{Allowed, Command, Line, Verb};
 pub use feed::{Feed, TooLong, split_line};

@@ -1,18 +1,22 @@
 ghost use Rattle.std.specs.Prelude.{◌≡◌, ◌≤◌, length, None, Some, MatchOption};
 ghost use Rattle.script_lines.specs.Words.{words_of, is_comment, desk_digits};
-ghost use Rattle.script_lines.specs.Script.{ended_says, last_says, words_say};
+ghost use Rattle.script_lines.specs.Script.{ended_says, last_says, words_say, line_by};
 ghost use Rattle.script_lines.specs.Script.{command_by, desk_command, plain_command};
 
 use crate::command::{Allowed, Command, Line};
 use crate::fields::{read_desk, read_request};
 use crate::verbs::read_verb;
 use crate::words::first_word;
+use crate::work::read_work;
 
 /// The most bytes of a line, its CR among them and its LF not. A longer line is bad.
 pub const MAX_LINE: usize = 200;
 
 /// What a desk may ask by a script.
-const ACTS_ALONE: Allowed = Allowed { questions: false };
+const ACTS_ALONE: Allowed = Allowed {
+    questions: false,
+    lanes: 0,
+};
 
 /// What a line says whose LF was read; the line comes without it.
 pub fn read_ended_line(allowed: Allowed, line: &[u8]) -> Line
@@ -44,10 +48,21 @@ fn read_words(allowed: Allowed, text: &[u8]) -> Line
     if begins_comment(word) {
         return Line::Nothing;
     }
-    match read_command(allowed, word, rest) {
-        Some(command) => Line::Asks(command),
+    match read_line(allowed, word, rest) {
+        Some(line) => line,
         None => Line::Bad,
     }
+}
+
+// What a first word and the words that follow it say, where they say something.
+fn read_line(allowed: Allowed, word: &[u8], rest: &[u8]) -> Option<Line>
+    ensures { result ≡ line_by allowed word.now (words_of rest.now) }
+{
+    if word == b"work".as_slice() {
+        return read_work(allowed.lanes, rest);
+    }
+    let command = read_command(allowed, word, rest)?;
+    Some(Line::Asks(command))
 }
 
 // Whether a word begins a comment.

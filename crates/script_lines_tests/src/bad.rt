@@ -10,8 +10,10 @@ day2025-03-03
 weig 1 251
 \0summary
 summary\x0B
-work 1 b1
+Work 1 b1
+works 1 b1
 @101 1 work 1 b1
+@0 0 work 1 b1
 @101 1 sheet b1
 @101 1 pack 1
 @101 1 lane 1
@@ -47,6 +49,13 @@ const NUMBERS: &str = "\
 start 256 b1
 start 000000000000000000001 b1
 start b1 1
+work 0 b1
+work 17 b1
+work 256 b1
+work 257 b1
+work -1 b1
+work b1 1
+work 000000000000000000001 b1
 weigh 256 251
 weigh +1 251
 stop 256
@@ -96,6 +105,7 @@ tare 0123456789abcdef0123456789abcdefg 2025-03-03 1
 open 0123456789abcdef0123456789abcdefg rice250
 open b1 0123456789abcdef0123456789abcdefg
 start 1 0123456789abcdef0123456789abcdefg
+work 1 0123456789abcdef0123456789abcdefg
 end 0123456789abcdef0123456789abcdefg
 close 0123456789abcdef0123456789abcdefg
 sheet 0123456789abcdef0123456789abcdefg
@@ -109,6 +119,8 @@ product rice250
 tare rice250 2025-03-03
 open b1
 start 1
+work
+work 1
 weigh
 weigh 1
 stop
@@ -138,6 +150,7 @@ product rice250 250 ml 1
 tare rice250 2025-03-03 1.5 1
 open J juice 1000 1
 start 1 b1 b2
+work 1 b1 b2
 weigh 1 251 opened opened
 stop 1 stayed 1
 void 6 7

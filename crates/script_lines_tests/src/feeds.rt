@@ -1,4 +1,4 @@
-use crate::saying::EVERY_COMMAND;
+use crate::saying::EVERY_LINE;
 use book_words::Prior;
 use script_lines::{Command, Feed, Line, TooLong, Verb, split_line};
 use std::alloc::Global;
@@ -9,8 +9,8 @@ use std::test::Fail;
 fn in_parts(alloc: Global, part: &[u8], rest: &[u8]) -> Result<(Line, u64, Line), Fail> {
     let mut feed = Feed::new(alloc)?;
     feed.begin_line(part)?;
-    let line = feed.end_line(EVERY_COMMAND, rest);
-    Ok((line, feed.line_number(), feed.read_last(EVERY_COMMAND)))
+    let line = feed.end_line(EVERY_LINE, rest);
+    Ok((line, feed.line_number(), feed.read_last(EVERY_LINE)))
 }
 
 const IN_PARTS: &[u8] = b"@101 7 stop 255 opened\r";

@@ -3,7 +3,10 @@ use book_words::Name;
 use script_lines::{Allowed, Command, Line, MAX_LINE, Verb, read_ended_line};
 use std::test::Fail;
 
-const NO_QUESTIONS: Allowed = Allowed { questions: false };
+const ACTS_ALONE: Allowed = Allowed {
+    questions: false,
+    lanes: 0,
+};
 
 // A command that names no desk.
 fn asks(verb: Verb) -> Line {
@@ -55,14 +58,15 @@ const ENDED_AND_LAST: [(&[u8], Line, Line); 15] = [
 
 const DAY_SET: Verb = Verb::Day { day: DAY };
 
-// What lines say where questions may be left out.
-const WITHOUT_QUESTIONS: [(&[u8], Line); 9] = [
+// What lines say where acts alone are allowed.
+const WITH_ACTS_ALONE: [(&[u8], Line); 10] = [
     (b"sheet b1", Line::Bad),
     (b"pack 1", Line::Bad),
     (b"lane 1", Line::Bad),
     (b"sample b1", Line::Bad),
     (b"summary", Line::Bad),
     (b"@101 1 summary", Line::Bad),
+    (b"work 1 b1", Line::Bad),
     (
         b"day 2025-03-03",
         Line::Asks(Command {
@@ -109,9 +113,45 @@ fn wrong_line() -> Option<&'static [u8]> {
     None
 }
 
-fn wrong_without_questions() -> Option<&'static [u8]> {
-    for (line, says) in WITHOUT_QUESTIONS {
-        if line.len() > MAX_LINE || read_ended_line(NO_QUESTIONS, line) != says {
+fn wrong_with_acts_alone() -> Option<&'static [u8]> {
+    for (line, says) in WITH_ACTS_ALONE {
+        if line.len() > MAX_LINE || read_ended_line(ACTS_ALONE, line) != says {
+            return Some(line);
+        }
+    }
+    None
+}
+
+// How many lanes are handed in, a line, and the lane that it sets to work for the batch b1; any other
+// line is bad.
+const WORKS: [(u8, &[u8], Option<u8>); 13] = [
+    (0, b"work 0 b1", None),
+    (0, b"work 1 b1", None),
+    (1, b"work 0 b1", None),
+    (1, b"work 1 b1", Some(1)),
+    (1, b"work 2 b1", None),
+    (2, b"work 1 b1", Some(1)),
+    (2, b" \twork\t 02  b1\t", Some(2)),
+    (2, b"work 2 b1\r", Some(2)),
+    (2, b"work 3 b1", None),
+    (2, b"@101 1 work 2 b1", None),
+    (16, b"work 16 b1", Some(16)),
+    (16, b"work 00000000000000000016 b1", Some(16)),
+    (16, b"work 17 b1", None),
+];
+
+// The first of them that says something else.
+fn wrong_work(batch: Name) -> Option<&'static [u8]> {
+    for (lanes, line, lane) in WORKS {
+        let allowed = Allowed {
+            questions: false,
+            lanes,
+        };
+        let says = match lane {
+            Some(lane) => Line::Works { lane, batch },
+            None => Line::Bad,
+        };
+        if line.len() > MAX_LINE || read_ended_line(allowed, line) != says {
             return Some(line);
         }
     }
@@ -137,7 +177,8 @@ fn is_name_with_return(batch: Name, rice: Name, with_return: Name) -> bool {
 fn lines_are_read(rt: HostRuntime) -> Result<(), Fail> {
     assert_eq!(rt; wrong_name(name(b"rice250")?), None);
     assert_eq!(rt; wrong_line(), None);
-    assert_eq!(rt; wrong_without_questions(), None);
+    assert_eq!(rt; wrong_with_acts_alone(), None);
+    assert_eq!(rt; wrong_work(name(b"b1")?), None);
     assert!(rt; is_name_with_return(name(b"b1")?, name(b"rice")?, name(b"rice\r")?));
     Ok(())
 }

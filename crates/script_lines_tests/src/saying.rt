@@ -3,7 +3,10 @@ use script_lines::{Allowed, Line, MAX_LINE, read_ended_line, read_last_line};
 use std::test::Fail;
 
 /// All that a script may have.
-pub const EVERY_COMMAND: Allowed = Allowed { questions: true };
+pub const EVERY_LINE: Allowed = Allowed {
+    questions: true,
+    lanes: 16,
+};
 
 /// 2025-03-03 in days since 1970-01-01.
 pub const DAY: i32 = 20_150;
@@ -14,8 +17,8 @@ pub fn says(line: &[u8]) -> (Line, Line) {
         return (Line::Bad, Line::Bad);
     }
     (
-        read_ended_line(EVERY_COMMAND, line),
-        read_last_line(EVERY_COMMAND, line),
+        read_ended_line(EVERY_LINE, line),
+        read_last_line(EVERY_LINE, line),
     )
 }
 

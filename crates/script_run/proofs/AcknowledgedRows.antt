@@ -17,7 +17,7 @@ use Rattle.book_words.specs.Refusals.{first_refusal, book_full, refusals_of}
 use Rattle.book_words.specs.Answers.{reply_behind, accepted, told_again, desk_answer, want_answer, entry_for, entry_unless, want_added}
 use Rattle.script_lines.specs.declared.command.Command.{Command}
 use Rattle.script_lines.specs.declared.command.Line.{Line}
-use Rattle.script_lines.specs.declared.command.Line.TheVariants.{Nothing, Asks, Bad}
+use Rattle.script_lines.specs.declared.command.Line.TheVariants.{Nothing, Asks, Works, Bad}
 use Rattle.book_words.specs.Callers.{number_named}
 use Rattle.book_store.proofs.KeptLemmas.{begins_on, begins_short}
 use Rattle.store_runs.specs.Books.{BookState}
@@ -146,6 +146,8 @@ each_stands : (book : BookState) (lines : List Line) (events : List Event) (rows
 each_stands book [] events rows are prefix =
     subst (λ (es : List Event). AllByRecursion (EventStands rows) es) (sym are) tt
 each_stands book (Nothing ∷ lines) events rows are prefix = each_stands book lines events rows are prefix
+each_stands book (Works lane batch ∷ lines) [] rows are prefix = absurd are
+each_stands book (Works lane batch ∷ lines) (event ∷ events) rows are prefix = absurd are.0
 each_stands book (Bad ∷ lines) [] rows are prefix = absurd are
 each_stands book (Bad ∷ lines) (event ∷ events) rows are prefix = absurd are.0
 each_stands book (Asks command ∷ lines) [] rows are prefix = absurd are
@@ -187,6 +189,8 @@ rows_once book [] events rows are is =
     let none : length rows - length book.entries ≡ 0 = omega (arith, ap length same) in
     ap (flat_map acknowledged_rows) are ∙ ap (λ n. range_with_len (length book.entries + 1) n) (sym none)
 rows_once book (Nothing ∷ lines) events rows are is = rows_once book lines events rows are is
+rows_once book (Works lane batch ∷ lines) [] rows are is = absurd are
+rows_once book (Works lane batch ∷ lines) (event ∷ events) rows are is = absurd are.0
 rows_once book (Bad ∷ lines) [] rows are is = absurd are
 rows_once book (Bad ∷ lines) (event ∷ events) rows are is = absurd are.0
 rows_once book (Asks command ∷ lines) [] rows are is = absurd are

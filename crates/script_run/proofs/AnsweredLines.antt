@@ -5,7 +5,7 @@ use Rattle.device_facts.specs.Count.{Counted}
 use Rattle.book_words.specs.declared.act.Entry.{Entry}
 use Rattle.script_lines.specs.declared.command.Command.{Command}
 use Rattle.script_lines.specs.declared.command.Line.{Line}
-use Rattle.script_lines.specs.declared.command.Line.TheVariants.{Nothing, Asks, Bad}
+use Rattle.script_lines.specs.declared.command.Line.TheVariants.{Nothing, Asks, Works, Bad}
 use Rattle.batch_reports.specs.Texts.{outcome_text}
 use Rattle.text_streams.specs.Streams.{Stream, WroteAll, IsCutIn}
 use Rattle.store_runs.specs.declared.stop.Stop.{Stop}
@@ -119,6 +119,7 @@ module _ (book : BookState) (before old now : Stream) (rows : List Entry) (lines
   stops_here number (Asks command) ReadFault stops = absurd stops.1
   stops_here number (Asks command) Spent stops = absurd stops.1
   stops_here number Nothing stop stops = absurd stops
+  stops_here number (Works lane batch) stop stops = absurd stops
   stops_here number Bad Finished stops = absurd stops
   stops_here number Bad ReadFault stops = absurd stops
   stops_here number Bad WriteFault stops = absurd stops

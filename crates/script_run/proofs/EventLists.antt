@@ -2,7 +2,7 @@
 use Rattle.std.proofs.Common.{◌≡◌, List, [], ◌∷◌, ◌++◌, refl, sym, ap, ◌∙◌, subst}
 use Rattle.std.proofs.lemmas.Grind.{flat_map-append}
 use Rattle.script_lines.specs.declared.command.Line.{Line}
-use Rattle.script_lines.specs.declared.command.Line.TheVariants.{Nothing, Asks, Bad}
+use Rattle.script_lines.specs.declared.command.Line.TheVariants.{Nothing, Asks, Works, Bad}
 use Rattle.store_runs.specs.Books.{BookState}
 use Rattle.script_run.specs.Transcript.{Event, Asked, text_of, after_event, after_events, AreEventsOf, texts}
 
@@ -14,6 +14,8 @@ events-nothing book (Nothing ∷ lines) events are = events-nothing book lines e
 events-nothing book (Asks command ∷ lines) [] are = are
 events-nothing book (Asks command ∷ lines) (event ∷ events) are =
     (are.0, events-nothing (after_event book event) lines events are.1)
+events-nothing book (Works lane batch ∷ lines) [] are = are
+events-nothing book (Works lane batch ∷ lines) (event ∷ events) are = absurd are.0
 events-nothing book (Bad ∷ lines) [] are = are
 events-nothing book (Bad ∷ lines) (event ∷ events) are = absurd are.0
 
@@ -29,6 +31,8 @@ events-append book (Nothing ∷ lines) more events later are then =
 events-append book (Asks command ∷ lines) more [] later are then = absurd are
 events-append book (Asks command ∷ lines) more (event ∷ events) later are then =
     (are.0, events-append (after_event book event) lines more events later are.1 then)
+events-append book (Works lane batch ∷ lines) more [] later are then = absurd are
+events-append book (Works lane batch ∷ lines) more (event ∷ events) later are then = absurd are.0
 events-append book (Bad ∷ lines) more [] later are then = absurd are
 events-append book (Bad ∷ lines) more (event ∷ events) later are then = absurd are.0
 
@@ -45,6 +49,8 @@ pub only_events : (book : BookState) (lines : List Line) (events others : List E
     → AreEventsOf book lines events → AreEventsOf book lines others → events ≡ others
 only_events book [] events others are same = are ∙ sym same
 only_events book (Nothing ∷ lines) events others are same = only_events book lines events others are same
+only_events book (Works lane batch ∷ lines) [] others are same = absurd are
+only_events book (Works lane batch ∷ lines) (event ∷ events) others are same = absurd are.0
 only_events book (Bad ∷ lines) [] others are same = absurd are
 only_events book (Bad ∷ lines) (event ∷ events) others are same = absurd are.0
 only_events book (Asks command ∷ lines) [] others are same = absurd are

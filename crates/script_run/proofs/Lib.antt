@@ -1,5 +1,6 @@
 pub mod EventLists
 pub mod ScriptLines
+pub mod LinesWithoutWork
 pub mod RepeatLemmas
 pub mod AcknowledgedRows
 pub mod AskedCommands

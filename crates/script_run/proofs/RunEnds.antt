@@ -8,7 +8,7 @@ use Rattle.book_words.specs.declared.act.Entry.{Entry}
 use Rattle.book_store.specs.declared.store.Store.{Store}
 use Rattle.book_words.specs.Views.{summary}
 use Rattle.script_lines.specs.declared.command.Line.{Line}
-use Rattle.script_lines.specs.declared.command.Line.TheVariants.{Nothing, Asks, Bad}
+use Rattle.script_lines.specs.declared.command.Line.TheVariants.{Nothing, Asks, Works, Bad}
 use Rattle.script_lines.specs.Feed.{FeedView, feed_after}
 use Rattle.script_lines.specs.Script.{all_good}
 use Rattle.script_lines.proofs.LineLists.{ended_lines-few}
@@ -60,6 +60,7 @@ module _ (book : BookState) (before now : Stream) (rows : List Entry) (events : 
       → HasFailed before now
   cut_failed (Asks command) stops = stops.cut.failed
   cut_failed Nothing stops = absurd stops
+  cut_failed (Works lane batch) stops = absurd stops
   cut_failed Bad stops = absurd stops
 
   -- and else the output didn't fail
@@ -68,33 +69,39 @@ module _ (book : BookState) (before now : Stream) (rows : List Entry) (events : 
   bad_calm named Bad stops = stops.1.wrote.calm
   bad_calm named (Asks command) stops = absurd stops.1
   bad_calm named Nothing stops = absurd stops
+  bad_calm named (Works lane batch) stops = absurd stops
 
   memory_calm : (line : Line) → StopsAtLine book before now rows events number line NoMemory
       → IsCalm before now
   memory_calm (Asks command) stops = stops.0.wrote.calm
   memory_calm Nothing stops = absurd stops
+  memory_calm (Works lane batch) stops = absurd stops
   memory_calm Bad stops = absurd stops
 
   disk_calm : (offer : Offer) (line : Line)
       → StopsAtLine book before now rows events number line (DiskFault offer) → IsCalm before now
   disk_calm offer (Asks command) stops = stops.0.wrote.calm
   disk_calm offer Nothing stops = absurd stops
+  disk_calm offer (Works lane batch) stops = absurd stops
   disk_calm offer Bad stops = absurd stops
 
   -- and no line stops it in another way
   never_finished : (line : Line) → StopsAtLine book before now rows events number line Finished → ⊥
   never_finished (Asks command) stops = stops.1
   never_finished Nothing stops = stops
+  never_finished (Works lane batch) stops = stops
   never_finished Bad stops = stops
 
   never_read : (line : Line) → StopsAtLine book before now rows events number line ReadFault → ⊥
   never_read (Asks command) stops = stops.1
   never_read Nothing stops = stops
+  never_read (Works lane batch) stops = stops
   never_read Bad stops = stops
 
   never_spent : (line : Line) → StopsAtLine book before now rows events number line Spent → ⊥
   never_spent (Asks command) stops = stops.1
   never_spent Nothing stops = stops
+  never_spent (Works lane batch) stops = stops
   never_spent Bad stops = stops
 
 -- a script in which a run stops at a bad line has one
@@ -104,6 +111,8 @@ bad_stops : (book : BookState) (before now : Stream) (rows : List Entry) (events
     → all_good (lines ++ line ∷ more) ≡ false
 bad_stops book before now rows events number named lines more Bad stops = all_good-bad lines more
 bad_stops book before now rows events number named lines more Nothing stops = absurd stops
+bad_stops book before now rows events number named lines more (Works lane batch) stops =
+    absurd stops
 bad_stops book before now rows events number named lines more (Asks command) stops = absurd stops.1
 
 -- so has the whole script

@@ -1,14 +1,20 @@
 -- The lines of a script.
-use Rattle.std.specs.Prelude.{◌≡◌, ℕ, ◌≤◌, true, List, ◌∷◌, ◌++◌, length}
+use Rattle.std.specs.Prelude.{◌≡◌, ℕ, ◌≤◌, Bool, true, false, List, ◌∷◌, ◌++◌, length}
 use Rattle.script_lines.specs.declared.lines.TheConstants.{MAX_LINE}
 use Rattle.script_lines.specs.declared.command.Allowed.{Allowed}
 use Rattle.script_lines.specs.declared.command.Line.{Line}
+use Rattle.script_lines.specs.declared.command.Line.TheVariants.{Works}
 use Rattle.script_lines.specs.Lines.{rest_of}
 use Rattle.script_lines.specs.Script.{ended_in, lines_in, all_good}
 
--- a script may have every command
+-- a script may have every command; no lane is handed in
 abbrev pub every_command : Allowed
-every_command = record { questions = true }
+every_command = record { questions = true; lanes = 0 }
+
+-- whether a line sets a lane to work, as none does where no lane is handed in
+abbrev pub is_work : Line → Bool
+is_work (Works lane batch) = true
+is_work _ = false
 
 -- what the lines of a script say that have ended, and what all its lines say
 abbrev pub ended_lines_of : List ℕ → List Line

@@ -5,8 +5,11 @@ use script_lines::{Allowed, Feed, TooLong, split_line};
 use std::alloc::Global;
 use store_runs::{RunEnd, Stop};
 
-/// A script may have every command.
-const EVERY_COMMAND: Allowed = Allowed { questions: true };
+/// A script may have every command; no lane is handed in.
+const EVERY_COMMAND: Allowed = Allowed {
+    questions: true,
+    lanes: 0,
+};
 
 /// A run of a script: its book, and the lines that it was given.
 #[derive(Drop)]

@@ -16,7 +16,7 @@ pub struct Session<D: Disk> {
 }
 
 impl<D: Disk> Session<D> {
-    ghost use Rattle.std.specs.Prelude.{◌≡◌, ℕ, [], ◌∷◌, true, OnOk, IfOk, IfErr};
+    ghost use Rattle.std.specs.Prelude.{◌≡◌, ℕ, [], ◌∷◌, true, false, OnOk, IfOk, IfErr};
     ghost use Rattle.script_lines.specs.declared.command.Line.TheVariants as line;
     ghost use Rattle.script_lines.specs.Script.{is_good};
     ghost use Rattle.book_store.specs.Stores.{entries_of, held_of, IsSound};
@@ -25,6 +25,7 @@ impl<D: Disk> Session<D> {
     ghost use Rattle.script_run.specs.Books.{book_in, store_in, IsReady};
     ghost use Rattle.script_run.specs.Ends.{StopsAtLine};
     ghost use Rattle.script_run.specs.Reached.{HasAnswered, EndsAtSummary};
+    ghost use Rattle.script_run.specs.Scripts.{is_work};
 
     /// A session over a store, or the store where there is no memory for it.
     pub fn new(alloc: Global, store: Store<D>) -> Result<Session<D>, Store<D>>
@@ -67,7 +68,8 @@ impl<D: Disk> Session<D> {
         Ok(())
     }
 
-    /// Does what the line of a number says: a command is answered, and a bad line stops the run.
+    /// Does what the line of a number says: a command is answered, and a bad line stops the run. No
+    /// lane is handed in, so no line sets one to work.
     pub fn handle_line<K: Sink>(
         &mut self,
         line: &Line,
@@ -75,6 +77,7 @@ impl<D: Disk> Session<D> {
         output: &mut K,
     ) -> Result<(), Stop>
         requires ready { IsReady self.old }
+        requires no_work { is_work line.now ≡ false }
         ensures good { OnOk result (is_good line.now ≡ true) }
         ensures answered { OnOk result (HasAnswered (book_in self.old)
             (output_at K.Sink output.old) (output_at K.Sink output.new)
@@ -91,6 +94,7 @@ impl<D: Disk> Session<D> {
                 self.answer(command, output)?;
                 Ok(())
             }
+            Line::Works { .. } => unreachable!(),
             Line::Bad => Err(Stop::BadLine(number)),
         }
     }

@@ -1,1 +1,2 @@
+pub mod CallerGoes
 pub mod StoreSteps

@@ -3,6 +3,7 @@ use Rattle.std.proofs.lemmas.Result.{err_from_is_err_and}
 use Rattle.book_words.specs.declared.act.Act.TheVariants.{StartLane}
 use Rattle.lane_worker.specs.Asks.{lane_ask}
 use Rattle.lane_worker.proofs.AddedRows.{act_is_taken, act_is_lost, question_is_lost, is_found, calm_first}
+use Rattle.lane_worker.specs.Works.{BreaksAt}
 use Rattle.lane_worker.proofs.WorkSteps.{question_breaks, start_breaks, starts}
 use Rattle.lane_worker.proofs.starting.start_lane.Goals as goal
 
@@ -15,8 +16,8 @@ returns-in_err-answered g c =
     let asked = c.in_err-answered.ensures.asked in
     record {
       begun = λ devices. rw (p.1, p.2)
-          (question_breaks (g.C.Caller.later c.args.caller.now c.ask_lane.new.caller) devices old new c.args.number c.args.batch why
-          asked (question_is_lost old new c.args.number why asked) c.ask_lane.ensures.later);
+          (question_breaks (g.C.Caller.later c.args.caller.now c.ask_lane.new.caller) (BreaksAt g.C.Caller c.args.caller.now c.ask_lane.new.caller) devices old new c.args.number c.args.batch why
+          asked (question_is_lost old new c.args.number why asked) (record { between = c.args.caller.now; before = g.met.C.Caller.reached.by_none c.args.caller.now; later = c.ask_lane.ensures.later; answer = asked }));
     }
 
 pub returns-in_err-stop_found : goal.returns-in_err-stop_found
@@ -48,9 +49,9 @@ returns-in_err-ask_act g c =
     let lost = c.in_err-ask_act.ensures.asked in
     record {
       begun = λ devices. rw (p.1, p.2)
-          (start_breaks (g.C.Caller.later c.args.caller.now c.stop_found.new.caller) (g.C.Caller.later c.args.caller.now c.ask_act.new.caller) devices old two new c.args.number c.args.batch c.stop_told.result found.asked why
+          (start_breaks (g.C.Caller.later c.args.caller.now c.stop_found.new.caller) (g.C.Caller.later c.args.caller.now c.ask_act.new.caller) (BreaksAt g.C.Caller c.args.caller.now c.ask_act.new.caller) devices old two new c.args.number c.args.batch c.stop_told.result found.asked why
           (sym (c.stop_told.ensures ∙ found.told)) stopped lost (act_is_lost two new (StartLane c.args.number c.args.batch) why lost)
-          (g.met.C.Caller.reached.by_both c.args.caller.now c.stop_found.new.caller c.ask_act.new.caller _ _ stopped.later c.ask_act.ensures.later));
+          (record { between = c.stop_found.new.caller; before = stopped.later; later = c.ask_act.ensures.later; answer = lost }));
     }
 
 pub returns : goal.returns

@@ -1,7 +1,8 @@
-use Rattle.std.proofs.Common.{[], ◌∷◌, Option, sym, ◌∙◌, subst}
+use Rattle.std.proofs.Common.{Option, sym, ◌∙◌, subst}
 use Rattle.std.proofs.lemmas.Result.{err_from_is_err_and}
 use Rattle.book_words.specs.declared.act.Act.TheVariants.{StopLane}
 use Rattle.book_words.specs.declared.act.Prior.{Prior}
+use Rattle.lane_worker.specs.Works.{BreaksAt}
 use Rattle.lane_worker.specs.Steps.{IsStopped}
 use Rattle.lane_worker.proofs.AddedRows.{act_is_taken, act_is_lost}
 use Rattle.lane_worker.proofs.WorkSteps.{stop_breaks, stopped_some}
@@ -16,9 +17,9 @@ returns-in_err-ask_act g c =
     let asked = c.in_err-ask_act.ensures.asked in
     record {
       stopped = λ first seen added calm later. rw (p.1, p.2) (λ devices is.
-          stop_breaks (g.C.Caller.later first c.ask_act.new.caller) devices (g.C.Caller.known first) old new c.args.number c.args.batch.now c.in-Some.prior seen why
+          stop_breaks (g.C.Caller.later first c.ask_act.new.caller) (BreaksAt g.C.Caller first c.ask_act.new.caller) devices (g.C.Caller.known first) old new c.args.number c.args.batch.now c.in-Some.prior seen why
           (is ∙ c.in-Some.is) added calm asked (act_is_lost old new (StopLane c.args.number c.in-Some.prior) why asked)
-          (g.met.C.Caller.reached.by_both first c.args.caller.now c.ask_act.new.caller _ _ later c.ask_act.ensures.later));
+          (record { between = c.args.caller.now; before = later; later = c.ask_act.ensures.later; answer = asked }));
     }
 
 pub returns-in_ok-ask_act : goal.returns-in_ok-ask_act

@@ -1,4 +1,4 @@
-use Rattle.std.proofs.Common.{◌≡◌, ℤ, FitsSigned, refl, rules, sym, subst, w64}
+use Rattle.std.proofs.Common.{ℤ, FitsSigned, refl, rules, sym, subst, w64}
 use Rattle.std.proofs.lemmas.Int.{to_z-of_z}
 use Rattle.lane_worker.specs.declared.types.CellNext.TheVariants as item
 use Rattle.lane_worker.specs.declared.ending.Ending.TheVariants as ending

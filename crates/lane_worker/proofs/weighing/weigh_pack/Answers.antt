@@ -1,11 +1,11 @@
-use Rattle.std.proofs.Common.{◌≡◌, ℕ, ℤ, [], ◌∷◌, Option, IfSome, Ok, Err, sym, subst, w64}
+use Rattle.std.proofs.Common.{ℕ, ℤ, [], ◌∷◌, Option, IfSome, Ok, Err, sym, subst, w64}
 use Rattle.std.proofs.lemmas.Int.{to_z-of_z}
 use Rattle.std.proofs.lemmas.Result.{err_from_is_err_and}
 use Rattle.book_words.specs.Callers.{IsAsked}
 use Rattle.book_words.specs.declared.act.Act.TheVariants.{Weigh}
 use Rattle.lane_worker.specs.Asks.{act_ask}
 use Rattle.lane_worker.specs.Gates.{HasPassed}
-use Rattle.lane_worker.specs.Works.{site}
+use Rattle.lane_worker.specs.Works.{site, BreaksAt}
 use Rattle.lane_worker.specs.Steps.{HasWeighed, with_caller}
 use Rattle.lane_worker.proofs.AddedRows.{act_is_taken, act_is_lost}
 use Rattle.lane_worker.proofs.WorkSteps.{weighing_breaks, weighed, if_passed}
@@ -25,9 +25,9 @@ returns-in_err-answered-clause-goes g c = λ first start before batch weighs tak
     let asked = subst (λ (z : ℤ). IsAsked old new (act_ask (Weigh c.args.number z prior)) (Err why)) same c.in_err-answered.ensures.asked in
     let later = subst (λ (z : ℤ). g.C.Caller.later c.args.caller.now c.ask_act.new.caller (act_ask (Weigh c.args.number z prior) ∷ [])) same c.ask_act.ensures.later in
     rw (p.1, p.2)
-    (weighing_breaks (g.C.Caller.later first c.args.caller.now) (g.C.Caller.later first c.ask_act.new.caller) was mid at new c.args.number batch c.args.gross c.args.progress.now why weighs takes
+    (weighing_breaks (g.C.Caller.later first c.args.caller.now) (g.C.Caller.later first c.ask_act.new.caller) (BreaksAt g.C.Caller first c.ask_act.new.caller) was mid at new c.args.number batch c.args.gross c.args.progress.now why weighs takes
     asked (act_is_lost old new (Weigh c.args.number c.args.gross prior) why asked)
-    (g.met.C.Caller.reached.by_both first c.args.caller.now c.ask_act.new.caller _ _ weighs.weighing.later later))
+    (record { between = c.args.caller.now; before = weighs.weighing.later; later = later; answer = asked }))
 
 pub settle-requires-clause-passed : goal.settle-requires-clause-passed
 settle-requires-clause-passed g c =

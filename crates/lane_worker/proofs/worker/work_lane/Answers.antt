@@ -3,7 +3,7 @@ use Rattle.std.proofs.lemmas.Result.{err_from_is_err_and}
 use Rattle.book_words.specs.declared.act.Act.TheVariants.{StopLane}
 use Rattle.lane_worker.specs.declared.ending.LaneStop.{LaneStop}
 use Rattle.lane_worker.specs.declared.progress.Progress.{Progress}
-use Rattle.lane_worker.specs.Works.{site, IsWork}
+use Rattle.lane_worker.specs.Works.{site, BreaksAt, IsWork}
 use Rattle.lane_worker.specs.Steps.{Weighs, broken_end}
 use Rattle.lane_worker.proofs.AddedRows.{act_is_taken, act_is_lost}
 use Rattle.lane_worker.proofs.WorkSteps.{last_stop, last_stop_breaks}
@@ -17,7 +17,7 @@ returns-in_err-start_lane g c =
     let none : c.args.progress.now.opened ≡ 0 = ap (λ (q : Progress). q.opened) c.requires.unbegun in
     record {
       works = rw (p.1, p.2)
-          (subst (λ (n : ℕ). IsWork (g.C.Caller.later c.args.caller.now c.start_lane.new.caller) was now c.args.number c.args.batch (broken_end n c.in_err-start_lane.field-0.0)) (sym none)
+          (subst (λ (n : ℕ). IsWork (g.C.Caller.later c.args.caller.now c.start_lane.new.caller) (BreaksAt g.C.Caller c.args.caller.now c.start_lane.new.caller) was now c.args.number c.args.batch (broken_end n c.in_err-start_lane.field-0.0)) (sym none)
           (c.in_err-start_lane.ensures.begun was));
     }
 
@@ -43,9 +43,9 @@ returns-in_err-ask_act g c =
     let asked = c.in_err-ask_act.ensures.asked in
     record {
       works = rw (p.1, p.2)
-          (last_stop_breaks (g.C.Caller.later c.args.caller.now c.weigh_packs.new.caller) (g.C.Caller.later c.args.caller.now c.ask_act.new.caller) was mid new c.args.number c.args.batch c.in_ok-ending.ending progress why has
+          (last_stop_breaks (g.C.Caller.later c.args.caller.now c.weigh_packs.new.caller) (g.C.Caller.later c.args.caller.now c.ask_act.new.caller) (BreaksAt g.C.Caller c.args.caller.now c.ask_act.new.caller) was mid new c.args.number c.args.batch c.in_ok-ending.ending progress why has
           asked (act_is_lost mid.caller new (StopLane c.args.number progress.prior) why asked)
-          (g.met.C.Caller.reached.by_both c.args.caller.now c.weigh_packs.new.caller c.ask_act.new.caller _ _ has.weighing.later c.ask_act.ensures.later));
+          (record { between = c.weigh_packs.new.caller; before = has.weighing.later; later = c.ask_act.ensures.later; answer = asked }));
     }
 
 pub returns : goal.returns
@@ -62,8 +62,8 @@ returns g c =
     let answered = c.in_ok-ask_act.field-0 in
     let asked = c.in_ok-ask_act.ensures.asked in
     record {
-      works = subst (λ (s : LaneStop). IsWork reached was now c.args.number c.args.batch (record { opened = progress.opened; stop = s })) (sym c.stop_by.ensures)
-          (last_stop (g.C.Caller.later c.args.caller.now c.weigh_packs.new.caller) reached was mid new c.args.number c.args.batch c.in_ok-ending.ending progress answered has
+      works = subst (λ (s : LaneStop). IsWork reached (BreaksAt g.C.Caller c.args.caller.now c.ask_act.new.caller) was now c.args.number c.args.batch (record { opened = progress.opened; stop = s })) (sym c.stop_by.ensures)
+          (last_stop (g.C.Caller.later c.args.caller.now c.weigh_packs.new.caller) reached (BreaksAt g.C.Caller c.args.caller.now c.ask_act.new.caller) was mid new c.args.number c.args.batch c.in_ok-ending.ending progress answered has
           asked (act_is_taken mid.caller new (StopLane c.args.number progress.prior) answered asked)
           (g.met.C.Caller.reached.by_both c.args.caller.now c.weigh_packs.new.caller c.ask_act.new.caller _ _ has.weighing.later c.ask_act.ensures.later));
     }

@@ -15,11 +15,15 @@ returns-clause-asked g c =
     record {
       store = c.self.inside.store;
       by = c.self.inside.by;
-      faults =
-          c.self.inside.faults;
+      faults = c.self.inside.faults;
+      failed = c.self.inside.failed;
     } in
     let new : CallerView g.row.D.Denot =
-    record old { store = c.ask-given.new.self; faults = c.told-self-inside.result } in
+    record old {
+      store = c.ask-given.new.self;
+      faults = c.told-self-inside.result;
+      failed = c.failed_last-self-inside.result;
+    } in
     subst (λ (v : CallerView g.row.D.Denot). IsAsked (known_of v)
     (known_of new) c.args.ask.now c.ask-given.result) c.self.view_is
     (is_asked old new c.args.ask.now c.ask-given.ensures.limit refl c.ask-given.result
@@ -32,11 +36,15 @@ returns-clause-later g c =
     record {
       store = c.self.inside.store;
       by = c.self.inside.by;
-      faults =
-          c.self.inside.faults;
+      faults = c.self.inside.faults;
+      failed = c.self.inside.failed;
     } in
     let new : CallerView g.row.D.Denot =
-    record old { store = c.ask-given.new.self; faults = c.told-self-inside.result } in
+    record old {
+      store = c.ask-given.new.self;
+      faults = c.told-self-inside.result;
+      failed = c.failed_last-self-inside.result;
+    } in
     let range : c.self.inside.faults ≤ FAULTS_END = omega (arith, c.self.ranges.1.1.0.1) in
     subst (λ (v : CallerView g.row.D.Denot). IsReachedBy g.D.Disk v new (c.args.ask.now ∷ []))
     c.self.view_is
@@ -44,7 +52,8 @@ returns-clause-later g c =
     c.ask-given.ensures.entries c.ask-given.ensures.answer c.ask-given.ensures.offers
     c.ask-given.ensures.no_memory
     c.ask-given.ensures.hangs c.ask-given.ensures.settled c.ask-given.ensures.limit
-    c.ask-given.ensures.held c.ask-given.ensures.cause range c.told-self-inside.ensures)
+    c.ask-given.ensures.held c.ask-given.ensures.cause range c.told-self-inside.ensures
+    c.failed_last-self-inside.ensures)
 
 pub returns-clause-kept : goal.returns-clause-kept
 returns-clause-kept g c =

@@ -1,13 +1,21 @@
 use Rattle.std.proofs.Common.{ℕ, ◌++◌, ◌∷◌, [], sym, ap, ◌∙◌, append-nil, length-append, subst, arith}
 use Rattle.std.proofs.lemmas.Result.{err_from_is_err_and}
+use Rattle.std.specs.Str.Lines.{strip_carriage_return}
 use Rattle.script_lines.specs.Feed.{FeedView}
 use Rattle.book_store.specs.Stores.{entries_of}
 use Rattle.script_run.specs.Books.{book_in, store_in, run_state}
 use Rattle.text_streams.specs.Streams.{output_at}
 use Rattle.script_run.specs.Ends.{StopsAtLine}
+use Rattle.script_run.specs.Scripts.{is_work}
+use Rattle.script_run.proofs.LinesWithoutWork.{no_work}
 use Rattle.script_run.proofs.ScriptLines.{ended_line, line_ended, line_ended_last}
 use Rattle.script_run.proofs.ByteSteps.{reached_end, stops_anyway}
 use Rattle.script_run.proofs.run.Run.end_line.Goals as goal
+
+pub handle_line-requires-clause-no_work : goal.handle_line-requires-clause-no_work
+handle_line-requires-clause-no_work g c =
+    let line = c.args.self.now.feed.begun ++ c.args.part.now in
+    ap is_work c.end_line-line.ensures.says ∙ no_work line (strip_carriage_return line)
 
 pub returns-in_err-handle_line-clause-steps : goal.returns-in_err-handle_line-clause-steps
 returns-in_err-handle_line-clause-steps g c =

@@ -1,11 +1,18 @@
-use Rattle.std.proofs.Common.{ℕ, [], subst}
+use Rattle.std.proofs.Common.{ℕ, [], ap, ◌∙◌, subst}
 use Rattle.std.proofs.lemmas.Result.{err_from_is_err_and}
 use Rattle.book_store.specs.Stores.{entries_of}
 use Rattle.script_run.specs.Books.{book_in, store_in, run_state}
 use Rattle.text_streams.specs.Streams.{output_at}
 use Rattle.script_run.specs.Ends.{StopsAtLine}
+use Rattle.script_run.specs.Scripts.{is_work}
+use Rattle.script_run.proofs.LinesWithoutWork.{no_work}
 use Rattle.script_run.proofs.ScriptEnds.{whole_last, stops_last}
 use Rattle.script_run.proofs.run.Run.finish_line.Goals as goal
+
+pub handle_line-requires-clause-no_work : goal.handle_line-requires-clause-no_work
+handle_line-requires-clause-no_work g c =
+    let line = c.args.self.now.feed.begun in
+    ap is_work c.read_last-line.ensures.says ∙ no_work line line
 
 pub returns-in_err-handle_line-clause-stops : goal.returns-in_err-handle_line-clause-stops
 returns-in_err-handle_line-clause-stops g c = λ book before taken stands.

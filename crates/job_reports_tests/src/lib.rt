@@ -1,0 +1,5 @@
+//! Tests of the lines of jobs by their public calls.
+#![tactic(auto)]
+
+#[cfg(test)]
+mod lanes;

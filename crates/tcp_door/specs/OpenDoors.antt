@@ -1,0 +1,22 @@
+-- What contracts see of a door over TCP.
+use Rattle.std.specs.Prelude.{ℕ, Bool, true, false, nat_lt, Result, Ok, Err}
+
+-- whether it listens; how many connections it still awaits; whether one is present, and whether
+-- bytes of it were read since the last write; whether its end was given; the faults counted
+pub record OpenDoor : Type 0 where
+  pub listens : Bool
+  pub awaited : ℕ
+  pub is_present : Bool
+  pub in_request : Bool
+  pub ended : Bool
+  pub faults : ℕ
+
+-- whether a call moved some bytes
+abbrev pub moved_some : {E : Type 0} → Result ℕ E → Bool
+moved_some (Ok count) = nat_lt 0 count
+moved_some (Err error) = false
+
+-- how many connections fewer are awaited when one was found
+abbrev pub one_if : Bool → ℕ
+one_if true = 1
+one_if false = 0

@@ -1,0 +1,261 @@
+use crate::admission::admit;
+use crate::leaving::leave;
+use crate::receiving::receive_from;
+use device_facts::counted_once_more;
+use disk_core::{Door, Failed, Sink, Source, StdSink};
+use std::io;
+use std::marker::Model;
+use std::net::{Ipv4Addr, Net, TcpListener, TcpStream};
+use std::time::Duration;
+
+/// For how many seconds a client may be quiet, unless the door is told another time.
+pub const QUIET_SECONDS: u64 = 60;
+
+/// A door over TCP, which listens on 127.0.0.1. It tells no bytes, only its faults: what the
+/// system's calls do is trusted. A door that doesn't listen fails at each call.
+///
+/// A client that sends nothing for the quiet time has ended its connection, where none of its bytes
+/// were read since the last write; where some were it is within a request, and the read fails. A
+/// write for which the client makes no room in that time fails too.
+#[derive(Drop)]
+pub struct TcpDoor {
+    listener: io::Result<TcpListener>,
+    link: Option<TcpStream>,
+    awaited: u32,
+    quiet: Duration,
+    in_request: bool,
+    ended: bool,
+    faults: u64,
+}
+
+impl Model for TcpDoor {
+    ghost use Rattle.std.specs.Prelude.{is_ok, is_some};
+    ghost use Rattle.tcp_door.specs.OpenDoors.{OpenDoor};
+
+    ghost Value = { OpenDoor };
+
+    ghost view = { λ d. record {
+      listens = is_ok d.listener;
+      awaited = d.awaited;
+      is_present = is_some d.link;
+      in_request = d.in_request;
+      ended = d.ended;
+      faults = d.faults;
+    } };
+}
+
+impl TcpDoor {
+    ghost use Rattle.std.specs.Prelude.{◌≡◌, ◌↔◌, ◌<◌, ◌≤◌, true, false, length, IsNone, IsErr, IfOk, Ok};
+    ghost use Rattle.tcp_door.specs.OpenDoors.{OpenDoor};
+
+    /// Listens at this port for so many connections, which are served one after another. At port 0
+    /// the system picks a port. Where the port can't be had the door doesn't listen.
+    pub fn listen<R: Net<Listener = TcpListener, Stream = TcpStream>>(
+        net: &R,
+        port: u16,
+        connections: u32,
+    ) -> Self
+        ensures { result ≡ record {
+          listens = result.listens;
+          awaited = connections;
+          is_present = false;
+          in_request = false;
+          ended = false;
+          faults = 0;
+        } }
+    {
+        TcpDoor {
+            listener: TcpListener::bind(net, (Ipv4Addr::LOCALHOST, port)),
+            link: None,
+            awaited: connections,
+            quiet: Duration::from_secs(QUIET_SECONDS),
+            in_request: false,
+            ended: false,
+            faults: 0,
+        }
+    }
+
+    /// Sets the time, above 0, for which the clients of the connections to come may be quiet.
+    pub fn set_quiet_time(&mut self, quiet: Duration)
+        ensures { self.new ≡ self.old }
+    {
+        self.quiet = quiet;
+    }
+
+    /// Why the door doesn't listen; none where it does.
+    pub fn listen_error(&self) -> Option<&io::Error>
+        ensures { IsNone result ↔ (self.now.listens ≡ true) }
+    {
+        self.listener.as_ref().err()
+    }
+
+    /// The port at which it listens, where it does and the system tells it.
+    pub fn port(&self) -> Option<u16>
+        ensures { self.now.listens ≡ false → IsNone result }
+    {
+        let address = self.listener.as_ref().ok()?.local_addr().ok()?;
+        Some(address.port())
+    }
+
+    /// Whether the end of the present connection was given.
+    pub fn has_ended(&self) -> bool
+        ensures { result ≡ self.now.ended }
+    {
+        self.ended
+    }
+
+    // Reads from the present connection; where none is present there is nothing to read.
+    fn receive(&self, into: &mut [u8]) -> Result<usize, Failed>
+        ensures closed { self.now.listens ≡ false → IsErr result }
+        ensures absent { self.now.listens ≡ true → self.now.is_present ≡ false → result ≡ Ok 0 }
+        ensures bound { IfOk result (λ count. count ≤ length into.new) }
+    {
+        if self.listener.is_err() {
+            return Err(Failed);
+        }
+        let Some(mut link) = self.link.as_ref() else {
+            return Ok(0);
+        };
+        let count = receive_from(&mut link, self.in_request, into)?;
+        Ok(count)
+    }
+
+    // Writes to the present connection; where none is present nothing can be written.
+    fn send(&self, bytes: &[u8]) -> Result<usize, Failed>
+        ensures closed { self.now.listens ≡ false → IsErr result }
+        ensures absent { self.now.is_present ≡ false → 0 < length bytes.now → IsErr result }
+        ensures bound { IfOk result (λ count. count ≤ length bytes.now) }
+        ensures some { IfOk result (λ count. 0 < length bytes.now → 0 < count) }
+    {
+        if self.listener.is_err() {
+            return Err(Failed);
+        }
+        let Some(link) = self.link.as_ref() else {
+            return if bytes.is_empty() { Ok(0) } else { Err(Failed) };
+        };
+        let count = StdSink::new(link).write(bytes)?;
+        Ok(count)
+    }
+}
+
+impl Source for TcpDoor {
+    ghost use Rattle.std.specs.Prelude.{◌≡◌, ◌≤◌, ◌||◌, true, false, length, None, IfOk, IsErr, Ok};
+    ghost use Rattle.device_facts.specs.Count.{CountsFault};
+    ghost use Rattle.device_facts.specs.Frame.{NothingElse, nothing_else};
+    ghost use Rattle.disk_core.specs.Streams.{gave_end};
+    ghost use Rattle.tcp_door.specs.OpenDoors.{moved_some};
+
+    ghost left = { λ d. None };
+
+    ghost ended = { λ d. d.ended };
+
+    ghost faults = { λ d. d.faults };
+
+    ghost keeps_rest = { NothingElse };
+
+    ghost frame = { nothing_else };
+
+    fn read(&mut self, into: &mut [u8]) -> Result<usize, Failed>
+        requires { self.old.ended ≡ false }
+        ensures closed { self.old.listens ≡ false → IsErr result }
+        ensures absent { self.old.listens ≡ true → self.old.is_present ≡ false → result ≡ Ok 0 }
+        ensures bound { IfOk result (λ count. count ≤ length into.new) }
+        ensures end { self.new.ended ≡ gave_end result into.new }
+        ensures request { self.new.in_request ≡ (self.old.in_request || moved_some result) }
+        ensures cause { CountsFault self.old.faults self.new.faults result }
+        ensures kept { (self.new.listens ≡ self.old.listens)
+            × (self.new.awaited ≡ self.old.awaited)
+            × (self.new.is_present ≡ self.old.is_present) }
+    {
+        let count = self.receive(into);
+        match count {
+            Ok(count) => {
+                self.in_request = self.in_request || count > 0;
+                self.ended = count == 0 && !into.is_empty();
+            }
+            Err(Failed) => self.faults = counted_once_more(self.faults),
+        }
+        count
+    }
+}
+
+impl Sink for TcpDoor {
+    ghost use Rattle.std.specs.Prelude.{◌≡◌, ◌<◌, ◌≤◌, ◌&&◌, not, false, length, None, IfOk, IsErr, refl};
+    ghost use Rattle.std.proofs.Common.{◌∙◌};
+    ghost use Rattle.device_facts.specs.Count.{CountsFault};
+    ghost use Rattle.tcp_door.specs.OpenDoors.{moved_some};
+
+    ghost held = { λ d. None };
+
+    ghost faults = { λ d. d.faults };
+
+    ghost keeps_rest = { λ old new. new.ended ≡ old.ended };
+
+    ghost frame = { record { none = λ d. refl; both = λ a b c first second. second ∙ first } };
+
+    fn write(&mut self, bytes: &[u8]) -> Result<usize, Failed>
+        ensures closed { self.old.listens ≡ false → IsErr result }
+        ensures absent { self.old.is_present ≡ false → 0 < length bytes.now → IsErr result }
+        ensures bound { IfOk result (λ count. count ≤ length bytes.now) }
+        ensures some { IfOk result (λ count. 0 < length bytes.now → 0 < count) }
+        ensures rest { self.new.ended ≡ self.old.ended }
+        ensures request { self.new.in_request ≡ (self.old.in_request && not (moved_some result)) }
+        ensures cause { CountsFault self.old.faults self.new.faults result }
+        ensures kept { (self.new.listens ≡ self.old.listens)
+            × (self.new.awaited ≡ self.old.awaited)
+            × (self.new.is_present ≡ self.old.is_present) }
+    {
+        let count = self.send(bytes);
+        match count {
+            Ok(count) => self.in_request = self.in_request && count == 0,
+            Err(Failed) => self.faults = counted_once_more(self.faults),
+        }
+        count
+    }
+}
+
+impl Door for TcpDoor {
+    ghost use Rattle.std.specs.Prelude.{◌≡◌, ◌+◌, ◌<◌, ◌↔◌, true, false, None, IfOk, IsOk, IsErr, IsTrue, OnOk, OnErr, refl};
+    ghost use Rattle.device_facts.specs.Count.{CountsFault};
+    ghost use Rattle.tcp_door.specs.OpenDoors.{one_if};
+
+    ghost connections = { λ d. None };
+
+    ghost source_left = { λ d. refl };
+
+    ghost sink_held = { λ d. refl };
+
+    ghost one_count = { λ d. refl };
+
+    ghost read_adds = { λ old new bytes same parts. refl };
+
+    ghost write_adds = { λ old new bytes same grown. refl };
+
+    ghost write_leaves_end = { λ old new same. same };
+
+    fn next(&mut self) -> Result<bool, Failed>
+        ensures closed { self.old.listens ≡ false → IsErr result }
+        ensures ends { self.old.listens ≡ true → self.old.awaited ≡ 0 → IsOk result }
+        ensures awaited { IfOk result (λ found. IsTrue found ↔ (0 < self.old.awaited)) }
+        ensures counted { IfOk result (λ found.
+            self.new.awaited + one_if found ≡ self.old.awaited) }
+        ensures present { IfOk result (λ found. self.new.is_present ≡ found) }
+        ensures begins { OnOk result (self.new.ended ≡ false) }
+        ensures whole { OnOk result (self.new.in_request ≡ false) }
+        ensures stays { OnErr result (self.new.ended ≡ self.old.ended) }
+        ensures listens { self.new.listens ≡ self.old.listens }
+        ensures cause { CountsFault self.old.faults self.new.faults result }
+    {
+        leave(self.link.take(), self.ended);
+        let Ok(link) = admit(self.listener.as_ref().ok(), self.awaited, self.quiet) else {
+            self.faults = counted_once_more(self.faults);
+            return Err(Failed);
+        };
+        let found = link.is_some();
+        self.awaited -= u32::from(found);
+        self.link = link;
+        self.in_request = false;
+        self.ended = false;
+        Ok(found)
+    }
+}

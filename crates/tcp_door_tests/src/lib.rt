@@ -1,0 +1,5 @@
+//! Tests of tcp_door over loopback.
+#![tactic(auto)]
+
+#[cfg(test)]
+mod doors;
