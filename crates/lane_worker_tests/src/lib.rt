@@ -10,3 +10,5 @@ mod halls;
 mod lines;
 #[cfg(test)]
 mod stops;
+#[cfg(test)]
+mod streams;

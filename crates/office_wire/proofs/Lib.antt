@@ -1,1 +1,2 @@
+pub mod HeadSizes
 mod WorkedResponses

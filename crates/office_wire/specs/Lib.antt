@@ -1,2 +1,4 @@
 pub mod Responses
 pub mod Acts
+pub mod HeadSize
+pub mod Headers

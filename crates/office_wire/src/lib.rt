@@ -5,6 +5,8 @@
 mod acts;
 mod bodies;
 mod body;
+mod head_size;
+mod headers;
 mod heads;
 mod members;
 mod replies;

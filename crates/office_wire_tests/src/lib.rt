@@ -1,0 +1,7 @@
+//! Tests of the office's requests and responses by their public calls.
+#![tactic(auto)]
+
+#[cfg(test)]
+mod bodies;
+#[cfg(test)]
+mod responses;
