@@ -1,7 +1,7 @@
 -- What one slot makes of a migration.
 use Rattle.std.proofs.Common.{◌≡◌, inl, inr, ⊎_elim, ℕ, ◌+◌, ◌-◌, ◌<◌, ◌≤◌, nat_le, true, if◌then◌else◌, List, [], ◌∷◌, ◌++◌, length, take, drop, None, slice_get, Ok, Err, refl, sym, ap, ◌∙◌, subst, arith, append_assoc, append-nil, length-append}
 use Rattle.std.proofs.lemmas.Bool.Decides.{nat_tests}
-use Rattle.std.proofs.lemmas.List.{length-take-le, take-append-drop}
+use Rattle.std.proofs.lemmas.List.{length-take-le, nil_from_length, take-append-drop}
 use Rattle.book_words.specs.declared.act.Entry.{Entry}
 use Rattle.book_words.specs.Answers.{IsLawful}
 use Rattle.book_state.specs.Told.{entry_numbered}
@@ -304,14 +304,10 @@ over_more before now next piece rest part after over parts on = record {
   on = carries_both before now next over.first part over.on on;
 }
 
-pub no_bytes : (bytes : List ℕ) → length bytes ≡ 0 → bytes ≡ []
-no_bytes [] none = refl
-no_bytes (x ∷ bytes) none = absurd (omega (arith, none))
-
 -- nothing of it is left
 pub over_all : (before now : MigrationState) (piece rest : List ℕ)
     → CarriedOver before now piece rest → length rest ≡ 0 → CarriesOn before now piece
 over_all before now piece rest over none =
     subst (CarriesOn before now) (sym
-    (over.parts ∙ ap (λ (bytes : List ℕ). over.first ++ bytes) (no_bytes rest none)
+    (over.parts ∙ ap (λ (bytes : List ℕ). over.first ++ bytes) (nil_from_length rest none)
     ∙ append-nil over.first)) over.on

@@ -1,5 +1,5 @@
 -- What a desk asks for by the JSON of a body. Members that aren't named here are passed over.
-use Rattle.std.specs.Prelude.{ℕ, ◌^◌, ◌-◌, Bool, true, false, ◌&&◌, ℤ, pos, List, nat_le, if◌then◌else◌, Option, Some, None, is_none, option_map, codes}
+use Rattle.std.specs.Prelude.{ℕ, ◌^◌, ◌-◌, ◌&&◌, ℤ, pos, List, nat_le, if◌then◌else◌, Option, Some, None, is_none, option_map, codes}
 use Rattle.std.specs.Option.{option_and_then}
 use Rattle.std.specs.Str.{bytes_eq, is_utf8}
 use Rattle.serde_json.specs.Data.{Data}

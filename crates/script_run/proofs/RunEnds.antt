@@ -232,10 +232,6 @@ explained_after book before old now first next run run' (Err stop) has takes som
 
 -- ---- the end of the input
 
-pub no_bytes : (bytes : List ℕ) → length bytes ≡ 0 → bytes ≡ []
-no_bytes [] none = refl
-no_bytes (byte ∷ bytes) none = absurd (omega (arith, none))
-
 -- the last line of the whole script stopped the run
 stops_at_end : {S : Type 0} (book : BookState) (call : Call S) (script : List ℕ) (stop : Stop)
     → StopsInScript book call.before.output call.now.output call.rows stop script

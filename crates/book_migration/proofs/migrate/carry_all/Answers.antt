@@ -1,3 +1,4 @@
+use Rattle.std.proofs.lemmas.List.{nil_from_length}
 use Rattle.std.proofs.Common.{rules, ◌≡◌, ◌<◌, List, ℕ, length, Ok, Err, refl, sym, ◌∙◌, subst, arith}
 use Rattle.std.proofs.lemmas.Result.{err_from_is_err_and}
 use Rattle.book_store.specs.Stores.{entries_of}
@@ -7,7 +8,6 @@ use Rattle.store_runs.proofs.StoreSteps.{goes_on, goes_as, stays, on_unfinished}
 use Rattle.book_migration.specs.Migration.{input_moment}
 use Rattle.book_migration.specs.Carrying.{Carried, CarriesOn, StopsCarrying, migration_state}
 use Rattle.book_migration.proofs.MigrationEnds.{nothing_counted, migration_begins, migration_more, migration_whole, explains_piece, explains_read, goes_unread}
-use Rattle.book_migration.proofs.SlotSteps.{no_bytes}
 use Rattle.book_migration.proofs.migrate.carry_all.Goals as goal
 
 pub loop-reader-init : goal.loop-reader-init
@@ -45,7 +45,7 @@ returns-in_err-read-clause-goes g c =
 pub returns-then-is_empty-clause-all : goal.returns-then-is_empty-clause-all
 returns-then-is_empty-clause-all g c =
     let none : length c.read.new.self.piece ≡ 0 = search rules in
-    let empty = no_bytes c.read.new.self.piece none in
+    let empty = nil_from_length c.read.new.self.piece none in
     migration_whole (entries_of c.args.migration.now.store) (input_at g.S.Source c.args.input.now)
     (input_at g.S.Source c.loop-reader.input) (input_at g.S.Source c.read.new.input)
     (migration_state c.loop-reader.migration)

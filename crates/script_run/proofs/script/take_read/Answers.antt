@@ -1,3 +1,4 @@
+use Rattle.std.proofs.lemmas.List.{nil_from_length}
 use Rattle.std.proofs.Common.{rules, ◌≡◌, ◌<◌, List, ℕ, length, Ok, Err, refl, subst}
 use Rattle.std.specs.Bool.{⊤}
 use Rattle.std.proofs.lemmas.Result.{err_from_is_err_and}
@@ -5,7 +6,7 @@ use Rattle.text_streams.specs.Streams.{output_at, devices}
 use Rattle.store_runs.proofs.StoreSteps.{goes_as}
 use Rattle.script_run.specs.Books.{book_in, store_in, run_state}
 use Rattle.script_run.specs.Reached.{Steps}
-use Rattle.script_run.proofs.RunEnds.{explained_after, explained_last, read_whole, explained_unread, goes_unread, no_bytes}
+use Rattle.script_run.proofs.RunEnds.{explained_after, explained_last, read_whole, explained_unread, goes_unread}
 use Rattle.script_run.proofs.script.take_read.Goals as goal
 
 pub returns-in_err-read-clause-explained : goal.returns-in_err-read-clause-explained
@@ -27,7 +28,7 @@ returns-in_err-finish_line-clause-explained g c = λ book before has most.
     let p = err_from_is_err_and c.from_residual-in_err-finish_line.result
     c.from_residual-in_err-finish_line.ensures.1 in
     let none : length c.read.new.self.piece ≡ 0 = search rules in
-    let empty = no_bytes c.read.new.self.piece none in
+    let empty = nil_from_length c.read.new.self.piece none in
     rw (p.1, p.2) (explained_last book before
     (devices g.S.Source g.K.Sink c.args.input.now c.args.output.now)
     (devices g.S.Source g.K.Sink c.read.new.input c.finish_line.new.output) c.args.reader.now
@@ -46,7 +47,7 @@ returns-in_err-finish_line-clause-goes g c =
 pub returns-then-is_empty-clause-explained : goal.returns-then-is_empty-clause-explained
 returns-then-is_empty-clause-explained g c = λ book before has most.
     let none : length c.read.new.self.piece ≡ 0 = search rules in
-    let empty = no_bytes c.read.new.self.piece none in
+    let empty = nil_from_length c.read.new.self.piece none in
     read_whole book (book_in c.finish_line.new.self.session) before
     (devices g.S.Source g.K.Sink c.args.input.now c.args.output.now)
     (devices g.S.Source g.K.Sink c.read.new.input c.finish_line.new.output) c.args.reader.now
