@@ -1,14 +1,15 @@
-//! The program `hall`: the real streams, the file of the book, and the words of the command line.
+//! The program `hall`: the real streams, the file of the book, those of lanes, and the words of the
+//! command line.
 #![tactic(auto)]
 
-ghost use Rattle.std.specs.Prelude.{◌≡◌, ◌↔◌, false, None, Some, ◌≤◌, OnOk, IfOk};
+ghost use Rattle.std.specs.Prelude.{◌≡◌, ◌↔◌, false, None, Some, ◌≤◌, length, OnOk, IfOk};
 ghost use Rattle.std.specs.Process.{exit_status};
-ghost use Rattle.hall_limits.specs.declared.TheConstants.{MAX_ROWS};
+ghost use Rattle.hall_limits.specs.declared.TheConstants.{MAX_LANE, MAX_ROWS};
 ghost use Rattle.command_line.specs.Words.{Wanted, bytes_of, wanted_of};
 ghost use Rattle.hall_top.specs.declared.ended.Ended.{Ended};
 ghost use Rattle.book_store.specs.declared.types.MountError.TheVariants as why;
 ghost use Rattle.text_streams.specs.Streams.{output_at};
-ghost use Rattle.store_runs.specs.Calls.{call};
+ghost use Rattle.script_run.specs.Outside.{call, outside_at, nothing_told, all_said};
 ghost use Rattle.hall_top.specs.declared.ending.Ending.TheVariants as ending;
 ghost use Rattle.hall_top.specs.Endings.{SaysLast};
 ghost use Rattle.hall_top.specs.Calls.{EndsAs, LeavesOutcome};
@@ -18,8 +19,11 @@ use book_store::MountError;
 use command_line::{Wants, WantsError, wants};
 use disk_core::{Disk, QuietDisk, Sink, Source, StdSink, StdSource};
 use file_disk::FileDisk;
-use hall_limits::MAX_ROWS;
+use hall_limits::{MAX_LANE, MAX_ROWS};
 use hall_top::{Ending, hall, say_last};
+use lane_files::{FileLane, file_lanes};
+use lane_worker::Lane;
+use script_run::LaneLog;
 use std::alloc::{AllocError, Global};
 use std::env;
 use std::process::ExitCode;
@@ -42,23 +46,28 @@ fn words(rt: &(impl Env + AllocGlobal)) -> Vec<String> {
     kept.unwrap_or(Vec::new(rt.alloc()))
 }
 
-// Does what the words say over a disk. The exit status is that of the call, and what it says of
-// the streams and the disk is true for some rows.
-fn run<S: Source, K: Sink, D: Disk + Drop>(
+// Does what the words say over a disk, with these lanes. The exit status is that of the call, and
+// what it says of the streams, the disk and the lanes is true for some rows.
+fn run<S: Source, K: Sink, D: Disk + Drop, L: Lane + Drop>(
     alloc: Global,
     words: &[String],
     input: &mut S,
     output: &mut K,
     disk: D,
+    lanes: Vec<L>,
 ) -> ExitCode
-    requires { S.ended input.old ≡ false }
+    requires few { length lanes.items ≤ MAX_LANE }
+    requires unended { S.ended input.old ≡ false }
     ensures words { (exit_status result ≡ 2) ↔ (wanted_of (bytes_of words.now) ≡ None) }
     ensures ends { (wanted : Wanted) → wanted_of (bytes_of words.now) ≡ Some wanted →
-        (ended : Ended D) × (ended.status ≡ exit_status result)
+        (ended : Ended D L) × (ended.status ≡ exit_status result)
         × LeavesOutcome (EndsAs D.Disk wanted disk) ended
-        (call S.Source K.Sink input.old output.old input.new output.new ended.rows) }
+        (call S.Source input.old input.new
+        (outside_at K.Sink L.Cell L.Gate output.old lanes.items nothing_told)
+        (outside_at K.Sink L.Cell L.Gate output.new ended.lanes.items (all_said ended.lane_ends))
+        ended.rows) }
 {
-    ExitCode::from(hall(alloc, words, input, output, disk).status)
+    ExitCode::from(hall(alloc, words, input, output, disk, lanes).status)
 }
 
 // A disk in memory with room for a book of so many rows and its snapshot.
@@ -76,12 +85,52 @@ fn open_book(rt: &HostRuntime, path: &str) -> FileDisk {
     disk
 }
 
+// The lanes that the words ask for, over the files of their folder.
+fn open_lanes<'a>(
+    alloc: Global,
+    rt: &'a HostRuntime,
+    wanted: &Wants,
+) -> Result<Vec<FileLane<'a, HostRuntime>>, AllocError>
+    ensures { IfOk result (λ lanes. length lanes.items ≤ MAX_LANE) }
+{
+    let folder = match &wanted.cells {
+        Some(path) => path.as_str(),
+        None => ".",
+    };
+    file_lanes(alloc, rt, folder, wanted.lanes.min(MAX_LANE))
+}
+
 // The end of a call for which there is no memory: its last line and its status.
-fn end_without_memory<K: Sink>(output: &mut K) -> ExitCode
-    ensures { SaysLast (ending.Unopened why.NoMemory) (output_at K.Sink output.old)
+fn end_without_memory<K: Sink>(alloc: Global, output: &mut K) -> ExitCode
+    ensures { SaysLast (ending.Unopened why.NoMemory) nothing_told (output_at K.Sink output.old)
         (output_at K.Sink output.new) (exit_status result) }
 {
-    ExitCode::from(say_last(Ending::Unopened(MountError::NoMemory), output))
+    let ending = Ending::Unopened(MountError::NoMemory);
+    ExitCode::from(say_last(ending, &LaneLog::new(alloc), output))
+}
+
+// Does what the words ask for, over the file of the book or one in memory.
+fn do_wanted<S: Source, K: Sink>(
+    rt: &HostRuntime,
+    words: &[String],
+    wanted: &Wants,
+    input: &mut S,
+    output: &mut K,
+) -> ExitCode
+    requires { S.ended input.old ≡ false }
+{
+    let alloc = rt.alloc();
+    let Ok(lanes) = open_lanes(alloc, rt, wanted) else {
+        return end_without_memory(alloc, output);
+    };
+    if let Some(path) = &wanted.book {
+        let disk = open_book(rt, path.as_str());
+        return run(alloc, words, input, output, disk, lanes);
+    }
+    match memory_disk(alloc, wanted.limit) {
+        Ok(disk) => run(alloc, words, input, output, disk, lanes),
+        Err(_) => end_without_memory(alloc, output),
+    }
 }
 
 fn main(rt: HostRuntime) -> ExitCode {
@@ -89,25 +138,13 @@ fn main(rt: HostRuntime) -> ExitCode {
     let words = words(&rt);
     let mut input = StdSource::new(rt.stdin());
     let mut output = StdSink::new(rt.stdout());
-    let wanted = match wants(alloc, &words) {
-        Ok(wanted) => wanted,
-        Err(WantsError::NoMemory) => return end_without_memory(&mut output),
+    match wants(alloc, &words) {
+        Ok(wanted) => do_wanted(&rt, &words, &wanted, &mut input, &mut output),
+        Err(WantsError::NoMemory) => end_without_memory(alloc, &mut output),
         Err(WantsError::Usage) => {
             let disk = QuietDisk::new(Vec::new(alloc));
-            return run(alloc, &words, &mut input, &mut output, disk);
+            let lanes: Vec<FileLane<HostRuntime>> = Vec::new(alloc);
+            run(alloc, &words, &mut input, &mut output, disk, lanes)
         }
-    };
-    match wanted {
-        Wants {
-            book: Some(path),
-            ..
-        } => {
-            let disk = open_book(&rt, path.as_str());
-            run(alloc, &words, &mut input, &mut output, disk)
-        }
-        Wants { limit, .. } => match memory_disk(alloc, limit) {
-            Ok(disk) => run(alloc, &words, &mut input, &mut output, disk),
-            Err(_) => end_without_memory(&mut output),
-        },
     }
 }

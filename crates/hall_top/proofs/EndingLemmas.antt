@@ -1,5 +1,10 @@
 -- Lemmas on how a call ended, its last line and its status.
-use Rattle.std.proofs.Common.{◌≡◌, ◌⊎◌, ℕ, ◌<◌, List, length, min, Option, Some, Err, inl, inr, ⊎_elim, IsTrue, refl, sym, ◌∙◌, ap, subst, arith}
+use Rattle.std.proofs.Common.{◌≡◌, ◌⊎◌, ℕ, ◌+◌, Bool, true, false, if◌then◌else◌, List, [], ◌∷◌, ◌++◌, length, take, min, Option, Some, None, Err, inl, inr, ⊎_elim, IsTrue, refl, sym, ◌∙◌, ap, subst, arith, length-append}
+use Rattle.std.proofs.lemmas.List.{take-append-le}
+use Rattle.std.specs.List.{list_any}
+use Rattle.std.specs.Io.KnownBytes.{Appends}
+use Rattle.std.proofs.KnownBytes.{Appends-trans}
+use Rattle.device_facts.specs.Count.{Counted}
 use Rattle.std.specs.Bool.{⊤}
 use Rattle.disk_core.specs.declared.disk.Disk as disk
 use Rattle.book_words.specs.declared.act.Entry.{Entry}
@@ -7,30 +12,42 @@ use Rattle.command_line.specs.Words.{Wanted}
 use Rattle.book_store.specs.declared.store.Store.{Store}
 use Rattle.book_store.specs.declared.types.MountError.{MountError}
 use Rattle.book_store.specs.declared.types.MountError.TheVariants as mount
-use Rattle.text_streams.specs.Streams.{Stream}
+use Rattle.text_streams.specs.Streams.{Stream, WroteAll, IsCutIn}
+use Rattle.lane_worker.specs.declared.ending.LaneEnd.{LaneEnd}
+use Rattle.script_run.specs.Outside.{LogView, Outside, Call}
 use Rattle.store_runs.specs.declared.stop.Stop.{Stop}
 use Rattle.store_runs.specs.declared.stop.Stop.TheVariants.{Finished, BadLine, ReadFault, WriteFault, DiskFault, NoMemory, Spent}
 use Rattle.store_runs.specs.Books.{BookState}
-use Rattle.store_runs.specs.Calls.{Call}
 use Rattle.store_runs.specs.Runs.{RunGoes, CountsStep}
 use Rattle.hall_top.specs.declared.ended.Outcome.{Outcome}
 use Rattle.hall_top.specs.declared.ending.Ending.{Ending}
 use Rattle.hall_top.specs.declared.ending.Ending.TheVariants.{Usage, Unopened, Stopped}
-use Rattle.hall_top.specs.Endings.{status_of, SaysLast, is_status}
+use Rattle.hall_top.specs.Endings.{early_status, is_early, is_spent, status_of, last_status, SaysLast, is_status}
 use Rattle.book_migration.specs.Migration.{ExplainsMigration}
-use Rattle.hall_top.specs.Calls.{SaysWhole, input_of, CarriesJournal, SaysMigration, ExplainsCheck, ExplainsMigrate, EndsAs}
+use Rattle.hall_top.specs.Calls.{SaysWhole, input_of, CarriesJournal, SaysMigration, LanesRest, ExplainsCheck, SaysMigrate, ExplainsMigrate, EndsAs}
 
 -- ---- the line that says that the book is whole
 
 -- a check that said so
-pub explains_check : {S : Type 0} (book : BookState) (call : Call S) (stop : Stop) (rows : List Entry) → call.now.source ≡ call.before.source → call.rows ≡ rows → SaysWhole call.before.output call.now.output (length rows) stop
+pub explains_check : {S : Type 0} (book : BookState) (call : Call S) (stop : Stop) (rows : List Entry)
+    → call.now.source ≡ call.before.source → LanesRest call.before.outside call.now.outside
+    → call.rows ≡ rows
+    → SaysWhole call.before.outside.output call.now.outside.output (length rows) stop
     → rows ≡ book.entries → ExplainsCheck book call stop
-explains_check book call stop rows unread same says is =
-    record { unread = unread; rows = same ∙ is; says = subst (λ (es : List Entry). SaysWhole call.before.output call.now.output (length es) stop) (sym same) says }
+explains_check book call stop rows unread rest same says is =
+    record {
+      unread = unread;
+      rest = rest;
+      rows = same ∙ is;
+      says = subst (λ (es : List Entry). SaysWhole call.before.outside.output
+          call.now.outside.output (length es) stop) (sym same) says;
+    }
 
 -- a migration, and then its line
 module _ {S : Type 0} (book : BookState) (call : Call S) where
-  behind : (was stop : Stop) → CarriesJournal book call was → SaysMigration call.before.output call.now.output (length call.rows) was stop → ExplainsMigrate book call stop
+  behind : (was stop : Stop) → CarriesJournal book call was
+      → SaysMigration call.before.outside.output call.now.outside.output (length call.rows) was stop
+      → SaysMigrate book call stop
   behind Finished Finished explained ends = (explained, ends)
   behind Finished WriteFault explained ends = (explained, ends)
   behind Finished (BadLine number) explained ends = absurd ends
@@ -39,18 +56,30 @@ module _ {S : Type 0} (book : BookState) (call : Call S) where
   behind Finished NoMemory explained ends = absurd ends
   behind Finished Spent explained ends = absurd ends
   behind WriteFault stop explained ends = absurd explained
-  behind (BadLine number) stop explained ends = subst (ExplainsMigrate book call) (sym ends.0) (explained, ends.1)
-  behind ReadFault stop explained ends = subst (ExplainsMigrate book call) (sym ends.0) (explained, ends.1)
-  behind (DiskFault offer) stop explained ends = subst (ExplainsMigrate book call) (sym ends.0) (explained, ends.1)
-  behind NoMemory stop explained ends = subst (ExplainsMigrate book call) (sym ends.0) (explained, ends.1)
-  behind Spent stop explained ends = subst (ExplainsMigrate book call) (sym ends.0) (explained, ends.1)
+  behind (BadLine number) stop explained ends =
+      subst (SaysMigrate book call) (sym ends.0) (explained, ends.1)
+  behind ReadFault stop explained ends =
+      subst (SaysMigrate book call) (sym ends.0) (explained, ends.1)
+  behind (DiskFault offer) stop explained ends =
+      subst (SaysMigrate book call) (sym ends.0) (explained, ends.1)
+  behind NoMemory stop explained ends =
+      subst (SaysMigrate book call) (sym ends.0) (explained, ends.1)
+  behind Spent stop explained ends = subst (SaysMigrate book call) (sym ends.0) (explained, ends.1)
 
-  pub ends_migration : (rows : List Entry) (was stop : Stop) → call.rows ≡ rows → ExplainsMigration book.entries (input_of call.before) (input_of call.now) rows was → SaysMigration call.before.output call.now.output (length rows) was stop
+  pub ends_migration : (rows : List Entry) (was stop : Stop) → call.rows ≡ rows
+      → LanesRest call.before.outside call.now.outside
+      → ExplainsMigration book.entries (input_of call.before) (input_of call.now) rows was
+      → SaysMigration call.before.outside.output call.now.outside.output (length rows) was stop
       → ExplainsMigrate book call stop
-  ends_migration rows was stop same explained ends =
-      behind was stop
-      (subst (λ (es : List Entry). ExplainsMigration book.entries (input_of call.before) (input_of call.now) es was) (sym same) explained)
-      (subst (λ (es : List Entry). SaysMigration call.before.output call.now.output (length es) was stop) (sym same) ends)
+  ends_migration rows was stop same rest explained ends =
+      record {
+        rest = rest;
+        says = behind was stop
+            (subst (λ (es : List Entry). ExplainsMigration book.entries (input_of call.before)
+            (input_of call.now) es was) (sym same) explained)
+            (subst (λ (es : List Entry). SaysMigration call.before.outside.output
+            call.now.outside.output (length es) was stop) (sym same) ends);
+      }
 
 -- it touches no disk, and the store is as it was
 pub whole_counts : (T : Type 0) (before now : Stream) (rows count : ℕ) (stop : Stop) → SaysWhole before now rows stop → CountsStep {T = T} count count (Err stop)
@@ -97,56 +126,216 @@ migrated_goes g before now rows old new Spent stop ends goes = subst (λ (s : St
 
 -- ---- the status
 
--- each status, whether the last line went out or was cut
-record HasStatus (status : ℕ) : Type 0 where
+-- a status of lanes
+data IsEarly : Option ℕ → Type 0 where
+  None_is : IsEarly None
+  Early_is : IsEarly (Some 10)
+  Spent_is : IsEarly (Some 12)
+
+is_early_status : (ends : List LaneEnd) → IsEarly (early_status ends)
+is_early_status ends = by_tests (list_any is_early ends) (list_any is_spent ends)
+  where
+    by_tests : (early spent : Bool)
+        → IsEarly (if early then Some 10 else (if spent then Some 12 else None))
+    by_tests true spent = Early_is
+    by_tests false true = Spent_is
+    by_tests false false = None_is
+
+-- each status, whether the last text went out or was cut, and that only wrong words have the second
+record HasStatus (ending : Ending) (status : ℕ) : Type 0 where
   named : IsTrue (is_status status)
   cut : IsTrue (is_status (min status 5))
+  other : (status ≡ 2) ⊎ (min status 5 ≡ 2) → ending ≡ Usage
 
-has_status : (ending : Ending) → HasStatus (status_of ending)
-has_status Usage = record { named = refl; cut = refl }
-has_status (Unopened (mount.NotJournal place)) = record { named = refl; cut = refl }
-has_status (Unopened (mount.Damaged row)) = record { named = refl; cut = refl }
-has_status (Unopened mount.DiskFault) = record { named = refl; cut = refl }
-has_status (Unopened mount.NoMemory) = record { named = refl; cut = refl }
-has_status (Stopped Finished) = record { named = refl; cut = refl }
-has_status (Stopped (BadLine number)) = record { named = refl; cut = refl }
-has_status (Stopped ReadFault) = record { named = refl; cut = refl }
-has_status (Stopped WriteFault) = record { named = refl; cut = refl }
-has_status (Stopped (DiskFault offer)) = record { named = refl; cut = refl }
-has_status (Stopped NoMemory) = record { named = refl; cut = refl }
-has_status (Stopped Spent) = record { named = refl; cut = refl }
+has_status : (ending : Ending) (early : Option ℕ) → IsEarly early
+    → HasStatus ending (status_of ending early)
+has_status Usage early is = record {
+  named = refl;
+  cut = refl;
+  other = λ two. refl;
+}
+has_status (Unopened (mount.NotJournal place)) early is = record {
+  named = refl;
+  cut = refl;
+  other = λ two. absurd (⊎_elim (λ h. omega (arith, h)) (λ h. omega (arith, h)) two);
+}
+has_status (Unopened (mount.Damaged row)) early is = record {
+  named = refl;
+  cut = refl;
+  other = λ two. absurd (⊎_elim (λ h. omega (arith, h)) (λ h. omega (arith, h)) two);
+}
+has_status (Unopened mount.DiskFault) early is = record {
+  named = refl;
+  cut = refl;
+  other = λ two. absurd (⊎_elim (λ h. omega (arith, h)) (λ h. omega (arith, h)) two);
+}
+has_status (Unopened mount.NoMemory) early is = record {
+  named = refl;
+  cut = refl;
+  other = λ two. absurd (⊎_elim (λ h. omega (arith, h)) (λ h. omega (arith, h)) two);
+}
+has_status (Stopped Finished) None None_is = record {
+  named = refl;
+  cut = refl;
+  other = λ two. absurd (⊎_elim (λ h. omega (arith, h)) (λ h. omega (arith, h)) two);
+}
+has_status (Stopped Finished) (Some n) Early_is = record {
+  named = refl;
+  cut = refl;
+  other = λ two. absurd (⊎_elim (λ h. omega (arith, h)) (λ h. omega (arith, h)) two);
+}
+has_status (Stopped Finished) (Some n) Spent_is = record {
+  named = refl;
+  cut = refl;
+  other = λ two. absurd (⊎_elim (λ h. omega (arith, h)) (λ h. omega (arith, h)) two);
+}
+has_status (Stopped (BadLine number)) None None_is = record {
+  named = refl;
+  cut = refl;
+  other = λ two. absurd (⊎_elim (λ h. omega (arith, h)) (λ h. omega (arith, h)) two);
+}
+has_status (Stopped (BadLine number)) (Some n) Early_is = record {
+  named = refl;
+  cut = refl;
+  other = λ two. absurd (⊎_elim (λ h. omega (arith, h)) (λ h. omega (arith, h)) two);
+}
+has_status (Stopped (BadLine number)) (Some n) Spent_is = record {
+  named = refl;
+  cut = refl;
+  other = λ two. absurd (⊎_elim (λ h. omega (arith, h)) (λ h. omega (arith, h)) two);
+}
+has_status (Stopped ReadFault) None None_is = record {
+  named = refl;
+  cut = refl;
+  other = λ two. absurd (⊎_elim (λ h. omega (arith, h)) (λ h. omega (arith, h)) two);
+}
+has_status (Stopped ReadFault) (Some n) Early_is = record {
+  named = refl;
+  cut = refl;
+  other = λ two. absurd (⊎_elim (λ h. omega (arith, h)) (λ h. omega (arith, h)) two);
+}
+has_status (Stopped ReadFault) (Some n) Spent_is = record {
+  named = refl;
+  cut = refl;
+  other = λ two. absurd (⊎_elim (λ h. omega (arith, h)) (λ h. omega (arith, h)) two);
+}
+has_status (Stopped WriteFault) None None_is = record {
+  named = refl;
+  cut = refl;
+  other = λ two. absurd (⊎_elim (λ h. omega (arith, h)) (λ h. omega (arith, h)) two);
+}
+has_status (Stopped WriteFault) (Some n) Early_is = record {
+  named = refl;
+  cut = refl;
+  other = λ two. absurd (⊎_elim (λ h. omega (arith, h)) (λ h. omega (arith, h)) two);
+}
+has_status (Stopped WriteFault) (Some n) Spent_is = record {
+  named = refl;
+  cut = refl;
+  other = λ two. absurd (⊎_elim (λ h. omega (arith, h)) (λ h. omega (arith, h)) two);
+}
+has_status (Stopped (DiskFault offer)) None None_is = record {
+  named = refl;
+  cut = refl;
+  other = λ two. absurd (⊎_elim (λ h. omega (arith, h)) (λ h. omega (arith, h)) two);
+}
+has_status (Stopped (DiskFault offer)) (Some n) Early_is = record {
+  named = refl;
+  cut = refl;
+  other = λ two. absurd (⊎_elim (λ h. omega (arith, h)) (λ h. omega (arith, h)) two);
+}
+has_status (Stopped (DiskFault offer)) (Some n) Spent_is = record {
+  named = refl;
+  cut = refl;
+  other = λ two. absurd (⊎_elim (λ h. omega (arith, h)) (λ h. omega (arith, h)) two);
+}
+has_status (Stopped NoMemory) None None_is = record {
+  named = refl;
+  cut = refl;
+  other = λ two. absurd (⊎_elim (λ h. omega (arith, h)) (λ h. omega (arith, h)) two);
+}
+has_status (Stopped NoMemory) (Some n) Early_is = record {
+  named = refl;
+  cut = refl;
+  other = λ two. absurd (⊎_elim (λ h. omega (arith, h)) (λ h. omega (arith, h)) two);
+}
+has_status (Stopped NoMemory) (Some n) Spent_is = record {
+  named = refl;
+  cut = refl;
+  other = λ two. absurd (⊎_elim (λ h. omega (arith, h)) (λ h. omega (arith, h)) two);
+}
+has_status (Stopped Spent) None None_is = record {
+  named = refl;
+  cut = refl;
+  other = λ two. absurd (⊎_elim (λ h. omega (arith, h)) (λ h. omega (arith, h)) two);
+}
+has_status (Stopped Spent) (Some n) Early_is = record {
+  named = refl;
+  cut = refl;
+  other = λ two. absurd (⊎_elim (λ h. omega (arith, h)) (λ h. omega (arith, h)) two);
+}
+has_status (Stopped Spent) (Some n) Spent_is = record {
+  named = refl;
+  cut = refl;
+  other = λ two. absurd (⊎_elim (λ h. omega (arith, h)) (λ h. omega (arith, h)) two);
+}
 
-pub status_named : (ending : Ending) (before now : Stream) (status : ℕ) → SaysLast ending before now status → IsTrue (is_status status)
-status_named ending before now status (inl (out, is)) = subst (λ (n : ℕ). IsTrue (is_status n)) (sym is) (has_status ending).named
-status_named ending before now status (inr (cut, is)) = subst (λ (n : ℕ). IsTrue (is_status n)) (sym is) (has_status ending).cut
+module _ (ending : Ending) (log : LogView) (before now : Stream) (status : ℕ) where
+  status_kept : HasStatus ending (last_status ending log)
+  status_kept = has_status ending (early_status log.ends) (is_early_status log.ends)
 
--- a status above 2 is no 2, nor is what is left of it where a line is cut
-differs : (status own : ℕ) → status ≡ 2 → (status ≡ own) ⊎ (status ≡ min own 5) → 2 < own → ⊥
-differs status own two (inl is) more = absurd (omega (arith, two, is, more))
-differs status own two (inr is) more = absurd (omega (arith, two, is, more))
+  pub status_named : SaysLast ending log before now status → IsTrue (is_status status)
+  status_named (inl (out, is)) = subst (λ (n : ℕ). IsTrue (is_status n)) (sym is) status_kept.named
+  status_named (inr (cut, is)) = subst (λ (n : ℕ). IsTrue (is_status n)) (sym is) status_kept.cut
 
--- the status of wrong words is that of no other ending
-usage_alone : (ending : Ending) (status : ℕ) → status ≡ 2 → (status ≡ status_of ending) ⊎ (status ≡ min (status_of ending) 5) → ending ≡ Usage
-usage_alone Usage status two is = refl
-usage_alone (Unopened (mount.NotJournal place)) status two is = absurd (differs status 8 two is (omega arith))
-usage_alone (Unopened (mount.Damaged row)) status two is = absurd (differs status 9 two is (omega arith))
-usage_alone (Unopened mount.DiskFault) status two is = absurd (differs status 6 two is (omega arith))
-usage_alone (Unopened mount.NoMemory) status two is = absurd (differs status 7 two is (omega arith))
-usage_alone (Stopped Finished) status two is = absurd (⊎_elim (λ here. omega (arith, two, here)) (λ here. omega (arith, two, here)) is)
-usage_alone (Stopped (BadLine number)) status two is = absurd (differs status 3 two is (omega arith))
-usage_alone (Stopped ReadFault) status two is = absurd (differs status 4 two is (omega arith))
-usage_alone (Stopped WriteFault) status two is = absurd (differs status 5 two is (omega arith))
-usage_alone (Stopped (DiskFault offer)) status two is = absurd (differs status 6 two is (omega arith))
-usage_alone (Stopped NoMemory) status two is = absurd (differs status 7 two is (omega arith))
-usage_alone (Stopped Spent) status two is = absurd (differs status 12 two is (omega arith))
+  pub status_two : SaysLast ending log before now status → status ≡ 2 → ending ≡ Usage
+  status_two (inl (out, is)) two = status_kept.other (inl (sym is ∙ two))
+  status_two (inr (cut, is)) two = status_kept.other (inr (sym is ∙ two))
 
-pub status_two : (ending : Ending) (before now : Stream) (status : ℕ) → SaysLast ending before now status → status ≡ 2 → ending ≡ Usage
-status_two ending before now status (inl (out, is)) two = usage_alone ending status two (inl is)
-status_two ending before now status (inr (cut, is)) two = usage_alone ending status two (inr is)
+  pub usage_two : SaysLast ending log before now status → ending ≡ Usage → status ≡ 2
+  usage_two (inl (out, is)) usage = is ∙ ap (λ (e : Ending). status_of e (early_status log.ends)) usage
+  usage_two (inr (cut, is)) usage =
+      is ∙ ap (λ (e : Ending). min (status_of e (early_status log.ends)) 5) usage
 
-pub usage_two : (ending : Ending) (before now : Stream) (status : ℕ) → SaysLast ending before now status → ending ≡ Usage → status ≡ 2
-usage_two ending before now status (inl (out, is)) usage = is ∙ ap status_of usage
-usage_two ending before now status (inr (cut, is)) usage = is ∙ ap (λ (e : Ending). min (status_of e) 5) usage
+-- ---- the last text
+
+-- a text that was cut is a longer one cut
+pub cut_first : (before now : Stream) (first second : List ℕ) → IsCutIn before now [] first
+    → IsCutIn before now [] (first ++ second)
+cut_first before now first second cut =
+    record {
+      part = cut.part;
+      less = omega (arith, cut.less, length-append first second);
+      out = subst (λ text. Appends before.bytes now.bytes text)
+          (sym (take-append-le cut.part first second (omega (arith, cut.less)))) cut.out;
+      failed = cut.failed;
+    }
+
+-- so is one behind another that went out
+pub cut_second : (before old now : Stream) (first second : List ℕ) → WroteAll before old first
+    → IsCutIn old now [] second → IsCutIn before now [] (first ++ second)
+cut_second before old now first second wrote cut =
+    record {
+      part = length first + cut.part;
+      less = omega (arith, cut.less, length-append first second);
+      out = subst (λ text. Appends before.bytes now.bytes text)
+          (sym (take_behind first second cut.part))
+          (Appends-trans _ _ _ first (take cut.part second) wrote.out cut.out);
+      failed = subst (λ (n : ℕ). Counted n now.faults 1) wrote.calm cut.failed;
+    }
+  where
+    take_behind : (xs ys : List ℕ) (count : ℕ)
+        → take (length xs + count) (xs ++ ys) ≡ xs ++ take count ys
+    take_behind [] ys count = refl
+    take_behind (x ∷ xs) ys count = ap (λ zs. x ∷ zs) (take_behind xs ys count)
+
+pub wrote_both : (before old now : Stream) (first second : List ℕ) → WroteAll before old first
+    → WroteAll old now second → WroteAll before now (first ++ second)
+wrote_both before old now first second wrote then =
+    record {
+      out = Appends-trans _ _ _ first second wrote.out then.out;
+      calm = then.calm ∙ wrote.calm;
+    }
 
 -- ---- the words
 

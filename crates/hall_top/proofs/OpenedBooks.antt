@@ -17,20 +17,26 @@ use Rattle.book_store.specs.declared.types.Unmounted.{Unmounted}
 use Rattle.book_store.specs.Stores.{disk_of, entries_of, limit_of, held_of, Hangs}
 use Rattle.book_store.specs.Resting.{HoldsSnapshotOf}
 use Rattle.book_store.proofs.KeptLemmas.{kept_mounted}
-use Rattle.text_streams.specs.Streams.{Devices}
 use Rattle.store_runs.specs.declared.stop.Stop.{Stop}
 use Rattle.store_runs.specs.declared.stop.Stop.TheVariants.{Finished}
 use Rattle.store_runs.specs.Books.{BookState, stored_book}
-use Rattle.store_runs.specs.Calls.{Call}
+use Rattle.text_streams.specs.Streams.{Stream}
+use Rattle.script_run.specs.Outside.{LogView, Outside, Devices, Call}
 use Rattle.store_runs.specs.Runs.{HasAddedRows, CountsStop, SparesDisk}
 use Rattle.store_runs.specs.Stops.{stop_row}
 use Rattle.hall_top.specs.declared.ended.Outcome.{Outcome}
 use Rattle.hall_top.specs.declared.ending.Ending.TheVariants.{Unopened}
-use Rattle.hall_top.specs.Calls.{KeepsRows, IsOpened, IsUnopened, CommandDone}
+use Rattle.hall_top.specs.Calls.{KeepsRows, LanesRest, IsOpened, IsUnopened, CommandDone}
 
 -- a call that began with these devices
 abbrev pub call_from : {S : Type 0} → Devices S → Devices S → List Entry → Call S
 call_from before now rows = record { before = before; now = now; rows = rows }
+
+-- a call in which no lane was worked
+pub lanes_rest : (here : Outside) (now : Stream) (log : LogView) → log ≡ here.log
+    → LanesRest here (record { output = now; lanes = here.lanes; log = log })
+lanes_rest here now log same =
+    ap (λ (l : LogView). record { output = now; lanes = here.lanes; log = l }) same
 
 -- the front of a list that begins with another
 front_of : (first more : List Entry) → take (length first) (first ++ more) ≡ first
@@ -93,7 +99,7 @@ is_opened g counts_now limit Explains before store outcome call limit_is count c
 pub is_unopened : {S D : Type 0} (g : disk.Ghosts D) (before left : D) (why : MountError) (outcome : Outcome D) (call : Call S)
     → IsCauseOf g why before left
     → WhereTold (g.reads before) (λ bytes. (held : List Entry) → HoldsBook held bytes → IsLegal held → IsPassing why × (KeepsFromSync g before left (HoldsBook held) ⊎ IsUnmoved g before left))
-    → call.now.source ≡ call.before.source → call.now.output ≡ call.before.output → call.rows ≡ [] → outcome.disk ≡ left → outcome.held ≡ 0 → outcome.ending ≡ Unopened why
+    → call.now.source ≡ call.before.source → call.now.outside ≡ call.before.outside → call.rows ≡ [] → outcome.disk ≡ left → outcome.held ≡ 0 → outcome.ending ≡ Unopened why
     → IsUnopened g before outcome call
 is_unopened g before left why outcome call cause kept unread quiet rows same held ending =
     record {

@@ -15,13 +15,13 @@ use Rattle.book_store.specs.Stores.{disk_of, entries_of}
 use Rattle.book_store.specs.Listing.{IsOpenedAs}
 use Rattle.book_store.specs.Mounting.{IsCauseOf, IsPassing}
 use Rattle.book_store.specs.Resting.{HoldsSnapshotOf}
-use Rattle.text_streams.specs.Streams.{Stream, Devices, WroteAll, IsCutIn}
+use Rattle.text_streams.specs.Streams.{Stream, WroteAll, IsCutIn}
 use Rattle.store_runs.specs.declared.stop.Stop.{Stop}
 use Rattle.store_runs.specs.declared.stop.Stop.TheVariants.{Finished, WriteFault}
 use Rattle.store_runs.specs.Books.{BookState, stored_book}
-use Rattle.store_runs.specs.Calls.{Call}
 use Rattle.store_runs.specs.Runs.{HasGrown, CountsStop, SparesDisk, RunGoes}
 use Rattle.store_runs.specs.Stops.{stop_row}
+use Rattle.script_run.specs.Outside.{Outside, Devices, Call}
 use Rattle.script_run.specs.Runs.{ExplainsRun}
 use Rattle.book_migration.specs.Migration.{InputMoment, ExplainsMigration}
 use Rattle.hall_top.specs.declared.ending.Ending.TheVariants.{Usage, Unopened, Stopped}
@@ -33,10 +33,10 @@ use Rattle.command_line.specs.Words.{Wanted}
 use Rattle.command_line.specs.declared.types.Command.{Command}
 use Rattle.command_line.specs.declared.types.Command.TheVariants.{Run, Check, Migrate}
 
--- nothing was read or written, and there are no rows
+-- nothing was read or written, no lane was worked, and there are no rows
 pub record NothingDone {S : Type 0} (call : Call S) : Type 0 where
   pub unread : call.now.source ≡ call.before.source
-  pub quiet : call.now.output ≡ call.before.output
+  pub quiet : call.now.outside ≡ call.before.outside
   pub none : call.rows ≡ []
 
 -- The disk wasn't opened as a book: nothing was read. A disk that holds a book is then as it was, or
@@ -96,13 +96,18 @@ SaysWhole before now rows Finished = WroteAll before now (whole rows)
 SaysWhole before now rows WriteFault = IsCutIn before now [] (whole rows)
 SaysWhole before now rows _ = ⊥
 
--- a check: the input wasn't read, the rows are those that the disk held, and the line that says how
--- many went out or was cut
+-- beside the output all stands still: no lane was worked
+abbrev pub LanesRest : Outside → Outside → Type 0
+LanesRest before now = now ≡ record before { output = now.output }
+
+-- a check: the input wasn't read, no lane was worked, the rows are those that the disk held, and the
+-- line that says how many went out or was cut
 pub record ExplainsCheck {S : Type 0} (book : BookState) (call : Call S) (stop : Stop) : Type 0
   where
     pub unread : call.now.source ≡ call.before.source
+    pub rest : LanesRest call.before.outside call.now.outside
     pub rows : call.rows ≡ book.entries
-    pub says : SaysWhole call.before.output call.now.output (length call.rows) stop
+    pub says : SaysWhole call.before.outside.output call.now.outside.output (length call.rows) stop
 
 -- the input among some devices
 abbrev pub input_of : {S : Type 0} → Devices S → InputMoment S
@@ -115,15 +120,22 @@ CarriesJournal book call stop =
 
 -- a migration that carried its journal then says how many rows the book has, or that line is cut;
 -- one that stopped writes nothing
-abbrev pub ExplainsMigrate : {S : Type 0} → BookState → Call S → Stop → Type 0
-ExplainsMigrate book call Finished =
+abbrev pub SaysMigrate : {S : Type 0} → BookState → Call S → Stop → Type 0
+SaysMigrate book call Finished =
     CarriesJournal book call Finished
-    × SaysWhole call.before.output call.now.output (length call.rows) Finished
-ExplainsMigrate book call WriteFault =
+    × SaysWhole call.before.outside.output call.now.outside.output (length call.rows) Finished
+SaysMigrate book call WriteFault =
     CarriesJournal book call Finished
-    × SaysWhole call.before.output call.now.output (length call.rows) WriteFault
-ExplainsMigrate book call stop =
-    CarriesJournal book call stop × (call.now.output ≡ call.before.output)
+    × SaysWhole call.before.outside.output call.now.outside.output (length call.rows) WriteFault
+SaysMigrate book call stop =
+    CarriesJournal book call stop
+    × (call.now.outside.output ≡ call.before.outside.output)
+
+-- no lane is worked by it
+pub record ExplainsMigrate {S : Type 0} (book : BookState) (call : Call S) (stop : Stop) : Type 0
+  where
+    pub rest : LanesRest call.before.outside call.now.outside
+    pub says : SaysMigrate book call stop
 
 -- how each command ends
 abbrev pub ExplainsCommand : {S : Type 0} → Command → BookState → Call S → Stop → Type 0
@@ -146,17 +158,22 @@ pub record IsUsage {S D : Type 0} (before : D) (outcome : Outcome D) (call : Cal
     pub nothing : NothingDone call
     pub none : outcome.held ≡ 0
 
--- A call ended with an outcome of which this holds, and then came its last line. Disk and rows are
--- those of the outcome.
-pub record LeavesOutcome {S D : Type 0} (Holds : Outcome D → Call S → Type 0) (ended : Ended D)
+-- A call ended with an outcome of which this holds, and then came its last text. Disk, rows and the
+-- ends of works are those of the outcome, and no lane is worked any more.
+pub record LeavesOutcome {S D L : Type 0} (Holds : Outcome D → Call S → Type 0) (ended : Ended D L)
     (call : Call S) : Type 0 where
   pub outcome : Outcome D
   pub said : Stream
   pub disk_left : ended.disk ≡ outcome.disk
   pub held : ended.held ≡ outcome.held
   pub rows : ended.rows ≡ outcome.rows
-  pub holds : Holds outcome (record call { now = record call.now { output = said } })
-  pub last : SaysLast outcome.ending said call.now.output ended.status
+  pub ends : ended.lane_ends ≡ outcome.log.told.ends
+  pub holds : Holds outcome (record call {
+    now = record call.now {
+      outside = record call.now.outside { output = said; log = outcome.log.told };
+    };
+  })
+  pub last : SaysLast outcome.ending outcome.log.told said call.now.outside.output ended.status
 
 -- A command was done over a store: it stopped in one of its ways, and the disk and the rows are those
 -- of the store that it left.

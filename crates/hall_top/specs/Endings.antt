@@ -1,10 +1,15 @@
 -- How a call of the program ended, its last line, and its status.
-use Rattle.std.specs.Prelude.{◌≡◌, ◌⊎◌, ℕ, min, Bool, List, [], ◌==◌, ◌||◌}
+use Rattle.std.specs.Prelude.{◌≡◌, ◌⊎◌, ℕ, min, Bool, true, false, List, [], ◌++◌, ◌==◌, ◌||◌, Option, Some, None, if◌then◌else◌}
+use Rattle.std.specs.List.{list_any}
 use Rattle.book_store.specs.declared.types.MountError.{MountError}
 use Rattle.book_store.specs.declared.types.MountError.TheVariants as mount
 use Rattle.store_runs.specs.declared.stop.Stop.{Stop}
 use Rattle.store_runs.specs.declared.stop.Stop.TheVariants.{Finished, BadLine, ReadFault, WriteFault, DiskFault, NoMemory, Spent}
 use Rattle.text_streams.specs.Streams.{Stream, WroteAll, IsCutIn}
+use Rattle.lane_worker.specs.declared.ending.LaneEnd.{LaneEnd}
+use Rattle.lane_worker.specs.declared.ending.LaneStop.{LaneStop}
+use Rattle.lane_worker.specs.declared.ending.LaneStop.TheVariants as lane
+use Rattle.script_run.specs.Outside.{LogView}
 use Rattle.hall_top.specs.declared.ending.Ending.{Ending}
 use Rattle.hall_top.specs.declared.ending.Ending.TheVariants.{Usage, Unopened, Stopped}
 use Rattle.hall_top.specs.Texts.{bad_line, usage, read_fault, no_memory, disk_fault, not_journal, damaged_row}
@@ -24,11 +29,41 @@ line_of_stop (DiskFault offer) = disk_fault
 line_of_stop NoMemory = no_memory
 line_of_stop _ = []
 
+-- a lane ended early
+abbrev pub is_early_stop : LaneStop → Bool
+is_early_stop lane.Cell = true
+is_early_stop lane.Gate = true
+is_early_stop (lane.Bad line) = true
+is_early_stop (lane.Refused refused) = true
+is_early_stop _ = false
+
+abbrev pub is_early : LaneEnd → Bool
+is_early end = is_early_stop end.stop
+
+-- the turns of a lane were spent
+abbrev pub is_spent_stop : LaneStop → Bool
+is_spent_stop lane.Turns = true
+is_spent_stop _ = false
+
+abbrev pub is_spent : LaneEnd → Bool
+is_spent end = is_spent_stop end.stop
+
+-- the status of lanes that ended so, where they have one of their own
+abbrev pub early_status : List LaneEnd → Option ℕ
+early_status ends =
+    if list_any is_early ends then Some 10 else (if list_any is_spent ends then Some 12 else None)
+
+-- the line of a command that stopped so, where lanes have this status: want of memory isn't said
+-- behind a lane that ended early
+abbrev pub line_behind : Stop → Option ℕ → List ℕ
+line_behind NoMemory (Some status) = []
+line_behind stop early = line_of_stop stop
+
 -- the last line of a call
-abbrev pub last_line : Ending → List ℕ
-last_line Usage = usage
-last_line (Unopened why) = line_of_why why
-last_line (Stopped stop) = line_of_stop stop
+abbrev pub last_line : Ending → Option ℕ → List ℕ
+last_line Usage early = usage
+last_line (Unopened why) early = line_of_why why
+last_line (Stopped stop) early = line_behind stop early
 
 -- the status of each way to stop
 abbrev pub status_of_stop : Stop → ℕ
@@ -47,22 +82,37 @@ status_of_why (mount.Damaged row) = 9
 status_of_why mount.DiskFault = 6
 status_of_why mount.NoMemory = 7
 
--- the status of a call whose last line goes out
-abbrev pub status_of : Ending → ℕ
-status_of Usage = 2
-status_of (Unopened why) = status_of_why why
-status_of (Stopped stop) = status_of_stop stop
+-- the status of a command that stopped so, where lanes have this status: the least of both, but want
+-- of memory comes last
+abbrev pub status_behind : Stop → Option ℕ → ℕ
+status_behind Finished (Some status) = status
+status_behind NoMemory (Some status) = status
+status_behind stop (Some status) = min (status_of_stop stop) status
+status_behind stop None = status_of_stop stop
 
--- the last line of a call went out, and it has its status; or that line was cut, and the status is
+-- the status of a call whose last text goes out
+abbrev pub status_of : Ending → Option ℕ → ℕ
+status_of Usage early = 2
+status_of (Unopened why) early = status_of_why why
+status_of (Stopped stop) early = status_behind stop early
+
+-- the last text of a call: the line of a lane that is still to be said, and the line of the status
+abbrev pub last_text : Ending → LogView → List ℕ
+last_text ending log = log.unsaid ++ last_line ending (early_status log.ends)
+
+abbrev pub last_status : Ending → LogView → ℕ
+last_status ending log = status_of ending (early_status log.ends)
+
+-- the last text of a call went out, and it has its status; or that text was cut, and the status is
 -- the least of its own and that of a failed output
-abbrev pub SaysLast : Ending → Stream → Stream → ℕ → Type 0
-SaysLast ending before now status =
-    (WroteAll before now (last_line ending) × (status ≡ status_of ending))
-    ⊎ (IsCutIn before now [] (last_line ending)
-    × (status ≡ min (status_of ending) (status_of_stop WriteFault)))
+abbrev pub SaysLast : Ending → LogView → Stream → Stream → ℕ → Type 0
+SaysLast ending log before now status =
+    (WroteAll before now (last_text ending log) × (status ≡ last_status ending log))
+    ⊎ (IsCutIn before now [] (last_text ending log)
+    × (status ≡ min (last_status ending log) (status_of_stop WriteFault)))
 
 -- the statuses that the program may end with
 abbrev pub is_status : ℕ → Bool
 is_status status =
     status == 0 || status == 2 || status == 3 || status == 4 || status == 5 || status == 6
-    || status == 7 || status == 8 || status == 9 || status == 12
+    || status == 7 || status == 8 || status == 9 || status == 10 || status == 12

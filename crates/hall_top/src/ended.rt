@@ -1,7 +1,8 @@
 use crate::ending::Ending;
 use book_core::Rows;
+use script_run::{LaneEnds, LaneLog};
 
-/// What a call of the program leaves before its last line.
+/// What a call of the program leaves before its last text.
 #[derive(Drop)]
 pub struct Outcome<D> {
     /// How it ended.
@@ -12,11 +13,13 @@ pub struct Outcome<D> {
     pub held: u32,
     /// The rows of the book; none where the disk wasn't opened as one.
     pub rows: Rows,
+    /// What is told of lanes.
+    pub log: LaneLog,
 }
 
 /// What a call of the program leaves.
 #[derive(Drop)]
-pub struct Ended<D> {
+pub struct Ended<D, L> {
     /// The status with which the program ends.
     pub status: u8,
     /// The disk.
@@ -25,4 +28,8 @@ pub struct Ended<D> {
     pub held: u32,
     /// The rows of the book; none where the disk wasn't opened as one.
     pub rows: Rows,
+    /// The lanes that were handed in.
+    pub lanes: Vec<L>,
+    /// How each work of a lane ended, in the order of the lines that set them to work.
+    pub lane_ends: LaneEnds,
 }

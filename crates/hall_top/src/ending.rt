@@ -1,16 +1,25 @@
-ghost use Rattle.std.specs.Prelude.{◌≡◌, [], min, OnOk, OnErr};
+ghost use Rattle.std.specs.Prelude.{◌≡◌, [], ◌++◌, min, OnOk, OnErr};
 ghost use Rattle.text_streams.specs.Streams.{output_at, WroteAll, IsCutIn};
-ghost use Rattle.hall_top.specs.Endings.{line_of_why, line_of_stop, last_line, status_of_why, status_of_stop, status_of, SaysLast};
+ghost use Rattle.std.specs.List.{list_any};
+ghost use Rattle.hall_top.specs.Endings.{line_of_why, line_of_stop, line_behind, last_line, status_of_why, status_of_stop, status_behind, status_of, is_early, is_spent, early_status, SaysLast};
 
 use book_store::MountError;
 use disk_core::{Partly, Sink};
+use lane_worker::{LaneEnd, LaneStop};
+use script_run::LaneLog;
 use store_runs::Stop;
 use text_streams::{write_numbered, write_text};
 
 /// The status where the output failed.
 const WRITE_FAULT: u8 = 5;
 
-/// How a call of the program ended, before its last line.
+/// The status where a lane ended early.
+const LANE_EARLY: u8 = 10;
+
+/// The status where turns were spent.
+const SPENT: u8 = 12;
+
+/// How a call of the program ended, before its last text.
 #[derive(Clone, Copy)]
 pub enum Ending {
     /// The words are no command.
@@ -56,17 +65,78 @@ fn write_stop<K: Sink>(stop: Stop, output: &mut K) -> Result<(), Partly>
     }
 }
 
-// Writes the last line of a call.
-fn write_last<K: Sink>(ending: Ending, output: &mut K) -> Result<(), Partly>
+// Writes the line that says how a command stopped, where it has one. A lane that ended early is no
+// want of memory.
+fn write_behind<K: Sink>(stop: Stop, early: Option<u8>, output: &mut K) -> Result<(), Partly>
     ensures wrote { OnOk result (WroteAll (output_at K.Sink output.old)
-        (output_at K.Sink output.new) (last_line ending)) }
+        (output_at K.Sink output.new) (line_behind stop early)) }
     ensures cut { OnErr result (IsCutIn (output_at K.Sink output.old)
-        (output_at K.Sink output.new) [] (last_line ending)) }
+        (output_at K.Sink output.new) [] (line_behind stop early)) }
+{
+    match (stop, early) {
+        (Stop::NoMemory, Some(_)) => write_text(output, b""),
+        _ => write_stop(stop, output),
+    }
+}
+
+// Writes the last line of a call.
+fn write_line<K: Sink>(ending: Ending, early: Option<u8>, output: &mut K) -> Result<(), Partly>
+    ensures wrote { OnOk result (WroteAll (output_at K.Sink output.old)
+        (output_at K.Sink output.new) (last_line ending early)) }
+    ensures cut { OnErr result (IsCutIn (output_at K.Sink output.old)
+        (output_at K.Sink output.new) [] (last_line ending early)) }
 {
     match ending {
         Ending::Usage => write_text(output, b"usage: hall COMMAND [OPTIONS]\n"),
         Ending::Unopened(why) => write_why(why, output),
-        Ending::Stopped(stop) => write_stop(stop, output),
+        Ending::Stopped(stop) => write_behind(stop, early, output),
+    }
+}
+
+// Writes a text that is still to be said, and the last line of a call.
+fn write_last<K: Sink>(
+    unsaid: &[u8],
+    ending: Ending,
+    early: Option<u8>,
+    output: &mut K,
+) -> Result<(), Partly>
+    ensures wrote { OnOk result (WroteAll (output_at K.Sink output.old)
+        (output_at K.Sink output.new) (unsaid.now ++ last_line ending early)) }
+    ensures cut { OnErr result (IsCutIn (output_at K.Sink output.old)
+        (output_at K.Sink output.new) [] (unsaid.now ++ last_line ending early)) }
+{
+    write_text(output, unsaid)?;
+    write_line(ending, early, output)?;
+    Ok(())
+}
+
+// Whether a lane ended early.
+fn is_early(end: &LaneEnd) -> bool
+    ensures { result ≡ is_early end.now }
+{
+    match end.stop {
+        LaneStop::Cell | LaneStop::Gate | LaneStop::Bad { .. } | LaneStop::Refused(_) => true,
+        LaneStop::Done | LaneStop::DiskFault | LaneStop::NoMemory | LaneStop::Turns => false,
+    }
+}
+
+// Whether the turns of a lane were spent.
+fn is_spent(end: &LaneEnd) -> bool
+    ensures { result ≡ is_spent end.now }
+{
+    end.stop == LaneStop::Turns
+}
+
+// The status of lanes that ended so, where they have one of their own.
+fn early_status(ends: &[LaneEnd]) -> Option<u8>
+    ensures { result ≡ early_status ends.now }
+{
+    if ends.iter().any(is_early) {
+        Some(LANE_EARLY)
+    } else if ends.iter().any(is_spent) {
+        Some(SPENT)
+    } else {
+        None
     }
 }
 
@@ -93,27 +163,42 @@ fn status_of_stop(stop: Stop) -> u8
         Stop::WriteFault => WRITE_FAULT,
         Stop::DiskFault(_) => 6,
         Stop::NoMemory => 7,
-        Stop::Spent => 12,
+        Stop::Spent => SPENT,
     }
 }
 
-// The status of a call whose last line goes out.
-fn status_of(ending: Ending) -> u8
-    ensures { result ≡ status_of ending }
+// The status of a command that stopped so, where lanes have this status: the least of both, but the
+// want of memory comes last.
+fn status_behind(stop: Stop, early: Option<u8>) -> u8
+    ensures { result ≡ status_behind stop early }
+{
+    match (stop, early) {
+        (Stop::Finished | Stop::NoMemory, Some(status)) => status,
+        (_, Some(status)) => status_of_stop(stop).min(status),
+        (_, None) => status_of_stop(stop),
+    }
+}
+
+// The status of a call whose last text goes out.
+fn status_of(ending: Ending, early: Option<u8>) -> u8
+    ensures { result ≡ status_of ending early }
 {
     match ending {
         Ending::Usage => 2,
         Ending::Unopened(why) => status_of_why(why),
-        Ending::Stopped(stop) => status_of_stop(stop),
+        Ending::Stopped(stop) => status_behind(stop, early),
     }
 }
 
-/// Writes the last line of a call, and gives its status. It takes no memory.
-pub fn say_last<K: Sink>(ending: Ending, output: &mut K) -> u8
-    ensures { SaysLast ending (output_at K.Sink output.old) (output_at K.Sink output.new) result }
+/// Writes the last text of a call, and gives its status: the line of a lane that is still to be
+/// said, and the line that its status has. It takes no memory.
+pub fn say_last<K: Sink>(ending: Ending, log: &LaneLog, output: &mut K) -> u8
+    ensures { SaysLast ending log.now.told (output_at K.Sink output.old)
+        (output_at K.Sink output.new) result }
 {
-    let status = status_of(ending);
-    match write_last(ending, output) {
+    let early = early_status(log.ends());
+    let status = status_of(ending, early);
+    match write_last(log.unsaid(), ending, early, output) {
         Ok(()) => status,
         Err(_) => status.min(WRITE_FAULT),
     }

@@ -2,8 +2,12 @@ ghost use Rattle.std.specs.Prelude.{◌≡◌, ◌≤◌, false, length};
 
 use disk_core::{Disk, MemoryDisk, MemorySink, QuietSource, Sink, Source};
 use hall_top::{Ended, hall};
+use lane_worker::{ListCell, ListGate, PairLane};
 use std::alloc::{AllocError, Global};
 use std::process::Abort;
+
+/// A lane in memory; no run hands one in.
+pub type NoLane = PairLane<ListCell, ListGate>;
 
 /// Does what the words say.
 pub fn run<S: Source, K: Sink, D: Disk + Drop>(
@@ -12,14 +16,15 @@ pub fn run<S: Source, K: Sink, D: Disk + Drop>(
     input: &mut S,
     output: &mut K,
     disk: D,
-) -> Result<Ended<D>, AllocError>
+) -> Result<Ended<D, NoLane>, AllocError>
     requires { S.ended input.old ≡ false }
 {
     let mut all = Vec::new(alloc);
     for word in words {
         all.push(String::from_str(alloc, word)?)?;
     }
-    Ok(hall(alloc, &all, input, output, disk))
+    let lanes: Vec<NoLane> = Vec::new(alloc);
+    Ok(hall(alloc, &all, input, output, disk, lanes))
 }
 
 /// Does what the words say, where the input is a script that is read without a fault.
@@ -29,7 +34,7 @@ pub fn run_script<D: Disk + Drop>(
     script: &[u8],
     output: &mut MemorySink,
     disk: D,
-) -> Result<Ended<D>, AllocError> {
+) -> Result<Ended<D, NoLane>, AllocError> {
     let mut input = QuietSource::new(Vec::from_slice(alloc, script)?);
     run(alloc, words, &mut input, output, disk)
 }
@@ -43,7 +48,7 @@ pub fn compare<D>(
     alloc: Global,
     printed: &[u8],
     wanted: &str,
-    ended: &Ended<D>,
+    ended: &Ended<D, NoLane>,
     ends: Ends,
 ) -> Result<(), AllocError> {
     let printed = String::from_utf8_lossy(alloc, printed)?;

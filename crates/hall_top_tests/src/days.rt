@@ -1,6 +1,7 @@
 use crate::{desks, lanes, limits, refusals, samples, small, tares, worked};
 use disk_core::{MemorySink, QuietDisk, QuietSource};
 use hall_top::{Ended, hall};
+use lane_worker::{ListCell, ListGate, PairLane};
 use std::alloc::{AllocError, Global};
 use std::process::Abort;
 use std::test::Fail;
@@ -79,6 +80,9 @@ const LABELS: [&str; 15] = [
 // Room on a disk for a book of 10 006 rows and its snapshot.
 const ROOM: usize = 2_000_000;
 
+/// A lane in memory; no day hands one in.
+pub type NoLane = PairLane<ListCell, ListGate>;
+
 /// The status of a run, and how many rows it leaves.
 pub type Ends = (u8, usize);
 
@@ -89,7 +93,7 @@ pub fn check_run(
     words: &[&str],
     play: &Play,
     ends: Ends,
-) -> Result<Ended<QuietDisk>, AllocError> {
+) -> Result<Ended<QuietDisk, NoLane>, AllocError> {
     let mut all = Vec::new(alloc);
     for word in words {
         all.push(String::from_str(alloc, word)?)?;
@@ -97,7 +101,8 @@ pub fn check_run(
     let mut input = QuietSource::new(Vec::from_slice(alloc, &play.script)?);
     let mut output = MemorySink::new(alloc, Vec::new(alloc));
     let disk = QuietDisk::new(Vec::with_capacity(alloc, ROOM)?);
-    let ended = hall(alloc, &all, &mut input, &mut output, disk);
+    let lanes: Vec<NoLane> = Vec::new(alloc);
+    let ended = hall(alloc, &all, &mut input, &mut output, disk, lanes);
     let printed = String::from_utf8_lossy(alloc, output.bytes())?;
     assert_eq!(rt; printed.as_str(), play.wanted.as_str());
     assert_eq!(rt; (ended.status, ended.rows.as_slice().len()), ends);

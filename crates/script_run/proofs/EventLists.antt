@@ -4,7 +4,7 @@ use Rattle.std.proofs.lemmas.Grind.{flat_map-append}
 use Rattle.script_lines.specs.declared.command.Line.{Line}
 use Rattle.script_lines.specs.declared.command.Line.TheVariants.{Nothing, Asks, Works, Bad}
 use Rattle.store_runs.specs.Books.{BookState}
-use Rattle.script_run.specs.Transcript.{Event, Asked, text_of, after_event, after_events, AreEventsOf, texts}
+use Rattle.script_run.specs.Transcript.{Event, text_of, after_event, after_events, AreEventsOf, texts}
 
 -- a last line that says nothing has no event
 pub events-nothing : (book : BookState) (lines : List Line) (events : List Event)
@@ -15,7 +15,8 @@ events-nothing book (Asks command ∷ lines) [] are = are
 events-nothing book (Asks command ∷ lines) (event ∷ events) are =
     (are.0, events-nothing (after_event book event) lines events are.1)
 events-nothing book (Works lane batch ∷ lines) [] are = are
-events-nothing book (Works lane batch ∷ lines) (event ∷ events) are = absurd are.0
+events-nothing book (Works lane batch ∷ lines) (event ∷ events) are =
+    (are.0, events-nothing (after_event book event) lines events are.1)
 events-nothing book (Bad ∷ lines) [] are = are
 events-nothing book (Bad ∷ lines) (event ∷ events) are = absurd are.0
 
@@ -32,7 +33,8 @@ events-append book (Asks command ∷ lines) more [] later are then = absurd are
 events-append book (Asks command ∷ lines) more (event ∷ events) later are then =
     (are.0, events-append (after_event book event) lines more events later are.1 then)
 events-append book (Works lane batch ∷ lines) more [] later are then = absurd are
-events-append book (Works lane batch ∷ lines) more (event ∷ events) later are then = absurd are.0
+events-append book (Works lane batch ∷ lines) more (event ∷ events) later are then =
+    (are.0, events-append (after_event book event) lines more events later are.1 then)
 events-append book (Bad ∷ lines) more [] later are then = absurd are
 events-append book (Bad ∷ lines) more (event ∷ events) later are then = absurd are.0
 
@@ -43,21 +45,3 @@ after_events-append book (event ∷ events) more = after_events-append (after_ev
 
 pub texts-append : (events more : List Event) → texts (events ++ more) ≡ texts events ++ texts more
 texts-append events more = flat_map-append text_of events more
-
--- commands leave no choice: lines that ask nothing but commands have one list of events
-pub only_events : (book : BookState) (lines : List Line) (events others : List Event)
-    → AreEventsOf book lines events → AreEventsOf book lines others → events ≡ others
-only_events book [] events others are same = are ∙ sym same
-only_events book (Nothing ∷ lines) events others are same = only_events book lines events others are same
-only_events book (Works lane batch ∷ lines) [] others are same = absurd are
-only_events book (Works lane batch ∷ lines) (event ∷ events) others are same = absurd are.0
-only_events book (Bad ∷ lines) [] others are same = absurd are
-only_events book (Bad ∷ lines) (event ∷ events) others are same = absurd are.0
-only_events book (Asks command ∷ lines) [] others are same = absurd are
-only_events book (Asks command ∷ lines) (event ∷ events) [] are same = absurd same
-only_events book (Asks command ∷ lines) (Asked exchange ∷ events) (Asked other ∷ others) are same =
-    let event : Asked exchange ≡ Asked other = ap (λ x. Asked x) (are.0 ∙ sym same.0) in
-    ap (λ (e : Event). e ∷ events) event
-    ∙ ap (λ (es : List Event). Asked other ∷ es)
-    (only_events (after_event book (Asked other)) lines events others
-    (subst (λ (e : Event). AreEventsOf (after_event book e) lines events) event are.1) same.1)

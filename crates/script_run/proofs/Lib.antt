@@ -1,10 +1,12 @@
 pub mod EventLists
 pub mod ScriptLines
-pub mod LinesWithoutWork
+pub mod LanesHandedIn
+pub mod WorkedLanes
 pub mod RepeatLemmas
 pub mod AcknowledgedRows
 pub mod AskedCommands
 pub mod AnsweredLines
+pub mod WorkedLines
 pub mod Summaries
 pub mod ByteSteps
 pub mod ScriptEnds

@@ -8,8 +8,8 @@ use Rattle.store_runs.specs.declared.stop.Offer.{Offer}
 use Rattle.store_runs.specs.declared.stop.Stop.{Stop}
 use Rattle.store_runs.specs.declared.stop.Stop.TheVariants.{Finished, BadLine, ReadFault, WriteFault, DiskFault, NoMemory, Spent}
 use Rattle.store_runs.specs.Books.{BookState}
-use Rattle.store_runs.specs.Calls.{Call}
 use Rattle.script_run.specs.declared.script.TheConstants.{MAX_READS}
+use Rattle.script_run.specs.Outside.{Call, lane_count}
 use Rattle.script_run.specs.Scripts.{lines_of}
 use Rattle.script_run.specs.Runs.{Explains, IsComplete, ExplainsRun}
 
@@ -28,22 +28,22 @@ not_both good is isnt = absurd (cc)
 
 -- a run of a good script stops in no other way
 module _ {S : Type 0} (book : BookState) (call : Call S) (script : List ℕ)
-    (told : call.before.input.bytes ≡ Some script) (good : all_good (lines_of script) ≡ true)
+    (told : call.before.input.bytes ≡ Some script) (good : all_good (lines_of (lane_count call.before.outside) script) ≡ true)
     (short : length script < MAX_READS)
     (input_calm : Calm call.before.input.faults call.now.input.faults)
-    (output_calm : Calm call.before.output.faults call.now.output.faults) where
+    (output_calm : Calm call.before.outside.output.faults call.now.outside.output.faults) where
   by_stop : (stop : Stop) → Explains book call stop → (stop ≡ Finished)
       ⊎ (((offer : Offer) × (stop ≡ DiskFault offer)) ⊎ (stop ≡ NoMemory))
   by_stop Finished explains = inl refl
   by_stop (DiskFault offer) explains = inr (inl (offer, refl))
   by_stop NoMemory explains = inr (inr refl)
   by_stop (BadLine number) explains =
-      absurd (not_both (all_good (lines_of script)) good
+      absurd (not_both (all_good (lines_of (lane_count call.before.outside) script)) good
       (subst (λ (left : Option (List ℕ)). IfSome left
-      (λ script. all_good (lines_of script) ≡ false)) told explains.cause))
+      (λ script. all_good (lines_of (lane_count call.before.outside) script) ≡ false)) told explains.cause))
   by_stop ReadFault explains = calm_counts_none call.before.input.faults call.now.input.faults 0
       input_calm explains.cause
-  by_stop WriteFault explains = calm_counts_none call.before.output.faults call.now.output.faults 0
+  by_stop WriteFault explains = calm_counts_none call.before.outside.output.faults call.now.outside.output.faults 0
       output_calm explains.cause
   by_stop Spent explains =
       absurd (omega (

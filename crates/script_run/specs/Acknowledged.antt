@@ -1,5 +1,5 @@
 -- What was acknowledged stands among the rows, once.
-use Rattle.std.specs.Prelude.{◌≡◌, ⊤, true, ℕ, ◌+◌, ◌-◌, List, [], length, take, flat_map, Option, Some, None, option_map, Result, Ok, Err, slice_get}
+use Rattle.std.specs.Prelude.{◌≡◌, ⊤, true, ℕ, ◌+◌, ◌-◌, List, [], length, take, flat_map, map, Option, Some, None, option_map, Result, Ok, Err, slice_get}
 use Rattle.std.specs.List.{cons_option, range_with_len, AllByRecursion}
 use Rattle.book_words.specs.declared.act.Act.{Act}
 use Rattle.book_words.specs.declared.act.Want.{Want}
@@ -10,11 +10,11 @@ use Rattle.book_words.specs.declared.reply.Answered.{Answered}
 use Rattle.book_words.specs.declared.reply.Refused.{Refused}
 use Rattle.book_words.specs.Answers.{reply_behind}
 use Rattle.book_words.specs.Callers.{number_named}
-use Rattle.book_words.specs.Desks.{same_act}
+use Rattle.book_words.specs.Desks.{Row, same_act}
 use Rattle.book_words.specs.Signals.{recorded_signal}
 use Rattle.store_runs.specs.Books.{BookState}
 use Rattle.script_run.specs.Asking.{Exchange}
-use Rattle.script_run.specs.Transcript.{Event, Asked, after_events}
+use Rattle.script_run.specs.Transcript.{Event, Asked, Worked, after_events}
 
 -- the row that an exchange acknowledges, where it added an entry
 abbrev pub acknowledged_row : Exchange → Option ℕ
@@ -23,6 +23,7 @@ acknowledged_row exchange = option_map (λ entry. number_named exchange.answer) 
 -- the rows that an event acknowledges
 abbrev pub acknowledged_rows : Event → List ℕ
 acknowledged_rows (Asked exchange) = cons_option (acknowledged_row exchange) []
+acknowledged_rows (Worked job) = map (λ row. row.number) job.work.rows
 
 -- an act that adds an entry: that stands among the rows at the number that the answer tells, and
 -- with the rows before it the act gets this reply, and this signal
@@ -55,10 +56,15 @@ abbrev pub StandsAmong : List Entry → Ask → Want → Option Entry → Result
 StandsAmong rows ask (want.Act act) new answer = HasRow rows ask act new answer
 StandsAmong rows ask (want.Question question) new answer = new ≡ None
 
+-- a row of a lane stands among all rows at its number
+abbrev pub RowStands : List Entry → Row → Type 0
+RowStands rows row = slice_get rows (row.number - 1) ≡ Some row.entry
+
 -- so does what an event acknowledged
 abbrev pub EventStands : List Entry → Event → Type 0
 EventStands rows (Asked exchange) =
     StandsAmong rows exchange.ask exchange.ask.want exchange.added exchange.answer
+EventStands rows (Worked job) = AllByRecursion (RowStands rows) job.work.rows
 
 -- what each event acknowledged stands among the rows, and the rows that were added are those after
 -- the first ones of the book, each once and in order

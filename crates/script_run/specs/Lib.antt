@@ -2,6 +2,9 @@ pub mod Acknowledged
 pub mod Asking
 pub mod Books
 pub mod Ends
+pub mod LaneLogs
+pub mod LaneMoves
+pub mod Outside
 pub mod Reached
 pub mod Runs
 pub mod Scripts

@@ -1,15 +1,25 @@
-use crate::session::Session;
+ghost use Rattle.std.specs.Prelude.{◌≡◌, ◌≤◌, length};
+ghost use Rattle.hall_limits.specs.declared.TheConstants.{MAX_LANE};
+ghost use Rattle.script_run.specs.Scripts.{every_command};
+
+use crate::session::{ScriptEnd, Session};
 use book_store::Store;
 use disk_core::{Disk, Sink};
+use lane_worker::Lane;
 use script_lines::{Allowed, Feed, TooLong, split_line};
 use std::alloc::Global;
-use store_runs::{RunEnd, Stop};
+use store_runs::Stop;
 
-/// A script may have every command; no lane is handed in.
-const EVERY_COMMAND: Allowed = Allowed {
-    questions: true,
-    lanes: 0,
-};
+// A script may have every command, and set the lanes to work that are handed in.
+fn every_command<L>(lanes: &[L]) -> Allowed
+    requires { length lanes.now ≤ MAX_LANE }
+    ensures { result ≡ every_command (length lanes.now) }
+{
+    Allowed {
+        questions: true,
+        lanes: lanes.len() as u8,
+    }
+}
 
 /// A run of a script: its book, and the lines that it was given.
 #[derive(Drop)]
@@ -19,15 +29,16 @@ pub struct Run<D: Disk> {
 }
 
 impl<D: Disk> Run<D> {
-    ghost use Rattle.std.specs.Prelude.{◌≡◌, ◌+◌, ◌<◌, ℕ, List, [], ◌∷◌, ◌++◌, length, false, OnOk, IfOk, IfErr};
+    ghost use Rattle.std.specs.Prelude.{◌≡◌, ◌+◌, ◌<◌, ◌≤◌, ℕ, List, [], ◌∷◌, ◌++◌, length, false, OnOk, IfOk, IfErr};
     ghost use Rattle.script_lines.specs.Lines.{has_end};
     ghost use Rattle.script_lines.specs.Feed.{feed_after};
     ghost use Rattle.book_store.specs.Stores.{entries_of, held_of, IsSound};
-    ghost use Rattle.text_streams.specs.Streams.{Stream, output_at};
+    ghost use Rattle.text_streams.specs.Streams.{output_at};
     ghost use Rattle.store_runs.specs.Books.{BookState};
     ghost use Rattle.store_runs.specs.Runs.{Goes, RunGoes};
-    ghost use Rattle.script_run.specs.Books.{book_in, store_in, run_state, IsReady};
+    ghost use Rattle.script_run.specs.Books.{book_in, store_in, log_in, run_state, IsReady};
     ghost use Rattle.script_run.specs.Ends.{StopsInScript};
+    ghost use Rattle.script_run.specs.Outside.{Outside, outside_at, nothing_told};
     ghost use Rattle.script_run.specs.Reached.{Reached, Steps, IsWholeSoFar, EndsAtSummary};
 
     /// A run over a store that was given nothing, with room for all that it keeps but the entries
@@ -36,6 +47,7 @@ impl<D: Disk> Run<D> {
         requires sound { IsSound D.Disk store }
         ensures fed { IfOk result (λ run. run.feed ≡ feed_after []) }
         ensures store { IfOk result (λ run. store_in run.session ≡ store) }
+        ensures log { IfOk result (λ run. log_in run.session ≡ nothing_told) }
         ensures ready { IfOk result (λ run. IsReady run.session) }
         ensures back { IfErr result (λ back. back ≡ store) }
     {
@@ -48,37 +60,49 @@ impl<D: Disk> Run<D> {
         }
     }
 
-    /// Its store.
-    pub fn into_store(self) -> Store<D>
-        ensures { result ≡ store_in self.session }
+    /// The end of a run that stopped so.
+    pub fn stop(self, stop: Stop) -> ScriptEnd<D>
+        ensures stop { result.stop ≡ stop }
+        ensures store { result.store ≡ store_in self.session }
+        ensures log { result.log.told ≡ log_in self.session }
     {
-        self.session.into_store()
+        self.session.stop(stop)
     }
 
     /// Ends the run of a script that was read and answered to its end.
-    pub fn finish<K: Sink>(self, output: &mut K) -> RunEnd<D>
+    pub fn finish<K: Sink>(self, output: &mut K) -> ScriptEnd<D>
         requires ready { IsReady self.session }
         ensures ends { EndsAtSummary (held_of (store_in self.session))
             (output_at K.Sink output.old) (output_at K.Sink output.new)
             (entries_of (store_in self.session)) result.stop }
         ensures same { entries_of result.store ≡ entries_of (store_in self.session) }
+        ensures log { result.log.told ≡ log_in self.session }
         ensures goes { RunGoes D.Disk result.stop (store_in self.session) result.store }
     {
         self.session.finish(output)
     }
 
     /// Takes a piece of the script: each line that ends in it is answered before the next.
-    pub fn take_piece<K: Sink>(&mut self, piece: &[u8], output: &mut K) -> Result<(), Stop>
+    pub fn take_piece<K: Sink, L: Lane>(
+        &mut self,
+        piece: &[u8],
+        output: &mut K,
+        lanes: &mut [L],
+    ) -> Result<(), Stop>
+        requires few { length lanes.old ≤ MAX_LANE }
         requires room { self.old.feed.ended + length piece.now < u64.MAX }
         requires ready { IsReady self.old.session }
-        ensures steps { Steps (output_at K.Sink output.old) (output_at K.Sink output.new)
+        ensures steps { Steps
+            (outside_at K.Sink L.Cell L.Gate output.old lanes.old (log_in self.old.session))
+            (outside_at K.Sink L.Cell L.Gate output.new lanes.new (log_in self.new.session))
             (run_state self.old) (run_state self.new) piece.now result }
         ensures goes { Goes D.Disk result (store_in self.old.session) (store_in self.new.session) }
         ensures ready { OnOk result (IsReady self.new.session) }
+        ensures count { length lanes.new ≡ length lanes.old }
     {
         let mut rest = piece;
         while let Some((part, after)) = split_line(rest) {
-            self.end_line(part, output)?;
+            self.end_line(part, output, lanes)?;
             rest = after;
         }
         self.begin_line(rest)?;
@@ -86,19 +110,28 @@ impl<D: Disk> Run<D> {
     }
 
     // Takes the bytes up to an LF, and does what the line says that they end.
-    fn end_line<K: Sink>(&mut self, part: &[u8], output: &mut K) -> Result<(), Stop>
+    fn end_line<K: Sink, L: Lane>(
+        &mut self,
+        part: &[u8],
+        output: &mut K,
+        lanes: &mut [L],
+    ) -> Result<(), Stop>
+        requires few { length lanes.old ≤ MAX_LANE }
         requires room { self.old.feed.ended < u64.MAX }
         requires no_end { has_end part.now ≡ false }
         requires ready { IsReady self.old.session }
-        ensures steps { Steps (output_at K.Sink output.old) (output_at K.Sink output.new)
+        ensures steps { Steps
+            (outside_at K.Sink L.Cell L.Gate output.old lanes.old (log_in self.old.session))
+            (outside_at K.Sink L.Cell L.Gate output.new lanes.new (log_in self.new.session))
             (run_state self.old) (run_state self.new) (part.now ++ 10 ∷ []) result }
         ensures one { self.new.feed.ended ≡ self.old.feed.ended + 1 }
         ensures goes { Goes D.Disk result (store_in self.old.session) (store_in self.new.session) }
         ensures ready { OnOk result (IsReady self.new.session) }
+        ensures count { length lanes.new ≡ length lanes.old }
     {
         let number = self.feed.line_number();
-        let line = self.feed.end_line(EVERY_COMMAND, part);
-        self.session.handle_line(&line, number, output)?;
+        let line = self.feed.end_line(every_command(lanes), part);
+        self.session.handle_line(&line, number, output, lanes)?;
         Ok(())
     }
 
@@ -107,7 +140,7 @@ impl<D: Disk> Run<D> {
     fn begin_line(&mut self, part: &[u8]) -> Result<(), Stop>
         requires room { self.old.feed.ended < u64.MAX }
         requires no_end { has_end part.now ≡ false }
-        ensures steps { (now : Stream) → Steps now now (run_state self.old) (run_state self.new)
+        ensures steps { (now : Outside) → Steps now now (run_state self.old) (run_state self.new)
             part.now result }
         ensures session { self.new.session ≡ self.old.session }
         ensures goes { Goes D.Disk result (store_in self.old.session) (store_in self.new.session) }
@@ -119,23 +152,35 @@ impl<D: Disk> Run<D> {
     }
 
     /// Does what a last line says that lacks its LF; without one nothing is left to do.
-    pub fn finish_line<K: Sink>(&mut self, output: &mut K) -> Result<(), Stop>
+    pub fn finish_line<K: Sink, L: Lane>(
+        &mut self,
+        output: &mut K,
+        lanes: &mut [L],
+    ) -> Result<(), Stop>
+        requires few { length lanes.old ≤ MAX_LANE }
         requires room { self.old.feed.ended < u64.MAX }
         requires ready { IsReady self.old.session }
-        ensures whole { (book : BookState) (before : Stream) (taken : List ℕ)
-            → Reached book before (output_at K.Sink output.old) taken (run_state self.old)
-            → OnOk result (IsWholeSoFar book before (output_at K.Sink output.new) taken
-            (book_in self.new.session)) }
-        ensures stops { (book : BookState) (before : Stream) (taken : List ℕ)
-            → Reached book before (output_at K.Sink output.old) taken (run_state self.old)
-            → IfErr result (λ stop. StopsInScript book before (output_at K.Sink output.new)
+        ensures whole { (book : BookState) (before : Outside) (taken : List ℕ)
+            → Reached book before
+            (outside_at K.Sink L.Cell L.Gate output.old lanes.old (log_in self.old.session))
+            taken (run_state self.old)
+            → OnOk result (IsWholeSoFar book before
+            (outside_at K.Sink L.Cell L.Gate output.new lanes.new (log_in self.new.session))
+            taken (book_in self.new.session)) }
+        ensures stops { (book : BookState) (before : Outside) (taken : List ℕ)
+            → Reached book before
+            (outside_at K.Sink L.Cell L.Gate output.old lanes.old (log_in self.old.session))
+            taken (run_state self.old)
+            → IfErr result (λ stop. StopsInScript book before
+            (outside_at K.Sink L.Cell L.Gate output.new lanes.new (log_in self.new.session))
             (entries_of (store_in self.new.session)) stop taken) }
         ensures goes { Goes D.Disk result (store_in self.old.session) (store_in self.new.session) }
         ensures ready { OnOk result (IsReady self.new.session) }
+        ensures count { length lanes.new ≡ length lanes.old }
     {
-        let line = self.feed.read_last(EVERY_COMMAND);
+        let line = self.feed.read_last(every_command(lanes));
         let number = self.feed.line_number();
-        self.session.handle_line(&line, number, output)?;
+        self.session.handle_line(&line, number, output, lanes)?;
         Ok(())
     }
 }

@@ -1,6 +1,6 @@
 use Rattle.std.proofs.Common.{List, sym, subst, refl}
 use Rattle.book_words.specs.declared.act.Entry.{Entry}
-use Rattle.text_streams.specs.Streams.{devices}
+use Rattle.script_run.specs.Outside.{devices, outside_at, nothing_told}
 use Rattle.store_runs.specs.Books.{stored_book}
 use Rattle.hall_top.specs.Calls.{ExplainsCommand}
 use Rattle.hall_top.proofs.OpenedBooks.{call_from}
@@ -8,8 +8,10 @@ use Rattle.hall_top.proofs.top.do_command.Goals as goal
 
 pub returns-clause-done : goal.returns-clause-done
 returns-clause-done g c =
-    let before = devices g.S.Source g.K.Sink c.args.input.now c.args.output.now in
-    let now = devices g.S.Source g.K.Sink c.run_command-end.new.input c.run_command-end.new.output in
+    let before = devices g.S.Source c.args.input.now
+    (outside_at g.K.Sink g.L.Cell g.L.Gate c.args.output.now c.args.lanes.now nothing_told) in
+    let now = devices g.S.Source c.run_command-end.new.input
+    (outside_at g.K.Sink g.L.Cell g.L.Gate c.run_command-end.new.output c.run_command-end.new.lanes c.run_command-end.result.log.told) in
     record {
       last = c.run_command-end.result.store;
       stop = c.run_command-end.result.stop;

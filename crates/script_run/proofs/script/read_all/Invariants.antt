@@ -1,18 +1,21 @@
-use Rattle.std.proofs.Common.{◌≡◌, ◌-◌, ◌≤◌, true, false, Ok}
+use Rattle.std.proofs.Common.{◌≡◌, ◌-◌, ◌≤◌, true, false, length, Ok}
 use Rattle.std.specs.Bool.{⊤}
-use Rattle.text_streams.specs.Streams.{devices}
 use Rattle.store_runs.specs.Runs.{Goes}
 use Rattle.script_run.specs.declared.script.TheConstants.{MAX_READS}
-use Rattle.script_run.specs.Books.{book_in, store_in, run_state, IsReady, HasReadOn}
+use Rattle.script_run.specs.Outside.{devices, outside_at, nothing_told}
+use Rattle.script_run.specs.Books.{book_in, store_in, log_in, run_state, IsReady, HasReadOn}
 use Rattle.script_run.proofs.script.read_all.Given as goal
 
 -- all was read, or there may be more to read, in fewer reads than may be made
 abbrev pub invariant-loop-more : goal.invariant-loop-more
 invariant-loop-more g l = record {
-  read : HasReadOn (book_in l.fn.run.session) (devices g.S.Source g.K.Sink l.fn.input l.fn.output)
-      (devices g.S.Source g.K.Sink l.input l.output) l.reader (run_state l.run) l.more;
+  read : HasReadOn (book_in l.fn.run.session) (devices g.S.Source l.fn.input
+      (outside_at g.K.Sink g.L.Cell g.L.Gate l.fn.output l.fn.lanes (log_in l.fn.run.session)))
+      (devices g.S.Source l.input
+      (outside_at g.K.Sink g.L.Cell g.L.Gate l.output l.lanes (log_in l.run.session))) l.reader (run_state l.run) l.more;
   goes : Goes {T = ⊤} g.D.Disk (Ok tt) (store_in l.fn.run.session) (store_in l.run.session);
   ready : IsReady l.run.session;
+  lanes : length l.lanes ≡ length l.fn.lanes;
   unended : l.more ≡ true → g.S.Source.ended l.input ≡ false;
   most : l.reader.most ≡ MAX_READS;
   few : l.reader.reads ≤ MAX_READS;

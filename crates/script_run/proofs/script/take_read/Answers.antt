@@ -2,9 +2,9 @@ use Rattle.std.proofs.lemmas.List.{nil_from_length}
 use Rattle.std.proofs.Common.{rules, ◌≡◌, ◌<◌, List, ℕ, length, Ok, Err, refl, subst}
 use Rattle.std.specs.Bool.{⊤}
 use Rattle.std.proofs.lemmas.Result.{err_from_is_err_and}
-use Rattle.text_streams.specs.Streams.{output_at, devices}
 use Rattle.store_runs.proofs.StoreSteps.{goes_as}
-use Rattle.script_run.specs.Books.{book_in, store_in, run_state}
+use Rattle.script_run.specs.Outside.{devices, outside_at, nothing_told}
+use Rattle.script_run.specs.Books.{book_in, store_in, log_in, run_state}
 use Rattle.script_run.specs.Reached.{Steps}
 use Rattle.script_run.proofs.RunEnds.{explained_after, explained_last, read_whole, explained_unread, goes_unread}
 use Rattle.script_run.proofs.script.take_read.Goals as goal
@@ -13,8 +13,10 @@ pub returns-in_err-read-clause-explained : goal.returns-in_err-read-clause-expla
 returns-in_err-read-clause-explained g c = λ book before has most.
     let p = err_from_is_err_and c.from_residual.result c.from_residual.ensures.1 in
     rw (p.1, p.2) (explained_unread book before
-    (devices g.S.Source g.K.Sink c.args.input.now c.args.output.now)
-    (devices g.S.Source g.K.Sink c.read.new.input c.args.output.now) c.args.reader.now
+    (devices g.S.Source c.args.input.now (outside_at g.K.Sink g.L.Cell g.L.Gate c.args.output.now c.args.lanes.now
+    (log_in c.args.run.now.session)))
+    (devices g.S.Source c.read.new.input (outside_at g.K.Sink g.L.Cell g.L.Gate c.args.output.now c.args.lanes.now
+    (log_in c.args.run.now.session))) c.args.reader.now
     (run_state c.args.run.now) c.in_err-read.field-0.0
     has c.in_err-read.ensures.none most refl)
 
@@ -30,12 +32,14 @@ returns-in_err-finish_line-clause-explained g c = λ book before has most.
     let none : length c.read.new.self.piece ≡ 0 = search rules in
     let empty = nil_from_length c.read.new.self.piece none in
     rw (p.1, p.2) (explained_last book before
-    (devices g.S.Source g.K.Sink c.args.input.now c.args.output.now)
-    (devices g.S.Source g.K.Sink c.read.new.input c.finish_line.new.output) c.args.reader.now
+    (devices g.S.Source c.args.input.now (outside_at g.K.Sink g.L.Cell g.L.Gate c.args.output.now c.args.lanes.now
+    (log_in c.args.run.now.session)))
+    (devices g.S.Source c.read.new.input (outside_at g.K.Sink g.L.Cell g.L.Gate c.finish_line.new.output c.finish_line.new.lanes
+    (log_in c.finish_line.new.self.session))) c.args.reader.now
     c.read.new.self
     (run_state c.args.run.now) (run_state c.finish_line.new.self) c.in_err-finish_line.field-0.0 has
     c.in_ok-read.ensures.takes empty (c.in_ok-read.ensures.at_end empty)
-    (c.in_err-finish_line.ensures.stops book before.output has.taken has.reached))
+    (c.in_err-finish_line.ensures.stops book before.outside has.taken has.reached))
 
 pub returns-in_err-finish_line-clause-goes : goal.returns-in_err-finish_line-clause-goes
 returns-in_err-finish_line-clause-goes g c =
@@ -49,12 +53,14 @@ returns-then-is_empty-clause-explained g c = λ book before has most.
     let none : length c.read.new.self.piece ≡ 0 = search rules in
     let empty = nil_from_length c.read.new.self.piece none in
     read_whole book (book_in c.finish_line.new.self.session) before
-    (devices g.S.Source g.K.Sink c.args.input.now c.args.output.now)
-    (devices g.S.Source g.K.Sink c.read.new.input c.finish_line.new.output) c.args.reader.now
+    (devices g.S.Source c.args.input.now (outside_at g.K.Sink g.L.Cell g.L.Gate c.args.output.now c.args.lanes.now
+    (log_in c.args.run.now.session)))
+    (devices g.S.Source c.read.new.input (outside_at g.K.Sink g.L.Cell g.L.Gate c.finish_line.new.output c.finish_line.new.lanes
+    (log_in c.finish_line.new.self.session))) c.args.reader.now
     c.read.new.self
     (run_state c.args.run.now) has c.in_ok-read.ensures.takes empty
     (c.in_ok-read.ensures.at_end empty)
-    (c.in_ok-finish_line.ensures.whole book before.output has.taken has.reached)
+    (c.in_ok-finish_line.ensures.whole book before.outside has.taken has.reached)
 
 pub returns-in_err-take_piece-clause-explained : goal.returns-in_err-take_piece-clause-explained
 returns-in_err-take_piece-clause-explained g c = λ book before has most.
@@ -63,13 +69,17 @@ returns-in_err-take_piece-clause-explained g c = λ book before has most.
     let some : 0 < length c.read.new.self.piece = search rules in
     let stop = c.in_err-take_piece.field-0.0 in
     rw (p.1, p.2) (explained_after {T = ⊤} book before
-    (devices g.S.Source g.K.Sink c.args.input.now c.args.output.now)
-    (devices g.S.Source g.K.Sink c.read.new.input c.take_piece.new.output) c.args.reader.now
+    (devices g.S.Source c.args.input.now (outside_at g.K.Sink g.L.Cell g.L.Gate c.args.output.now c.args.lanes.now
+    (log_in c.args.run.now.session)))
+    (devices g.S.Source c.read.new.input (outside_at g.K.Sink g.L.Cell g.L.Gate c.take_piece.new.output c.take_piece.new.lanes
+    (log_in c.take_piece.new.self.session))) c.args.reader.now
     c.read.new.self
     (run_state c.args.run.now) (run_state c.take_piece.new.self)
     (Err stop) has c.in_ok-read.ensures.takes some
-    (subst (λ (bytes : List ℕ). Steps (output_at g.K.Sink c.args.output.now)
-    (output_at g.K.Sink c.take_piece.new.output) (run_state c.args.run.now)
+    (subst (λ (bytes : List ℕ). Steps (outside_at g.K.Sink g.L.Cell g.L.Gate c.args.output.now c.args.lanes.now
+    (log_in c.args.run.now.session))
+    (outside_at g.K.Sink g.L.Cell g.L.Gate c.take_piece.new.output c.take_piece.new.lanes
+    (log_in c.take_piece.new.self.session)) (run_state c.args.run.now)
     (run_state c.take_piece.new.self) bytes {T = ⊤} (Err stop)) c.piece-piece.ensures
     c.in_err-take_piece.ensures.steps))
 
@@ -84,12 +94,16 @@ pub returns-clause-explained : goal.returns-clause-explained
 returns-clause-explained g c = λ book before has most.
     let some : 0 < length c.read.new.self.piece = search rules in
     explained_after {T = ⊤} book before
-    (devices g.S.Source g.K.Sink c.args.input.now c.args.output.now)
-    (devices g.S.Source g.K.Sink c.read.new.input c.take_piece.new.output) c.args.reader.now
+    (devices g.S.Source c.args.input.now (outside_at g.K.Sink g.L.Cell g.L.Gate c.args.output.now c.args.lanes.now
+    (log_in c.args.run.now.session)))
+    (devices g.S.Source c.read.new.input (outside_at g.K.Sink g.L.Cell g.L.Gate c.take_piece.new.output c.take_piece.new.lanes
+    (log_in c.take_piece.new.self.session))) c.args.reader.now
     c.read.new.self
     (run_state c.args.run.now) (run_state c.take_piece.new.self)
     (Ok tt) has c.in_ok-read.ensures.takes some
-    (subst (λ (bytes : List ℕ). Steps (output_at g.K.Sink c.args.output.now)
-    (output_at g.K.Sink c.take_piece.new.output) (run_state c.args.run.now)
+    (subst (λ (bytes : List ℕ). Steps (outside_at g.K.Sink g.L.Cell g.L.Gate c.args.output.now c.args.lanes.now
+    (log_in c.args.run.now.session))
+    (outside_at g.K.Sink g.L.Cell g.L.Gate c.take_piece.new.output c.take_piece.new.lanes
+    (log_in c.take_piece.new.self.session)) (run_state c.args.run.now)
     (run_state c.take_piece.new.self) bytes {T = ⊤} (Ok tt)) c.piece-piece.ensures
     c.in_ok-take_piece.ensures.steps)

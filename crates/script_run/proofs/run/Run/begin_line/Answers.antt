@@ -7,6 +7,7 @@ use Rattle.store_runs.specs.declared.stop.Stop.TheVariants.{BadLine}
 use Rattle.store_runs.proofs.StoreSteps.{on_unfinished, stays}
 use Rattle.script_run.specs.Books.{book_in, store_in, run_state}
 use Rattle.script_run.specs.Ends.{StopsAtLine}
+use Rattle.script_run.specs.Outside.{lane_count}
 use Rattle.script_run.proofs.ScriptLines.{line_too_long, line_too_long_last}
 use Rattle.script_run.proofs.AnsweredLines.{stops_at_bad}
 use Rattle.script_run.proofs.ByteSteps.{reached_part, stops_anyway}
@@ -33,8 +34,8 @@ returns-in-Err-clause-steps g c = λ now.
           let number = c.line_number.ensures
           ∙ ap (λ (f : FeedView). f.ended + 1) c.in-Err.ensures.kept in
           stops_anyway book before now now taken (run_state c.args.self.now) _ Bad Bad _
-          (taken ++ part) stands (line_too_long_last taken part c.requires.no_end long)
-          (λ more. line_too_long taken part more c.requires.no_end long) refl
+          (taken ++ part) stands (line_too_long_last (lane_count before) taken part c.requires.no_end long)
+          (λ more. line_too_long (lane_count before) taken part more c.requires.no_end long) refl
           (subst (λ (n : ℕ). StopsAtLine (book_in c.args.self.now.session) now now
           (book_in c.args.self.now.session).entries [] n Bad (BadLine c.line_number.result))
           number (stops_at_bad (book_in c.args.self.now.session) now c.line_number.result));

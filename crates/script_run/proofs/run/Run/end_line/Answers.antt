@@ -1,21 +1,24 @@
-use Rattle.std.proofs.Common.{ℕ, ◌++◌, ◌∷◌, [], sym, ap, ◌∙◌, append-nil, length-append, subst, arith}
+use Rattle.std.proofs.Common.{ℕ, ◌++◌, ◌∷◌, [], sym, ap, ◌∙◌, append-nil, length, length-append, subst, arith}
 use Rattle.std.proofs.lemmas.Result.{err_from_is_err_and}
 use Rattle.std.specs.Str.Lines.{strip_carriage_return}
 use Rattle.script_lines.specs.Feed.{FeedView}
 use Rattle.book_store.specs.Stores.{entries_of}
-use Rattle.script_run.specs.Books.{book_in, store_in, run_state}
-use Rattle.text_streams.specs.Streams.{output_at}
+use Rattle.script_run.specs.Books.{book_in, store_in, log_in, run_state}
+use Rattle.script_run.specs.Outside.{lane_count, outside_at}
 use Rattle.script_run.specs.Ends.{StopsAtLine}
-use Rattle.script_run.specs.Scripts.{is_work}
-use Rattle.script_run.proofs.LinesWithoutWork.{no_work}
-use Rattle.script_run.proofs.ScriptLines.{ended_line, line_ended, line_ended_last}
-use Rattle.script_run.proofs.ByteSteps.{reached_end, stops_anyway}
+use Rattle.script_run.specs.Scripts.{IsHandedIn}
+use Rattle.script_run.proofs.LanesHandedIn.{handed_in}
+use Rattle.lane_runs.specs.LaneWorks.{lane_state}
+use Rattle.script_run.proofs.ScriptLines.{ended_line, said_with, line_ended, line_ended_last}
+use Rattle.script_run.proofs.ByteSteps.{lanes_stay, reached_end, stops_anyway}
 use Rattle.script_run.proofs.run.Run.end_line.Goals as goal
 
-pub handle_line-requires-clause-no_work : goal.handle_line-requires-clause-no_work
-handle_line-requires-clause-no_work g c =
+pub handle_line-requires-clause-handed_in : goal.handle_line-requires-clause-handed_in
+handle_line-requires-clause-handed_in g c =
     let line = c.args.self.now.feed.begun ++ c.args.part.now in
-    ap is_work c.end_line-line.ensures.says ∙ no_work line (strip_carriage_return line)
+    let lanes = length c.args.lanes.now in
+    rw (c.end_line-line.ensures.says, c.every_command.ensures)
+    (handed_in lanes line (strip_carriage_return line))
 
 pub returns-in_err-handle_line-clause-steps : goal.returns-in_err-handle_line-clause-steps
 returns-in_err-handle_line-clause-steps g c =
@@ -27,14 +30,22 @@ returns-in_err-handle_line-clause-steps g c =
       parts = sym (append-nil (part ++ 10 ∷ []));
       some = omega (arith, length-append part (10 ∷ []));
       stops = λ book before taken stands.
-          let says = c.end_line-line.ensures.says
-          ∙ ap (λ (f : FeedView). ended_line (f.begun ++ part)) stands.fed in
+          let lanes = lane_count before in
+          let says = said_with (λ lane. lane_state g.L.Cell g.L.Gate lane) c.args.lanes.now
+          c.every_command.result c.end_line-line.result (c.args.self.now.feed.begun ++ part)
+          c.end_line-line.ensures.says c.every_command.ensures
+          ∙ ap (λ n. ended_line n (c.args.self.now.feed.begun ++ part))
+          (lanes_stay book before _ taken (run_state c.args.self.now) stands)
+          ∙ ap (λ (f : FeedView). ended_line lanes (f.begun ++ part)) stands.fed in
           stops_anyway book before _ _ taken
           (run_state c.args.self.now) _ c.end_line-line.result _ _
-          (taken ++ (part ++ 10 ∷ [])) stands (line_ended_last taken part c.requires.no_end)
-          (λ more. line_ended taken part more c.requires.no_end) says
+          (taken ++ (part ++ 10 ∷ [])) stands (line_ended_last (lane_count before) taken part c.requires.no_end)
+          (λ more. line_ended (lane_count before) taken part more c.requires.no_end) says
           (subst (λ (n : ℕ). StopsAtLine (book_in c.args.self.now.session)
-          (output_at g.K.Sink c.args.output.now) (output_at g.K.Sink c.handle_line.new.output)
+          (outside_at g.K.Sink g.L.Cell g.L.Gate c.args.output.now c.args.lanes.now
+          (log_in c.args.self.now.session))
+          (outside_at g.K.Sink g.L.Cell g.L.Gate c.handle_line.new.output c.handle_line.new.lanes
+          (log_in c.handle_line.new.self))
           (entries_of (store_in c.handle_line.new.self))
           [] n c.end_line-line.result c.in_err-handle_line.field-0.0)
           c.line_number-number.ensures c.in_err-handle_line.ensures.stops);
@@ -44,7 +55,9 @@ pub returns-clause-steps : goal.returns-clause-steps
 returns-clause-steps g c = λ book before taken stands.
     reached_end book before _ _ taken c.args.part.now
     (run_state c.args.self.now) _ c.end_line-line.result stands c.requires.no_end
-    c.end_line-line.ensures.says c.in_ok-handle_line.ensures.good c.end_line-line.ensures.ended
+    (said_with (λ lane. lane_state g.L.Cell g.L.Gate lane) c.args.lanes.now c.every_command.result
+    c.end_line-line.result (c.args.self.now.feed.begun ++ c.args.part.now)
+    c.end_line-line.ensures.says c.every_command.ensures) c.in_ok-handle_line.ensures.good c.end_line-line.ensures.ended
     c.in_ok-handle_line.ensures.answered
 
 pub returns-in_err-handle_line-clause-goes : goal.returns-in_err-handle_line-clause-goes

@@ -1,8 +1,10 @@
-use Rattle.std.proofs.Common.{◌≡◌, ℕ, List, ◌++◌, ◌∷◌, [], length, Ok, Err, sym, ap, ◌∙◌, append_assoc, length-append, arith}
+use Rattle.std.proofs.Common.{◌≡◌, ℕ, List, ◌++◌, ◌∷◌, [], length, Ok, Err, sym, ap, ◌∙◌, append_assoc, length-append, subst, arith}
 use Rattle.std.specs.Bool.{⊤}
 use Rattle.std.proofs.lemmas.Result.{err_from_is_err_and}
-use Rattle.text_streams.specs.Streams.{output_at}
-use Rattle.script_run.specs.Books.{store_in, run_state}
+use Rattle.script_run.specs.Books.{store_in, log_in, run_state}
+use Rattle.script_run.specs.declared.session.Session.{Session}
+use Rattle.script_run.specs.Outside.{LogView, outside_at}
+use Rattle.script_run.specs.Reached.{ReachedMore}
 use Rattle.store_runs.proofs.StoreSteps.{goes_on}
 use Rattle.script_run.proofs.ByteSteps.{steps_on, steps_stop, steps_last}
 use Rattle.script_run.proofs.run.Run.take_piece.Goals as goal
@@ -45,6 +47,7 @@ loop-part-preserved g c =
           (store_in c.end_line.new.self.session) c.loop-part.invariant.goes
           c.in_ok-end_line.ensures.goes;
       ready = c.in_ok-end_line.ensures.ready;
+      lanes = c.end_line.ensures.count ∙ c.loop-part.invariant.lanes;
       few = omega (
         arith,
         c.end_line.ensures.one,
@@ -57,9 +60,16 @@ loop-part-preserved g c =
 pub returns-clause-steps : goal.returns-clause-steps
 returns-clause-steps g c =
     let over = c.loop-part.invariant.over in
-    let now = output_at g.K.Sink c.loop-part.output in
+    let now = outside_at g.K.Sink g.L.Cell g.L.Gate c.loop-part.output c.loop-part.lanes
+    (log_in c.begin_line.new.self.session) in
+    let on = subst (λ (l : LogView). ReachedMore
+    (outside_at g.K.Sink g.L.Cell g.L.Gate c.args.output.now c.args.lanes.now
+    (log_in c.args.self.now.session))
+    (outside_at g.K.Sink g.L.Cell g.L.Gate c.loop-part.output c.loop-part.lanes l)
+    (run_state c.args.self.now) (run_state c.loop-part.self) over.first)
+    (sym (ap (λ (s : Session _). log_in s) c.begin_line.ensures.session)) over.on in
     rw over.parts (steps_on _ _ _ (run_state c.args.self.now) (run_state c.loop-part.self)
-    (run_state c.begin_line.new.self) over.first c.loop-part.rest.now over.on
+    (run_state c.begin_line.new.self) over.first c.loop-part.rest.now on
     (c.in_ok-begin_line.ensures.steps now))
 
 pub returns-in_err-begin_line-clause-steps : goal.returns-in_err-begin_line-clause-steps
@@ -67,12 +77,19 @@ returns-in_err-begin_line-clause-steps g c =
     let p = err_from_is_err_and c.from_residual-in_err-begin_line.result
     c.from_residual-in_err-begin_line.ensures.1 in
     let over = c.loop-part.invariant.over in
-    let now = output_at g.K.Sink c.loop-part.output in
+    let now = outside_at g.K.Sink g.L.Cell g.L.Gate c.loop-part.output c.loop-part.lanes
+    (log_in c.begin_line.new.self.session) in
+    let on = subst (λ (l : LogView). ReachedMore
+    (outside_at g.K.Sink g.L.Cell g.L.Gate c.args.output.now c.args.lanes.now
+    (log_in c.args.self.now.session))
+    (outside_at g.K.Sink g.L.Cell g.L.Gate c.loop-part.output c.loop-part.lanes l)
+    (run_state c.args.self.now) (run_state c.loop-part.self) over.first)
+    (sym (ap (λ (s : Session _). log_in s) c.begin_line.ensures.session)) over.on in
     let stop = c.in_err-begin_line.field-0.0 in
     rw (p.1, p.2)
     (rw over.parts (steps_last {T = ⊤} _ now now (run_state c.args.self.now)
     (run_state c.loop-part.self) (run_state c.begin_line.new.self) over.first
-    c.loop-part.rest.now (Err stop) over.on (c.in_err-begin_line.ensures.steps now)))
+    c.loop-part.rest.now (Err stop) on (c.in_err-begin_line.ensures.steps now)))
 
 pub returns-in_err-end_line-clause-goes : goal.returns-in_err-end_line-clause-goes
 returns-in_err-end_line-clause-goes g c =

@@ -11,7 +11,8 @@ use Rattle.store_runs.specs.Books.{stored_book}
 use Rattle.store_runs.specs.Runs.{Goes}
 use Rattle.store_runs.proofs.StoreSteps.{goes_with, goes_as}
 use Rattle.script_run.specs.Asking.{exchange_at}
-use Rattle.script_run.specs.Books.{book_in, store_in}
+use Rattle.script_run.specs.Books.{book_in, store_in, log_in}
+use Rattle.script_run.specs.Outside.{outside_at}
 use Rattle.script_run.specs.Unanswered.{stop_of}
 use Rattle.script_run.proofs.AnsweredLines.{answered_command, stops_cut, stops_unanswered}
 use Rattle.script_run.proofs.session.Session.answer.Goals as goal
@@ -21,7 +22,8 @@ returns-in_err-answer-clause-stops g c = λ number.
     let p = err_from_is_err_and c.from_residual.result c.from_residual.ensures.1 in
     let left = stored_book c.ask_command.new.caller.store in
     rw (p.1, p.2) (stops_unanswered (book_in c.args.self.now) left
-    (output_at g.K.Sink c.args.output.now) number c.args.command.now
+    (outside_at g.K.Sink g.L.Cell g.L.Gate c.args.output.now c.args.lanes.now
+    (log_in c.args.self.now)) number c.args.command.now
     (stop_of c.in_err-answer.field-0.0) c.in_err-answer.ensures.same
     c.in_err-answer.ensures.may)
 
@@ -43,7 +45,9 @@ returns-in_err-write_whole-clause-stops g c = λ number.
     let before = output_at g.K.Sink c.args.output.now in
     let now = output_at g.K.Sink c.write_whole.new.output in
     let stop = c.in_err-write_whole.field-0.0 in
-    rw (p.1, p.2) (stops_cut book (stored_book c.ask_command.new.caller.store) before now number
+    let here = outside_at g.K.Sink g.L.Cell g.L.Gate c.args.output.now c.args.lanes.now
+    (log_in c.args.self.now) in
+    rw (p.1, p.2) (stops_cut book (stored_book c.ask_command.new.caller.store) here now number
     c.args.command.now stop c.in_ok-answer.ensures.after
     (subst (λ (t : List ℕ). (stop ≡ WriteFault) × IsCutIn before now [] t) text
     c.in_err-write_whole.ensures.cut))
@@ -69,6 +73,8 @@ returns-clause-answered g c =
     ∙ ap (λ (r : Result Answered Refused). outcome_text r) c.in_ok-answer.ensures.answer in
     let before = output_at g.K.Sink c.args.output.now in
     let now = output_at g.K.Sink c.write_whole.new.output in
-    answered_command book (stored_book c.ask_command.new.caller.store) before now c.args.command.now
+    let here = outside_at g.K.Sink g.L.Cell g.L.Gate c.args.output.now c.args.lanes.now
+    (log_in c.args.self.now) in
+    answered_command book (stored_book c.ask_command.new.caller.store) here now c.args.command.now
     c.in_ok-answer.ensures.after
     (subst (λ (t : List ℕ). WroteAll before now t) text c.in_ok-write_whole.ensures.wrote)
