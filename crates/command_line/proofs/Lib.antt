@@ -1,8 +1,7 @@
-pub mod Splits
-pub mod Endings
-pub mod OneWord
-pub mod Rows
+pub mod GivenValues
 pub mod FirstItems
-pub mod NextItems
+pub mod OneWord
+pub mod ManyOptions
+pub mod Rows
 pub mod ClapWalks
 pub mod ClapReads

@@ -1,14 +1,13 @@
 -- What `clap` makes of one word of an option with one value.
-use Rattle.std.proofs.Common.{◌≡◌, ◌==◌, refl, Bool, true, false, not, List, [], ◌∷◌, Some, None, codes}
+use Rattle.std.proofs.Common.{◌≡◌, ◌==◌, refl, subst, Bool, true, false, not, List, [], ◌∷◌, Option, Some, None}
 use Rattle.std.specs.Str.{bytes_eq}
+use Rattle.std.proofs.lemmas.Slice.Eq.{bytes_eq-Decides}
 use Rattle.clap.specs.Lexer.{long_of, short_of}
-use Rattle.clap.specs.Simple.{Shape, built, filled}
+use Rattle.clap.specs.Simple.{Shape, filled}
 use Rattle.clap.specs.Walk.{Held, Rule, Row, Text, Walk, walk_from, walked, settled, reacted, used, arg_by_long, arg_by_id, has_row, option}
 use Rattle.clap.specs.Takes.{turn_passes, settle_passes, react_passes, use_passes}
-use Rattle.command_line.specs.declared.types.Command.{Command}
-use Rattle.command_line.specs.declared.types.Command.TheVariants.{Run, Check, Migrate}
 use Rattle.command_line.specs.Words.{stands_alone}
-use Rattle.command_line.specs.Options.{app_for, rule_for}
+use Rattle.command_line.specs.Options.{rule_for}
 
 -- an option as building leaves it
 abbrev pub built_rule : Text → Rule
@@ -22,6 +21,15 @@ pub record Knows (shape : Shape) (name : Text) : Type 0 where
   pub long : arg_by_long shape.rules name ≡ Some (built_rule name)
   pub id : arg_by_id shape.rules name ≡ Some (built_rule name)
   pub same : bytes_eq name name ≡ true
+
+-- a word with a name is more than two dashes
+pub no_dashes : (word : Text) (found : Text × Option Text) → long_of word ≡ Some found → bytes_eq word dashes ≡ false
+no_dashes word found is = go (bytes_eq word dashes) refl
+  where
+    go : (t : Bool) → bytes_eq word dashes ≡ t → t ≡ false
+    go true same =
+        let bad : None ≡ Some found = subst (λ (text : Text). long_of text ≡ Some found) ((bytes_eq-Decides word dashes).0 same) is in cc
+    go false same = refl
 
 -- where a walk stands behind a name that waits for its value
 abbrev pub waits : Shape → Text → Held → Walk
@@ -91,16 +99,3 @@ given_settles shape name value held knows fresh = rw knows.id (use_ok shape name
 pub given_rows : (shape : Shape) (name value : Text) (held : Held) → Knows shape name
     → (settled shape.rules (given shape name value held)).rows ≡ used (built_rule name) (value ∷ []) (settled shape.rules held).rows
 given_rows shape name value held knows = rw knows.id refl
-
--- ---- the commands
-
-abbrev pub shape_for : Command → Shape
-shape_for command = (built (app_for command)).top
-
-pub knows_book : (command : Command) → Knows (shape_for command) (codes "book")
-knows_book Run = record { long = refl; id = refl; same = refl }
-knows_book Check = record { long = refl; id = refl; same = refl }
-knows_book Migrate = record { long = refl; id = refl; same = refl }
-
-pub knows_limit : Knows (shape_for Run) (codes "limit")
-knows_limit = record { long = refl; id = refl; same = refl }

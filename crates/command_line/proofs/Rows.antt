@@ -1,13 +1,13 @@
 -- What `clap` keeps of the options that were given.
-use Rattle.std.proofs.Common.{◌≡◌, ◌∙◌, ◌++◌, ◌||◌, ap, refl, Bool, true, false, List, [], ◌∷◌, Option, Some, None, option_map}
+use Rattle.std.proofs.Common.{◌≡◌, ◌∙◌, ◌++◌, ◌||◌, ap, refl, Bool, true, false, List, [], ◌∷◌, Option, Some, None, option_map, map}
 use Rattle.std.specs.Prelude.{find}
-use Rattle.std.specs.Option.{option_or}
+use Rattle.std.specs.List.{list_any}
 use Rattle.std.specs.Str.{bytes_eq}
 use Rattle.std.proofs.lemmas.List.{append-nil}
-use Rattle.std.proofs.lemmas.List.Folds.{find-append}
 use Rattle.clap.specs.Walk.{Row, Text, at_row, first_of, has_row, more_values, used}
 use Rattle.clap.specs.declared.parser.matches.ValueSource.TheVariants.{CommandLine}
 use Rattle.clap.specs.declared.builder.value_parser.Reading.TheVariants.{AsWritten}
+use Rattle.command_line.specs.Words.{Item, gives, value_of}
 use Rattle.command_line.proofs.OneWord.{built_rule}
 
 -- what is kept of an option and its value
@@ -19,6 +19,10 @@ row_for name value = record {
   source = Some CommandLine;
   reading = AsWritten;
 }
+
+-- what is kept of items
+abbrev pub rows_for : List Item → List Row
+rows_for items = map (λ item. row_for item.name item.value) items
 
 at_none : (name : Text) (change : Row → List Row) (missing rows : List Row) → has_row name rows ≡ false
     → at_row name change missing rows ≡ rows ++ missing
@@ -38,33 +42,17 @@ used_fresh name value rows fresh =
     let gone : at_row name (λ _. []) [] rows ≡ rows = at_none name (λ _. []) [] rows fresh ∙ append-nil rows in
     rw gone (at_none name (more_values CommandLine (value ∷ [])) (row_for name value ∷ []) rows fresh)
 
--- the row of an option is that of its value
-abbrev pub Says : List Row → Text → Option Text → Type 0
-Says rows name value = find (λ row. bytes_eq row.id name) rows ≡ option_map (row_for name) value
+-- an option has a row where an item gave it a value
+pub has_given : (name : Text) (items : List Item) → has_row name (rows_for items) ≡ list_any (gives name) items
+has_given name [] = refl
+has_given name (item ∷ items) = ap (λ t. bytes_eq item.name name || t) (has_given name items)
 
-pub says_fresh : (rows : List Row) (name : Text) → Says rows name None → has_row name rows ≡ false
-says_fresh [] name says = refl
-says_fresh (row ∷ rows) name says = choose (bytes_eq row.id name) refl says (says_fresh rows name)
+-- its first value is the one that the items give
+pub first_given : (name : Text) (items : List Item) → first_of name (rows_for items) ≡ value_of items name
+first_given name [] = refl
+first_given name (item ∷ items) = go (bytes_eq item.name name) refl (first_given name items)
   where
-    choose : (t : Bool) → bytes_eq row.id name ≡ t → Says (row ∷ rows) name None → (Says rows name None → has_row name rows ≡ false)
-        → has_row name (row ∷ rows) ≡ false
-    choose true is h rest = let bad : Some row ≡ None = rw is at h in cc
-    choose false is h rest = rw is (rest (rw is at h))
-
-pub says_now : (rows : List Row) (name value : Text) → bytes_eq name name ≡ true → Says rows name None
-    → Says (rows ++ row_for name value ∷ []) name (Some value)
-says_now rows name value same says =
-    find-append (λ row. bytes_eq row.id name) rows (row_for name value ∷ []) ∙ rw (says, same) refl
-
-or_none : {X : Type 0} (o : Option X) → option_or o None ≡ o
-or_none None = refl
-or_none (Some x) = refl
-
-pub says_still : (rows : List Row) (name other value : Text) (before : Option Text) → bytes_eq other name ≡ false → Says rows name before
-    → Says (rows ++ row_for other value ∷ []) name before
-says_still rows name other value before differs says =
-    find-append (λ row. bytes_eq row.id name) rows (row_for other value ∷ []) ∙ rw differs (or_none _ ∙ says)
-
-pub says_first : (rows : List Row) (name : Text) (value : Option Text) → Says rows name value → first_of name rows ≡ value
-says_first rows name None says = rw says refl
-says_first rows name (Some value) says = rw says refl
+    go : (t : Bool) → bytes_eq item.name name ≡ t → first_of name (rows_for items) ≡ value_of items name
+        → first_of name (rows_for (item ∷ items)) ≡ value_of (item ∷ items) name
+    go true is rest = rw is refl
+    go false is rest = rw is rest

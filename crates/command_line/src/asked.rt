@@ -1,11 +1,12 @@
 ghost use Rattle.std.specs.Prelude.{◌≡◌, ◌↔◌, Some, None, is_some, true};
 ghost use Rattle.std.specs.Prelude.{IfOk, IfErr, MatchOption};
 ghost use Rattle.command_line.specs.declared.types.WantsError.TheVariants.{Usage};
-ghost use Rattle.command_line.specs.Words.{bytes_of, command_of, wanted_of};
+ghost use Rattle.command_line.specs.Words.{bytes_of, wanted_of};
 ghost use Rattle.command_line.specs.Taken.{asked, bytes_in, seen};
 
+use crate::given::{is_asked, read_within};
 use crate::parser::parse;
-use crate::settings::{is_asked, read_limit};
+use crate::table::{LANES, LIMIT, find_command};
 use crate::text::Text;
 use crate::types::{Command, Wants, WantsError};
 use std::alloc::{AllocError, Global};
@@ -24,16 +25,24 @@ pub fn wants(alloc: Global, words: &[String]) -> Result<Wants, WantsError>
         Ok(matches) => matches,
         Err(why) => return Err(why),
     };
-    let Some(limit) = read_limit(matches.get_str("limit")) else {
+    let Some(limit) = read_within(&LIMIT, matches.get_str("limit")) else {
+        return Err(WantsError::Usage);
+    };
+    let Some(lanes) = read_within(&LANES, matches.get_str("lanes")) else {
         return Err(WantsError::Usage);
     };
     let Ok(book) = copied(alloc, matches.get_str("book")) else {
         return Err(WantsError::NoMemory);
     };
+    let Ok(cells) = copied(alloc, matches.get_str("cells")) else {
+        return Err(WantsError::NoMemory);
+    };
     Ok(Wants {
         command,
         book,
-        limit,
+        limit: limit as u32,
+        lanes: lanes as u8,
+        cells,
     })
 }
 
@@ -44,27 +53,11 @@ fn read_words<'a>(words: &'a [String]) -> Option<(Command, &'a [String])>
         × (is_some (asked found.0 (bytes_of found.1.now)) ≡ true)) }
 {
     let (word, rest) = words.split_first()?;
-    let command = read_command(word.as_str())?;
+    let command = find_command(word.as_str())?;
     if !is_asked(command, rest) {
         return None;
     }
     Some((command, rest))
-}
-
-// The command that a word names.
-fn read_command(word: &str) -> Option<Command>
-    ensures { result ≡ command_of word.now }
-{
-    if word == "run" {
-        return Some(Command::Run);
-    }
-    if word == "check" {
-        return Some(Command::Check);
-    }
-    if word == "migrate" {
-        return Some(Command::Migrate);
-    }
-    None
 }
 
 // A copy of a path that may be there.

@@ -1,7 +1,10 @@
-ghost use Rattle.std.specs.Prelude.{◌≡◌, ◌≤◌, ◌∷◌, None, Some, length, IfSome, MatchOption};
+ghost use Rattle.std.specs.Prelude.{◌≡◌, ◌≤◌, ◌∷◌, None, Some, length};
+ghost use Rattle.std.specs.Prelude.{option_map, IfSome, MatchOption};
+ghost use Rattle.clap.specs.Lexer.{long_of, name_and_value, strip_byte};
 ghost use Rattle.command_line.specs.Words.{bytes_of, read_items, stands_alone, with_item};
+ghost use Rattle.command_line.specs.Taken.{bytes_in};
 
-/// The name of an option, with its dashes, and the value given to it.
+/// The name of an option, and the value given to it.
 #[derive(Clone, Copy)]
 pub struct Item<'a> {
     pub name: &'a str,
@@ -18,13 +21,12 @@ pub fn first_item<'a>(word: &'a str, words: &'a [String]) -> Option<(Item<'a>, &
         (read_items None (bytes_of found.1.now))) }
     ensures fewer { IfSome result (λ found. length found.1.now ≤ length words.now) }
 {
-    let Some((name, value)) = word.split_once('=') else {
-        return next_value(word, words);
-    };
-    if value.is_empty() {
-        return None;
+    let (name, value) = read_option(word)?;
+    match value {
+        None => next_value(name, words),
+        Some(value) if value.is_empty() => None,
+        Some(value) => Some((Item { name, value }, words)),
     }
-    Some((Item { name, value }, words))
 }
 
 // The item of a name whose value is the next word.
@@ -43,6 +45,34 @@ fn next_value<'a>(name: &'a str, words: &'a [String]) -> Option<(Item<'a>, &'a [
         return None;
     }
     Some((Item { name, value }, rest))
+}
+
+// The name behind the two dashes of a word, and the value behind its first `=`, if it has one.
+fn read_option(word: &str) -> Option<(&str, Option<&str>)>
+    ensures { option_map (λ found. (found.0.now, bytes_in found.1)) result ≡ long_of word.now }
+{
+    let text = strip_dash(strip_dash(word)?)?;
+    if text.is_empty() {
+        return None;
+    }
+    Some(split_value(text))
+}
+
+// What follows a first dash.
+fn strip_dash(word: &str) -> Option<&str>
+    ensures { bytes_in result ≡ strip_byte 45 word.now }
+{
+    word.strip_prefix('-')
+}
+
+// What stands before the first `=`, and what stands behind it, if there is one.
+fn split_value(text: &str) -> (&str, Option<&str>)
+    ensures { (result.0.now, bytes_in result.1) ≡ name_and_value text.now }
+{
+    match text.split_once('=') {
+        Some((name, value)) => (name, Some(value)),
+        None => (text, None),
+    }
 }
 
 // Whether a word is a value by itself.

@@ -2,9 +2,10 @@
 #![tactic(auto)]
 
 mod asked;
+mod given;
 mod items;
 mod parser;
-mod settings;
+mod table;
 mod text;
 mod types;
 

@@ -4,7 +4,7 @@ use std::fmt;
 /// What the program is to do.
 #[derive(Clone, Copy, Debug, PartialEq, Eq)]
 pub enum Command {
-    /// Reads a script: `run [--book PATH] [--limit N]`
+    /// Reads a script: `run [--book PATH] [--limit N] [--lanes N] [--cells DIR]`
     Run,
     /// Says whether a book is whole: `check [--book PATH]`
     Check,
@@ -20,6 +20,10 @@ pub struct Wants {
     pub book: Option<Text>,
     /// The most rows of the book.
     pub limit: u32,
+    /// How many lanes the script may work.
+    pub lanes: u8,
+    /// The folder of the lanes' files; without one it is the folder that the program runs in.
+    pub cells: Option<Text>,
 }
 
 /// Why the words give nothing.

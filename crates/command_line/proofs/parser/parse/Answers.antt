@@ -1,14 +1,15 @@
-use Rattle.std.proofs.Common.{◌∙◌, map}
+use Rattle.std.proofs.Common.{◌∙◌, ap, map}
 use Rattle.std.specs.String.{string_bytes}
+use Rattle.command_line.specs.Options.{app_for}
 use Rattle.command_line.proofs.ClapReads.{matches_ask, takes_asked}
 use Rattle.command_line.proofs.parser.parse.Goals as goal
 
 pub returns-in-Ok-try_get_matches_from : goal.returns-in-Ok-try_get_matches_from
 returns-in-Ok-try_get_matches_from c =
     matches_ask c.args.command (map string_bytes c.args.words.now) _ c.in-Ok-try_get_matches_from.matches
-    c.in-Ok.ensures c.in-Ok-try_get_matches_from.ensures.matches
+    (c.in-Ok.ensures ∙ ap app_for c.options_of.ensures) c.in-Ok-try_get_matches_from.ensures.matches
 
 pub returns-in-Err : goal.returns-in-Err
 returns-in-Err c = λ wanted asks.
     c.refusal.ensures (c.kind.ensures
-    ∙ c.in-Err.ensures.passes (takes_asked c.args.command (map string_bytes c.args.words.now) _ c.in-Ok.ensures wanted asks))
+    ∙ c.in-Err.ensures.passes (takes_asked c.args.command (map string_bytes c.args.words.now) _ (c.in-Ok.ensures ∙ ap app_for c.options_of.ensures) wanted asks))
