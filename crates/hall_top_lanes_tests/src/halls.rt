@@ -80,7 +80,11 @@ pub fn check_case(
     let printed = String::from_utf8_lossy(alloc, output.bytes())?;
     assert_eq!(rt; printed.as_str(), case.printed);
     let rows = ended.rows.as_slice().len();
-    assert!(rt; (ended.status, rows) == (case.status, case.rows), "{}", case.printed);
+    assert!(rt;
+        (ended.status, rows) == (case.status, case.rows),
+        "{}",
+        case.printed
+    );
     check_lanes(rt, case, &ended);
     Ok(ended.disk)
 }
@@ -93,7 +97,11 @@ fn check_lanes(rt: &impl Abort, case: &Case, ended: &Ended<MemoryDisk, MemoryLan
     let ends = ended.lane_ends.as_slice();
     assert_eq!(rt; ends.len(), case.ends.len());
     for (end, (opened, stop)) in ends.iter().zip(case.ends) {
-        assert!(rt; (end.opened, end.stop) == (*opened, *stop), "{}", case.printed);
+        assert!(rt;
+            (end.opened, end.stop) == (*opened, *stop),
+            "{}",
+            case.printed
+        );
     }
 }
 

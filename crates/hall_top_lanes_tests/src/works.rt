@@ -183,7 +183,11 @@ batches running 1 ended 0 drawn 0 closed 0
         status: 10,
         rows: 13,
         opened: &[&[6, 12], &[9]],
-        ends: &[(1, LaneStop::Cell), (1, LaneStop::Cell), (1, LaneStop::Done)],
+        ends: &[
+            (1, LaneStop::Cell),
+            (1, LaneStop::Cell),
+            (1, LaneStop::Done),
+        ],
         ..CALM
     },
     // a lane that wasn't handed in: a fault of the script comes before a lane's

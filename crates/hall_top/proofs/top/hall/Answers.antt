@@ -5,12 +5,11 @@ use Rattle.hall_top.proofs.top.hall.Goals as goal
 
 pub returns-clause-words : goal.returns-clause-words
 returns-clause-words g c =
-    let outcome = c.do_words-outcome.result in
-    (
+    let outcome = c.do_words-outcome.result in (
       (λ two. c.do_words-outcome.ensures.words.0 (status_two outcome.ending outcome.log.told _ _
-      c.say_last-status.result c.say_last-status.ensures two)),
+          c.say_last-status.result c.say_last-status.ensures two)),
       (λ none. usage_two outcome.ending outcome.log.told _ _ c.say_last-status.result
-      c.say_last-status.ensures (c.do_words-outcome.ensures.words.1 none)),
+          c.say_last-status.ensures (c.do_words-outcome.ensures.words.1 none)),
     )
 
 pub returns-clause-usage : goal.returns-clause-usage
