@@ -1,20 +1,14 @@
 -- Lemmas on how a call ended, its last line and its status.
-use Rattle.std.proofs.Common.{◌≡◌, ◌⊎◌, ℕ, ◌+◌, Bool, true, false, if◌then◌else◌, List, [], ◌∷◌, ◌++◌, length, take, min, Option, Some, None, Err, inl, inr, ⊎_elim, IsTrue, refl, sym, ◌∙◌, ap, subst, arith, length-append}
-use Rattle.std.proofs.lemmas.List.{take-append-le}
+use Rattle.std.proofs.Common.{◌≡◌, ◌⊎◌, ℕ, Bool, true, false, if◌then◌else◌, List, length, min, Option, Some, None, Err, inl, inr, ⊎_elim, IsTrue, refl, sym, ◌∙◌, ap, subst, arith}
 use Rattle.std.specs.List.{list_any}
-use Rattle.std.specs.Io.KnownBytes.{Appends}
-use Rattle.std.proofs.KnownBytes.{Appends-trans}
-use Rattle.device_facts.specs.Count.{Counted}
-use Rattle.std.specs.Bool.{⊤}
 use Rattle.disk_core.specs.declared.disk.Disk as disk
 use Rattle.book_words.specs.declared.act.Entry.{Entry}
 use Rattle.command_line.specs.Words.{Wanted}
 use Rattle.book_store.specs.declared.store.Store.{Store}
-use Rattle.book_store.specs.declared.types.MountError.{MountError}
 use Rattle.book_store.specs.declared.types.MountError.TheVariants as mount
-use Rattle.text_streams.specs.Streams.{Stream, WroteAll, IsCutIn}
+use Rattle.text_streams.specs.Streams.{Stream}
 use Rattle.lane_worker.specs.declared.ending.LaneEnd.{LaneEnd}
-use Rattle.script_run.specs.Outside.{LogView, Outside, Call}
+use Rattle.script_run.specs.Outside.{LogView, Call}
 use Rattle.store_runs.specs.declared.stop.Stop.{Stop}
 use Rattle.store_runs.specs.declared.stop.Stop.TheVariants.{Finished, BadLine, ReadFault, WriteFault, DiskFault, NoMemory, Spent}
 use Rattle.store_runs.specs.Books.{BookState}
@@ -296,46 +290,6 @@ module _ (ending : Ending) (log : LogView) (before now : Stream) (status : ℕ) 
   usage_two (inl (out, is)) usage = is ∙ ap (λ (e : Ending). status_of e (early_status log.ends)) usage
   usage_two (inr (cut, is)) usage =
       is ∙ ap (λ (e : Ending). min (status_of e (early_status log.ends)) 5) usage
-
--- ---- the last text
-
--- a text that was cut is a longer one cut
-pub cut_first : (before now : Stream) (first second : List ℕ) → IsCutIn before now [] first
-    → IsCutIn before now [] (first ++ second)
-cut_first before now first second cut =
-    record {
-      part = cut.part;
-      less = omega (arith, cut.less, length-append first second);
-      out = subst (λ text. Appends before.bytes now.bytes text)
-          (sym (take-append-le cut.part first second (omega (arith, cut.less)))) cut.out;
-      failed = cut.failed;
-    }
-
--- so is one behind another that went out
-pub cut_second : (before old now : Stream) (first second : List ℕ) → WroteAll before old first
-    → IsCutIn old now [] second → IsCutIn before now [] (first ++ second)
-cut_second before old now first second wrote cut =
-    record {
-      part = length first + cut.part;
-      less = omega (arith, cut.less, length-append first second);
-      out = subst (λ text. Appends before.bytes now.bytes text)
-          (sym (take_behind first second cut.part))
-          (Appends-trans _ _ _ first (take cut.part second) wrote.out cut.out);
-      failed = subst (λ (n : ℕ). Counted n now.faults 1) wrote.calm cut.failed;
-    }
-  where
-    take_behind : (xs ys : List ℕ) (count : ℕ)
-        → take (length xs + count) (xs ++ ys) ≡ xs ++ take count ys
-    take_behind [] ys count = refl
-    take_behind (x ∷ xs) ys count = ap (λ zs. x ∷ zs) (take_behind xs ys count)
-
-pub wrote_both : (before old now : Stream) (first second : List ℕ) → WroteAll before old first
-    → WroteAll old now second → WroteAll before now (first ++ second)
-wrote_both before old now first second wrote then =
-    record {
-      out = Appends-trans _ _ _ first second wrote.out then.out;
-      calm = then.calm ∙ wrote.calm;
-    }
 
 -- ---- the words
 

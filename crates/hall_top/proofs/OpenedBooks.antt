@@ -1,5 +1,5 @@
 -- Lemmas on a command over a disk that was opened as a book.
-use Rattle.std.proofs.Common.{◌≡◌, ◌⊎◌, ℕ, ◌≤◌, List, [], ◌∷◌, ◌++◌, length, take, Option, Some, None, Err, inl, inr, refl, sym, ap, ◌∙◌, subst, arith, append-nil, length-append}
+use Rattle.std.proofs.Common.{◌≡◌, ◌⊎◌, ℕ, ◌≤◌, List, [], ◌∷◌, ◌++◌, length, take, Option, Some, Err, refl, sym, ap, ◌∙◌, subst, arith, length-append}
 use Rattle.disk_core.specs.Disk.{WhereTold}
 use Rattle.disk_core.specs.Devices.{IsUnmoved}
 use Rattle.disk_core.specs.declared.disk.Disk as disk
@@ -13,12 +13,10 @@ use Rattle.book_store.specs.Images.{HoldsBook}
 use Rattle.book_store.specs.Kept.{with_offered, CrashLeaves, HasKept}
 use Rattle.book_store.specs.Listing.{IsOpenedAs}
 use Rattle.book_store.specs.Mounting.{HasHeld, IsCauseOf, IsPassing}
-use Rattle.book_store.specs.declared.types.Unmounted.{Unmounted}
 use Rattle.book_store.specs.Stores.{disk_of, entries_of, limit_of, held_of, Hangs}
 use Rattle.book_store.specs.Resting.{HoldsSnapshotOf}
 use Rattle.book_store.proofs.KeptLemmas.{kept_mounted}
 use Rattle.store_runs.specs.declared.stop.Stop.{Stop}
-use Rattle.store_runs.specs.declared.stop.Stop.TheVariants.{Finished}
 use Rattle.store_runs.specs.Books.{BookState, stored_book}
 use Rattle.text_streams.specs.Streams.{Stream}
 use Rattle.script_run.specs.Outside.{LogView, Outside, Devices, Call}

@@ -127,13 +127,27 @@ fn is_spent(end: &LaneEnd) -> bool
     end.stop == LaneStop::Turns
 }
 
+// Whether one of some lanes ended early.
+fn any_early(ends: &[LaneEnd]) -> bool
+    ensures { result ≡ list_any is_early ends.now }
+{
+    ends.iter().any(is_early)
+}
+
+// Whether the turns of one of some lanes were spent.
+fn any_spent(ends: &[LaneEnd]) -> bool
+    ensures { result ≡ list_any is_spent ends.now }
+{
+    ends.iter().any(is_spent)
+}
+
 // The status of lanes that ended so, where they have one of their own.
 fn early_status(ends: &[LaneEnd]) -> Option<u8>
     ensures { result ≡ early_status ends.now }
 {
-    if ends.iter().any(is_early) {
+    if any_early(ends) {
         Some(LANE_EARLY)
-    } else if ends.iter().any(is_spent) {
+    } else if any_spent(ends) {
         Some(SPENT)
     } else {
         None

@@ -1,7 +1,7 @@
 -- Lemmas on lines that are answered one after the other.
-use Rattle.std.proofs.Common.{◌≡◌, inl, inr, ⊎_elim, ℕ, ◌+◌, ◌<◌, List, [], ◌∷◌, ◌++◌, length, map, take, get_or, set, Result, Ok, Err, refl, sym, ap, ◌∙◌, subst, append-nil}
+use Rattle.std.proofs.Common.{◌≡◌, inl, inr, ⊎_elim, ℕ, ◌+◌, List, [], ◌∷◌, ◌++◌, take, Result, Ok, Err, refl, sym, ap, ◌∙◌, subst, append-nil}
 use Rattle.std.specs.Bool.{⊤}
-use Rattle.std.proofs.KnownBytes.{Appends-nil, Appends-trans}
+use Rattle.std.proofs.KnownBytes.{Appends-trans}
 use Rattle.device_facts.specs.Count.{Counted}
 use Rattle.book_words.specs.declared.act.Ask.{Ask}
 use Rattle.book_words.specs.declared.act.Entry.{Entry}
@@ -14,16 +14,16 @@ use Rattle.script_lines.specs.declared.command.Line.TheVariants.{Nothing, Asks, 
 use Rattle.batch_reports.specs.Texts.{outcome_text}
 use Rattle.job_reports.specs.Texts.{lane_text}
 use Rattle.text_streams.specs.Streams.{Stream, WroteAll, IsCutIn}
+use Rattle.text_streams.proofs.PrintedTexts.{wrote_nothing}
 use Rattle.store_runs.specs.declared.stop.Stop.{Stop}
 use Rattle.store_runs.specs.declared.stop.Stop.TheVariants.{Finished, BadLine, ReadFault, WriteFault, DiskFault, NoMemory, Spent}
 use Rattle.store_runs.specs.Books.{BookState}
-use Rattle.lane_worker.specs.declared.ending.LaneEnd.{LaneEnd}
-use Rattle.lane_runs.specs.LaneWorks.{LaneState, IsWorked, step_behind}
+use Rattle.lane_runs.specs.LaneWorks.{LaneState, step_behind}
 use Rattle.script_run.specs.Acknowledged.{AreLeft}
 use Rattle.script_run.specs.Asking.{Exchange, exchange_at}
-use Rattle.script_run.specs.LaneMoves.{EachWorked, HaveWorked}
+use Rattle.script_run.specs.LaneMoves.{EachWorked}
 use Rattle.script_run.specs.Outside.{LogView, Outside}
-use Rattle.script_run.specs.Transcript.{Event, Asked, Worked, Job, IsJobAt, text_of, after_event, after_events, AreEventsOf, texts, event_at, after_command}
+use Rattle.script_run.specs.Transcript.{Event, Asked, Worked, Job, IsJobAt, text_of, after_events, AreEventsOf, texts, event_at, after_command}
 use Rattle.script_run.specs.Ends.{HaveToldWorks, AreTold, next_exchange, IsTextCut, IsLineCut, IsWorkStopped, StopsAtLine}
 use Rattle.script_run.specs.Unanswered.{MayStopAt}
 use Rattle.script_run.specs.Reached.{HasAnswered}
@@ -32,9 +32,6 @@ use Rattle.script_run.proofs.EventLists.{events-append, after_events-append, tex
 use Rattle.script_run.proofs.WorkedLanes.{worked_none, each_none, have_worked_none, have_worked_on}
 
 -- ---- what went out
-
-pub wrote_nothing : (now : Stream) → WroteAll now now []
-wrote_nothing now = record { out = Appends-nil now.bytes; calm = refl }
 
 pub wrote_on : (before old now : Stream) (done text : List ℕ) → WroteAll before old done
     → WroteAll old now text → WroteAll before now (done ++ text)

@@ -28,7 +28,7 @@ use Rattle.store_runs.specs.Runs.{FailsToKeep, Goes}
 use Rattle.store_runs.proofs.StoreSteps.{stays}
 use Rattle.store_runs.specs.Stops.{stop_of}
 use Rattle.script_run.specs.declared.script.TheConstants.{MAX_READS}
-use Rattle.script_run.specs.Outside.{LogView, Outside, Devices, Call, lane_count}
+use Rattle.script_run.specs.Outside.{Outside, Devices, Call, lane_count}
 use Rattle.script_run.specs.Scripts.{ended_lines_of, lines_of, HasLine}
 use Rattle.script_run.specs.Transcript.{Event, texts}
 use Rattle.script_run.specs.Ends.{HaveToldWorks, StopsAtLine, StopsInScript, StopsAtSummary}
@@ -37,7 +37,8 @@ use Rattle.script_run.specs.Runs.{StopsInInput, StopsAtEnd, IsGoodStill, Explain
 use Rattle.script_run.specs.Reached.{RunState, Reached, Steps, StopsAfter, IsWholeSoFar, EndsAtSummary}
 use Rattle.script_run.specs.Books.{HasRead, HasReadWhole}
 use Rattle.script_run.proofs.AcknowledgedRows.{lines_done, are_left}
-use Rattle.script_run.proofs.AnsweredLines.{StopsWork, job_stops, works_none, works_still, with_output, answered_none, wrote_nothing, wrote_on, cut_on, wrote_still}
+use Rattle.text_streams.proofs.PrintedTexts.{wrote_nothing}
+use Rattle.script_run.proofs.AnsweredLines.{job_stops, works_none, works_still, answered_none, wrote_on, cut_on, wrote_still}
 use Rattle.script_run.proofs.ScriptLines.{all_good-bad}
 
 -- a call that began with these devices

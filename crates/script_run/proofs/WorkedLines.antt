@@ -1,5 +1,5 @@
 -- A line that sets a lane to work.
-use Rattle.std.proofs.Common.{◌≡◌, ◌⊎◌, inl, inr, ℕ, ◌+◌, ◌<◌, List, [], ◌∷◌, ◌++◌, length, map, get_or, set, Result, Ok, Err, refl, sym, ap, ◌∙◌, subst, append-nil}
+use Rattle.std.proofs.Common.{◌≡◌, inl, inr, ℕ, ◌+◌, ◌<◌, List, [], ◌∷◌, ◌++◌, length, map, get_or, set, Result, Ok, Err, refl, sym, ap, subst, append-nil}
 use Rattle.std.specs.Bool.{⊤}
 use Rattle.book_words.specs.declared.name.Name.{Name}
 use Rattle.script_lines.specs.declared.command.Line.TheVariants.{Works}
@@ -13,11 +13,12 @@ use Rattle.lane_worker.specs.Works.{Work}
 use Rattle.lane_runs.specs.LaneWorks.{LaneState, IsWorked}
 use Rattle.script_run.specs.LaneMoves.{HaveWorked}
 use Rattle.script_run.specs.Outside.{LogView, Outside}
-use Rattle.script_run.specs.Transcript.{Worked, Job, IsJobAt, after_event}
-use Rattle.script_run.specs.Ends.{HaveToldWorks, IsWorkStopped, StopsAtLine}
+use Rattle.script_run.specs.Transcript.{Worked, Job, IsJobAt}
+use Rattle.script_run.specs.Ends.{IsWorkStopped, StopsAtLine}
 use Rattle.script_run.specs.Reached.{HasAnswered}
 use Rattle.script_run.proofs.AcknowledgedRows.{are_left}
-use Rattle.script_run.proofs.AnsweredLines.{StopsWork, job_stops, wrote_nothing, told_none}
+use Rattle.text_streams.proofs.PrintedTexts.{wrote_nothing}
+use Rattle.script_run.proofs.AnsweredLines.{StopsWork, job_stops, told_none}
 use Rattle.script_run.proofs.WorkedLanes.{each_once}
 
 -- what stands outside, by its parts

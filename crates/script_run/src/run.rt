@@ -98,7 +98,6 @@ impl<D: Disk> Run<D> {
             (run_state self.old) (run_state self.new) piece.now result }
         ensures goes { Goes D.Disk result (store_in self.old.session) (store_in self.new.session) }
         ensures ready { OnOk result (IsReady self.new.session) }
-        ensures count { length lanes.new ≡ length lanes.old }
     {
         let mut rest = piece;
         while let Some((part, after)) = split_line(rest) {
@@ -127,7 +126,6 @@ impl<D: Disk> Run<D> {
         ensures one { self.new.feed.ended ≡ self.old.feed.ended + 1 }
         ensures goes { Goes D.Disk result (store_in self.old.session) (store_in self.new.session) }
         ensures ready { OnOk result (IsReady self.new.session) }
-        ensures count { length lanes.new ≡ length lanes.old }
     {
         let number = self.feed.line_number();
         let line = self.feed.end_line(every_command(lanes), part);
@@ -176,7 +174,6 @@ impl<D: Disk> Run<D> {
             (entries_of (store_in self.new.session)) stop taken) }
         ensures goes { Goes D.Disk result (store_in self.old.session) (store_in self.new.session) }
         ensures ready { OnOk result (IsReady self.new.session) }
-        ensures count { length lanes.new ≡ length lanes.old }
     {
         let line = self.feed.read_last(every_command(lanes));
         let number = self.feed.line_number();

@@ -54,7 +54,6 @@ fn take_read<S: Source, K: Sink, D: Disk, L: Lane>(
         })) }
     ensures goes { Goes D.Disk result (store_in run.old.session) (store_in run.new.session) }
     ensures ready { OnOk result (IsReady run.new.session) }
-    ensures count { length lanes.new ≡ length lanes.old }
 {
     reader.read(input)?;
     let piece = reader.piece();

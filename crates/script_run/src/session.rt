@@ -140,7 +140,6 @@ impl<D: Disk> Session<D> {
             (entries_of (store_in self.new)) [] place (line.Works number batch)) }
         ensures goes { Goes D.Disk result (store_in self.old) (store_in self.new) }
         ensures ready { OnOk result (IsReady self.new) }
-        ensures count { length lanes.new ≡ length lanes.old }
     {
         let Ok(()) = self.log.reserve() else {
             return Err(Stop::NoMemory);
@@ -175,7 +174,6 @@ impl<D: Disk> Session<D> {
             (entries_of (store_in self.new)) [] number line.now) }
         ensures goes { Goes D.Disk result (store_in self.old) (store_in self.new) }
         ensures ready { OnOk result (IsReady self.new) }
-        ensures count { length lanes.new ≡ length lanes.old }
     {
         match line {
             Line::Nothing => Ok(()),

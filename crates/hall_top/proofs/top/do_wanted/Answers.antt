@@ -1,5 +1,4 @@
 use Rattle.std.proofs.Common.{inl, inr, refl}
-use Rattle.command_line.specs.Taken.{seen}
 use Rattle.hall_top.specs.Calls.{ExplainsCommand}
 use Rattle.text_streams.specs.Streams.{output_at}
 use Rattle.script_run.specs.Outside.{devices, outside_at, nothing_told}

@@ -1,7 +1,7 @@
 use Rattle.std.proofs.Common.{rules, ◌≡◌, true, refl, ap, Ok, Err, ◌∙◌, subst, arith}
 use Rattle.std.proofs.lemmas.Result.{err_from_is_err_and}
 use Rattle.store_runs.proofs.StoreSteps.{on_unfinished, stays, goes_on, goes_with, goes_as}
-use Rattle.script_run.specs.Outside.{devices, outside_at, nothing_told}
+use Rattle.script_run.specs.Outside.{devices, outside_at}
 use Rattle.script_run.specs.Books.{book_in, store_in, log_in, run_state, HasReadOn}
 use Rattle.text_streams.specs.Readers.{ReaderView}
 use Rattle.script_run.proofs.RunEnds.{begins, lines_few}
@@ -73,7 +73,7 @@ loop-more-preserved g c =
           (store_in c.take_read.new.run.session) goes goes.cause
           (λ is. absurd (on_unfinished tt is));
       ready = c.in_ok-more.ensures.ready;
-      lanes = c.take_read.ensures.count ∙ inv.lanes;
+      lanes = c.take_read.auto.lanes ∙ inv.lanes;
       unended = c.in_ok-more.ensures.unended;
       most = search rules;
       few = search rules;

@@ -6,7 +6,6 @@ use Rattle.book_store.specs.Stores.{entries_of}
 use Rattle.script_run.specs.Books.{book_in, store_in, log_in, run_state}
 use Rattle.script_run.specs.Outside.{lane_count, outside_at}
 use Rattle.script_run.specs.Ends.{StopsAtLine}
-use Rattle.script_run.specs.Scripts.{IsHandedIn}
 use Rattle.script_run.proofs.LanesHandedIn.{handed_in}
 use Rattle.lane_runs.specs.LaneWorks.{lane_state}
 use Rattle.script_run.proofs.ScriptLines.{ended_line, said_with, line_ended, line_ended_last}

@@ -4,7 +4,6 @@ use Rattle.book_store.specs.Stores.{entries_of}
 use Rattle.script_run.specs.Books.{book_in, store_in, log_in, run_state}
 use Rattle.script_run.specs.Outside.{outside_at}
 use Rattle.script_run.specs.Ends.{StopsAtLine}
-use Rattle.script_run.specs.Scripts.{IsHandedIn}
 use Rattle.script_run.proofs.LanesHandedIn.{handed_in}
 use Rattle.lane_runs.specs.LaneWorks.{lane_state}
 use Rattle.script_run.proofs.ScriptLines.{last_with}

@@ -47,7 +47,7 @@ loop-part-preserved g c =
           (store_in c.end_line.new.self.session) c.loop-part.invariant.goes
           c.in_ok-end_line.ensures.goes;
       ready = c.in_ok-end_line.ensures.ready;
-      lanes = c.end_line.ensures.count ∙ c.loop-part.invariant.lanes;
+      lanes = c.end_line.auto.lanes ∙ c.loop-part.invariant.lanes;
       few = omega (
         arith,
         c.end_line.ensures.one,
