@@ -4,6 +4,35 @@ use lane_worker::{CellNext, LaneStop, ListCell, ListGate, PairLane};
 use std::alloc::{AllocError, Global};
 use std::process::Abort;
 
+/// How a work ended, told in plain numbers.
+#[derive(Clone, Copy, Debug, PartialEq, Eq)]
+pub enum Told {
+    Done,
+    Cell,
+    Gate,
+    /// The line that isn't a weight.
+    Bad(u32),
+    /// The number of the refusal, and how many rows there were.
+    Refused(u8, u32),
+    Disk,
+    Memory,
+    Turns,
+}
+
+// How a work ended.
+fn told(stop: &LaneStop) -> Told {
+    match stop {
+        LaneStop::Done => Told::Done,
+        LaneStop::Cell => Told::Cell,
+        LaneStop::Gate => Told::Gate,
+        LaneStop::Bad { line } => Told::Bad(*line),
+        LaneStop::Refused(refused) => Told::Refused(refused.refusal.number(), refused.at),
+        LaneStop::DiskFault => Told::Disk,
+        LaneStop::NoMemory => Told::Memory,
+        LaneStop::Turns => Told::Turns,
+    }
+}
+
 /// A lane in memory.
 type MemoryLane = PairLane<ListCell, ListGate>;
 
@@ -28,8 +57,8 @@ pub struct Case {
     pub rows: usize,
     /// The packs for which the gate of each lane opened.
     pub opened: &'static [&'static [u32]],
-    /// How each work ended.
-    pub ends: &'static [(u32, LaneStop)],
+    /// How often the gate opened in each work, and how that ended.
+    pub ends: &'static [(u32, Told)],
 }
 
 /// A case in which nothing fails, to be filled.

@@ -1,8 +1,6 @@
-use crate::halls::{CALM, Case, check_case, check_cases};
-use book_words::{Refusal, Refused};
+use crate::halls::{CALM, Case, Told, check_case, check_cases};
 use disk_core::MemoryDisk;
 use lane_worker::CellNext::{Bad, Gross, Spent};
-use lane_worker::LaneStop;
 use std::test::Fail;
 
 // A day with a pack that was weighed on lane 1 and may have left.
@@ -51,7 +49,7 @@ batches running 1 ended 0 drawn 0 closed 0
 ",
         rows: 10,
         opened: &[&[9]],
-        ends: &[(1, LaneStop::Done)],
+        ends: &[(1, Told::Done)],
         ..CALM
     },
     // the gate stays shut, and the pack is rejected
@@ -73,7 +71,7 @@ batches running 1 ended 0 drawn 0 closed 0
         status: 10,
         rows: 10,
         opened: &[&[]],
-        ends: &[(0, LaneStop::Gate)],
+        ends: &[(0, Told::Gate)],
         ..CALM
     },
     // the cell has reached its bound
@@ -93,7 +91,7 @@ batches running 1 ended 0 drawn 0 closed 0
         status: 12,
         rows: 10,
         opened: &[&[9]],
-        ends: &[(1, LaneStop::Turns)],
+        ends: &[(1, Told::Turns)],
         ..CALM
     },
 ];
@@ -108,12 +106,6 @@ fn works_behind_a_day(rt: HostRuntime) -> Result<(), Fail> {
     }
     Ok(())
 }
-
-// A refusal of an act on a batch that isn't there, at the first row.
-const UNKNOWN: LaneStop = LaneStop::Refused(Refused {
-    at: 1,
-    refusal: Refusal::BatchUnknown,
-});
 
 // Runs in which lanes end early, and the run goes on; and those that a lane stops.
 const EARLY: [Case; 8] = [
@@ -148,7 +140,7 @@ batches running 1 ended 0 drawn 0 closed 0
         status: 10,
         rows: 6,
         opened: &[&[]],
-        ends: &[(0, UNKNOWN), (0, LaneStop::Bad { line: 3 })],
+        ends: &[(0, Told::Refused(14, 1)), (0, Told::Bad(3))],
         ..CALM
     },
     // two lanes, one after the other; the first cell fails at its second call
@@ -183,11 +175,7 @@ batches running 1 ended 0 drawn 0 closed 0
         status: 10,
         rows: 13,
         opened: &[&[6, 12], &[9]],
-        ends: &[
-            (1, LaneStop::Cell),
-            (1, LaneStop::Cell),
-            (1, LaneStop::Done),
-        ],
+        ends: &[(1, Told::Cell), (1, Told::Cell), (1, Told::Done)],
         ..CALM
     },
     // a lane that wasn't handed in: a fault of the script comes before a lane's
@@ -197,13 +185,7 @@ batches running 1 ended 0 drawn 0 closed 0
         printed: "lane 1 opened 0 refused 6 at 0\nbad line 2\n",
         status: 3,
         opened: &[&[]],
-        ends: &[(
-            0,
-            LaneStop::Refused(Refused {
-                at: 0,
-                refusal: Refusal::DayUnset,
-            }),
-        )],
+        ends: &[(0, Told::Refused(6, 0))],
         ..CALM
     },
     Case {
@@ -228,7 +210,7 @@ summary
         status: 6,
         rows: 5,
         opened: &[&[]],
-        ends: &[(0, LaneStop::DiskFault)],
+        ends: &[(0, Told::Disk)],
         ..CALM
     },
     // the same, and the output fails at the lane's line
@@ -248,7 +230,7 @@ summary
         status: 5,
         rows: 5,
         opened: &[&[]],
-        ends: &[(0, LaneStop::DiskFault)],
+        ends: &[(0, Told::Disk)],
         ..CALM
     },
     // the output fails at the line of a lane that is done
@@ -267,7 +249,7 @@ summary
         status: 5,
         rows: 7,
         opened: &[&[6]],
-        ends: &[(1, LaneStop::Done)],
+        ends: &[(1, Told::Done)],
         ..CALM
     },
     // an empty cell
@@ -296,7 +278,7 @@ batches running 1 ended 0 drawn 0 closed 0
 ",
         rows: 6,
         opened: &[&[], &[]],
-        ends: &[(0, LaneStop::Done)],
+        ends: &[(0, Told::Done)],
         ..CALM
     },
 ];
