@@ -6,7 +6,7 @@ use std::process::Abort;
 
 /// How a work ended, told in plain numbers.
 #[derive(Clone, Copy, Debug, PartialEq, Eq)]
-pub enum Told {
+pub enum Stopped {
     Done,
     Cell,
     Gate,
@@ -20,16 +20,16 @@ pub enum Told {
 }
 
 // How a work ended.
-fn told(stop: &LaneStop) -> Told {
+fn told(stop: &LaneStop) -> Stopped {
     match stop {
-        LaneStop::Done => Told::Done,
-        LaneStop::Cell => Told::Cell,
-        LaneStop::Gate => Told::Gate,
-        LaneStop::Bad { line } => Told::Bad(*line),
-        LaneStop::Refused(refused) => Told::Refused(refused.refusal.number(), refused.at),
-        LaneStop::DiskFault => Told::Disk,
-        LaneStop::NoMemory => Told::Memory,
-        LaneStop::Turns => Told::Turns,
+        LaneStop::Done => Stopped::Done,
+        LaneStop::Cell => Stopped::Cell,
+        LaneStop::Gate => Stopped::Gate,
+        LaneStop::Bad { line } => Stopped::Bad(*line),
+        LaneStop::Refused(refused) => Stopped::Refused(refused.refusal.number(), refused.at),
+        LaneStop::DiskFault => Stopped::Disk,
+        LaneStop::NoMemory => Stopped::Memory,
+        LaneStop::Turns => Stopped::Turns,
     }
 }
 
@@ -58,7 +58,7 @@ pub struct Case {
     /// The packs for which the gate of each lane opened.
     pub opened: &'static [&'static [u32]],
     /// How often the gate opened in each work, and how that ended.
-    pub ends: &'static [(u32, Told)],
+    pub ends: &'static [(u32, Stopped)],
 }
 
 /// A case in which nothing fails, to be filled.
@@ -125,9 +125,9 @@ fn check_lanes(rt: &impl Abort, case: &Case, ended: &Ended<MemoryDisk, MemoryLan
     }
     let ends = ended.lane_ends.as_slice();
     assert_eq!(rt; ends.len(), case.ends.len());
-    for (end, (opened, stop)) in ends.iter().zip(case.ends) {
+    for (end, wanted) in ends.iter().zip(case.ends) {
         assert!(rt;
-            (end.opened, end.stop) == (*opened, *stop),
+            (end.opened, told(&end.stop)) == *wanted,
             "{}",
             case.printed
         );

@@ -1,4 +1,4 @@
-use crate::halls::{CALM, Case, Told, check_case, check_cases};
+use crate::halls::{CALM, Case, Stopped, check_case, check_cases};
 use disk_core::MemoryDisk;
 use lane_worker::CellNext::{Bad, Gross, Spent};
 use std::test::Fail;
@@ -49,7 +49,7 @@ batches running 1 ended 0 drawn 0 closed 0
 ",
         rows: 10,
         opened: &[&[9]],
-        ends: &[(1, Told::Done)],
+        ends: &[(1, Stopped::Done)],
         ..CALM
     },
     // the gate stays shut, and the pack is rejected
@@ -71,7 +71,7 @@ batches running 1 ended 0 drawn 0 closed 0
         status: 10,
         rows: 10,
         opened: &[&[]],
-        ends: &[(0, Told::Gate)],
+        ends: &[(0, Stopped::Gate)],
         ..CALM
     },
     // the cell has reached its bound
@@ -91,7 +91,7 @@ batches running 1 ended 0 drawn 0 closed 0
         status: 12,
         rows: 10,
         opened: &[&[9]],
-        ends: &[(1, Told::Turns)],
+        ends: &[(1, Stopped::Turns)],
         ..CALM
     },
 ];
@@ -140,7 +140,7 @@ batches running 1 ended 0 drawn 0 closed 0
         status: 10,
         rows: 6,
         opened: &[&[]],
-        ends: &[(0, Told::Refused(14, 1)), (0, Told::Bad(3))],
+        ends: &[(0, Stopped::Refused(14, 1)), (0, Stopped::Bad(3))],
         ..CALM
     },
     // two lanes, one after the other; the first cell fails at its second call
@@ -175,7 +175,7 @@ batches running 1 ended 0 drawn 0 closed 0
         status: 10,
         rows: 13,
         opened: &[&[6, 12], &[9]],
-        ends: &[(1, Told::Cell), (1, Told::Cell), (1, Told::Done)],
+        ends: &[(1, Stopped::Cell), (1, Stopped::Cell), (1, Stopped::Done)],
         ..CALM
     },
     // a lane that wasn't handed in: a fault of the script comes before a lane's
@@ -185,7 +185,7 @@ batches running 1 ended 0 drawn 0 closed 0
         printed: "lane 1 opened 0 refused 6 at 0\nbad line 2\n",
         status: 3,
         opened: &[&[]],
-        ends: &[(0, Told::Refused(6, 0))],
+        ends: &[(0, Stopped::Refused(6, 0))],
         ..CALM
     },
     Case {
@@ -210,7 +210,7 @@ summary
         status: 6,
         rows: 5,
         opened: &[&[]],
-        ends: &[(0, Told::Disk)],
+        ends: &[(0, Stopped::Disk)],
         ..CALM
     },
     // the same, and the output fails at the lane's line
@@ -230,7 +230,7 @@ summary
         status: 5,
         rows: 5,
         opened: &[&[]],
-        ends: &[(0, Told::Disk)],
+        ends: &[(0, Stopped::Disk)],
         ..CALM
     },
     // the output fails at the line of a lane that is done
@@ -249,7 +249,7 @@ summary
         status: 5,
         rows: 7,
         opened: &[&[6]],
-        ends: &[(1, Told::Done)],
+        ends: &[(1, Stopped::Done)],
         ..CALM
     },
     // an empty cell
@@ -278,7 +278,7 @@ batches running 1 ended 0 drawn 0 closed 0
 ",
         rows: 6,
         opened: &[&[], &[]],
-        ends: &[(0, Told::Done)],
+        ends: &[(0, Stopped::Done)],
         ..CALM
     },
 ];
