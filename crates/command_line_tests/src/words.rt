@@ -1,32 +1,139 @@
 use command_line::Command::{Check, Migrate, Run};
-use command_line::{Command, WantsError, wants};
+use command_line::{Command, Text, Wants, WantsError, wants};
 use hall_limits::MAX_ROWS;
 use std::alloc::{AllocError, Global};
 use std::test::Fail;
 
 type Words = &'static [&'static str];
 
+// What is asked for.
+#[derive(Clone, Copy)]
+struct Asked {
+    command: Command,
+    book: Option<&'static str>,
+    limit: u32,
+    lanes: u8,
+    cells: Option<&'static str>,
+}
+
+const RUN: Asked = Asked {
+    command: Run,
+    book: None,
+    limit: MAX_ROWS,
+    lanes: 0,
+    cells: None,
+};
+
+const CHECK: Asked = Asked {
+    command: Check,
+    ..RUN
+};
+
+const MIGRATE: Asked = Asked {
+    command: Migrate,
+    ..RUN
+};
+
 const BOOK: Option<&str> = Some("b.hall");
 
 // Words and what they ask for, written by hand from the grammar, as what follows.
-static ASKED: [(Words, Command, Option<&str>, u32); 14] = [
-    (&["run"], Run, None, MAX_ROWS),
-    (&["check"], Check, None, MAX_ROWS),
-    (&["migrate"], Migrate, None, MAX_ROWS),
-    (&["run", "--book", "b.hall"], Run, BOOK, MAX_ROWS),
-    (&["run", "--book=b.hall"], Run, BOOK, MAX_ROWS),
-    (&["check", "--book", "b.hall"], Check, BOOK, MAX_ROWS),
-    (&["migrate", "--book=b.hall"], Migrate, BOOK, MAX_ROWS),
-    (&["run", "--limit", "1"], Run, None, 1),
-    (&["run", "--limit=0000007"], Run, None, 7),
-    (&["run", "--limit", "1000000"], Run, None, 1_000_000),
-    (&["run", "--limit=5", "--book", "b.hall"], Run, BOOK, 5),
-    (&["run", "--book=b.hall", "--limit", "5"], Run, BOOK, 5),
-    (&["run", "--book=-b=c"], Run, Some("-b=c"), MAX_ROWS),
-    (&["run", "--book", "run"], Run, Some("run"), MAX_ROWS),
+static ASKED: [(Words, Asked); 20] = [
+    (&["run"], RUN),
+    (&["check"], CHECK),
+    (&["migrate"], MIGRATE),
+    (&["run", "--book", "b.hall"], Asked { book: BOOK, ..RUN }),
+    (&["run", "--book=b.hall"], Asked { book: BOOK, ..RUN }),
+    (
+        &["check", "--book", "b.hall"],
+        Asked {
+            book: BOOK,
+            ..CHECK
+        },
+    ),
+    (
+        &["migrate", "--book=b.hall"],
+        Asked {
+            book: BOOK,
+            ..MIGRATE
+        },
+    ),
+    (&["run", "--limit", "1"], Asked { limit: 1, ..RUN }),
+    (&["run", "--limit=0000007"], Asked { limit: 7, ..RUN }),
+    (
+        &["run", "--limit", "1000000"],
+        Asked {
+            limit: 1_000_000,
+            ..RUN
+        },
+    ),
+    (
+        &["run", "--limit=5", "--book", "b.hall"],
+        Asked {
+            book: BOOK,
+            limit: 5,
+            ..RUN
+        },
+    ),
+    (
+        &["run", "--book=b.hall", "--limit", "5"],
+        Asked {
+            book: BOOK,
+            limit: 5,
+            ..RUN
+        },
+    ),
+    (
+        &["run", "--book=-b=c"],
+        Asked {
+            book: Some("-b=c"),
+            ..RUN
+        },
+    ),
+    (
+        &["run", "--book", "run"],
+        Asked {
+            book: Some("run"),
+            ..RUN
+        },
+    ),
+    (&["run", "--lanes", "0"], RUN),
+    (&["run", "--lanes=16"], Asked { lanes: 16, ..RUN }),
+    (&["run", "--lanes", "02"], Asked { lanes: 2, ..RUN }),
+    (
+        &["run", "--cells=/run/hall"],
+        Asked {
+            cells: Some("/run/hall"),
+            ..RUN
+        },
+    ),
+    (
+        &["run", "--cells", "."],
+        Asked {
+            cells: Some("."),
+            ..RUN
+        },
+    ),
+    (
+        &[
+            "run",
+            "--cells",
+            "c",
+            "--lanes=3",
+            "--book",
+            "b.hall",
+            "--limit=9",
+        ],
+        Asked {
+            book: BOOK,
+            limit: 9,
+            lanes: 3,
+            cells: Some("c"),
+            ..RUN
+        },
+    ),
 ];
 
-static REFUSED: [Words; 18] = [
+static REFUSED: [Words; 29] = [
     &[],
     &["runs"],
     &["run", "run"],
@@ -40,11 +147,22 @@ static REFUSED: [Words; 18] = [
     &["run", "--limit=+5"],
     &["run", "--limit=000000000000000000005"],
     &["check", "--limit", "5"],
+    &["run", "--lanes", "17"],
+    &["run", "--lanes=-1"],
+    &["run", "--lanes=2", "--lanes=2"],
+    &["run", "--lanes=two"],
+    &["run", "--cells="],
+    &["run", "--cells", "-"],
+    &["run", "--cells=a", "--lanes=1", "--cells=b"],
+    &["check", "--lanes", "1"],
+    &["migrate", "--cells=c"],
     &["run", "--help"],
     &["run", "--boo", "b"],
     &["run", "--=b"],
     &["run", "--", "b"],
     &["run", "-"],
+    &["run", "-book=b"],
+    &["run", "---book=b"],
 ];
 
 fn words_of(alloc: Global, words: &[&str]) -> Result<Vec<String>, AllocError> {
@@ -55,30 +173,37 @@ fn words_of(alloc: Global, words: &[&str]) -> Result<Vec<String>, AllocError> {
     Ok(all)
 }
 
+// Whether a text is this one, or neither is there.
+fn is_same(text: &Option<Text>, wanted: Option<&str>) -> bool {
+    match (text, wanted) {
+        (Some(text), Some(wanted)) => text.as_str() == wanted,
+        (None, None) => true,
+        _ => false,
+    }
+}
+
+// Whether what was found is what is asked for.
+fn is_found(found: &Wants, asked: &Asked) -> bool {
+    found.command == asked.command
+        && is_same(&found.book, asked.book)
+        && found.limit == asked.limit
+        && found.lanes == asked.lanes
+        && is_same(&found.cells, asked.cells)
+}
+
 // Whether words ask for this.
-fn is_asked(
-    alloc: Global,
-    words: &[&str],
-    command: Command,
-    book: Option<&str>,
-    limit: u32,
-) -> Result<bool, AllocError> {
+fn is_asked(alloc: Global, words: &[&str], asked: &Asked) -> Result<bool, AllocError> {
     let words = words_of(alloc, words)?;
     let Ok(found) = wants(alloc, &words) else {
         return Ok(false);
     };
-    let is_book = match (&found.book, book) {
-        (Some(text), Some(book)) => text.as_str() == book,
-        (None, None) => true,
-        _ => false,
-    };
-    Ok(is_book && found.command == command && found.limit == limit)
+    Ok(is_found(&found, asked))
 }
 
 // The first words of the grammar that ask for something else.
 fn wrongly_asked(alloc: Global) -> Result<Option<Words>, AllocError> {
-    for (words, command, book, limit) in &ASKED {
-        if !is_asked(alloc, words, *command, *book, *limit)? {
+    for (words, asked) in &ASKED {
+        if !is_asked(alloc, words, asked)? {
             return Ok(Some(words));
         }
     }

@@ -21,3 +21,4 @@ mod transfer;
 
 pub use file_disk::FileDisk;
 pub use open_error::OpenError;
+pub use opening::above_streams;

@@ -34,8 +34,9 @@ fn open_or_make<R: Files<File = File>>(rt: &R, path: &str) -> io::Result<File> {
     }
 }
 
-// What is meant for a standard stream that was closed must not land in the file.
-fn above_streams(file: File) -> io::Result<File> {
+/// The same file under a descriptor above those of the standard streams: what is meant for one that
+/// was closed doesn't land in it.
+pub fn above_streams(file: File) -> io::Result<File> {
     if file.as_raw_fd() > LAST_STREAM {
         Ok(file)
     } else {

@@ -1,4 +1,5 @@
 use disk_core::{MemoryDisk, MemorySink, QuietSource};
+use hall_limits::MAX_LANE;
 use hall_top::{Ended, hall};
 use lane_worker::{CellNext, LaneStop, ListCell, ListGate, PairLane};
 use std::alloc::{AllocError, Global};
@@ -104,7 +105,8 @@ pub fn check_case(
 ) -> Result<MemoryDisk, AllocError> {
     let mut input = QuietSource::new(Vec::from_slice(alloc, case.script.as_bytes())?);
     let mut output = MemorySink::new(alloc, Vec::from_slice(alloc, case.output_fails)?);
-    let lanes = lanes_of(alloc, case)?;
+    let mut lanes = lanes_of(alloc, case)?;
+    lanes.truncate(usize::from(MAX_LANE));
     let ended = hall(alloc, &words(alloc)?, &mut input, &mut output, disk, lanes);
     let printed = String::from_utf8_lossy(alloc, output.bytes())?;
     assert_eq!(rt; printed.as_str(), case.printed);
