@@ -3,8 +3,9 @@
 #
 # A command is a line that begins with "$ " in a block marked `console`; the lines up to the next
 # command or the end of the block are what it prints, on both outputs. Commands run in their order,
-# at the top of the repository, with a folder of their own in the place of /tmp. With the word
-# --write the page gets what they print, so that a changed text is seen in a diff.
+# at the top of the repository, with a folder of their own in the place of /tmp. A page that isn't
+# done after 5 minutes fails: a command waits for what doesn't come. With the word --write the page
+# gets what they print, so that a changed text is seen in a diff.
 cd "$(dirname "$0")/.." || exit 1
 room=$(mktemp -d) || exit 1
 trap 'rm -rf "$room"' EXIT
@@ -12,7 +13,7 @@ trap 'rm -rf "$room"' EXIT
 # builds where a source is newer, so that no command below prints how far it is
 tools/build || exit 1
 
-awk -v room="$room" '
+timeout 300 awk -v room="$room" '
     function said(command,    line, status) {
         gsub("/tmp", room, command)
         command = "{ " command "\n} 2>&1"
