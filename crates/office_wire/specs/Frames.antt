@@ -89,11 +89,11 @@ abbrev pub last_fault : ℕ → Bad → Frame
 last_fault taken fault =
     Whole (record { taken = taken; what = asked.Bad fault; last = true })
 
--- the request of a head of so many bytes, with the bytes behind the head, where they hold its body
+-- the request of a head of so many bytes and of its body
 abbrev pub whole_request : RequestHead → ℕ → Option ℕ → List ℕ → Frame
-whole_request head size given rest = Whole (record {
-  taken = size + body_size given;
-  what = ask_at (route_of head.target) head.method given (take (body_size given) rest);
+whole_request head size given body = Whole (record {
+  taken = size + length body;
+  what = ask_at (route_of head.target) head.method given body;
   last = is_last head;
 })
 
@@ -106,7 +106,8 @@ part_of_body size rest false = More
 abbrev pub frame_by_size : Result (Option ℕ) Bad → RequestHead → ℕ → List ℕ → Bool → Frame
 frame_by_size (Err fault) head size rest ended = last_fault size fault
 frame_by_size (Ok given) head size rest ended =
-    if nat_le (body_size given) (length rest) then whole_request head size given rest
+    if nat_le (body_size given) (length rest)
+    then whole_request head size given (take (body_size given) rest)
     else part_of_body size rest ended
 
 -- a head text of so many bytes, by the head that it is, and the bytes behind it

@@ -1,6 +1,6 @@
 ghost use Rattle.std.specs.Prelude.{◌≡◌, ◌≤◌, Some, length, take};
 ghost use Rattle.httparse.specs.Grammar.{RequestHead};
-ghost use Rattle.office_wire.specs.Frames.{body_size, frame_at_end, frame_by_size, frame_without_head, last_fault, part_of_body, whole_request, MayFrame, TellsFrame, TellsFrameOf};
+ghost use Rattle.office_wire.specs.Frames.{frame_at_end, frame_by_size, frame_without_head, last_fault, part_of_body, whole_request, MayFrame, TellsFrame, TellsFrameOf};
 ghost use Rattle.office_wire.specs.HeadParts.{Says};
 
 use crate::asks::ask_at;
@@ -58,6 +58,7 @@ fn frame_at_end(buffer: &[u8]) -> Frame
 
 // What a head text and the bytes behind it are.
 fn frame_of(alloc: Global, text: &[u8], rest: &[u8], ended: bool) -> Frame
+    requires { length text.now ≤ MAX_HEAD }
     ensures { TellsFrameOf text.now rest.now ended result }
 {
     match read_head(text) {
@@ -75,26 +76,25 @@ fn frame_by_size(alloc: Global, said: &Said, size: usize, rest: &[u8], ended: bo
     match said.size {
         Err(fault) => last_fault(size, fault),
         Ok(given) if given.unwrap_or(0) <= rest.len() => {
-            whole_request(alloc, said, size, given, rest)
+            let body = rest.split_at(given.unwrap_or(0)).0;
+            whole_request(alloc, said, size, given, body)
         }
         Ok(_) => part_of_body(size, rest, ended),
     }
 }
 
-// The request of a head of so many bytes and of the bytes behind it, which hold its body.
+// The request of a head of so many bytes and of its body.
 fn whole_request(
     alloc: Global,
     said: &Said,
     size: usize,
     given: Option<usize>,
-    rest: &[u8],
+    body: &[u8],
 ) -> Frame
-    requires head { size ≤ MAX_HEAD }
-    requires body { body_size given ≤ length rest.now }
+    requires { size ≤ MAX_HEAD }
     ensures { (head : RequestHead) → Says said.now head
-        → MayFrame (whole_request head size given rest.now) result }
+        → MayFrame (whole_request head size given body.now) result }
 {
-    let body = rest.split_at(given.unwrap_or(0)).0;
     Frame::Whole(Framed {
         taken: size + body.len(),
         what: ask_at(alloc, said.target, said.method, given, body),
