@@ -1,5 +1,8 @@
 pub mod HeadSizes
 pub mod HeadGrowth
+pub mod HeadPartLaws
+pub mod RouteLaws
+pub mod AskLaws
 pub mod FrameLaws
 pub mod RequestLaws
 mod WorkedResponses
