@@ -3,6 +3,7 @@ pub mod HeadGrowth
 pub mod HeadPartLaws
 pub mod RouteLaws
 pub mod AskLaws
+pub mod FrameSteps
 pub mod FrameLaws
 pub mod RequestLaws
 mod WorkedResponses
