@@ -1,6 +1,7 @@
 pub mod HeadSizes
 pub mod HeadGrowth
 pub mod RouteLaws
+pub mod FrameKinds
 pub mod FrameSteps
 pub mod FrameLaws
 pub mod RequestLaws

@@ -7,7 +7,7 @@ use Rattle.std.proofs.lemmas.List.Splits.{slice_split_first}
 use Rattle.office_wire.specs.declared.types.Route.{Route}
 use Rattle.office_wire.specs.Routes.{segments, route_at}
 
-abbrev is_slash : ℕ → Bool
+abbrev pub is_slash : ℕ → Bool
 is_slash byte = byte == 47
 
 -- a path without `/` is one segment
