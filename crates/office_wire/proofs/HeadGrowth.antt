@@ -1,5 +1,5 @@
 -- A head text stands where it is whatever follows.
-use Rattle.std.proofs.Common.{◌≡◌, ℕ, suc, ◌+◌, ◌-◌, ◌<◌, ◌≤◌, Bool, true, false, List, [], ◌∷◌, ◌++◌, length, drop, Option, Some, None, option_map, nat_eq, codes, if◌then◌else◌, refl, ap, ◌∙◌, inl, inr, arith, append_assoc, length-drop}
+use Rattle.std.proofs.Common.{◌≡◌, ℕ, suc, ◌+◌, ◌<◌, ◌≤◌, Bool, true, false, List, [], ◌∷◌, ◌++◌, length, drop, Option, Some, None, option_map, nat_eq, codes, if◌then◌else◌, refl, ap, ◌∙◌, inl, inr, arith, append_assoc, length-drop}
 use Rattle.std.specs.Cmp.Lexicographic.{pointwise}
 use Rattle.std.specs.List.{prefix_len, starts_with}
 use Rattle.std.specs.Option.{option_or}
