@@ -1,5 +1,5 @@
 -- Parts of requests that were written down by hand, computed by the definitions.
-use Rattle.std.proofs.Common.{◌≡◌, ◌∷◌, ◌++◌, [], codes, None, Ok, Err, Some, true, refl}
+use Rattle.std.proofs.Common.{◌≡◌, ◌∷◌, [], codes, None, Ok, Err, Some, true, refl}
 use Rattle.book_words.specs.declared.act.Question.TheVariants as question
 use Rattle.book_words.specs.Names.{name_of, name_with}
 use Rattle.office_wire.specs.declared.types.Bad.TheVariants as bad
