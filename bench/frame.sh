@@ -37,7 +37,7 @@ cat >"$bench/src/main.rt" <<'RATTLE'
 //! Frames one of three requests so many times.
 #![tactic(auto)]
 
-use office_wire::{Frame, Framed, OfficeAsk, frame};
+use office_wire::{Frame, OfficeAsk, frame};
 use std::alloc::Global;
 use std::env;
 use std::process::ExitCode;
@@ -53,8 +53,7 @@ Accept: */*\r\n\r\n",
 // 1 where it is a whole request, and what is asked could be told.
 fn is_told(told: &Frame) -> u64 {
     match told {
-        Frame::Whole(Framed { what: OfficeAsk::NoMemory, .. }) => 0,
-        Frame::Whole(_) => 1,
+        Frame::Whole(framed) if framed.what != OfficeAsk::NoMemory => 1,
         _ => 0,
     }
 }
