@@ -1,2 +1,9 @@
 pub mod HeadSizes
+pub mod HeadGrowth
+pub mod RouteLaws
+pub mod FrameKinds
+pub mod FrameSteps
+pub mod FrameLaws
+pub mod RequestLaws
+mod WorkedRequests
 mod WorkedResponses
