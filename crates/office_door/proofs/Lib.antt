@@ -1,0 +1,4 @@
+pub mod AnsweredAsks
+pub mod HeardBytes
+pub mod ServedRequests
+pub mod VisitedConnections
