@@ -1,2 +1,5 @@
 pub mod HeadSizes
+pub mod HeadGrowth
+pub mod FrameLaws
+pub mod RequestLaws
 mod WorkedResponses

@@ -48,8 +48,8 @@ fn empty_line_size(bytes: &[u8]) -> Option<usize>
     }
 }
 
-// CR or LF.
-fn is_newline(byte: u8) -> bool
+/// CR or LF.
+pub fn is_newline(byte: u8) -> bool
     ensures { result ≡ is_newline byte }
 {
     byte == b'\r' || byte == b'\n'

@@ -17,16 +17,16 @@ const MAX_VALUE: usize = 25;
 /// The most bytes of a line.
 const MAX_LINE: usize = MAX_LABEL + MAX_VALUE + LINE_END;
 
-/// The most bytes of a head: five lines, and the empty one.
-pub const MAX_HEAD: usize = 5 * MAX_LINE + LINE_END;
+/// The most bytes of the head of a response: five lines, and the empty one.
+pub const HEAD_ROOM: usize = 5 * MAX_LINE + LINE_END;
 
 /// Puts a head before the body, which is all that stands from `start` on.
 pub fn put_head(to: &mut Vec<u8>, start: usize, head: &Head)
     requires start { start ≤ vec_len to.old }
-    requires room { HasRoom to.old MAX_HEAD }
+    requires room { HasRoom to.old HEAD_ROOM }
     ensures items { (before body : List ℕ) → to.old.items ≡ before ++ body
         → length before ≡ start → to.new.items ≡ before ++ response head.now body }
-    ensures longest { vec_len to.new ≤ vec_len to.old + MAX_HEAD }
+    ensures longest { vec_len to.new ≤ vec_len to.old + HEAD_ROOM }
     ensures capacity { vec_capacity to.new ≡ vec_capacity to.old }
 {
     let size = to.len() - start;
@@ -46,8 +46,8 @@ fn move_back(bytes: &mut [u8], start: usize, size: usize)
 
 // Appends the head before a body of so many bytes.
 fn push_head(to: &mut Vec<u8>, head: &Head, size: usize)
-    requires { HasRoom to.old MAX_HEAD }
-    ensures { Appended to.old to.new (head_text head.now size) MAX_HEAD }
+    requires { HasRoom to.old HEAD_ROOM }
+    ensures { Appended to.old to.new (head_text head.now size) HEAD_ROOM }
 {
     push_line(to, b"HTTP/1.1 ", status_word(head.status));
     push_line(to, b"Content-Type: ", media_word(head.media));

@@ -1,3 +1,5 @@
+use book_words::{Ask, Question};
+
 /// What is wrong with the form of a request.
 #[derive(Clone, Copy, Debug, PartialEq, Eq)]
 pub enum Bad {
@@ -72,4 +74,45 @@ pub struct Head {
     pub extra: Extra,
     /// Whether the connection ends behind the response.
     pub last: bool,
+}
+
+/// What is found at the path of a request.
+#[derive(Clone, Copy, Debug, PartialEq, Eq)]
+pub enum Route {
+    /// Acts, which are posted.
+    Acts,
+    /// The answer to a question, which is got.
+    Question(Question),
+}
+
+/// What a request asks.
+#[derive(Clone, Copy, Debug, PartialEq, Eq)]
+pub enum OfficeAsk {
+    /// An act of a desk, or a question.
+    Ask(Ask),
+    /// Nothing: the form of the request is at fault.
+    Bad(Bad),
+    /// There was no memory to read the act in its body.
+    NoMemory,
+}
+
+/// A request.
+#[derive(Clone, Copy, Debug, PartialEq, Eq)]
+pub struct Framed {
+    /// How many bytes it has.
+    pub taken: usize,
+    pub what: OfficeAsk,
+    /// Whether the connection ends behind the response.
+    pub last: bool,
+}
+
+/// What bytes begin with.
+#[derive(Clone, Copy, Debug, PartialEq, Eq)]
+pub enum Frame {
+    /// A request, or one that is at fault.
+    Whole(Framed),
+    /// It isn't decided yet: more bytes have to come.
+    More,
+    /// No request begins before the end of the input.
+    Nothing,
 }

@@ -1,0 +1,75 @@
+ghost use Rattle.std.specs.Prelude.{◌≡◌, Some};
+ghost use Rattle.office_wire.specs.declared.types.Route.TheVariants as route;
+ghost use Rattle.office_wire.specs.Frames.{question_ask, act_ask, ask_at, MayTell};
+ghost use Rattle.office_wire.specs.Routes.{route_of};
+
+use crate::body::desk_ask;
+use crate::routes::route_of;
+use crate::types::{Bad, OfficeAsk, Route};
+use book_words::{Ask, Question, Want};
+use std::alloc::Global;
+
+/// What is asked at a target by a method, with the length of the body where one is given. It takes
+/// memory for an act alone.
+pub fn ask_at(
+    alloc: Global,
+    target: &[u8],
+    method: &[u8],
+    given: Option<usize>,
+    body: &[u8],
+) -> OfficeAsk
+    ensures { MayTell (ask_at (route_of target.now) method.now given body.now) result }
+{
+    match route_of(target) {
+        None => OfficeAsk::Bad(Bad::Path),
+        Some(Route::Acts) => posted_ask(alloc, method, given, body),
+        Some(Route::Question(question)) => got_ask(method, question),
+    }
+}
+
+// What is asked where acts are posted.
+fn posted_ask(alloc: Global, method: &[u8], given: Option<usize>, body: &[u8]) -> OfficeAsk
+    ensures { MayTell (ask_at (Some route.Acts) method.now given body.now) result }
+{
+    if method == b"POST".as_slice() {
+        act_ask(alloc, given, body)
+    } else {
+        OfficeAsk::Bad(Bad::Method { post: true })
+    }
+}
+
+// What is asked where the answer to a question is got.
+fn got_ask(method: &[u8], question: Question) -> OfficeAsk
+    ensures { (given body : _) → result ≡ ask_at (Some (route.Question question)) method.now given body }
+{
+    if method == b"GET".as_slice() {
+        OfficeAsk::Ask(question_ask(question))
+    } else {
+        OfficeAsk::Bad(Bad::Method { post: false })
+    }
+}
+
+// A question as desk 0, request 0.
+fn question_ask(question: Question) -> Ask
+    ensures { result ≡ question_ask question }
+{
+    Ask {
+        desk: 0,
+        request: 0,
+        want: Want::Question(question),
+    }
+}
+
+// What an act asks.
+fn act_ask(alloc: Global, given: Option<usize>, body: &[u8]) -> OfficeAsk
+    ensures { MayTell (act_ask given body.now) result }
+{
+    if given.is_none() {
+        return OfficeAsk::Bad(Bad::NoLength);
+    }
+    match desk_ask(alloc, body) {
+        Ok(Some(ask)) => OfficeAsk::Ask(ask),
+        Ok(None) => OfficeAsk::Bad(Bad::Body),
+        Err(_) => OfficeAsk::NoMemory,
+    }
+}

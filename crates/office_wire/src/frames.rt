@@ -1,0 +1,115 @@
+ghost use Rattle.std.specs.Prelude.{◌≡◌, ◌≤◌, Some, length, take};
+ghost use Rattle.httparse.specs.Grammar.{RequestHead};
+ghost use Rattle.office_wire.specs.Frames.{frame_at_end, frame_by_size, frame_without_head, last_fault, part_of_body, whole_request, MayFrame, TellsFrame, TellsFrameOf};
+ghost use Rattle.office_wire.specs.HeadParts.{Says};
+
+use crate::asks::ask_at;
+use crate::head_size::{head_size, is_newline};
+use crate::limits::MAX_HEAD;
+use crate::request_heads::{Said, read_head};
+use crate::types::{Bad, Frame, Framed, OfficeAsk};
+use std::alloc::Global;
+
+/// What the bytes of a connection begin with that weren't taken yet: a request and what it asks, or
+/// its first fault of form. `ended` says that the input has no more bytes. It takes memory for the
+/// body of an act alone.
+pub fn frame(alloc: Global, buffer: &[u8], ended: bool) -> Frame
+    ensures { TellsFrame buffer.now ended result }
+{
+    match head_size(first_bytes(buffer)) {
+        Some(size) => {
+            let (text, rest) = buffer.split_at(size);
+            frame_of(alloc, text, rest, ended)
+        }
+        None => frame_without_head(buffer, ended),
+    }
+}
+
+// The bytes within which a head text lies.
+fn first_bytes(buffer: &[u8]) -> &[u8]
+    ensures { result.now ≡ take MAX_HEAD buffer.now }
+{
+    buffer.split_at(MAX_HEAD.min(buffer.len())).0
+}
+
+// What bytes begin with that hold no head text where one would have to be.
+fn frame_without_head(buffer: &[u8], ended: bool) -> Frame
+    ensures { result ≡ frame_without_head buffer.now ended }
+{
+    if buffer.len() >= MAX_HEAD {
+        last_fault(MAX_HEAD, Bad::Head)
+    } else if ended {
+        frame_at_end(buffer)
+    } else {
+        Frame::More
+    }
+}
+
+// What bytes begin with that hold no head text, at the end of the input.
+fn frame_at_end(buffer: &[u8]) -> Frame
+    ensures { result ≡ frame_at_end buffer.now }
+{
+    if buffer.iter().all(|byte| is_newline(*byte)) {
+        Frame::Nothing
+    } else {
+        last_fault(buffer.len(), Bad::Head)
+    }
+}
+
+// What a head text and the bytes behind it are.
+fn frame_of(alloc: Global, text: &[u8], rest: &[u8], ended: bool) -> Frame
+    requires { length text.now ≤ MAX_HEAD }
+    ensures { TellsFrameOf text.now rest.now ended result }
+{
+    match read_head(text) {
+        Some(said) => frame_by_size(alloc, &said, text.len(), rest, ended),
+        None => last_fault(text.len(), Bad::Head),
+    }
+}
+
+// What a head of so many bytes and the bytes behind it are.
+fn frame_by_size(alloc: Global, said: &Said, size: usize, rest: &[u8], ended: bool) -> Frame
+    requires { size ≤ MAX_HEAD }
+    ensures { (head : RequestHead) → Says said.now head
+        → MayFrame (frame_by_size said.now.size head size rest.now ended) result }
+{
+    match said.size {
+        Err(fault) => last_fault(size, fault),
+        Ok(given) if given.unwrap_or(0) <= rest.len() => {
+            let body = rest.split_at(given.unwrap_or(0)).0;
+            whole_request(alloc, said, size, given, body)
+        }
+        Ok(_) => part_of_body(size, rest, ended),
+    }
+}
+
+// The request of a head of so many bytes and of its body.
+fn whole_request(
+    alloc: Global,
+    said: &Said,
+    size: usize,
+    given: Option<usize>,
+    body: &[u8],
+) -> Frame
+    requires { size ≤ MAX_HEAD }
+    ensures { (head : RequestHead) → Says said.now head
+        → MayFrame (whole_request head size given body.now) result }
+{
+    Frame::Whole(Framed {
+        taken: size + body.len(),
+        what: ask_at(alloc, said.target, said.method, given, body),
+        last: said.last,
+    })
+}
+
+// A head of so many bytes, and behind it a part of its body.
+fn part_of_body(size: usize, rest: &[u8], ended: bool) -> Frame
+    requires { size ≤ MAX_HEAD }
+    ensures { result ≡ part_of_body size rest.now ended }
+{
+    if ended {
+        last_fault(size + rest.len(), Bad::Short)
+    } else {
+        Frame::More
+    }
+}
