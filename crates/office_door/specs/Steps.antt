@@ -1,7 +1,8 @@
 -- How the serving of a connection goes on, and how that of a door.
-use Rattle.std.specs.Prelude.{◌≡◌, ◌×◌, ⊤, ℕ, ◌+◌, ◌*◌, ◌<◌, ◌≤◌, Bool, true, false, List, [], ◌∷◌, ◌++◌, length, All, Option, Some, None, option_map, Result, Ok, Err}
+use Rattle.std.specs.Prelude.{◌≡◌, ◌×◌, ⊤, ℕ, ◌+◌, ◌*◌, ◌<◌, ◌≤◌, Bool, true, false, List, [], ◌∷◌, ◌++◌, length, take, All, Option, Some, None, option_map, Result, Ok, Err}
 use Rattle.std.specs.Io.KnownBytes.{Consumes, IsAtEnd}
-use Rattle.disk_core.specs.Doors.{with_taken}
+use Rattle.device_facts.specs.Count.{CountsFault}
+use Rattle.disk_core.specs.Doors.{with_taken, with_written}
 use Rattle.book_words.specs.declared.act.Ask.{Ask}
 use Rattle.book_words.specs.declared.reply.Answered.{Answered}
 use Rattle.book_words.specs.declared.caller.AskError.{AskError}
@@ -60,6 +61,21 @@ pub record Responds (Reached : List Ask → Type 0) (was now : Known) (told : Of
   pub text_is : text ≡ response_to told given last
   pub answered : (request : Framed) → HasAnswered Reached was now
       (record { request = request; told = told; given = given; row = row; last = last } ∷ [])
+
+-- what went out of a text that was sent: all of it, or a part
+abbrev pub IsSent : {E : Type 0} → List ℕ → List ℕ → Result ⊤ E → Type 0
+IsSent text bytes (Ok sent) = bytes ≡ text
+IsSent text bytes (Err error) = (part : ℕ) × (part < length text) × (bytes ≡ take part text)
+
+-- a text was sent to the present connection, or a part of it, where the link failed
+pub record Sends {E : Type 0} (was now : Port) (text : List ℕ) (result : Result ⊤ E)
+    : Type 0 where
+  pub bytes : List ℕ
+  pub sent : IsSent text bytes result
+  pub connections : now.connections ≡ option_map (with_written bytes) was.connections
+  pub left : now.left ≡ was.left
+  pub ended : now.ended ≡ was.ended
+  pub cause : CountsFault was.faults now.faults result
 
 -- a connection is served: each request so far was answered, and it goes on
 pub record IsServing (Reached : List Ask → Type 0) (was now : Site) (held : List ℕ)
