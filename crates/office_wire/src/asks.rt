@@ -1,4 +1,4 @@
-ghost use Rattle.std.specs.Prelude.{◌≡◌, Some};
+ghost use Rattle.std.specs.Prelude.{◌≡◌, ℕ, List, Option, Some};
 ghost use Rattle.office_wire.specs.declared.types.Route.TheVariants as route;
 ghost use Rattle.office_wire.specs.Frames.{question_ask, act_ask, ask_at, MayTell};
 ghost use Rattle.office_wire.specs.Routes.{route_of};
@@ -40,7 +40,8 @@ fn posted_ask(alloc: Global, method: &[u8], given: Option<usize>, body: &[u8]) -
 
 // What is asked where the answer to a question is got.
 fn got_ask(method: &[u8], question: Question) -> OfficeAsk
-    ensures { (given body : _) → result ≡ ask_at (Some (route.Question question)) method.now given body }
+    ensures { (given : Option ℕ) (body : List ℕ)
+        → result ≡ ask_at (Some (route.Question question)) method.now given body }
 {
     if method == b"GET".as_slice() {
         OfficeAsk::Ask(question_ask(question))

@@ -1,4 +1,5 @@
-ghost use Rattle.std.specs.Prelude.{◌≡◌, [], ◌∷◌, option_map};
+ghost use Rattle.std.specs.Prelude.{◌≡◌, ◌≤◌, ◌==◌, [], ◌∷◌, length, option_map};
+ghost use Rattle.std.specs.List.{position_or_len};
 ghost use Rattle.office_wire.specs.Routes.{path_of, segments, segments_behind, word_route, sheet_route, sample_route, pack_route, lane_route, part_route, detail_route, route_at, route_of};
 
 use crate::types::Route;
@@ -24,8 +25,7 @@ pub fn route_of(target: &[u8]) -> Option<Route>
 fn path_of(target: &[u8]) -> &[u8]
     ensures { result.now ≡ path_of target.now }
 {
-    let size = target.iter().take_while(|byte| **byte != b'?').count();
-    target.split_at(size).0
+    target.split_at(count_before(b'?', target)).0
 }
 
 // The first segment of a path, and what stands behind the `/` that ends it, if one does.
@@ -33,12 +33,19 @@ fn first_segment(path: &[u8]) -> (&[u8], Option<&[u8]>)
     ensures { segments path.now
         ≡ result.0.now ∷ segments_behind (option_map (λ rest. rest.now) result.1) }
 {
-    let size = path.iter().take_while(|byte| **byte != b'/').count();
-    let (segment, rest) = path.split_at(size);
-    match rest.split_first() {
-        Some((_, behind)) => (segment, Some(behind)),
-        None => (segment, None),
+    let size = count_before(b'/', path);
+    if size == path.len() {
+        return (path, None);
     }
+    (path.split_at(size).0, Some(path.split_at(size + 1).1))
+}
+
+// How many bytes stand before the first of these.
+fn count_before(byte: u8, bytes: &[u8]) -> usize
+    ensures value { result ≡ position_or_len (λ other. other == byte) bytes.now }
+    ensures within { result ≤ length bytes.now }
+{
+    bytes.iter().take_while(|other| **other != byte).count()
 }
 
 // What is found at a path by what stands behind its first `/`.

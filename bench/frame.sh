@@ -1,0 +1,115 @@
+#!/bin/sh
+# Frames a POST of an act, a GET and a request at fault (the path is unknown), each many times, and
+# tells the nanoseconds of processor time and the calls of malloc that one takes: the difference
+# between 2 000 000 and none, so the start of the program isn't counted. Best of five.
+# The program isn't a crate of the product: it is proved and built in a folder of its own. Its only
+# word is another number of times.
+set -eu
+here=$(dirname "$(readlink -f "$0")")
+times=${1:-2000000}
+work=$(mktemp -d)
+trap 'rm -rf "$work"' EXIT
+
+mkdir "$work/crates"
+cp "$here/../HANDLES" "$work/HANDLES"
+for name in hall_limits hall_units annex_tables pack_judge reference_test sample_draw \
+    tare_register book_words book_laws batch_reports office_wire; do
+    mkdir "$work/crates/$name"
+    for part in src specs proofs; do
+        if [ -d "$here/../crates/$name/$part" ]; then
+            cp -r "$here/../crates/$name/$part" "$work/crates/$name/$part"
+        fi
+    done
+    grep "^$name:" "$here/../crates.txt" >>"$work/crates.txt"
+done
+bench=$work/crates/frame_bench
+mkdir -p "$bench/src"
+cat >"$bench/src/main.rt" <<'RATTLE'
+//! Frames one of three requests so many times.
+#![tactic(auto)]
+
+use office_wire::{Frame, Framed, OfficeAsk, frame};
+use std::alloc::Global;
+use std::env;
+use std::process::ExitCode;
+
+const REQUESTS: [&[u8]; 3] = [
+    b"POST /acts HTTP/1.1\r\nHost: 127.0.0.1:8080\r\nContent-Length: 68\r\n\r\n\
+{\"act\":\"product\",\"desk\":101,\"request\":1,\"name\":\"a\",\"nominal\":250000}",
+    b"GET /batches/A HTTP/1.1\r\nHost: 127.0.0.1:8080\r\nUser-Agent: curl/8.5.0\r\n\
+Accept: */*\r\n\r\n",
+    b"GET /nothing HTTP/1.1\r\nHost: 127.0.0.1:8080\r\n\r\n",
+];
+
+// 1 where it is a whole request, and what is asked could be told.
+fn is_told(told: &Frame) -> u64 {
+    match told {
+        Frame::Whole(Framed { what: OfficeAsk::NoMemory, .. }) => 0,
+        Frame::Whole(_) => 1,
+        _ => 0,
+    }
+}
+
+fn run(alloc: Global, bytes: &[u8], times: u64) -> u64 {
+    let mut told: u64 = 0;
+    for _turn in 0..times {
+        told = told.wrapping_add(is_told(&frame(alloc, bytes, false)));
+    }
+    told
+}
+
+fn main(rt: HostRuntime) -> ExitCode {
+    let Ok(args) = env::args(&rt) else {
+        return ExitCode::from(2);
+    };
+    let mut numbers = args.skip(1).filter_map(|word| word.parse::<u64>().ok());
+    let (Some(which), Some(times)) = (numbers.next(), numbers.next()) else {
+        return ExitCode::from(2);
+    };
+    let Some(bytes) = REQUESTS.get((which & 3) as usize) else {
+        return ExitCode::from(2);
+    };
+    if run(rt.alloc(), bytes, times) == times {
+        ExitCode::from(0)
+    } else {
+        ExitCode::from(1)
+    }
+}
+RATTLE
+echo 'frame_bench: office_wire' >>"$work/crates.txt"
+(cd "$bench" && rt run </dev/null) >"$work/log" 2>&1 || true
+program=$bench/out/frame_bench
+[ -x "$program" ] || { cat "$work/log" >&2; exit 70; }
+
+# counts calls that get memory
+cat >"$work/count.c" <<'C'
+#include <stdio.h>
+#include <stddef.h>
+extern void *__libc_malloc(size_t);
+extern void *__libc_realloc(void *, size_t);
+extern void *__libc_memalign(size_t, size_t);
+static unsigned long got;
+void *malloc(size_t n) { got++; return __libc_malloc(n); }
+void *realloc(void *p, size_t n) { got++; return __libc_realloc(p, n); }
+void *aligned_alloc(size_t a, size_t n) { got++; return __libc_memalign(a, n); }
+int posix_memalign(void **p, size_t a, size_t n) { got++; *p = __libc_memalign(a, n); return *p ? 0 : 12; }
+__attribute__((destructor)) static void tell(void) { fprintf(stderr, "%lu\n", got); }
+C
+cc -O2 -shared -fPIC -o "$work/count.so" "$work/count.c"
+
+# hundredths of a second of processor time, best of five
+best() {
+    least=1000000
+    for _ in 1 2 3 4 5; do
+        took=$(/usr/bin/time -f '%U %S' "$program" "$1" "$2" 2>&1 | awk '{print int(100 * ($1 + $2) + 0.5)}')
+        if [ "$took" -lt "$least" ]; then least=$took; fi
+    done
+    echo "$least"
+}
+for which in 0 1 2; do
+    case $which in 0) name="a POST" ;; 1) name="a GET" ;; *) name="an unknown path" ;; esac
+    spent=$(($(best "$which" "$times") - $(best "$which" 0)))
+    many=$(LD_PRELOAD="$work/count.so" "$program" "$which" 1000 2>&1)
+    none=$(LD_PRELOAD="$work/count.so" "$program" "$which" 0 2>&1)
+    echo "$name: $((spent * 10000000 / times)) ns, $(((many - none) / 1000)) allocations"
+done

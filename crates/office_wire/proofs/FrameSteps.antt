@@ -1,0 +1,111 @@
+-- What each part of a frame tells is told of the whole.
+use Rattle.std.proofs.Common.{◌≡◌, ℕ, ◌+◌, ◌≤◌, Bool, true, false, List, length, take, drop, nat_le, Option, Some, None, Result, Ok, Err, if◌then◌else◌, refl, sym, ap, subst, ◌∙◌, inl, inr}
+use Rattle.httparse.specs.Grammar.{RequestHead}
+use Rattle.office_wire.specs.declared.limits.TheConstants.{MAX_HEAD}
+use Rattle.office_wire.specs.declared.types.Bad.{Bad}
+use Rattle.office_wire.specs.declared.types.Bad.TheVariants as bad
+use Rattle.office_wire.specs.declared.types.OfficeAsk.{OfficeAsk}
+use Rattle.office_wire.specs.declared.types.Framed.{Framed}
+use Rattle.office_wire.specs.declared.types.Frame.{Frame}
+use Rattle.office_wire.specs.declared.types.Frame.TheVariants.{Whole, More, Nothing}
+use Rattle.office_wire.specs.declared.request_heads.Said.{Said}
+use Rattle.office_wire.specs.HeadSize.{head_size}
+use Rattle.office_wire.specs.Routes.{route_of}
+use Rattle.office_wire.specs.Frames.{IsFrameFrom, IsFrameOf, IsHeadOf, MayTell, MayFrame, TellsFrame, TellsFrameOf, ask_at, body_size, size_of, headers_of, is_last, last_fault, whole_request, part_of_body, frame_by_size, frame_by_head, frame_without_head}
+use Rattle.office_wire.specs.HeadParts.{Says, SaysHeadOf}
+
+-- a frame may be told as it is
+pub told_same : (frame told : Frame) → told ≡ frame → MayFrame frame told
+told_same (Whole framed) told is = (framed.what, inl refl, is)
+told_same More told is = is
+told_same Nothing told is = is
+
+-- bytes that hold no head text
+pub tells_without_head : (bytes : List ℕ) (ended : Bool) (told : Frame)
+    → head_size (take MAX_HEAD bytes) ≡ None → told ≡ frame_without_head bytes ended
+    → TellsFrame bytes ended told
+tells_without_head bytes ended told none is = (
+  frame_without_head bytes ended,
+  subst (λ found. IsFrameFrom found bytes ended (frame_without_head bytes ended)) (sym none) refl,
+  told_same (frame_without_head bytes ended) told is,
+)
+
+-- bytes that hold one
+pub tells_with_head : (bytes text rest : List ℕ) (size : ℕ) (ended : Bool) (told : Frame)
+    → head_size (take MAX_HEAD bytes) ≡ Some size → text ≡ take size bytes → rest ≡ drop size bytes
+    → TellsFrameOf text rest ended told → TellsFrame bytes ended told
+tells_with_head bytes text rest size ended told found front back tells = (
+  tells.0,
+  subst (λ place. IsFrameFrom place bytes ended tells.0) (sym found)
+      (subst (λ (t : List ℕ). IsFrameOf t (drop size bytes) ended tells.0) front
+      (subst (λ (r : List ℕ). IsFrameOf text r ended tells.0) back tells.1)),
+  tells.2,
+)
+
+-- a head text that isn't a head
+pub tells_no_head : (text rest : List ℕ) (ended : Bool) (told : Frame)
+    → IsHeadOf text None → told ≡ last_fault (length text) bad.Head → TellsFrameOf text rest ended told
+tells_no_head text rest ended told none is = (
+  last_fault (length text) bad.Head,
+  (None, none, refl),
+  told_same (last_fault (length text) bad.Head) told is,
+)
+
+-- a head text that is one
+pub tells_head : (text rest : List ℕ) (ended : Bool) (told : Frame) (said : Said)
+    → SaysHeadOf text said
+    → ((head : RequestHead) → Says said head
+      → MayFrame (frame_by_size said.size head (length text) rest ended) told)
+    → TellsFrameOf text rest ended told
+tells_head text rest ended told said of tells = (
+  frame_by_head (Some of.0) (length text) rest ended,
+  (Some of.0, of.1, refl),
+  subst (λ size. MayFrame (frame_by_size size of.0 (length text) rest ended) told) of.2.size (tells of.0 of.2),
+)
+
+-- a fault of the headers
+pub tells_fault : (said : Result (Option ℕ) Bad) (fault : Bad) (head : RequestHead) (size : ℕ)
+    (rest : List ℕ) (ended : Bool) (told : Frame)
+    → said ≡ Err fault → told ≡ last_fault size fault
+    → MayFrame (frame_by_size said head size rest ended) told
+tells_fault said fault head size rest ended told is same =
+    subst (λ s. MayFrame (frame_by_size s head size rest ended) told) (sym is)
+    (told_same (last_fault size fault) told same)
+
+-- a body that is there
+pub tells_whole : (said : Result (Option ℕ) Bad) (given : Option ℕ) (head : RequestHead) (size : ℕ)
+    (rest body : List ℕ) (ended : Bool) (told : Frame)
+    → said ≡ Ok given → nat_le (body_size given) (length rest) ≡ true
+    → body ≡ take (body_size given) rest
+    → MayFrame (whole_request head size given body) told
+    → MayFrame (frame_by_size said head size rest ended) told
+tells_whole said given head size rest body ended told is there front tells =
+    subst (λ s. MayFrame (frame_by_size s head size rest ended) told) (sym is)
+    (subst (λ all. MayFrame (if all then whole_request head size given (take (body_size given) rest)
+      else part_of_body size rest ended) told) (sym there)
+    (subst (λ (b : List ℕ). MayFrame (whole_request head size given b) told) front tells))
+
+-- a body that isn't there
+pub tells_part : (said : Result (Option ℕ) Bad) (given : Option ℕ) (head : RequestHead) (size : ℕ)
+    (rest : List ℕ) (ended : Bool) (told : Frame)
+    → said ≡ Ok given → nat_le (body_size given) (length rest) ≡ false
+    → told ≡ part_of_body size rest ended
+    → MayFrame (frame_by_size said head size rest ended) told
+tells_part said given head size rest ended told is there same =
+    subst (λ s. MayFrame (frame_by_size s head size rest ended) told) (sym is)
+    (subst (λ all. MayFrame (if all then whole_request head size given (take (body_size given) rest)
+      else part_of_body size rest ended) told) (sym there)
+    (told_same (part_of_body size rest ended) told same))
+
+-- a request
+pub tells_request : (said : Said) (head : RequestHead) (size : ℕ) (given : Option ℕ) (body : List ℕ)
+    (what : OfficeAsk) (told : Frame)
+    → Says said head → MayTell (ask_at (route_of said.target.now) said.method.now given body) what
+    → told ≡ Whole (record { taken = size + length body; what = what; last = said.last })
+    → MayFrame (whole_request head size given body) told
+tells_request said head size given body what told says asks is = (
+  what,
+  subst (λ (method : List ℕ). MayTell (ask_at (route_of head.target) method given body) what) says.method
+      (subst (λ (target : List ℕ). MayTell (ask_at (route_of target) said.method.now given body) what) says.target asks),
+  is ∙ (λ i. Whole (record { taken = size + length body; what = what; last = says.last i })),
+)
