@@ -11,7 +11,13 @@ const ROWS: [Row; 5] = [
     (1, 12, 0, DoorStop::Done, b"door 1 served 12 links 0 done\n"),
     (2, 0, 0, DoorStop::Door, b"door 2 served 0 links 0 door\n"),
     (16, 3, 2, DoorStop::Door, b"door 16 served 3 links 2 door\n"),
-    (1, 0, 0, DoorStop::NoMemory, b"door 1 served 0 links 0 memory\n"),
+    (
+        1,
+        0,
+        0,
+        DoorStop::NoMemory,
+        b"door 1 served 0 links 0 memory\n",
+    ),
     (
         255,
         u32::MAX,

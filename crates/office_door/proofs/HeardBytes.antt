@@ -25,8 +25,7 @@ begin_more ended bytes more [] rest is = ap (λ (b : List ℕ). b ++ more) is
 begin_more ended bytes more (x ∷ xs) rest is =
     let within = (frame_taken bytes false x.request is.0).1 in
     let behind : drop x.request.taken (bytes ++ more) ≡ drop x.request.taken bytes ++ more =
-    drop-append-le x.request.taken bytes more within in
-    (
+    drop-append-le x.request.taken bytes more within in (
       frame_still bytes more ended x.request is.0,
       is.1,
       subst (λ (b : List ℕ). BeginWith ended b xs (rest ++ more)) (sym behind)

@@ -90,7 +90,7 @@ pub serving_none : (Reached : List Ask → Type 0) (now : Site) → Reached [] �
 serving_none Reached now reached begins = record {
   exchanges = [];
   heard = heard_none now.door begins;
-  open = All-nil;
+  ongoing = All-nil;
   few = omega arith;
   served_is = refl;
   answered = answered_none Reached now.caller reached;
@@ -107,7 +107,7 @@ pub serving_heard : (Reached : List Ask → Type 0) (was : Site) (known : Known)
 serving_heard Reached was known old now held more served serving heard calm = record {
   exchanges = serving.exchanges;
   heard = heard;
-  open = serving.open;
+  ongoing = serving.ongoing;
   few = serving.few;
   served_is = serving.served_is;
   answered = serving.answered;
@@ -141,7 +141,7 @@ visited_ended Reached was now held served serving nothing ended =
         rest = held;
         requests = subst (λ (all : List Exchange). BeginWith now.door.ended heard.taken all held)
             (sym (no_last xs)) heard.requests;
-        open = serving.open;
+        ongoing = serving.ongoing;
         few = serving.few;
         ends = tt;
         left = (nothing, ended, refl, refl);
@@ -163,7 +163,7 @@ pub visited_unread : (Reached : List Ask → Type 0) (was : Site) (known : Known
     → IsHeard was.door now serving.exchanges (responses serving.exchanges) more
     → IsFrame more false More → now.ended ≡ false → Counted old.faults now.faults 1
     → IsVisited Reached was (record { caller = known; door = now }) served ReadFailed
-visited_unread Reached was known old now held more served serving heard wanted open failed =
+visited_unread Reached was known old now held more served serving heard wanted unended failed =
     let xs = serving.exchanges in
     record {
       visit = visit_open heard.taken now.ended xs ReadFailed;
@@ -171,10 +171,10 @@ visited_unread Reached was known old now held more served serving heard wanted o
         rest = more;
         requests = subst (λ (all : List Exchange). BeginWith now.ended heard.taken all more)
             (sym (no_last xs)) heard.requests;
-        open = serving.open;
+        ongoing = serving.ongoing;
         few = serving.few;
         ends = tt;
-        left = (wanted, open, refl, refl);
+        left = (wanted, unended, refl, refl);
       };
       left_so = refl;
       bytes = heard.bytes;
@@ -195,7 +195,7 @@ pub record IsMore (Reached : List Ask → Type 0) (was now : Site) (held : List 
   pub x : Exchange
   pub text_is : text ≡ response_of x
   pub heard : IsHeard was.door now.door (before ++ x ∷ []) (responses before ++ sent) held
-  pub open : All GoesOn before
+  pub ongoing : All GoesOn before
   pub few : length before < MAX_REQUESTS
   pub last_is : x.last ≡ last
   pub ends : EndsRight (length before) x
@@ -235,7 +235,7 @@ goes_on Reached was now held served sent more calm =
       exchanges = more.before ++ x ∷ [];
       heard = subst (λ (t : List ℕ). IsHeard was.door now.door (more.before ++ x ∷ []) t held) text
           more.heard;
-      open = All-push GoesOn more.before x more.open (none.0, more.last_is);
+      ongoing = All-push GoesOn more.before x more.ongoing (none.0, more.last_is);
       few = omega (arith, fewer, length-append more.before (x ∷ []));
       served_is = more.served_is;
       answered = more.answered;
@@ -261,7 +261,7 @@ ends_last Reached was now held served sent more calm =
       right = record {
         rest = held;
         requests = more.heard.requests;
-        open = more.open;
+        ongoing = more.ongoing;
         few = more.few;
         ends = more.ends;
         left = (
@@ -300,7 +300,7 @@ ends_cut Reached was now held served last part text more less failed =
       right = record {
         rest = held;
         requests = more.heard.requests;
-        open = more.open;
+        ongoing = more.ongoing;
         few = more.few;
         ends = more.ends;
         left = (
@@ -385,13 +385,13 @@ more_served One Two Both was known new old now held served framed last text resu
     ∙ ap (λ (n : ℕ). framed.last || n + 1 == MAX_REQUESTS) serving.served_is
     ∙ ap (λ (b : Bool). b || length xs + 1 == MAX_REQUESTS) is.last in
     let more : IsMore Both was (record { caller = new; door = now }) (drop framed.taken held)
-        (served + 1) last text sends.bytes = record {
+    (served + 1) last text sends.bytes = record {
       before = xs;
       x = x;
       text_is = responds.text_is;
       heard = heard_written was.door old now (xs ++ x ∷ []) (responses xs)
           (drop framed.taken held) sends.bytes sends.left sends.ended sends.connections heard;
-      open = serving.open;
+      ongoing = serving.ongoing;
       few = serving.few;
       last_is = refl;
       ends = ends;

@@ -184,8 +184,13 @@ open_more One Two Both was known new old mid now turns tally served links leavin
             (exchanges_of v) before.answered visit.answered reached);
         visits_are = subst (AreVisited was.door.connections (is.visits ++ v ∷ [])) (sym after)
             (visits_push was.door.connections old.connections is.visits v before.visits_are takes);
-        served_is = omega (arith, before.served_is, visit.served_is, ap length exchanges,
-            length-append (all_exchanges is.visits) (exchanges_of v));
+        served_is = omega (
+          arith,
+          before.served_is,
+          visit.served_is,
+          ap length exchanges,
+          length-append (all_exchanges is.visits) (exchanges_of v),
+        );
         links_are = links_are;
       };
       turns_are = omega (arith, is.turns_are, length-append is.visits (v ∷ []));

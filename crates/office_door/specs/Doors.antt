@@ -1,5 +1,5 @@
 -- What a door serves: its connections, one after another.
-use Rattle.std.specs.Prelude.{◌≡◌, ◌×◌, ℕ, zero, suc, ◌+◌, ◌<◌, Bool, true, false, List, [], ◌∷◌, ◌++◌, length, flat_map, sum_by, All, Option, Some, None, IfSome, option_map}
+use Rattle.std.specs.Prelude.{◌≡◌, ℕ, zero, suc, ◌+◌, ◌<◌, Bool, true, false, List, [], ◌∷◌, ◌++◌, length, flat_map, sum_by, All, Option, Some, None, IfSome, option_map}
 use Rattle.device_facts.specs.Count.{Counted}
 use Rattle.device_facts.specs.Prefix.{IsPrefixOf}
 use Rattle.disk_core.specs.Doors.{Connection, Connections, first_connection, next_connections, with_taken, with_written}

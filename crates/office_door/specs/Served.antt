@@ -1,6 +1,6 @@
 -- What is served on one connection: its bytes are requests, in order, and what is written to it is
 -- one response for each.
-use Rattle.std.specs.Prelude.{◌≡◌, ◌×◌, ℕ, ◌+◌, ◌<◌, Bool, true, false, ◌||◌, ◌==◌, List, [], ◌∷◌, ◌++◌, length, take, drop, All, Option, Some, None, IfSome, option_to_list}
+use Rattle.std.specs.Prelude.{◌≡◌, ℕ, ◌+◌, ◌<◌, Bool, true, false, ◌||◌, ◌==◌, List, [], ◌∷◌, ◌++◌, length, take, drop, All, Option, Some, None, IfSome, option_to_list}
 use Rattle.office_wire.specs.declared.types.Frame.TheVariants.{Whole, More, Nothing}
 use Rattle.office_wire.specs.Frames.{IsFrame, MayTell}
 use Rattle.office_door.specs.declared.leaving.Leaving.{Leaving}
@@ -67,7 +67,7 @@ IsLeft WriteFailed visit rest =
 pub record IsServed (visit : Visit) : Type 0 where
   pub rest : List ℕ
   pub requests : BeginWith visit.ended visit.taken (exchanges_of visit) rest
-  pub open : All GoesOn visit.before
+  pub ongoing : All GoesOn visit.before
   pub few : length visit.before < MAX_REQUESTS
   pub ends : IfSome visit.last (EndsRight (length visit.before))
   pub left : IsLeft visit.leaving visit rest

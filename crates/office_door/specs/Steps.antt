@@ -1,5 +1,5 @@
 -- How the serving of a connection goes on, and how that of a door.
-use Rattle.std.specs.Prelude.{◌≡◌, ◌×◌, ⊤, ℕ, ◌+◌, ◌*◌, ◌<◌, ◌≤◌, Bool, true, false, List, [], ◌∷◌, ◌++◌, length, take, All, Option, Some, None, option_map, Result, Ok, Err}
+use Rattle.std.specs.Prelude.{◌≡◌, ⊤, ℕ, ◌+◌, ◌*◌, ◌<◌, ◌≤◌, Bool, true, false, List, [], ◌∷◌, ◌++◌, length, take, All, Option, Some, None, option_map, Result, Ok, Err}
 use Rattle.std.specs.Io.KnownBytes.{Consumes, IsAtEnd}
 use Rattle.device_facts.specs.Count.{CountsFault}
 use Rattle.disk_core.specs.Doors.{with_taken, with_written}
@@ -82,7 +82,7 @@ pub record IsServing (Reached : List Ask → Type 0) (was now : Site) (held : Li
     (served : ℕ) : Type 0 where
   pub exchanges : List Exchange
   pub heard : IsHeard was.door now.door exchanges (responses exchanges) held
-  pub open : All GoesOn exchanges
+  pub ongoing : All GoesOn exchanges
   pub few : length exchanges < MAX_REQUESTS
   pub served_is : served ≡ length exchanges
   pub answered : HasAnswered Reached was.caller now.caller exchanges

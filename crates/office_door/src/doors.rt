@@ -1,4 +1,4 @@
-ghost use Rattle.std.specs.Prelude.{◌≡◌, ◌×◌, ◌+◌, ◌*◌, ◌<◌, ◌≤◌, ℕ, vec_capacity};
+ghost use Rattle.std.specs.Prelude.{◌≡◌, ◌+◌, ◌*◌, ◌<◌, ◌≤◌, ℕ, vec_capacity};
 ghost use Rattle.office_wire.specs.declared.replies.TheConstants.{REPLY_ROOM};
 ghost use Rattle.office_door.specs.declared.limits.TheConstants.{MAX_REQUESTS, MAX_CONNECTIONS};
 ghost use Rattle.office_door.specs.declared.ending.DoorStop.TheVariants as stop;

@@ -1,5 +1,5 @@
-use office_wire::{Frame, REQUEST_ROOM, frame};
 use disk_core::{Door, Failed};
+use office_wire::{Frame, REQUEST_ROOM, frame};
 use std::alloc::{AllocError, Global};
 use std::marker::Model;
 

@@ -1,4 +1,4 @@
-ghost use Rattle.std.specs.Prelude.{◌≡◌, ◌×◌, ◌+◌, ◌<◌, ◌≤◌, IfNone, vec_capacity};
+ghost use Rattle.std.specs.Prelude.{◌≡◌, ◌+◌, ◌<◌, ◌≤◌, IfNone, vec_capacity};
 ghost use Rattle.office_wire.specs.declared.types.Frame.TheVariants.{Whole};
 ghost use Rattle.office_wire.specs.declared.replies.TheConstants.{REPLY_ROOM};
 ghost use Rattle.office_wire.specs.Frames.{TellsFrame};

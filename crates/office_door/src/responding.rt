@@ -6,12 +6,7 @@ use book_words::{AskError, Caller};
 use office_wire::{OfficeAsk, bad_into, reply_into};
 
 /// Answers a request: asks the caller, where the request asks something, and makes the response.
-pub(crate) fn respond<C: Caller>(
-    caller: &mut C,
-    told: &OfficeAsk,
-    last: bool,
-    reply: &mut Vec<u8>,
-)
+pub(crate) fn respond<C: Caller>(caller: &mut C, told: &OfficeAsk, last: bool, reply: &mut Vec<u8>)
     requires room { REPLY_ROOM ≤ vec_capacity reply.old }
     ensures responds { Responds (C.later caller.old caller.new) (C.known caller.old)
         (C.known caller.new) told.now last reply.new.items }

@@ -16,10 +16,13 @@ const SESSION: [&[u8]; 3] = [
 
 const ROW_2: &[u8] = b"HTTP/1.1 200 OK\r\nContent-Type: application/json\r\n\
 Content-Length: 9\r\nBook-Row: 2\r\n\r\n{\"row\":2}";
+
 const ROW_3: &[u8] = b"HTTP/1.1 200 OK\r\nContent-Type: application/json\r\n\
 Content-Length: 9\r\nBook-Row: 3\r\n\r\n{\"row\":3}";
+
 const ROW_4: &[u8] = b"HTTP/1.1 200 OK\r\nContent-Type: application/json\r\n\
 Content-Length: 9\r\nBook-Row: 4\r\n\r\n{\"row\":4}";
+
 const NO_DISK: &[u8] = b"HTTP/1.1 500 Internal Server Error\r\nContent-Type: application/json\r\n\
 Content-Length: 14\r\n\r\n{\"bad\":\"disk\"}";
 
@@ -40,25 +43,109 @@ const WHOLE: [&[u8]; 3] = [ROW_2, ROW_3, ROW_4];
 // admitted, its request is read, its response is written, and its end is read.
 const CALL_FAILS: [Seen<'static>; 14] = [
     // the first isn't admitted
-    Seen { served: 0, links: 0, stop: DoorStop::Door, rows: 1, written: [b"", b"", b""] },
-    Seen { served: 2, links: 1, stop: DoorStop::Done, rows: 3, written: [b"", ROW_2, ROW_3] },
+    Seen {
+        served: 0,
+        links: 0,
+        stop: DoorStop::Door,
+        rows: 1,
+        written: [b"", b"", b""],
+    },
+    Seen {
+        served: 2,
+        links: 1,
+        stop: DoorStop::Done,
+        rows: 3,
+        written: [b"", ROW_2, ROW_3],
+    },
     // what was asked stands, though the response went out to nobody
-    Seen { served: 3, links: 1, stop: DoorStop::Done, rows: 4, written: [b"", ROW_3, ROW_4] },
-    Seen { served: 3, links: 1, stop: DoorStop::Done, rows: 4, written: WHOLE },
+    Seen {
+        served: 3,
+        links: 1,
+        stop: DoorStop::Done,
+        rows: 4,
+        written: [b"", ROW_3, ROW_4],
+    },
+    Seen {
+        served: 3,
+        links: 1,
+        stop: DoorStop::Done,
+        rows: 4,
+        written: WHOLE,
+    },
     // the second isn't
-    Seen { served: 1, links: 0, stop: DoorStop::Door, rows: 2, written: [ROW_2, b"", b""] },
-    Seen { served: 2, links: 1, stop: DoorStop::Done, rows: 3, written: [ROW_2, b"", ROW_3] },
-    Seen { served: 3, links: 1, stop: DoorStop::Done, rows: 4, written: [ROW_2, b"", ROW_4] },
-    Seen { served: 3, links: 1, stop: DoorStop::Done, rows: 4, written: WHOLE },
+    Seen {
+        served: 1,
+        links: 0,
+        stop: DoorStop::Door,
+        rows: 2,
+        written: [ROW_2, b"", b""],
+    },
+    Seen {
+        served: 2,
+        links: 1,
+        stop: DoorStop::Done,
+        rows: 3,
+        written: [ROW_2, b"", ROW_3],
+    },
+    Seen {
+        served: 3,
+        links: 1,
+        stop: DoorStop::Done,
+        rows: 4,
+        written: [ROW_2, b"", ROW_4],
+    },
+    Seen {
+        served: 3,
+        links: 1,
+        stop: DoorStop::Done,
+        rows: 4,
+        written: WHOLE,
+    },
     // the third isn't
-    Seen { served: 2, links: 0, stop: DoorStop::Door, rows: 3, written: [ROW_2, ROW_3, b""] },
-    Seen { served: 2, links: 1, stop: DoorStop::Done, rows: 3, written: [ROW_2, ROW_3, b""] },
-    Seen { served: 3, links: 1, stop: DoorStop::Done, rows: 4, written: [ROW_2, ROW_3, b""] },
-    Seen { served: 3, links: 1, stop: DoorStop::Done, rows: 4, written: WHOLE },
+    Seen {
+        served: 2,
+        links: 0,
+        stop: DoorStop::Door,
+        rows: 3,
+        written: [ROW_2, ROW_3, b""],
+    },
+    Seen {
+        served: 2,
+        links: 1,
+        stop: DoorStop::Done,
+        rows: 3,
+        written: [ROW_2, ROW_3, b""],
+    },
+    Seen {
+        served: 3,
+        links: 1,
+        stop: DoorStop::Done,
+        rows: 4,
+        written: [ROW_2, ROW_3, b""],
+    },
+    Seen {
+        served: 3,
+        links: 1,
+        stop: DoorStop::Done,
+        rows: 4,
+        written: WHOLE,
+    },
     // it isn't told that no other waits
-    Seen { served: 3, links: 0, stop: DoorStop::Door, rows: 4, written: WHOLE },
+    Seen {
+        served: 3,
+        links: 0,
+        stop: DoorStop::Door,
+        rows: 4,
+        written: WHOLE,
+    },
     // nothing fails
-    Seen { served: 3, links: 0, stop: DoorStop::Done, rows: 4, written: WHOLE },
+    Seen {
+        served: 3,
+        links: 0,
+        stop: DoorStop::Done,
+        rows: 4,
+        written: WHOLE,
+    },
 ];
 
 // Whether just these texts were written to the connections of a door.
