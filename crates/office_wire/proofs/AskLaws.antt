@@ -11,7 +11,7 @@ use Rattle.std.specs.Prelude.{codes}
 
 by_members : (desk request : Option ℕ) (act : Option Act)
     → without_memory (body_ask (from_three
-      (λ d r a. record { desk = d; request = r; want = want.Act a }) desk request act))
+    (λ d r a. record { desk = d; request = r; want = want.Act a }) desk request act))
     ≡ asked.NoMemory
 by_members None request act = refl
 by_members (Some desk) None act = refl

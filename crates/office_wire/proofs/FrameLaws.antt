@@ -97,19 +97,19 @@ sized_still (Ok given) head size rest more ended framed is =
   where
     by : (there : Bool) → nat_le (body_size given) (length rest) ≡ there
         → (if there then whole_request head size given (take (body_size given) rest)
-            else part_of_body size rest false) ≡ Whole framed
+        else part_of_body size rest false) ≡ Whole framed
         → frame_by_size (Ok given) head size (rest ++ more) ended ≡ Whole framed
     by false h e = absurd (more_not_whole framed e)
     by true h e =
         let fits : body_size given ≤ length rest = leb-true (body_size given) (length rest) h in
         let both = length-append rest more in
         let still : nat_le (body_size given) (length (rest ++ more)) ≡ true =
-            le-leb (body_size given) (length (rest ++ more)) (omega (arith, both, fits)) in
+        le-leb (body_size given) (length (rest ++ more)) (omega (arith, both, fits)) in
         ap (λ there. if there
-            then whole_request head size given (take (body_size given) (rest ++ more))
-            else part_of_body size (rest ++ more) ended) still
+        then whole_request head size given (take (body_size given) (rest ++ more))
+        else part_of_body size (rest ++ more) ended) still
         ∙ ap (λ body. whole_request head size given body)
-            (take-append-le (body_size given) rest more fits)
+        (take-append-le (body_size given) rest more fits)
         ∙ e
 
 -- a head text says the same whatever follows
@@ -135,12 +135,12 @@ headless_still bytes more ended framed none is = by (nat_le MAX_HEAD (length byt
       let long : MAX_HEAD ≤ length bytes = leb-true MAX_HEAD (length bytes) h in
       let both = length-append bytes more in
       let still : nat_le MAX_HEAD (length (bytes ++ more)) ≡ true =
-          le-leb MAX_HEAD (length (bytes ++ more)) (omega (arith, both, long)) in
+      le-leb MAX_HEAD (length (bytes ++ more)) (omega (arith, both, long)) in
       let same : head_size (take MAX_HEAD (bytes ++ more)) ≡ None =
-          ap head_size (take-append-le MAX_HEAD bytes more long) ∙ none in
+      ap head_size (take-append-le MAX_HEAD bytes more long) ∙ none in
       subst (λ found. IsFrameFrom found (bytes ++ more) ended (Whole framed)) (sym same)
       (sym (ap (λ full. if full then last_fault MAX_HEAD bad.Head
-          else (if ended then frame_at_end (bytes ++ more) else More)) still ∙ e))
+      else (if ended then frame_at_end (bytes ++ more) else More)) still ∙ e))
 
 -- a request that bytes begin with while more may come is there whatever comes
 pub frame_still : (bytes more : List ℕ) (ended : Bool) (framed : Framed)
@@ -234,9 +234,10 @@ headless_taken bytes ended = by (nat_le MAX_HEAD (length bytes)) refl ended wher
         (if all then Nothing else last_fault (length (byte ∷ rest)) bad.Head)
     by true = nothing_taken (length (byte ∷ rest))
     by false = taken_is (last_fault (length (byte ∷ rest)) bad.Head) (length (byte ∷ rest)) (omega arith) (omega arith)
+
   by : (full : Bool) → nat_le MAX_HEAD (length bytes) ≡ full → (ended : Bool)
       → IsTaken (length bytes) (if full then last_fault MAX_HEAD bad.Head
-        else (if ended then frame_at_end bytes else More))
+      else (if ended then frame_at_end bytes else More))
   by true h ended =
       let long = leb-true MAX_HEAD (length bytes) h in
       taken_is (last_fault MAX_HEAD bad.Head) (length bytes) (lit≤ tt) long
@@ -255,7 +256,7 @@ frame_taken bytes ended framed is = by (head_size (take MAX_HEAD bytes)) refl is
       let text : length (take size bytes) ≡ size = length-take-le size bytes inside.1 in
       let rest = length-drop size bytes in
       let taken = headed_taken x.0 (length (take size bytes)) (drop size bytes) ended
-          (omega (arith, text, inside.0)) framed (sym x.2) in
+      (omega (arith, text, inside.0)) framed (sym x.2) in
       (taken.0, omega (arith, taken.1, text, rest, inside.1))
 
 -- ---- while it isn't decided
@@ -294,7 +295,7 @@ sized_more (Ok given) head size rest ended most is =
   where
     by : (there : Bool) → nat_le (body_size given) (length rest) ≡ there → (ended : Bool)
         → (if there then whole_request head size given (take (body_size given) rest)
-          else part_of_body size rest ended) ≡ More → (length rest < MAX_BODY) × (ended ≡ false)
+        else part_of_body size rest ended) ≡ More → (length rest < MAX_BODY) × (ended ≡ false)
     by true h ended e = absurd (whole_not_more _ e)
     by false h true e = absurd (whole_not_more _ e)
     by false h false e =
@@ -315,9 +316,10 @@ headless_more bytes ended is = by (nat_le MAX_HEAD (length bytes)) refl ended is
       → (length bytes < MAX_HEAD) × (true ≡ false)
   by_all true e = absurd (nothing_not_more e)
   by_all false e = absurd (whole_not_more _ e)
+
   by : (full : Bool) → nat_le MAX_HEAD (length bytes) ≡ full → (ended : Bool)
       → (if full then last_fault MAX_HEAD bad.Head
-        else (if ended then frame_at_end bytes else More)) ≡ More
+      else (if ended then frame_at_end bytes else More)) ≡ More
       → (length bytes < MAX_HEAD) × (ended ≡ false)
   by true h ended e = absurd (whole_not_more _ e)
   by false h true e = by_all (list_all is_newline bytes) e

@@ -55,7 +55,7 @@ tells_no_head text rest ended told none is = (
 pub tells_head : (text rest : List ℕ) (ended : Bool) (told : Frame) (said : Said)
     → SaysHeadOf text said
     → ((head : RequestHead) → Says said head
-      → MayFrame (frame_by_size said.size head (length text) rest ended) told)
+    → MayFrame (frame_by_size said.size head (length text) rest ended) told)
     → TellsFrameOf text rest ended told
 tells_head text rest ended told said of tells = (
   frame_by_head (Some of.0) (length text) rest ended,
@@ -82,7 +82,7 @@ pub tells_whole : (said : Result (Option ℕ) Bad) (given : Option ℕ) (head : 
 tells_whole said given head size rest body ended told is there front tells =
     subst (λ s. MayFrame (frame_by_size s head size rest ended) told) (sym is)
     (subst (λ all. MayFrame (if all then whole_request head size given (take (body_size given) rest)
-      else part_of_body size rest ended) told) (sym there)
+    else part_of_body size rest ended) told) (sym there)
     (subst (λ (b : List ℕ). MayFrame (whole_request head size given b) told) front tells))
 
 -- a body that isn't there
@@ -94,7 +94,7 @@ pub tells_part : (said : Result (Option ℕ) Bad) (given : Option ℕ) (head : R
 tells_part said given head size rest ended told is there same =
     subst (λ s. MayFrame (frame_by_size s head size rest ended) told) (sym is)
     (subst (λ all. MayFrame (if all then whole_request head size given (take (body_size given) rest)
-      else part_of_body size rest ended) told) (sym there)
+    else part_of_body size rest ended) told) (sym there)
     (told_same (part_of_body size rest ended) told same))
 
 -- a request

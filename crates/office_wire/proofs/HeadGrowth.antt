@@ -138,7 +138,7 @@ prefix_still test [] more less = absurd (omega (arith, less))
 prefix_still test (byte ∷ rest) more less = elim (cases_Bool (test byte)) [
   | inl h ↦
       rw h (ap (λ n. 1 + n) (prefix_still test rest more
-          (let inside : 1 + prefix_len test rest < suc (length rest) = rw h at less in omega (arith, inside))))
+      (let inside : 1 + prefix_len test rest < suc (length rest) = rw h at less in omega (arith, inside))))
   | inr h ↦ rw h (rw h refl)
 ]
 
@@ -166,12 +166,14 @@ head_still bytes more size is =
   where
     leading : prefix_len is_newline (bytes ++ more) ≡ prefix_len is_newline bytes
     leading = prefix_still is_newline bytes more (head_within bytes size is).2
+
     behind : drop (prefix_len is_newline (bytes ++ more)) (bytes ++ more)
         ≡ drop (prefix_len is_newline bytes) bytes ++ more
     behind =
         ap (λ n. drop n (bytes ++ more)) leading
         ∙ drop-append-le (prefix_len is_newline bytes) bytes more
-            (let less = (head_within bytes size is).2 in omega (arith, less))
+        (let less = (head_within bytes size is).2 in omega (arith, less))
+
     by : (found : Option ℕ) → lines_size (drop (prefix_len is_newline bytes) bytes) ≡ found
         → option_map (λ n. prefix_len is_newline bytes + n) found ≡ Some size
         → head_size (bytes ++ more) ≡ Some size

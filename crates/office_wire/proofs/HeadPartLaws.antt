@@ -67,7 +67,7 @@ head_of_parts text room spans head whole at =
     let ends : length text ≤ spans.len = (let is = whole.whole in omega (arith, is)) in
     let nothing : drop spans.len text ≡ [] = drop_all spans.len text ends in
     let both : length (map (header_bytes text) (take spans.headers room)) ≡ length (map name_and_value head.fields) =
-        ap length at.fields in
+    ap length at.fields in
     let left = length-map (take spans.headers room) (header_bytes text) in
     let right = length-map head.fields name_and_value in
     let front = length-take-le spans.headers room whole.within.section.count_fits in

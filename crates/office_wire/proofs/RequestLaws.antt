@@ -29,7 +29,7 @@ begins_still bytes (framed ∷ behind) rest more is =
       frame_still bytes more false framed is.0,
       is.1,
       subst (λ (xs : List ℕ). BeginsWith xs behind (rest ++ more)) (sym (drop-append-le framed.taken bytes more taken.1))
-      (begins_still (drop framed.taken bytes) behind rest more is.2),
+          (begins_still (drop framed.taken bytes) behind rest more is.2),
     )
 
 -- one more
@@ -54,19 +54,20 @@ requests_behind bytes (framed ∷ behind) rest others is are = (
 
 -- ---- one list
 
-pub requests_unique : (bytes : List ℕ) (as bs : List Framed) → AreRequests bytes as → AreRequests bytes bs → as ≡ bs
+pub requests_unique : (bytes : List ℕ) (here there : List Framed)
+    → AreRequests bytes here → AreRequests bytes there → here ≡ there
 requests_unique bytes [] [] x y = refl
-requests_unique bytes [] (b ∷ bs) x y = absurd (nothing_not_whole b (frame_unique bytes true Nothing (Whole b) x y.0))
-requests_unique bytes (a ∷ as) [] x y = absurd (nothing_not_whole a (frame_unique bytes true Nothing (Whole a) y x.0))
-requests_unique bytes (a ∷ as) (b ∷ bs) x y =
+requests_unique bytes [] (b ∷ there) x y = absurd (nothing_not_whole b (frame_unique bytes true Nothing (Whole b) x y.0))
+requests_unique bytes (a ∷ here) [] x y = absurd (nothing_not_whole a (frame_unique bytes true Nothing (Whole a) y x.0))
+requests_unique bytes (a ∷ here) (b ∷ there) x y =
     let same = same_framed a b (frame_unique bytes true (Whole a) (Whole b) x.0 y.0) in
-    by a.last refl same (requests_unique (drop a.taken bytes) as bs)
+    by a.last refl same (requests_unique (drop a.taken bytes) here there)
   where
     by : (last : Bool) → a.last ≡ last → a ≡ b
-        → (AreRequests (drop a.taken bytes) as → AreRequests (drop a.taken bytes) bs → as ≡ bs)
-        → a ∷ as ≡ b ∷ bs
+        → (AreRequests (drop a.taken bytes) here → AreRequests (drop a.taken bytes) there → here ≡ there)
+        → a ∷ here ≡ b ∷ there
     by true h same go = λ i. same i ∷ (x.1 h ∙ sym (y.1 (ap (λ (f : Framed). f.last) (sym same) ∙ h))) i
     by false h same go =
         λ i. same i ∷ go (x.2 h)
-            (subst (λ (f : Framed). AreRequests (drop f.taken bytes) bs) (sym same)
-            (y.2 (ap (λ (f : Framed). f.last) (sym same) ∙ h))) i
+        (subst (λ (f : Framed). AreRequests (drop f.taken bytes) there) (sym same)
+        (y.2 (ap (λ (f : Framed). f.last) (sym same) ∙ h))) i

@@ -56,6 +56,17 @@ fn frame_at_end(buffer: &[u8]) -> Frame
     }
 }
 
+// A fault of so many bytes, behind which the connection ends.
+fn last_fault(taken: usize, fault: Bad) -> Frame
+    ensures { result ≡ last_fault taken fault }
+{
+    Frame::Whole(Framed {
+        taken,
+        what: OfficeAsk::Bad(fault),
+        last: true,
+    })
+}
+
 // What a head text and the bytes behind it are.
 fn frame_of(alloc: Global, text: &[u8], rest: &[u8], ended: bool) -> Frame
     requires { length text.now ≤ MAX_HEAD }

@@ -28,36 +28,108 @@ const FAULTS: [FaultRow; 36] = [
     row(b"GET /summary HTTP/1.1\r\nA : b\r\n\r\n", Bad::Head, true),
     row(b"GET /\xff HTTP/1.1\n\n", Bad::Head, true),
     row(b"\r\nno head\n\n", Bad::Head, true),
-    row(b"POST /acts HTTP/1.1\r\nTransfer-Encoding: chunked\r\n\r\n", Bad::Coding, true),
-    row(b"POST /acts HTTP/1.1\r\ntransfer-encoding: x\r\nContent-Length: 5000\r\n\r\n", Bad::Coding, true),
-    row(b"POST /acts HTTP/1.1\r\nContent-Length: 5\r\nContent-Length: 6\r\n\r\n", Bad::Length, true),
-    row(b"POST /acts HTTP/1.1\r\nContent-Length: 5000\r\ncontent-length: 6\r\n\r\n", Bad::Length, true),
-    row(b"POST /acts HTTP/1.1\r\nContent-Length: 12345678901\r\n\r\n", Bad::Length, true),
-    row(b"POST /acts HTTP/1.1\r\nContent-Length:\r\n\r\n", Bad::Length, true),
-    row(b"POST /acts HTTP/1.1\r\nContent-Length: +5\r\n\r\n", Bad::Length, true),
-    row(b"POST /acts HTTP/1.1\r\nContent-Length: 5, 5\r\n\r\n", Bad::Length, true),
-    row(b"POST /acts HTTP/1.1\r\nContent-Length: 4097\r\n\r\n", Bad::Large, true),
-    row(b"GET /nothing HTTP/1.1\r\nCONTENT-LENGTH: 9999999999\r\n\r\n", Bad::Large, true),
+    row(
+        b"POST /acts HTTP/1.1\r\nTransfer-Encoding: chunked\r\n\r\n",
+        Bad::Coding,
+        true,
+    ),
+    row(
+        b"POST /acts HTTP/1.1\r\ntransfer-encoding: x\r\nContent-Length: 5000\r\n\r\n",
+        Bad::Coding,
+        true,
+    ),
+    row(
+        b"POST /acts HTTP/1.1\r\nContent-Length: 5\r\nContent-Length: 6\r\n\r\n",
+        Bad::Length,
+        true,
+    ),
+    row(
+        b"POST /acts HTTP/1.1\r\nContent-Length: 5000\r\ncontent-length: 6\r\n\r\n",
+        Bad::Length,
+        true,
+    ),
+    row(
+        b"POST /acts HTTP/1.1\r\nContent-Length: 12345678901\r\n\r\n",
+        Bad::Length,
+        true,
+    ),
+    row(
+        b"POST /acts HTTP/1.1\r\nContent-Length:\r\n\r\n",
+        Bad::Length,
+        true,
+    ),
+    row(
+        b"POST /acts HTTP/1.1\r\nContent-Length: +5\r\n\r\n",
+        Bad::Length,
+        true,
+    ),
+    row(
+        b"POST /acts HTTP/1.1\r\nContent-Length: 5, 5\r\n\r\n",
+        Bad::Length,
+        true,
+    ),
+    row(
+        b"POST /acts HTTP/1.1\r\nContent-Length: 4097\r\n\r\n",
+        Bad::Large,
+        true,
+    ),
+    row(
+        b"GET /nothing HTTP/1.1\r\nCONTENT-LENGTH: 9999999999\r\n\r\n",
+        Bad::Large,
+        true,
+    ),
     row(b"GET / HTTP/1.1\r\n\r\n", Bad::Path, false),
     row(b"GET summary HTTP/1.1\r\n\r\n", Bad::Path, false),
-    row(b"GET http://hall/summary HTTP/1.1\r\n\r\n", Bad::Path, false),
+    row(
+        b"GET http://hall/summary HTTP/1.1\r\n\r\n",
+        Bad::Path,
+        false,
+    ),
     row(b"GET /summary/ HTTP/1.1\r\n\r\n", Bad::Path, false),
     row(b"GET /batches HTTP/1.1\r\n\r\n", Bad::Path, false),
     row(b"GET /batches/ HTTP/1.1\r\n\r\n", Bad::Path, false),
     row(b"GET /batches/A/samples HTTP/1.1\r\n\r\n", Bad::Path, false),
     row(b"GET /batches/A/sample/ HTTP/1.1\r\n\r\n", Bad::Path, false),
-    row(b"GET /batches/123456789012345678901234567890123 HTTP/1.1\r\n\r\n", Bad::Path, false),
+    row(
+        b"GET /batches/123456789012345678901234567890123 HTTP/1.1\r\n\r\n",
+        Bad::Path,
+        false,
+    ),
     row(b"GET /packs/4294967296 HTTP/1.1\r\n\r\n", Bad::Path, false),
     row(b"GET /packs/1/sample HTTP/1.1\r\n\r\n", Bad::Path, false),
     row(b"GET /lanes/256 HTTP/1.1\r\n\r\n", Bad::Path, false),
-    row(b"PUT /acts?/summary HTTP/1.1\r\n\r\n", Bad::Method { post: true }, false),
-    row(b"GET /acts HTTP/1.1\r\nContent-Length: 2\r\n\r\n{}", Bad::Method { post: true }, false),
-    row(b"HEAD /summary HTTP/1.1\r\n\r\n", Bad::Method { post: false }, false),
-    row(b"get /lanes/1 HTTP/1.1\r\n\r\n", Bad::Method { post: false }, false),
-    row(b"POST /batches/A HTTP/1.1\r\nContent-Length: 2\r\n\r\n{}", Bad::Method { post: false }, false),
+    row(
+        b"PUT /acts?/summary HTTP/1.1\r\n\r\n",
+        Bad::Method { post: true },
+        false,
+    ),
+    row(
+        b"GET /acts HTTP/1.1\r\nContent-Length: 2\r\n\r\n{}",
+        Bad::Method { post: true },
+        false,
+    ),
+    row(
+        b"HEAD /summary HTTP/1.1\r\n\r\n",
+        Bad::Method { post: false },
+        false,
+    ),
+    row(
+        b"get /lanes/1 HTTP/1.1\r\n\r\n",
+        Bad::Method { post: false },
+        false,
+    ),
+    row(
+        b"POST /batches/A HTTP/1.1\r\nContent-Length: 2\r\n\r\n{}",
+        Bad::Method { post: false },
+        false,
+    ),
     row(b"POST /acts HTTP/1.1\r\n\r\n", Bad::NoLength, false),
     row(b"POST /acts HTTP/1.0\r\n\r\n", Bad::NoLength, true),
-    row(b"POST /acts HTTP/1.1\r\nContent-Length: 0\r\n\r\n", Bad::Body, false),
+    row(
+        b"POST /acts HTTP/1.1\r\nContent-Length: 0\r\n\r\n",
+        Bad::Body,
+        false,
+    ),
     row(
         b"POST /acts HTTP/1.1\r\nContent-Length: 38\r\n\r\n{\"act\":\"weigh\",\"desk\":101,\"request\":1}",
         Bad::Body,
@@ -71,11 +143,26 @@ const LASTS: [(&[u8], bool); 9] = [
     (b"\r\n\nGET /summary HTTP/1.1\n\n", false),
     (b"GET /summary HTTP/1.0\r\n\r\n", true),
     (b"GET /summary HTTP/1.1\r\nConnection: close\r\n\r\n", true),
-    (b"GET /summary HTTP/1.1\r\nCONNECTION: \tCLOSE \r\n\r\n", true),
-    (b"GET /summary HTTP/1.1\r\nConnection: keep-alive\r\n\r\n", false),
-    (b"GET /summary HTTP/1.1\r\nConnection: close, x\r\n\r\n", false),
-    (b"GET /summary?/acts?x HTTP/1.1\r\nProxy-Connection: close\r\n\r\n", false),
-    (b"GET /summary HTTP/1.1\r\nContent-Length: 3\r\ncontent-length: 003\r\n\r\nabc", false),
+    (
+        b"GET /summary HTTP/1.1\r\nCONNECTION: \tCLOSE \r\n\r\n",
+        true,
+    ),
+    (
+        b"GET /summary HTTP/1.1\r\nConnection: keep-alive\r\n\r\n",
+        false,
+    ),
+    (
+        b"GET /summary HTTP/1.1\r\nConnection: close, x\r\n\r\n",
+        false,
+    ),
+    (
+        b"GET /summary?/acts?x HTTP/1.1\r\nProxy-Connection: close\r\n\r\n",
+        false,
+    ),
+    (
+        b"GET /summary HTTP/1.1\r\nContent-Length: 3\r\ncontent-length: 003\r\n\r\nabc",
+        false,
+    ),
 ];
 
 // A fault with so many bytes.
@@ -129,11 +216,28 @@ fn wrong_question(alloc: Global, batch: Name) -> Option<&'static [u8]> {
 Accept: */*\r\n\r\n",
             Question::Sheet { batch },
         ),
-        (b"GET /batches/A/sample HTTP/1.1\r\n\r\n", Question::Sample { batch }),
-        (b"GET /packs/4294967295 HTTP/1.1\r\n\r\n", Question::Pack { pack: 4_294_967_295 }),
-        (b"GET /packs/007 HTTP/1.1\r\n\r\n", Question::Pack { pack: 7 }),
-        (b"GET /lanes/17 HTTP/1.1\r\n\r\n", Question::Lane { lane: 17 }),
-        (b"GET /lanes/255?day=1/2 HTTP/1.1\r\n\r\n", Question::Lane { lane: 255 }),
+        (
+            b"GET /batches/A/sample HTTP/1.1\r\n\r\n",
+            Question::Sample { batch },
+        ),
+        (
+            b"GET /packs/4294967295 HTTP/1.1\r\n\r\n",
+            Question::Pack {
+                pack: 4_294_967_295,
+            },
+        ),
+        (
+            b"GET /packs/007 HTTP/1.1\r\n\r\n",
+            Question::Pack { pack: 7 },
+        ),
+        (
+            b"GET /lanes/17 HTTP/1.1\r\n\r\n",
+            Question::Lane { lane: 17 },
+        ),
+        (
+            b"GET /lanes/255?day=1/2 HTTP/1.1\r\n\r\n",
+            Question::Lane { lane: 255 },
+        ),
     ];
     for (bytes, asked) in &rows {
         if frame(alloc, bytes, true) != question(bytes.len(), *asked, false) {
