@@ -15,7 +15,7 @@ use Rattle.book_words.specs.Answers.{added, entries_after, IsLegal}
 use Rattle.book_words.specs.Callers.{Known, FAULTS_END, IsAsked, IsRight, HasAnswer, HasNoAnswer, MayFindNoMemory, number_named, row_added}
 use Rattle.book_words.specs.Soundness.{IsAnswer, IsRefusal}
 use Rattle.book_words.proofs.LegalLemmas.{legal-prefix}
-use Rattle.book_words.proofs.RightAnswers.{right_in_longer, right_names}
+use Rattle.book_words.proofs.RightAnswers.{right_names}
 use Rattle.office_wire.specs.declared.types.Bad as faults
 use Rattle.office_wire.specs.declared.types.Framed.{Framed}
 use Rattle.office_wire.specs.declared.types.OfficeAsk.{OfficeAsk}
@@ -39,18 +39,28 @@ prefix_itself a = ([], sym (append-nil a))
 prefix_short : (a b : List Entry) → IsPrefixOf a b → length a ≤ length b
 prefix_short a b begins = omega (arith, ap length begins.1, length-append a begins.0)
 
+onto : (new : Option Entry) (after more : List Entry)
+    → cons_option new after ++ more ≡ cons_option new (after ++ more)
+onto None after more = refl
+onto (Some entry) after more = refl
+
 -- an answer that is right in a list is so in a list that goes on
 told_on : (limit by : ℕ) (seen others : List Entry) → IsPrefixOf seen others → (ask : asks.Ask)
     (given : Result Answered refusals.Refused) (row : Option Row)
     → IsTold limit by seen ask given row → IsTold limit by others ask given row
 told_on limit by seen others begins ask given row h =
-    let new = added limit h.right.before by ask in
+    let right = h.right in
+    let more = begins.0 in
+    let new = added limit right.before by ask in
     record {
       right = record {
-        before = h.right.before;
-        after = h.right.after ++ begins.0;
-        parts = begins.1 ∙ (right_in_longer limit by seen begins.0 ask given h.right).parts;
-        answered = h.right.answered;
+        before = right.before;
+        after = right.after ++ more;
+        parts = begins.1
+            ∙ ap (λ (all : List Entry). all ++ more) right.parts
+            ∙ append_assoc right.before (cons_option new right.after) more
+            ∙ ap (λ (rest : List Entry). right.before ++ rest) (onto new right.after more);
+        answered = right.answered;
       };
       row_is = h.row_is;
     }
@@ -110,7 +120,7 @@ answered_none Reached was reached =
     record {
       seen = prefix_itself was.seen;
       asked = reached;
-      right = All-nil;
+      right = All-nil _;
       places = omega arith;
       mine = sym (append-nil was.mine);
       faults = ap (λ (n : ℕ). min n FAULTS_END) (sym none);
@@ -233,7 +243,7 @@ given_one Reached was now ask (Ok answered) last asked reached =
       answered = λ request. record {
         seen = is.seen;
         asked = reached;
-        right = All-cons _ [] is.told All-nil;
+        right = All-cons _ _ [] is.told (All-nil _);
         places = (is.low, is.high);
         mine = is.mine;
         faults = counted_once was.faults now.faults 0 FAULTS_END asked.faults;
@@ -248,7 +258,7 @@ given_one Reached was now ask (Err (error.Refused refused)) last asked reached =
       answered = λ request. record {
         seen = is.seen;
         asked = reached;
-        right = All-cons _ [] is.told All-nil;
+        right = All-cons _ _ [] is.told (All-nil _);
         places = (is.low, is.high);
         mine = is.mine;
         faults = counted_once was.faults now.faults 0 FAULTS_END asked.faults;
@@ -263,7 +273,7 @@ given_one Reached was now ask (Err error.DiskFault) last asked reached =
       answered = λ request. record {
         seen = (says.0.unseen, says.0.grows);
         asked = reached;
-        right = All-cons _ [] (lost was now ask IsSome says.0 asked.limit asked.by says.1) All-nil;
+        right = All-cons _ _ [] (lost was now ask IsSome says.0 asked.limit asked.by says.1) (All-nil _);
         places = prefix_short was.seen now.seen (says.0.unseen, says.0.grows);
         mine = says.0.mine ∙ sym (append-nil was.mine);
         faults = counted_once was.faults now.faults 1 FAULTS_END asked.faults;
@@ -278,8 +288,9 @@ given_one Reached was now ask (Err error.NoMemory) last asked reached =
       answered = λ request. record {
         seen = (says.0.unseen, says.0.grows);
         asked = reached;
-        right = All-cons _ []
-            (lost was now ask (MayFindNoMemory ask.want) says.0 asked.limit asked.by says.1) All-nil;
+        right = All-cons _ _ []
+            (lost was now ask (MayFindNoMemory ask.want) says.0 asked.limit asked.by says.1)
+            (All-nil _);
         places = prefix_short was.seen now.seen (says.0.unseen, says.0.grows);
         mine = says.0.mine ∙ sym (append-nil was.mine);
         faults = counted_once was.faults now.faults 0 FAULTS_END asked.faults;
@@ -343,7 +354,7 @@ nobody Reached was told last request none right reached =
     record {
       seen = prefix_itself was.seen;
       asked = subst (λ (o : Option asks.Ask). Reached (cons_option o [])) (sym none) reached;
-      right = All-cons _ [] right All-nil;
+      right = All-cons _ _ [] right (All-nil _);
       places = omega arith;
       mine = sym (append-nil was.mine);
       faults = ap (λ (n : ℕ). min n FAULTS_END) (sym still);

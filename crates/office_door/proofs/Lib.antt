@@ -1,4 +1,6 @@
 pub mod AnsweredAsks
 pub mod HeardBytes
+pub mod HeldBytes
+pub mod SentBytes
 pub mod ServedRequests
 pub mod VisitedConnections

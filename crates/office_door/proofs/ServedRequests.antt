@@ -1,5 +1,6 @@
 -- How the serving of a connection goes on with each request, and how it comes to its end.
-use Rattle.std.proofs.Common.{◌≡◌, ⊤, ℕ, ◌+◌, ◌<◌, ◌≤◌, Bool, true, false, ◌||◌, ◌==◌, List, [], ◌∷◌, ◌++◌, length, take, drop, flat_map, All, Option, Some, None, IfSome, IfNone, option_map, option_to_list, Result, Ok, Err, OnOk, OnErr, refl, sym, ◌∙◌, ap, subst, arith, append_assoc, append-nil, length-append}
+use Rattle.std.proofs.Common.{◌≡◌, ℕ, ◌+◌, ◌<◌, ◌≤◌, Bool, true, false, ◌||◌, ◌==◌, List, [], ◌∷◌, ◌++◌, length, take, drop, flat_map, All, Option, Some, None, IfSome, IfNone, option_map, option_to_list, Result, Ok, Err, OnOk, OnErr, refl, sym, ◌∙◌, ap, subst, arith, append_assoc, append-nil, length-append}
+use Rattle.std.specs.Bool.{⊤}
 use Rattle.std.proofs.lemmas.List.Concat.{flat_map-append}
 use Rattle.std.proofs.lemmas.List.Elements.{All-nil, All-push}
 use Rattle.device_facts.specs.Count.{Counted, CountsFault}
@@ -90,7 +91,7 @@ pub serving_none : (Reached : List Ask → Type 0) (now : Site) → Reached [] �
 serving_none Reached now reached begins = record {
   exchanges = [];
   heard = heard_none now.door begins;
-  ongoing = All-nil;
+  ongoing = All-nil GoesOn;
   few = omega arith;
   served_is = refl;
   answered = answered_none Reached now.caller reached;
@@ -306,9 +307,11 @@ ends_cut Reached was now held served last part text more less failed =
         left = (
           more.x,
           refl,
-          part,
-          subst (λ (t : List ℕ). part < length t) is less,
-          ap (λ (t : List ℕ). responses more.before ++ take part t) is,
+          (
+            part,
+            subst (λ (t : List ℕ). part < length t) is less,
+            ap (λ (t : List ℕ). responses more.before ++ take part t) is,
+          ),
         );
       };
       left_so = refl;

@@ -1,5 +1,5 @@
 -- How the work of a door goes on with each connection, and how it comes to its end.
-use Rattle.std.proofs.Common.{◌≡◌, ⊤, ℕ, zero, suc, ◌+◌, ◌<◌, ◌≤◌, min, Bool, true, false, true≢false, List, [], ◌∷◌, ◌++◌, length, flat_map, sum_by, All, Option, Some, None, IfSome, is_some, option_map, refl, sym, ◌∙◌, ap, subst, arith, append_assoc, append-nil, length-append}
+use Rattle.std.proofs.Common.{◌≡◌, ℕ, zero, suc, ◌+◌, ◌<◌, ◌≤◌, min, Bool, true, false, true≢false, List, [], ◌∷◌, ◌++◌, length, flat_map, sum_by, All, Option, Some, None, IfSome, is_some, option_map, refl, sym, ◌∙◌, ap, subst, arith, append_assoc, append-nil, length-append, zero-add}
 use Rattle.std.proofs.lemmas.List.Concat.{flat_map-append}
 use Rattle.std.proofs.lemmas.List.Elements.{All-nil, All-push}
 use Rattle.std.proofs.lemmas.List.Sums.{sum_by-append}
@@ -22,20 +22,19 @@ use Rattle.office_door.proofs.AnsweredAsks.{answered_none, answered_both}
 
 -- ---- counts
 
-one_suc : (a b : ℕ) → suc a + suc b ≡ suc (a + suc b)
-one_suc a b = omega arith
-
 failed_more : (was mid now a b : ℕ) → FailedSoOften was mid a → FailedSoOften mid now b
     → FailedSoOften was now (a + b)
 failed_more was mid now zero zero first second = second ∙ first
 failed_more was mid now zero (suc b) first second =
-    subst (λ (n : ℕ). Counted n now (suc b)) first second
+    let same : suc b ≡ zero + suc b = omega arith in
+    subst (FailedSoOften was now) same (subst (λ (n : ℕ). Counted n now (suc b)) first second)
 failed_more was mid now (suc a) zero first second =
-    subst (FailedSoOften was now) (sym (let none : suc a + 0 ≡ suc a = omega arith in none))
-    (second ∙ first)
+    let same : suc a ≡ suc a + zero = omega arith in
+    subst (FailedSoOften was now) same (second ∙ first)
 failed_more was mid now (suc a) (suc b) first second =
-    subst (FailedSoOften was now) (sym (one_suc a b))
-    (let both : Counted was now (suc (a + suc b)) = omega (arith, first, second) in both)
+    let same : suc (a + suc b) ≡ suc a + suc b = omega arith in
+    let both : Counted was now (suc (a + suc b)) = omega (arith, first, second) in
+    subst (FailedSoOften was now) same both
 
 -- ---- connections
 
@@ -122,7 +121,7 @@ pub open_none : (Reached : List Ask → Type 0) (now : Site) → Reached []
 open_none Reached now reached = record {
   visits = [];
   has = record {
-    each = All-nil;
+    each = All-nil IsServed;
     answered = answered_none Reached now.caller reached;
     visits_are = refl;
     served_is = refl;
@@ -143,6 +142,7 @@ links_push : (visits : List Visit) (visit : Visit)
     → link_faults (visits ++ visit ∷ []) ≡ link_faults visits + links_of visit.leaving
 links_push visits visit =
     sum_by-append (λ (v : Visit). links_of v.leaving) visits (visit ∷ [])
+    ∙ ap (λ (n : ℕ). link_faults visits + n) (zero-add (links_of visit.leaving))
 
 -- the next connection was admitted and visited
 pub open_more : (One Two Both : List Ask → Type 0) (was : Site) (known new : Known)

@@ -4,7 +4,6 @@ use Rattle.device_facts.specs.Count.{Counted}
 use Rattle.device_facts.specs.Prefix.{IsPrefixOf}
 use Rattle.disk_core.specs.Doors.{Connection, Connections, first_connection, next_connections, with_taken, with_written}
 use Rattle.disk_core.specs.declared.source.Source as source
-use Rattle.disk_core.specs.declared.door.Door as door
 use Rattle.book_words.specs.declared.act.Ask.{Ask}
 use Rattle.book_words.specs.declared.caller.Caller as caller
 use Rattle.book_words.specs.Callers.{Known}
@@ -25,12 +24,12 @@ pub record Port : Type 0 where
   pub connections : Option Connections
   pub faults : ℕ
 
-abbrev pub port : {O : Type 0} → source.Ghosts O → door.Ghosts O → O → Port
-port reads admits o =
+abbrev pub port : {O : Type 0} → source.Ghosts O → (O → Option Connections) → O → Port
+port reads connections o =
     record {
       left = reads.left o;
       ended = reads.ended o;
-      connections = admits.connections o;
+      connections = connections o;
       faults = reads.faults o;
     }
 
@@ -39,8 +38,10 @@ pub record Site : Type 0 where
   pub caller : Known
   pub door : Port
 
-abbrev pub site : {C O : Type 0} → caller.Ghosts C → source.Ghosts O → door.Ghosts O → C → O → Site
-site asks reads admits c o = record { caller = asks.known c; door = port reads admits o }
+abbrev pub site : {C O : Type 0} → caller.Ghosts C → source.Ghosts O → (O → Option Connections)
+    → C → O → Site
+site asks reads connections c o =
+    record { caller = asks.known c; door = port reads connections o }
 
 -- ---- connections
 

@@ -25,8 +25,8 @@ pub(crate) fn serve_connection<C: Caller, O: Door>(
     ensures room { REPLY_ROOM ≤ vec_capacity buffers.new.reply }
     ensures few { served.new ≤ MAX_REQUESTS }
     ensures visited { IsVisited (C.later caller.old caller.new)
-        (site C.Caller O.Source O.Door caller.old door.old)
-        (site C.Caller O.Source O.Door caller.new door.new) served.new result }
+        (site C.Caller O.Source O.connections caller.old door.old)
+        (site C.Caller O.Source O.connections caller.new door.new) served.new result }
 {
     buffers.held.clear();
     *served = 0;

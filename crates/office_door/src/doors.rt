@@ -29,10 +29,10 @@ fn serve_next<C: Caller, O: Door>(
     ensures served { tally.new.served ≤ tally.old.served + MAX_REQUESTS }
     ensures links { tally.new.links ≤ tally.old.links + 1 }
     ensures turns { (first : C) (start : O) (turns : ℕ) → turns < MAX_CONNECTIONS
-        → IsOpen (C.later first caller.old) (site C.Caller O.Source O.Door first start)
-        (site C.Caller O.Source O.Door caller.old door.old) turns tally.old
-        → TurnsTo (C.later first caller.new) (site C.Caller O.Source O.Door first start)
-        (site C.Caller O.Source O.Door caller.new door.new) turns tally.new result }
+        → IsOpen (C.later first caller.old) (site C.Caller O.Source O.connections first start)
+        (site C.Caller O.Source O.connections caller.old door.old) turns tally.old
+        → TurnsTo (C.later first caller.new) (site C.Caller O.Source O.connections first start)
+        (site C.Caller O.Source O.connections caller.new door.new) turns tally.new result }
 {
     match door.next() {
         Ok(true) => {
@@ -56,8 +56,8 @@ fn serve_all<C: Caller, O: Door>(
 ) -> DoorEnd
     requires { REPLY_ROOM ≤ vec_capacity buffers.old.reply }
     ensures { ServesDoor (C.later caller.old caller.new)
-        (site C.Caller O.Source O.Door caller.old door.old)
-        (site C.Caller O.Source O.Door caller.new door.new) result }
+        (site C.Caller O.Source O.connections caller.old door.old)
+        (site C.Caller O.Source O.connections caller.new door.new) result }
 {
     let mut tally = Tally {
         served: 0,
@@ -81,8 +81,8 @@ fn serve_all<C: Caller, O: Door>(
 /// door; where it isn't to be had, nothing is done.
 pub fn serve_door<C: Caller, O: Door>(alloc: Global, caller: &mut C, door: &mut O) -> DoorEnd
     ensures serves { ServesDoor (C.later caller.old caller.new)
-        (site C.Caller O.Source O.Door caller.old door.old)
-        (site C.Caller O.Source O.Door caller.new door.new) result }
+        (site C.Caller O.Source O.connections caller.old door.old)
+        (site C.Caller O.Source O.connections caller.new door.new) result }
     ensures untouched { result.stop ≡ stop.NoMemory
         → (caller.new ≡ caller.old) × (door.new ≡ door.old) }
 {

@@ -12,6 +12,7 @@ mod leaving;
 mod limits;
 mod requests;
 mod responding;
+mod sending;
 mod tally;
 
 pub use doors::serve_door;

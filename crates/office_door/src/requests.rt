@@ -11,8 +11,9 @@ use crate::finding::next_request;
 use crate::leaving::{Leaving, left_behind};
 use crate::limits::MAX_REQUESTS;
 use crate::responding::respond;
+use crate::sending::send;
 use book_words::Caller;
-use disk_core::{Door, Failed, write_all};
+use disk_core::{Door, Failed};
 use office_wire::Framed;
 use std::alloc::Global;
 
@@ -33,17 +34,17 @@ fn serve_held<C: Caller, O: Door>(
     ensures more { served.new ≡ served.old + 1 }
     ensures few { IfNone result (served.new < MAX_REQUESTS) }
     ensures goes { (first : C) (start : O)
-        → IsServing (C.later first caller.old) (site C.Caller O.Source O.Door first start)
-        (site C.Caller O.Source O.Door caller.old door.old) buffers.old.held.bytes served.old
-        → StepsTo (C.later first caller.new) (site C.Caller O.Source O.Door first start)
-        (site C.Caller O.Source O.Door caller.new door.new) buffers.new.held.bytes served.new
+        → IsServing (C.later first caller.old) (site C.Caller O.Source O.connections first start)
+        (site C.Caller O.Source O.connections caller.old door.old) buffers.old.held.bytes served.old
+        → StepsTo (C.later first caller.new) (site C.Caller O.Source O.connections first start)
+        (site C.Caller O.Source O.connections caller.new door.new) buffers.new.held.bytes served.new
         result }
 {
     *served += 1;
     let last = framed.last || *served == MAX_REQUESTS;
     buffers.held.take(framed.taken);
     respond(caller, &framed.what, last, &mut buffers.reply);
-    left_behind(last, &write_all(door, &buffers.reply))
+    left_behind(last, &send(door, &buffers.reply))
 }
 
 /// Serves the next request of the present connection, if there is one: reads it, answers it, and
@@ -63,10 +64,10 @@ pub(crate) fn serve_request<C: Caller, O: Door>(
     ensures few { served.new ≤ MAX_REQUESTS }
     ensures more { IfNone result ((served.old < served.new) × (served.new < MAX_REQUESTS)) }
     ensures goes { (first : C) (start : O)
-        → IsServing (C.later first caller.old) (site C.Caller O.Source O.Door first start)
-        (site C.Caller O.Source O.Door caller.old door.old) buffers.old.held.bytes served.old
-        → StepsTo (C.later first caller.new) (site C.Caller O.Source O.Door first start)
-        (site C.Caller O.Source O.Door caller.new door.new) buffers.new.held.bytes served.new
+        → IsServing (C.later first caller.old) (site C.Caller O.Source O.connections first start)
+        (site C.Caller O.Source O.connections caller.old door.old) buffers.old.held.bytes served.old
+        → StepsTo (C.later first caller.new) (site C.Caller O.Source O.connections first start)
+        (site C.Caller O.Source O.connections caller.new door.new) buffers.new.held.bytes served.new
         result }
 {
     match next_request(alloc, door, &mut buffers.held) {
