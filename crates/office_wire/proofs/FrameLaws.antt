@@ -14,32 +14,10 @@ use Rattle.office_wire.specs.declared.types.Frame.TheVariants.{Whole, More, Noth
 use Rattle.office_wire.specs.HeadSize.{is_newline, head_size}
 use Rattle.office_wire.specs.Headers.{Header, is_coded, size_given}
 use Rattle.office_wire.specs.Frames.{IsFrame, IsFrameFrom, IsFrameOf, IsHeadOf, headers_of, allowed_size, size_of, body_size, last_fault, whole_request, part_of_body, frame_by_size, frame_by_head, frame_at_end, frame_without_head}
+use Rattle.office_wire.proofs.FrameKinds.{more_not_whole, nothing_not_whole, whole_not_more, nothing_not_more}
 use Rattle.office_wire.proofs.HeadGrowth.{head_within, head_still}
 
--- ---- frames that aren't the same
-
--- the request that is framed, where there is one
-abbrev is_whole : Frame → Bool
-is_whole (Whole framed) = true
-is_whole More = false
-is_whole Nothing = false
-
-abbrev is_more : Frame → Bool
-is_more (Whole framed) = false
-is_more More = true
-is_more Nothing = false
-
-more_not_whole : (framed : Framed) → More ≡ Whole framed → ⊥
-more_not_whole framed is = true≢false (sym (ap is_whole is))
-
-pub nothing_not_whole : (framed : Framed) → Nothing ≡ Whole framed → ⊥
-nothing_not_whole framed is = true≢false (sym (ap is_whole is))
-
-whole_not_more : (framed : Framed) → Whole framed ≡ More → ⊥
-whole_not_more framed is = true≢false (ap is_whole is)
-
-nothing_not_more : Nothing ≡ More → ⊥
-nothing_not_more is = true≢false (sym (ap is_more is))
+-- ---- parts
 
 abbrev taken_by : Frame → ℕ
 taken_by (Whole framed) = framed.taken

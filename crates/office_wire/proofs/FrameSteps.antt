@@ -11,8 +11,9 @@ use Rattle.office_wire.specs.declared.types.Frame.TheVariants.{Whole, More, Noth
 use Rattle.office_wire.specs.declared.request_heads.Said.{Said}
 use Rattle.office_wire.specs.HeadSize.{head_size}
 use Rattle.office_wire.specs.Routes.{route_of}
-use Rattle.office_wire.specs.Frames.{IsFrameFrom, IsFrameOf, IsHeadOf, MayTell, MayFrame, TellsFrame, TellsFrameOf, ask_at, body_size, size_of, headers_of, is_last, last_fault, whole_request, part_of_body, frame_by_size, frame_by_head, frame_without_head}
+use Rattle.office_wire.specs.Frames.{IsFrame, IsFrameFrom, IsFrameOf, IsHeadOf, MayTell, MayFrame, TellsFrame, TellsFrameOf, ask_at, body_size, size_of, headers_of, is_last, last_fault, whole_request, part_of_body, frame_by_size, frame_by_head, frame_without_head}
 use Rattle.office_wire.specs.HeadParts.{Says, SaysHeadOf}
+use Rattle.office_wire.proofs.FrameKinds.{more_not_whole, nothing_not_whole, whole_not_more, nothing_not_more, same_framed}
 
 -- a frame may be told as it is
 pub told_same : (frame told : Frame) → told ≡ frame → MayFrame frame told
@@ -109,3 +110,42 @@ tells_request said head size given body what told says asks is = (
       (subst (λ (target : List ℕ). MayTell (ask_at (route_of target) said.method.now given body) what) says.target asks),
   is ∙ (λ i. Whole (record { taken = size + length body; what = what; last = says.last i })),
 )
+
+-- ---- what is told is what bytes begin with
+
+-- a request that is told
+pub record IsTold (bytes : List ℕ) (ended : Bool) (told : Framed) : Type 0 where
+  pub meant : Framed
+  pub is : IsFrame bytes ended (Whole meant)
+  pub taken : told.taken ≡ meant.taken
+  pub last : told.last ≡ meant.last
+  pub what : MayTell meant.what told.what
+
+pub told_whole : (bytes : List ℕ) (ended : Bool) (told : Framed)
+    → TellsFrame bytes ended (Whole told) → IsTold bytes ended told
+told_whole bytes ended told tells = by tells.0 tells.1 tells.2 where
+  by : (frame : Frame) → IsFrame bytes ended frame → MayFrame frame (Whole told) → IsTold bytes ended told
+  by (Whole meant) is may =
+      let same = same_framed told (record meant { what = may.0 }) may.2 in record {
+        meant = meant;
+        is = is;
+        taken = ap (λ (f : Framed). f.taken) same;
+        last = ap (λ (f : Framed). f.last) same;
+        what = subst (λ what. MayTell meant.what what) (sym (ap (λ (f : Framed). f.what) same)) may.1;
+      }
+  by More is may = absurd (whole_not_more told may)
+  by Nothing is may = absurd (nothing_not_whole told (sym may))
+
+pub told_more : (bytes : List ℕ) (ended : Bool) → TellsFrame bytes ended More → IsFrame bytes ended More
+told_more bytes ended tells = by tells.0 tells.1 tells.2 where
+  by : (frame : Frame) → IsFrame bytes ended frame → MayFrame frame More → IsFrame bytes ended More
+  by (Whole meant) is may = absurd (more_not_whole (record meant { what = may.0 }) may.2)
+  by More is may = is
+  by Nothing is may = absurd (nothing_not_more (sym may))
+
+pub told_nothing : (bytes : List ℕ) (ended : Bool) → TellsFrame bytes ended Nothing → IsFrame bytes ended Nothing
+told_nothing bytes ended tells = by tells.0 tells.1 tells.2 where
+  by : (frame : Frame) → IsFrame bytes ended frame → MayFrame frame Nothing → IsFrame bytes ended Nothing
+  by (Whole meant) is may = absurd (nothing_not_whole (record meant { what = may.0 }) may.2)
+  by More is may = absurd (nothing_not_more may)
+  by Nothing is may = is

@@ -139,7 +139,7 @@ prefix_still test (byte ∷ rest) more less = elim (cases_Bool (test byte)) [
   | inl h ↦
       rw h (ap (λ n. 1 + n) (prefix_still test rest more
       (let inside : 1 + prefix_len test rest < suc (length rest) = rw h at less in omega (arith, inside))))
-  | inr h ↦ rw h (rw h refl)
+  | inr h ↦ rw h refl
 ]
 
 -- it ends within the bytes

@@ -1,8 +1,7 @@
 pub mod HeadSizes
 pub mod HeadGrowth
-pub mod HeadPartLaws
 pub mod RouteLaws
-pub mod AskLaws
+pub mod FrameKinds
 pub mod FrameSteps
 pub mod FrameLaws
 pub mod RequestLaws

@@ -7,16 +7,8 @@ use Rattle.office_wire.specs.declared.types.Frame.{Frame}
 use Rattle.office_wire.specs.declared.types.Frame.TheVariants.{Whole, More, Nothing}
 use Rattle.office_wire.specs.Frames.{IsFrame}
 use Rattle.office_wire.specs.Requests.{AreRequests, BeginsWith}
-use Rattle.office_wire.proofs.FrameLaws.{frame_still, frame_unique, frame_taken, nothing_not_whole}
-
--- the request of a frame
-abbrev framed_or : Framed → Frame → Framed
-framed_or other (Whole framed) = framed
-framed_or other More = other
-framed_or other Nothing = other
-
-same_framed : (a b : Framed) → Whole a ≡ Whole b → a ≡ b
-same_framed a b is = ap (framed_or a) is
+use Rattle.office_wire.proofs.FrameKinds.{nothing_not_whole, same_framed}
+use Rattle.office_wire.proofs.FrameLaws.{frame_still, frame_unique, frame_taken}
 
 -- ---- the first requests
 

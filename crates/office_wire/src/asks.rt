@@ -20,10 +20,12 @@ pub fn ask_at(
 ) -> OfficeAsk
     ensures { MayTell (ask_at (route_of target.now) method.now given body.now) result }
 {
-    match route_of(target) {
-        None => OfficeAsk::Bad(Bad::Path),
-        Some(Route::Acts) => posted_ask(alloc, method, given, body),
-        Some(Route::Question(question)) => got_ask(method, question),
+    let Some(route) = route_of(target) else {
+        return OfficeAsk::Bad(Bad::Path);
+    };
+    match route {
+        Route::Acts => posted_ask(alloc, method, given, body),
+        Route::Question(question) => got_ask(method, question),
     }
 }
 

@@ -4,7 +4,7 @@ ghost use Rattle.office_wire.specs.Frames.{frame_at_end, frame_by_size, frame_wi
 ghost use Rattle.office_wire.specs.HeadParts.{Says};
 
 use crate::asks::ask_at;
-use crate::head_size::{head_size, is_newline};
+use crate::head_size::{are_newlines, head_size};
 use crate::limits::MAX_HEAD;
 use crate::request_heads::{Said, read_head};
 use crate::types::{Bad, Frame, Framed, OfficeAsk};
@@ -29,7 +29,10 @@ pub fn frame(alloc: Global, buffer: &[u8], ended: bool) -> Frame
 fn first_bytes(buffer: &[u8]) -> &[u8]
     ensures { result.now ≡ take MAX_HEAD buffer.now }
 {
-    buffer.split_at(MAX_HEAD.min(buffer.len())).0
+    if buffer.len() <= MAX_HEAD {
+        return buffer;
+    }
+    buffer.split_at(MAX_HEAD).0
 }
 
 // What bytes begin with that hold no head text where one would have to be.
@@ -49,7 +52,7 @@ fn frame_without_head(buffer: &[u8], ended: bool) -> Frame
 fn frame_at_end(buffer: &[u8]) -> Frame
     ensures { result ≡ frame_at_end buffer.now }
 {
-    if buffer.iter().all(|byte| is_newline(*byte)) {
+    if are_newlines(buffer) {
         Frame::Nothing
     } else {
         last_fault(buffer.len(), Bad::Head)

@@ -1,5 +1,5 @@
 ghost use Rattle.std.specs.Prelude.{◌≡◌, ◌≤◌, length, IfSome};
-ghost use Rattle.std.specs.List.{prefix_len};
+ghost use Rattle.std.specs.List.{list_all, prefix_len};
 ghost use Rattle.office_wire.specs.HeadSize.{is_newline, empty_line_size, lines_size, head_size};
 
 /// How many bytes the head text of a request has: up to the end of the first empty line behind the
@@ -48,8 +48,15 @@ fn empty_line_size(bytes: &[u8]) -> Option<usize>
     }
 }
 
-/// CR or LF.
-pub fn is_newline(byte: u8) -> bool
+/// Whether all bytes are CR and LF.
+pub fn are_newlines(bytes: &[u8]) -> bool
+    ensures { result ≡ list_all is_newline bytes.now }
+{
+    bytes.iter().all(|byte| is_newline(*byte))
+}
+
+// CR or LF.
+fn is_newline(byte: u8) -> bool
     ensures { result ≡ is_newline byte }
 {
     byte == b'\r' || byte == b'\n'

@@ -50,7 +50,8 @@ fn count_before(byte: u8, bytes: &[u8]) -> usize
 
 // What is found at a path by what stands behind its first `/`.
 fn route_behind(behind: Option<&[u8]>) -> Option<Route>
-    ensures { result ≡ route_at ([] ∷ segments_behind (option_map (λ rest. rest.now) behind)) }
+    ensures { result ≡ route_at ([] ∷ segments_behind (option_map (λ rest. rest.now)
+        behind.entry)) }
 {
     let (word, behind) = first_segment(behind?);
     match behind {
