@@ -120,7 +120,7 @@ answered_none Reached was reached =
     record {
       seen = prefix_itself was.seen;
       asked = reached;
-      right = All-nil _;
+      right = All-nil (IsAnsweredIn was.limit was.by was.seen);
       places = omega arith;
       mine = sym (append-nil was.mine);
       faults = ap (λ (n : ℕ). min n FAULTS_END) (sym none);
@@ -149,7 +149,7 @@ answered_both One Two Both was mid now xs ys first second reached =
     record {
       seen = prefix_on was.seen mid.seen now.seen first.seen second.seen;
       asked = subst Both (sym (filter_map-append (λ (x : Exchange). ask_of x.told) xs ys)) reached;
-      right = All-append _ xs ys right_first right_second;
+      right = All-append (IsAnsweredIn was.limit was.by now.seen) xs ys right_first right_second;
       places = subst (λ (ps : List ℕ). NeverFall (length was.seen) ps (length now.seen))
           (sym (filter_map-append (λ (x : Exchange). place_of x.given) xs ys))
           (fall_both (length was.seen) (length mid.seen) (length now.seen) (places_of xs)
@@ -208,6 +208,22 @@ one was now ask given has =
       mine = has.mine;
     }
 
+-- what holds of one exchange holds of each
+each_one : (limit by : ℕ) (seen : List Entry) (x : Exchange) → IsAnsweredIn limit by seen x
+    → All (IsAnsweredIn limit by seen) (x ∷ [])
+each_one limit by seen x h =
+    All-cons (IsAnsweredIn limit by seen) x [] h (All-nil (IsAnsweredIn limit by seen))
+
+-- the exchange of an ask
+abbrev asked_by : Framed → asks.Ask → Result Answered AskError → Option Row → Bool → Exchange
+asked_by request ask given row last = record {
+  request = request;
+  told = Ask ask;
+  given = Some given;
+  row = row;
+  last = last;
+}
+
 -- what a caller was answered to an ask: the row that this added
 pub record IsGiven (Reached : List asks.Ask → Type 0) (was now : Known) (ask : asks.Ask)
     (given : Result Answered AskError) (last : Bool) : Type 0 where
@@ -243,7 +259,8 @@ given_one Reached was now ask (Ok answered) last asked reached =
       answered = λ request. record {
         seen = is.seen;
         asked = reached;
-        right = All-cons _ _ [] is.told (All-nil _);
+        right = each_one was.limit was.by now.seen
+            (asked_by request ask (Ok answered) is.row last) is.told;
         places = (is.low, is.high);
         mine = is.mine;
         faults = counted_once was.faults now.faults 0 FAULTS_END asked.faults;
@@ -258,7 +275,8 @@ given_one Reached was now ask (Err (error.Refused refused)) last asked reached =
       answered = λ request. record {
         seen = is.seen;
         asked = reached;
-        right = All-cons _ _ [] is.told (All-nil _);
+        right = each_one was.limit was.by now.seen
+            (asked_by request ask (Err (error.Refused refused)) is.row last) is.told;
         places = (is.low, is.high);
         mine = is.mine;
         faults = counted_once was.faults now.faults 0 FAULTS_END asked.faults;
@@ -273,7 +291,9 @@ given_one Reached was now ask (Err error.DiskFault) last asked reached =
       answered = λ request. record {
         seen = (says.0.unseen, says.0.grows);
         asked = reached;
-        right = All-cons _ _ [] (lost was now ask IsSome says.0 asked.limit asked.by says.1) (All-nil _);
+        right = each_one was.limit was.by now.seen
+            (asked_by request ask (Err error.DiskFault) None last)
+            (lost was now ask IsSome says.0 asked.limit asked.by says.1);
         places = prefix_short was.seen now.seen (says.0.unseen, says.0.grows);
         mine = says.0.mine ∙ sym (append-nil was.mine);
         faults = counted_once was.faults now.faults 1 FAULTS_END asked.faults;
@@ -288,9 +308,9 @@ given_one Reached was now ask (Err error.NoMemory) last asked reached =
       answered = λ request. record {
         seen = (says.0.unseen, says.0.grows);
         asked = reached;
-        right = All-cons _ _ []
-            (lost was now ask (MayFindNoMemory ask.want) says.0 asked.limit asked.by says.1)
-            (All-nil _);
+        right = each_one was.limit was.by now.seen
+            (asked_by request ask (Err error.NoMemory) None last)
+            (lost was now ask (MayFindNoMemory ask.want) says.0 asked.limit asked.by says.1);
         places = prefix_short was.seen now.seen (says.0.unseen, says.0.grows);
         mine = says.0.mine ∙ sym (append-nil was.mine);
         faults = counted_once was.faults now.faults 0 FAULTS_END asked.faults;
@@ -354,7 +374,13 @@ nobody Reached was told last request none right reached =
     record {
       seen = prefix_itself was.seen;
       asked = subst (λ (o : Option asks.Ask). Reached (cons_option o [])) (sym none) reached;
-      right = All-cons _ _ [] right (All-nil _);
+      right = each_one was.limit was.by was.seen (record {
+        request = request;
+        told = told;
+        given = None;
+        row = None;
+        last = last;
+      }) right;
       places = omega arith;
       mine = sym (append-nil was.mine);
       faults = ap (λ (n : ℕ). min n FAULTS_END) (sym still);

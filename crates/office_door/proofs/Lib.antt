@@ -1,3 +1,4 @@
+pub mod FrameEnds
 pub mod AnsweredAsks
 pub mod HeardBytes
 pub mod HeldBytes

@@ -12,6 +12,7 @@ use Rattle.office_wire.specs.declared.types.Frame.TheVariants.{Whole, More, Noth
 use Rattle.office_wire.specs.declared.types.OfficeAsk.{OfficeAsk}
 use Rattle.office_wire.specs.Frames.{IsFrame, MayTell, MayFrame, TellsFrame}
 use Rattle.office_wire.proofs.FrameLaws.{frame_taken}
+use Rattle.office_wire.proofs.FrameSteps.{told_whole}
 use Rattle.office_door.specs.declared.leaving.Leaving.{Leaving}
 use Rattle.office_door.specs.declared.leaving.Leaving.TheVariants.{End, Last, ReadFailed, WriteFailed}
 use Rattle.office_door.specs.declared.limits.TheConstants.{MAX_REQUESTS}
@@ -22,66 +23,13 @@ use Rattle.office_door.specs.Steps.{IsHeard, IsServing, IsVisited, StepsTo, Resp
 use Rattle.office_door.proofs.AnsweredAsks.{answered_none, answered_both}
 use Rattle.office_door.proofs.HeardBytes.{heard_none, heard_request, heard_written}
 
--- ---- what bytes begin with
-
--- a frame that was told whole, with what the bytes say in place of what was told
-pub record IsMeant (bytes : List ℕ) (ended : Bool) (framed : Framed) : Type 0 where
-  pub request : Framed
-  pub whole : IsFrame bytes ended (Whole request)
-  pub tells : MayTell request.what framed.what
-  pub taken : framed.taken ≡ request.taken
-  pub last : framed.last ≡ request.last
-
-abbrev framed_or : Framed → Frame → Framed
-framed_or other (Whole framed) = framed
-framed_or other frame = other
-
-meant_by : (bytes : List ℕ) (ended : Bool) (framed : Framed) (frame : Frame)
-    → IsFrame bytes ended frame → MayFrame frame (Whole framed) → IsMeant bytes ended framed
-meant_by bytes ended framed (Whole request) is may =
-    let same : framed ≡ record request { what = may.0 } = ap (framed_or framed) may.2 in
-    record {
-      request = request;
-      whole = is;
-      tells = subst (λ (what : OfficeAsk). MayTell request.what what)
-          (sym (ap (λ (f : Framed). f.what) same)) may.1;
-      taken = ap (λ (f : Framed). f.taken) same;
-      last = ap (λ (f : Framed). f.last) same;
-    }
-meant_by bytes ended framed More is may = absurd (cc)
-meant_by bytes ended framed Nothing is may = absurd (cc)
-
-pub meant : (bytes : List ℕ) (ended : Bool) (framed : Framed) → TellsFrame bytes ended (Whole framed)
-    → IsMeant bytes ended framed
-meant bytes ended framed tells = meant_by bytes ended framed tells.0 tells.1 tells.2
-
-nothing_by : (bytes : List ℕ) (ended : Bool) (frame : Frame) → IsFrame bytes ended frame
-    → MayFrame frame Nothing → IsFrame bytes ended Nothing
-nothing_by bytes ended (Whole framed) is may = absurd (let no = may.2 in cc)
-nothing_by bytes ended More is may = absurd (cc)
-nothing_by bytes ended Nothing is may = is
-
-pub nothing_meant : (bytes : List ℕ) (ended : Bool) → TellsFrame bytes ended Nothing
-    → IsFrame bytes ended Nothing
-nothing_meant bytes ended tells = nothing_by bytes ended tells.0 tells.1 tells.2
-
-more_by : (bytes : List ℕ) (ended : Bool) (frame : Frame) → IsFrame bytes ended frame
-    → MayFrame frame More → IsFrame bytes ended More
-more_by bytes ended (Whole framed) is may = absurd (let no = may.2 in cc)
-more_by bytes ended More is may = is
-more_by bytes ended Nothing is may = absurd (cc)
-
-pub more_meant : (bytes : List ℕ) (ended : Bool) → TellsFrame bytes ended More
-    → IsFrame bytes ended More
-more_meant bytes ended tells = more_by bytes ended tells.0 tells.1 tells.2
-
 -- as many bytes are there as a request has
 pub taken_within : (bytes : List ℕ) (ended : Bool) (framed : Framed)
     → TellsFrame bytes ended (Whole framed) → framed.taken ≤ length bytes
 taken_within bytes ended framed tells =
-    let is = meant bytes ended framed tells in
-    let within = frame_taken bytes ended is.request is.whole in
-    omega (arith, is.taken, within.1)
+    let told = told_whole bytes ended framed tells in
+    let within = frame_taken bytes ended told.meant told.is in
+    omega (arith, told.taken, within.1)
 
 -- ---- a connection that goes on
 
@@ -367,10 +315,10 @@ pub more_served : {E : Type 0} (One Two Both : List Ask → Type 0) (was : Site)
     (left_behind last result)
 more_served One Two Both was known new old now held served framed last text result serving tells
     last_is responds both sends =
-    let is = meant held old.ended framed tells in
+    let meant = told_whole held old.ended framed tells in
     let xs = serving.exchanges in
     let x : Exchange = record {
-      request = is.request;
+      request = meant.meant;
       told = framed.what;
       given = responds.given;
       row = responds.row;
@@ -378,15 +326,15 @@ more_served One Two Both was known new old now held served framed last text resu
     } in
     let heard : IsHeard was.door old (xs ++ x ∷ []) (responses xs) (drop framed.taken held) =
     subst (λ (n : ℕ). IsHeard was.door old (xs ++ x ∷ []) (responses xs) (drop n held))
-    (sym is.taken)
-    (heard_request was.door old xs (responses xs) held x is.whole is.tells serving.heard) in
-    let answered = responds.answered is.request in
+    (sym meant.taken)
+    (heard_request was.door old xs (responses xs) held x meant.is meant.what serving.heard) in
+    let answered = responds.answered meant.meant in
     let count : served + 1 ≡ length (xs ++ x ∷ []) =
     omega (arith, serving.served_is, length-append xs (x ∷ [])) in
-    let ends : last ≡ (is.request.last || length xs + 1 == MAX_REQUESTS) =
+    let ends : last ≡ (meant.meant.last || length xs + 1 == MAX_REQUESTS) =
     last_is
     ∙ ap (λ (n : ℕ). framed.last || n + 1 == MAX_REQUESTS) serving.served_is
-    ∙ ap (λ (b : Bool). b || length xs + 1 == MAX_REQUESTS) is.last in
+    ∙ ap (λ (b : Bool). b || length xs + 1 == MAX_REQUESTS) meant.last in
     let more : IsMore Both was (record { caller = new; door = now }) (drop framed.taken held)
     (served + 1) last text sends.bytes = record {
       before = xs;

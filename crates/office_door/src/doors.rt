@@ -1,4 +1,4 @@
-ghost use Rattle.std.specs.Prelude.{◌≡◌, ◌+◌, ◌*◌, ◌<◌, ◌≤◌, ℕ, vec_capacity};
+ghost use Rattle.std.specs.Prelude.{◌≡◌, ◌+◌, ◌*◌, ◌<◌, ◌≤◌, ℕ, IfSome, vec_capacity};
 ghost use Rattle.office_wire.specs.declared.replies.TheConstants.{REPLY_ROOM};
 ghost use Rattle.office_door.specs.declared.limits.TheConstants.{MAX_REQUESTS, MAX_CONNECTIONS};
 ghost use Rattle.office_door.specs.declared.ending.DoorStop.TheVariants as stop;
@@ -28,6 +28,7 @@ fn serve_next<C: Caller, O: Door>(
     ensures room { REPLY_ROOM ≤ vec_capacity buffers.new.reply }
     ensures served { tally.new.served ≤ tally.old.served + MAX_REQUESTS }
     ensures links { tally.new.links ≤ tally.old.links + 1 }
+    ensures began { IfSome result (λ why. why ≡ stop.NoMemory → ⊥) }
     ensures turns { (first : C) (start : O) (turns : ℕ) → turns < MAX_CONNECTIONS
         → IsOpen (C.later first caller.old) (site C.Caller O.Source O.connections first start)
         (site C.Caller O.Source O.connections caller.old door.old) turns tally.old
@@ -55,9 +56,10 @@ fn serve_all<C: Caller, O: Door>(
     buffers: &mut Buffers,
 ) -> DoorEnd
     requires { REPLY_ROOM ≤ vec_capacity buffers.old.reply }
-    ensures { ServesDoor (C.later caller.old caller.new)
+    ensures serves { ServesDoor (C.later caller.old caller.new)
         (site C.Caller O.Source O.connections caller.old door.old)
         (site C.Caller O.Source O.connections caller.new door.new) result }
+    ensures began { result.stop ≡ stop.NoMemory → ⊥ }
 {
     let mut tally = Tally {
         served: 0,
