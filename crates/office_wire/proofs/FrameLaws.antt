@@ -1,11 +1,11 @@
 -- Laws of what bytes begin with.
-use Rattle.std.proofs.Common.{◌≡◌, ℕ, zero, suc, ◌+◌, ◌-◌, ◌<◌, ◌≤◌, Bool, true, false, List, [], ◌∷◌, ◌++◌, length, take, drop, nat_le, Option, Some, None, Result, Ok, Err, if◌then◌else◌, refl, sym, ap, subst, ◌∙◌, inl, inr, arith, lit≤, leb-true, leb-false, le-leb, length-append, length-drop, length-take}
+use Rattle.std.proofs.Common.{◌≡◌, ℕ, zero, suc, ◌+◌, ◌<◌, ◌≤◌, Bool, true, false, List, [], ◌∷◌, ◌++◌, length, take, drop, nat_le, Option, Some, None, Result, Ok, Err, if◌then◌else◌, refl, sym, ap, subst, ◌∙◌, arith, lit≤, leb-true, leb-false, le-leb, length-append, length-drop, length-take}
 use Rattle.std.specs.List.{list_all}
 use Rattle.std.proofs.lemmas.Bool.{true≢false}
 use Rattle.std.proofs.lemmas.List.{take-append-le, drop-append-le, length-take-le}
-use Rattle.httparse.specs.Grammar.{RequestHead, ReadsRequest}
+use Rattle.httparse.specs.Grammar.{RequestHead}
 use Rattle.httparse.proofs.GrammarLemmas.{request_unique}
-use Rattle.office_wire.specs.declared.limits.TheConstants.{MAX_HEAD, MAX_HEADERS, MAX_BODY, REQUEST_ROOM}
+use Rattle.office_wire.specs.declared.limits.TheConstants.{MAX_HEAD, MAX_BODY, REQUEST_ROOM}
 use Rattle.office_wire.specs.declared.types.Bad.{Bad}
 use Rattle.office_wire.specs.declared.types.Bad.TheVariants as bad
 use Rattle.office_wire.specs.declared.types.Framed.{Framed}

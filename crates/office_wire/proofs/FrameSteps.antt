@@ -1,5 +1,5 @@
 -- What each part of a frame tells is told of the whole.
-use Rattle.std.proofs.Common.{◌≡◌, ℕ, ◌+◌, ◌≤◌, Bool, true, false, List, length, take, drop, nat_le, Option, Some, None, Result, Ok, Err, if◌then◌else◌, refl, sym, ap, subst, ◌∙◌, inl, inr}
+use Rattle.std.proofs.Common.{◌≡◌, ℕ, ◌+◌, Bool, true, false, List, length, take, drop, nat_le, Option, Some, None, Result, Ok, Err, if◌then◌else◌, refl, sym, ap, subst, ◌∙◌, inl}
 use Rattle.httparse.specs.Grammar.{RequestHead}
 use Rattle.office_wire.specs.declared.limits.TheConstants.{MAX_HEAD}
 use Rattle.office_wire.specs.declared.types.Bad.{Bad}
@@ -11,7 +11,7 @@ use Rattle.office_wire.specs.declared.types.Frame.TheVariants.{Whole, More, Noth
 use Rattle.office_wire.specs.declared.request_heads.Said.{Said}
 use Rattle.office_wire.specs.HeadSize.{head_size}
 use Rattle.office_wire.specs.Routes.{route_of}
-use Rattle.office_wire.specs.Frames.{IsFrame, IsFrameFrom, IsFrameOf, IsHeadOf, MayTell, MayFrame, TellsFrame, TellsFrameOf, ask_at, body_size, size_of, headers_of, is_last, last_fault, whole_request, part_of_body, frame_by_size, frame_by_head, frame_without_head}
+use Rattle.office_wire.specs.Frames.{IsFrame, IsFrameFrom, IsFrameOf, IsHeadOf, MayTell, MayFrame, TellsFrame, TellsFrameOf, ask_at, body_size, last_fault, whole_request, part_of_body, frame_by_size, frame_by_head, frame_without_head}
 use Rattle.office_wire.specs.HeadParts.{Says, SaysHeadOf}
 use Rattle.office_wire.proofs.FrameKinds.{more_not_whole, nothing_not_whole, whole_not_more, nothing_not_more, same_framed}
 

@@ -5,4 +5,5 @@ pub mod FrameKinds
 pub mod FrameSteps
 pub mod FrameLaws
 pub mod RequestLaws
+mod WorkedRequests
 mod WorkedResponses

@@ -3,8 +3,7 @@ use Rattle.std.proofs.Common.{◌≡◌, ℕ, Bool, true, false, List, [], ◌�
 use Rattle.std.proofs.lemmas.Bool.{true≢false}
 use Rattle.std.proofs.lemmas.List.{drop-append-le}
 use Rattle.office_wire.specs.declared.types.Framed.{Framed}
-use Rattle.office_wire.specs.declared.types.Frame.{Frame}
-use Rattle.office_wire.specs.declared.types.Frame.TheVariants.{Whole, More, Nothing}
+use Rattle.office_wire.specs.declared.types.Frame.TheVariants.{Whole, Nothing}
 use Rattle.office_wire.specs.Frames.{IsFrame}
 use Rattle.office_wire.specs.Requests.{AreRequests, BeginsWith}
 use Rattle.office_wire.proofs.FrameKinds.{nothing_not_whole, same_framed}

@@ -1,6 +1,6 @@
 -- Which bytes are a request, which fault of form it has first, and what it asks. `ended` says that
 -- the input has no more bytes. Behind a response that is last no byte is read.
-use Rattle.std.specs.Prelude.{◌≡◌, ℕ, ◌+◌, ◌<◌, ◌≤◌, ◌⊎◌, Bool, true, false, ◌||◌, ◌==◌, List, [], length, take, drop, map, if◌then◌else◌, nat_le, nat_lt, Option, Some, None, Result, Ok, Err, codes}
+use Rattle.std.specs.Prelude.{◌≡◌, ℕ, ◌+◌, ◌<◌, ◌≤◌, ◌⊎◌, Bool, true, false, ◌||◌, ◌==◌, List, [], length, take, drop, map, if◌then◌else◌, nat_le, Option, Some, None, Result, Ok, Err, codes}
 use Rattle.std.specs.List.{list_all}
 use Rattle.std.specs.Option.{unwrap_or}
 use Rattle.std.specs.Str.{bytes_eq}
@@ -17,7 +17,6 @@ use Rattle.office_wire.specs.declared.types.Route.{Route}
 use Rattle.office_wire.specs.declared.types.Route.TheVariants as route
 use Rattle.office_wire.specs.declared.types.OfficeAsk.{OfficeAsk}
 use Rattle.office_wire.specs.declared.types.OfficeAsk.TheVariants as asked
-use Rattle.office_wire.specs.declared.types.Framed.{Framed}
 use Rattle.office_wire.specs.declared.types.Frame.{Frame}
 use Rattle.office_wire.specs.declared.types.Frame.TheVariants.{Whole, More, Nothing}
 use Rattle.office_wire.specs.HeadSize.{is_newline, head_size}

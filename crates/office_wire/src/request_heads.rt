@@ -1,4 +1,4 @@
-ghost use Rattle.std.specs.Prelude.{◌≡◌, ◌≤◌, All, None, length, map, IfSome, IfNone, take};
+ghost use Rattle.std.specs.Prelude.{◌≡◌, All, None, length, map, IfSome, IfNone};
 ghost use Rattle.httparse.specs.Grammar.{RequestHead};
 ghost use Rattle.httparse.specs.Spans.{IsHeaderWithin, IsRequestAt, header_bytes};
 ghost use Rattle.office_wire.specs.Frames.{IsHeadOf, allowed_size, size_of};

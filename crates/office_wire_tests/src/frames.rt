@@ -11,126 +11,116 @@ const POST: &[u8] = b"POST /acts HTTP/1.1\r\nHost: 127.0.0.1:8080\r\nContent-Len
 // How many of its bytes are its head.
 const POST_HEAD: usize = 65;
 
-// A request that is at fault: all its bytes, the fault, and whether the connection ends.
-struct FaultRow {
-    bytes: &'static [u8],
-    bad: Bad,
-    last: bool,
-}
-
-const fn row(bytes: &'static [u8], bad: Bad, last: bool) -> FaultRow {
-    FaultRow { bytes, bad, last }
-}
-
-const FAULTS: [FaultRow; 36] = [
-    row(b"GET /summary HTTP/1.2\r\n\r\n", Bad::Head, true),
-    row(b"GET  /summary HTTP/1.1\r\n\r\n", Bad::Head, true),
-    row(b"GET /summary HTTP/1.1\r\nA : b\r\n\r\n", Bad::Head, true),
-    row(b"GET /\xff HTTP/1.1\n\n", Bad::Head, true),
-    row(b"\r\nno head\n\n", Bad::Head, true),
-    row(
+// Requests that are at fault: all their bytes, the fault, and whether the connection ends.
+const FAULTS: [(&[u8], Bad, bool); 36] = [
+    (b"GET /summary HTTP/1.2\r\n\r\n", Bad::Head, true),
+    (b"GET  /summary HTTP/1.1\r\n\r\n", Bad::Head, true),
+    (b"GET /summary HTTP/1.1\r\nA : b\r\n\r\n", Bad::Head, true),
+    (b"GET /\xff HTTP/1.1\n\n", Bad::Head, true),
+    (b"\r\nno head\n\n", Bad::Head, true),
+    (
         b"POST /acts HTTP/1.1\r\nTransfer-Encoding: chunked\r\n\r\n",
         Bad::Coding,
         true,
     ),
-    row(
+    (
         b"POST /acts HTTP/1.1\r\ntransfer-encoding: x\r\nContent-Length: 5000\r\n\r\n",
         Bad::Coding,
         true,
     ),
-    row(
+    (
         b"POST /acts HTTP/1.1\r\nContent-Length: 5\r\nContent-Length: 6\r\n\r\n",
         Bad::Length,
         true,
     ),
-    row(
+    (
         b"POST /acts HTTP/1.1\r\nContent-Length: 5000\r\ncontent-length: 6\r\n\r\n",
         Bad::Length,
         true,
     ),
-    row(
+    (
         b"POST /acts HTTP/1.1\r\nContent-Length: 12345678901\r\n\r\n",
         Bad::Length,
         true,
     ),
-    row(
+    (
         b"POST /acts HTTP/1.1\r\nContent-Length:\r\n\r\n",
         Bad::Length,
         true,
     ),
-    row(
+    (
         b"POST /acts HTTP/1.1\r\nContent-Length: +5\r\n\r\n",
         Bad::Length,
         true,
     ),
-    row(
+    (
         b"POST /acts HTTP/1.1\r\nContent-Length: 5, 5\r\n\r\n",
         Bad::Length,
         true,
     ),
-    row(
+    (
         b"POST /acts HTTP/1.1\r\nContent-Length: 4097\r\n\r\n",
         Bad::Large,
         true,
     ),
-    row(
+    (
         b"GET /nothing HTTP/1.1\r\nCONTENT-LENGTH: 9999999999\r\n\r\n",
         Bad::Large,
         true,
     ),
-    row(b"GET / HTTP/1.1\r\n\r\n", Bad::Path, false),
-    row(b"GET summary HTTP/1.1\r\n\r\n", Bad::Path, false),
-    row(
+    (b"GET / HTTP/1.1\r\n\r\n", Bad::Path, false),
+    (b"GET summary HTTP/1.1\r\n\r\n", Bad::Path, false),
+    (
         b"GET http://hall/summary HTTP/1.1\r\n\r\n",
         Bad::Path,
         false,
     ),
-    row(b"GET /summary/ HTTP/1.1\r\n\r\n", Bad::Path, false),
-    row(b"GET /batches HTTP/1.1\r\n\r\n", Bad::Path, false),
-    row(b"GET /batches/ HTTP/1.1\r\n\r\n", Bad::Path, false),
-    row(b"GET /batches/A/samples HTTP/1.1\r\n\r\n", Bad::Path, false),
-    row(b"GET /batches/A/sample/ HTTP/1.1\r\n\r\n", Bad::Path, false),
-    row(
+    (b"GET /summary/ HTTP/1.1\r\n\r\n", Bad::Path, false),
+    (b"GET /batches HTTP/1.1\r\n\r\n", Bad::Path, false),
+    (b"GET /batches/ HTTP/1.1\r\n\r\n", Bad::Path, false),
+    (b"GET /batches/A/samples HTTP/1.1\r\n\r\n", Bad::Path, false),
+    (b"GET /batches/A/sample/ HTTP/1.1\r\n\r\n", Bad::Path, false),
+    (
         b"GET /batches/123456789012345678901234567890123 HTTP/1.1\r\n\r\n",
         Bad::Path,
         false,
     ),
-    row(b"GET /packs/4294967296 HTTP/1.1\r\n\r\n", Bad::Path, false),
-    row(b"GET /packs/1/sample HTTP/1.1\r\n\r\n", Bad::Path, false),
-    row(b"GET /lanes/256 HTTP/1.1\r\n\r\n", Bad::Path, false),
-    row(
+    (b"GET /packs/4294967296 HTTP/1.1\r\n\r\n", Bad::Path, false),
+    (b"GET /packs/1/sample HTTP/1.1\r\n\r\n", Bad::Path, false),
+    (b"GET /lanes/256 HTTP/1.1\r\n\r\n", Bad::Path, false),
+    (
         b"PUT /acts?/summary HTTP/1.1\r\n\r\n",
         Bad::Method { post: true },
         false,
     ),
-    row(
+    (
         b"GET /acts HTTP/1.1\r\nContent-Length: 2\r\n\r\n{}",
         Bad::Method { post: true },
         false,
     ),
-    row(
+    (
         b"HEAD /summary HTTP/1.1\r\n\r\n",
         Bad::Method { post: false },
         false,
     ),
-    row(
+    (
         b"get /lanes/1 HTTP/1.1\r\n\r\n",
         Bad::Method { post: false },
         false,
     ),
-    row(
+    (
         b"POST /batches/A HTTP/1.1\r\nContent-Length: 2\r\n\r\n{}",
         Bad::Method { post: false },
         false,
     ),
-    row(b"POST /acts HTTP/1.1\r\n\r\n", Bad::NoLength, false),
-    row(b"POST /acts HTTP/1.0\r\n\r\n", Bad::NoLength, true),
-    row(
+    (b"POST /acts HTTP/1.1\r\n\r\n", Bad::NoLength, false),
+    (b"POST /acts HTTP/1.0\r\n\r\n", Bad::NoLength, true),
+    (
         b"POST /acts HTTP/1.1\r\nContent-Length: 0\r\n\r\n",
         Bad::Body,
         false,
     ),
-    row(
+    (
         b"POST /acts HTTP/1.1\r\nContent-Length: 38\r\n\r\n{\"act\":\"weigh\",\"desk\":101,\"request\":1}",
         Bad::Body,
         false,
@@ -190,9 +180,9 @@ fn question(taken: usize, question: Question, last: bool) -> Frame {
 
 // The first request of the table whose fault isn't told so.
 fn wrong_fault(alloc: Global) -> Option<&'static [u8]> {
-    for row in &FAULTS {
-        if frame(alloc, row.bytes, false) != fault(row.bytes.len(), row.bad, row.last) {
-            return Some(row.bytes);
+    for (bytes, bad, last) in &FAULTS {
+        if frame(alloc, bytes, false) != fault(bytes.len(), *bad, *last) {
+            return Some(bytes);
         }
     }
     None
