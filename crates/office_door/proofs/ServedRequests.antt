@@ -19,7 +19,7 @@ use Rattle.office_door.specs.declared.limits.TheConstants.{MAX_REQUESTS}
 use Rattle.office_door.specs.Exchanges.{Exchange, asks_of, response_of, response_to, responses, HasAnswered}
 use Rattle.office_door.specs.Served.{Visit, BeginWith, GoesOn, EndsRight, IsCut, IsServed, exchanges_of}
 use Rattle.office_door.specs.Doors.{Port, Site, links_of}
-use Rattle.office_door.specs.Steps.{IsHeard, IsServing, IsVisited, StepsTo, Responds, IsSent, Sends, left_behind}
+use Rattle.office_door.specs.Steps.{IsHeard, IsFound, IsServing, IsVisited, StepsTo, Responds, IsSent, Sends, left_behind}
 use Rattle.office_door.proofs.AnsweredAsks.{answered_none, answered_both}
 use Rattle.office_door.proofs.HeardBytes.{heard_none, heard_request, heard_written}
 
@@ -30,6 +30,22 @@ taken_within bytes ended framed tells =
     let told = told_whole bytes ended framed tells in
     let within = frame_taken bytes ended told.meant told.is in
     omega (arith, told.taken, within.1)
+
+-- where none is found the end was given
+pub none_found : (E : Type 0) (bytes : List ℕ) (ended : Bool) (found : Option Framed)
+    → found ≡ None → IsFound {E = E} bytes ended (Ok found)
+    → IsFrame bytes true Nothing × (ended ≡ true)
+none_found E bytes ended None is h = h
+none_found E bytes ended (Some framed) is h = absurd (cc)
+
+-- a response ends the connection where the request says so, and else where it is the last
+pub last_said : (request last most : Bool) → request ≡ true → last ≡ true
+    → last ≡ (request || most)
+last_said request last most said is = is ∙ sym (ap (λ (b : Bool). b || most) said)
+
+pub last_by_number : (request last most : Bool) → request ≡ false → last ≡ most
+    → last ≡ (request || most)
+last_by_number request last most said is = is ∙ sym (ap (λ (b : Bool). b || most) said)
 
 -- ---- a connection that goes on
 

@@ -1,6 +1,6 @@
 use Rattle.std.proofs.Common.{sym, ◌∙◌}
 use Rattle.office_door.specs.Doors.{port, site}
-use Rattle.office_door.proofs.ServedRequests.{serving_heard, visited_ended, visited_unread}
+use Rattle.office_door.proofs.ServedRequests.{none_found, serving_heard, visited_ended, visited_unread}
 use Rattle.office_door.proofs.requests.serve_request.Goals as goal
 
 pub returns-in-Ok-Some-clause-goes : goal.returns-in-Ok-Some-clause-goes
@@ -20,7 +20,8 @@ returns-in-Ok-None-clause-goes g c = λ first start serving.
     let old = port g.O.Source g.O.Door.connections c.args.door.now in
     let now = port g.O.Source g.O.Door.connections c.next_request.new.door in
     let was = site g.C.Caller g.O.Source g.O.Door.connections first start in
-    let found = c.in-Ok-None.ensures.found in
+    let found = none_found _ c.next_request.new.held.bytes c.next_request.new.held.ended
+    c.in-Ok-None.field-0 c.in-Ok-None.field-0-is c.in-Ok-None.ensures.found in
     visited_ended (g.C.Caller.later first c.args.caller.now) was
     (site g.C.Caller g.O.Source g.O.Door.connections c.args.caller.now c.next_request.new.door)
     c.next_request.new.held.bytes c.args.served.now
