@@ -39,8 +39,8 @@ door_word stop.Door = codes "door"
 door_word stop.NoMemory = codes "memory"
 door_word stop.Turns = codes "turns"
 
--- the line of a door: how many requests it took, how many connections a fault of the link ended, and
--- why no more were served
+-- the line of a door: how many requests it took, how many connections a fault of the link ended,
+-- and why no more were served
 unfoldable pub door_text : ℕ → DoorEnd → List ℕ
 door_text door end =
     codes "door " ++ decimal door ++ codes " served " ++ decimal end.served

@@ -1,5 +1,5 @@
-//! The texts of jobs that came to their end: a lane, and a door of the office. Each is a line that ends
-//! in LF.
+//! The texts of jobs that came to their end: a lane, and a door of the office. Each is a line that
+//! ends in LF.
 #![tactic(auto)]
 
 mod append;

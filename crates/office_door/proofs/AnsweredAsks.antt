@@ -1,19 +1,17 @@
 -- How a caller goes on by the asks of exchanges, one after another.
-use Rattle.std.proofs.Common.{◌≡◌, ℕ, ◌+◌, ◌-◌, ◌^◌, ◌≤◌, min, Bool, List, [], ◌∷◌, ◌++◌, length, All, filter, Option, Some, None, IsSome, Result, Ok, Err, refl, sym, ◌∙◌, ap, subst, arith, append_assoc, append-nil, length-append}
+use Rattle.std.proofs.Common.{◌≡◌, ℕ, ◌+◌, ◌-◌, ◌≤◌, min, Bool, List, [], ◌∷◌, ◌++◌, length, All, filter, Option, Some, None, IsSome, Result, Ok, Err, refl, sym, ◌∙◌, ap, subst, arith, append_assoc, append-nil, length-append}
 use Rattle.std.proofs.lemmas.List.Elements.{All-nil, All-cons, All-append, All-weaker, filter-append, filter_map-append}
 use Rattle.std.specs.List.{cons_option}
 use Rattle.device_facts.specs.Prefix.{IsPrefixOf}
 use Rattle.book_words.specs.declared.act.Ask as asks
 use Rattle.book_words.specs.declared.act.Entry.{Entry}
-use Rattle.book_words.specs.declared.act.Want.{Want}
 use Rattle.book_words.specs.declared.reply.Answered.{Answered}
 use Rattle.book_words.specs.declared.reply.Refused as refusals
 use Rattle.book_words.specs.declared.caller.AskError.{AskError}
 use Rattle.book_words.specs.declared.caller.AskError.TheVariants as error
 use Rattle.book_words.specs.Desks.{Row}
 use Rattle.book_words.specs.Answers.{added, entries_after, IsLegal}
-use Rattle.book_words.specs.Callers.{Known, FAULTS_END, IsAsked, IsRight, HasAnswer, HasNoAnswer, MayFindNoMemory, number_named, row_added}
-use Rattle.book_words.specs.Soundness.{IsAnswer, IsRefusal}
+use Rattle.book_words.specs.Callers.{Known, FAULTS_END, IsAsked, HasAnswer, HasNoAnswer, MayFindNoMemory, number_named, row_added}
 use Rattle.book_words.proofs.LegalLemmas.{legal-prefix}
 use Rattle.book_words.proofs.RightAnswers.{right_names}
 use Rattle.office_wire.specs.declared.types.Bad as faults
@@ -21,7 +19,7 @@ use Rattle.office_wire.specs.declared.types.Framed.{Framed}
 use Rattle.office_wire.specs.declared.types.OfficeAsk.{OfficeAsk}
 use Rattle.office_wire.specs.declared.types.OfficeAsk.TheVariants.{Ask, Bad, NoMemory}
 use Rattle.office_wire.specs.Responses.{IsBookAnswer, reply_response, bad_response}
-use Rattle.office_door.specs.Exchanges.{Exchange, ask_of, asks_of, rows_of, place_of, places_of, is_disk_fault, disk_faults, response_to, IsTold, IsLost, IsAnswered, IsAnsweredIn, NeverFall, HasAnswered}
+use Rattle.office_door.specs.Exchanges.{Exchange, ask_of, asks_of, rows_of, place_of, places_of, is_disk_fault, disk_faults, IsTold, IsLost, IsAnswered, IsAnsweredIn, NeverFall, HasAnswered}
 use Rattle.office_door.specs.Steps.{Responds}
 
 -- ---- lists that go on

@@ -6,7 +6,7 @@ use Rattle.office_wire.specs.declared.types.Bad.{Bad}
 use Rattle.office_wire.specs.declared.types.Bad.TheVariants as bad
 use Rattle.office_wire.specs.declared.types.Frame.TheVariants.{More, Nothing}
 use Rattle.office_wire.specs.HeadSize.{head_size}
-use Rattle.office_wire.specs.Frames.{IsFrame, IsFrameFrom, TellsFrame, body_size, last_fault, whole_request, part_of_body, frame_by_size, frame_by_head, frame_at_end, frame_without_head, size_of, headers_of}
+use Rattle.office_wire.specs.Frames.{IsFrame, IsFrameFrom, TellsFrame, body_size, last_fault, whole_request, part_of_body, frame_by_size, frame_by_head, frame_at_end, size_of, headers_of}
 use Rattle.office_wire.proofs.FrameLaws.{more_wanted}
 use Rattle.office_wire.proofs.FrameSteps.{told_more, told_nothing}
 use Rattle.office_wire.proofs.FrameKinds.{nothing_not_whole, nothing_not_more}

@@ -1,15 +1,12 @@
 -- What was said on a connection since it began, with bytes more that were read or written, and with
 -- one request more.
-use Rattle.std.proofs.Common.{◌≡◌, ℕ, ◌+◌, ◌<◌, ◌≤◌, ◌⊎◌, inl, inr, Bool, true, false, true≢false, List, [], ◌∷◌, ◌++◌, length, drop, Option, Some, None, option_map, refl, sym, ◌∙◌, ap, subst, arith, append_assoc, append-nil, length-append}
+use Rattle.std.proofs.Common.{◌≡◌, ℕ, ◌+◌, Bool, true, false, true≢false, List, [], ◌∷◌, ◌++◌, length, drop, Option, Some, None, option_map, refl, sym, ◌∙◌, ap, subst, append_assoc, append-nil, length-append}
 use Rattle.std.proofs.KnownBytes.{Consumes-nil, Consumes-trans}
 use lib.Seq.{drop-append-le, drop-drop}
 use Rattle.std.specs.Io.KnownBytes.{Consumes, IsAtEnd}
 use Rattle.disk_core.specs.Doors.{Connection, Connections, left_now, taken_from, written_to, with_taken, with_written}
-use Rattle.office_wire.specs.declared.types.Framed.{Framed}
-use Rattle.office_wire.specs.declared.types.OfficeAsk.{OfficeAsk}
-use Rattle.office_wire.specs.declared.types.Frame.{Frame}
-use Rattle.office_wire.specs.declared.types.Frame.TheVariants.{Whole, More, Nothing}
-use Rattle.office_wire.specs.Frames.{IsFrame, MayTell, MayFrame, TellsFrame}
+use Rattle.office_wire.specs.declared.types.Frame.TheVariants.{Whole}
+use Rattle.office_wire.specs.Frames.{IsFrame, MayTell}
 use Rattle.office_wire.proofs.FrameLaws.{frame_still, frame_taken}
 use Rattle.office_door.specs.Exchanges.{Exchange}
 use Rattle.office_door.specs.Served.{BeginWith}
@@ -70,7 +67,8 @@ talk_taken : (taken written more : List ℕ) (present : Option Connection)
     ≡ option_map (written_to written) (option_map (taken_from (taken ++ more)) present)
 talk_taken taken written more None = refl
 talk_taken taken written more (Some c) =
-    let left : drop (length more) (drop (length taken) c.left) ≡ drop (length (taken ++ more)) c.left =
+    let left : drop (length more) (drop (length taken) c.left)
+    ≡ drop (length (taken ++ more)) c.left =
     drop-drop (length more) (length taken) c.left
     ∙ ap (λ (n : ℕ). drop n c.left) (sym (length-append taken more)) in
     λ i. Some (record {

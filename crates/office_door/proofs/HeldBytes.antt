@@ -1,5 +1,5 @@
 -- The bytes that are held in a buffer, when some were taken away, and when some were read.
-use Rattle.std.proofs.Common.{◌≡◌, ℕ, ◌+◌, ◌-◌, ◌<◌, ◌≤◌, Bool, true, false, ◌&&◌, ◌==◌, nat_eq, nat_lt, cond, List, ◌++◌, length, take, drop, refl, sym, ◌∙◌, ap, arith, length-append, length-drop, length-take-le, zero-add}
+use Rattle.std.proofs.Common.{◌≡◌, ℕ, ◌+◌, ◌-◌, ◌<◌, ◌≤◌, Bool, true, false, ◌&&◌, ◌==◌, nat_eq, nat_lt, cond, List, ◌++◌, length, take, drop, refl, sym, ◌∙◌, ap, arith, length-drop, zero-add}
 use Rattle.std.proofs.lemmas.Bool.{lt-ltb}
 use Rattle.std.proofs.lemmas.List.{drop-take, take-append-le}
 use Rattle.std.proofs.lemmas.List.Edits.{take-paste}

@@ -1,5 +1,5 @@
 -- What a write to a door leaves, by the laws of a door.
-use Rattle.std.proofs.Common.{◌≡◌, ℕ, ◌<◌, Bool, List, length, take, Option, option_map, Result, Ok, Err, OnOk, IfErr, refl, sym, ◌∙◌, ap, subst}
+use Rattle.std.proofs.Common.{◌≡◌, ℕ, ◌<◌, List, length, take, Option, option_map, Result, Ok, Err, OnOk, IfErr, refl, sym, ◌∙◌, ap, subst}
 use Rattle.std.specs.Bool.{⊤}
 use Rattle.std.specs.Io.KnownBytes.{Appends}
 use Rattle.device_facts.specs.Count.{CountsFault}
@@ -12,7 +12,8 @@ use Rattle.office_door.specs.Steps.{IsSent, Sends}
 use Rattle.office_door.proofs.HeardBytes.{same_left}
 
 -- these bytes went out
-went_out : {O E : Type 0} (reads : source.Ghosts O) (writes : sink.Ghosts O) (connections : O → Option Connections)
+went_out : {O E : Type 0} (reads : source.Ghosts O) (writes : sink.Ghosts O)
+    (connections : O → Option Connections)
     → ((o : O) → reads.left o ≡ option_map left_now (connections o))
     → ((o : O) → writes.faults o ≡ reads.faults o)
     → ((old new : O) (bytes : List ℕ) → writes.keeps_rest old new
@@ -23,8 +24,8 @@ went_out : {O E : Type 0} (reads : source.Ghosts O) (writes : sink.Ghosts O) (co
     → Appends (writes.held old) (writes.held new) bytes → IsSent text bytes result
     → writes.keeps_rest old new → CountsFault (writes.faults old) (writes.faults new) result
     → Sends (port reads connections old) (port reads connections new) text result
-went_out reads writes connections left_is one_count adds leaves_end old new text bytes result appended
-    sent rest cause =
+went_out reads writes connections left_is one_count adds leaves_end old new text bytes result
+    appended sent rest cause =
     let after = adds old new bytes rest appended in
     let before : CountsFault (reads.faults old) (writes.faults new) result =
     subst (λ (n : ℕ). CountsFault n (writes.faults new) result) (one_count old) cause in
@@ -38,7 +39,8 @@ went_out reads writes connections left_is one_count adds leaves_end old new text
       cause = subst (λ (n : ℕ). CountsFault (reads.faults old) n result) (one_count new) before;
     }
 
-pub sends : {O : Type 0} (reads : source.Ghosts O) (writes : sink.Ghosts O) (connections : O → Option Connections)
+pub sends : {O : Type 0} (reads : source.Ghosts O) (writes : sink.Ghosts O)
+    (connections : O → Option Connections)
     → ((o : O) → reads.left o ≡ option_map left_now (connections o))
     → ((o : O) → writes.faults o ≡ reads.faults o)
     → ((old new : O) (bytes : List ℕ) → writes.keeps_rest old new
@@ -51,11 +53,11 @@ pub sends : {O : Type 0} (reads : source.Ghosts O) (writes : sink.Ghosts O) (con
     → IfErr result (λ (p : Partly). p.done < length text)
     → writes.keeps_rest old new → CountsFault (writes.faults old) (writes.faults new) result
     → Sends (port reads connections old) (port reads connections new) text result
-sends reads writes connections left_is one_count adds leaves_end old new text (Ok done) whole part less
-    rest cause =
-    went_out reads writes connections left_is one_count adds leaves_end old new text text (Ok done) whole
-    refl rest cause
-sends reads writes connections left_is one_count adds leaves_end old new text (Err p) whole part less
-    rest cause =
-    went_out reads writes connections left_is one_count adds leaves_end old new text (take p.done text)
-    (Err p) part (p.done, less, refl) rest cause
+sends reads writes connections left_is one_count adds leaves_end old new text (Ok done) whole part
+    less rest cause =
+    went_out reads writes connections left_is one_count adds leaves_end old new text text (Ok done)
+    whole refl rest cause
+sends reads writes connections left_is one_count adds leaves_end old new text (Err p) whole part
+    less rest cause =
+    went_out reads writes connections left_is one_count adds leaves_end old new text
+    (take p.done text) (Err p) part (p.done, less, refl) rest cause

@@ -1,5 +1,5 @@
 -- How the serving of a connection goes on with each request, and how it comes to its end.
-use Rattle.std.proofs.Common.{◌≡◌, ℕ, ◌+◌, ◌<◌, ◌≤◌, Bool, true, false, ◌||◌, ◌==◌, List, [], ◌∷◌, ◌++◌, length, take, drop, flat_map, All, Option, Some, None, IfSome, IfNone, option_map, option_to_list, Result, Ok, Err, OnOk, OnErr, refl, sym, ◌∙◌, ap, subst, arith, append_assoc, append-nil, length-append}
+use Rattle.std.proofs.Common.{◌≡◌, ℕ, ◌+◌, ◌<◌, ◌≤◌, Bool, true, false, ◌||◌, ◌==◌, List, [], ◌∷◌, ◌++◌, length, take, drop, All, Option, Some, None, IfNone, option_to_list, Result, Ok, Err, refl, sym, ◌∙◌, ap, subst, arith, append-nil, length-append}
 use Rattle.std.specs.Bool.{⊤}
 use Rattle.std.proofs.lemmas.List.Concat.{flat_map-append}
 use Rattle.std.proofs.lemmas.List.Elements.{All-nil, All-push}
@@ -7,18 +7,16 @@ use Rattle.device_facts.specs.Count.{Counted, CountsFault}
 use Rattle.book_words.specs.declared.act.Ask.{Ask}
 use Rattle.book_words.specs.Callers.{Known}
 use Rattle.office_wire.specs.declared.types.Framed.{Framed}
-use Rattle.office_wire.specs.declared.types.Frame.{Frame}
 use Rattle.office_wire.specs.declared.types.Frame.TheVariants.{Whole, More, Nothing}
-use Rattle.office_wire.specs.declared.types.OfficeAsk.{OfficeAsk}
-use Rattle.office_wire.specs.Frames.{IsFrame, MayTell, MayFrame, TellsFrame}
+use Rattle.office_wire.specs.Frames.{IsFrame, TellsFrame}
 use Rattle.office_wire.proofs.FrameLaws.{frame_taken}
 use Rattle.office_wire.proofs.FrameSteps.{told_whole}
 use Rattle.office_door.specs.declared.leaving.Leaving.{Leaving}
 use Rattle.office_door.specs.declared.leaving.Leaving.TheVariants.{End, Last, ReadFailed, WriteFailed}
 use Rattle.office_door.specs.declared.limits.TheConstants.{MAX_REQUESTS}
-use Rattle.office_door.specs.Exchanges.{Exchange, asks_of, response_of, response_to, responses, HasAnswered}
-use Rattle.office_door.specs.Served.{Visit, BeginWith, GoesOn, EndsRight, IsCut, IsServed, exchanges_of}
-use Rattle.office_door.specs.Doors.{Port, Site, links_of}
+use Rattle.office_door.specs.Exchanges.{Exchange, asks_of, response_of, responses, HasAnswered}
+use Rattle.office_door.specs.Served.{Visit, BeginWith, GoesOn, EndsRight}
+use Rattle.office_door.specs.Doors.{Port, Site}
 use Rattle.office_door.specs.Steps.{IsHeard, IsFound, IsServing, IsVisited, StepsTo, Responds, IsSent, Sends, left_behind}
 use Rattle.office_door.proofs.AnsweredAsks.{answered_none, answered_both}
 use Rattle.office_door.proofs.HeardBytes.{heard_none, heard_request, heard_written}

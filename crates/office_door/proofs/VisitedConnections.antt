@@ -1,5 +1,5 @@
 -- How the work of a door goes on with each connection, and how it comes to its end.
-use Rattle.std.proofs.Common.{◌≡◌, ℕ, zero, suc, ◌+◌, ◌<◌, ◌≤◌, min, Bool, true, false, true≢false, List, [], ◌∷◌, ◌++◌, length, flat_map, sum_by, All, Option, Some, None, IfSome, is_some, option_map, refl, sym, ◌∙◌, ap, subst, arith, append_assoc, append-nil, length-append, zero-add}
+use Rattle.std.proofs.Common.{◌≡◌, ℕ, zero, suc, ◌+◌, ◌<◌, true, false, true≢false, List, [], ◌∷◌, ◌++◌, length, Option, Some, None, IfSome, is_some, option_map, refl, sym, ◌∙◌, ap, subst, arith, append-nil, length-append, zero-add}
 use Rattle.std.proofs.lemmas.List.Concat.{flat_map-append}
 use Rattle.std.proofs.lemmas.List.Elements.{All-nil, All-push}
 use Rattle.std.proofs.lemmas.List.Sums.{sum_by-append}
@@ -10,13 +10,12 @@ use Rattle.disk_core.specs.Doors.{Connections, first_connection, next_connection
 use Rattle.book_words.specs.declared.act.Ask.{Ask}
 use Rattle.book_words.specs.Callers.{Known}
 use Rattle.office_door.specs.declared.leaving.Leaving.{Leaving}
-use Rattle.office_door.specs.declared.ending.DoorStop.{DoorStop}
 use Rattle.office_door.specs.declared.ending.DoorStop.TheVariants as stop
 use Rattle.office_door.specs.declared.tally.Tally.{Tally}
 use Rattle.office_door.specs.declared.limits.TheConstants.{MAX_CONNECTIONS}
 use Rattle.office_door.specs.Exchanges.{Exchange, asks_of, HasAnswered}
 use Rattle.office_door.specs.Served.{Visit, IsServed, exchanges_of}
-use Rattle.office_door.specs.Doors.{Port, Site, with_talk, visited, TakesFrom, AreVisited, links_of, link_faults, FailedSoOften, all_exchanges, HasServed, ServesDoor}
+use Rattle.office_door.specs.Doors.{Port, Site, with_talk, visited, TakesFrom, AreVisited, links_of, link_faults, FailedSoOften, all_exchanges, ServesDoor}
 use Rattle.office_door.specs.Steps.{IsVisited, IsOpen, end_of}
 use Rattle.office_door.proofs.AnsweredAsks.{answered_none, answered_both}
 

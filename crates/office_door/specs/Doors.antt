@@ -1,5 +1,5 @@
 -- What a door serves: its connections, one after another.
-use Rattle.std.specs.Prelude.{◌≡◌, ℕ, zero, suc, ◌+◌, ◌<◌, Bool, true, false, List, [], ◌∷◌, ◌++◌, length, flat_map, sum_by, All, Option, Some, None, IfSome, option_map}
+use Rattle.std.specs.Prelude.{◌≡◌, ℕ, zero, suc, ◌+◌, ◌<◌, Bool, true, List, [], ◌∷◌, length, flat_map, sum_by, All, Option, Some, None, IfSome, option_map}
 use Rattle.device_facts.specs.Count.{Counted}
 use Rattle.device_facts.specs.Prefix.{IsPrefixOf}
 use Rattle.disk_core.specs.Doors.{Connection, Connections, first_connection, next_connections, with_taken, with_written}
@@ -97,8 +97,8 @@ FailedSoOften before now (suc k) = Counted before now (suc k)
 abbrev pub all_exchanges : List Visit → List Exchange
 all_exchanges visits = flat_map exchanges_of visits
 
--- A caller and a door after some visits: each connection was served right, the caller answered their
--- asks in order, the connections are as the visits leave them, and both counts.
+-- A caller and a door after some visits: each connection was served right, the caller answered
+-- their asks in order, the connections are as the visits leave them, and both counts.
 pub record HasServed (Reached : List Ask → Type 0) (was : Site) (known : Known)
     (connections : Option Connections) (visits : List Visit) (served links : ℕ) : Type 0 where
   pub each : All IsServed visits

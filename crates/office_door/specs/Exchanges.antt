@@ -18,9 +18,9 @@ use Rattle.office_wire.specs.declared.types.OfficeAsk.{OfficeAsk}
 use Rattle.office_wire.specs.declared.types.OfficeAsk.TheVariants.{Ask, Bad, NoMemory}
 use Rattle.office_wire.specs.Responses.{reply_response, bad_response}
 
--- a request and its response: what the bytes of the request say, and how it was told, since there may
--- be no memory to read an act; what the caller answered, where it was asked; the row that this added
--- to its own, if any; and whether the response ends the connection
+-- a request and its response: what the bytes of the request say, and how it was told, since there
+-- may be no memory to read an act; what the caller answered, where it was asked; the row that this
+-- added to its own, if any; and whether the response ends the connection
 pub record Exchange : Type 0 where
   pub request : Framed
   pub told : OfficeAsk
@@ -80,15 +80,15 @@ is_disk_fault given = false
 abbrev pub disk_faults : List Exchange → ℕ
 disk_faults exchanges = length (filter (λ x. is_disk_fault x.given) exchanges)
 
--- an answer or a refusal is right in a list that a caller has seen, and this row is the entry that the
--- ask added to the caller's own, if any
+-- an answer or a refusal is right in a list that a caller has seen, and this row is the entry that
+-- the ask added to the caller's own, if any
 pub record IsTold (limit by : ℕ) (seen : List Entry) (ask : asks.Ask)
     (given : Result Answered refusals.Refused) (row : Option Row) : Type 0 where
   pub right : IsRight limit by seen ask given
   pub row_is : row ≡ row_added limit right.before by ask
 
--- an ask without an answer added nothing, and this is so of the entry that it would have added behind
--- some first entries of the list
+-- an ask without an answer added nothing, and this is so of the entry that it would have added
+-- behind some first entries of the list
 pub record IsLost (limit by : ℕ) (seen : List Entry) (ask : asks.Ask)
     (Cause : Option Entry → Type 0) (row : Option Row) : Type 0 where
   pub entries : List Entry

@@ -34,8 +34,8 @@ pub record Visit : Type 0 where
 abbrev pub exchanges_of : Visit → List Exchange
 exchanges_of visit = visit.before ++ option_to_list visit.last
 
--- a response that ends the connection is that to a request which says so, and that to the last request
--- that a connection may have
+-- a response that ends the connection is that to a request which says so, and that to the last
+-- request that a connection may have
 abbrev pub EndsRight : ℕ → Exchange → Type 0
 EndsRight before x = x.last ≡ (x.request.last || before + 1 == MAX_REQUESTS)
 
@@ -44,9 +44,9 @@ abbrev pub IsCut : List ℕ → List ℕ → List ℕ → Type 0
 IsCut before text written =
     (part : ℕ) × (part < length text) × (written ≡ before ++ take part text)
 
--- How a connection is left. At its end, where no request begins; behind a response that says so; and
--- where its link failed, at a read before the next request is whole, or at a write, which cut the
--- last response. Each other response went out whole.
+-- How a connection is left. At its end, where no request begins; behind a response that says so;
+-- and where its link failed, at a read before the next request is whole, or at a write, which cut
+-- the last response. Each other response went out whole.
 abbrev pub IsLeft : Leaving → Visit → List ℕ → Type 0
 IsLeft End visit rest =
     IsFrame rest true Nothing × (visit.ended ≡ true) × (visit.last ≡ None)
@@ -62,8 +62,8 @@ IsLeft WriteFailed visit rest =
     × IsCut (responses visit.before) (response_of x) visit.written
 
 -- A connection was served right: the bytes taken from it are its requests, and perhaps bytes behind
--- them; of these requests only the last may be one behind which the connection ends; and it was left
--- as a connection is.
+-- them; of these requests only the last may be one behind which the connection ends; and it was
+-- left as a connection is.
 pub record IsServed (visit : Visit) : Type 0 where
   pub rest : List ℕ
   pub requests : BeginWith visit.ended visit.taken (exchanges_of visit) rest

@@ -13,7 +13,7 @@ use Rattle.office_wire.specs.declared.types.Frame.TheVariants.{Whole, More, Noth
 use Rattle.office_wire.specs.declared.types.OfficeAsk.{OfficeAsk}
 use Rattle.office_wire.specs.Frames.{IsFrame, TellsFrame}
 use Rattle.office_door.specs.declared.leaving.Leaving.{Leaving}
-use Rattle.office_door.specs.declared.leaving.Leaving.TheVariants.{End, Last, WriteFailed}
+use Rattle.office_door.specs.declared.leaving.Leaving.TheVariants.{Last, WriteFailed}
 use Rattle.office_door.specs.declared.ending.DoorStop.{DoorStop}
 use Rattle.office_door.specs.declared.ending.DoorEnd.{DoorEnd}
 use Rattle.office_door.specs.declared.tally.Tally.{Tally}

@@ -11,8 +11,8 @@ use book_words::Caller;
 use disk_core::Door;
 use std::alloc::Global;
 
-/// Serves the present connection, which begins, until it is left. Counts its requests, and tells why
-/// it is left. At most so many requests come: the response to the last says that it is.
+/// Serves the present connection, which begins, until it is left. Counts its requests, and tells
+/// why it is left. At most so many requests come: the response to the last says that it is.
 pub(crate) fn serve_connection<C: Caller, O: Door>(
     alloc: Global,
     caller: &mut C,

@@ -1,4 +1,4 @@
-ghost use Rattle.std.specs.Prelude.{◌≡◌, ◌+◌, ◌*◌, ◌<◌, ◌≤◌, ℕ, IfSome, vec_capacity};
+ghost use Rattle.std.specs.Prelude.{◌≡◌, ◌+◌, ◌<◌, ◌≤◌, ℕ, IfSome, vec_capacity};
 ghost use Rattle.office_wire.specs.declared.replies.TheConstants.{REPLY_ROOM};
 ghost use Rattle.office_door.specs.declared.limits.TheConstants.{MAX_REQUESTS, MAX_CONNECTIONS};
 ghost use Rattle.office_door.specs.declared.ending.DoorStop.TheVariants as stop;
@@ -73,14 +73,14 @@ fn serve_all<C: Caller, O: Door>(
     end_of(&tally, DoorStop::Turns)
 }
 
-/// Serves the connections of a door, one after another. The requests of each are answered in order, at
-/// most 1 000 of them, each with one write; a connection is left at its end, behind a response that
-/// says so, or where its link fails, which ends no other. A request whose form is at fault, or for
-/// which there is no memory, is asked of nobody.
+/// Serves the connections of a door, one after another. The requests of each are answered in order,
+/// at most 1 000 of them, each with one write; a connection is left at its end, behind a response
+/// that says so, or where its link fails, which ends no other. A request whose form is at fault, or
+/// for which there is no memory, is asked of nobody.
 ///
-/// It stops where no connection waits any more, where the next can't be admitted, and after 1 000 000
-/// connections. Its room, for a request and for a response, is taken before the first call on the
-/// door; where it isn't to be had, nothing is done.
+/// It stops where no connection waits any more, where the next can't be admitted, and after 1 000
+/// 000 connections. Its room, for a request and for a response, is taken before the first call on
+/// the door; where it isn't to be had, nothing is done.
 pub fn serve_door<C: Caller, O: Door>(alloc: Global, caller: &mut C, door: &mut O) -> DoorEnd
     ensures serves { ServesDoor (C.later caller.old caller.new)
         (site C.Caller O.Source O.connections caller.old door.old)

@@ -9,8 +9,8 @@ use disk_core::{Door, Failed};
 use office_wire::{Frame, Framed};
 use std::alloc::Global;
 
-/// The next request of the present connection: it reads until one is whole. `None` where none begins
-/// before the end.
+/// The next request of the present connection: it reads until one is whole. `None` where none
+/// begins before the end.
 pub(crate) fn next_request<O: Door>(
     alloc: Global,
     door: &mut O,

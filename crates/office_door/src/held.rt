@@ -3,8 +3,8 @@ use office_wire::{Frame, REQUEST_ROOM, frame};
 use std::alloc::{AllocError, Global};
 use std::marker::Model;
 
-/// The bytes of a connection that were read and that no request was made of yet, and whether its end
-/// was given. Their room is taken once.
+/// The bytes of a connection that were read and that no request was made of yet, and whether its
+/// end was given. Their room is taken once.
 #[derive(Drop)]
 pub(crate) struct Held {
     buffer: Vec<u8>,
@@ -25,13 +25,12 @@ impl Model for Held {
 }
 
 impl Held {
-    ghost use Rattle.std.specs.Prelude.{◌≡◌, ◌<◌, ◌≤◌, List, ℕ, [], length, drop, false, IfOk, OnOk, OnErr};
+    ghost use Rattle.std.specs.Prelude.{◌≡◌, ◌<◌, ◌≤◌, [], length, drop, false, IfOk, OnOk, OnErr};
     ghost use Rattle.device_facts.specs.Count.{CountsFault};
     ghost use Rattle.office_wire.specs.declared.limits.TheConstants.{REQUEST_ROOM};
     ghost use Rattle.office_wire.specs.Frames.{TellsFrame};
-    ghost use Rattle.office_door.specs.Exchanges.{Exchange};
-    ghost use Rattle.office_door.specs.Doors.{Port, port};
-    ghost use Rattle.office_door.specs.Steps.{IsHeard, HasRead};
+    ghost use Rattle.office_door.specs.Doors.{port};
+    ghost use Rattle.office_door.specs.Steps.{HasRead};
 
     /// No bytes, of a connection whose end wasn't given.
     pub fn new(alloc: Global) -> Result<Held, AllocError>
@@ -73,8 +72,8 @@ impl Held {
         requires unended { O.ended door.old ≡ false }
         requires known { self.old.ended ≡ false }
         requires room { length self.old.bytes < REQUEST_ROOM }
-        ensures reads { HasRead (port O.Source O.connections door.old) (port O.Source O.connections door.new)
-            self.old self.new }
+        ensures reads { HasRead (port O.Source O.connections door.old)
+            (port O.Source O.connections door.new) self.old self.new }
         ensures grows { OnOk result (self.new.ended ≡ false
             → length self.old.bytes < length self.new.bytes) }
         ensures unended { OnErr result (self.new ≡ self.old) }

@@ -1,4 +1,4 @@
-ghost use Rattle.std.specs.Prelude.{◌≡◌, ⊤};
+ghost use Rattle.std.specs.Prelude.{◌≡◌};
 ghost use Rattle.office_door.specs.Doors.{links_of};
 ghost use Rattle.office_door.specs.Steps.{left_behind};
 

@@ -3,8 +3,8 @@ ghost use Rattle.office_door.specs.Steps.{end_of};
 
 use crate::ending::{DoorEnd, DoorStop};
 
-/// What a door has served so far: how many requests it took, and how many connections a fault of the
-/// link ended.
+/// What a door has served so far: how many requests it took, and how many connections a fault of
+/// the link ended.
 #[derive(Clone, Copy, Debug, PartialEq, Eq)]
 pub(crate) struct Tally {
     pub served: u32,

@@ -15,7 +15,8 @@ Content-Length: 9\r\nBook-Row: 2\r\n\r\n{\"row\":2}\
 HTTP/1.1 200 OK\r\nContent-Type: text/plain\r\nContent-Length: 12\r\nBook-Row: 2\r\n\
 Connection: close\r\n\r\nlane 1 idle\n";
 
-// A door to one connection, whose bytes come in two reads: those before a place, and those behind it.
+// A door to one connection, whose bytes come in two reads: those before a place, and those behind
+// it.
 #[derive(Drop)]
 struct CutDoor {
     front: &'static [u8],

@@ -183,8 +183,8 @@ fn first_wrong(alloc: Global) -> Option<u32> {
     None
 }
 
-// What is written where one of the four calls of the disk for a request fails: it is answered by 500,
-// and the others get the rows.
+// What is written where one of the four calls of the disk for a request fails: it is answered by
+// 500, and the others get the rows.
 const DISK_FAILS: [[&[u8]; 3]; 3] = [
     [NO_DISK, ROW_2, ROW_3],
     [ROW_2, NO_DISK, ROW_3],

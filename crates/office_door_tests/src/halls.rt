@@ -10,7 +10,8 @@ const MARCH_3: i32 = 20_150;
 // The number that the entries of the first door bear.
 const FIRST_DOOR: u16 = 17;
 
-/// How many calls of the disk are made before a door is served: mounting makes four, and a row four.
+/// How many calls of the disk are made before a door is served: mounting makes four, and a row
+/// four.
 pub(crate) const CALLS: u32 = 8;
 
 /// A caller of a book over a disk in memory.
@@ -53,8 +54,8 @@ pub(crate) fn door_of(
     Ok(ListDoor::new(alloc, all, Vec::from_slice(alloc, fails)?))
 }
 
-/// Serves a door, and lets the hall go; how the door came to its end, how many rows the book then has,
-/// and how many faults of the disk the caller was answered.
+/// Serves a door, and lets the hall go; how the door came to its end, how many rows the book then
+/// has, and how many faults of the disk the caller was answered.
 pub(crate) fn serve(alloc: Global, mut hall: Hall, door: &mut ListDoor) -> (DoorEnd, u32, u64) {
     let end = serve_door(alloc, &mut hall, door);
     let faults = hall.faults();

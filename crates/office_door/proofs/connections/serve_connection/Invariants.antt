@@ -13,7 +13,8 @@ invariant-serving g l = record {
   few : l.served < MAX_REQUESTS;
   serving : IsServing (g.C.Caller.later l.fn.caller l.caller)
       (site g.C.Caller g.O.Source g.O.Door.connections l.fn.caller l.fn.door)
-      (site g.C.Caller g.O.Source g.O.Door.connections l.caller l.door) l.buffers.held.bytes l.served;
+      (site g.C.Caller g.O.Source g.O.Door.connections l.caller l.door)
+      l.buffers.held.bytes l.served;
 }
 
 -- each request is one of those that a connection may have

@@ -1,4 +1,3 @@
-use Rattle.std.proofs.Common.{◌≡◌, ℕ, sym, subst, rules}
 use Rattle.office_door.specs.Doors.{port, site}
 use Rattle.office_door.proofs.VisitedConnections.{open_more}
 use Rattle.office_door.proofs.doors.serve_next.Goals as goal
@@ -13,8 +12,9 @@ returns-in-Ok-true-clause-turns g c = λ first start turns few is.
     open_more (g.C.Caller.later first c.args.caller.now)
     (g.C.Caller.later c.args.caller.now c.serve_connection-leaving.new.caller)
     (g.C.Caller.later first c.serve_connection-leaving.new.caller) was
-    (g.C.Caller.known c.args.caller.now) (g.C.Caller.known c.serve_connection-leaving.new.caller) old mid now
-    turns c.args.tally.now c.serve_connection-leaving.new.served c.links_of.result c.serve_connection-leaving.result
+    (g.C.Caller.known c.args.caller.now) (g.C.Caller.known c.serve_connection-leaving.new.caller)
+    old mid now turns c.args.tally.now c.serve_connection-leaving.new.served c.links_of.result
+    c.serve_connection-leaving.result
     is admits.0 admits.1 (g.met.O.Door.source_left c.next.new.self) c.in-Ok-true.ensures.cause
     c.serve_connection-leaving.ensures.visited c.links_of.ensures
     (g.met.C.Caller.reached.by_both first c.args.caller.now c.serve_connection-leaving.new.caller)

@@ -11,7 +11,8 @@ invariant-reading g l = record {
   known : l.held.ended ≡ g.O.Source.ended l.door;
   calm : g.O.Source.faults l.door ≡ g.O.Source.faults l.fn.door;
   heard : (start : Port) (exchanges : List Exchange) (written : List ℕ)
-      → IsHeard start (port g.O.Source g.O.Door.connections l.fn.door) exchanges written l.fn.held.bytes
+      → IsHeard start (port g.O.Source g.O.Door.connections l.fn.door) exchanges written
+      l.fn.held.bytes
       → IsHeard start (port g.O.Source g.O.Door.connections l.door) exchanges written l.held.bytes;
 }
 

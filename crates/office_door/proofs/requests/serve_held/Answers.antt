@@ -1,4 +1,4 @@
-use Rattle.std.proofs.Common.{◌≡◌, ◌+◌, ◌<◌, ◌≤◌, ◌||◌, ◌==◌, ℕ, Bool, IfNone, List, drop, Option, sym, ◌∙◌, ap, subst, arith}
+use Rattle.std.proofs.Common.{◌≡◌, ◌+◌, ◌||◌, ◌==◌, ℕ, Bool, List, drop, Option, sym, ap, subst}
 use Rattle.office_wire.specs.declared.types.Frame.TheVariants.{Whole}
 use Rattle.office_wire.specs.Frames.{TellsFrame}
 use Rattle.office_door.specs.declared.leaving.Leaving.{Leaving}
@@ -25,12 +25,14 @@ returns-clause-goes g c = λ first start serving.
     let last = c.if-framed.last in
     let last_is : last ≡ (framed.last || served + 1 == MAX_REQUESTS) =
     elim c.if-framed.branch [
-      | then-framed w ↦ last_said framed.last last (served + 1 == MAX_REQUESTS) w.if-framed w.last-is
+      | then-framed w ↦ last_said framed.last last (served + 1 == MAX_REQUESTS) w.if-framed
+          w.last-is
       | else-framed w ↦ last_by_number framed.last last (served + 1 == MAX_REQUESTS) w.if-framed
           w.last-is
     ] in
     let tells : TellsFrame held.bytes old.ended (Whole framed) =
-    subst (λ (e : Bool). TellsFrame held.bytes e (Whole framed)) c.requires.known c.requires.whole in
+    subst (λ (e : Bool). TellsFrame held.bytes e (Whole framed)) c.requires.known
+    c.requires.whole in
     let sends : Sends old new c.respond.new.reply.items c.send.result =
     subst (λ (text : List ℕ). Sends old new text c.send.result) c.deref.ensures.value
     c.send.ensures in

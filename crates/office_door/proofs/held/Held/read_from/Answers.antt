@@ -1,4 +1,4 @@
-use Rattle.std.proofs.Common.{◌≡◌, ◌+◌, ◌-◌, ◌<◌, ◌≤◌, ℕ, Bool, true, false, true≢false, nat_eq, List, [], ◌++◌, length, take, refl, sym, ◌∙◌, ap, arith, append-nil, length-take-le, rules}
+use Rattle.std.proofs.Common.{◌≡◌, ◌+◌, ◌-◌, ◌<◌, ◌≤◌, true, false, true≢false, [], ◌++◌, length, take, sym, ◌∙◌, ap, arith, append-nil, length-take-le, rules}
 use Rattle.std.proofs.KnownBytes.{Consumes-nil, Consumes-kept}
 use Rattle.std.proofs.lemmas.Bool.{eqb-true}
 use Rattle.std.proofs.lemmas.List.{with_items_is, places}
@@ -18,7 +18,8 @@ returns-in_err-count-clause-reads g c =
     ap (λ (h : HeldView). h.bytes) c.self.view_is in
     let inside : count ≤ length lent =
     omega (arith, c.self.invariant.0, c.self.invariant.1, ap length c.deref_mut.ensures.value) in
-    let items = with_items_is buffer (front ++ (c.read.new.into ++ post)) (search (rules, places)) in
+    let items = with_items_is buffer (front ++ (c.read.new.into ++ post))
+    (search (rules, places)) in
     let none : c.self.inside.ended ≡ false =
     ap (λ (h : HeldView). h.ended) c.self.view_is ∙ c.requires.known in
     let kept = c.in_err-count.ensures.bytes in

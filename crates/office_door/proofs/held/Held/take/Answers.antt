@@ -1,4 +1,4 @@
-use Rattle.std.proofs.Common.{◌≡◌, ◌≤◌, ◌-◌, ℕ, List, drop, length, take, sym, ◌∙◌, ap, subst, arith, length-take-le}
+use Rattle.std.proofs.Common.{◌≡◌, ◌≤◌, ◌-◌, drop, length, take, ◌∙◌, ap, arith, length-take-le}
 use Rattle.office_door.specs.Steps.{HeldView}
 use Rattle.office_door.proofs.HeldBytes.{moved_front}
 use Rattle.office_door.proofs.held.Held.take.Goals as goal
