@@ -30,20 +30,10 @@ taken_within bytes ended framed tells =
     omega (arith, told.taken, within.1)
 
 -- where none is found the end was given
-pub none_found : (E : Type 0) (bytes : List ℕ) (ended : Bool) (found : Option Framed)
-    → found ≡ None → IsFound {E = E} bytes ended (Ok found)
-    → IsFrame bytes true Nothing × (ended ≡ true)
-none_found E bytes ended None is h = h
-none_found E bytes ended (Some framed) is h = absurd (cc)
-
--- a response ends the connection where the request says so, and else where it is the last
-pub last_said : (request last most : Bool) → request ≡ true → last ≡ true
-    → last ≡ (request || most)
-last_said request last most said is = is ∙ sym (ap (λ (b : Bool). b || most) said)
-
-pub last_by_number : (request last most : Bool) → request ≡ false → last ≡ most
-    → last ≡ (request || most)
-last_by_number request last most said is = is ∙ sym (ap (λ (b : Bool). b || most) said)
+pub none_found : (bytes : List ℕ) (ended : Bool) (found : Option Framed) → found ≡ None
+    → IsFound bytes ended (Ok found) → IsFrame bytes true Nothing × (ended ≡ true)
+none_found bytes ended None is h = h
+none_found bytes ended (Some framed) is h = absurd (cc)
 
 -- ---- a connection that goes on
 

@@ -2,6 +2,7 @@
 use Rattle.std.specs.Prelude.{◌≡◌, ⊤, ℕ, ◌+◌, ◌*◌, ◌<◌, ◌≤◌, Bool, true, false, List, [], ◌∷◌, ◌++◌, length, take, All, Option, Some, None, option_map, Result, Ok, Err}
 use Rattle.std.specs.Io.KnownBytes.{Consumes, IsAtEnd}
 use Rattle.device_facts.specs.Count.{CountsFault}
+use Rattle.disk_core.specs.declared.types.Failed.{Failed}
 use Rattle.disk_core.specs.Doors.{with_taken, with_written}
 use Rattle.book_words.specs.declared.act.Ask.{Ask}
 use Rattle.book_words.specs.declared.reply.Answered.{Answered}
@@ -48,7 +49,7 @@ pub record IsHeard (was now : Port) (exchanges : List Exchange) (written held : 
 
 -- what the next request came to: it is whole; or the end was given, and none begins; or the link
 -- failed before it was whole
-abbrev pub IsFound : {E : Type 0} → List ℕ → Bool → Result (Option Framed) E → Type 0
+abbrev pub IsFound : List ℕ → Bool → Result (Option Framed) Failed → Type 0
 IsFound held ended (Ok (Some framed)) = TellsFrame held ended (Whole framed)
 IsFound held ended (Ok None) = IsFrame held true Nothing × (ended ≡ true)
 IsFound held ended (Err error) = IsFrame held false More × (ended ≡ false)

@@ -1,4 +1,4 @@
-ghost use Rattle.std.specs.Prelude.{◌≡◌, ◌+◌, ◌<◌, ◌≤◌, IfNone, vec_capacity};
+ghost use Rattle.std.specs.Prelude.{◌≡◌, ◌+◌, ◌<◌, ◌≤◌, ◌||◌, ◌==◌, IfNone, vec_capacity};
 ghost use Rattle.office_wire.specs.declared.types.Frame.TheVariants.{Whole};
 ghost use Rattle.office_wire.specs.declared.replies.TheConstants.{REPLY_ROOM};
 ghost use Rattle.office_wire.specs.Frames.{TellsFrame};
@@ -16,6 +16,13 @@ use book_words::Caller;
 use disk_core::{Door, Failed};
 use office_wire::Framed;
 use std::alloc::Global;
+
+// Whether the response to a request of this number ends the connection.
+fn is_last(framed: &Framed, number: u32) -> bool
+    ensures { result ≡ (framed.now.last || number == MAX_REQUESTS) }
+{
+    framed.last || number == MAX_REQUESTS
+}
 
 // Answers a request that is held, and writes the response at once.
 fn serve_held<C: Caller, O: Door>(
@@ -41,7 +48,7 @@ fn serve_held<C: Caller, O: Door>(
         result }
 {
     *served += 1;
-    let last = framed.last || *served == MAX_REQUESTS;
+    let last = is_last(framed, *served);
     buffers.held.take(framed.taken);
     respond(caller, &framed.what, last, &mut buffers.reply);
     left_behind(last, &send(door, &buffers.reply))

@@ -1,3 +1,5 @@
+use Rattle.std.proofs.Common.{◌≡◌, Bool, IfSome, is_some, subst}
+use Rattle.disk_core.specs.Doors.{Connections}
 use Rattle.office_door.specs.Doors.{port, site}
 use Rattle.office_door.proofs.VisitedConnections.{open_more}
 use Rattle.office_door.proofs.doors.serve_next.Goals as goal
@@ -9,12 +11,15 @@ returns-in-Ok-true-clause-turns g c = λ first start turns few is.
     let now = port g.O.Source g.O.Door.connections c.serve_connection-leaving.new.door in
     let was = site g.C.Caller g.O.Source g.O.Door.connections first start in
     let admits = c.in-Ok-true.ensures.connections in
+    let found = subst (λ (b : Bool).
+    IfSome mid.connections (λ (all : Connections). b ≡ is_some all.present))
+    c.in-Ok-true.field-0-is admits.1 in
     open_more (g.C.Caller.later first c.args.caller.now)
     (g.C.Caller.later c.args.caller.now c.serve_connection-leaving.new.caller)
     (g.C.Caller.later first c.serve_connection-leaving.new.caller) was
     (g.C.Caller.known c.args.caller.now) (g.C.Caller.known c.serve_connection-leaving.new.caller)
     old mid now turns c.args.tally.now c.serve_connection-leaving.new.served c.links_of.result
     c.serve_connection-leaving.result
-    is admits.0 admits.1 (g.met.O.Door.source_left c.next.new.self) c.in-Ok-true.ensures.cause
+    is admits.0 found (g.met.O.Door.source_left c.next.new.self) c.in-Ok-true.ensures.cause
     c.serve_connection-leaving.ensures.visited c.links_of.ensures
     (g.met.C.Caller.reached.by_both first c.args.caller.now c.serve_connection-leaving.new.caller)

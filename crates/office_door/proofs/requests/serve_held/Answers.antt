@@ -5,9 +5,8 @@ use Rattle.office_door.specs.declared.leaving.Leaving.{Leaving}
 use Rattle.office_door.specs.declared.limits.TheConstants.{MAX_REQUESTS}
 use Rattle.office_door.specs.Doors.{port, site}
 use Rattle.office_door.specs.Steps.{HeldView, Sends, StepsTo, left_behind}
-use Rattle.office_door.proofs.ServedRequests.{last_said, last_by_number, more_served, taken_within}
+use Rattle.office_door.proofs.ServedRequests.{more_served, taken_within}
 use Rattle.office_door.proofs.requests.serve_held.Goals as goal
-use Rattle.office_door.proofs.requests.serve_held.Goals.{then-framed, else-framed}
 
 pub take-requires : goal.take-requires
 take-requires g c =
@@ -22,14 +21,8 @@ returns-clause-goes g c = λ first start serving.
     let held = c.args.buffers.now.held in
     let framed = c.args.framed.now in
     let served = c.args.served.now in
-    let last = c.if-framed.last in
-    let last_is : last ≡ (framed.last || served + 1 == MAX_REQUESTS) =
-    elim c.if-framed.branch [
-      | then-framed w ↦ last_said framed.last last (served + 1 == MAX_REQUESTS) w.if-framed
-          w.last-is
-      | else-framed w ↦ last_by_number framed.last last (served + 1 == MAX_REQUESTS) w.if-framed
-          w.last-is
-    ] in
+    let last = c.is_last-last.result in
+    let last_is : last ≡ (framed.last || served + 1 == MAX_REQUESTS) = c.is_last-last.ensures in
     let tells : TellsFrame held.bytes old.ended (Whole framed) =
     subst (λ (e : Bool). TellsFrame held.bytes e (Whole framed)) c.requires.known
     c.requires.whole in

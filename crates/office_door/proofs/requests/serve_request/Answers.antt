@@ -20,7 +20,7 @@ returns-in-Ok-None-clause-goes g c = λ first start serving.
     let old = port g.O.Source g.O.Door.connections c.args.door.now in
     let now = port g.O.Source g.O.Door.connections c.next_request.new.door in
     let was = site g.C.Caller g.O.Source g.O.Door.connections first start in
-    let found = none_found _ c.next_request.new.held.bytes c.next_request.new.held.ended
+    let found = none_found c.next_request.new.held.bytes c.next_request.new.held.ended
     c.in-Ok-None.field-0 c.in-Ok-None.field-0-is c.in-Ok-None.ensures.found in
     visited_ended (g.C.Caller.later first c.args.caller.now) was
     (site g.C.Caller g.O.Source g.O.Door.connections c.args.caller.now c.next_request.new.door)
