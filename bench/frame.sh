@@ -104,7 +104,11 @@ static unsigned long got;
 void *malloc(size_t n) { got++; return __libc_malloc(n); }
 void *realloc(void *p, size_t n) { got++; return __libc_realloc(p, n); }
 void *aligned_alloc(size_t a, size_t n) { got++; return __libc_memalign(a, n); }
-int posix_memalign(void **p, size_t a, size_t n) { got++; *p = __libc_memalign(a, n); return *p ? 0 : 12; }
+int posix_memalign(void **p, size_t a, size_t n) {
+    got++;
+    *p = __libc_memalign(a, n);
+    return *p ? 0 : 12;
+}
 __attribute__((destructor)) static void tell(void) { fprintf(stderr, "%lu\n", got); }
 C
 cc -O2 -shared -fPIC -o "$work/count.so" "$work/count.c"
@@ -113,7 +117,8 @@ cc -O2 -shared -fPIC -o "$work/count.so" "$work/count.c"
 best() {
     least=1000000
     for _ in 1 2 3 4 5; do
-        took=$(/usr/bin/time -f '%U %S' "$program" "$1" "$2" 2>&1 | awk '{print int(100 * ($1 + $2) + 0.5)}')
+        took=$(/usr/bin/time -f '%U %S' "$program" "$1" "$2" 2>&1 |
+            awk '{print int(100 * ($1 + $2) + 0.5)}')
         if [ "$took" -lt "$least" ]; then least=$took; fi
     done
     echo "$least"

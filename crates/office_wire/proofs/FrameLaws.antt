@@ -1,8 +1,8 @@
 -- Laws of what bytes begin with.
-use Rattle.std.proofs.Common.{◌≡◌, ℕ, zero, suc, ◌+◌, ◌<◌, ◌≤◌, Bool, true, false, List, [], ◌∷◌, ◌++◌, length, take, drop, nat_le, Option, Some, None, Result, Ok, Err, if◌then◌else◌, refl, sym, ap, subst, ◌∙◌, arith, lit≤, leb-true, leb-false, le-leb, length-append, length-drop, length-take}
-use Rattle.std.specs.List.{list_all}
-use Rattle.std.proofs.lemmas.Bool.{true≢false}
-use Rattle.std.proofs.lemmas.List.{take-append-le, drop-append-le, length-take-le}
+use Rattle.std.proofs.Common.{◌≡◌, ℕ, zero, suc, ◌+◌, ◌<◌, ◌≤◌, Bool, true, false, List, [], ◌∷◌, ◌++◌, length, take, drop, nat_le, Option, Some, None, Result, Ok, Err, if◌then◌else◌, refl, sym, ap, subst, ◌∙◌, arith, lit≤, leb-true, leb-false, le-leb, cond, option_map, take_all, length-append, length-drop, length-take}
+use Rattle.std.specs.List.{list_all, prefix_len}
+use Rattle.std.proofs.lemmas.Bool.{true≢false, and_parts, lt-leb}
+use Rattle.std.proofs.lemmas.List.{take-append-le, drop-append-le, drop_all, length-take-le}
 use Rattle.httparse.specs.Grammar.{RequestHead}
 use Rattle.httparse.proofs.GrammarLemmas.{request_unique}
 use Rattle.office_wire.specs.declared.limits.TheConstants.{MAX_HEAD, MAX_BODY, REQUEST_ROOM}
@@ -11,7 +11,7 @@ use Rattle.office_wire.specs.declared.types.Bad.TheVariants as bad
 use Rattle.office_wire.specs.declared.types.Framed.{Framed}
 use Rattle.office_wire.specs.declared.types.Frame.{Frame}
 use Rattle.office_wire.specs.declared.types.Frame.TheVariants.{Whole, More, Nothing}
-use Rattle.office_wire.specs.HeadSize.{is_newline, head_size}
+use Rattle.office_wire.specs.HeadSize.{is_newline, lines_size, head_size}
 use Rattle.office_wire.specs.Headers.{Header, is_coded, size_given}
 use Rattle.office_wire.specs.Frames.{IsFrame, IsFrameFrom, IsFrameOf, IsHeadOf, headers_of, allowed_size, size_of, body_size, last_fault, whole_request, part_of_body, frame_by_size, frame_by_head, frame_at_end, frame_without_head}
 use Rattle.office_wire.proofs.FrameKinds.{more_not_whole, nothing_not_whole, whole_not_more, nothing_not_more}
@@ -129,13 +129,20 @@ frame_still bytes more ended framed is = by (head_size (take MAX_HEAD bytes)) re
   by None h e = headless_still bytes more ended framed h (sym e)
   by (Some size) h x =
       let inside = found_within bytes size h in
-      let text : take size (bytes ++ more) ≡ take size bytes = take-append-le size bytes more inside.1 in
-      let behind : drop size (bytes ++ more) ≡ drop size bytes ++ more = drop-append-le size bytes more inside.1 in
+      let text : take size (bytes ++ more) ≡ take size bytes =
+      take-append-le size bytes more inside.1 in
+      let behind : drop size (bytes ++ more) ≡ drop size bytes ++ more =
+      drop-append-le size bytes more inside.1 in
       subst (λ found. IsFrameFrom found (bytes ++ more) ended (Whole framed))
       (sym (found_still bytes more size h))
-      (subst (λ (t : List ℕ). IsFrameOf t (drop size (bytes ++ more)) ended (Whole framed)) (sym text)
-      (subst (λ (r : List ℕ). IsFrameOf (take size bytes) r ended (Whole framed)) (sym behind)
-      (x.0, x.1, sym (headed_still x.0 (length (take size bytes)) (drop size bytes) more ended framed (sym x.2)))))
+      (subst (λ (t : List ℕ). IsFrameOf t (drop size (bytes ++ more)) ended (Whole framed))
+      (sym text)
+      (subst (λ (r : List ℕ). IsFrameOf (take size bytes) r ended (Whole framed)) (sym behind) (
+        x.0,
+        x.1,
+        sym (headed_still x.0 (length (take size bytes)) (drop size bytes) more ended
+            framed (sym x.2)),
+      )))
 
 -- ---- one meaning
 
@@ -157,7 +164,8 @@ head_unique text (Some a) (Some b) x y =
 pub frame_unique : (bytes : List ℕ) (ended : Bool) (a b : Frame)
     → IsFrame bytes ended a → IsFrame bytes ended b → a ≡ b
 frame_unique bytes ended a b x y = by (head_size (take MAX_HEAD bytes)) x y where
-  by : (found : Option ℕ) → IsFrameFrom found bytes ended a → IsFrameFrom found bytes ended b → a ≡ b
+  by : (found : Option ℕ) → IsFrameFrom found bytes ended a → IsFrameFrom found bytes ended b
+      → a ≡ b
   by None x y = x ∙ sym y
   by (Some size) x y =
       x.2 ∙ ap (λ head. frame_by_head head (length (take size bytes)) (drop size bytes) ended)
@@ -167,9 +175,11 @@ frame_unique bytes ended a b x y = by (head_size (take MAX_HEAD bytes)) x y wher
 
 -- the bytes of a frame: at least one, and no more than there are
 abbrev IsTaken : ℕ → Frame → Type 0
-IsTaken most frame = (framed : Framed) → frame ≡ Whole framed → (1 ≤ framed.taken) × (framed.taken ≤ most)
+IsTaken most frame = (framed : Framed) → frame ≡ Whole framed
+    → (1 ≤ framed.taken) × (framed.taken ≤ most)
 
-taken_is : (frame : Frame) (most : ℕ) → 1 ≤ taken_by frame → taken_by frame ≤ most → IsTaken most frame
+taken_is : (frame : Frame) (most : ℕ) → 1 ≤ taken_by frame → taken_by frame ≤ most
+    → IsTaken most frame
 taken_is frame most low high framed is =
     let same : taken_by frame ≡ framed.taken = ap taken_by is in
     (omega (arith, same, low), omega (arith, same, high))
@@ -182,19 +192,23 @@ more_taken most framed is = absurd (more_not_whole framed is)
 
 -- the bytes of what stands behind a head
 sized_taken : (given : Result (Option ℕ) Bad) (head : RequestHead) (size : ℕ) (rest : List ℕ)
-    (ended : Bool) → 1 ≤ size → IsTaken (size + length rest) (frame_by_size given head size rest ended)
+    (ended : Bool) → 1 ≤ size
+    → IsTaken (size + length rest) (frame_by_size given head size rest ended)
 sized_taken (Err fault) head size rest ended some =
     taken_is (last_fault size fault) (size + length rest) some (omega arith)
-sized_taken (Ok given) head size rest ended some = by (nat_le (body_size given) (length rest)) ended where
-  by : (there : Bool) (ended : Bool) → IsTaken (size + length rest)
-      (if there then whole_request head size given (take (body_size given) rest)
-      else part_of_body size rest ended)
-  by true ended =
-      let body = length-take (body_size given) rest in
-      taken_is (whole_request head size given (take (body_size given) rest)) (size + length rest)
-      (omega (arith, some)) (omega (arith, body))
-  by false true = taken_is (last_fault (size + length rest) bad.Short) (size + length rest) (omega (arith, some)) (omega arith)
-  by false false = more_taken (size + length rest)
+sized_taken (Ok given) head size rest ended some =
+    by (nat_le (body_size given) (length rest)) ended where
+      by : (there : Bool) (ended : Bool) → IsTaken (size + length rest)
+          (if there then whole_request head size given (take (body_size given) rest)
+          else part_of_body size rest ended)
+      by true ended =
+          let body = length-take (body_size given) rest in
+          taken_is (whole_request head size given (take (body_size given) rest)) (size + length rest)
+          (omega (arith, some)) (omega (arith, body))
+      by false true =
+          taken_is (last_fault (size + length rest) bad.Short) (size + length rest)
+          (omega (arith, some)) (omega arith)
+      by false false = more_taken (size + length rest)
 
 headed_taken : (head : Option RequestHead) (size : ℕ) (rest : List ℕ) (ended : Bool)
     → 1 ≤ size → IsTaken (size + length rest) (frame_by_head head size rest ended)
@@ -203,7 +217,8 @@ headed_taken None size rest ended some =
 headed_taken (Some head) size rest ended some =
     sized_taken (size_of (headers_of head)) head size rest ended some
 
-headless_taken : (bytes : List ℕ) (ended : Bool) → IsTaken (length bytes) (frame_without_head bytes ended)
+headless_taken : (bytes : List ℕ) (ended : Bool)
+    → IsTaken (length bytes) (frame_without_head bytes ended)
 headless_taken bytes ended = by (nat_le MAX_HEAD (length bytes)) refl ended where
   at_end : (bytes : List ℕ) → IsTaken (length bytes) (frame_at_end bytes)
   at_end [] = nothing_taken 0
@@ -211,7 +226,9 @@ headless_taken bytes ended = by (nat_le MAX_HEAD (length bytes)) refl ended wher
     by : (all : Bool) → IsTaken (length (byte ∷ rest))
         (if all then Nothing else last_fault (length (byte ∷ rest)) bad.Head)
     by true = nothing_taken (length (byte ∷ rest))
-    by false = taken_is (last_fault (length (byte ∷ rest)) bad.Head) (length (byte ∷ rest)) (omega arith) (omega arith)
+    by false =
+        taken_is (last_fault (length (byte ∷ rest)) bad.Head) (length (byte ∷ rest))
+        (omega arith) (omega arith)
 
   by : (full : Bool) → nat_le MAX_HEAD (length bytes) ≡ full → (ended : Bool)
       → IsTaken (length bytes) (if full then last_fault MAX_HEAD bad.Head
@@ -227,7 +244,8 @@ pub frame_taken : (bytes : List ℕ) (ended : Bool) (framed : Framed)
     → IsFrame bytes ended (Whole framed) → (1 ≤ framed.taken) × (framed.taken ≤ length bytes)
 frame_taken bytes ended framed is = by (head_size (take MAX_HEAD bytes)) refl is where
   by : (found : Option ℕ) → head_size (take MAX_HEAD bytes) ≡ found
-      → IsFrameFrom found bytes ended (Whole framed) → (1 ≤ framed.taken) × (framed.taken ≤ length bytes)
+      → IsFrameFrom found bytes ended (Whole framed)
+      → (1 ≤ framed.taken) × (framed.taken ≤ length bytes)
   by None h e = headless_taken bytes ended framed (sym e)
   by (Some size) h x =
       let inside = found_within bytes size h in
@@ -258,13 +276,15 @@ allowed_bounded (Some (Some size)) given is = by (nat_le size MAX_BODY) refl is 
 size_of_bounded : (headers : List Header) (given : Option ℕ) → size_of headers ≡ Ok given
     → body_size given ≤ MAX_BODY
 size_of_bounded headers given is = by (is_coded headers) is where
-  by : (coded : Bool) → (if coded then Err bad.Coding else allowed_size (size_given headers)) ≡ Ok given
+  by : (coded : Bool) → (if coded then Err bad.Coding else allowed_size (size_given headers))
+      ≡ Ok given
       → body_size given ≤ MAX_BODY
   by true e = absurd (err_not_ok bad.Coding given e)
   by false e = allowed_bounded (size_given headers) given e
 
 -- the bytes behind a head that isn't a request yet are fewer than a body may have
-sized_more : (said : Result (Option ℕ) Bad) (head : RequestHead) (size : ℕ) (rest : List ℕ) (ended : Bool)
+sized_more : (said : Result (Option ℕ) Bad) (head : RequestHead) (size : ℕ) (rest : List ℕ)
+    (ended : Bool)
     → ((given : Option ℕ) → said ≡ Ok given → body_size given ≤ MAX_BODY)
     → frame_by_size said head size rest ended ≡ More → (length rest < MAX_BODY) × (ended ≡ false)
 sized_more (Err fault) head size rest ended most is = absurd (whole_not_more _ is)
@@ -285,7 +305,8 @@ headed_more : (head : Option RequestHead) (size : ℕ) (rest : List ℕ) (ended 
     → frame_by_head head size rest ended ≡ More → (length rest < MAX_BODY) × (ended ≡ false)
 headed_more None size rest ended is = absurd (whole_not_more _ is)
 headed_more (Some head) size rest ended is =
-    sized_more (size_of (headers_of head)) head size rest ended (size_of_bounded (headers_of head)) is
+    sized_more (size_of (headers_of head)) head size rest ended (size_of_bounded (headers_of head))
+    is
 
 headless_more : (bytes : List ℕ) (ended : Bool) → frame_without_head bytes ended ≡ More
     → (length bytes < MAX_HEAD) × (ended ≡ false)
@@ -317,3 +338,78 @@ more_wanted bytes ended is = by (head_size (take MAX_HEAD bytes)) refl is where
       let rest = length-drop size bytes in
       let less = headed_more x.0 (length (take size bytes)) (drop size bytes) ended (sym x.2) in
       (omega (arith, less.0, rest, inside.1, inside.2), less.1)
+
+-- ---- nothing
+
+-- behind bytes that are CR and LF alone there is no head text
+newlines_all : (bytes : List ℕ) → list_all is_newline bytes ≡ true
+    → prefix_len is_newline bytes ≡ length bytes
+newlines_all [] all = refl
+newlines_all (byte ∷ rest) all =
+    let parts = and_parts (is_newline byte) (list_all is_newline rest) all in
+    ap (λ (here : Bool). cond here (1 + prefix_len is_newline rest) 0) parts.0
+    ∙ (let rest_all = newlines_all rest parts.1 in omega (arith, rest_all))
+
+no_head_in_newlines : (bytes : List ℕ) → list_all is_newline bytes ≡ true → head_size bytes ≡ None
+no_head_in_newlines bytes all =
+    let behind : drop (prefix_len is_newline bytes) bytes ≡ [] =
+    drop_all (prefix_len is_newline bytes) bytes
+    (let long = newlines_all bytes all in omega (arith, long)) in
+    ap (λ (rest : List ℕ).
+    option_map (λ size. prefix_len is_newline bytes + size) (lines_size rest)) behind
+
+-- at the end of the input there is nothing where fewer bytes than a head text may have are CR and LF
+pub nothing_there : (bytes : List ℕ) → length bytes < MAX_HEAD → list_all is_newline bytes ≡ true
+    → IsFrame bytes true Nothing
+nothing_there bytes short all =
+    let whole : take MAX_HEAD bytes ≡ bytes = take_all MAX_HEAD bytes (omega (arith, short)) in
+    let none : head_size (take MAX_HEAD bytes) ≡ None =
+    ap head_size whole ∙ no_head_in_newlines bytes all in
+    let fewer : nat_le MAX_HEAD (length bytes) ≡ false = lt-leb MAX_HEAD (length bytes) short in
+    subst (λ found. IsFrameFrom found bytes true Nothing) (sym none)
+    (sym (ap (λ full. if full then last_fault MAX_HEAD bad.Head else frame_at_end bytes) fewer
+    ∙ ap (λ here. if here then Nothing else last_fault (length bytes) bad.Head) all))
+
+sized_something : (said : Result (Option ℕ) Bad) (head : RequestHead) (size : ℕ) (rest : List ℕ)
+    (ended : Bool)
+    → frame_by_size said head size rest ended ≡ Nothing → ⊥
+sized_something (Err fault) head size rest ended is = nothing_not_whole _ (sym is)
+sized_something (Ok given) head size rest ended is =
+    by (nat_le (body_size given) (length rest)) ended is where
+      by : (there : Bool) (ended : Bool)
+          → (if there then whole_request head size given (take (body_size given) rest)
+          else part_of_body size rest ended) ≡ Nothing → ⊥
+      by true ended e = nothing_not_whole _ (sym e)
+      by false true e = nothing_not_whole _ (sym e)
+      by false false e = nothing_not_more (sym e)
+
+headed_something : (head : Option RequestHead) (size : ℕ) (rest : List ℕ) (ended : Bool)
+    → frame_by_head head size rest ended ≡ Nothing → ⊥
+headed_something None size rest ended is = nothing_not_whole _ (sym is)
+headed_something (Some head) size rest ended is =
+    sized_something (size_of (headers_of head)) head size rest ended is
+
+-- and nowhere else
+pub nothing_alone : (bytes : List ℕ) (ended : Bool) → IsFrame bytes ended Nothing
+    → (ended ≡ true) × (length bytes < MAX_HEAD) × (list_all is_newline bytes ≡ true)
+nothing_alone bytes ended is = by (head_size (take MAX_HEAD bytes)) is where
+  by_all : (all : Bool) → list_all is_newline bytes ≡ all
+      → (if all then Nothing else last_fault (length bytes) bad.Head) ≡ Nothing
+      → list_all is_newline bytes ≡ true
+  by_all true h e = h
+  by_all false h e = absurd (nothing_not_whole _ (sym e))
+
+  by_full : (full : Bool) → nat_le MAX_HEAD (length bytes) ≡ full → (ended : Bool)
+      → (if full then last_fault MAX_HEAD bad.Head
+      else (if ended then frame_at_end bytes else More)) ≡ Nothing
+      → (ended ≡ true) × (length bytes < MAX_HEAD) × (list_all is_newline bytes ≡ true)
+  by_full true h ended e = absurd (nothing_not_whole _ (sym e))
+  by_full false h false e = absurd (nothing_not_more (sym e))
+  by_full false h true e =
+      (refl, leb-false MAX_HEAD (length bytes) h, by_all (list_all is_newline bytes) refl e)
+
+  by : (found : Option ℕ) → IsFrameFrom found bytes ended Nothing
+      → (ended ≡ true) × (length bytes < MAX_HEAD) × (list_all is_newline bytes ≡ true)
+  by None e = by_full (nat_le MAX_HEAD (length bytes)) refl ended (sym e)
+  by (Some size) x =
+      absurd (headed_something x.0 (length (take size bytes)) (drop size bytes) ended (sym x.2))

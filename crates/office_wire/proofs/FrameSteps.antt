@@ -45,7 +45,8 @@ tells_with_head bytes text rest size ended told found front back tells = (
 
 -- a head text that isn't a head
 pub tells_no_head : (text rest : List ℕ) (ended : Bool) (told : Frame)
-    → IsHeadOf text None → told ≡ last_fault (length text) bad.Head → TellsFrameOf text rest ended told
+    → IsHeadOf text None → told ≡ last_fault (length text) bad.Head
+    → TellsFrameOf text rest ended told
 tells_no_head text rest ended told none is = (
   last_fault (length text) bad.Head,
   (None, none, refl),
@@ -61,7 +62,8 @@ pub tells_head : (text rest : List ℕ) (ended : Bool) (told : Frame) (said : Sa
 tells_head text rest ended told said of tells = (
   frame_by_head (Some of.0) (length text) rest ended,
   (Some of.0, of.1, refl),
-  subst (λ size. MayFrame (frame_by_size size of.0 (length text) rest ended) told) of.2.size (tells of.0 of.2),
+  subst (λ size. MayFrame (frame_by_size size of.0 (length text) rest ended) told) of.2.size
+      (tells of.0 of.2),
 )
 
 -- a fault of the headers
@@ -106,8 +108,10 @@ pub tells_request : (said : Said) (head : RequestHead) (size : ℕ) (given : Opt
     → MayFrame (whole_request head size given body) told
 tells_request said head size given body what told says asks is = (
   what,
-  subst (λ (method : List ℕ). MayTell (ask_at (route_of head.target) method given body) what) says.method
-      (subst (λ (target : List ℕ). MayTell (ask_at (route_of target) said.method.now given body) what) says.target asks),
+  subst (λ (method : List ℕ). MayTell (ask_at (route_of head.target) method given body) what)
+      says.method
+      (subst (λ (target : List ℕ). MayTell (ask_at (route_of target) said.method.now given body)
+      what) says.target asks),
   is ∙ (λ i. Whole (record { taken = size + length body; what = what; last = says.last i })),
 )
 
@@ -124,28 +128,33 @@ pub record IsTold (bytes : List ℕ) (ended : Bool) (told : Framed) : Type 0 whe
 pub told_whole : (bytes : List ℕ) (ended : Bool) (told : Framed)
     → TellsFrame bytes ended (Whole told) → IsTold bytes ended told
 told_whole bytes ended told tells = by tells.0 tells.1 tells.2 where
-  by : (frame : Frame) → IsFrame bytes ended frame → MayFrame frame (Whole told) → IsTold bytes ended told
+  by : (frame : Frame) → IsFrame bytes ended frame → MayFrame frame (Whole told)
+      → IsTold bytes ended told
   by (Whole meant) is may =
       let same = same_framed told (record meant { what = may.0 }) may.2 in record {
         meant = meant;
         is = is;
         taken = ap (λ (f : Framed). f.taken) same;
         last = ap (λ (f : Framed). f.last) same;
-        what = subst (λ what. MayTell meant.what what) (sym (ap (λ (f : Framed). f.what) same)) may.1;
+        what = subst (λ what. MayTell meant.what what) (sym (ap (λ (f : Framed). f.what) same))
+            may.1;
       }
   by More is may = absurd (whole_not_more told may)
   by Nothing is may = absurd (nothing_not_whole told (sym may))
 
-pub told_more : (bytes : List ℕ) (ended : Bool) → TellsFrame bytes ended More → IsFrame bytes ended More
+pub told_more : (bytes : List ℕ) (ended : Bool) → TellsFrame bytes ended More
+    → IsFrame bytes ended More
 told_more bytes ended tells = by tells.0 tells.1 tells.2 where
   by : (frame : Frame) → IsFrame bytes ended frame → MayFrame frame More → IsFrame bytes ended More
   by (Whole meant) is may = absurd (more_not_whole (record meant { what = may.0 }) may.2)
   by More is may = is
   by Nothing is may = absurd (nothing_not_more (sym may))
 
-pub told_nothing : (bytes : List ℕ) (ended : Bool) → TellsFrame bytes ended Nothing → IsFrame bytes ended Nothing
+pub told_nothing : (bytes : List ℕ) (ended : Bool) → TellsFrame bytes ended Nothing
+    → IsFrame bytes ended Nothing
 told_nothing bytes ended tells = by tells.0 tells.1 tells.2 where
-  by : (frame : Frame) → IsFrame bytes ended frame → MayFrame frame Nothing → IsFrame bytes ended Nothing
+  by : (frame : Frame) → IsFrame bytes ended frame → MayFrame frame Nothing
+      → IsFrame bytes ended Nothing
   by (Whole meant) is may = absurd (nothing_not_whole (record meant { what = may.0 }) may.2)
   by More is may = absurd (nothing_not_more may)
   by Nothing is may = is

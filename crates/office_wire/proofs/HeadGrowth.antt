@@ -51,11 +51,13 @@ empty_line_within bytes size is =
         → size_by lf crlf ≡ Some size → (2 ≤ size) × (size ≤ length bytes)
     by true h crlf k e =
         let two : 2 ≡ size = same_Some 2 size e in
-        let fits : 2 ≤ length bytes = front_fits bytes (codes "\n\n") _ (front_is bytes (codes "\n\n") h) in
+        let fits : 2 ≤ length bytes =
+        front_fits bytes (codes "\n\n") _ (front_is bytes (codes "\n\n") h) in
         (omega arith, omega arith)
     by false h true k e =
         let three : 3 ≡ size = same_Some 3 size e in
-        let fits : 3 ≤ length bytes = front_fits bytes (codes "\n\r\n") _ (front_is bytes (codes "\n\r\n") k) in
+        let fits : 3 ≤ length bytes =
+        front_fits bytes (codes "\n\r\n") _ (front_is bytes (codes "\n\r\n") k) in
         (omega arith, omega arith)
     by false h false k e = absurd (none-some size e)
 
@@ -137,7 +139,8 @@ prefix_still test [] more less = absurd (omega (arith, less))
 prefix_still test (byte ∷ rest) more less = elim (cases_Bool (test byte)) [
   | inl h ↦
       rw h (ap (λ n. 1 + n) (prefix_still test rest more
-      (let inside : 1 + prefix_len test rest < suc (length rest) = rw h at less in omega (arith, inside))))
+      (let inside : 1 + prefix_len test rest < suc (length rest) =
+      rw h at less in omega (arith, inside))))
   | inr h ↦ rw h refl
 ]
 
@@ -152,10 +155,14 @@ head_within bytes size is =
         → (2 ≤ size) × (size ≤ length bytes) × (prefix_len is_newline bytes < length bytes)
     by None h e = absurd (none-some size e)
     by (Some n) h e =
-        let is_size : prefix_len is_newline bytes + n ≡ size = same_Some (prefix_len is_newline bytes + n) size e in
+        let is_size : prefix_len is_newline bytes + n ≡ size =
+        same_Some (prefix_len is_newline bytes + n) size e in
         let inside = lines_within (drop (prefix_len is_newline bytes) bytes) n h in
-        let left = length-drop (prefix_len is_newline bytes) bytes in
-        (omega (arith, inside.0, inside.1, left), omega (arith, inside.0, inside.1, left), omega (arith, inside.0, inside.1, left))
+        let left = length-drop (prefix_len is_newline bytes) bytes in (
+          omega (arith, inside.0, inside.1, left),
+          omega (arith, inside.0, inside.1, left),
+          omega (arith, inside.0, inside.1, left),
+        )
 
 -- it ends there whatever follows
 pub head_still : (bytes more : List ℕ) (size : ℕ) → head_size bytes ≡ Some size

@@ -9,7 +9,8 @@ abbrev pub is_slash : ℕ → Bool
 is_slash byte = byte == 47
 
 -- a path without `/` is one segment
-pub one_segment : (path : List ℕ) → length path ≤ position_or_len is_slash path → segments path ≡ path ∷ []
+pub one_segment : (path : List ℕ) → length path ≤ position_or_len is_slash path
+    → segments path ≡ path ∷ []
 one_segment [] all = refl
 one_segment (byte ∷ path) all = elim (cases_Bool (is_slash byte)) [
   | inl h ↦ absurd (let none : suc (length path) ≤ 0 = rw h at all in omega (arith, none))
@@ -26,7 +27,8 @@ pub first_of_more : (path : List ℕ) → position_or_len is_slash path < length
 first_of_more path less = slice_split_first is_slash path 0 less
 
 -- there is one
-pub some_segment : (path : List ℕ) → (first : List ℕ) × (others : List (List ℕ)) × (segments path ≡ first ∷ others)
+pub some_segment : (path : List ℕ)
+    → (first : List ℕ) × (others : List (List ℕ)) × (segments path ≡ first ∷ others)
 some_segment [] = ([], [], refl)
 some_segment (byte ∷ path) = elim (cases_Bool (is_slash byte)) [
   | inl h ↦ ([], segments path, rw h refl)

@@ -1,5 +1,5 @@
 -- Parts of requests that were written down by hand, computed by the definitions.
-use Rattle.std.proofs.Common.{◌≡◌, ◌∷◌, ◌++◌, [], codes, None, Ok, Err, Some, true, refl}
+use Rattle.std.proofs.Common.{◌≡◌, ◌∷◌, [], codes, None, Ok, Err, Some, true, refl}
 use Rattle.book_words.specs.declared.act.Question.TheVariants as question
 use Rattle.book_words.specs.Names.{name_of, name_with}
 use Rattle.office_wire.specs.declared.types.Bad.TheVariants as bad
@@ -25,14 +25,21 @@ cut = refl
 
 -- ---- what headers say
 
-length_given : size_of ((codes "Host", codes "a") ∷ (codes "content-LENGTH", codes "68") ∷ []) ≡ Ok (Some 68)
+length_given : size_of ((codes "Host", codes "a") ∷ (codes "content-LENGTH", codes "68") ∷ [])
+    ≡ Ok (Some 68)
 length_given = refl
 
-lengths_differ : size_of ((codes "Content-Length", codes "5") ∷ (codes "Content-Length", codes "6") ∷ [])
+lengths_differ : size_of ((codes "Content-Length", codes "5") ∷ (
+  codes "Content-Length",
+  codes "6",
+) ∷ [])
     ≡ Err bad.Length
 lengths_differ = refl
 
-coded_first : size_of ((codes "Content-Length", codes "x") ∷ (codes "Transfer-Encoding", codes "chunked") ∷ [])
+coded_first : size_of ((codes "Content-Length", codes "x") ∷ (
+  codes "Transfer-Encoding",
+  codes "chunked",
+) ∷ [])
     ≡ Err bad.Coding
 coded_first = refl
 
@@ -44,11 +51,13 @@ closing = refl
 acts : route_of (codes "/acts?/summary") ≡ Some route.Acts
 acts = refl
 
-sheet : route_of (codes "/batches/A") ≡ Some (route.Question (question.Sheet (name_with (codes "A") refl)))
+sheet : route_of (codes "/batches/A")
+    ≡ Some (route.Question (question.Sheet (name_with (codes "A") refl)))
 unfolding name_of
 sheet = refl
 
-sample : route_of (codes "/batches/A/sample?x/y") ≡ Some (route.Question (question.Sample (name_with (codes "A") refl)))
+sample : route_of (codes "/batches/A/sample?x/y")
+    ≡ Some (route.Question (question.Sample (name_with (codes "A") refl)))
 unfolding name_of
 sample = refl
 

@@ -136,7 +136,8 @@ IsFrameOf text rest ended frame =
 -- bytes whose head text has so many bytes, where they hold one
 abbrev pub IsFrameFrom : Option ℕ → List ℕ → Bool → Frame → Type 0
 IsFrameFrom None bytes ended frame = frame ≡ frame_without_head bytes ended
-IsFrameFrom (Some size) bytes ended frame = IsFrameOf (take size bytes) (drop size bytes) ended frame
+IsFrameFrom (Some size) bytes ended frame =
+    IsFrameOf (take size bytes) (drop size bytes) ended frame
 
 -- what bytes begin with; a head text lies within the first 8 192 of them
 abbrev pub IsFrame : List ℕ → Bool → Frame → Type 0

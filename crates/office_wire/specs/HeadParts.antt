@@ -9,11 +9,12 @@ use Rattle.office_wire.specs.declared.request_heads.Said.{Said}
 use Rattle.office_wire.specs.Frames.{IsHeadOf, headers_of, is_last, size_of}
 
 -- the whole text is a head, with no more headers than there may be, and these are its parts
-pub record IsWholeHead (text : List ℕ) (room : List HeaderSpan) (spans : RequestSpans) : Type 0 where
-  pub within : IsRequestWithin text room spans
-  pub parts : IsRequestOf text room spans
-  pub whole : spans.len ≡ length text
-  pub few : spans.headers ≤ MAX_HEADERS
+pub record IsWholeHead (text : List ℕ) (room : List HeaderSpan) (spans : RequestSpans) : Type 0
+  where
+    pub within : IsRequestWithin text room spans
+    pub parts : IsRequestOf text room spans
+    pub whole : spans.len ≡ length text
+    pub few : spans.headers ≤ MAX_HEADERS
 
 -- what a head says
 pub record Says (said : Said) (head : RequestHead) : Type 0 where

@@ -121,7 +121,8 @@ const FAULTS: [(&[u8], Bad, bool); 36] = [
         false,
     ),
     (
-        b"POST /acts HTTP/1.1\r\nContent-Length: 38\r\n\r\n{\"act\":\"weigh\",\"desk\":101,\"request\":1}",
+        b"POST /acts HTTP/1.1\r\nContent-Length: 38\r\n\r\n\
+{\"act\":\"weigh\",\"desk\":101,\"request\":1}",
         Bad::Body,
         false,
     ),

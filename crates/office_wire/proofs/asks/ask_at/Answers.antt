@@ -10,4 +10,5 @@ returns-in-Question c =
     let found : route_of c.args.target.now ≡ Some (route.Question c.in-Question.question) =
     sym c.route_of.ensures ∙ c.in-Some.is ∙ ap (λ (r : Route). Some r) c.in-Question.is in
     inl (c.got_ask.ensures c.args.given c.args.body.now
-    ∙ sym (ap (λ (r : Option Route). ask_at r c.args.method.now c.args.given c.args.body.now) found))
+    ∙ sym (ap (λ (r : Option Route). ask_at r c.args.method.now c.args.given c.args.body.now)
+    found))
