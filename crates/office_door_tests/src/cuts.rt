@@ -10,6 +10,8 @@ const BOTH: &[u8] = b"POST /acts HTTP/1.1\r\nContent-Length: 68\r\n\r\n\
 {\"act\":\"product\",\"desk\":101,\"request\":1,\"name\":\"a\",\"nominal\":250000}\
 GET /lanes/1 HTTP/1.1\r\nConnection: Close\r\n\r\n";
 
+const NOTHING: &[u8] = b"";
+
 const ANSWERS: &[u8] = b"HTTP/1.1 200 OK\r\nContent-Type: application/json\r\n\
 Content-Length: 9\r\nBook-Row: 2\r\n\r\n{\"row\":2}\
 HTTP/1.1 200 OK\r\nContent-Type: text/plain\r\nContent-Length: 12\r\nBook-Row: 2\r\n\
@@ -44,7 +46,7 @@ impl Source for CutDoor {
     fn read(&mut self, into: &mut [u8]) -> Result<usize, Failed> {
         if self.front.is_empty() {
             self.front = self.back;
-            self.back = b"";
+            self.back = NOTHING;
         }
         let count = self.front.len().min(into.len());
         let (first, rest) = self.front.split_at(count);
@@ -103,10 +105,9 @@ impl Door for CutDoor {
 
 // Whether the requests are answered the same where they are cut at a place.
 fn cut_right(alloc: Global, place: usize) -> Option<bool> {
-    let (front, back) = BOTH.split_at_checked(place)?;
     let mut door = CutDoor {
-        front,
-        back,
+        front: BOTH.get(..place)?,
+        back: BOTH.get(place..)?,
         waits: true,
         ended: false,
         written: Vec::new(alloc),

@@ -14,6 +14,8 @@ const SESSION: [&[u8]; 3] = [
 {\"act\":\"product\",\"desk\":103,\"request\":1,\"name\":\"c\",\"nominal\":250000}",
 ];
 
+const NOTHING: &[u8] = b"";
+
 const ROW_2: &[u8] = b"HTTP/1.1 200 OK\r\nContent-Type: application/json\r\n\
 Content-Length: 9\r\nBook-Row: 2\r\n\r\n{\"row\":2}";
 
@@ -48,14 +50,14 @@ const CALL_FAILS: [Seen<'static>; 14] = [
         links: 0,
         stop: DoorStop::Door,
         rows: 1,
-        written: [b"", b"", b""],
+        written: [NOTHING, NOTHING, NOTHING],
     },
     Seen {
         served: 2,
         links: 1,
         stop: DoorStop::Done,
         rows: 3,
-        written: [b"", ROW_2, ROW_3],
+        written: [NOTHING, ROW_2, ROW_3],
     },
     // what was asked stands, though the response went out to nobody
     Seen {
@@ -63,7 +65,7 @@ const CALL_FAILS: [Seen<'static>; 14] = [
         links: 1,
         stop: DoorStop::Done,
         rows: 4,
-        written: [b"", ROW_3, ROW_4],
+        written: [NOTHING, ROW_3, ROW_4],
     },
     Seen {
         served: 3,
@@ -78,21 +80,21 @@ const CALL_FAILS: [Seen<'static>; 14] = [
         links: 0,
         stop: DoorStop::Door,
         rows: 2,
-        written: [ROW_2, b"", b""],
+        written: [ROW_2, NOTHING, NOTHING],
     },
     Seen {
         served: 2,
         links: 1,
         stop: DoorStop::Done,
         rows: 3,
-        written: [ROW_2, b"", ROW_3],
+        written: [ROW_2, NOTHING, ROW_3],
     },
     Seen {
         served: 3,
         links: 1,
         stop: DoorStop::Done,
         rows: 4,
-        written: [ROW_2, b"", ROW_4],
+        written: [ROW_2, NOTHING, ROW_4],
     },
     Seen {
         served: 3,
@@ -107,21 +109,21 @@ const CALL_FAILS: [Seen<'static>; 14] = [
         links: 0,
         stop: DoorStop::Door,
         rows: 3,
-        written: [ROW_2, ROW_3, b""],
+        written: [ROW_2, ROW_3, NOTHING],
     },
     Seen {
         served: 2,
         links: 1,
         stop: DoorStop::Done,
         rows: 3,
-        written: [ROW_2, ROW_3, b""],
+        written: [ROW_2, ROW_3, NOTHING],
     },
     Seen {
         served: 3,
         links: 1,
         stop: DoorStop::Done,
         rows: 4,
-        written: [ROW_2, ROW_3, b""],
+        written: [ROW_2, ROW_3, NOTHING],
     },
     Seen {
         served: 3,
@@ -151,7 +153,7 @@ const CALL_FAILS: [Seen<'static>; 14] = [
 // Whether just these texts were written to the connections of a door.
 fn has_written(door: &ListDoor, texts: &[&[u8]; 3]) -> bool {
     for (place, text) in texts.iter().enumerate() {
-        if door.written(place).unwrap_or(b"") != *text {
+        if door.written(place).unwrap_or(NOTHING) != *text {
             return false;
         }
     }
@@ -175,7 +177,7 @@ fn door_fails_right(alloc: Global, call: u32, seen: &Seen) -> Option<bool> {
 fn first_wrong(alloc: Global) -> Option<u32> {
     let mut call = 0;
     for seen in &CALL_FAILS {
-        call += 1;
+        call = call.saturating_add(1);
         if door_fails_right(alloc, call, seen) != Some(true) {
             return Some(call);
         }
@@ -209,7 +211,7 @@ fn first_wrong_of_disk(alloc: Global) -> Option<u32> {
     let mut call = CALLS;
     for texts in &DISK_FAILS {
         for _step in 0..4 {
-            call += 1;
+            call = call.saturating_add(1);
             if disk_fails_right(alloc, call, texts) != Some(true) {
                 return Some(call);
             }

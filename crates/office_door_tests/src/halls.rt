@@ -21,10 +21,10 @@ pub(crate) type Hall = OneCaller<MemoryDisk>;
 pub(crate) fn empty_hall(alloc: Global, fails: &[u32]) -> Option<Hall> {
     let fails = Vec::from_slice(alloc, fails).ok()?;
     let disk = MemoryDisk::new(alloc, Vec::new(alloc), fails);
-    match Store::mount(alloc, disk, 1_000_000) {
-        Ok(store) => Some(OneCaller::new(store, FIRST_DOOR)),
-        Err(_) => None,
-    }
+    let Ok(store) = Store::mount(alloc, disk, 1_000_000) else {
+        return None;
+    };
+    Some(OneCaller::new(store, FIRST_DOOR))
 }
 
 /// The same with the row of a day.
@@ -36,7 +36,7 @@ pub(crate) fn open_hall(alloc: Global, fails: &[u32]) -> Option<Hall> {
         request: 0,
         want: Want::Act(Act::NewDay { day: MARCH_3 }),
     };
-    let _ = hall.ask(&day);
+    hall.ask(&day).ok()?;
     hall.turn(FIRST_DOOR);
     Some(hall)
 }
