@@ -1,4 +1,4 @@
-use Rattle.std.proofs.Common.{◌≡◌, Bool, IfSome, is_some, subst}
+use Rattle.std.proofs.Common.{◌≡◌, Bool, true, IfSome, is_some, subst, rules}
 use Rattle.disk_core.specs.Doors.{Connections}
 use Rattle.office_door.specs.Doors.{port, site}
 use Rattle.office_door.proofs.VisitedConnections.{open_more}
@@ -11,9 +11,10 @@ returns-in-Ok-true-clause-turns g c = λ first start turns few is.
     let now = port g.O.Source g.O.Door.connections c.serve_connection-leaving.new.door in
     let was = site g.C.Caller g.O.Source g.O.Door.connections first start in
     let admits = c.in-Ok-true.ensures.connections in
+    let is_true : c.in-Ok-true.field-0 ≡ true = search rules in
     let found = subst (λ (b : Bool).
     IfSome mid.connections (λ (all : Connections). b ≡ is_some all.present))
-    c.in-Ok-true.field-0-is admits.1 in
+    is_true admits.1 in
     open_more (g.C.Caller.later first c.args.caller.now)
     (g.C.Caller.later c.args.caller.now c.serve_connection-leaving.new.caller)
     (g.C.Caller.later first c.serve_connection-leaving.new.caller) was

@@ -3,7 +3,7 @@ use Rattle.office_wire.specs.declared.types.Frame.TheVariants.{Whole}
 use Rattle.office_wire.specs.Frames.{TellsFrame}
 use Rattle.office_door.specs.declared.leaving.Leaving.{Leaving}
 use Rattle.office_door.specs.declared.limits.TheConstants.{MAX_REQUESTS}
-use Rattle.office_door.specs.Doors.{port, site}
+use Rattle.office_door.specs.Doors.{Site, port, site}
 use Rattle.office_door.specs.Steps.{HeldView, Sends, StepsTo, left_behind}
 use Rattle.office_door.proofs.ServedRequests.{more_served, taken_within}
 use Rattle.office_door.proofs.requests.serve_held.Goals as goal
@@ -35,7 +35,7 @@ returns-clause-goes g c = λ first start serving.
     (g.C.Caller.known c.respond.new.caller) old new held.bytes served framed last
     c.respond.new.reply.items c.send.result serving tells last_is c.respond.ensures.responds
     (g.met.C.Caller.reached.by_both first c.args.caller.now c.respond.new.caller) sends in
-    let now = record { caller = g.C.Caller.known c.respond.new.caller; door = new } in
+    let now : Site = record { caller = g.C.Caller.known c.respond.new.caller; door = new } in
     let bytes : c.take.new.self.bytes ≡ drop framed.taken held.bytes =
     ap (λ (h : HeldView). h.bytes) c.take.ensures in
     let reached = g.C.Caller.later first c.respond.new.caller in
