@@ -175,7 +175,7 @@ fn door_fails_right(alloc: Global, call: u32, seen: &Seen) -> Option<bool> {
 
 // The first call of the door that doesn't come out right.
 fn first_wrong(alloc: Global) -> Option<u32> {
-    let mut call = 0;
+    let mut call: u32 = 0;
     for seen in &CALL_FAILS {
         call = call.saturating_add(1);
         if door_fails_right(alloc, call, seen) != Some(true) {
