@@ -3,7 +3,8 @@ use Rattle.std.proofs.Common.{◌≡◌, List, ℕ, codes, refl}
 use Rattle.std.specs.Fmt.{digits}
 use Rattle.book_words.specs.declared.refusal.Refusal.TheVariants as why
 use Rattle.lane_worker.specs.declared.ending.LaneStop.TheVariants as stop
-use Rattle.job_reports.specs.Texts.{lane_text}
+use Rattle.office_door.specs.declared.ending.DoorStop.TheVariants as stops
+use Rattle.job_reports.specs.Texts.{lane_text, door_text}
 
 done : lane_text 1 (record { opened = 2; stop = stop.Done }) ≡ codes "lane 1 opened 2 done\n"
 unfolding lane_text digits
@@ -24,3 +25,13 @@ refused : lane_text 2 (record {
 }) ≡ codes "lane 2 opened 1 refused 20 at 8\n"
 unfolding lane_text digits
 refused = refl
+
+door_done : door_text 1 (record { served = 12; links = 0; stop = stops.Done })
+    ≡ codes "door 1 served 12 links 0 done\n"
+unfolding door_text digits
+door_done = refl
+
+door_failed : door_text 16 (record { served = 3; links = 2; stop = stops.Door })
+    ≡ codes "door 16 served 3 links 2 door\n"
+unfolding door_text digits
+door_failed = refl

@@ -1,7 +1,10 @@
-//! The texts of jobs that a script sets to work. Each is a line that ends in LF.
+//! The texts of jobs that came to their end: a lane, and a door of the office. Each is a line that
+//! ends in LF.
 #![tactic(auto)]
 
 mod append;
+mod doors;
 mod lanes;
 
+pub use doors::{DOOR_ROOM, door_text};
 pub use lanes::{LANE_ROOM, lane_text};

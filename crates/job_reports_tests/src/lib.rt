@@ -2,4 +2,6 @@
 #![tactic(auto)]
 
 #[cfg(test)]
+mod doors;
+#[cfg(test)]
 mod lanes;

@@ -1,0 +1,4 @@
+pub mod Exchanges
+pub mod Served
+pub mod Doors
+pub mod Steps

@@ -1,0 +1,23 @@
+ghost use Rattle.std.specs.Prelude.{◌≤◌, IfOk, vec_capacity};
+ghost use Rattle.office_wire.specs.declared.replies.TheConstants.{REPLY_ROOM};
+
+use crate::held::Held;
+use office_wire::REPLY_ROOM;
+use std::alloc::{AllocError, Global};
+
+/// The room of a door: for the bytes that it reads, and for a response.
+#[derive(Drop)]
+pub(crate) struct Buffers {
+    pub held: Held,
+    pub reply: Vec<u8>,
+}
+
+/// Takes that room.
+pub(crate) fn take_room(alloc: Global) -> Result<Buffers, AllocError>
+    ensures { IfOk result (λ buffers. REPLY_ROOM ≤ vec_capacity buffers.reply) }
+{
+    Ok(Buffers {
+        held: Held::new(alloc)?,
+        reply: Vec::with_capacity(alloc, REPLY_ROOM)?,
+    })
+}

@@ -1,0 +1,12 @@
+ghost use Rattle.office_door.specs.Doors.{port};
+ghost use Rattle.office_door.specs.Steps.{Sends};
+
+use disk_core::{Door, Partly, write_all};
+
+/// Sends a response to the present connection of a door.
+pub(crate) fn send<O: Door>(door: &mut O, text: &[u8]) -> Result<(), Partly>
+    ensures { Sends (port O.Source O.connections door.old) (port O.Source O.connections door.new)
+        text.now result }
+{
+    write_all(door, text)
+}
