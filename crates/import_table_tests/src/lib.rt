@@ -1,0 +1,2 @@
+//! Tests of imports by the public calls of `import_table`.
+#![tactic(auto)]

@@ -1,0 +1,2 @@
+mod PlainFields
+mod RecordParts
