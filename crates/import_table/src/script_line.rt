@@ -71,5 +71,9 @@ fn has_end(line: &[u8]) -> bool
 fn of_desk(command: Command) -> Option<Command>
     ensures { result ≡ of_desk command }
 {
-    if command.desk == 0 { None } else { Some(command) }
+    if command.desk == 0 {
+        None
+    } else {
+        Some(command)
+    }
 }
