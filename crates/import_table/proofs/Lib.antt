@@ -1,0 +1,3 @@
+mod Readers
+mod ImportSteps
+mod ScriptLines

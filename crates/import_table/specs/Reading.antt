@@ -1,5 +1,5 @@
 -- A reader within an import.
-use Rattle.std.specs.Prelude.{◌≡◌, ◌×◌, ◌⊎◌, ℕ, ◌≤◌, ◌-◌, ◌+◌, List, [], Option, Some, None, Result, Ok, Err, ⊤}
+use Rattle.std.specs.Prelude.{◌≡◌, ◌⊎◌, ℕ, ◌≤◌, ◌-◌, ◌+◌, List, [], Option, Some, None, Result, Ok, Err, ⊤}
 use Rattle.std.specs.Borrow.{Bor}
 use Rattle.csv.specs.Machine.{Read, next_record}
 use Rattle.csv.specs.Reading.{Ready, default_config, reader_config, reader_state, reader_trim, records_from, source_of}
@@ -44,7 +44,7 @@ records_at count reader = records_from default_config count (reader_state reader
 
 -- the next record may be there, or is the one by which there are too many
 pub record IsReading (records : Records) : Type 0 where
-  pub open : IsOpen records.reader
+  pub opened : IsOpen records.reader
   pub number : records.number ≤ LAST_RECORD + 1
 
 -- what is left of an import
