@@ -5,8 +5,8 @@ mod fields;
 mod list;
 mod quoting;
 mod records;
-mod register;
+mod table;
 
 pub use list::PackList;
 pub use records::{HEADER_ROOM, RECORD_ROOM, push_header, push_record};
-pub use register::{NoMemory, register};
+pub use table::{NoMemory, register};
