@@ -1,5 +1,5 @@
 -- Counts, days and masses are written without quotes.
-use Rattle.std.proofs.Common.{◌≡◌, ◌==◌, ◌||◌, ◌∙◌, ◌++◌, ◌+◌, ◌/◌, ◌%◌, ◌∷◌, [], ℕ, zero, suc, ℤ, pos, negsuc, List, Bool, true, false, refl, arith, unsigned_abs, decimal}
+use Rattle.std.proofs.Common.{inl, inr, ◌≡◌, ◌==◌, ◌||◌, ◌∙◌, ◌++◌, ◌+◌, ◌/◌, ◌%◌, ◌∷◌, [], ℕ, zero, suc, ℤ, pos, negsuc, List, Bool, true, false, refl, arith, unsigned_abs, decimal}
 use Rattle.std.proofs.lemmas.Bool.{cases_Bool}
 use Rattle.std.proofs.lemmas.Bool.Decides.{nat_tests}
 use Rattle.std.proofs.lemmas.List.Folds.{list_any-append}
@@ -59,19 +59,24 @@ sign_plain (negsuc n) = refl
 
 three_plain : (number : ℕ) → IsPlain (three_digits number)
 three_plain number =
-    cons_plain _ _ (digit_plain (number / 100))
-    (cons_plain _ _ (digit_plain (number / 10 % 10)) (cons_plain _ _ (digit_plain (number % 10)) refl))
+    cons_plain (48 + number / 100) ((48 + number / 10 % 10) ∷ (48 + number % 10) ∷ [])
+    (digit_plain (number / 100))
+    (cons_plain (48 + number / 10 % 10) ((48 + number % 10) ∷ []) (digit_plain (number / 10 % 10))
+    (cons_plain (48 + number % 10) [] (digit_plain (number % 10)) refl))
 
 pub grams_plain : (mg : ℤ) → IsPlain (gram_text mg)
 unfolding gram_text
 grams_plain mg =
-    append_plain (sign_text mg) _ (sign_plain mg)
-    (append_plain (decimal (unsigned_abs mg / 1000)) _ (decimal_plain (unsigned_abs mg / 1000))
-    (cons_plain 46 _ refl (three_plain (unsigned_abs mg % 1000))))
+    let whole : List ℕ = decimal (unsigned_abs mg / 1000) in
+    let places : List ℕ = three_digits (unsigned_abs mg % 1000) in
+    append_plain (sign_text mg) (whole ++ 46 ∷ places) (sign_plain mg)
+    (append_plain whole (46 ∷ places) (decimal_plain (unsigned_abs mg / 1000))
+    (cons_plain 46 places refl (three_plain (unsigned_abs mg % 1000))))
 
 two_plain : (number : ℕ) → IsPlain (two_digits number)
 two_plain number =
-    cons_plain _ _ (digit_plain (number / 10)) (cons_plain _ _ (digit_plain (number % 10)) refl)
+    cons_plain (48 + number / 10) ((48 + number % 10) ∷ []) (digit_plain (number / 10))
+    (cons_plain (48 + number % 10) [] (digit_plain (number % 10)) refl)
 
 four_plain : (number : ℕ) → IsPlain (four_digits number)
 four_plain number =
@@ -80,9 +85,11 @@ four_plain number =
 
 date_plain : (date : YearMonthDay) → IsPlain (date_text date)
 date_plain date =
-    append_plain (four_digits date.year) _ (four_plain date.year)
-    (cons_plain 45 _ refl (append_plain (two_digits date.month) _ (two_plain date.month)
-    (cons_plain 45 _ refl (two_plain date.day))))
+    let month : List ℕ = two_digits date.month in
+    let day : List ℕ = two_digits date.day in
+    append_plain (four_digits date.year) (45 ∷ month ++ 45 ∷ day) (four_plain date.year)
+    (cons_plain 45 (month ++ 45 ∷ day) refl (append_plain month (45 ∷ day) (two_plain date.month)
+    (cons_plain 45 day refl (two_plain date.day))))
 
 pub day_plain : (day : ℤ) → IsPlain (day_text day)
 unfolding day_text

@@ -1,5 +1,5 @@
 -- A record is its fields with commas between them, and an LF.
-use Rattle.std.proofs.Common.{◌≡◌, ◌++◌, ◌∷◌, [], ℕ, List, append_assoc}
+use Rattle.std.proofs.Common.{◌≡◌, ◌∙◌, ap, ◌++◌, ◌∷◌, [], ℕ, List, append_assoc}
 use Rattle.std.proofs.lemmas.List.{append-nil}
 use Rattle.std.specs.Prelude.{decimal, codes}
 use Rattle.csv.specs.Writing.{default_writer, field_text, fields_text, is_blank, row_text}
@@ -39,3 +39,48 @@ in_parts pack =
     ten_fields (decimal pack.pack) (bytes_of pack.batch) (bytes_of pack.product)
     (decimal pack.lane) (day_text pack.day) (gram_text pack.gross) (gram_text pack.net)
     (class_text pack.class) (signal_text pack.signal) (pile_text pack.pile)
+
+regrouped : (start a b c : List ℕ) → ((start ++ a) ++ b) ++ c ≡ start ++ a ++ b ++ c
+regrouped start a b c = simp append_assoc
+
+-- the parts of a record behind a text
+pub in_order : (start : List ℕ) (pack : PackView)
+    → ((start ++ origin_text pack) ++ masses_text pack) ++ found_text pack
+    ≡ start ++ record_text pack
+in_order start pack =
+    regrouped start (origin_text pack) (masses_text pack) (found_text pack)
+    ∙ ap (λ (text : List ℕ). start ++ text) (in_parts pack)
+
+-- what is appended for each part, field by field
+pub origin_in_order : (start : List ℕ) (pack : PackView)
+    → ((((start ++ cell (decimal pack.pack)) ++ cell (bytes_of pack.batch))
+    ++ cell (bytes_of pack.product)) ++ cell (decimal pack.lane)) ++ cell (day_text pack.day)
+    ≡ start ++ origin_text pack
+unfolding origin_text
+origin_in_order start pack =
+    five start (cell (decimal pack.pack)) (cell (bytes_of pack.batch))
+    (cell (bytes_of pack.product)) (cell (decimal pack.lane)) (cell (day_text pack.day))
+  where
+    five : (start a b c d e : List ℕ)
+        → ((((start ++ a) ++ b) ++ c) ++ d) ++ e ≡ start ++ a ++ b ++ c ++ d ++ e
+    five start a b c d e = simp append_assoc
+
+pub masses_in_order : (start : List ℕ) (pack : PackView)
+    → (start ++ cell (gram_text pack.gross)) ++ cell (gram_text pack.net)
+    ≡ start ++ masses_text pack
+unfolding masses_text
+masses_in_order start pack =
+    append_assoc start (cell (gram_text pack.gross)) (cell (gram_text pack.net))
+
+pub found_in_order : (start : List ℕ) (pack : PackView)
+    → (((start ++ cell (class_text pack.class)) ++ cell (signal_text pack.signal))
+    ++ field_text default_writer (pile_text pack.pile)) ++ codes "\n"
+    ≡ start ++ found_text pack
+unfolding found_text
+found_in_order start pack =
+    four start (cell (class_text pack.class)) (cell (signal_text pack.signal))
+    (field_text default_writer (pile_text pack.pile)) (codes "\n")
+  where
+    four : (start a b c d : List ℕ)
+        → (((start ++ a) ++ b) ++ c) ++ d ≡ start ++ a ++ b ++ c ++ d
+    four start a b c d = simp append_assoc
