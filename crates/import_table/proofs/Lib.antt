@@ -1,3 +1,2 @@
-mod Readers
 mod ImportSteps
 mod ScriptLines

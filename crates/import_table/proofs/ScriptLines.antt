@@ -1,10 +1,8 @@
 -- Which records are no command.
-use Rattle.std.proofs.Common.{◌≡◌, ◌≢◌, ◌∙◌, ℕ, suc, ◌+◌, ◌≤◌, ◌<◌, List, [], ◌∷◌, ◌++◌, length, Option, Some, None, Bool, true, false, sym, ap, refl, arith, length-append}
+use Rattle.std.proofs.Common.{inl, inr, ◌≡◌, ◌≢◌, ◌∙◌, ℕ, zero, suc, ◌+◌, ◌≤◌, ◌<◌, List, [], ◌∷◌, ◌++◌, length, Option, Some, None, Bool, true, false, sym, ap, refl, arith, length-append}
 use Rattle.std.proofs.lemmas.Bool.{cases_Bool}
 use Rattle.std.proofs.lemmas.Bool.Decides.{nat_tests}
-use Rattle.std.proofs.lemmas.List.Folds.{list_any-append}
-use Rattle.std.specs.Prelude.{nat_le, ◌==◌, if◌then◌else◌, codes}
-use Rattle.std.specs.List.{list_any}
+use Rattle.std.specs.Prelude.{nat_le, ◌==◌, ◌||◌, if◌then◌else◌, codes}
 use Rattle.csv.specs.Records.{field_at}
 use Rattle.script_lines.specs.Lines.{has_end}
 use Rattle.script_lines.specs.declared.lines.TheConstants.{MAX_LINE}
@@ -63,7 +61,7 @@ pub field_there : (fields : List (List ℕ)) (place : ℕ) → place < length fi
     → field_at fields place ≢ None
 unfolding field_at
 field_there [] place inside absent = absurd (omega arith)
-field_there (field ∷ fields) 0 inside absent = cc absent
+field_there (field ∷ fields) zero inside absent = cc absent
 field_there (field ∷ fields) (suc place) inside absent =
     field_there fields place (omega arith) absent
 
