@@ -69,9 +69,9 @@ unfolding gram_text
 grams_plain mg =
     let whole : List ℕ = decimal (unsigned_abs mg / 1000) in
     let places : List ℕ = three_digits (unsigned_abs mg % 1000) in
-    append_plain (sign_text mg) (whole ++ 46 ∷ places) (sign_plain mg)
-    (append_plain whole (46 ∷ places) (decimal_plain (unsigned_abs mg / 1000))
-    (cons_plain 46 places refl (three_plain (unsigned_abs mg % 1000))))
+    append_plain (sign_text mg ++ whole) (46 ∷ places)
+    (append_plain (sign_text mg) whole (sign_plain mg) (decimal_plain (unsigned_abs mg / 1000)))
+    (cons_plain 46 places refl (three_plain (unsigned_abs mg % 1000)))
 
 two_plain : (number : ℕ) → IsPlain (two_digits number)
 two_plain number =

@@ -40,7 +40,7 @@ in_parts pack =
     (decimal pack.lane) (day_text pack.day) (gram_text pack.gross) (gram_text pack.net)
     (class_text pack.class) (signal_text pack.signal) (pile_text pack.pile)
 
-regrouped : (start a b c : List ℕ) → ((start ++ a) ++ b) ++ c ≡ start ++ a ++ b ++ c
+regrouped : (start a b c : List ℕ) → ((start ++ a) ++ b) ++ c ≡ start ++ (a ++ b ++ c)
 regrouped start a b c = simp append_assoc
 
 -- the parts of a record behind a text
@@ -62,7 +62,7 @@ origin_in_order start pack =
     (cell (bytes_of pack.product)) (cell (decimal pack.lane)) (cell (day_text pack.day))
   where
     five : (start a b c d e : List ℕ)
-        → ((((start ++ a) ++ b) ++ c) ++ d) ++ e ≡ start ++ a ++ b ++ c ++ d ++ e
+        → ((((start ++ a) ++ b) ++ c) ++ d) ++ e ≡ start ++ (a ++ b ++ c ++ d ++ e)
     five start a b c d e = simp append_assoc
 
 pub masses_in_order : (start : List ℕ) (pack : PackView)
@@ -82,5 +82,5 @@ found_in_order start pack =
     (field_text default_writer (pile_text pack.pile)) (codes "\n")
   where
     four : (start a b c d : List ℕ)
-        → (((start ++ a) ++ b) ++ c) ++ d ≡ start ++ a ++ b ++ c ++ d
+        → (((start ++ a) ++ b) ++ c) ++ d ≡ start ++ (a ++ b ++ c ++ d)
     four start a b c d = simp append_assoc

@@ -31,12 +31,12 @@ pub fn push_count(to: &mut Vec<u8>, count: u32)
 }
 
 /// Appends a day as a date, and a comma.
-pub fn push_day(to: &mut Vec<u8>, day: i32)
+pub fn push_day(to: &mut Vec<u8>, day: &i32)
     requires room { HasRoom to.old MAX_DAY_CELL }
-    requires range { IsDay day }
-    ensures { Appended to.old to.new (cell (day_text day)) MAX_DAY_CELL }
+    requires range { IsDay day.now }
+    ensures { Appended to.old to.new (cell (day_text day.now)) MAX_DAY_CELL }
 {
-    append_day(to, day);
+    append_day(to, *day);
     append(to, b",");
 }
 

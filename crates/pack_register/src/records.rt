@@ -58,7 +58,7 @@ fn push_origin(to: &mut Vec<u8>, pack: &PackView)
     push_text(to, pack.batch.as_bytes());
     push_text(to, pack.product.as_bytes());
     push_count(to, u32::from(pack.lane));
-    push_day(to, pack.day);
+    push_day(to, &pack.day);
 }
 
 // Appends what a pack weighs.
