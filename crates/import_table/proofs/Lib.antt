@@ -1,2 +1,2 @@
 mod ImportSteps
-mod ScriptLines
+mod FieldPlaces

@@ -1,11 +1,11 @@
 -- Counts, days and masses are written without quotes.
-use Rattle.std.proofs.Common.{inl, inr, ◌≡◌, ◌==◌, ◌||◌, ◌∙◌, ◌++◌, ◌+◌, ◌/◌, ◌%◌, ◌∷◌, [], ℕ, zero, suc, ℤ, pos, negsuc, List, Bool, true, false, refl, arith, unsigned_abs, decimal}
+use Rattle.std.proofs.Common.{inl, inr, ◌≡◌, ◌==◌, ◌++◌, ◌+◌, ◌/◌, ◌%◌, ◌∷◌, [], ℕ, zero, suc, ℤ, pos, negsuc, List, false, refl, arith, unsigned_abs, decimal}
 use Rattle.std.proofs.lemmas.Bool.{cases_Bool}
 use Rattle.std.proofs.lemmas.Bool.Decides.{nat_tests}
 use Rattle.std.proofs.lemmas.List.Folds.{list_any-append}
 use Rattle.std.specs.List.{list_any}
 use Rattle.std.specs.Fmt.{digits, digits_onto, digit_glyph}
-use Rattle.std.specs.Prelude.{nat_lt, if◌then◌else◌}
+use Rattle.std.specs.Prelude.{nat_lt}
 use Rattle.csv.specs.Writing.{default_writer, needs_byte, field_text}
 use Rattle.hall_units.specs.Days.{YearMonthDay, date_after, date_text, four_digits, two_digits, day_text}
 use Rattle.hall_units.specs.Grams.{gram_text, sign_text, three_digits}

@@ -8,7 +8,7 @@ use Rattle.hall_units.specs.Grams.{gram_text}
 use Rattle.book_words.specs.Names.{bytes_of}
 use Rattle.book_words.specs.declared.views.PackView.{PackView}
 use Rattle.batch_reports.specs.Texts.{class_text, signal_text, pile_text}
-use Rattle.pack_register.specs.Register.{columns, record_text}
+use Rattle.pack_register.specs.Register.{record_text}
 use Rattle.pack_register.specs.Parts.{cell, origin_text, masses_text, found_text}
 
 -- ten texts with commas between them and an LF, in three parts

@@ -1,6 +1,6 @@
 use Rattle.std.proofs.Common.{◌≡◌, length, sym, rules, arith}
 use Rattle.csv.specs.Records.{fields_of}
-use Rattle.import_table.proofs.ScriptLines.{field_there, three_are}
+use Rattle.import_table.proofs.FieldPlaces.{field_there, three_are}
 use Rattle.import_table.proofs.fields.three_fields.Goals as goal
 
 pub returns-in_err-desk : goal.returns-in_err-desk
