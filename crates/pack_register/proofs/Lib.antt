@@ -1,3 +1,4 @@
 mod Escapes
 mod PlainFields
+mod ReadBack
 mod RecordParts

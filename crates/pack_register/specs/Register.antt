@@ -10,6 +10,12 @@ use Rattle.book_words.specs.declared.views.PackView.{PackView}
 use Rattle.batch_reports.specs.Texts.{class_text, signal_text, pile_text}
 
 -- the names of the columns
+abbrev pub column_names : List (List ℕ)
+column_names =
+    codes "pack" ∷ codes "batch" ∷ codes "product" ∷ codes "lane" ∷ codes "day" ∷ codes "gross"
+    ∷ codes "net" ∷ codes "class" ∷ codes "signal" ∷ codes "pile" ∷ []
+
+-- the header: these names
 abbrev pub header_text : List ℕ
 header_text = codes "pack,batch,product,lane,day,gross,net,class,signal,pile\n"
 

@@ -1,7 +1,7 @@
 use Rattle.std.proofs.Common.{◌≡◌, ◌++◌, drop}
 use Rattle.std.specs.List.{flat_map}
 use Rattle.pack_register.specs.Register.{register_text, record_text}
-use Rattle.pack_register.proofs.table.register.Given as goal
+use Rattle.pack_register.proofs.table.write_register.Given as goal
 
 -- what was written so far, and the records of the packs that are left, are the register
 abbrev pub invariant-loop-pack : goal.invariant-loop-pack
