@@ -15,11 +15,11 @@ records_read : (packs : List PackView)
 unfolding Reached record_text
 records_read [] = (refl, refl)
 records_read (pack ∷ packs) = (
-    (columns pack, StartRecord, flat_map record_text packs),
-    read-write (columns pack) (flat_map record_text packs),
-    refl,
-    records_read packs,
-  )
+  (columns pack, StartRecord, flat_map record_text packs),
+  read-write (columns pack) (flat_map record_text packs),
+  refl,
+  records_read packs,
+)
 
 -- the header is a record of the names, and no byte order mark
 header_is : (rest : List ℕ)
@@ -34,22 +34,22 @@ header_read rest =
     subst (λ (text : List ℕ). next_record default_config StartRecord [] [] text ≡ Some (column_names, StartRecord, rest))
     (header_is rest) (read-write column_names rest)
 
+next_none : next_record default_config StartRecord [] [] [] ≡ None
+unfolding next_record
+next_none = refl
+
 pub reads_back : (packs : List PackView)
     → AreRecords default_config StartRecord (strip_bom (register_text packs))
     (column_names ∷ map columns packs)
 unfolding Reached
 reads_back packs = (
-    StartRecord,
-    [],
-    (
-      (column_names, StartRecord, flat_map record_text packs),
-      header_read (flat_map record_text packs),
-      refl,
-      records_read packs,
-    ),
-    next_none,
-  )
-  where
-    next_none : next_record default_config StartRecord [] [] [] ≡ None
-    unfolding next_record
-    next_none = refl
+  StartRecord,
+  [],
+  (
+    (column_names, StartRecord, flat_map record_text packs),
+    header_read (flat_map record_text packs),
+    refl,
+    records_read packs,
+  ),
+  next_none,
+)
