@@ -1,2 +1,3 @@
 mod ImportSteps
 mod FieldPlaces
+mod WorkedImports

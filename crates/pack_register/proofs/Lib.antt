@@ -2,3 +2,4 @@ mod Escapes
 mod PlainFields
 mod ReadBack
 mod RecordParts
+mod WorkedTexts
