@@ -1,7 +1,7 @@
 -- What the kit's `csv` reads in a register.
-use Rattle.std.proofs.Common.{◌≡◌, ◌++◌, ◌∷◌, [], ℕ, List, Some, None, map, refl, sym, subst}
+use Rattle.std.proofs.Common.{◌≡◌, ◌++◌, ◌∷◌, [], ℕ, List, Some, None, map, refl, subst}
 use Rattle.std.specs.List.{flat_map}
-use Rattle.csv.specs.Machine.{Read, next_record}
+use Rattle.csv.specs.Machine.{next_record}
 use Rattle.csv.specs.Reading.{AreRecords, Reached, default_config, strip_bom}
 use Rattle.csv.specs.Writing.{default_writer, fields_text, is_blank, row_text}
 use Rattle.csv.specs.declared.parser.State.TheVariants.{StartRecord}
