@@ -15,6 +15,7 @@ mod verdicts;
 mod words;
 
 pub use answers::{TEXT_ROOM, answer_text};
-pub use pieces::{append, append_count, append_number};
+pub use pieces::{append, append_count, append_day, append_grams, append_number};
 pub use refusals::{MAX_KEPT, MAX_LEAD, push_kept, refusal_text};
 pub use verdicts::{MAX_VERDICT, push_verdict};
+pub use words::{class_word, pile_word, signal_words};

@@ -1,0 +1,3 @@
+mod ImportSteps
+mod FieldPlaces
+mod WorkedImports

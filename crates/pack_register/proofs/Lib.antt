@@ -1,0 +1,5 @@
+mod Escapes
+mod PlainFields
+mod ReadBack
+mod RecordParts
+mod WorkedTexts
