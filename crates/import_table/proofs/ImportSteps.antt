@@ -28,9 +28,14 @@ none_of : (count : ℕ) (next : Option Read) (fields : List (List ℕ)) (state :
 none_of count None fields state rest is = refl
 none_of count (Some read) fields state rest is = cc is.0
 
+-- whether a record follows in this state and before these bytes, and what it leaves
+abbrev pub Finds : State → List ℕ → Bool → List (List ℕ) → State → List ℕ → Type 0
+Finds state bytes found fields state2 rest =
+    NextIs (next_record default_config state [] [] bytes) found fields state2 rest
+
 pub one_more : (count : ℕ) (state : State) (bytes : List ℕ) (fields : List (List ℕ))
     (state2 : State) (rest : List ℕ)
-    → NextIs (next_record default_config state [] [] bytes) true fields state2 rest
+    → Finds state bytes true fields state2 rest
     → records_from default_config (suc count) state bytes
     ≡ fields ∷ records_from default_config count state2 rest
 unfolding records_from
@@ -39,7 +44,7 @@ one_more count state bytes fields state2 rest is =
 
 pub none_more : (count : ℕ) (state : State) (bytes : List ℕ) (fields : List (List ℕ))
     (state2 : State) (rest : List ℕ)
-    → NextIs (next_record default_config state [] [] bytes) false fields state2 rest
+    → Finds state bytes false fields state2 rest
     → records_from default_config (suc count) state bytes ≡ []
 unfolding records_from
 none_more count state bytes fields state2 rest is =
@@ -57,7 +62,7 @@ left_at number state bytes =
 
 pub reads_none : (number : ℕ) (state : State) (bytes : List ℕ) (fields : List (List ℕ))
     (state2 : State) (rest : List ℕ) → number ≤ LAST_RECORD + 1
-    → NextIs (next_record default_config state [] [] bytes) false fields state2 rest
+    → Finds state bytes false fields state2 rest
     → left_at number state bytes ≡ at_end
 reads_none number state bytes fields state2 rest within is =
     ap (read_records number)
@@ -66,7 +71,7 @@ reads_none number state bytes fields state2 rest within is =
 
 reads_one : (number : ℕ) (state : State) (bytes : List ℕ) (fields : List (List ℕ))
     (state2 : State) (rest : List ℕ) → number ≤ LAST_RECORD + 1
-    → NextIs (next_record default_config state [] [] bytes) true fields state2 rest
+    → Finds state bytes true fields state2 rest
     → left_at number state bytes
     ≡ read_records number (fields
     ∷ records_from default_config (LAST_RECORD + 2 - (number + 1)) state2 rest)
@@ -78,7 +83,7 @@ reads_one number state bytes fields state2 rest within is =
 -- a record by which there are too many
 pub reads_too_many : (number : ℕ) (state : State) (bytes : List ℕ) (fields : List (List ℕ))
     (state2 : State) (rest : List ℕ) → number ≤ LAST_RECORD + 1
-    → NextIs (next_record default_config state [] [] bytes) true fields state2 rest
+    → Finds state bytes true fields state2 rest
     → LAST_RECORD < number → left_at number state bytes ≡ stopped TooMany
 reads_too_many number state bytes fields state2 rest within is many =
     let over : nat_le number LAST_RECORD ≡ false = grind (arith, nat_tests) in
@@ -87,7 +92,7 @@ reads_too_many number state bytes fields state2 rest within is many =
 -- a record that is a command, or bad
 pub reads_command : (number : ℕ) (state : State) (bytes : List ℕ) (fields : List (List ℕ))
     (state2 : State) (rest : List ℕ) (command : Option Command) → number ≤ LAST_RECORD + 1
-    → NextIs (next_record default_config state [] [] bytes) true fields state2 rest
+    → Finds state bytes true fields state2 rest
     → number ≤ LAST_RECORD → command ≡ command_in fields
     → left_at number state bytes ≡ read_record number command (left_at (number + 1) state2 rest)
 reads_command number state bytes fields state2 rest command within is few asked =
@@ -106,11 +111,11 @@ pub first_read : (reader : Reader (Bor (List ℕ))) (bytes : List ℕ) (found to
     (fields : List (List ℕ)) (state : State) (rest : List ℕ)
     → reader_state reader ≡ StartRecord → left reader ≡ strip_bom bytes → found ≡ told
     → NextIs (next_in reader) found fields state rest
-    → NextIs (next_record default_config StartRecord [] [] (strip_bom bytes)) told fields state rest
+    → Finds StartRecord (strip_bom bytes) told fields state rest
 first_read reader bytes found told fields state rest starts all is next =
-    subst (λ (s : State). NextIs (next_record default_config s [] [] (strip_bom bytes)) told fields state rest)
+    subst (λ (s : State). Finds s (strip_bom bytes) told fields state rest)
     starts
-    (subst (λ (b : List ℕ). NextIs (next_record default_config (reader_state reader) [] [] b) told fields state rest)
+    (subst (λ (b : List ℕ). Finds (reader_state reader) b told fields state rest)
     all (with_found (next_in reader) found told fields state rest is next))
 
 pub too_long : (bytes : List ℕ) → MAX_IMPORT < length bytes → import_in bytes ≡ stopped (Bad 0)
@@ -132,7 +137,7 @@ all_records = omega arith
 
 pub no_header : (bytes : List ℕ) (fields : List (List ℕ)) (state : State) (rest : List ℕ)
     → length bytes ≤ MAX_IMPORT
-    → NextIs (next_record default_config StartRecord [] [] (strip_bom bytes)) false fields state rest
+    → Finds StartRecord (strip_bom bytes) false fields state rest
     → import_in bytes ≡ stopped (Bad 1)
 no_header bytes fields state rest short is =
     short_enough bytes short ∙ ap read_table
@@ -141,7 +146,7 @@ no_header bytes fields state rest short is =
 
 with_header : (bytes : List ℕ) (fields : List (List ℕ)) (state : State) (rest : List ℕ)
     → length bytes ≤ MAX_IMPORT
-    → NextIs (next_record default_config StartRecord [] [] (strip_bom bytes)) true fields state rest
+    → Finds StartRecord (strip_bom bytes) true fields state rest
     → import_in bytes
     ≡ read_table (fields ∷ records_from default_config (MAX_RECORDS + 1) state rest)
 with_header bytes fields state rest short is =
@@ -151,14 +156,14 @@ with_header bytes fields state rest short is =
 
 pub other_header : (bytes : List ℕ) (fields : List (List ℕ)) (state : State) (rest : List ℕ)
     → length bytes ≤ MAX_IMPORT
-    → NextIs (next_record default_config StartRecord [] [] (strip_bom bytes)) true fields state rest
+    → Finds StartRecord (strip_bom bytes) true fields state rest
     → is_header fields ≡ false → import_in bytes ≡ stopped (Bad 1)
 other_header bytes fields state rest short is other =
     with_header bytes fields state rest short is ∙ rw other refl
 
 pub right_header : (bytes : List ℕ) (fields : List (List ℕ)) (state : State) (rest : List ℕ)
     → length bytes ≤ MAX_IMPORT
-    → NextIs (next_record default_config StartRecord [] [] (strip_bom bytes)) true fields state rest
+    → Finds StartRecord (strip_bom bytes) true fields state rest
     → is_header fields ≡ true → left_at 2 state rest ≡ import_in bytes
 right_header bytes fields state rest short is right =
     sym (with_header bytes fields state rest short is ∙ rw right refl)

@@ -135,7 +135,7 @@ static BAD: [Row; 24] = [
         Some(2),
     ),
     (
-        b"desk,request,command\n101,1,day 2025-03-03\n\n101,2,day 2025-03-03\n#\n101,3,day 2025-03-03\n",
+        b"desk,request,command\n101,1,day 2025-03-03\n\n101,2,day 2025-03-03\n#\n101,3,x\n",
         &[(101, 1, MONDAY), (101, 2, MONDAY)],
         Some(4),
     ),

@@ -46,7 +46,9 @@ onto_plain (suc places) number field plain =
     cons_plain (digit_glyph false (number % 10)) field (glyph_plain (number % 10)) plain in
     elim (cases_Bool (number / 10 == 0)) [
       | inl last ↦ rw last more
-      | inr longer ↦ rw longer (onto_plain places (number / 10) (digit_glyph false (number % 10) ∷ field) more)
+      | inr longer ↦
+          let digits_so_far : List ℕ = digit_glyph false (number % 10) ∷ field in
+          rw longer (onto_plain places (number / 10) digits_so_far more)
     ]
 
 pub decimal_plain : (number : ℕ) → IsPlain (decimal number)

@@ -11,7 +11,8 @@ use Rattle.pack_register.specs.Register.{column_names, columns, header_text, rec
 
 -- the records behind the header
 records_read : (packs : List PackView)
-    → Reached default_config StartRecord (flat_map record_text packs) (map columns packs) StartRecord []
+    → Reached default_config StartRecord (flat_map record_text packs) (map columns packs)
+    StartRecord []
 unfolding Reached record_text
 records_read [] = (refl, refl)
 records_read (pack ∷ packs) = (
@@ -27,12 +28,13 @@ header_is : (rest : List ℕ)
 unfolding strip_bom fields_text is_blank
 header_is rest = refl
 
-header_read : (rest : List ℕ)
-    → next_record default_config StartRecord [] [] (strip_bom (header_text ++ rest))
-    ≡ Some (column_names, StartRecord, rest)
-header_read rest =
-    subst (λ (text : List ℕ). next_record default_config StartRecord [] [] text ≡ Some (column_names, StartRecord, rest))
-    (header_is rest) (read-write column_names rest)
+-- a text whose first record has the names
+abbrev ReadsNames : List ℕ → List ℕ → Type 0
+ReadsNames rest text =
+    next_record default_config StartRecord [] [] text ≡ Some (column_names, StartRecord, rest)
+
+header_read : (rest : List ℕ) → ReadsNames rest (strip_bom (header_text ++ rest))
+header_read rest = subst (ReadsNames rest) (header_is rest) (read-write column_names rest)
 
 next_none : next_record default_config StartRecord [] [] [] ≡ None
 unfolding next_record

@@ -33,7 +33,16 @@ one_pack : register_text (pack_six ∷ []) ≡
 unfolding record_text fields_text is_blank digits gram_text day_text date_after
 one_pack = refl
 
-quoted_names : record_text (record pack_six { batch = name_with (codes "a,b") refl; product = name_with (codes "\"") refl; signal = Reject cause.Held; pile = Rejected }) ≡
+-- the same with other names, and rejected
+abbrev quoted_pack : PackView
+quoted_pack = record pack_six {
+  batch = name_with (codes "a,b") refl;
+  product = name_with (codes "\"") refl;
+  signal = Reject cause.Held;
+  pile = Rejected;
+}
+
+quoted_names : record_text quoted_pack ≡
     codes "6,\"a,b\",\"\"\"\",1,1970-01-02,243.000,231.000,inadequate,reject held,rejected\n"
 unfolding record_text fields_text is_blank escaped digits gram_text day_text date_after
 quoted_names = refl

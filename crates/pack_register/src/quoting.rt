@@ -1,6 +1,7 @@
 ghost use Rattle.std.specs.Prelude.{◌≡◌, ◌≤◌, ◌*◌, ◌∷◌, [], length};
 ghost use Rattle.batch_reports.specs.Appending.{HasRoom, Appended};
-ghost use Rattle.csv.specs.Writing.{default_writer, needs_byte, needs_quotes, escaped, quoted, field_text};
+ghost use Rattle.csv.specs.Writing.{default_writer, field_text, needs_byte, needs_quotes};
+ghost use Rattle.csv.specs.Writing.{escaped, quoted};
 
 use batch_reports::append;
 use hall_limits::NAME_BYTES;

@@ -46,12 +46,13 @@ pub returns : goal.returns
 returns c =
     let one : c.in_ok-found.found ≡ true = search rules in
     let few : c.args.records.now.number ≤ LAST_RECORD = search rules in
+    let asked = sym c.in-Some.is ∙ c.in_ok-command.ensures in
     let before = c.args.records.now.reader in
     let after = c.read_fields.new.reader in
     let fields = fields_of c.read_fields.new.row in (
       reads_command c.args.records.now.number (reader_state before) (left before) fields
           (reader_state after) (left after) (Some c.in-Some.command) c.requires.number
           (with_found (next_in before) c.in_ok-found.found true fields (reader_state after)
-          (left after) one c.in_ok-found.ensures.read) few (sym c.in-Some.is ∙ c.in_ok-command.ensures),
+          (left after) one c.in_ok-found.ensures.read) few asked,
       record { opened = c.in_ok-found.ensures.open; number = omega arith },
     )
