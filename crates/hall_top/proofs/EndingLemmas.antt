@@ -76,7 +76,8 @@ module _ {S : Type 0} (book : BookState) (call : Call S) where
       }
 
 -- it touches no disk, and the store is as it was
-pub whole_counts : (T : Type 0) (before now : Stream) (rows count : ℕ) (stop : Stop) → SaysWhole before now rows stop → CountsStep {T = T} count count (Err stop)
+pub whole_counts : (T : Type 0) (before now : Stream) (rows count : ℕ) (stop : Stop)
+    → SaysWhole before now rows stop → CountsStep {T = T} count count (Err stop)
 whole_counts T before now rows count Finished says = refl
 whole_counts T before now rows count WriteFault says = refl
 whole_counts T before now rows count (BadLine number) says = absurd says
@@ -86,7 +87,8 @@ whole_counts T before now rows count NoMemory says = absurd says
 whole_counts T before now rows count Spent says = absurd says
 
 -- a run whose last text was cut
-goes_cut : {D : Type 0} (g : disk.Ghosts D) (old new : Store D) → RunGoes g Finished old new → RunGoes g WriteFault old new
+goes_cut : {D : Type 0} (g : disk.Ghosts D) (old new : Store D) → RunGoes g Finished old new
+    → RunGoes g WriteFault old new
 goes_cut g old new goes =
     record {
       limit = goes.limit;
@@ -99,7 +101,9 @@ goes_cut g old new goes =
       snapshot = λ is. absurd (cc);
     }
 
-whole_goes : {D : Type 0} (g : disk.Ghosts D) (before now : Stream) (rows : ℕ) (old new : Store D) (stop : Stop) → SaysWhole before now rows stop → RunGoes g Finished old new → RunGoes g stop old new
+whole_goes : {D : Type 0} (g : disk.Ghosts D) (before now : Stream) (rows : ℕ) (old new : Store D)
+    (stop : Stop) → SaysWhole before now rows stop → RunGoes g Finished old new
+    → RunGoes g stop old new
 whole_goes g before now rows old new Finished says goes = goes
 whole_goes g before now rows old new WriteFault says goes = goes_cut g old new goes
 whole_goes g before now rows old new (BadLine number) says goes = absurd says
@@ -109,14 +113,23 @@ whole_goes g before now rows old new NoMemory says goes = absurd says
 whole_goes g before now rows old new Spent says goes = absurd says
 
 -- a migration and its last line
-pub migrated_goes : {D : Type 0} (g : disk.Ghosts D) (before now : Stream) (rows : ℕ) (old new : Store D) (was stop : Stop) → SaysMigration before now rows was stop → RunGoes g was old new → RunGoes g stop old new
-migrated_goes g before now rows old new Finished stop ends goes = whole_goes g before now rows old new stop ends goes
-migrated_goes g before now rows old new (BadLine number) stop ends goes = subst (λ (s : Stop). RunGoes g s old new) (sym ends.0) goes
-migrated_goes g before now rows old new ReadFault stop ends goes = subst (λ (s : Stop). RunGoes g s old new) (sym ends.0) goes
-migrated_goes g before now rows old new WriteFault stop ends goes = subst (λ (s : Stop). RunGoes g s old new) (sym ends.0) goes
-migrated_goes g before now rows old new (DiskFault offer) stop ends goes = subst (λ (s : Stop). RunGoes g s old new) (sym ends.0) goes
-migrated_goes g before now rows old new NoMemory stop ends goes = subst (λ (s : Stop). RunGoes g s old new) (sym ends.0) goes
-migrated_goes g before now rows old new Spent stop ends goes = subst (λ (s : Stop). RunGoes g s old new) (sym ends.0) goes
+pub migrated_goes : {D : Type 0} (g : disk.Ghosts D) (before now : Stream) (rows : ℕ)
+    (old new : Store D) (was stop : Stop) → SaysMigration before now rows was stop
+    → RunGoes g was old new → RunGoes g stop old new
+migrated_goes g before now rows old new Finished stop ends goes = whole_goes g before now rows old
+    new stop ends goes
+migrated_goes g before now rows old new (BadLine number) stop ends goes = subst (λ
+    (s : Stop). RunGoes g s old new) (sym ends.0) goes
+migrated_goes g before now rows old new ReadFault stop ends goes = subst (λ
+    (s : Stop). RunGoes g s old new) (sym ends.0) goes
+migrated_goes g before now rows old new WriteFault stop ends goes = subst (λ
+    (s : Stop). RunGoes g s old new) (sym ends.0) goes
+migrated_goes g before now rows old new (DiskFault offer) stop ends goes = subst (λ
+    (s : Stop). RunGoes g s old new) (sym ends.0) goes
+migrated_goes g before now rows old new NoMemory stop ends goes = subst (λ
+    (s : Stop). RunGoes g s old new) (sym ends.0) goes
+migrated_goes g before now rows old new Spent stop ends goes = subst (λ
+    (s : Stop). RunGoes g s old new) (sym ends.0) goes
 
 -- ---- the status
 
@@ -294,14 +307,21 @@ module _ (ending : Ending) (log : LogView) (before now : Stream) (status : ℕ) 
 -- ---- the words
 
 -- words that ask for this ask for nothing else
-pub same_wanted : {S D : Type 0} (g : disk.Ghosts D) (words : Option Wanted) (said wanted : Wanted) (before : D) (outcome : Outcome D) (call : Call S) → words ≡ Some said → words ≡ Some wanted
+pub same_wanted : {S D : Type 0} (g : disk.Ghosts D) (words : Option Wanted)
+    (said wanted : Wanted) (before : D) (outcome : Outcome D) (call : Call S) → words ≡ Some said
+    → words ≡ Some wanted
     → EndsAs g said before outcome call → EndsAs g wanted before outcome call
-same_wanted g words said wanted before outcome call is asked ends = subst (λ (w : Wanted). EndsAs g w before outcome call) (some_same said wanted (sym is ∙ asked)) ends
+same_wanted g words said wanted before outcome call is asked ends = subst (λ
+    (w : Wanted). EndsAs g w before outcome call) (some_same said wanted (sym is ∙ asked)) ends
   where
     some_same : (a b : Wanted) → Some a ≡ Some b → a ≡ b
     some_same a b same = cc
 
 -- and a call with right words doesn't end as one with wrong words
-pub ends_otherwise : {S D : Type 0} (g : disk.Ghosts D) (wanted : Wanted) (before : D) (outcome : Outcome D) (call : Call S) → EndsAs g wanted before outcome call → outcome.ending ≡ Usage → ⊥
-ends_otherwise g wanted before outcome call (inl opened) is = absurd (let same : Stopped opened.stop ≡ Usage = sym opened.ending ∙ is in cc)
-ends_otherwise g wanted before outcome call (inr unopened) is = absurd (let same : Unopened unopened.why ≡ Usage = sym unopened.ending ∙ is in cc)
+pub ends_otherwise : {S D : Type 0} (g : disk.Ghosts D) (wanted : Wanted) (before : D)
+    (outcome : Outcome D) (call : Call S) → EndsAs g wanted before outcome call
+    → outcome.ending ≡ Usage → ⊥
+ends_otherwise g wanted before outcome call (inl opened) is = absurd
+    (let same : Stopped opened.stop ≡ Usage = sym opened.ending ∙ is in cc)
+ends_otherwise g wanted before outcome call (inr unopened) is = absurd
+    (let same : Unopened unopened.why ≡ Usage = sym unopened.ending ∙ is in cc)

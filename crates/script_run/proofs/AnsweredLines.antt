@@ -268,7 +268,8 @@ stops_after book old_left before old now rows lines number line stop first stops
 -- ---- a run stops at a line, where all before it is answered
 
 -- nothing was answered and nothing went out
-pub told_none : (book left : BookState) (now : Outside) → left ≡ book → AreTold book now now left.entries []
+pub told_none : (book left : BookState) (now : Outside) → left ≡ book
+    → AreTold book now now left.entries []
 told_none book left now same =
     record {
       wrote = wrote_nothing now.output;

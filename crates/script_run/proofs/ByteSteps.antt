@@ -113,7 +113,8 @@ stops_there book before old now taken run rows said line stop stands is stops =
 abbrev pub stops_at_line : (book : BookState) (before old now : Outside) (taken : List ℕ)
     (run : RunState) (rows : List Entry) (said line : Line) (stop : Stop) (judged : List ℕ)
     → Reached book before old taken run
-    → lines_of (lane_count before) judged ≡ ended_lines_of (lane_count before) taken ++ line ∷ [] → said ≡ line
+    → lines_of (lane_count before) judged ≡ ended_lines_of (lane_count before) taken ++ line ∷ []
+    → said ≡ line
     → StopsAtLine run.book old now rows [] (run.feed.ended + 1) said stop
     → StopsInScript book before now rows stop judged
 stops_at_line book before old now taken run rows said line stop judged stands last is stops =

@@ -41,7 +41,8 @@ events-append book (Bad ∷ lines) more (event ∷ events) later are then = absu
 pub after_events-append : (book : BookState) (events more : List Event)
     → after_events book (events ++ more) ≡ after_events (after_events book events) more
 after_events-append book [] more = refl
-after_events-append book (event ∷ events) more = after_events-append (after_event book event) events more
+after_events-append book (event ∷ events) more = after_events-append
+    (after_event book event) events more
 
 pub texts-append : (events more : List Event) → texts (events ++ more) ≡ texts events ++ texts more
 texts-append events more = flat_map-append text_of events more

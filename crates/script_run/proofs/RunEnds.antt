@@ -426,11 +426,13 @@ module _ {S : Type 0} (book left : BookState) (before now : Devices S) (old : Ou
     (still : HaveToldWorks old now.outside []) where
   left_whole : AreLeft book whole.answered.events rows
   left_whole = are_left book whole.answered.events rows
-      (lines_done book (lines_of (lane_count before.outside) script) whole.answered.events whole.answered.right)
+      (lines_done book (lines_of (lane_count before.outside) script) whole.answered.events
+      whole.answered.right)
       (same ∙ ap (λ (b : BookState). b.entries) whole.answered.left)
 
   worked_whole : HaveToldWorks before.outside now.outside whole.answered.events
-  worked_whole = works_still before.outside old now.outside whole.answered.events whole.answered.worked still
+  worked_whole = works_still before.outside old now.outside whole.answered.events
+      whole.answered.worked still
 
   early : (stop : Stop) → StopsAtSummary opened old.output now.outside.output left.entries [] stop
       → StopsAtEnd book (call_from before now rows) stop
@@ -465,7 +467,8 @@ module _ {S : Type 0} (book left : BookState) (before now : Devices S) (old : Ou
           right = whole.answered.right;
           wrote = subst (λ (b : BookState). WroteAll before.outside.output now.outside.output
               (texts whole.answered.events ++ summary_text (summary b.entries))) whole.answered.left
-              (wrote_on before.outside.output old.output now.outside.output (texts whole.answered.events)
+              (wrote_on before.outside.output old.output now.outside.output
+              (texts whole.answered.events)
               (summary_text (summary left.entries)) whole.answered.wrote wrote);
           worked = worked_whole;
           rows_left = left_whole;

@@ -17,7 +17,8 @@ use Rattle.script_run.proofs.ByteSteps.{lanes_stay, stops_at_line}
 
 -- a good last line is answered; where none has begun there is nothing to answer
 pub whole_last : (book left : BookState) (before old now : Outside) (taken : List ℕ) (run : RunState)
-    (said : Line) → Reached book before old taken run → said ≡ last_line_of (lane_count old) run.feed.begun
+    (said : Line) → Reached book before old taken run → said ≡ last_line_of
+    (lane_count old) run.feed.begun
     → is_good said ≡ true
     → HasAnswered run.book old now left (said ∷ []) → IsWholeSoFar book before now taken left
 whole_last book left before old now taken run said stands says is answered =

@@ -45,15 +45,19 @@ lines_after lanes begun more = map (ended_line lanes) (ended_after begun more)
 
 -- the lines of a script that goes on
 pub lines_of-append : (lanes : ℕ) (taken more : List ℕ)
-    → lines_of lanes (taken ++ more) ≡ ended_lines_of lanes taken ++ lines_after lanes (rest_of taken) more
+    → lines_of lanes (taken ++ more) ≡ ended_lines_of lanes taken ++ lines_after lanes
+    (rest_of taken) more
 lines_of-append lanes taken more =
-    ap (λ ls. map (ended_line lanes) ls ++ map (last_line_of lanes) (last_line (rest_of (taken ++ more))))
+    ap (λ ls. map (ended_line lanes) ls ++ map (last_line_of lanes) (last_line (rest_of
+    (taken ++ more))))
     (ended_lines-append taken more)
     ∙ ap (λ begun. map (ended_line lanes) (ended_lines taken ++ ended_after (rest_of taken) more)
     ++ map (last_line_of lanes) (last_line begun)) (rest_of-append taken more)
-    ∙ ap (λ (ls : List Line). ls ++ map (last_line_of lanes) (last_line (rest_after (rest_of taken) more)))
+    ∙ ap (λ (ls : List Line). ls ++ map (last_line_of lanes) (last_line (rest_after
+    (rest_of taken) more)))
     (map-append (ended_line lanes) (ended_lines taken) (ended_after (rest_of taken) more))
-    ∙ append_assoc (ended_lines_of lanes taken) (map (ended_line lanes) (ended_after (rest_of taken) more)) _
+    ∙ append_assoc (ended_lines_of lanes taken) (map (ended_line lanes) (ended_after
+    (rest_of taken) more)) _
 
 -- what the ended lines say when the text goes on with bytes without an LF, and when an LF ends one
 -- more
@@ -75,14 +79,17 @@ line_ended lanes taken part more none =
     record {
       more = lines_after lanes [] more;
       parts = lines_of-append lanes (taken ++ (part ++ 10 ∷ [])) more
-          ∙ ap (λ begun. ended_lines_of lanes (taken ++ (part ++ 10 ∷ [])) ++ lines_after lanes begun more)
+          ∙ ap (λ begun. ended_lines_of lanes (taken ++ (part ++ 10 ∷ [])) ++ lines_after lanes
+          begun more)
           (rest_with_line taken part)
-          ∙ ap (λ (ls : List Line). ls ++ lines_after lanes [] more) (ended_of_line lanes taken part none)
+          ∙ ap (λ (ls : List Line). ls ++ lines_after lanes [] more)
+          (ended_of_line lanes taken part none)
           ∙ append_assoc (ended_lines_of lanes taken) (ended_line lanes (rest_of taken ++ part) ∷ [])
           (lines_after lanes [] more);
     }
 
-pub too_long : (lanes : ℕ) (line text : List ℕ) → MAX_LINE < length line → line_says (every_command lanes) line text ≡ Bad
+pub too_long : (lanes : ℕ) (line text : List ℕ) → MAX_LINE < length line → line_says
+    (every_command lanes) line text ≡ Bad
 too_long lanes line text long =
     let over : nat_le (length line) MAX_LINE ≡ false = grind (arith, nat_tests) in
     ap (λ (b : Bool). cond b (words_say (every_command lanes) (words_of text)) Bad) over
@@ -92,7 +99,8 @@ record BeginsBad (lines : List Line) : Type 0 where
   others : List Line
   parts : lines ≡ Bad ∷ others
 
-goes_bad : (lanes : ℕ) (begun more : List ℕ) → MAX_LINE < length begun → BeginsBad (lines_after lanes begun more)
+goes_bad : (lanes : ℕ) (begun more : List ℕ) → MAX_LINE < length begun → BeginsBad
+    (lines_after lanes begun more)
 goes_bad lanes begun [] long =
     record {
       others = [];
@@ -132,8 +140,10 @@ line_too_long lanes taken part more none long =
     }
 
 -- where no line has begun, those that have ended are all
-lines_ended : (lanes : ℕ) (taken : List ℕ) → rest_of taken ≡ [] → lines_of lanes taken ≡ ended_lines_of lanes taken
-lines_ended lanes taken none = ap (λ begun. ended_lines_of lanes taken ++ map (last_line_of lanes) (last_line begun))
+lines_ended : (lanes : ℕ) (taken : List ℕ) → rest_of taken ≡ []
+    → lines_of lanes taken ≡ ended_lines_of lanes taken
+lines_ended lanes taken none = ap (λ begun. ended_lines_of lanes taken ++ map (last_line_of lanes)
+    (last_line begun))
     none ∙ append-nil (ended_lines_of lanes taken)
 
 -- a last line that lacks its end
@@ -175,7 +185,8 @@ pub record LastLine (lanes : ℕ) (taken : List ℕ) : Type 0 where
   pub events : (book : BookState) (events : List Event)
       → AreEventsOf book (ended_lines_of lanes taken ++ last_line_of lanes (rest_of taken) ∷ []) events
       → AreEventsOf book (lines_of lanes taken) events
-  pub good : all_good (ended_lines_of lanes taken) ≡ true → is_good (last_line_of lanes (rest_of taken)) ≡ true
+  pub good : all_good (ended_lines_of lanes taken) ≡ true → is_good (last_line_of lanes
+      (rest_of taken)) ≡ true
       → all_good (lines_of lanes taken) ≡ true
 
 last_line_at : (lanes : ℕ) (taken rest : List ℕ) → rest_of taken ≡ rest → LastLine lanes taken

@@ -28,7 +28,8 @@ not_both good is isnt = absurd (cc)
 
 -- a run of a good script stops in no other way
 module _ {S : Type 0} (book : BookState) (call : Call S) (script : List ℕ)
-    (told : call.before.input.bytes ≡ Some script) (good : all_good (lines_of (lane_count call.before.outside) script) ≡ true)
+    (told : call.before.input.bytes ≡ Some script) (good : all_good (lines_of
+    (lane_count call.before.outside) script) ≡ true)
     (short : length script < MAX_READS)
     (input_calm : Calm call.before.input.faults call.now.input.faults)
     (output_calm : Calm call.before.outside.output.faults call.now.outside.output.faults) where
@@ -40,10 +41,12 @@ module _ {S : Type 0} (book : BookState) (call : Call S) (script : List ℕ)
   by_stop (BadLine number) explains =
       absurd (not_both (all_good (lines_of (lane_count call.before.outside) script)) good
       (subst (λ (left : Option (List ℕ)). IfSome left
-      (λ script. all_good (lines_of (lane_count call.before.outside) script) ≡ false)) told explains.cause))
+      (λ script. all_good (lines_of (lane_count call.before.outside) script) ≡ false)) told
+      explains.cause))
   by_stop ReadFault explains = calm_counts_none call.before.input.faults call.now.input.faults 0
       input_calm explains.cause
-  by_stop WriteFault explains = calm_counts_none call.before.outside.output.faults call.now.outside.output.faults 0
+  by_stop WriteFault explains = calm_counts_none call.before.outside.output.faults
+      call.now.outside.output.faults 0
       output_calm explains.cause
   by_stop Spent explains =
       absurd (omega (

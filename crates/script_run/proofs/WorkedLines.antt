@@ -85,7 +85,8 @@ module _ {L : Type 0} (state : L → LaneState) (book left : BookState) (lanes :
           cut = record {
             cut = cut;
             worked = record { worked = have_worked output now; said = said };
-            rows_left = are_left book (Worked (job_of lane worked.work end) ∷ []) left.entries (worked.works.numbers, tt)
+            rows_left = are_left book (Worked (job_of lane worked.work end) ∷ []) left.entries
+                (worked.works.numbers, tt)
                 (ap (λ (b : BookState). b.entries) worked.left);
           };
         }
@@ -113,7 +114,8 @@ module _ {L : Type 0} (state : L → LaneState) (book left : BookState) (lanes :
           wrote = wrote_nothing output;
           worked = have_worked output output;
           unsaid = unsaid;
-          rows_left = are_left book (Worked (job_of lane worked.work end) ∷ []) left.entries (worked.works.numbers, tt)
+          rows_left = are_left book (Worked (job_of lane worked.work end) ∷ []) left.entries
+              (worked.works.numbers, tt)
               (ap (λ (b : BookState). b.entries) worked.left);
         }
 
@@ -124,7 +126,8 @@ module _ {L : Type 0} (state : L → LaneState) (book left : BookState) (lanes :
         (Works lane batch) stop
     stops_work output line stop stops unsaid =
         by_stop stop (work_stopped output stop stops unsaid)
-        (job_stops book lane batch (job_of lane worked.work end) stop (subst (IsJobAt book lane batch (job_of lane worked.work end)) stops is_job))
+        (job_stops book lane batch (job_of lane worked.work end) stop (subst
+        (IsJobAt book lane batch (job_of lane worked.work end)) stops is_job))
       where
         by_stop : (stop : Stop)
             → IsWorkStopped book (outside output (map state lanes) was)

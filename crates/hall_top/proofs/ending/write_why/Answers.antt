@@ -12,12 +12,18 @@ returns-in-NotJournal-clause-cut g c = rw c.in-NotJournal.is c.write_numbered.en
 pub returns-in-Damaged-clause-wrote : goal.returns-in-Damaged-clause-wrote
 returns-in-Damaged-clause-wrote g c =
     let number : c.from.result ≡ c.in-Damaged.row = search rules in
-    rw c.in-Damaged.is (subst (λ (n : ℕ). OnOk c.write_numbered-in-Damaged.result (WroteAll (output_at g.K.Sink c.args.output.now) (output_at g.K.Sink c.write_numbered-in-Damaged.new.output) (damaged_row n))) number c.write_numbered-in-Damaged.ensures.wrote)
+    rw c.in-Damaged.is (subst (λ (n : ℕ). OnOk c.write_numbered-in-Damaged.result (WroteAll
+    (output_at g.K.Sink c.args.output.now) (output_at g.K.Sink
+    c.write_numbered-in-Damaged.new.output) (damaged_row n))) number
+    c.write_numbered-in-Damaged.ensures.wrote)
 
 pub returns-in-Damaged-clause-cut : goal.returns-in-Damaged-clause-cut
 returns-in-Damaged-clause-cut g c =
     let number : c.from.result ≡ c.in-Damaged.row = search rules in
-    rw c.in-Damaged.is (subst (λ (n : ℕ). OnErr c.write_numbered-in-Damaged.result (IsCutIn (output_at g.K.Sink c.args.output.now) (output_at g.K.Sink c.write_numbered-in-Damaged.new.output) [] (damaged_row n))) number c.write_numbered-in-Damaged.ensures.cut)
+    rw c.in-Damaged.is (subst (λ (n : ℕ). OnErr c.write_numbered-in-Damaged.result (IsCutIn
+    (output_at g.K.Sink c.args.output.now) (output_at g.K.Sink
+    c.write_numbered-in-Damaged.new.output) [] (damaged_row n))) number
+    c.write_numbered-in-Damaged.ensures.cut)
 
 pub returns-in-DiskFault-clause-wrote : goal.returns-in-DiskFault-clause-wrote
 returns-in-DiskFault-clause-wrote g c = rw c.in-DiskFault.is c.write_text.ensures.wrote

@@ -11,7 +11,8 @@ returns-clause-done g c =
     let before = devices g.S.Source c.args.input.now
     (outside_at g.K.Sink g.L.Cell g.L.Gate c.args.output.now c.args.lanes.now nothing_told) in
     let now = devices g.S.Source c.run_command-end.new.input
-    (outside_at g.K.Sink g.L.Cell g.L.Gate c.run_command-end.new.output c.run_command-end.new.lanes c.run_command-end.result.log.told) in
+    (outside_at g.K.Sink g.L.Cell g.L.Gate c.run_command-end.new.output c.run_command-end.new.lanes
+    c.run_command-end.result.log.told) in
     record {
       last = c.run_command-end.result.store;
       stop = c.run_command-end.result.stop;
@@ -20,5 +21,7 @@ returns-clause-done g c =
       rows = c.close-disk.ensures.rows;
       held = c.len-held.ensures;
       goes = c.run_command-end.ensures.goes;
-      explained = subst (λ (es : List Entry). ExplainsCommand c.args.command (stored_book c.args.store) (call_from before now es) c.run_command-end.result.stop) (sym c.close-disk.ensures.rows) c.run_command-end.ensures.explained;
+      explained = subst (λ (es : List Entry). ExplainsCommand c.args.command
+          (stored_book c.args.store) (call_from before now es) c.run_command-end.result.stop)
+          (sym c.close-disk.ensures.rows) c.run_command-end.ensures.explained;
     }

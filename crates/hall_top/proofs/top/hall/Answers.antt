@@ -37,7 +37,8 @@ returns-clause-usage g c = λ two.
           (outside_at g.K.Sink g.L.Cell g.L.Gate c.args.output.now ls nothing_told)
           (outside_at g.K.Sink g.L.Cell g.L.Gate c.do_words-outcome.new.output
           c.do_words-outcome.new.lanes outcome.log.told) outcome.rows))
-          c.deref_mut.ensures.value (c.do_words-outcome.ensures.usage (status_two outcome.ending outcome.log.told _ _
+          c.deref_mut.ensures.value (c.do_words-outcome.ensures.usage
+          (status_two outcome.ending outcome.log.told _ _
           c.say_last-status.result c.say_last-status.ensures two)));
       last = c.say_last-status.ensures;
     }

@@ -12,7 +12,8 @@ invariant-loop-more g l = record {
   read : HasReadOn (book_in l.fn.run.session) (devices g.S.Source l.fn.input
       (outside_at g.K.Sink g.L.Cell g.L.Gate l.fn.output l.fn.lanes (log_in l.fn.run.session)))
       (devices g.S.Source l.input
-      (outside_at g.K.Sink g.L.Cell g.L.Gate l.output l.lanes (log_in l.run.session))) l.reader (run_state l.run) l.more;
+      (outside_at g.K.Sink g.L.Cell g.L.Gate l.output l.lanes (log_in l.run.session))) l.reader
+      (run_state l.run) l.more;
   goes : Goes {T = ⊤} g.D.Disk (Ok tt) (store_in l.fn.run.session) (store_in l.run.session);
   ready : IsReady l.run.session;
   lanes : length l.lanes ≡ length l.fn.lanes;

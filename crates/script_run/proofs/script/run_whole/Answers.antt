@@ -13,7 +13,8 @@ returns-in-Ok-clause-explained g c =
     let has = c.in-Ok.ensures.whole in
     let left = c.read_all.new.run.session in
     explained_end (book_in c.args.run.session) (book_in left)
-    (devices g.S.Source c.args.input.now (outside_at g.K.Sink g.L.Cell g.L.Gate c.args.output.now c.args.lanes.now
+    (devices g.S.Source c.args.input.now (outside_at g.K.Sink g.L.Cell g.L.Gate c.args.output.now
+    c.args.lanes.now
     (log_in c.args.run.session)))
     (devices g.S.Source c.read_all.new.input
     (outside_at g.K.Sink g.L.Cell g.L.Gate c.finish.new.output c.read_all.new.lanes

@@ -13,9 +13,11 @@ pub returns-in_err-read-clause-explained : goal.returns-in_err-read-clause-expla
 returns-in_err-read-clause-explained g c = λ book before has most.
     let p = err_from_is_err_and c.from_residual.result c.from_residual.ensures.1 in
     rw (p.1, p.2) (explained_unread book before
-    (devices g.S.Source c.args.input.now (outside_at g.K.Sink g.L.Cell g.L.Gate c.args.output.now c.args.lanes.now
+    (devices g.S.Source c.args.input.now (outside_at g.K.Sink g.L.Cell g.L.Gate c.args.output.now
+    c.args.lanes.now
     (log_in c.args.run.now.session)))
-    (devices g.S.Source c.read.new.input (outside_at g.K.Sink g.L.Cell g.L.Gate c.args.output.now c.args.lanes.now
+    (devices g.S.Source c.read.new.input (outside_at g.K.Sink g.L.Cell g.L.Gate c.args.output.now
+    c.args.lanes.now
     (log_in c.args.run.now.session))) c.args.reader.now
     (run_state c.args.run.now) c.in_err-read.field-0.0
     has c.in_err-read.ensures.none most refl)
@@ -32,9 +34,11 @@ returns-in_err-finish_line-clause-explained g c = λ book before has most.
     let none : length c.read.new.self.piece ≡ 0 = search rules in
     let empty = nil_from_length c.read.new.self.piece none in
     rw (p.1, p.2) (explained_last book before
-    (devices g.S.Source c.args.input.now (outside_at g.K.Sink g.L.Cell g.L.Gate c.args.output.now c.args.lanes.now
+    (devices g.S.Source c.args.input.now (outside_at g.K.Sink g.L.Cell g.L.Gate c.args.output.now
+    c.args.lanes.now
     (log_in c.args.run.now.session)))
-    (devices g.S.Source c.read.new.input (outside_at g.K.Sink g.L.Cell g.L.Gate c.finish_line.new.output c.finish_line.new.lanes
+    (devices g.S.Source c.read.new.input (outside_at g.K.Sink g.L.Cell g.L.Gate
+    c.finish_line.new.output c.finish_line.new.lanes
     (log_in c.finish_line.new.self.session))) c.args.reader.now
     c.read.new.self
     (run_state c.args.run.now) (run_state c.finish_line.new.self) c.in_err-finish_line.field-0.0 has
@@ -53,9 +57,11 @@ returns-then-is_empty-clause-explained g c = λ book before has most.
     let none : length c.read.new.self.piece ≡ 0 = search rules in
     let empty = nil_from_length c.read.new.self.piece none in
     read_whole book (book_in c.finish_line.new.self.session) before
-    (devices g.S.Source c.args.input.now (outside_at g.K.Sink g.L.Cell g.L.Gate c.args.output.now c.args.lanes.now
+    (devices g.S.Source c.args.input.now (outside_at g.K.Sink g.L.Cell g.L.Gate c.args.output.now
+    c.args.lanes.now
     (log_in c.args.run.now.session)))
-    (devices g.S.Source c.read.new.input (outside_at g.K.Sink g.L.Cell g.L.Gate c.finish_line.new.output c.finish_line.new.lanes
+    (devices g.S.Source c.read.new.input (outside_at g.K.Sink g.L.Cell g.L.Gate
+    c.finish_line.new.output c.finish_line.new.lanes
     (log_in c.finish_line.new.self.session))) c.args.reader.now
     c.read.new.self
     (run_state c.args.run.now) has c.in_ok-read.ensures.takes empty
@@ -69,14 +75,17 @@ returns-in_err-take_piece-clause-explained g c = λ book before has most.
     let some : 0 < length c.read.new.self.piece = search rules in
     let stop = c.in_err-take_piece.field-0.0 in
     rw (p.1, p.2) (explained_after {T = ⊤} book before
-    (devices g.S.Source c.args.input.now (outside_at g.K.Sink g.L.Cell g.L.Gate c.args.output.now c.args.lanes.now
+    (devices g.S.Source c.args.input.now (outside_at g.K.Sink g.L.Cell g.L.Gate c.args.output.now
+    c.args.lanes.now
     (log_in c.args.run.now.session)))
-    (devices g.S.Source c.read.new.input (outside_at g.K.Sink g.L.Cell g.L.Gate c.take_piece.new.output c.take_piece.new.lanes
+    (devices g.S.Source c.read.new.input (outside_at g.K.Sink g.L.Cell g.L.Gate
+    c.take_piece.new.output c.take_piece.new.lanes
     (log_in c.take_piece.new.self.session))) c.args.reader.now
     c.read.new.self
     (run_state c.args.run.now) (run_state c.take_piece.new.self)
     (Err stop) has c.in_ok-read.ensures.takes some
-    (subst (λ (bytes : List ℕ). Steps (outside_at g.K.Sink g.L.Cell g.L.Gate c.args.output.now c.args.lanes.now
+    (subst (λ (bytes : List ℕ). Steps (outside_at g.K.Sink g.L.Cell g.L.Gate c.args.output.now
+    c.args.lanes.now
     (log_in c.args.run.now.session))
     (outside_at g.K.Sink g.L.Cell g.L.Gate c.take_piece.new.output c.take_piece.new.lanes
     (log_in c.take_piece.new.self.session)) (run_state c.args.run.now)
@@ -94,14 +103,17 @@ pub returns-clause-explained : goal.returns-clause-explained
 returns-clause-explained g c = λ book before has most.
     let some : 0 < length c.read.new.self.piece = search rules in
     explained_after {T = ⊤} book before
-    (devices g.S.Source c.args.input.now (outside_at g.K.Sink g.L.Cell g.L.Gate c.args.output.now c.args.lanes.now
+    (devices g.S.Source c.args.input.now (outside_at g.K.Sink g.L.Cell g.L.Gate c.args.output.now
+    c.args.lanes.now
     (log_in c.args.run.now.session)))
-    (devices g.S.Source c.read.new.input (outside_at g.K.Sink g.L.Cell g.L.Gate c.take_piece.new.output c.take_piece.new.lanes
+    (devices g.S.Source c.read.new.input (outside_at g.K.Sink g.L.Cell g.L.Gate
+    c.take_piece.new.output c.take_piece.new.lanes
     (log_in c.take_piece.new.self.session))) c.args.reader.now
     c.read.new.self
     (run_state c.args.run.now) (run_state c.take_piece.new.self)
     (Ok tt) has c.in_ok-read.ensures.takes some
-    (subst (λ (bytes : List ℕ). Steps (outside_at g.K.Sink g.L.Cell g.L.Gate c.args.output.now c.args.lanes.now
+    (subst (λ (bytes : List ℕ). Steps (outside_at g.K.Sink g.L.Cell g.L.Gate c.args.output.now
+    c.args.lanes.now
     (log_in c.args.run.now.session))
     (outside_at g.K.Sink g.L.Cell g.L.Gate c.take_piece.new.output c.take_piece.new.lanes
     (log_in c.take_piece.new.self.session)) (run_state c.args.run.now)

@@ -34,7 +34,8 @@ returns-in-Err-clause-steps g c = λ now.
           let number = c.line_number.ensures
           ∙ ap (λ (f : FeedView). f.ended + 1) c.in-Err.ensures.kept in
           stops_anyway book before now now taken (run_state c.args.self.now) _ Bad Bad _
-          (taken ++ part) stands (line_too_long_last (lane_count before) taken part c.requires.no_end long)
+          (taken ++ part) stands (line_too_long_last (lane_count before) taken part
+          c.requires.no_end long)
           (λ more. line_too_long (lane_count before) taken part more c.requires.no_end long) refl
           (subst (λ (n : ℕ). StopsAtLine (book_in c.args.self.now.session) now now
           (book_in c.args.self.now.session).entries [] n Bad (BadLine c.line_number.result))

@@ -38,7 +38,8 @@ returns-in_err-handle_line-clause-steps g c =
           ∙ ap (λ (f : FeedView). ended_line lanes (f.begun ++ part)) stands.fed in
           stops_anyway book before _ _ taken
           (run_state c.args.self.now) _ c.end_line-line.result _ _
-          (taken ++ (part ++ 10 ∷ [])) stands (line_ended_last (lane_count before) taken part c.requires.no_end)
+          (taken ++ (part ++ 10 ∷ [])) stands (line_ended_last
+          (lane_count before) taken part c.requires.no_end)
           (λ more. line_ended (lane_count before) taken part more c.requires.no_end) says
           (subst (λ (n : ℕ). StopsAtLine (book_in c.args.self.now.session)
           (outside_at g.K.Sink g.L.Cell g.L.Gate c.args.output.now c.args.lanes.now
@@ -56,7 +57,8 @@ returns-clause-steps g c = λ book before taken stands.
     (run_state c.args.self.now) _ c.end_line-line.result stands c.requires.no_end
     (said_with (λ lane. lane_state g.L.Cell g.L.Gate lane) c.args.lanes.now c.every_command.result
     c.end_line-line.result (c.args.self.now.feed.begun ++ c.args.part.now)
-    c.end_line-line.ensures.says c.every_command.ensures) c.in_ok-handle_line.ensures.good c.end_line-line.ensures.ended
+    c.end_line-line.ensures.says c.every_command.ensures) c.in_ok-handle_line.ensures.good
+    c.end_line-line.ensures.ended
     c.in_ok-handle_line.ensures.answered
 
 pub returns-in_err-handle_line-clause-goes : goal.returns-in_err-handle_line-clause-goes

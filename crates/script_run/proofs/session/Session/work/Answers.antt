@@ -62,7 +62,8 @@ returns-in_err-say_line-clause-stops g c = λ line.
     (subst (λ (b : BookState). IsWorked (book_in c.args.self.now) b
     (lane_state g.L.Cell g.L.Gate (get_or c.args.lanes.now (c.from.result - 1)
     c.index-lanes-from.result)) (lane_state g.L.Cell g.L.Gate c.work_lane-worked.new.lane)
-    c.args.number c.args.batch end c.work_lane-worked.result.step) (sym left) c.work_lane-worked.ensures.works)
+    c.args.number c.args.batch end c.work_lane-worked.result.step)
+    (sym left) c.work_lane-worked.ensures.works)
     before now line stop c.in_ok-worked.was
     (ap (λ (l : LogView). l.unsaid) c.say_line.ensures.said ∙ sym c.requires.ready.said)
     (subst (λ bytes. (stop ≡ WriteFault) × IsCutIn before now [] bytes) said
@@ -104,7 +105,8 @@ returns-clause-answered g c =
     (subst (λ (b : BookState). IsWorked (book_in c.args.self.now) b
     (lane_state g.L.Cell g.L.Gate (get_or c.args.lanes.now (c.from.result - 1)
     c.index-lanes-from.result)) (lane_state g.L.Cell g.L.Gate c.work_lane-worked.new.lane)
-    c.args.number c.args.batch end c.work_lane-worked.result.step) (sym left) c.work_lane-worked.ensures.works)
+    c.args.number c.args.batch end c.work_lane-worked.result.step)
+    (sym left) c.work_lane-worked.ensures.works)
     before now c.in_ok-worked.was
     (ap (λ (l : LogView). l.unsaid) c.say_line.ensures.said ∙ sym c.requires.ready.said)
     (subst (λ bytes. WroteAll before now bytes) said c.in_ok-say_line.ensures.wrote)
