@@ -16,8 +16,10 @@ and_false false = refl
 
 -- with one item before them
 pub taken_more : (names : List (List ℕ)) (name value : List ℕ) (left : Option (List Item)) (t : Bool)
-    → ((items : List Item) → left ≡ Some items → t ≡ (is_among names name && not (list_any (gives name) items)))
-    → option_map_or (are_taken names) (with_item name value left) false ≡ (t && option_map_or (are_taken names) left false)
+    → ((items : List Item) → left ≡ Some items → t ≡ (is_among names name && not (list_any
+    (gives name) items)))
+    → option_map_or (are_taken names) (with_item name value left) false ≡ (t && option_map_or
+    (are_taken names) left false)
 taken_more names name value None t is = sym (and_false t)
 taken_more names name value (Some items) t is = rw (is items refl) refl
 
@@ -35,15 +37,18 @@ none_taken names words none = rw none refl
 abbrev pub value_in : List ℕ → Option (List Item) → Option (List ℕ)
 value_in name = option_and_then (λ items. value_of items name)
 
-pub none_given : (name : List ℕ) (words : List (List ℕ)) → words ≡ [] → value_in name (read_items None words) ≡ None
+pub none_given : (name : List ℕ) (words : List (List ℕ)) → words ≡ [] → value_in name
+    (read_items None words) ≡ None
 unfolding read_items
 none_given name words none = rw none refl
 
-value_some : (name : List ℕ) (items : List Item) → is_some (value_of items name) ≡ list_any (gives name) items
+value_some : (name : List ℕ) (items : List Item) → is_some (value_of items name) ≡ list_any
+    (gives name) items
 value_some name [] = refl
 value_some name (item ∷ items) = go (bytes_eq item.name name) refl (value_some name items)
   where
-    go : (t : Bool) → bytes_eq item.name name ≡ t → is_some (value_of items name) ≡ list_any (gives name) items
+    go : (t : Bool) → bytes_eq item.name name ≡ t → is_some (value_of items name) ≡ list_any
+        (gives name) items
         → is_some (value_of (item ∷ items) name) ≡ list_any (gives name) (item ∷ items)
     go true same rest = rw same refl
     go false same rest = rw same rest
@@ -53,16 +58,19 @@ lacks_text None = refl
 lacks_text (Some text) = refl
 
 -- an option without a value is given by no item
-pub none_found : (name : List ℕ) (items : List Item) (found : Option (Bor (List ℕ))) → bytes_in found ≡ value_of items name
+pub none_found : (name : List ℕ) (items : List Item) (found : Option (Bor (List ℕ)))
+    → bytes_in found ≡ value_of items name
     → is_none found ≡ not (list_any (gives name) items)
 none_found name items found is =
     lacks_text found ∙ ap (λ text. not (is_some text)) is ∙ ap not (value_some name items)
 
-pub with_item_some : (name value : List ℕ) (left : Option (List Item)) → is_some (with_item name value left) ≡ is_some left
+pub with_item_some : (name value : List ℕ) (left : Option (List Item)) → is_some
+    (with_item name value left) ≡ is_some left
 with_item_some name value None = refl
 with_item_some name value (Some items) = refl
 
-pub value_found : (name other value : List ℕ) (left : Option (List Item)) → bytes_eq other name ≡ true → is_some left ≡ true
+pub value_found : (name other value : List ℕ) (left : Option (List Item))
+    → bytes_eq other name ≡ true → is_some left ≡ true
     → value_in name (with_item other value left) ≡ Some value
 value_found name other value None is some = cc
 value_found name other value (Some items) is some = rw is refl
@@ -85,7 +93,8 @@ pub asked_by : (command : Command) (left : Option (List Item)) (limit lanes : Op
     → option_map_or (are_taken (options_of command)) left false ≡ true
     → ((items : List Item) → left ≡ Some items → limit ≡ value_of items (codes "limit"))
     → ((items : List Item) → left ≡ Some items → lanes ≡ value_of items (codes "lanes"))
-    → (is_some (number_in LIMIT limit) && is_some (number_in LANES lanes)) ≡ is_some (option_and_then (wanted_items command) left)
+    → (is_some (number_in LIMIT limit) && is_some (number_in LANES lanes)) ≡ is_some
+    (option_and_then (wanted_items command) left)
 asked_by command None limit lanes taken limit_is lanes_is = cc
 asked_by command (Some items) limit lanes taken limit_is lanes_is =
     rw (limit_is items refl, lanes_is items refl, taken)

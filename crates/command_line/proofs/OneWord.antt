@@ -23,18 +23,23 @@ pub record Knows (shape : Shape) (name : Text) : Type 0 where
   pub same : bytes_eq name name ≡ true
 
 -- a word with a name is more than two dashes
-pub no_dashes : (word : Text) (found : Text × Option Text) → long_of word ≡ Some found → bytes_eq word dashes ≡ false
+pub no_dashes : (word : Text) (found : Text × Option Text) → long_of word ≡ Some found
+    → bytes_eq word dashes ≡ false
 no_dashes word found is = go (bytes_eq word dashes) refl
   where
     go : (t : Bool) → bytes_eq word dashes ≡ t → t ≡ false
     go true same =
-        let bad : None ≡ Some found = subst (λ (text : Text). long_of text ≡ Some found) ((bytes_eq-Decides word dashes).0 same) is in cc
+        let bad : None ≡ Some found = subst (λ (text : Text). long_of text ≡ Some found)
+        ((bytes_eq-Decides word dashes).0 same) is in cc
     go false same = refl
 
 -- where a walk stands behind a name that waits for its value
 abbrev pub waits : Shape → Text → Held → Walk
 waits shape name held =
-    record (walk_from (record (settled shape.rules held) { pending = Some (name, []) })) { waiting = option name }
+    record (walk_from (record (settled shape.rules held) {
+      pending = Some
+          (name, []);
+    })) { waiting = option name }
 
 -- what is held behind the value
 abbrev pub given : Shape → Text → Text → Held → Held
@@ -42,7 +47,8 @@ given shape name value held = record (settled shape.rules held) { pending = Some
 
 pub attached_walk : (shape : Shape) (name value word : Text) (held : Held) → Knows shape name
     → long_of word ≡ Some (name, Some value) → bytes_eq word dashes ≡ false
-    → walked shape.rules [] (walk_from held) word ≡ walk_from (reacted shape.rules (built_rule name) (value ∷ []) held)
+    → walked shape.rules [] (walk_from held) word ≡ walk_from (reacted shape.rules
+    (built_rule name) (value ∷ []) held)
 unfolding walked
 attached_walk shape name value word held knows long plain = rw (plain, long, knows.long) refl
 
@@ -69,13 +75,20 @@ plain_word (byte ∷ word) alone = go (byte == 45) refl alone
 pub value_walk : (shape : Shape) (name word : Text) (held : Held) → Knows shape name → IsPlain word
     → walked shape.rules [] (waits shape name held) word ≡ walk_from (given shape name word held)
 unfolding walked
-value_walk shape name word held knows plain = rw (plain.dashes, plain.long, plain.short, knows.id, knows.same) refl
+value_walk shape name word held knows plain = rw (
+  plain.dashes,
+  plain.long,
+  plain.short,
+  knows.id,
+  knows.same,
+) refl
 
 pub attached_passes : (shape : Shape) (name value word : Text) (held : Held) → Knows shape name
     → long_of word ≡ Some (name, Some value) → bytes_eq word dashes ≡ false
     → react_passes shape.rules shape.args_override_self (built_rule name) (value ∷ []) held ≡ true
     → turn_passes shape [] (walk_from held) word ≡ true
-attached_passes shape name value word held knows long plain passes = rw (plain, long, knows.long) rw passes refl
+attached_passes shape name value word held knows long plain passes = rw
+    (plain, long, knows.long) rw passes refl
 
 pub named_passes : (shape : Shape) (name word : Text) (held : Held) → Knows shape name
     → long_of word ≡ Some (name, None) → bytes_eq word dashes ≡ false
@@ -92,10 +105,13 @@ pub use_ok : (shape : Shape) (name value : Text) (rows : List Row) → has_row n
     → use_passes shape.args_override_self (built_rule name) (value ∷ []) rows ≡ true
 use_ok shape name value rows fresh = rw fresh refl
 
-pub given_settles : (shape : Shape) (name value : Text) (held : Held) → Knows shape name → has_row name (settled shape.rules held).rows ≡ false
+pub given_settles : (shape : Shape) (name value : Text) (held : Held) → Knows shape name
+    → has_row name (settled shape.rules held).rows ≡ false
     → settle_passes shape.rules shape.args_override_self (given shape name value held) ≡ true
-given_settles shape name value held knows fresh = rw knows.id (use_ok shape name value (settled shape.rules held).rows fresh)
+given_settles shape name value held knows fresh = rw knows.id (use_ok shape name value
+    (settled shape.rules held).rows fresh)
 
 pub given_rows : (shape : Shape) (name value : Text) (held : Held) → Knows shape name
-    → (settled shape.rules (given shape name value held)).rows ≡ used (built_rule name) (value ∷ []) (settled shape.rules held).rows
+    → (settled shape.rules (given shape name value held)).rows ≡ used (built_rule name)
+    (value ∷ []) (settled shape.rules held).rows
 given_rows shape name value held knows = rw knows.id refl

@@ -27,7 +27,8 @@ rows_for items = map (λ item. row_for item.name item.value) items
 at_none : (name : Text) (change : Row → List Row) (missing rows : List Row) → has_row name rows ≡ false
     → at_row name change missing rows ≡ rows ++ missing
 at_none name change missing [] fresh = refl
-at_none name change missing (row ∷ rows) fresh = go (bytes_eq row.id name) refl fresh (at_none name change missing rows)
+at_none name change missing (row ∷ rows) fresh = go (bytes_eq row.id name) refl fresh
+    (at_none name change missing rows)
   where
     go : (t : Bool) → bytes_eq row.id name ≡ t → (t || has_row name rows) ≡ false
         → (has_row name rows ≡ false → at_row name change missing rows ≡ rows ++ missing)
@@ -39,16 +40,19 @@ at_none name change missing (row ∷ rows) fresh = go (bytes_eq row.id name) ref
 pub used_fresh : (name value : Text) (rows : List Row) → has_row name rows ≡ false
     → used (built_rule name) (value ∷ []) rows ≡ rows ++ row_for name value ∷ []
 used_fresh name value rows fresh =
-    let gone : at_row name (λ _. []) [] rows ≡ rows = at_none name (λ _. []) [] rows fresh ∙ append-nil rows in
+    let gone : at_row name (λ _. []) [] rows ≡ rows = at_none name (λ _. []) [] rows fresh
+    ∙ append-nil rows in
     rw gone (at_none name (more_values CommandLine (value ∷ [])) (row_for name value ∷ []) rows fresh)
 
 -- an option has a row where an item gave it a value
-pub has_given : (name : Text) (items : List Item) → has_row name (rows_for items) ≡ list_any (gives name) items
+pub has_given : (name : Text) (items : List Item) → has_row name (rows_for items) ≡ list_any
+    (gives name) items
 has_given name [] = refl
 has_given name (item ∷ items) = ap (λ t. bytes_eq item.name name || t) (has_given name items)
 
 -- its first value is the one that the items give
-pub first_given : (name : Text) (items : List Item) → first_of name (rows_for items) ≡ value_of items name
+pub first_given : (name : Text) (items : List Item) → first_of name
+    (rows_for items) ≡ value_of items name
 first_given name [] = refl
 first_given name (item ∷ items) = go (bytes_eq item.name name) refl (first_given name items)
   where

@@ -36,7 +36,8 @@ refused : reply_response (Err (why.Refused (record { at = 3; refusal = refusal.R
 unfolding head_text refusal_body digits
 refused = refl
 
-unknown_lane : reply_response (Err (why.Refused (record { at = 0; refusal = refusal.LaneNumber }))) false ≡
+unknown_lane : reply_response (Err (why.Refused (record { at = 0; refusal = refusal.LaneNumber })))
+    false ≡
     codes "HTTP/1.1 409 Conflict\r\n"
     ++ codes "Content-Type: application/json\r\n"
     ++ codes "Content-Length: 51\r\n"
@@ -66,7 +67,15 @@ closed_sheet = record {
   nonstandard = 0;
   inadequate = 0;
   held = false;
-  test = Some (record { mode = Keep; first = 50; measured1 = 50; d1 = 0; second = 0; measured2 = 0; d2 = 0 });
+  test = Some (record {
+    mode = Keep;
+    first = 50;
+    measured1 = 50;
+    d1 = 0;
+    second = 0;
+    measured2 = 0;
+    d2 = 0;
+  });
   verdict = Some Released;
 }
 

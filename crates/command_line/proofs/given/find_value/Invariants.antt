@@ -7,8 +7,10 @@ use Rattle.command_line.proofs.given.find_value.Given as goal
 -- what is left are items where all are, and gives the same value
 abbrev pub invariant-loop-word : goal.invariant-loop-word
 invariant-loop-word l =
-    (is_some (read_items None (map string_bytes l.rest)) ≡ is_some (read_items None (map string_bytes l.words)))
-    × (value_in l.name (read_items None (map string_bytes l.rest)) ≡ value_in l.name (read_items None (map string_bytes l.words)))
+    (is_some (read_items None (map string_bytes l.rest)) ≡ is_some (read_items None
+    (map string_bytes l.words)))
+    × (value_in l.name (read_items None (map string_bytes l.rest)) ≡ value_in l.name
+    (read_items None (map string_bytes l.words)))
 
 abbrev pub decreases-loop-word : goal.decreases-loop-word
 decreases-loop-word l = length l.rest

@@ -6,7 +6,8 @@ use Rattle.command_line.proofs.items.split_value.Goals as goal
 
 pub returns-in-Some : goal.returns-in-Some
 returns-in-Some c =
-    let parts = split_parts 61 c.args.text.now (Some (c.in-Some.name, c.in-Some.value)) c.in-Some.ensures.cases (omega arith) in
+    let parts = split_parts 61 c.args.text.now (Some (c.in-Some.name, c.in-Some.value))
+    c.in-Some.ensures.cases (omega arith) in
     sym (ap name_and_value parts.0 ∙ name_and_value-at c.in-Some.name.now c.in-Some.value.now parts.1)
 
 pub returns-in-None : goal.returns-in-None

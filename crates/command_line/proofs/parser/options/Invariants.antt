@@ -6,4 +6,5 @@ use Rattle.command_line.proofs.parser.options.Given as goal
 
 -- with the options that are left it is the command that is meant
 abbrev pub invariant-loop-name : goal.invariant-loop-name
-invariant-loop-name l = with_options (app_of l.options) (texts_of (drop l.name-index l.names)) ≡ app_for (texts_of l.names)
+invariant-loop-name l = with_options (app_of l.options) (texts_of
+    (drop l.name-index l.names)) ≡ app_for (texts_of l.names)

@@ -27,8 +27,25 @@ push_kept-requires-clause-range c = refusal_told_in_range c.args.refused.now c.r
 
 pub returns : goal.returns
 returns c = record {
-  items = rw (c.append-6.ensures.items, c.append_count-2.ensures.items, c.append-5.ensures.items, c.append-4.ensures.items, c.append-3.ensures.items, c.push_kept.ensures.items, c.append-2.ensures.items, c.append_count.ensures.items, c.append.ensures.items, c.from.ensures, c.number.ensures, c.as_bytes.ensures.value, c.name.ensures.text)
+  items = rw (
+    c.append-6.ensures.items,
+    c.append_count-2.ensures.items,
+    c.append-5.ensures.items,
+    c.append-4.ensures.items,
+    c.append-3.ensures.items,
+    c.push_kept.ensures.items,
+    c.append-2.ensures.items,
+    c.append_count.ensures.items,
+    c.append.ensures.items,
+    c.from.ensures,
+    c.number.ensures,
+    c.as_bytes.ensures.value,
+    c.name.ensures.text,
+  )
       (in_members c.args.to.now.items c.args.refused.now);
   longest = omega (arith, c.as_bytes.ensures.len, c.name.ensures.short, c.append-4.ensures.longest);
-  capacity = c.append-6.ensures.capacity ∙ c.append_count-2.ensures.capacity ∙ c.append-5.ensures.capacity ∙ c.append-4.ensures.capacity ∙ c.append-3.ensures.capacity ∙ c.push_kept.ensures.capacity ∙ c.append-2.ensures.capacity ∙ c.append_count.ensures.capacity ∙ c.append.ensures.capacity;
+  capacity = c.append-6.ensures.capacity ∙ c.append_count-2.ensures.capacity
+      ∙ c.append-5.ensures.capacity ∙ c.append-4.ensures.capacity ∙ c.append-3.ensures.capacity
+      ∙ c.push_kept.ensures.capacity ∙ c.append-2.ensures.capacity
+      ∙ c.append_count.ensures.capacity ∙ c.append.ensures.capacity;
 }

@@ -21,7 +21,8 @@ no_ask body not = by_test (is_utf8 body) refl where
 this_ask : (body : List ℕ) (json : Data) → IsUtf8 body → read body ≡ Some json
     → ask_of json ≡ ask_in body
 this_ask body json is reads =
-    sym (ap (λ test. option_and_then ask_of (if test then read body else None)) (is_utf8-from_IsUtf8 body is)
+    sym (ap (λ test. option_and_then ask_of (if test then read body else None))
+    (is_utf8-from_IsUtf8 body is)
     ∙ ap (option_and_then ask_of) reads)
 
 pub returns-in_default : goal.returns-in_default
@@ -30,4 +31,5 @@ returns-in_default c = no_ask c.args.body.now c.in_default.ensures.cases.0
 pub returns-in-Ok-from_str : goal.returns-in-Ok-from_str
 returns-in-Ok-from_str c =
     c.ask_of.ensures ∙ this_ask c.args.body.now (view c.in-Ok-from_str.json) c.in-Ok.ensures.cases.1
-    (subst (λ text. read text ≡ Some (view c.in-Ok-from_str.json)) c.in-Ok.ensures.cases.0 c.in-Ok-from_str.ensures.ok)
+    (subst (λ text. read text ≡ Some (view c.in-Ok-from_str.json)) c.in-Ok.ensures.cases.0
+    c.in-Ok-from_str.ensures.ok)

@@ -23,8 +23,19 @@ in_lines start head size =
 
 pub returns : goal.returns
 returns c = record {
-  items = rw (c.append.ensures.items, c.push_closing.ensures.items, c.push_extra.ensures.items, c.push_size.ensures.items, c.push_line-2.ensures.items, c.push_line.ensures.items, c.media_word.ensures.text, c.status_word.ensures.text)
+  items = rw (
+    c.append.ensures.items,
+    c.push_closing.ensures.items,
+    c.push_extra.ensures.items,
+    c.push_size.ensures.items,
+    c.push_line-2.ensures.items,
+    c.push_line.ensures.items,
+    c.media_word.ensures.text,
+    c.status_word.ensures.text,
+  )
       (in_lines c.args.to.now.items c.args.head.now c.args.size);
   longest = omega arith;
-  capacity = c.append.ensures.capacity ∙ c.push_closing.ensures.capacity ∙ c.push_extra.ensures.capacity ∙ c.push_size.ensures.capacity ∙ c.push_line-2.ensures.capacity ∙ c.push_line.ensures.capacity;
+  capacity = c.append.ensures.capacity ∙ c.push_closing.ensures.capacity
+      ∙ c.push_extra.ensures.capacity ∙ c.push_size.ensures.capacity
+      ∙ c.push_line-2.ensures.capacity ∙ c.push_line.ensures.capacity;
 }
