@@ -1,4 +1,7 @@
+ghost use Rattle.book_words.specs.Ranges.{IsPackInRange};
+
 use crate::packs::{Found, Weighed, pack_of};
+use book_words::PackView;
 use pack_judge::{Cause, Class, Pile, Signal};
 use pack_register::{HEADER_ROOM, PackList, RECORD_ROOM, push_header, push_record, register};
 use std::alloc::{AllocError, Global};
@@ -93,30 +96,26 @@ fn a_register_without_packs_is_its_header(rt: HostRuntime) -> Result<(), AllocEr
     Ok(())
 }
 
-// The register of the packs of the rows.
-fn register_of_rows(alloc: Global) -> Result<Vec<u8>, AllocError> {
-    let mut packs = Vec::new(alloc);
-    for (weighed, found, _) in &ROWS {
-        if let Some(pack) = pack_of(weighed, *found) {
-            packs.push(pack)?;
-        }
-    }
+// The register of a pack that is listed twice.
+fn register_of(alloc: Global, pack: &PackView) -> Result<Vec<u8>, AllocError>
+    requires { IsPackInRange pack.now }
+{
+    let packs = Vec::from_slice(alloc, &[*pack, *pack])?;
     register(alloc, &PackList::from(packs))
 }
 
-// The header, and the records of the rows.
-fn rows_text(alloc: Global) -> Result<Vec<u8>, AllocError> {
-    let mut text = Vec::new(alloc);
-    text.extend_from_slice(HEADER)?;
-    for (_, _, record) in &ROWS {
-        text.extend_from_slice(record.as_bytes())?;
-    }
-    Ok(text)
-}
+const TWO_RECORDS: &[u8] = b"\
+pack,batch,product,lane,day,gross,net,class,signal,pile
+6,A,rice250,1,2025-03-03,243.000,231.000,inadequate,pass,voided
+6,A,rice250,1,2025-03-03,243.000,231.000,inadequate,pass,voided
+";
 
 #[test]
-fn a_register_of_some_packs(rt: HostRuntime) -> Result<(), AllocError> {
+fn a_register_of_two_records(rt: HostRuntime) -> Result<(), AllocError> {
     let alloc = rt.alloc();
-    assert!(rt; register_of_rows(alloc)? == rows_text(alloc)?);
+    let (weighed, found, _) = &ROWS[0];
+    if let Some(pack) = pack_of(weighed, *found) {
+        assert!(rt; register_of(alloc, &pack)?.as_slice() == TWO_RECORDS);
+    }
     Ok(())
 }

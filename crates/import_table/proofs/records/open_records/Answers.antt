@@ -1,7 +1,6 @@
 use Rattle.std.proofs.Common.{◌≡◌, ◌≤◌, ◌<◌, length, true, false, sym, ◌∙◌, inr, rules}
 use Rattle.csv.specs.Reading.{reader_state}
 use Rattle.csv.specs.Records.{fields_of}
-use Rattle.import_table.specs.Imports.{is_header}
 use Rattle.import_table.specs.Reading.{left}
 use Rattle.import_table.specs.declared.types.TheConstants.{MAX_IMPORT}
 use Rattle.import_table.proofs.ImportSteps.{first_read, no_header, other_header, right_header, too_long}
