@@ -5,5 +5,6 @@ pub mod FrameKinds
 pub mod FrameSteps
 pub mod FrameLaws
 pub mod RequestLaws
+mod WorkedFrames
 mod WorkedRequests
 mod WorkedResponses
