@@ -162,8 +162,8 @@ fn has_written(door: &ListDoor, texts: &[&[u8]; 3]) -> bool {
 
 // Whether a session in which a call of the door fails is seen so.
 fn door_fails_right(alloc: Global, call: u32, seen: &Seen) -> Option<bool> {
-    let hall = open_hall(alloc, &[])?;
     let mut door = door_of(alloc, &SESSION, &[call]).ok()?;
+    let hall = open_hall(alloc, &[])?;
     let (end, rows, _) = serve(alloc, hall, &mut door);
     let wanted = DoorEnd {
         served: seen.served,
@@ -195,8 +195,8 @@ const DISK_FAILS: [[&[u8]; 3]; 3] = [
 
 // Whether a session in which a call of the disk fails is seen so.
 fn disk_fails_right(alloc: Global, call: u32, texts: &[&[u8]; 3]) -> Option<bool> {
-    let hall = open_hall(alloc, &[call])?;
     let mut door = door_of(alloc, &SESSION, &[]).ok()?;
+    let hall = open_hall(alloc, &[call])?;
     let (end, rows, faults) = serve(alloc, hall, &mut door);
     let wanted = DoorEnd {
         served: 3,

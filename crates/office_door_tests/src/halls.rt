@@ -27,16 +27,22 @@ pub(crate) fn empty_hall(alloc: Global, fails: &[u32]) -> Option<Hall> {
     Some(OneCaller::new(store, FIRST_DOOR))
 }
 
-/// The same with the row of a day.
-pub(crate) fn open_hall(alloc: Global, fails: &[u32]) -> Option<Hall> {
-    let mut hall = empty_hall(alloc, fails)?;
-    hall.turn(0);
+// Asks for the day.
+fn begin_day(hall: &mut Hall) -> Option<()> {
     let day = Ask {
         desk: 0,
         request: 0,
         want: Want::Act(Act::NewDay { day: MARCH_3 }),
     };
     hall.ask(&day).ok()?;
+    Some(())
+}
+
+/// The same with the row of a day.
+pub(crate) fn open_hall(alloc: Global, fails: &[u32]) -> Option<Hall> {
+    let mut hall = empty_hall(alloc, fails)?;
+    hall.turn(0);
+    let _ = begin_day(&mut hall);
     hall.turn(FIRST_DOOR);
     Some(hall)
 }

@@ -32,16 +32,16 @@ fn is_done(end: DoorEnd, served: u32) -> bool {
 
 // The second copy of a request acts no more, and is told what the first was.
 fn twice_right(alloc: Global) -> Option<bool> {
-    let hall = open_hall(alloc, &[])?;
     let mut door = door_of(alloc, &[TWICE], &[]).ok()?;
+    let hall = open_hall(alloc, &[])?;
     let (end, rows, _) = serve(alloc, hall, &mut door);
     Some(is_done(end, 2) && rows == 2 && door.written(0) == Some(ROW_TWICE))
 }
 
 // A lane that there isn't is refused over a book without a row.
 fn lane_right(alloc: Global) -> Option<bool> {
-    let hall = empty_hall(alloc, &[])?;
     let mut door = door_of(alloc, &[LANE_17], &[]).ok()?;
+    let hall = empty_hall(alloc, &[])?;
     let (end, rows, _) = serve(alloc, hall, &mut door);
     Some(is_done(end, 1) && rows == 0 && door.written(0) == Some(NO_LANE))
 }
