@@ -45,21 +45,15 @@ fn words(rt: &(impl Env + AllocGlobal)) -> Vec<String> {
     kept.unwrap_or(Vec::new(rt.alloc()))
 }
 
-// A number of at most `most`.
-fn number_within(word: &str, most: u64) -> Option<u64> {
-    let number = read_number(word.as_bytes())?;
-    if number > most { None } else { Some(number) }
-}
-
 // `PATH PORT CONNECTIONS`.
 fn read_words(alloc: Global, words: &[String]) -> Option<Wanted> {
     let path = words.get(0)?;
-    let port = number_within(words.get(1)?.as_str(), u64::from(u16::MAX))?;
-    let connections = number_within(words.get(2)?.as_str(), u64::from(u32::MAX))?;
+    let port = read_number(words.get(1)?.as_bytes())?;
+    let connections = read_number(words.get(2)?.as_bytes())?;
     Some(Wanted {
         path: String::from_str(alloc, path.as_str()).ok()?,
-        port: port as u16,
-        connections: connections as u32,
+        port: u16::try_from(port).ok()?,
+        connections: u32::try_from(connections).ok()?,
     })
 }
 
