@@ -9,8 +9,8 @@
 # usage: bench/office.sh     (behind `.ci/run`, which builds both programs; packages nginx-light, wrk)
 set -eu
 cd "$(dirname "$0")/.."
-hall=$PWD/${HALL:-crates/hall_cli/out/hall_cli}
-office=$PWD/${OFFICE:-crates/office_trial/out/office_trial}
+hall=${HALL:-$PWD/crates/hall_cli/out/hall_cli}
+office=${OFFICE:-$PWD/crates/office_trial/out/office_trial}
 room=$(mktemp -d)
 trap 'rm -rf "$room"; kill $(jobs -p) 2>/dev/null || true' EXIT
 port=$((20000 + $$ % 20000))
