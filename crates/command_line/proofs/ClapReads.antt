@@ -1,19 +1,23 @@
 -- What `clap` answers to the words of the grammar.
-use Rattle.std.proofs.Common.{if◌then◌else◌, ◌≡◌, ◌∙◌, ap, subst, refl, Bool, true, false, List, [], Option, Some, None, codes}
+use Rattle.std.proofs.Common.{if◌then◌else◌, ◌≡◌, ◌∙◌, ap, sym, subst, refl, Bool, true, false, List, [], Option, Some, None, codes}
+use Rattle.std.specs.Prelude.{⊤}
 use Rattle.std.specs.List.{list_all}
 use Rattle.std.specs.Option.{option_and_then}
 use Rattle.clap.proofs.WalkLemmas.{first_value-rows}
 use Rattle.clap.specs.Matches.{first_value, found_of}
 use Rattle.clap.specs.declared.parser.matches.ArgMatches.{ArgMatches}
-use Rattle.clap.specs.Simple.{App, HasMatchesOf, built, matches_of, names_of as subcommands_of}
+use Rattle.clap.specs.Simple.{App, HasMatchesOf, built, names_of as subcommands_of}
 use Rattle.clap.specs.Takes.{built_takes, default_passes, is_valid, settle_passes, takes}
 use Rattle.clap.specs.Walk.{Held, Row, Text, finished, first_of, nothing_held, walk_from}
 use Rattle.command_line.specs.declared.types.Command.{Command}
-use Rattle.command_line.specs.Options.{app_for}
-use Rattle.command_line.specs.Taken.{asked}
-use Rattle.command_line.specs.Words.{Item, Wanted, are_taken, options_of, read_items, value_of, wanted_items, wanted_values}
+use Rattle.command_line.specs.Options.{app_by, app_for}
+use Rattle.command_line.specs.Words.{Form, Item, Wanted, are_taken, form_of, items_in, options, places}
+use Rattle.command_line.specs.Words.{read_items, taken_items, value_of, wanted_by, wanted_values}
+use Rattle.command_line.specs.declared.types.Command.TheVariants.{Run, Report, Export, Check}
+use Rattle.command_line.specs.declared.types.Command.TheVariants.{Import, Trial, Migrate}
 use Rattle.command_line.proofs.ManyOptions.{defaults_pass, finished_as, shape_for, simple, valid}
 use Rattle.command_line.proofs.Rows.{first_given, rows_for}
+use Rattle.command_line.proofs.ClapPlaces.{ClapReads, two, two_placed}
 use Rattle.command_line.proofs.ClapWalks.{Reads, Walks, both, reads_all}
 
 built_ok : (app : App) (words : List Text) (end : Held) → subcommands_of app ≡ [] → Walks app.top
@@ -26,68 +30,100 @@ built_ok app words end names walks settles defaults valid =
     rw (names, walks.ends) (both walks.passes (both settles (both defaults (valid
     (finished app.top.rules end)))))
 
--- `clap` takes the words, and keeps what their items give
-record ClapReads (names : List Text) (words : List Text) (items : List Item) : Type 0 where
-  takes : takes (app_for names) words ≡ true
-  rows : matches_of (app_for names) words ≡ rows_for items
-
-reads_as : (names : List Text) (words : List Text) (items : List Item)
-    → Reads names nothing_held words items → ClapReads names words items
-reads_as names words items reads = record {
+options_read : (names : List Text) (words : List Text) (items : List Item)
+    → Reads names nothing_held words items → ClapReads (app_by true names) words items
+options_read names words items reads = record {
+  simple = simple names;
   takes = both (simple names)
-      (built_ok (built (app_for names)) words reads.end refl reads.walks reads.settles
+      (built_ok (built (app_by true names)) words reads.end refl reads.walks reads.settles
       (defaults_pass names) (valid names));
   rows = ap (λ walk. finished (shape_for names).rules walk.held) reads.walks.ends
       ∙ finished_as names reads.end ∙ reads.rows;
 }
 
--- words that ask for something are items that are taken
+-- the words of a form
+abbrev FormReads : Form → Type 0
+FormReads form = (words : List Text) (items : List Item) → items_in form words ≡ Some items
+    → ClapReads (app_for form) words items
+
+by_taken : (names words : List Text) (items : List Item) (left : Option (List Item))
+    → read_items None words ≡ left → option_and_then (taken_items names) left ≡ Some items
+    → ClapReads (app_by true names) words items
+by_taken names words items None reads is = cc
+by_taken names words items (Some found) reads is = go (are_taken names found) refl is
+  where
+    go : (t : Bool) → are_taken names found ≡ t → (if t then Some found else None) ≡ Some items
+        → ClapReads (app_by true names) words items
+    go false taken here = cc
+    go true taken here =
+        let same : found ≡ items = cc in
+        options_read names words items (reads_all names words nothing_held items
+        (reads ∙ ap (λ (list : List Item). Some list) same)
+        (subst (λ (list : List Item). are_taken names list ≡ true) same taken) refl refl)
+
+by_options : (names : List Text) → FormReads (options names)
+by_options names = λ words items is. by_taken names words items (read_items None words) refl is
+
+-- options have any names; the words of a form without options are two
+abbrev IsKnown : Form → Type 0
+IsKnown (options names) = ⊤
+IsKnown (places names) = names ≡ two
+
+is_known : (command : Command) → IsKnown (form_of command)
+is_known Run = tt
+is_known Report = tt
+is_known Export = tt
+is_known Check = tt
+is_known Import = tt
+is_known Trial = refl
+is_known Migrate = tt
+
+by_known : (form : Form) → IsKnown form → FormReads form
+by_known (options names) known = by_options names
+by_known (places names) known =
+    subst (λ (list : List Text). FormReads (places list)) (sym known) two_placed
+
+by_form : (command : Command) → FormReads (form_of command)
+by_form command = by_known (form_of command) (is_known command)
+
+-- words that ask for something are items that ask for it
 record Asks (command : Command) (words : List Text) (wanted : Wanted) : Type 0 where
   items : List Item
-  reads : read_items None words ≡ Some items
-  taken : are_taken (options_of command) items ≡ true
+  is : items_in (form_of command) words ≡ Some items
   asks : wanted_values command (value_of items) ≡ Some wanted
 
 asks_by : (command : Command) (words : List Text) (wanted : Wanted) (left : Option (List Item))
-    → read_items None words ≡ left
-    → option_and_then (wanted_items command) left ≡ Some wanted → Asks command words wanted
-asks_by command words wanted None reads asks = cc
-asks_by command words wanted (Some items) reads asks = go (are_taken
-    (options_of command) items) refl asks
-  where
-    go : (t : Bool) → are_taken (options_of command) items ≡ t
-        → (if t then wanted_values command (value_of items) else None) ≡ Some wanted
-        → Asks command words wanted
-    go true taken here = record { items = items; reads = reads; taken = taken; asks = here }
-    go false taken here = cc
+    → items_in (form_of command) words ≡ left
+    → option_and_then (λ items. wanted_values command (value_of items)) left ≡ Some wanted
+    → Asks command words wanted
+asks_by command words wanted None is asks = cc
+asks_by command words wanted (Some items) is asks = record { items = items; is = is; asks = asks }
 
 asks_for : (command : Command) (words : List Text) (wanted : Wanted)
-    → asked command words ≡ Some wanted → Asks command words wanted
-asks_for command words wanted asks = asks_by command words wanted (read_items None words) refl asks
+    → wanted_by command words ≡ Some wanted → Asks command words wanted
+asks_for command words wanted asks =
+    asks_by command words wanted (items_in (form_of command) words) refl asks
 
 clap_reads : (command : Command) (words : List Text) (wanted : Wanted)
-    (asks : Asks command words wanted) → ClapReads (options_of command) words asks.items
-clap_reads command words wanted asks =
-    let names = options_of command in
-    reads_as names words asks.items (reads_all names words nothing_held asks.items asks.reads
-    asks.taken refl refl)
+    (asks : Asks command words wanted) → ClapReads (app_for (form_of command)) words asks.items
+clap_reads command words wanted asks = by_form command words asks.items asks.is
 
 -- the same over a command that was built as told, and the matches that a parse gave
 pub matches_ask : (command : Command) (words : List Text) (app : App) (matches : ArgMatches)
-    → app ≡ app_for (options_of command)
-    → HasMatchesOf app words matches → (wanted : Wanted) → asked command words ≡ Some wanted
+    → app ≡ app_for (form_of command)
+    → HasMatchesOf app words matches → (wanted : Wanted) → wanted_by command words ≡ Some wanted
     → wanted_values command (first_value (found_of matches)) ≡ Some wanted
 matches_ask command words app matches told has wanted asked =
-    let names = options_of command in
     let asks = asks_for command words wanted asked in
-    let has_rows = (subst (λ (a : App). HasMatchesOf a words matches) told has (simple names)).0 in
+    let reads = clap_reads command words wanted asks in
+    let has_rows = (subst (λ (a : App). HasMatchesOf a words matches) told has reads.simple).0 in
     let each : (name : Text) → first_value (found_of matches) name ≡ value_of asks.items name =
-    λ name. first_value-rows (found_of matches) name ∙ ap (first_of name) (has_rows ∙
-    (clap_reads command words wanted asks).rows) ∙ first_given name asks.items in
+    λ name. first_value-rows (found_of matches) name ∙ ap (first_of name) (has_rows ∙ reads.rows)
+    ∙ first_given name asks.items in
     (λ i. wanted_values command (λ name. each name i)) ∙ asks.asks
 
-pub takes_asked : (command : Command) (words : List Text) (app : App) → app ≡ app_for
-    (options_of command)
-    → (wanted : Wanted) → asked command words ≡ Some wanted → takes app words ≡ true
+pub takes_asked : (command : Command) (words : List Text) (app : App)
+    → app ≡ app_for (form_of command)
+    → (wanted : Wanted) → wanted_by command words ≡ Some wanted → takes app words ≡ true
 takes_asked command words app told wanted asked = rw told (clap_reads command words wanted
     (asks_for command words wanted asked)).takes

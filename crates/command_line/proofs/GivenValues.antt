@@ -4,9 +4,11 @@ use Rattle.std.specs.List.{list_any}
 use Rattle.std.specs.Option.{option_map_or}
 use Rattle.std.specs.Str.{bytes_eq}
 use Rattle.command_line.specs.declared.types.Command.{Command}
-use Rattle.command_line.specs.declared.table.TheConstants.{LIMIT, LANES}
-use Rattle.command_line.specs.Taken.{are_words_taken, bytes_in}
-use Rattle.command_line.specs.Words.{Item, Wanted, are_taken, gives, read_items, is_among, number_in, options_of, value_of, wanted_items, wanted_values, with_item}
+use Rattle.command_line.specs.declared.values.Values.{Values}
+use Rattle.command_line.specs.Taken.{are_words_taken, bytes_in, is_read}
+use Rattle.command_line.specs.Words.{Form, Item, Wanted, are_taken, form_of, gives, is_among, items_in}
+use Rattle.command_line.specs.Words.{read_items, taken_items, value_of, values_in, values_of}
+use Rattle.command_line.specs.Words.{wanted_by, wanted_values, with_item}
 
 -- ---- whether items are taken
 
@@ -80,28 +82,86 @@ pub value_passed : (name other value : List ℕ) (left : Option (List Item)) →
 value_passed name other value None differs = refl
 value_passed name other value (Some items) differs = rw differs refl
 
--- ---- whether a command's items ask for something
+-- ---- whether the words of a form are read
 
-both_numbers : (command : Command) (value : List ℕ → Option (List ℕ)) (limit lanes : Option ℕ)
-    → number_in LIMIT (value (codes "limit")) ≡ limit → number_in LANES (value (codes "lanes")) ≡ lanes
-    → (is_some limit && is_some lanes) ≡ is_some (wanted_values command value)
-both_numbers command value None lanes limit_is lanes_is = rw limit_is refl
-both_numbers command value (Some limit) None limit_is lanes_is = rw (limit_is, lanes_is) refl
-both_numbers command value (Some limit) (Some lanes) limit_is lanes_is = rw (limit_is, lanes_is) refl
+-- a name is given this text
+abbrev Gives : Option (List Item) → List ℕ → Option (List ℕ) → Type 0
+Gives left name text = (items : List Item) → left ≡ Some items → text ≡ value_of items name
 
-pub asked_by : (command : Command) (left : Option (List Item)) (limit lanes : Option (List ℕ))
-    → option_map_or (are_taken (options_of command)) left false ≡ true
-    → ((items : List Item) → left ≡ Some items → limit ≡ value_of items (codes "limit"))
-    → ((items : List Item) → left ≡ Some items → lanes ≡ value_of items (codes "lanes"))
-    → (is_some (number_in LIMIT limit) && is_some (number_in LANES lanes)) ≡ is_some
-    (option_and_then (wanted_items command) left)
-asked_by command None limit lanes taken limit_is lanes_is = cc
-asked_by command (Some items) limit lanes taken limit_is lanes_is =
-    rw (limit_is items refl, lanes_is items refl, taken)
-    (both_numbers command (value_of items) (number_in LIMIT (value_of items (codes "limit"))) (number_in LANES (value_of items (codes "lanes"))) refl refl)
+-- what is read of the items that words are
+abbrev read_of : Option (List Item) → Option Values
+read_of = option_and_then (λ items. values_of (value_of items))
 
-pub not_asked : (command : Command) (left : Option (List Item))
-    → option_map_or (are_taken (options_of command)) left false ≡ false
-    → is_some (option_and_then (wanted_items command) left) ≡ false
-not_asked command None taken = refl
-not_asked command (Some items) taken = rw taken refl
+-- texts that are the values of their names say what these say
+pub texts_read : (value : List ℕ → Option (List ℕ))
+    (batch limit lanes number count : Option (List ℕ))
+    → batch ≡ value (codes "batch") → limit ≡ value (codes "limit")
+    → lanes ≡ value (codes "lanes") → number ≡ value (codes "number")
+    → count ≡ value (codes "count") → values_in batch limit lanes number count ≡ values_of value
+texts_read value batch limit lanes number count b l n u c = rw (b, l, n, u, c) refl
+
+pub items_read : (left : Option (List Item)) (batch limit lanes number count : Option (List ℕ))
+    → is_some left ≡ true → Gives left (codes "batch") batch → Gives left (codes "limit") limit
+    → Gives left (codes "lanes") lanes → Gives left (codes "number") number
+    → Gives left (codes "count") count
+    → is_some (values_in batch limit lanes number count) ≡ is_some (read_of left)
+items_read None batch limit lanes number count is b l n u c = cc
+items_read (Some items) batch limit lanes number count is b l n u c =
+    rw (b items refl, l items refl, n items refl, u items refl, c items refl) refl
+
+pub none_read : (left : Option (List Item)) → is_some left ≡ false
+    → is_some (read_of left) ≡ false
+none_read None is = refl
+none_read (Some items) is = cc
+
+pub taken_read : (names : List (List ℕ)) (left : Option (List Item))
+    (batch limit lanes number count : Option (List ℕ))
+    → option_map_or (are_taken names) left false ≡ true
+    → Gives left (codes "batch") batch → Gives left (codes "limit") limit
+    → Gives left (codes "lanes") lanes → Gives left (codes "number") number
+    → Gives left (codes "count") count
+    → is_some (values_in batch limit lanes number count)
+    ≡ is_some (read_of (option_and_then (taken_items names) left))
+taken_read names None batch limit lanes number count taken b l n u c = cc
+taken_read names (Some items) batch limit lanes number count taken b l n u c =
+    rw (taken, b items refl, l items refl, n items refl, u items refl, c items refl) refl
+
+pub not_taken_read : (names : List (List ℕ)) (left : Option (List Item))
+    → option_map_or (are_taken names) left false ≡ false
+    → is_some (read_of (option_and_then (taken_items names) left)) ≡ false
+not_taken_read names None taken = refl
+not_taken_read names (Some items) taken = rw taken refl
+
+some_mapped : {A B : Type 0} (f : A → B) (found : Option A)
+    → is_some found ≡ is_some (option_map f found)
+some_mapped f None = refl
+some_mapped f (Some x) = refl
+
+values_asked : (command : Command) (left : Option (List Item)) → is_some (read_of left)
+    ≡ is_some (option_and_then (λ items. wanted_values command (value_of items)) left)
+values_asked command None = refl
+values_asked command (Some items) = some_mapped _ (values_of (value_of items))
+
+-- words of a command's form are read where the command asks for something by them
+pub read_asked : (command : Command) (form : Form) (words : List (List ℕ)) → form ≡ form_of command
+    → is_read form words ≡ is_some (wanted_by command words)
+read_asked command form words is = rw is (values_asked command (items_in (form_of command) words))
+
+-- what a command asks for is what was read of the values that it was given
+pub asks_read : (command : Command) (asked : Option Wanted) (value : List ℕ → Option (List ℕ))
+    (values : Values) (book cells : Option (List ℕ)) → is_some asked ≡ true
+    → ((wanted : Wanted) → asked ≡ Some wanted → wanted_values command value ≡ Some wanted)
+    → values_of value ≡ Some values → book ≡ value (codes "book") → cells ≡ value (codes "cells")
+    → asked ≡ Some (record {
+      command = command;
+      book = book;
+      batch = values.batch;
+      limit = values.limit;
+      lanes = values.lanes;
+      cells = cells;
+      number = values.number;
+      count = values.count;
+    })
+asks_read command None value values book cells some tells read b c = cc
+asks_read command (Some wanted) value values book cells some tells read b c =
+    sym (tells wanted refl) ∙ rw (read, b, c) refl

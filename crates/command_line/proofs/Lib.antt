@@ -4,4 +4,7 @@ pub mod OneWord
 pub mod ManyOptions
 pub mod Rows
 pub mod ClapWalks
+pub mod ClapPlaces
 pub mod ClapReads
+pub mod AskedRanges
+pub mod PlacedWords

@@ -8,14 +8,14 @@ use Rattle.std.proofs.lemmas.List.{append-nil, append_assoc}
 use Rattle.clap.specs.Simple.{App, Shape, built, filled_from, is_simple, with_rule}
 use Rattle.clap.specs.Takes.{default_passes, is_valid}
 use Rattle.clap.specs.Walk.{Held, Row, Rule, Text, arg_by_id, arg_by_long, finished, has_long, has_row, is_early_multiple, settled, with_default}
-use Rattle.command_line.specs.Options.{app_for, rule_for, with_options}
+use Rattle.command_line.specs.Options.{app_by, rule_by, with_values}
 use Rattle.command_line.specs.Words.{is_among}
 use Rattle.command_line.proofs.OneWord.{Knows, built_rule}
 
 abbrev pub shape_for : List Text → Shape
-shape_for names = (built (app_for names)).top
+shape_for names = (built (app_by true names)).top
 
-rules_built : (names : List Text) → filled_from 1 (map rule_for names) ≡ map built_rule names
+rules_built : (names : List Text) → filled_from 1 (map (rule_by true) names) ≡ map built_rule names
 rules_built [] = refl
 rules_built (name ∷ names) = ap (λ rules. built_rule name ∷ rules) (rules_built names)
 
@@ -63,11 +63,11 @@ no_multiple : (n : ℕ) (names : List Text) → list_any (is_early_multiple n)
 no_multiple n [] = refl
 no_multiple n (name ∷ names) = no_multiple n names
 
-all_told : (names : List Text) → list_all (λ (a : Rule). a.is_simple) (map rule_for names) ≡ true
+all_told : (names : List Text) → list_all (λ (a : Rule). a.is_simple) (map (rule_by true) names) ≡ true
 all_told [] = refl
 all_told (name ∷ names) = all_told names
 
-pub simple : (names : List Text) → is_simple (app_for names) ≡ true
+pub simple : (names : List Text) → is_simple (app_by true names) ≡ true
 simple names = rw (
   rules_built names,
   all_told names,
@@ -100,16 +100,21 @@ finished_as names held =
     let rows = (settled (shape_for names).rules held).rows in
     ap (λ rules. fold with_default rows rules) (rules_built names) ∙ no_defaults names rows
 
--- ---- one option after another
+-- ---- one value after another
 
-pub options_none : (app : App) → with_options app [] ≡ app
-options_none app = λ i. record app { top = record app.top { rules = append-nil app.top.rules i } }
+pub values_none : (spelled : Bool) (app : App) → with_values spelled app [] ≡ app
+values_none spelled app = λ i. record app {
+  top = record app.top {
+    rules = append-nil app.top.rules i;
+  };
+}
 
-pub options_more : (app : App) (name : Text) (names : List Text) → with_options (with_rule app
-    (rule_for name)) names ≡ with_options app (name ∷ names)
-options_more app name names = λ i. record app {
+pub values_more : (spelled : Bool) (app : App) (name : Text) (names : List Text)
+    → with_values spelled (with_rule app (rule_by spelled name)) names
+    ≡ with_values spelled app (name ∷ names)
+values_more spelled app name names = λ i. record app {
   top = record app.top {
     rules = append_assoc
-        app.top.rules (rule_for name ∷ []) (map rule_for names) i;
+        app.top.rules (rule_by spelled name ∷ []) (map (rule_by spelled) names) i;
   };
 }

@@ -7,11 +7,11 @@ use Rattle.clap.specs.Simple.{Shape, filled}
 use Rattle.clap.specs.Walk.{Held, Rule, Row, Text, Walk, walk_from, walked, settled, reacted, used, arg_by_long, arg_by_id, has_row, option}
 use Rattle.clap.specs.Takes.{turn_passes, settle_passes, react_passes, use_passes}
 use Rattle.command_line.specs.Words.{stands_alone}
-use Rattle.command_line.specs.Options.{rule_for}
+use Rattle.command_line.specs.Options.{rule_by}
 
 -- an option as building leaves it
 abbrev pub built_rule : Text → Rule
-built_rule name = filled (rule_for name)
+built_rule name = filled (rule_by true name)
 
 abbrev pub dashes : Text
 dashes = 45 ∷ 45 ∷ []

@@ -1,22 +1,30 @@
--- The options of a command, as `clap` is told them.
-use Rattle.std.specs.Prelude.{ℕ, List, ◌++◌, map, Some, codes, true}
+-- What `clap` is told of the form of a command.
+use Rattle.std.specs.Prelude.{ℕ, Bool, true, false, List, ◌++◌, map, Some, codes}
 use Rattle.clap.specs.Simple.{App, new_app, new_rule, on_top}
 use Rattle.clap.specs.Walk.{Rule}
 use Rattle.clap.specs.declared.builder.action.ArgAction.TheVariants.{Set}
+use Rattle.command_line.specs.Words.{Form}
+use Rattle.command_line.specs.Words.{options, places}
 
--- an option with one value
-abbrev pub rule_for : List ℕ → Rule
-rule_for name = record (new_rule name) { long = Some name; action = Some Set }
+-- one value, whose name is spelled before it or not
+abbrev pub rule_by : Bool → List ℕ → Rule
+rule_by true name = record (new_rule name) { long = Some name; action = Some Set }
+rule_by false name = record (new_rule name) { action = Some Set }
 
--- a command with these options more
-abbrev pub with_options : App → List (List ℕ) → App
-with_options app names =
-    on_top (λ shape. record shape { rules = shape.rules ++ map rule_for names }) app
+-- a command with a value more for each of these names
+abbrev pub with_values : Bool → App → List (List ℕ) → App
+with_values spelled app names =
+    on_top (λ shape. record shape { rules = shape.rules ++ map (rule_by spelled) names }) app
 
--- a command without options, help flag or version, and without a program's name among the words
+-- a command without values, help flag or version, and without a program's name among the words
 abbrev pub bare_app : App
 bare_app = on_top (λ shape. record shape { no_binary_name = true; disable_help_flag = true })
     (new_app (codes "hall"))
 
-abbrev pub app_for : List (List ℕ) → App
-app_for names = with_options bare_app names
+-- a command with a value for each of these names
+abbrev pub app_by : Bool → List (List ℕ) → App
+app_by spelled names = with_values spelled bare_app names
+
+abbrev pub app_for : Form → App
+app_for (options names) = app_by true names
+app_for (places names) = app_by false names

@@ -1,10 +1,16 @@
 -- What the words after a command ask for, and what is answered.
-use Rattle.std.specs.Prelude.{ℕ, Bool, false, List, map, Option, None, option_map}
+use Rattle.std.specs.Prelude.{◌≡◌, ◌≤◌, ℕ, Bool, false, List, map, Option, None, option_map, is_some}
 use Rattle.std.specs.Option.{option_and_then, option_map_or}
 use Rattle.std.specs.Borrow.{Bor}
-use Rattle.command_line.specs.declared.types.Command.{Command}
+use Rattle.hall_limits.specs.declared.TheConstants.{MAX_ROWS}
+use Rattle.command_line.specs.declared.table.TheConstants.{MAX_TRIAL}
+use Rattle.command_line.specs.declared.table.Form.{Form as Told}
+use Rattle.command_line.specs.declared.table.Form.TheVariants as told
+use Rattle.command_line.specs.declared.types.Command.TheVariants.{Trial}
 use Rattle.command_line.specs.declared.types.Wants.{Wants}
-use Rattle.command_line.specs.Words.{Wanted, are_taken, read_items, wanted_items}
+use Rattle.command_line.specs.Words.{Form, Wanted, are_taken, items_in, read_items, value_of}
+use Rattle.command_line.specs.Words.{values_of}
+use Rattle.command_line.specs.Words.{options, places}
 
 -- the bytes of a text that may be there
 abbrev pub bytes_in : Option (Bor (List ℕ)) → Option (List ℕ)
@@ -14,20 +20,37 @@ bytes_in = option_map (λ text. text.now)
 abbrev pub texts_of : List (Bor (List ℕ)) → List (List ℕ)
 texts_of texts = map (λ text. text.now) texts
 
--- the words are items of these options, and none comes twice
+-- what a form is
+abbrev pub form_in : Told → Form
+form_in (told.Options names) = options (texts_of names.now)
+form_in (told.Places names) = places (texts_of names.now)
+
+-- the words are items of these names, and none comes twice
 abbrev pub are_words_taken : List (List ℕ) → List (List ℕ) → Bool
 are_words_taken names words = option_map_or (are_taken names) (read_items None words) false
 
--- what a command asks for by the words after it
-abbrev pub asked : Command → List (List ℕ) → Option Wanted
-asked command words = option_and_then (wanted_items command) (read_items None words)
+-- the words are in a form, and their values can be read
+abbrev pub is_read : Form → List (List ℕ) → Bool
+is_read form words =
+    is_some (option_and_then (λ items. values_of (value_of items)) (items_in form words))
 
 -- what is answered
 abbrev pub seen : Wants → Wanted
 seen wants = record {
   command = wants.command;
   book = wants.book;
+  batch = wants.batch;
   limit = wants.limit;
   lanes = wants.lanes;
   cells = wants.cells;
+  number = wants.number;
+  count = wants.count;
 }
+
+-- the numbers that are asked for are in their ranges: a book has room for a row at least, and a trial
+-- has a pack at least
+pub record IsInRange (wanted : Wanted) : Type 0 where
+  pub least : 1 ≤ wanted.limit
+  pub most : wanted.limit ≤ MAX_ROWS
+  pub packs : wanted.count ≤ MAX_TRIAL
+  pub some : wanted.command ≡ Trial → 1 ≤ wanted.count

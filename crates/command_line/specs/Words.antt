@@ -8,44 +8,64 @@ use Rattle.std.specs.List.{list_any}
 use Rattle.std.specs.Option.{option_and_then}
 use Rattle.std.specs.Str.{bytes_eq}
 use Rattle.clap.specs.Lexer.{long_of}
+use Rattle.book_words.specs.Names.{name_of}
+use Rattle.book_words.specs.declared.name.Name.{Name}
 use Rattle.hall_units.specs.Number.{bounded_number}
 use Rattle.command_line.specs.declared.types.Command.{Command}
-use Rattle.command_line.specs.declared.types.Command.TheVariants.{Run, Check, Migrate}
+use Rattle.command_line.specs.declared.types.Command.TheVariants.{Run, Report, Export, Check}
+use Rattle.command_line.specs.declared.types.Command.TheVariants.{Import, Trial, Migrate}
+use Rattle.command_line.specs.declared.values.Values.{Values}
 use Rattle.command_line.specs.declared.table.NumberForm.{NumberForm}
-use Rattle.command_line.specs.declared.table.TheConstants.{LIMIT, LANES}
+use Rattle.command_line.specs.declared.table.TheConstants.{LIMIT, LANES, NUMBER, COUNT}
 
--- the name of an option, and the value given to it
+-- a name, and the value given to it
 pub record Item : Type 0 where
   pub name : List ℕ
   pub value : List ℕ
 
--- what is asked for: a command, the path of the book where one is named, the most rows, how many
--- lanes, and the folder of their files where one is named
+-- what is asked for: a command, the path of the book and a batch where they are named, the most rows,
+-- how many lanes, the folder of their files where one is named, and the two numbers of a trial
 pub record Wanted : Type 0 where
   pub command : Command
   pub book : Option (List ℕ)
+  pub batch : Option Name
   pub limit : ℕ
   pub lanes : ℕ
   pub cells : Option (List ℕ)
+  pub number : ℕ
+  pub count : ℕ
 
 -- the bytes of each word
 abbrev pub bytes_of : List (String Global) → List (List ℕ)
 bytes_of words = map string_bytes words
 
--- ---- commands and their options
+-- ---- commands and their forms
+
+-- the commands by their words
+abbrev pub commands : List (List ℕ × Command)
+commands = (codes "run", Run) ∷ (codes "report", Report) ∷ (codes "export", Export)
+    ∷ (codes "check", Check) ∷ (codes "import", Import) ∷ (codes "trial", Trial)
+    ∷ (codes "migrate", Migrate) ∷ []
 
 -- the command that a word names
 abbrev pub command_of : List ℕ → Option Command
-command_of word =
-    if bytes_eq word (codes "run") then Some Run
-    else if bytes_eq word (codes "check") then Some Check
-    else if bytes_eq word (codes "migrate") then Some Migrate else None
+command_of word = option_map (λ row. row.1) (find (λ row. bytes_eq word row.0) commands)
 
--- the options that it takes
-abbrev pub options_of : Command → List (List ℕ)
-options_of Run = codes "book" ∷ codes "limit" ∷ codes "lanes" ∷ codes "cells" ∷ []
-options_of Check = codes "book" ∷ []
-options_of Migrate = codes "book" ∷ []
+-- what stands behind a command: options of these names, each at most once and in any order, or a
+-- value for each of these names, in this order
+pub data Form : Type 0 where
+  options : List (List ℕ) → Form
+  places : List (List ℕ) → Form
+
+-- what stands behind each command
+abbrev pub form_of : Command → Form
+form_of Run = options (codes "book" ∷ codes "limit" ∷ codes "lanes" ∷ codes "cells" ∷ [])
+form_of Report = options (codes "book" ∷ codes "batch" ∷ [])
+form_of Export = options (codes "book" ∷ [])
+form_of Check = options (codes "book" ∷ [])
+form_of Import = options (codes "book" ∷ codes "limit" ∷ [])
+form_of Trial = places (codes "number" ∷ codes "count" ∷ [])
+form_of Migrate = options (codes "book" ∷ [])
 
 -- ---- items
 
@@ -81,55 +101,97 @@ read_items (Some name) (word ∷ words) =
 read_items None (word ∷ words) = option_and_then
     (λ option. begin_item option.0 option.1 (λ waiting. read_items waiting words)) (long_of word)
 
--- ---- what the items ask for
-
 -- a name is one of these
 abbrev pub is_among : List (List ℕ) → List ℕ → Bool
 is_among names name = list_any (λ other. bytes_eq other name) names
 
--- the item gives a value to the option of this name
+-- the item gives a value to this name
 abbrev pub gives : List ℕ → Item → Bool
 gives name item = bytes_eq item.name name
 
--- each item gives a value to one of these options, and none gets another behind it
+-- each item gives a value to one of these names, and none gets another behind it
 abbrev pub are_taken : List (List ℕ) → List Item → Bool
 are_taken names [] = true
 are_taken names (item ∷ items) = is_among names item.name && not (list_any (gives item.name) items)
     && are_taken names items
 
--- the value that items give to the option of this name
+-- the items that the words are where each is the value of the name in its place
+abbrev pub placed_items : List (List ℕ) → List (List ℕ) → Option (List Item)
+placed_items [] [] = Some []
+placed_items [] (word ∷ words) = None
+placed_items (name ∷ names) [] = None
+placed_items (name ∷ names) (word ∷ words) =
+    if stands_alone word then with_item name word (placed_items names words) else None
+
+-- the items, where each is of one of these names and none comes twice
+abbrev pub taken_items : List (List ℕ) → List Item → Option (List Item)
+taken_items names items = if are_taken names items then Some items else None
+
+-- the items that the words of a form are
+abbrev pub items_in : Form → List (List ℕ) → Option (List Item)
+items_in (options names) words = option_and_then (taken_items names) (read_items None words)
+items_in (places names) words = placed_items names words
+
+-- ---- what the items ask for
+
+-- the value that items give to this name
 abbrev pub value_of : List Item → List ℕ → Option (List ℕ)
 value_of items name = option_map (λ item. item.value) (find (gives name) items)
 
--- a number in the range of an option
+-- a number in its range
 abbrev pub in_range : NumberForm → ℕ → Option ℕ
 in_range form number =
     if (nat_le form.least number && nat_le number form.most) then Some number else None
 
--- the number that an option is: 1 to 20 digits with a value in its range, or what it is where no
--- text is given
+-- the number that a value is: 1 to 20 digits with a value in its range, or what it is where no text
+-- is given
 abbrev pub number_in : NumberForm → Option (List ℕ) → Option ℕ
 number_in form None = Some form.absent
 number_in form (Some text) =
     option_and_then (in_range form) (bounded_number 20 (2 ^ 64 - 1) text)
 
--- what a command asks for by the values of its options
+-- the batch that is named, where one is: a text of 1 to 32 bytes
+abbrev pub batch_in : Option (List ℕ) → Option (Option Name)
+batch_in None = Some None
+batch_in (Some text) = option_map (λ name. Some name) (name_of text)
+
+-- what is read of these texts, where each is in its range
+abbrev pub values_in : (batch limit lanes number count : Option (List ℕ)) → Option Values
+values_in batch limit lanes number count = option_and_then (λ batch.
+    option_and_then (λ limit. option_and_then (λ lanes. option_and_then (λ number.
+    option_map (λ count. record {
+      batch = batch;
+      limit = limit;
+      lanes = lanes;
+      number = number;
+      count = count;
+    }) (number_in COUNT count)) (number_in NUMBER number)) (number_in LANES lanes))
+    (number_in LIMIT limit)) (batch_in batch)
+
+-- the same by a value for each name
+abbrev pub values_of : (List ℕ → Option (List ℕ)) → Option Values
+values_of value = values_in (value (codes "batch")) (value (codes "limit")) (value (codes "lanes"))
+    (value (codes "number")) (value (codes "count"))
+
+-- what a command asks for by the values of its names
 abbrev pub wanted_values : Command → (List ℕ → Option (List ℕ)) → Option Wanted
-wanted_values command value = option_and_then (λ limit. option_map (λ lanes. record {
+wanted_values command value = option_map (λ values. record {
   command = command;
   book = value (codes "book");
-  limit = limit;
-  lanes = lanes;
+  batch = values.batch;
+  limit = values.limit;
+  lanes = values.lanes;
   cells = value (codes "cells");
-}) (number_in LANES (value (codes "lanes")))) (number_in LIMIT (value (codes "limit")))
+  number = values.number;
+  count = values.count;
+}) (values_of value)
 
--- what a command and its items ask for
-abbrev pub wanted_items : Command → List Item → Option Wanted
-wanted_items command items = if are_taken (options_of command) items
-    then wanted_values command (value_of items) else None
+-- what a command asks for by the words after it
+abbrev pub wanted_by : Command → List (List ℕ) → Option Wanted
+wanted_by command words = option_and_then (λ items. wanted_values command (value_of items))
+    (items_in (form_of command) words)
 
 -- what the words ask for: a command, and then its items
 abbrev pub wanted_of : List (List ℕ) → Option Wanted
 wanted_of [] = None
-wanted_of (word ∷ words) = option_and_then
-    (λ command. option_and_then (wanted_items command) (read_items None words)) (command_of word)
+wanted_of (word ∷ words) = option_and_then (λ command. wanted_by command words) (command_of word)

@@ -1,14 +1,17 @@
 ghost use Rattle.std.specs.Prelude.{◌≡◌, ◌↔◌, Some, None, is_some, true};
 ghost use Rattle.std.specs.Prelude.{IfOk, IfErr, MatchOption};
 ghost use Rattle.command_line.specs.declared.types.WantsError.TheVariants.{Usage};
-ghost use Rattle.command_line.specs.Words.{bytes_of, wanted_of};
-ghost use Rattle.command_line.specs.Taken.{asked, bytes_in, seen};
+ghost use Rattle.clap.specs.Words.{first_value, found_of};
+ghost use Rattle.command_line.specs.Words.{bytes_of, values_of, wanted_by, wanted_of};
+ghost use Rattle.command_line.specs.Taken.{IsInRange, bytes_in, seen};
 
-use crate::given::{is_asked, read_within};
+use crate::given::is_asked;
 use crate::parser::parse;
-use crate::table::{LANES, LIMIT, find_command};
+use crate::table::find_command;
 use crate::text::Text;
 use crate::types::{Command, Wants, WantsError};
+use crate::values::{Texts, Values, read_values};
+use clap::ArgMatches;
 use std::alloc::{AllocError, Global};
 
 /// What the words of the command line ask for; the program's own name isn't among them. `Usage`
@@ -17,6 +20,7 @@ pub fn wants(alloc: Global, words: &[String]) -> Result<Wants, WantsError>
     ensures ok { IfOk result (λ wants. wanted_of (bytes_of words.now) ≡ Some (seen wants)) }
     ensures err { IfErr result (λ why.
         (why ≡ Usage) ↔ (wanted_of (bytes_of words.now) ≡ None)) }
+    ensures ranges { IfOk result (λ wants. IsInRange (seen wants)) }
 {
     let Some((command, rest)) = read_words(words) else {
         return Err(WantsError::Usage);
@@ -25,10 +29,7 @@ pub fn wants(alloc: Global, words: &[String]) -> Result<Wants, WantsError>
         Ok(matches) => matches,
         Err(why) => return Err(why),
     };
-    let Some(limit) = read_within(&LIMIT, matches.get_str("limit")) else {
-        return Err(WantsError::Usage);
-    };
-    let Some(lanes) = read_within(&LANES, matches.get_str("lanes")) else {
+    let Some(values) = values_in(&matches) else {
         return Err(WantsError::Usage);
     };
     let Ok(book) = copied(alloc, matches.get_str("book")) else {
@@ -40,17 +41,33 @@ pub fn wants(alloc: Global, words: &[String]) -> Result<Wants, WantsError>
     Ok(Wants {
         command,
         book,
-        limit: limit as u32,
-        lanes: lanes as u8,
+        batch: values.batch,
+        limit: values.limit,
+        lanes: values.lanes,
         cells,
+        number: values.number,
+        count: values.count,
+    })
+}
+
+// The values that `clap` read.
+fn values_in(matches: &ArgMatches) -> Option<Values>
+    ensures { result ≡ values_of (first_value (found_of matches.now)) }
+{
+    read_values(&Texts {
+        batch: matches.get_str("batch"),
+        limit: matches.get_str("limit"),
+        lanes: matches.get_str("lanes"),
+        number: matches.get_str("number"),
+        count: matches.get_str("count"),
     })
 }
 
 // The command and the words after it, where all of them are in the grammar.
 fn read_words<'a>(words: &'a [String]) -> Option<(Command, &'a [String])>
     ensures { MatchOption result (wanted_of (bytes_of words.now) ≡ None)
-        (λ found. (wanted_of (bytes_of words.now) ≡ asked found.0 (bytes_of found.1.now))
-        × (is_some (asked found.0 (bytes_of found.1.now)) ≡ true)) }
+        (λ found. (wanted_of (bytes_of words.now) ≡ wanted_by found.0 (bytes_of found.1.now))
+        × (is_some (wanted_by found.0 (bytes_of found.1.now)) ≡ true)) }
 {
     let (word, rest) = words.split_first()?;
     let command = find_command(word.as_str())?;

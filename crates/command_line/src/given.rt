@@ -1,25 +1,61 @@
-ghost use Rattle.std.specs.Prelude.{◌≡◌, ◌≤◌, ◌&&◌, List, Some, None, not, is_some, IfSome};
+ghost use Rattle.std.specs.Prelude.{◌≡◌, ◌&&◌, List, Some, None, not, is_some};
 ghost use Rattle.std.specs.List.{list_any};
 ghost use Rattle.command_line.specs.Words.{bytes_of, gives, is_among, Item as Given};
-ghost use Rattle.command_line.specs.Words.{number_in, read_items, value_of};
-ghost use Rattle.command_line.specs.Taken.{are_words_taken, asked, bytes_in, texts_of};
+ghost use Rattle.command_line.specs.Words.{read_items, value_of, wanted_by};
+ghost use Rattle.command_line.specs.Words.{options, places};
+ghost use Rattle.command_line.specs.Taken.{are_words_taken, bytes_in, is_read, texts_of};
 
 use crate::items::{Item, first_item};
-use crate::table::{LANES, LIMIT, NumberForm, options_of};
+use crate::places::{are_placed, placed_value};
+use crate::table::{Form, form_of};
 use crate::types::Command;
-use hall_units::read_number;
+use crate::values::{Texts, read_values};
 
 /// Whether the words after a command's are in its grammar.
-#[tactic(auto, using(crate::proofs::GivenValues::asked_by, crate::proofs::GivenValues::not_asked))]
+#[tactic(auto, using(crate::proofs::GivenValues::read_asked))]
 pub fn is_asked(command: Command, words: &[String]) -> bool
-    ensures { result ≡ is_some (asked command (bytes_of words.now)) }
+    ensures { result ≡ is_some (wanted_by command (bytes_of words.now)) }
 {
-    if !are_taken(options_of(command), words) {
+    match form_of(command) {
+        Form::Options(names) => are_options_read(names, words),
+        Form::Places(names) => are_places_read(names, words),
+    }
+}
+
+// Whether the words are items of these options, and their values can be read.
+#[tactic(auto, using(crate::proofs::GivenValues::not_taken_read))]
+fn are_options_read(names: &[&str], words: &[String]) -> bool
+    ensures { result ≡ is_read (options (texts_of names.now)) (bytes_of words.now) }
+{
+    if !are_taken(names, words) {
         return false;
     }
-    let limit = find_value("limit", words);
-    let lanes = find_value("lanes", words);
-    read_within(&LIMIT, limit).is_some() && read_within(&LANES, lanes).is_some()
+    let texts = Texts {
+        batch: find_value("batch", words),
+        limit: find_value("limit", words),
+        lanes: find_value("lanes", words),
+        number: find_value("number", words),
+        count: find_value("count", words),
+    };
+    read_values(&texts).is_some()
+}
+
+// Whether the words are a value for each of these names, and can be read.
+#[tactic(auto, using(crate::proofs::GivenValues::none_read))]
+fn are_places_read(names: &[&str], words: &[String]) -> bool
+    ensures { result ≡ is_read (places (texts_of names.now)) (bytes_of words.now) }
+{
+    if !are_placed(names, words) {
+        return false;
+    }
+    let texts = Texts {
+        batch: placed_value(names, "batch", words),
+        limit: placed_value(names, "limit", words),
+        lanes: placed_value(names, "lanes", words),
+        number: placed_value(names, "number", words),
+        count: placed_value(names, "count", words),
+    };
+    read_values(&texts).is_some()
 }
 
 // Whether the words are items of these options, of which none comes twice.
@@ -74,21 +110,4 @@ fn find_value<'a>(name: &str, words: &'a [String]) -> Option<&'a str>
         rest = after;
     }
     None
-}
-
-/// The number that an option is: what its text says, where that is in its range, or what it is
-/// where no text is given.
-pub fn read_within(form: &NumberForm, given: Option<&str>) -> Option<u64>
-    requires { form.now.absent ≤ form.now.most }
-    ensures value { result ≡ number_in form.now (bytes_in given.entry) }
-    ensures most { IfSome result (λ number. number ≤ form.now.most) }
-{
-    let Some(text) = given else {
-        return Some(form.absent);
-    };
-    let number = read_number(text.as_bytes())?;
-    if number < form.least || number > form.most {
-        return None;
-    }
-    Some(number)
 }

@@ -75,8 +75,8 @@ fn split_value(text: &str) -> (&str, Option<&str>)
     }
 }
 
-// Whether a word is a value by itself.
-fn stands_alone(word: &str) -> bool
+/// Whether a word is a value by itself.
+pub fn stands_alone(word: &str) -> bool
     ensures { result ≡ stands_alone word.now }
 {
     match word.as_bytes().first() {

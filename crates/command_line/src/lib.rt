@@ -5,10 +5,13 @@ mod asked;
 mod given;
 mod items;
 mod parser;
+mod places;
 mod table;
 mod text;
 mod types;
+mod values;
 
 pub use asked::wants;
+pub use table::MAX_TRIAL;
 pub use text::Text;
 pub use types::{Command, Wants, WantsError};

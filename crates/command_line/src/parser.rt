@@ -1,65 +1,82 @@
-ghost use Rattle.std.specs.Prelude.{◌≡◌, Some, IfOk, MatchResult};
+ghost use Rattle.std.specs.Prelude.{◌≡◌, Bool, Some, IfOk, MatchResult};
 ghost use Rattle.clap.specs.Words.{app_of, first_value, found_of, kind_of};
 ghost use Rattle.command_line.specs.declared.types.WantsError.TheVariants.{NoMemory};
 ghost use Rattle.clap.specs.Simple.{with_rule};
-ghost use Rattle.command_line.specs.Options.{app_for, rule_for};
-ghost use Rattle.command_line.specs.Taken.{asked, texts_of};
-ghost use Rattle.command_line.specs.Words.{bytes_of, Wanted, wanted_values};
+ghost use Rattle.command_line.specs.Options.{app_by, app_for, rule_by};
+ghost use Rattle.command_line.specs.Taken.{form_in, texts_of};
+ghost use Rattle.command_line.specs.Words.{bytes_of, Wanted, wanted_by, wanted_values};
 
-use crate::table::options_of;
+use crate::table::{Form, form_of};
 use crate::types::{Command, WantsError};
 use clap::error::ErrorKind;
 use clap::{Arg, ArgAction, ArgMatches};
 use std::alloc::{AllocError, Global};
 
-/// The values of a command's options, for words that are in its grammar: nothing but memory may
+/// The values that words give, where they are in the grammar of a command: nothing but memory may
 /// then be refused.
 pub fn parse<'a>(
     alloc: Global,
     command: Command,
     words: &'a [String],
 ) -> Result<ArgMatches<'a>, WantsError>
-    ensures { (wanted : Wanted) → asked command (bytes_of words.now) ≡ Some wanted
+    ensures { (wanted : Wanted) → wanted_by command (bytes_of words.now) ≡ Some wanted
         → MatchResult result
         (λ matches. wanted_values command (first_value (found_of matches)) ≡ Some wanted)
         (λ why. why ≡ NoMemory) }
 {
-    let Ok(options) = options(alloc, options_of(command)) else {
+    let Ok(told) = told_form(alloc, form_of(command)) else {
         return Err(WantsError::NoMemory);
     };
-    match options.try_get_matches_from(words) {
+    match told.try_get_matches_from(words) {
         Ok(matches) => Ok(matches),
         Err(error) => Err(refusal(error.kind())),
     }
 }
 
-// A command with these options. There is no help and no version among them.
-fn options<'a>(
+// What `clap` is told of a form.
+fn told_form<'a>(alloc: Global, form: Form) -> Result<clap::Command<'a>, AllocError>
+    ensures { IfOk result (λ told. app_of told ≡ app_for (form_in form)) }
+{
+    match form {
+        Form::Options(names) => told_names(alloc, names, true),
+        Form::Places(names) => told_names(alloc, names, false),
+    }
+}
+
+// A command with a value for each of these names, spelled before it or not. There is no help and
+// no version among them.
+fn told_names<'a>(
     alloc: Global,
     names: &'static [&'static str],
+    spelled: bool,
 ) -> Result<clap::Command<'a>, AllocError>
-    ensures { IfOk result (λ options. app_of options ≡ app_for (texts_of names.now)) }
+    ensures { IfOk result (λ told. app_of told ≡ app_by spelled (texts_of names.now)) }
 {
-    let mut options = clap::Command::new(alloc, "hall")
+    let mut told = clap::Command::new(alloc, "hall")
         .no_binary_name(true)
         .disable_help_flag(true);
     for name in names {
-        options = with_option(alloc, options, name)?;
+        told = with_value(alloc, told, name, spelled)?;
     }
-    Ok(options)
+    Ok(told)
 }
 
-// The command with one option more, which has one value.
-fn with_option<'a>(
+// The command with one value more.
+fn with_value<'a>(
     alloc: Global,
-    options: clap::Command<'a>,
+    told: clap::Command<'a>,
     name: &'static str,
+    spelled: bool,
 ) -> Result<clap::Command<'a>, AllocError>
     ensures { IfOk result (λ more. app_of more
-        ≡ with_rule (app_of options.entry) (rule_for name.now)) }
+        ≡ with_rule (app_of told.entry) (rule_by spelled name.now)) }
 {
-    let option = Arg::new(alloc, name).long(name).action(ArgAction::Set);
-    Ok(options.arg(option)?)
+    let value = Arg::new(alloc, name).action(ArgAction::Set);
+    if spelled {
+        Ok(told.arg(value.long(name))?)
+    } else {
+        Ok(told.arg(value)?)
+    }
 }
 
 // What a refusal of words comes to.

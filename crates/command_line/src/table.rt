@@ -1,6 +1,6 @@
 ghost use Rattle.std.specs.Prelude.{◌≡◌};
-ghost use Rattle.command_line.specs.Taken.{texts_of};
-ghost use Rattle.command_line.specs.Words.{command_of, options_of};
+ghost use Rattle.command_line.specs.Taken.{form_in};
+ghost use Rattle.command_line.specs.Words.{command_of, form_of};
 
 use crate::types::Command;
 use hall_limits::{MAX_LANE, MAX_ROWS};
@@ -12,8 +12,20 @@ pub fn find_command(word: &str) -> Option<Command>
     if word == "run" {
         return Some(Command::Run);
     }
+    if word == "report" {
+        return Some(Command::Report);
+    }
+    if word == "export" {
+        return Some(Command::Export);
+    }
     if word == "check" {
         return Some(Command::Check);
+    }
+    if word == "import" {
+        return Some(Command::Import);
+    }
+    if word == "trial" {
+        return Some(Command::Trial);
     }
     if word == "migrate" {
         return Some(Command::Migrate);
@@ -21,24 +33,40 @@ pub fn find_command(word: &str) -> Option<Command>
     None
 }
 
-/// The options that a command takes.
-pub fn options_of(command: Command) -> &'static [&'static str]
-    ensures { texts_of result.now ≡ options_of command }
+/// What stands behind the word of a command.
+#[derive(Clone, Copy)]
+pub enum Form {
+    /// Options of these names, each at most once, in any order.
+    Options(&'static [&'static str]),
+    /// A value for each of these names, in this order.
+    Places(&'static [&'static str]),
+}
+
+/// What stands behind the word of a command.
+pub fn form_of(command: Command) -> Form
+    ensures { form_in result ≡ form_of command }
 {
     match command {
-        Command::Run => &["book", "limit", "lanes", "cells"],
-        Command::Check => &["book"],
-        Command::Migrate => &["book"],
+        Command::Run => Form::Options(&["book", "limit", "lanes", "cells"]),
+        Command::Report => Form::Options(&["book", "batch"]),
+        Command::Export => Form::Options(&["book"]),
+        Command::Check => Form::Options(&["book"]),
+        Command::Import => Form::Options(&["book", "limit"]),
+        Command::Trial => Form::Places(&["number", "count"]),
+        Command::Migrate => Form::Options(&["book"]),
     }
 }
 
-/// An option whose value is a number: its range, and what it is where it isn't given.
+/// A value that is a number: its range, and what it is where it isn't given.
 #[derive(Clone, Copy)]
 pub struct NumberForm {
     pub least: u64,
     pub most: u64,
     pub absent: u64,
 }
+
+/// The most packs of a trial: its book then has room for all of their rows.
+pub const MAX_TRIAL: u32 = 100_000;
 
 /// The most rows of the book.
 pub const LIMIT: NumberForm = NumberForm {
@@ -51,5 +79,19 @@ pub const LIMIT: NumberForm = NumberForm {
 pub const LANES: NumberForm = NumberForm {
     least: 0,
     most: MAX_LANE as u64,
+    absent: 0,
+};
+
+/// The number that the weights of a trial are made from.
+pub const NUMBER: NumberForm = NumberForm {
+    least: 0,
+    most: u64::MAX,
+    absent: 0,
+};
+
+/// How many packs a trial weighs.
+pub const COUNT: NumberForm = NumberForm {
+    least: 1,
+    most: MAX_TRIAL as u64,
     absent: 0,
 };

@@ -1,4 +1,5 @@
 use crate::text::Text;
+use book_words::Name;
 use std::fmt;
 
 /// What the program is to do.
@@ -6,8 +7,16 @@ use std::fmt;
 pub enum Command {
     /// Reads a script: `run [--book PATH] [--limit N] [--lanes N] [--cells DIR]`
     Run,
+    /// Prints the sheets of all batches, or that of one: `report [--book PATH] [--batch NAME]`
+    Report,
+    /// Prints the register of all packs: `export [--book PATH]`
+    Export,
     /// Says whether a book is whole: `check [--book PATH]`
     Check,
+    /// Reads the acts of desks from a table: `import [--book PATH] [--limit N]`
+    Import,
+    /// Makes a script of COUNT packs, and runs it: `trial NUMBER COUNT`
+    Trial,
     /// Carries a journal of version 1 into a book: `migrate [--book PATH]`
     Migrate,
 }
@@ -18,12 +27,18 @@ pub struct Wants {
     pub command: Command,
     /// The path of the book; without one the book is kept in memory.
     pub book: Option<Text>,
+    /// The batch whose sheet is reported; without one all are.
+    pub batch: Option<Name>,
     /// The most rows of the book.
     pub limit: u32,
     /// How many lanes the script may work.
     pub lanes: u8,
     /// The folder of the lanes' files; without one it is the folder that the program runs in.
     pub cells: Option<Text>,
+    /// The number that the weights of a trial are made from; 0 for other commands.
+    pub number: u64,
+    /// How many packs a trial weighs; 0 for other commands.
+    pub count: u32,
 }
 
 /// Why the words give nothing.

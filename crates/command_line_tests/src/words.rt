@@ -1,4 +1,5 @@
-use command_line::Command::{Check, Migrate, Run};
+use book_words::Name;
+use command_line::Command::{Check, Export, Import, Migrate, Report, Run, Trial};
 use command_line::{Command, Text, Wants, WantsError, wants};
 use hall_limits::MAX_ROWS;
 use std::alloc::{AllocError, Global};
@@ -11,17 +12,23 @@ type Words = &'static [&'static str];
 struct Asked {
     command: Command,
     book: Option<&'static str>,
+    batch: Option<&'static str>,
     limit: u32,
     lanes: u8,
     cells: Option<&'static str>,
+    number: u64,
+    count: u32,
 }
 
 const RUN: Asked = Asked {
     command: Run,
     book: None,
+    batch: None,
     limit: MAX_ROWS,
     lanes: 0,
     cells: None,
+    number: 0,
+    count: 0,
 };
 
 const CHECK: Asked = Asked {
@@ -34,10 +41,31 @@ const MIGRATE: Asked = Asked {
     ..RUN
 };
 
+const REPORT: Asked = Asked {
+    command: Report,
+    ..RUN
+};
+
+const EXPORT: Asked = Asked {
+    command: Export,
+    ..RUN
+};
+
+const IMPORT: Asked = Asked {
+    command: Import,
+    ..RUN
+};
+
+const TRIAL: Asked = Asked {
+    command: Trial,
+    count: 1,
+    ..RUN
+};
+
 const BOOK: Option<&str> = Some("b.hall");
 
 // Words and what they ask for, written by hand from the grammar, as what follows.
-static ASKED: [(Words, Asked); 20] = [
+static ASKED: [(Words, Asked); 34] = [
     (&["run"], RUN),
     (&["check"], CHECK),
     (&["migrate"], MIGRATE),
@@ -131,9 +159,88 @@ static ASKED: [(Words, Asked); 20] = [
             ..RUN
         },
     ),
+    (&["report"], REPORT),
+    (&["export"], EXPORT),
+    (&["import"], IMPORT),
+    (
+        &["report", "--batch", "A"],
+        Asked {
+            batch: Some("A"),
+            ..REPORT
+        },
+    ),
+    (
+        &["report", "--batch=rice-2025_03.03A"],
+        Asked {
+            batch: Some("rice-2025_03.03A"),
+            ..REPORT
+        },
+    ),
+    (
+        &["report", "--batch=rice-2025_03.03AB"],
+        Asked {
+            batch: Some("rice-2025_03.03AB"),
+            ..REPORT
+        },
+    ),
+    (
+        &["report", "--batch", "a234567890b234567890c234567890d2"],
+        Asked {
+            batch: Some("a234567890b234567890c234567890d2"),
+            ..REPORT
+        },
+    ),
+    (
+        &["report", "--batch=-A", "--book", "b.hall"],
+        Asked {
+            book: BOOK,
+            batch: Some("-A"),
+            ..REPORT
+        },
+    ),
+    (
+        &["export", "--book=b.hall"],
+        Asked {
+            book: BOOK,
+            ..EXPORT
+        },
+    ),
+    (
+        &["import", "--limit", "9", "--book=b.hall"],
+        Asked {
+            book: BOOK,
+            limit: 9,
+            ..IMPORT
+        },
+    ),
+    (&["trial", "0", "1"], TRIAL),
+    (
+        &["trial", "1", "100000"],
+        Asked {
+            number: 1,
+            count: 100_000,
+            ..TRIAL
+        },
+    ),
+    (
+        &["trial", "18446744073709551615", "2"],
+        Asked {
+            number: u64::MAX,
+            count: 2,
+            ..TRIAL
+        },
+    ),
+    (
+        &["trial", "007", "002"],
+        Asked {
+            number: 7,
+            count: 2,
+            ..TRIAL
+        },
+    ),
 ];
 
-static REFUSED: [Words; 29] = [
+static REFUSED: [Words; 65] = [
     &[],
     &["runs"],
     &["run", "run"],
@@ -163,6 +270,42 @@ static REFUSED: [Words; 29] = [
     &["run", "-"],
     &["run", "-book=b"],
     &["run", "---book=b"],
+    &["trial"],
+    &["trial", "1"],
+    &["trial", "1", "2", "3"],
+    &["trial", "-1", "2"],
+    &["trial", "1", "-2"],
+    &["trial", "-", "1"],
+    &["trial", "1", "-"],
+    &["trial", "--", "1", "2"],
+    &["trial", "1", "--", "2"],
+    &["trial", "1", "2", "--"],
+    &["trial", "", "1"],
+    &["trial", "1", ""],
+    &["trial", "1", "0"],
+    &["trial", "1", "100001"],
+    &["trial", "18446744073709551616", "1"],
+    &["trial", "000000000000000000001", "1"],
+    &["trial", "+1", "1"],
+    &["trial", "1", "x"],
+    &["trial", "--number=1", "--count=1"],
+    &["trial", "1", "1", "--book=b"],
+    &["report", "--batch="],
+    &["report", "--batch", ""],
+    &["report", "--batch=a234567890b234567890c234567890d23"],
+    &["report", "--batch=A", "--batch", "A"],
+    &["report", "--limit=5"],
+    &["report", "A"],
+    &["export", "--batch=A"],
+    &["export", "--limit", "5"],
+    &["import", "--batch=A"],
+    &["import", "--lanes=1"],
+    &["import", "--limit=0"],
+    &["run", "--batch=A"],
+    &["run", "1", "2"],
+    &["check", "--batch=A"],
+    &["migrate", "--limit=5"],
+    &["serve"],
 ];
 
 fn words_of(alloc: Global, words: &[&str]) -> Result<Vec<String>, AllocError> {
@@ -182,13 +325,25 @@ fn is_same(text: &Option<Text>, wanted: Option<&str>) -> bool {
     }
 }
 
+// Whether a batch is this one, or neither is there.
+fn is_batch(batch: Option<Name>, wanted: Option<&str>) -> bool {
+    match (batch, wanted) {
+        (Some(name), Some(wanted)) => name.as_bytes() == wanted.as_bytes(),
+        (None, None) => true,
+        _ => false,
+    }
+}
+
 // Whether what was found is what is asked for.
 fn is_found(found: &Wants, asked: &Asked) -> bool {
     found.command == asked.command
         && is_same(&found.book, asked.book)
+        && is_batch(found.batch, asked.batch)
         && found.limit == asked.limit
         && found.lanes == asked.lanes
         && is_same(&found.cells, asked.cells)
+        && found.number == asked.number
+        && found.count == asked.count
 }
 
 // Whether words ask for this.

@@ -8,10 +8,10 @@ pub returns-in-Ok-try_get_matches_from : goal.returns-in-Ok-try_get_matches_from
 returns-in-Ok-try_get_matches_from c =
     matches_ask c.args.command (map string_bytes c.args.words.now) _
     c.in-Ok-try_get_matches_from.matches
-    (c.in-Ok.ensures ∙ ap app_for c.options_of.ensures) c.in-Ok-try_get_matches_from.ensures.matches
+    (c.in-Ok.ensures ∙ ap app_for c.form_of.ensures) c.in-Ok-try_get_matches_from.ensures.matches
 
 pub returns-in-Err : goal.returns-in-Err
 returns-in-Err c = λ wanted asks.
     c.refusal.ensures (c.kind.ensures
     ∙ c.in-Err.ensures.passes (takes_asked c.args.command (map string_bytes c.args.words.now) _
-    (c.in-Ok.ensures ∙ ap app_for c.options_of.ensures) wanted asks))
+    (c.in-Ok.ensures ∙ ap app_for c.form_of.ensures) wanted asks))

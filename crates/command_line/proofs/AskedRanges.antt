@@ -1,0 +1,163 @@
+-- The ranges of the numbers that words ask for.
+use Rattle.std.proofs.Common.{◌≡◌, ℕ, ◌≤◌, ◌&&◌, ◌^◌, ◌-◌, nat_le, Bool, true, false, List, [], ◌∷◌, codes, if◌then◌else◌, Option, Some, None, option_map, option_and_then, refl, subst, arith}
+use Rattle.std.specs.Prelude.{⊤}
+use Rattle.std.proofs.lemmas.Bool.Decides.{nat_tests}
+use Rattle.hall_limits.specs.declared.TheConstants.{MAX_ROWS}
+use Rattle.hall_units.specs.Number.{bounded_number}
+use Rattle.book_words.specs.declared.name.Name.{Name}
+use Rattle.command_line.specs.declared.types.Command.{Command}
+use Rattle.command_line.specs.declared.types.Command.TheVariants.{Run, Report, Export, Check}
+use Rattle.command_line.specs.declared.types.Command.TheVariants.{Import, Trial, Migrate}
+use Rattle.command_line.specs.declared.table.NumberForm.{NumberForm}
+use Rattle.command_line.specs.declared.table.TheConstants.{COUNT, LANES, LIMIT, MAX_TRIAL, NUMBER}
+use Rattle.command_line.specs.declared.values.Values.{Values}
+use Rattle.command_line.specs.Taken.{IsInRange}
+use Rattle.command_line.specs.Words.{Item, Wanted, batch_in, command_of, form_of, in_range, items_in}
+use Rattle.command_line.specs.Words.{number_in, placed_items, stands_alone, value_of, values_in}
+use Rattle.command_line.specs.Words.{values_of, wanted_by, wanted_of, wanted_values, with_item}
+
+-- ---- steps that may find nothing
+
+some_same : {A : Type 0} (x y : A) → Some x ≡ Some y → x ≡ y
+some_same x y same = cc
+
+-- what is found behind a first step is found from what that step found
+then_gives : {A B : Type 0} (P : Type 0) (f : A → Option B) (first : Option A) (found : B)
+    → option_and_then f first ≡ Some found → ((x : A) → first ≡ Some x → f x ≡ Some found → P) → P
+then_gives P f None found is each = absurd cc
+then_gives P f (Some x) found is each = each x refl is
+
+map_gives : {A B : Type 0} (P : B → Type 0) (f : A → B) (first : Option A) (found : B)
+    → option_map f first ≡ Some found → ((x : A) → first ≡ Some x → P (f x)) → P found
+map_gives P f None found is each = absurd cc
+map_gives P f (Some x) found is each = subst P (some_same (f x) found is) (each x refl)
+
+-- ---- numbers
+
+-- a number between these two
+record IsWithin (least most number : ℕ) : Type 0 where
+  from : least ≤ number
+  to : number ≤ most
+
+in_bounds : (form : NumberForm) (n number : ℕ) → in_range form n ≡ Some number
+    → IsWithin form.least form.most number
+in_bounds form n number is = go (nat_le form.least n) (nat_le n form.most) refl refl is
+  where
+    go : (a b : Bool) → nat_le form.least n ≡ a → nat_le n form.most ≡ b → (if
+        (a && b) then Some n else None) ≡ Some number → IsWithin form.least form.most number
+    go true true least most here = subst (IsWithin form.least form.most) (some_same n number here)
+        (record { from = grind (arith, nat_tests, least); to = grind (arith, nat_tests, most) })
+    go true false least most here = absurd cc
+    go false b least most here = absurd cc
+
+given_within : (form : NumberForm) (text : List ℕ) (number : ℕ)
+    → number_in form (Some text) ≡ Some number → IsWithin form.least form.most number
+given_within form text number is = then_gives (IsWithin form.least form.most number)
+    (in_range form) (bounded_number 20 (2 ^ 64 - 1) text) number is
+    (λ n read here. in_bounds form n number here)
+
+limit_within : (given : Option (List ℕ)) (limit : ℕ) → number_in LIMIT given ≡ Some limit
+    → IsWithin 1 MAX_ROWS limit
+limit_within None limit is = subst (IsWithin 1 MAX_ROWS) (some_same MAX_ROWS limit is)
+    (record { from = omega arith; to = omega arith })
+limit_within (Some text) limit is = given_within LIMIT text limit is
+
+-- how many packs are asked for: none, where no text says so
+count_within : (given : Option (List ℕ)) (count : ℕ) → number_in COUNT given ≡ Some count
+    → IsWithin 0 MAX_TRIAL count
+count_within None count is = subst (IsWithin 0 MAX_TRIAL) (some_same 0 count is)
+    (record { from = omega arith; to = omega arith })
+count_within (Some text) count is =
+    let within = given_within COUNT text count is in
+    record { from = omega arith; to = within.to }
+
+-- ---- the values of a command
+
+-- the least number of packs by what is given
+abbrev LeastPacks : Option (List ℕ) → ℕ → Type 0
+LeastPacks None count = ⊤
+LeastPacks (Some text) count = 1 ≤ count
+
+least_packs : (given : Option (List ℕ)) (count : ℕ) → number_in COUNT given ≡ Some count
+    → LeastPacks given count
+least_packs None count is = tt
+least_packs (Some text) count is = (given_within COUNT text count is).from
+
+record AreWithin (given : Option (List ℕ)) (values : Values) : Type 0 where
+  limit : IsWithin 1 MAX_ROWS values.limit
+  count : IsWithin 0 MAX_TRIAL values.count
+  some : LeastPacks given values.count
+
+values_within : (batch limit lanes number count : Option (List ℕ)) (values : Values)
+    → values_in batch limit lanes number count ≡ Some values → AreWithin count values
+values_within batch limit lanes number count values is =
+    then_gives (AreWithin count values) _ (batch_in batch) values is (λ b batch_is one.
+    then_gives (AreWithin count values) _ (number_in LIMIT limit) values one (λ l limit_is two.
+    then_gives (AreWithin count values) _ (number_in LANES lanes) values two (λ n lanes_is three.
+    then_gives (AreWithin count values) _ (number_in NUMBER number) values three (λ u number_is four.
+    map_gives (AreWithin count) _ (number_in COUNT count) values four (λ c count_is. record {
+      limit = limit_within limit l limit_is;
+      count = count_within count c count_is;
+      some = least_packs count c count_is;
+    })))))
+
+-- the two words of a trial say how many packs it has
+count_placed : (words : List (List ℕ)) (items : List Item)
+    → items_in (form_of Trial) words ≡ Some items
+    → (text : List ℕ) × (value_of items (codes "count") ≡ Some text)
+count_placed [] items is = absurd cc
+count_placed (number ∷ []) items is = absurd (go (stands_alone number) is)
+  where
+    go : (t : Bool) → (if t then with_item (codes "number") number None else None) ≡ Some items → ⊥
+    go true here = cc
+    go false here = cc
+count_placed (number ∷ count ∷ words) items is =
+    go (stands_alone number) (stands_alone count) words is
+  where
+    go : (a b : Bool) (left : List (List ℕ))
+        → (if a then with_item (codes "number") number
+        (if b then with_item (codes "count") count (placed_items [] left) else None) else None)
+        ≡ Some items
+        → (text : List ℕ) × (value_of items (codes "count") ≡ Some text)
+    go true true [] here = (
+      count,
+      subst (λ (list : List Item).
+          value_of list (codes "count") ≡ Some count) (some_same _ items here) refl,
+    )
+    go true true (word ∷ left) here = absurd cc
+    go true false left here = absurd cc
+    go false b left here = absurd cc
+
+-- ---- what words ask for
+
+by_values : (command : Command) (items : List Item) (wanted : Wanted)
+    → (command ≡ Trial → (text : List ℕ) × (value_of items (codes "count") ≡ Some text))
+    → wanted_values command (value_of items) ≡ Some wanted → IsInRange wanted
+by_values command items wanted given is =
+    map_gives IsInRange _ (values_of (value_of items)) wanted is (λ values values_are.
+    let within = values_within (value_of items (codes "batch")) (value_of items (codes "limit"))
+    (value_of items (codes "lanes")) (value_of items (codes "number"))
+    (value_of items (codes "count")) values values_are in
+    record {
+      least = within.limit.from;
+      most = within.limit.to;
+      packs = within.count.to;
+      some = λ trial.
+          let text = given trial in
+          subst (λ (o : Option (List ℕ)). LeastPacks o values.count) text.1 within.some;
+    })
+
+by_command : (command : Command) (words : List (List ℕ)) (wanted : Wanted)
+    → wanted_by command words ≡ Some wanted → IsInRange wanted
+by_command command words wanted is =
+    then_gives (IsInRange wanted) (λ items. wanted_values command (value_of items))
+    (items_in (form_of command) words) wanted is (λ items items_are here.
+    by_values command items wanted (λ trial. count_placed words items
+    (subst (λ (c : Command). items_in (form_of c) words ≡ Some items) trial items_are)) here)
+
+pub asked_in_range : (words : List (List ℕ)) (wanted : Wanted) → wanted_of words ≡ Some wanted
+    → IsInRange wanted
+asked_in_range [] wanted is = absurd cc
+asked_in_range (word ∷ words) wanted is =
+    then_gives (IsInRange wanted) (λ command. wanted_by command words) (command_of word) wanted is
+    (λ command named here. by_command command words wanted here)

@@ -1,0 +1,73 @@
+ghost use Rattle.std.specs.Prelude.{◌≡◌, ◌≤◌, IfSome};
+ghost use Rattle.command_line.specs.Words.{batch_in, number_in, values_in};
+ghost use Rattle.command_line.specs.Taken.{bytes_in};
+
+use crate::table::{COUNT, LANES, LIMIT, NUMBER, NumberForm};
+use book_words::Name;
+use hall_units::read_number;
+
+/// The texts of values that have to be read, each where it is given.
+#[derive(Clone, Copy)]
+pub struct Texts<'a> {
+    pub batch: Option<&'a str>,
+    pub limit: Option<&'a str>,
+    pub lanes: Option<&'a str>,
+    pub number: Option<&'a str>,
+    pub count: Option<&'a str>,
+}
+
+/// The values that were read.
+#[derive(Clone, Copy)]
+pub struct Values {
+    pub batch: Option<Name>,
+    pub limit: u32,
+    pub lanes: u8,
+    pub number: u64,
+    pub count: u32,
+}
+
+/// What the texts of values say, where each is in its range.
+pub fn read_values(texts: &Texts) -> Option<Values>
+    ensures { result ≡ values_in (bytes_in texts.now.batch) (bytes_in texts.now.limit)
+        (bytes_in texts.now.lanes) (bytes_in texts.now.number) (bytes_in texts.now.count) }
+{
+    let batch = read_batch(texts.batch)?;
+    let limit = read_within(&LIMIT, texts.limit)?;
+    let lanes = read_within(&LANES, texts.lanes)?;
+    let number = read_within(&NUMBER, texts.number)?;
+    let count = read_within(&COUNT, texts.count)?;
+    Some(Values {
+        batch,
+        limit: limit as u32,
+        lanes: lanes as u8,
+        number,
+        count: count as u32,
+    })
+}
+
+// The batch that a text names, if one is given: `None` where it isn't a name.
+fn read_batch(given: Option<&str>) -> Option<Option<Name>>
+    ensures { result ≡ batch_in (bytes_in given.entry) }
+{
+    let Some(text) = given else {
+        return Some(None);
+    };
+    Some(Some(Name::new(text.as_bytes())?))
+}
+
+// The number that a value is: what its text says, where that is in its range, or what it is where
+// no text is given.
+fn read_within(form: &NumberForm, given: Option<&str>) -> Option<u64>
+    requires { form.now.absent ≤ form.now.most }
+    ensures value { result ≡ number_in form.now (bytes_in given.entry) }
+    ensures most { IfSome result (λ number. number ≤ form.now.most) }
+{
+    let Some(text) = given else {
+        return Some(form.absent);
+    };
+    let number = read_number(text.as_bytes())?;
+    if number < form.least || number > form.most {
+        return None;
+    }
+    Some(number)
+}
