@@ -94,7 +94,8 @@ values_within batch limit lanes number count values is =
     then_gives (AreWithin count values) _ (batch_in batch) values is (λ b batch_is one.
     then_gives (AreWithin count values) _ (number_in LIMIT limit) values one (λ l limit_is two.
     then_gives (AreWithin count values) _ (number_in LANES lanes) values two (λ n lanes_is three.
-    then_gives (AreWithin count values) _ (number_in NUMBER number) values three (λ u number_is four.
+    then_gives (AreWithin count values) _ (number_in NUMBER number) values three
+    (λ u number_is four.
     map_gives (AreWithin count) _ (number_in COUNT count) values four (λ c count_is. record {
       limit = limit_within limit l limit_is;
       count = count_within count c count_is;

@@ -63,7 +63,8 @@ no_multiple : (n : ℕ) (names : List Text) → list_any (is_early_multiple n)
 no_multiple n [] = refl
 no_multiple n (name ∷ names) = no_multiple n names
 
-all_told : (names : List Text) → list_all (λ (a : Rule). a.is_simple) (map (rule_by true) names) ≡ true
+all_told : (names : List Text)
+    → list_all (λ (a : Rule). a.is_simple) (map (rule_by true) names) ≡ true
 all_told [] = refl
 all_told (name ∷ names) = all_told names
 

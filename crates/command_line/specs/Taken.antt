@@ -47,8 +47,8 @@ seen wants = record {
   count = wants.count;
 }
 
--- the numbers that are asked for are in their ranges: a book has room for a row at least, and a trial
--- has a pack at least
+-- the numbers that are asked for are in their ranges: a book has room for a row at least, and a
+-- trial has a pack at least
 pub record IsInRange (wanted : Wanted) : Type 0 where
   pub least : 1 ≤ wanted.limit
   pub most : wanted.limit ≤ MAX_ROWS

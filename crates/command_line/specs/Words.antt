@@ -23,8 +23,8 @@ pub record Item : Type 0 where
   pub name : List ℕ
   pub value : List ℕ
 
--- what is asked for: a command, the path of the book and a batch where they are named, the most rows,
--- how many lanes, the folder of their files where one is named, and the two numbers of a trial
+-- what is asked for: a command, the path of the book and a batch where they are named, the most
+-- rows, how many lanes, the folder of their files where one is named, and the numbers of a trial
 pub record Wanted : Type 0 where
   pub command : Command
   pub book : Option (List ℕ)
