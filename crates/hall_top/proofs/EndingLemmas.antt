@@ -13,12 +13,13 @@ use Rattle.store_runs.specs.declared.stop.Stop.{Stop}
 use Rattle.store_runs.specs.declared.stop.Stop.TheVariants.{Finished, BadLine, ReadFault, WriteFault, DiskFault, NoMemory, Spent}
 use Rattle.store_runs.specs.Books.{BookState}
 use Rattle.store_runs.specs.Runs.{RunGoes, CountsStep}
+use Rattle.report_run.specs.Printing.{SaysText}
 use Rattle.hall_top.specs.declared.ended.Outcome.{Outcome}
 use Rattle.hall_top.specs.declared.ending.Ending.{Ending}
 use Rattle.hall_top.specs.declared.ending.Ending.TheVariants.{Usage, Unopened, Stopped}
 use Rattle.hall_top.specs.Endings.{early_status, is_early, is_spent, status_of, last_status, SaysLast, is_status}
 use Rattle.book_migration.specs.Migration.{ExplainsMigration}
-use Rattle.hall_top.specs.Calls.{SaysWhole, input_of, CarriesJournal, SaysMigration, LanesRest, ExplainsCheck, SaysMigrate, ExplainsMigrate, EndsAs}
+use Rattle.hall_top.specs.Calls.{SaysWhole, input_of, CarriesJournal, SaysMigration, LanesRest, ExplainsCheck, ExplainsPrinting, SaysMigrate, ExplainsMigrate, EndsAs}
 
 -- ---- the line that says that the book is whole
 
@@ -36,6 +37,33 @@ explains_check book call stop rows unread rest same says is =
       says = subst (λ (es : List Entry). SaysWhole call.before.outside.output
           call.now.outside.output (length es) stop) (sym same) says;
     }
+
+-- a text of a book went out
+pub explains_printing : {S : Type 0} (text : List Entry → List ℕ) (book : BookState) (call : Call S)
+    (stop : Stop) (rows : List Entry)
+    → call.now.source ≡ call.before.source → LanesRest call.before.outside call.now.outside
+    → call.rows ≡ rows
+    → SaysText call.before.outside.output call.now.outside.output (text rows) stop
+    → rows ≡ book.entries → ExplainsPrinting text book call stop
+explains_printing text book call stop rows unread rest same says is =
+    record {
+      unread = unread;
+      rest = rest;
+      rows = same ∙ is;
+      says = subst (λ (es : List Entry). SaysText call.before.outside.output
+          call.now.outside.output (text es) stop) (sym same) says;
+    }
+
+-- it touches no disk
+pub text_counts : (T : Type 0) (before now : Stream) (text : List ℕ) (count : ℕ) (stop : Stop)
+    → SaysText before now text stop → CountsStep {T = T} count count (Err stop)
+text_counts T before now text count Finished says = refl
+text_counts T before now text count WriteFault says = refl
+text_counts T before now text count NoMemory says = refl
+text_counts T before now text count (BadLine number) says = absurd says
+text_counts T before now text count ReadFault says = absurd says
+text_counts T before now text count (DiskFault offer) says = absurd says
+text_counts T before now text count Spent says = absurd says
 
 -- a migration, and then its line
 module _ {S : Type 0} (book : BookState) (call : Call S) where

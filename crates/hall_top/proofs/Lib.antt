@@ -1,4 +1,3 @@
 pub mod EndingLemmas
 pub mod OpenedBooks
 pub mod RequestOrder
-pub mod RowLimit

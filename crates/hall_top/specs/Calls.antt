@@ -1,9 +1,10 @@
 -- What a whole call of the program does: its words, its disk, its command, its last line.
-use Rattle.std.specs.Prelude.{◌≡◌, ◌⊎◌, ℕ, ◌≤◌, List, [], length, take, Option, Some}
+use Rattle.std.specs.Prelude.{◌≡◌, ◌⊎◌, ℕ, ◌≤◌, List, [], length, take, Option, Some, None}
 use Rattle.disk_core.specs.Disk.{WhereTold}
 use Rattle.disk_core.specs.Devices.{IsUnmoved}
 use Rattle.disk_core.specs.declared.disk.Disk as disk
 use Rattle.book_words.specs.declared.act.Entry.{Entry}
+use Rattle.book_words.specs.declared.name.Name.{Name}
 use Rattle.book_words.specs.Answers.{IsLegal}
 use Rattle.book_journal.specs.Rows.{FitsSnapshot}
 use Rattle.book_journal.specs.Mounting.{KeepsFromSync}
@@ -24,6 +25,8 @@ use Rattle.store_runs.specs.Stops.{stop_row}
 use Rattle.script_run.specs.Outside.{Outside, Devices, Call}
 use Rattle.script_run.specs.Runs.{ExplainsRun}
 use Rattle.book_migration.specs.Migration.{InputMoment, ExplainsMigration}
+use Rattle.report_run.specs.Printing.{SaysText}
+use Rattle.report_run.specs.Reports.{batch_text, book_register, report_text}
 use Rattle.hall_top.specs.declared.ending.Ending.TheVariants.{Usage, Unopened, Stopped}
 use Rattle.hall_top.specs.declared.ended.Ended.{Ended}
 use Rattle.hall_top.specs.declared.ended.Outcome.{Outcome}
@@ -31,7 +34,7 @@ use Rattle.hall_top.specs.Endings.{SaysLast}
 use Rattle.hall_top.specs.Texts.{whole}
 use Rattle.command_line.specs.Words.{Wanted}
 use Rattle.command_line.specs.declared.types.Command.{Command}
-use Rattle.command_line.specs.declared.types.Command.TheVariants.{Run, Check, Migrate}
+use Rattle.command_line.specs.declared.types.Command.TheVariants.{Run, Report, Export, Check, Migrate}
 
 -- nothing was read or written, no lane was worked, and there are no rows
 pub record NothingDone {S : Type 0} (call : Call S) : Type 0 where
@@ -109,6 +112,27 @@ pub record ExplainsCheck {S : Type 0} (book : BookState) (call : Call S) (stop :
     pub rows : call.rows ≡ book.entries
     pub says : SaysWhole call.before.outside.output call.now.outside.output (length call.rows) stop
 
+-- what is reported of a book: the sheet of a batch, or the line of its refusal; without a batch all
+-- sheets, and the summary
+abbrev pub reported : Option Name → List Entry → List ℕ
+reported (Some batch) entries = batch_text entries batch
+reported None entries = report_text entries
+
+-- a text of the book: the input wasn't read, no lane was worked, the rows are those that the disk
+-- held, and the text went out or was cut, or without memory nothing went out
+pub record ExplainsPrinting {S : Type 0} (text : List Entry → List ℕ) (book : BookState)
+    (call : Call S) (stop : Stop) : Type 0 where
+  pub unread : call.now.source ≡ call.before.source
+  pub rest : LanesRest call.before.outside call.now.outside
+  pub rows : call.rows ≡ book.entries
+  pub says : SaysText call.before.outside.output call.now.outside.output (text call.rows) stop
+
+abbrev pub ExplainsReport : {S : Type 0} → Option Name → BookState → Call S → Stop → Type 0
+ExplainsReport batch book call stop = ExplainsPrinting (reported batch) book call stop
+
+abbrev pub ExplainsExport : {S : Type 0} → BookState → Call S → Stop → Type 0
+ExplainsExport book call stop = ExplainsPrinting book_register book call stop
+
 -- the input among some devices
 abbrev pub input_of : {S : Type 0} → Devices S → InputMoment S
 input_of devices = record { source = devices.source; stream = devices.input }
@@ -138,16 +162,22 @@ pub record ExplainsMigrate {S : Type 0} (book : BookState) (call : Call S) (stop
     pub says : SaysMigrate book call stop
 
 -- how each command ends
-abbrev pub ExplainsCommand : {S : Type 0} → Command → BookState → Call S → Stop → Type 0
-ExplainsCommand Run book call stop = ExplainsRun book call stop
-ExplainsCommand Check book call stop = ExplainsCheck book call stop
-ExplainsCommand Migrate book call stop = ExplainsMigrate book call stop
+abbrev pub ExplainsAs : {S : Type 0} → Command → Wanted → BookState → Call S → Stop → Type 0
+ExplainsAs Run wanted book call stop = ExplainsRun book call stop
+ExplainsAs Report wanted book call stop = ExplainsReport wanted.batch book call stop
+ExplainsAs Export wanted book call stop = ExplainsExport book call stop
+ExplainsAs Check wanted book call stop = ExplainsCheck book call stop
+ExplainsAs Migrate wanted book call stop = ExplainsMigrate book call stop
+
+-- how the command that is asked for ends
+abbrev pub ExplainsCommand : {S : Type 0} → Wanted → BookState → Call S → Stop → Type 0
+ExplainsCommand wanted book call stop = ExplainsAs wanted.command wanted book call stop
 
 -- A call with right words: the disk was opened as a book and the command ended in one of its ways,
 -- or it wasn't opened.
 abbrev pub EndsAs : {S D : Type 0} → disk.Ghosts D → Wanted → D → Outcome D → Call S → Type 0
 EndsAs disk wanted before outcome call =
-    IsOpened disk wanted.limit (ExplainsCommand wanted.command) before outcome call
+    IsOpened disk wanted.limit (ExplainsCommand wanted) before outcome call
     ⊎ IsUnopened disk before outcome call
 
 -- a call with wrong words: nothing was read, the disk is as it was, and there are no rows

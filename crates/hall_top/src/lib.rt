@@ -3,6 +3,7 @@
 
 mod ended;
 mod ending;
+mod reports;
 mod top;
 mod whole;
 

@@ -4,7 +4,7 @@ ghost use Rattle.book_words.specs.Answers.{IsLegal};
 ghost use Rattle.book_words.specs.Soundness.{IsSound as IsSoundBook};
 ghost use Rattle.book_store.specs.Stores.{entries_of, held_of, IsSound};
 ghost use Rattle.command_line.specs.Words.{Wanted, bytes_of, wanted_of};
-ghost use Rattle.command_line.specs.Taken.{seen};
+ghost use Rattle.command_line.specs.Taken.{IsInRange, seen};
 ghost use Rattle.store_runs.specs.Books.{stored_book};
 ghost use Rattle.script_run.specs.Outside.{call, outside_at, nothing_told, all_said};
 ghost use Rattle.store_runs.specs.Runs.{RunGoes};
@@ -15,6 +15,7 @@ ghost use Rattle.hall_top.specs.Calls.{ExplainsCommand, EndsAs, CommandDone, IsU
 
 use crate::ended::{Ended, Outcome};
 use crate::ending::{Ending, say_last};
+use crate::reports::{export, report};
 use crate::whole::{end_migration, say_whole};
 use book_core::{Book, Rows};
 use book_migration::migrate_journal;
@@ -40,10 +41,10 @@ fn without_lanes<D: Disk>(alloc: Global, end: RunEnd<D>) -> ScriptEnd<D>
     }
 }
 
-// Does a command over a store.
+// Does what is wanted over a store.
 fn run_command<S: Source, K: Sink, D: Disk, L: Lane>(
     alloc: Global,
-    command: Command,
+    wanted: &Wants,
     store: Store<D>,
     input: &mut S,
     output: &mut K,
@@ -54,15 +55,18 @@ fn run_command<S: Source, K: Sink, D: Disk, L: Lane>(
     requires opened { held_of store ≡ length (entries_of store) }
     requires sound { IsSound D.Disk store }
     requires legal { IsLegal (entries_of store) }
-    ensures explained { ExplainsCommand command (stored_book store)
+    requires range { IsInRange (seen wanted.now) }
+    ensures explained { ExplainsCommand (seen wanted.now) (stored_book store)
         (call S.Source input.old input.new
         (outside_at K.Sink L.Cell L.Gate output.old lanes.old nothing_told)
         (outside_at K.Sink L.Cell L.Gate output.new lanes.new result.log.told)
         (entries_of result.store)) result.stop }
     ensures goes { RunGoes D.Disk result.stop store result.store }
 {
-    match command {
+    match wanted.command {
         Command::Run => run_script(alloc, store, input, output, lanes),
+        Command::Report => without_lanes(alloc, report(alloc, store, wanted.batch, output)),
+        Command::Export => without_lanes(alloc, export(alloc, store, output)),
         Command::Check => without_lanes(alloc, say_whole(store, output)),
         Command::Migrate => {
             let end = end_migration(migrate_journal(alloc, store, input), output);
@@ -71,10 +75,10 @@ fn run_command<S: Source, K: Sink, D: Disk, L: Lane>(
     }
 }
 
-// Does a command over a store, and closes it.
+// Does what is wanted over a store, and closes it.
 fn do_command<S: Source, K: Sink, D: Disk, L: Lane>(
     alloc: Global,
-    command: Command,
+    wanted: &Wants,
     store: Store<D>,
     input: &mut S,
     output: &mut K,
@@ -85,14 +89,15 @@ fn do_command<S: Source, K: Sink, D: Disk, L: Lane>(
     requires opened { held_of store ≡ length (entries_of store) }
     requires sound { IsSound D.Disk store }
     requires legal { IsLegal (entries_of store) }
-    ensures done { CommandDone D.Disk (ExplainsCommand command) store result
+    requires range { IsInRange (seen wanted.now) }
+    ensures done { CommandDone D.Disk (ExplainsCommand (seen wanted.now)) store result
         (call S.Source input.old input.new
         (outside_at K.Sink L.Cell L.Gate output.old lanes.old nothing_told)
         (outside_at K.Sink L.Cell L.Gate output.new lanes.new result.log.told) result.rows) }
     ensures sound { IsSoundBook result.rows }
 {
     let held = store.len();
-    let end = run_command(alloc, command, store, input, output, lanes);
+    let end = run_command(alloc, wanted, store, input, output, lanes);
     let (disk, rows) = end.store.close();
     Outcome {
         ending: Ending::Stopped(end.stop),
@@ -140,8 +145,7 @@ fn do_wanted<S: Source, K: Sink, D: Disk, L: Lane>(
 ) -> Outcome<D>
     requires few { length lanes.old ≤ MAX_LANE }
     requires unended { S.ended input.old ≡ false }
-    requires least { 1 ≤ wanted.now.limit }
-    requires most { wanted.now.limit ≤ MAX_ROWS }
+    requires range { IsInRange (seen wanted.now) }
     ensures ends { EndsAs D.Disk (seen wanted.now) disk result
         (call S.Source input.old input.new
         (outside_at K.Sink L.Cell L.Gate output.old lanes.old nothing_told)
@@ -149,7 +153,7 @@ fn do_wanted<S: Source, K: Sink, D: Disk, L: Lane>(
     ensures rows { IsSoundBook result.rows }
 {
     match Store::mount(alloc, disk, wanted.limit) {
-        Ok(store) => do_command(alloc, wanted.command, store, input, output, lanes),
+        Ok(store) => do_command(alloc, wanted, store, input, output, lanes),
         Err(refused) => leave_unopened(alloc, Ending::Unopened(refused.why), refused.disk),
     }
 }
@@ -194,8 +198,12 @@ fn do_words<S: Source, K: Sink, D: Disk, L: Lane>(
 /// row is stable on the disk before its answer. At the end of the script, where rows were added, a
 /// snapshot of the book is kept; then comes the summary. A line `work LANE BATCH` works one of the
 /// lanes that are handed in, of which the first is lane 1, and is answered by the lane's line; a run
-/// goes on behind a lane that ended early, unless the disk failed or there was no memory. `check`
-/// reads nothing, and says that the book is whole.
+/// goes on behind a lane that ended early, unless the disk failed or there was no memory.
+///
+/// `report` prints the sheets of all batches in order of opening, and the summary; with `--batch`
+/// that one sheet, or the line that there is no such batch. `export` prints the register of all
+/// packs in the order of their weighing. `check` says that the book is whole. These three read
+/// nothing and leave the rows as they are.
 ///
 /// `migrate` reads a journal of version 1 and carries its rows, up to the first slot that is cut
 /// or whose gate is closed; what follows is read and passed over. A row that the book has is

@@ -1,6 +1,7 @@
 use Rattle.std.proofs.Common.{List, sym, subst, refl}
 use Rattle.book_words.specs.declared.act.Entry.{Entry}
 use Rattle.script_run.specs.Outside.{devices, outside_at, nothing_told}
+use Rattle.command_line.specs.Taken.{seen}
 use Rattle.store_runs.specs.Books.{stored_book}
 use Rattle.hall_top.specs.Calls.{ExplainsCommand}
 use Rattle.hall_top.proofs.OpenedBooks.{call_from}
@@ -21,7 +22,7 @@ returns-clause-done g c =
       rows = c.close-disk.ensures.rows;
       held = c.len-held.ensures;
       goes = c.run_command-end.ensures.goes;
-      explained = subst (λ (es : List Entry). ExplainsCommand c.args.command
+      explained = subst (λ (es : List Entry). ExplainsCommand (seen c.args.wanted.now)
           (stored_book c.args.store) (call_from before now es) c.run_command-end.result.stop)
           (sym c.close-disk.ensures.rows) c.run_command-end.ensures.explained;
     }

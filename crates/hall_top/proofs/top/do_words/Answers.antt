@@ -7,7 +7,6 @@ use Rattle.text_streams.specs.Streams.{output_at}
 use Rattle.script_run.specs.Outside.{devices, outside_at, nothing_told}
 use Rattle.hall_top.proofs.EndingLemmas.{same_wanted}
 use Rattle.hall_top.proofs.OpenedBooks.{call_from, lanes_rest, is_unopened}
-use Rattle.hall_top.proofs.RowLimit.{limit_asked}
 use Rattle.hall_top.proofs.top.do_words.Goals as goal
 
 pub returns-in-Err-NoMemory-clause-ends : goal.returns-in-Err-NoMemory-clause-ends
@@ -30,14 +29,6 @@ returns-in-Err-NoMemory-clause-ends g c = λ wanted asks.
     )) refl
     (lanes_rest here (output_at g.K.Sink c.args.output.now)
     c.leave_unopened-in-Err-NoMemory.result.log.told l.log) l.rows l.disk l.held l.ending)
-
-pub do_wanted-requires-clause-least : goal.do_wanted-requires-clause-least
-do_wanted-requires-clause-least g c = (limit_asked (bytes_of c.args.words.now)
-    (seen c.in-Ok.wanted) c.in-Ok.ensures.ok).least
-
-pub do_wanted-requires-clause-most : goal.do_wanted-requires-clause-most
-do_wanted-requires-clause-most g c = (limit_asked (bytes_of c.args.words.now)
-    (seen c.in-Ok.wanted) c.in-Ok.ensures.ok).most
 
 pub returns-in-Ok-clause-ends : goal.returns-in-Ok-clause-ends
 returns-in-Ok-clause-ends g c = λ wanted asks.

@@ -7,33 +7,87 @@ use Rattle.script_run.specs.Outside.{devices, outside_at, nothing_told}
 use Rattle.store_runs.specs.Books.{stored_book}
 use Rattle.store_runs.specs.Runs.{RunGoes}
 use Rattle.store_runs.proofs.StoreSteps.{stays}
+use Rattle.report_run.specs.Reports.{book_register}
+use Rattle.hall_top.specs.Calls.{reported}
 use Rattle.hall_top.proofs.OpenedBooks.{call_from, lanes_rest}
-use Rattle.hall_top.proofs.EndingLemmas.{explains_check, ends_migration, whole_counts, migrated_goes}
+use Rattle.hall_top.proofs.EndingLemmas.{explains_check, explains_printing, ends_migration, whole_counts, text_counts, migrated_goes}
 use Rattle.hall_top.proofs.top.run_command.Goals as goal
 
 pub returns-in-Run-clause-explained : goal.returns-in-Run-clause-explained
 returns-in-Run-clause-explained g c = rw c.in-Run.is c.run_script.ensures.explained
 
+pub returns-in-Report-clause-explained : goal.returns-in-Report-clause-explained
+returns-in-Report-clause-explained g c =
+    let here = outside_at g.K.Sink g.L.Cell g.L.Gate c.args.output.now c.args.lanes.now
+    nothing_told in
+    let end = c.without_lanes.result in
+    let now = outside_at g.K.Sink g.L.Cell g.L.Gate c.report.new.output c.args.lanes.now
+    end.log.told in
+    let call = call_from (devices g.S.Source c.args.input.now here)
+    (devices g.S.Source c.args.input.now now) (entries_of end.store) in
+    let same = ap (λ (s : Store _). entries_of s)
+    (c.without_lanes.ensures.store ∙ c.report.ensures.store) in
+    rw c.in-Report.is (explains_printing (reported c.args.wanted.now.batch)
+    (stored_book c.args.store) call end.stop (entries_of c.args.store) refl
+    (lanes_rest here (output_at g.K.Sink c.report.new.output) end.log.told
+    c.without_lanes.ensures.log) same
+    (rw c.without_lanes.ensures.stop c.report.ensures.says) refl)
+
+pub returns-in-Report-clause-goes : goal.returns-in-Report-clause-goes
+returns-in-Report-clause-goes g c =
+    rw (c.without_lanes.ensures.stop, c.without_lanes.ensures.store)
+    (subst (λ (s : Store _). RunGoes g.D.Disk c.report.result.stop c.args.store s)
+    (sym c.report.ensures.store)
+    (stays g.D.Disk (Err c.report.result.stop) c.args.store
+    (text_counts ⊤ _ _ _ _ c.report.result.stop c.report.ensures.says)
+    (λ finished grown calm. absurd (omega (arith, grown, c.requires.opened)))))
+
+pub returns-in-Export-clause-explained : goal.returns-in-Export-clause-explained
+returns-in-Export-clause-explained g c =
+    let here = outside_at g.K.Sink g.L.Cell g.L.Gate c.args.output.now c.args.lanes.now
+    nothing_told in
+    let end = c.without_lanes-in-Export.result in
+    let now = outside_at g.K.Sink g.L.Cell g.L.Gate c.export.new.output c.args.lanes.now
+    end.log.told in
+    let call = call_from (devices g.S.Source c.args.input.now here)
+    (devices g.S.Source c.args.input.now now) (entries_of end.store) in
+    let same = ap (λ (s : Store _). entries_of s)
+    (c.without_lanes-in-Export.ensures.store ∙ c.export.ensures.store) in
+    rw c.in-Export.is (explains_printing book_register (stored_book c.args.store) call
+    end.stop (entries_of c.args.store) refl
+    (lanes_rest here (output_at g.K.Sink c.export.new.output) end.log.told
+    c.without_lanes-in-Export.ensures.log) same
+    (rw c.without_lanes-in-Export.ensures.stop c.export.ensures.says) refl)
+
+pub returns-in-Export-clause-goes : goal.returns-in-Export-clause-goes
+returns-in-Export-clause-goes g c =
+    rw (c.without_lanes-in-Export.ensures.stop, c.without_lanes-in-Export.ensures.store)
+    (subst (λ (s : Store _). RunGoes g.D.Disk c.export.result.stop c.args.store s)
+    (sym c.export.ensures.store)
+    (stays g.D.Disk (Err c.export.result.stop) c.args.store
+    (text_counts ⊤ _ _ _ _ c.export.result.stop c.export.ensures.says)
+    (λ finished grown calm. absurd (omega (arith, grown, c.requires.opened)))))
+
 pub returns-in-Check-clause-explained : goal.returns-in-Check-clause-explained
 returns-in-Check-clause-explained g c =
     let here = outside_at g.K.Sink g.L.Cell g.L.Gate c.args.output.now c.args.lanes.now
     nothing_told in
-    let end = c.without_lanes.result in
+    let end = c.without_lanes-in-Check.result in
     let now = outside_at g.K.Sink g.L.Cell g.L.Gate c.say_whole.new.output c.args.lanes.now
     end.log.told in
     let call = call_from (devices g.S.Source c.args.input.now here)
     (devices g.S.Source c.args.input.now now) (entries_of end.store) in
     let same = ap (λ (s : Store _). entries_of s)
-    (c.without_lanes.ensures.store ∙ c.say_whole.ensures.store) in
+    (c.without_lanes-in-Check.ensures.store ∙ c.say_whole.ensures.store) in
     rw c.in-Check.is (explains_check (stored_book c.args.store) call end.stop
     (entries_of c.args.store) refl
     (lanes_rest here (output_at g.K.Sink c.say_whole.new.output) end.log.told
-    c.without_lanes.ensures.log) same
-    (rw c.without_lanes.ensures.stop c.say_whole.ensures.says) refl)
+    c.without_lanes-in-Check.ensures.log) same
+    (rw c.without_lanes-in-Check.ensures.stop c.say_whole.ensures.says) refl)
 
 pub returns-in-Check-clause-goes : goal.returns-in-Check-clause-goes
 returns-in-Check-clause-goes g c =
-    rw (c.without_lanes.ensures.stop, c.without_lanes.ensures.store)
+    rw (c.without_lanes-in-Check.ensures.stop, c.without_lanes-in-Check.ensures.store)
     (subst (λ (s : Store _). RunGoes g.D.Disk c.say_whole.result.stop c.args.store s)
     (sym c.say_whole.ensures.store)
     (stays g.D.Disk (Err c.say_whole.result.stop) c.args.store
