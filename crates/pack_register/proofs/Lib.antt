@@ -1,5 +1,5 @@
 mod Escapes
 mod PlainFields
-mod ReadBack
+pub mod ReadBack
 mod RecordParts
 mod WorkedTexts

@@ -1,0 +1,53 @@
+use Rattle.std.proofs.Common.{rules, ◌≡◌, ◌+◌, ◌<◌, ◌≤◌, List, ℕ, [], length, refl, ◌∙◌, subst, arith}
+use Rattle.std.proofs.lemmas.Result.{err_from_is_err_and}
+use Rattle.text_streams.specs.Streams.{output_at}
+use Rattle.report_run.specs.Printing.{IsPrinting}
+use Rattle.std.specs.List.{flat_map}
+use Rattle.book_words.specs.Views.{pack_view}
+use Rattle.pack_register.specs.Register.{record_text}
+use Rattle.report_run.specs.Reports.{weighed_packs, text_if_there}
+use Rattle.report_run.proofs.Pieces.{begins, goes_on, cuts}
+use Rattle.report_run.proofs.Walks.{records_behind, next_record, no_records}
+use Rattle.report_run.proofs.packs.print_packs.Goals as goal
+
+pub loop-before-init : goal.loop-before-init
+loop-before-init g c = record {
+  printing = begins (output_at g.K.Sink c.args.output.now) c.args.text.now.items
+      (flat_map record_text (weighed_packs c.args.book.now.entries));
+  room = refl;
+}
+
+pub loop-before-preserved : goal.loop-before-preserved
+loop-before-preserved g c =
+    let here = c.loop-before in
+    let entries = c.args.book.now.entries in
+    let inside : here.before < length entries = search rules in
+    record {
+      printing = goes_on (output_at g.K.Sink c.args.output.now) (output_at g.K.Sink here.output)
+          (output_at g.K.Sink c.print_pack.new.output) c.args.text.now.items here.text.items
+          c.print_pack.new.text.items (records_behind entries here.before)
+          (text_if_there record_text (pack_view entries (here.before + 1)))
+          (records_behind entries (here.before + 1)) (flat_map record_text (weighed_packs entries))
+          (next_record entries here.before inside) here.invariant.printing
+          c.in_ok-print_pack.ensures.printed;
+      room = c.print_pack.ensures.room ∙ here.invariant.room;
+    }
+
+pub returns-in_err-print_pack-clause-cut : goal.returns-in_err-print_pack-clause-cut
+returns-in_err-print_pack-clause-cut g c =
+    let here = c.loop-before in
+    let entries = c.args.book.now.entries in
+    let p = err_from_is_err_and c.from_residual.result c.from_residual.ensures.1 in
+    rw p.1 (cuts (output_at g.K.Sink c.args.output.now) (output_at g.K.Sink here.output)
+    (output_at g.K.Sink c.print_pack.new.output) c.args.text.now.items here.text.items
+    (records_behind entries here.before) (flat_map record_text (weighed_packs entries)) here.invariant.printing
+    c.in_err-print_pack.ensures.cut)
+
+pub returns-clause-printed : goal.returns-clause-printed
+returns-clause-printed g c =
+    let here = c.loop-before in
+    let entries = c.args.book.now.entries in
+    let all : length entries ≤ here.before = search rules in
+    subst (λ (left : List ℕ). IsPrinting (output_at g.K.Sink c.args.output.now)
+    (output_at g.K.Sink here.output) c.args.text.now.items here.text.items left
+    (flat_map record_text (weighed_packs entries))) (no_records entries here.before all) here.invariant.printing
