@@ -1,5 +1,5 @@
 -- A text that is printed piece by piece.
-use Rattle.std.proofs.Common.{◌≡◌, ℕ, ◌<◌, List, [], ◌++◌, length, take, sym, ◌∙◌, ap, subst, refl, arith, append_assoc, append-nil, length-append}
+use Rattle.std.proofs.Common.{◌≡◌, ℕ, List, [], ◌++◌, sym, ◌∙◌, ap, subst, refl, arith, append_assoc, append-nil, length-append}
 use Rattle.std.proofs.lemmas.List.{take-append-le}
 use Rattle.std.specs.Io.KnownBytes.{Appends}
 use Rattle.std.proofs.KnownBytes.{Appends-trans}
@@ -76,10 +76,22 @@ cuts before mid now held mids left text one cut =
     (cut_more before now (one.out ++ mids) left
     (cut_second before mid now one.out mids one.wrote cut))
 
+-- the output failed in what the buffer held: what was printed, and more
+pub cuts_behind : (before mid now : Stream) (held holds text more : List ℕ)
+    → HasPrinted before mid held holds text → IsCutIn mid now [] (holds ++ more)
+    → IsCutIn before now [] ((held ++ text) ++ more)
+cuts_behind before mid now held holds text more one cut =
+    subst (IsCutIn before now [])
+    (sym (append_assoc one.out holds more)
+    ∙ ap (λ (l : List ℕ). l ++ more)
+    (ap (λ (l : List ℕ). one.out ++ l) (sym (append-nil holds)) ∙ one.whole))
+    (cut_second before mid now one.out (holds ++ more) one.wrote cut)
+
 -- what the buffer still held went out
-pub ends : (before mid now : Stream) (holds text : List ℕ) → HasPrinted before mid [] holds text
-    → WroteAll mid now holds → WroteAll before now text
-ends before mid now holds text one wrote =
+pub ends : (before mid now : Stream) (held holds text : List ℕ)
+    → HasPrinted before mid held holds text → WroteAll mid now holds
+    → WroteAll before now (held ++ text)
+ends before mid now held holds text one wrote =
     subst (WroteAll before now)
     (ap (λ (l : List ℕ). one.out ++ l) (sym (append-nil holds)) ∙ one.whole)
     (wrote_on before mid now one.out holds one.wrote wrote)

@@ -1,5 +1,5 @@
 -- What a book answers to the questions for a sheet and for a pack.
-use Rattle.std.proofs.Common.{◌≡◌, ℕ, List, length, Option, Some, None, option_map, Result, Ok, Err, IfSome, refl, sym, ◌∙◌, ap, subst}
+use Rattle.std.proofs.Common.{◌≡◌, ℕ, List, length, Option, Some, None, option_map, Result, Ok, Err, IfSome, refl, sym, ◌∙◌, ap}
 use Rattle.book_words.specs.declared.act.Entry.{Entry}
 use Rattle.book_words.specs.declared.act.Question.{Question}
 use Rattle.book_words.specs.declared.act.Question.TheVariants.{Pack}

@@ -1,5 +1,5 @@
 -- What is left of the sheets and of the packs, row by row.
-use Rattle.std.proofs.Common.{◌≡◌, ℕ, zero, suc, ◌+◌, ◌-◌, ◌<◌, ◌≤◌, nat_le, true, if◌then◌else◌, List, [], ◌∷◌, ◌++◌, length, drop, slice_get, Option, Some, None, refl, sym, ◌∙◌, ap, arith, append_assoc, append-nil}
+use Rattle.std.proofs.Common.{◌≡◌, ℕ, zero, suc, ◌+◌, ◌-◌, ◌<◌, ◌≤◌, nat_le, true, if◌then◌else◌, List, [], ◌∷◌, ◌++◌, length, drop, slice_get, Option, Some, None, refl, sym, ◌∙◌, ap, arith}
 use Rattle.std.proofs.lemmas.Bool.Decides.{nat_tests}
 use Rattle.std.proofs.lemmas.List.{drop_all}
 use Rattle.std.specs.List.{flat_map, filter_map, range_with_len, cons_option}
@@ -7,12 +7,10 @@ use Rattle.std.specs.Option.{option_and_then}
 use Rattle.book_words.specs.declared.name.Name.{Name}
 use Rattle.book_words.specs.declared.act.Entry.{Entry}
 use Rattle.book_words.specs.declared.act.Reading.{Reading}
-use Rattle.book_words.specs.declared.views.PackView.{PackView}
 use Rattle.book_words.specs.Acts.{said, batch_opened}
 use Rattle.book_words.specs.Readings.{placed_reading}
 use Rattle.book_words.specs.Views.{view_of_reading, pack_view}
 use Rattle.book_laws.proofs.ReadingLaws.{reading_of-at}
-use Rattle.book_state.specs.Told.{entry_numbered}
 use Rattle.pack_register.specs.Register.{record_text}
 use Rattle.report_run.specs.Reports.{batch_text, sheets_text, weighed_packs, opened_at, text_if_there}
 

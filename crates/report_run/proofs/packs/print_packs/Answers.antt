@@ -1,4 +1,4 @@
-use Rattle.std.proofs.Common.{rules, ◌≡◌, ◌+◌, ◌<◌, ◌≤◌, List, ℕ, [], length, refl, ◌∙◌, subst, arith}
+use Rattle.std.proofs.Common.{rules, ◌+◌, ◌<◌, ◌≤◌, List, ℕ, length, refl, sym, ◌∙◌, subst}
 use Rattle.std.proofs.lemmas.Result.{err_from_is_err_and}
 use Rattle.text_streams.specs.Streams.{output_at}
 use Rattle.report_run.specs.Printing.{IsPrinting}
@@ -7,15 +7,20 @@ use Rattle.book_words.specs.Views.{pack_view}
 use Rattle.pack_register.specs.Register.{record_text}
 use Rattle.report_run.specs.Reports.{weighed_packs, text_if_there}
 use Rattle.report_run.proofs.Pieces.{begins, goes_on, cuts}
-use Rattle.report_run.proofs.Walks.{records_behind, next_record, no_records}
+use Rattle.report_run.proofs.Walks.{records_behind, all_records, next_record, no_records}
 use Rattle.report_run.proofs.packs.print_packs.Goals as goal
 
 pub loop-before-init : goal.loop-before-init
-loop-before-init g c = record {
-  printing = begins (output_at g.K.Sink c.args.output.now) c.args.text.now.items
-      (flat_map record_text (weighed_packs c.args.book.now.entries));
-  room = refl;
-}
+loop-before-init g c =
+    let entries = c.args.book.now.entries in
+    let output = output_at g.K.Sink c.args.output.now in
+    let held = c.args.text.now.items in
+    record {
+      printing = subst (λ (left : List ℕ). IsPrinting output output held held left
+          (flat_map record_text (weighed_packs entries))) (sym (all_records entries))
+          (begins output held (flat_map record_text (weighed_packs entries)));
+      room = refl;
+    }
 
 pub loop-before-preserved : goal.loop-before-preserved
 loop-before-preserved g c =
