@@ -1,12 +1,17 @@
 -- Lemmas on the commands of an import, answered one after the other.
-use Rattle.std.proofs.Common.{◌≡◌, ◌⊎◌, inl, inr, ℕ, ◌+◌, List, [], ◌∷◌, ◌++◌, length, map, Some, refl, sym, ap, ◌∙◌, subst, append_assoc, append-nil}
+use Rattle.std.proofs.Common.{◌≡◌, ◌⊎◌, inl, inr, ℕ, ◌+◌, List, [], ◌∷◌, ◌++◌, length, Ok, Err, refl, sym, ap, ◌∙◌, subst, append_assoc, append-nil}
+use Rattle.std.specs.Bool.{⊤}
+use Rattle.disk_core.specs.declared.disk.Disk as disk
 use Rattle.book_words.specs.declared.act.Entry.{Entry}
+use Rattle.book_store.specs.declared.store.Store.{Store}
 use Rattle.script_lines.specs.declared.command.Command.{Command}
 use Rattle.script_lines.specs.declared.command.Line.TheVariants.{Asks}
 use Rattle.text_streams.specs.Streams.{Stream}
 use Rattle.store_runs.specs.declared.stop.Stop.{Stop}
 use Rattle.store_runs.specs.declared.stop.Stop.TheVariants.{Finished, BadLine, ReadFault, WriteFault, DiskFault, NoMemory, Spent}
 use Rattle.store_runs.specs.Books.{BookState}
+use Rattle.store_runs.specs.Runs.{Goes}
+use Rattle.store_runs.proofs.StoreSteps.{goes_with}
 use Rattle.import_table.specs.declared.types.ImportError.{ImportError}
 use Rattle.import_table.specs.declared.types.ImportError.TheVariants as error
 use Rattle.import_table.specs.Imports.{Import, stopped, with_command}
@@ -51,7 +56,8 @@ answered_alone book after before now command has =
     }
 
 told_alone : (book : BookState) (before now : Outside) (rows : List Entry)
-    → AreTold book before now rows [] → AreTold book (alone before.output) (alone now.output) rows []
+    → AreTold book before now rows []
+    → AreTold book (alone before.output) (alone now.output) rows []
 told_alone book before now rows told =
     record {
       wrote = told.wrote;
@@ -200,3 +206,13 @@ stops_asking book old_after before old now rows import left behind command stop 
       stops = stops_after book old_after (alone before) (alone old) (alone now) rows
           (asking_lines has.first) number (Asks command) stop has.answered (stops number);
     })
+
+-- and the store goes on as it did
+pub goes_stopped : {D : Type 0} (g : disk.Ghosts D) (why : ImportError) (old new : Store D)
+    → Goes {T = ⊤} g (Ok tt) old new → Goes {T = ⊤} g (Err (stop_of why)) old new
+goes_stopped g (error.Bad number) old new goes =
+    goes_with g tt (Err (BadLine number)) old new goes goes.cause (λ is. absurd (cc))
+goes_stopped g error.TooMany old new goes =
+    goes_with g tt (Err Spent) old new goes goes.cause (λ is. absurd (cc))
+goes_stopped g error.NoMemory old new goes =
+    goes_with g tt (Err NoMemory) old new goes goes.cause (λ is. absurd (cc))

@@ -23,7 +23,7 @@ use Rattle.import_run.specs.Runs.{EndsRead, EndsUnread, Explains, HasCause, IsIm
 -- ---- why it stops
 
 -- the output failed at a failed write, and else it didn't
-WritesSo : Stream → Stream → Stop → Type 0
+abbrev WritesSo : Stream → Stream → Stop → Type 0
 WritesSo before now WriteFault = HasFailed before now
 WritesSo before now _ = IsCalm before now
 

@@ -15,8 +15,8 @@ stop_of (error.Bad number) = BadLine number
 stop_of error.TooMany = Spent
 stop_of error.NoMemory = NoMemory
 
--- why an import isn't read on: it has more bytes than an import may have, which is the bad line 0, or
--- there is no memory for them
+-- why an import isn't read on: it has more bytes than an import may have, which is the bad line 0,
+-- or there is no memory for them
 abbrev pub StopsBehind : List ℕ → Stop → Type 0
 StopsBehind taken (BadLine number) = (number ≡ 0) × (MAX_IMPORT < length taken)
 StopsBehind taken NoMemory = ⊤

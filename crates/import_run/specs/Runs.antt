@@ -20,7 +20,8 @@ pub record EndsRead {S : Type 0} (book : BookState) (call : Call S) (stop : Stop
   pub read : ReadsWhole call.before.input call.now.input bytes
   pub ends : EndsImport book call.before.output call.now.output call.rows (import_in bytes) stop
 
--- the import wasn't read to its end: nothing was asked, nothing went out, and the book's rows are left
+-- the import wasn't read to its end: nothing was asked, nothing went out, and the book's rows are
+-- left
 pub record EndsUnread {S : Type 0} (book : BookState) (call : Call S) (stop : Stop) : Type 0 where
   pub stops : StopsReading call.before.input call.now.input stop
   pub unasked : call.rows ≡ book.entries
@@ -54,8 +55,8 @@ HasError call (BadLine number) = IsImportWith call (Bad number)
 HasError call Spent = IsImportWith call TooMany
 HasError call _ = ⊤
 
--- a good import, with no fault of a stream, is done, unless the disk failed or there is no memory for
--- it
+-- a good import, with no fault of a stream, is done, unless the disk failed or there is no memory
+-- for it
 abbrev pub IsComplete : {S : Type 0} → Call S → Stop → Type 0
 IsComplete call stop = IfSome call.before.input.bytes (λ bytes.
     (import_in bytes).error ≡ None

@@ -60,16 +60,16 @@ fn run_whole<S: Source, K: Sink, D: Disk>(
 }
 
 /// Runs an import over a store: it is read whole, so that at a fault of the input nothing is asked.
-/// Then each command is asked and answered before the next, and the answer is on the output before
-/// the next is asked. At the end, where rows were added, a snapshot of the book is kept; then comes
-/// the summary. Nothing else is written: why a run stopped is said by its stop alone. An import that
-/// comes again is answered again, and what it added before stands once.
+/// Then each command is asked, and its answer is on the output before the next is asked. At the
+/// end, where rows were added, a snapshot of the book is kept; then comes the summary. Nothing else
+/// is written: why a run stopped is said by its stop alone. An import that comes again is answered
+/// again, and what it added before stands once.
 ///
 /// `BadLine` names the record that is no command of a desk, where the header is 1; it names 0 where
 /// the import has more than 16 777 216 bytes. `Spent` says that it has more than 1 000 000 records.
 /// At both the commands of the records before are answered. Memory is taken for the import as its
-/// bytes come, for its longest record and for the book's entries; `NoMemory` may come at any of them,
-/// and what was answered before stands.
+/// bytes come, for its longest record and for the book's entries; `NoMemory` may come at any of
+/// them, and what was answered before stands.
 pub fn run_import<S: Source, K: Sink, D: Disk>(
     alloc: Global,
     store: Store<D>,

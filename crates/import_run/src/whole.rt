@@ -29,8 +29,8 @@ fn add_piece(bytes: &mut Vec<u8>, piece: &[u8]) -> Result<(), Stop>
     }
 }
 
-/// Reads an import to its end, piece by piece, or up to the piece by which it has too many bytes. Its
-/// memory grows as the bytes come.
+/// Reads an import to its end, piece by piece, or up to the piece by which it has too many bytes.
+/// The memory for it grows as the bytes come.
 pub fn read_whole<S: Source>(alloc: Global, input: &mut S) -> Result<Vec<u8>, Stop>
     requires unended { S.ended input.old ≡ false }
     ensures whole { IfOk result (λ bytes. ReadsWhole (input_at S.Source input.old)

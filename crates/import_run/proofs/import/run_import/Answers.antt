@@ -1,4 +1,4 @@
-use Rattle.std.proofs.Common.{Err, refl, ap, subst}
+use Rattle.std.proofs.Common.{Err, refl, ap}
 use Rattle.book_store.specs.declared.store.Store.{Store}
 use Rattle.book_store.specs.Stores.{entries_of}
 use Rattle.text_streams.specs.Streams.{input_at}
@@ -6,17 +6,9 @@ use Rattle.store_runs.specs.declared.stop.Stop.TheVariants.{NoMemory}
 use Rattle.store_runs.specs.Books.{stored_book}
 use Rattle.store_runs.specs.Calls.{call}
 use Rattle.store_runs.proofs.StoreSteps.{stays_same}
-use Rattle.import_run.specs.Runs.{ExplainsImport}
 use Rattle.import_run.proofs.ImportReading.{unbegun}
 use Rattle.import_run.proofs.WholeImports.{explains_unread}
 use Rattle.import_run.proofs.import.run_import.Goals as goal
-
-pub returns-in-Ok-clause-explained : goal.returns-in-Ok-clause-explained
-returns-in-Ok-clause-explained g c =
-    subst (λ (s : Store _). ExplainsImport (stored_book s)
-    (call g.S.Source g.K.Sink c.args.input.now c.args.output.now c.run_whole-ended.new.input
-    c.run_whole-ended.new.output (entries_of c.run_whole-ended.result.store))
-    c.run_whole-ended.result.stop) c.in-Ok.ensures.store c.run_whole-ended.ensures.explained
 
 pub returns-in-Err-clause-explained : goal.returns-in-Err-clause-explained
 returns-in-Err-clause-explained g c =

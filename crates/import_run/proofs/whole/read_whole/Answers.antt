@@ -48,7 +48,7 @@ loop-bytes-init g c =
       taken = search rules;
       most = search rules;
       short = search rules;
-      unended = c.requires;
+      unended = c.requires.unended;
     }
 
 pub loop-bytes-preserved : goal.loop-bytes-preserved
