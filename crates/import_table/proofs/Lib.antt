@@ -1,3 +1,3 @@
-mod ImportSteps
+pub mod ImportSteps
 mod FieldPlaces
 mod WorkedImports

@@ -1,4 +1,5 @@
 use std::alloc::AllocError;
+use std::fmt;
 
 /// The most bytes of an import.
 pub const MAX_IMPORT: usize = 16_777_216;
@@ -22,6 +23,16 @@ pub enum ImportError {
     TooMany,
     /// Memory was wanted and could not be had.
     NoMemory,
+}
+
+impl fmt::Display for ImportError {
+    fn fmt<W: fmt::Write>(&self, f: &mut fmt::Formatter<W>) -> fmt::Result {
+        match self {
+            ImportError::Bad { record } => write!(f, "record {record} of the import is bad"),
+            ImportError::TooMany => write!(f, "the import has more than {MAX_RECORDS} records"),
+            ImportError::NoMemory => write!(f, "no memory for the import"),
+        }
+    }
 }
 
 impl From<AllocError> for ImportError {

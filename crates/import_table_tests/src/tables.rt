@@ -1,6 +1,6 @@
 use crate::ending::{DayOfDesk, has_days};
 use import_table::ImportError;
-use std::alloc::Global;
+use std::alloc::{AllocError, Global};
 
 // 2025-03-03, in days since 1970-01-01.
 const MONDAY: i32 = 20_150;
@@ -164,4 +164,14 @@ fn forms_of_tables(rt: HostRuntime) {
 #[test]
 fn bad_records(rt: HostRuntime) {
     assert!(rt; wrong_row(rt.alloc(), &BAD) == None);
+}
+
+#[test]
+fn errors_have_texts(rt: HostRuntime) -> Result<(), AllocError> {
+    let bad = ImportError::Bad { record: 3 };
+    let text = format!(in rt.alloc(); "{bad}, {}", ImportError::TooMany)?;
+    assert!(rt;
+        text.as_str() == "record 3 of the import is bad, the import has more than 1000000 records"
+    );
+    Ok(())
 }

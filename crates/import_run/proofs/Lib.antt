@@ -1,0 +1,4 @@
+pub mod ImportReading
+pub mod CommandsAnswered
+pub mod ImportEnds
+pub mod WholeImports

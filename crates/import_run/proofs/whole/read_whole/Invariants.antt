@@ -1,0 +1,19 @@
+use Rattle.std.proofs.Common.{◌≡◌, ◌≤◌, ◌-◌, false, length}
+use Rattle.text_streams.specs.Streams.{input_at}
+use Rattle.text_streams.specs.Reading.{HasTaken}
+use Rattle.import_table.specs.declared.types.TheConstants.{MAX_IMPORT}
+use Rattle.import_run.specs.declared.whole.TheConstants.{MAX_READS}
+use Rattle.import_run.proofs.whole.read_whole.Given as goal
+
+-- the bytes that were taken are kept, no more than an import may have, and nothing failed
+abbrev pub invariant-loop-bytes : goal.invariant-loop-bytes
+invariant-loop-bytes g l = record {
+  taken : HasTaken (input_at g.S.Source l.fn.input) (input_at g.S.Source l.input) l.reader.reads
+      l.bytes.items;
+  most : l.reader.most ≡ MAX_READS;
+  short : length l.bytes.items ≤ MAX_IMPORT;
+  unended : g.S.Source.ended l.input ≡ false;
+}
+
+abbrev pub decreases-loop-bytes : goal.decreases-loop-bytes
+decreases-loop-bytes g l = MAX_READS - l.reader.reads

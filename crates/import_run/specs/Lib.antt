@@ -1,0 +1,4 @@
+pub mod Answered
+pub mod Reading
+pub mod Ends
+pub mod Runs
