@@ -1,0 +1,3 @@
+mod TrialSteps
+mod TrialEnds
+mod TrialNames

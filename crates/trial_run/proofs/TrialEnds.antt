@@ -1,0 +1,109 @@
+-- How a trial ends.
+use Rattle.std.proofs.Common.{◌≡◌, ⊥, ℕ, List, [], ◌∷◌, ◌++◌, length, inl, inr, refl, sym, ap, ◌∙◌, subst}
+use Rattle.book_words.specs.declared.act.Entry.{Entry}
+use Rattle.book_words.specs.Views.{summary}
+use Rattle.batch_reports.specs.Texts.{summary_text}
+use Rattle.script_lines.specs.declared.command.Command.{Command}
+use Rattle.text_streams.specs.Streams.{Stream, WroteAll}
+use Rattle.text_streams.proofs.PrintedTexts.{wrote_nothing}
+use Rattle.store_runs.specs.declared.stop.Stop.{Stop}
+use Rattle.store_runs.specs.declared.stop.Stop.TheVariants.{Finished, BadLine, ReadFault, WriteFault, DiskFault, NoMemory, Spent}
+use Rattle.store_runs.specs.Books.{BookState}
+use Rattle.script_run.specs.Reached.{EndsAtSummary}
+use Rattle.script_run.specs.Transcript.{Event, event_at, after_command, after_events, AreEventsOf, texts}
+use Rattle.script_run.proofs.AcknowledgedRows.{lines_done, are_left}
+use Rattle.trial_run.specs.Steps.{StopsIn}
+use Rattle.trial_run.specs.Trials.{lines_asking, AreAnswered, StopsEarly, EndsScript, ExplainsScript}
+use Rattle.trial_run.specs.TrialScripts.{after_commands}
+
+-- ---- commands as a run of a script does them
+
+-- what is done at the lines that ask them
+abbrev pub events_asked : BookState → List Command → List Event
+events_asked book [] = []
+events_asked book (command ∷ commands) =
+    event_at book command ∷ events_asked (after_command book command) commands
+
+asked_right : (book : BookState) (commands : List Command)
+    → AreEventsOf book (lines_asking commands) (events_asked book commands)
+asked_right book [] = refl
+asked_right book (command ∷ commands) =
+    (refl, asked_right (after_command book command) commands)
+
+-- the book that they leave is the one that commands leave
+pub asked_left : (book : BookState) (commands : List Command)
+    → after_events book (events_asked book commands) ≡ after_commands book commands
+asked_left book [] = refl
+asked_left book (command ∷ commands) = asked_left (after_command book command) commands
+
+pub are_answered : (book : BookState) (commands : List Command) (rows : List Entry)
+    → rows ≡ (after_commands book commands).entries → AreAnswered book commands rows
+are_answered book commands rows is =
+    record {
+      events = events_asked book commands;
+      right = asked_right book commands;
+      rows_left = are_left book (events_asked book commands) rows
+          (lines_done book (lines_asking commands) (events_asked book commands)
+          (asked_right book commands))
+          (is ∙ ap (λ (b : BookState). b.entries) (sym (asked_left book commands)));
+    }
+
+-- ---- the ends
+
+-- a run whose summary is due ends as a script does
+pub ends_as_script : (opened : ℕ) (before now : Stream) (rows : List Entry) (stop : Stop)
+    → EndsAtSummary opened before now rows stop → EndsScript opened before now rows stop
+ends_as_script opened before now rows Finished ends = ends
+ends_as_script opened before now rows WriteFault ends = ends
+ends_as_script opened before now rows NoMemory ends = (ends.0, tt)
+ends_as_script opened before now rows (DiskFault offer) ends = ends
+ends_as_script opened before now rows (BadLine number) ends = ends
+ends_as_script opened before now rows ReadFault ends = ends
+ends_as_script opened before now rows Spent ends = ends
+
+-- a run whose script was answered
+pub explained_end : (book : BookState) (before now : Stream) (rows : List Entry)
+    (script : List Command) (stop : Stop) → AreAnswered book script rows
+    → EndsScript (length book.entries) before now rows stop
+    → ExplainsScript book before now rows stop script
+explained_end book before now rows script Finished answered ends =
+    record {
+      answered = answered;
+      ending = ap (λ (es : List Entry). texts answered.events ++ summary_text (summary es))
+          (sym answered.rows_left.left);
+      wrote = ends;
+    }
+explained_end book before now rows script WriteFault answered ends =
+    record { answered = answered; cut = ends }
+explained_end book before now rows script NoMemory answered ends =
+    record { silent = ends.0; stops = inr (answered, ends.1) }
+explained_end book before now rows script (DiskFault offer) answered ends =
+    record { silent = ends.0; stops = inr (answered, ends.1) }
+explained_end book before now rows script (BadLine number) answered ends = absurd ends.1
+explained_end book before now rows script ReadFault answered ends = absurd ends.1
+explained_end book before now rows script Spent answered ends = absurd ends.1
+
+stopped_early : (book : BookState) (rows : List Entry) (script : List Command) (stop : Stop)
+    → StopsIn book rows script stop → StopsEarly book rows script stop
+stopped_early book rows script stop stops =
+    record { stops = stops; answered = are_answered book stops.answered rows stops.left }
+
+-- a run that stopped in its script
+pub explained_stop : (book : BookState) (output : Stream) (rows : List Entry)
+    (script : List Command) (stop : Stop) → StopsIn book rows script stop
+    → ExplainsScript book output output rows stop script
+explained_stop book output rows script Finished stops = absurd stops.may
+explained_stop book output rows script WriteFault stops = absurd stops.may
+explained_stop book output rows script NoMemory stops =
+    record {
+      silent = wrote_nothing output;
+      stops = inl (stopped_early book rows script NoMemory stops);
+    }
+explained_stop book output rows script (DiskFault offer) stops =
+    record {
+      silent = wrote_nothing output;
+      stops = inl (stopped_early book rows script (DiskFault offer) stops);
+    }
+explained_stop book output rows script (BadLine number) stops = absurd stops.may
+explained_stop book output rows script ReadFault stops = absurd stops.may
+explained_stop book output rows script Spent stops = absurd stops.may

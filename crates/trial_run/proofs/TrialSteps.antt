@@ -1,0 +1,208 @@
+-- What the steps of a trial ask, one after another.
+use Rattle.std.proofs.Common.{◌≡◌, ℕ, List, [], ◌∷◌, ◌++◌, Result, Ok, Err, inl, inr, ⊎_elim, refl, sym, ap, ◌∙◌, subst, append_assoc, append-nil}
+use Rattle.disk_core.specs.declared.disk.Disk as disk
+use Rattle.book_words.specs.declared.act.Entry.{Entry}
+use Rattle.script_lines.specs.declared.command.Command.{Command}
+use Rattle.book_store.specs.Callers.{CallerView}
+use Rattle.book_store.specs.Stores.{entries_of}
+use Rattle.store_runs.specs.declared.stop.Stop.{Stop}
+use Rattle.store_runs.specs.Books.{BookState, stored_book}
+use Rattle.store_runs.proofs.StoreSteps.{on_unfinished, goes_on, goes_with, goes_as, stays}
+use Rattle.script_run.specs.Asking.{exchange_at}
+use Rattle.script_run.specs.Transcript.{after_command}
+use Rattle.script_run.specs.Unanswered.{MayStopAt}
+use Rattle.trial_run.specs.Steps.{IsNext, StopsIn, Asks}
+use Rattle.trial_run.specs.TrialScripts.{after_commands, in_turn}
+
+-- ---- lists of commands
+
+pub after-append : (book : BookState) (first more : List Command)
+    → after_commands book (first ++ more) ≡ after_commands (after_commands book first) more
+after-append book [] more = refl
+after-append book (command ∷ first) more = after-append (after_command book command) first more
+
+-- scripts in turn, and then more
+pub turns-append : {A : Type 0} (script : BookState → A → List Command) (book : BookState)
+    (first more : List A) → in_turn script book (first ++ more) ≡ in_turn script book first
+    ++ in_turn script (after_commands book (in_turn script book first)) more
+turns-append script book [] more = refl
+turns-append script book (x ∷ first) more =
+    let these = script book x in
+    let behind = after_commands book these in
+    let rest = in_turn script behind first in
+    ap (λ (cs : List Command). these ++ cs) (turns-append script behind first more)
+    ∙ sym (append_assoc these rest (in_turn script (after_commands behind rest) more))
+    ∙ ap (λ (b : BookState). (these ++ rest) ++ in_turn script b more)
+    (sym (after-append book these rest))
+
+-- one more in turn
+pub turns-push : {A : Type 0} (script : BookState → A → List Command) (book : BookState)
+    (first : List A) (x : A) → in_turn script book (first ++ x ∷ []) ≡ in_turn script book first
+    ++ script (after_commands book (in_turn script book first)) x
+turns-push script book first x = turns-append script book first (x ∷ [])
+    ∙ ap (λ (cs : List Command). in_turn script book first ++ cs)
+    (append-nil (script (after_commands book (in_turn script book first)) x))
+
+-- ---- where a script stops
+
+-- it stops behind commands that were answered
+pub stops_behind : (book between : BookState) (rows : List Entry) (first more : List Command)
+    (stop : Stop) → between ≡ after_commands book first → StopsIn between rows more stop
+    → StopsIn book rows (first ++ more) stop
+stops_behind book between rows first more stop is stops =
+    let s = subst (λ (b : BookState). StopsIn b rows more stop) is stops in
+    let on = after-append book first s.answered in
+    record {
+      answered = first ++ s.answered;
+      rest = s.rest;
+      parts = ap (λ (cs : List Command). first ++ cs) s.parts
+          ∙ sym (append_assoc first s.answered s.rest);
+      left = s.left ∙ ap (λ (b : BookState). b.entries) (sym on);
+      asked = s.asked;
+      next = s.next;
+      may = subst (λ (b : BookState). MayStopAt (exchange_at b s.asked) stop) (sym on) s.may;
+    }
+
+-- it stops with more commands to come
+pub stops_before : (book : BookState) (rows : List Entry) (first more : List Command) (stop : Stop)
+    → StopsIn book rows first stop → StopsIn book rows (first ++ more) stop
+stops_before book rows first more stop s =
+    record {
+      answered = s.answered;
+      rest = s.rest ++ more;
+      parts = ap (λ (cs : List Command). cs ++ more) s.parts
+          ∙ append_assoc s.answered s.rest more;
+      left = s.left;
+      asked = s.asked;
+      next = ⊎_elim
+          (λ is. inl (is.0 ++ more, ap (λ (cs : List Command). cs ++ more) is.1))
+          (λ is. inr is)
+          s.next;
+      may = s.may;
+    }
+
+-- ---- steps, one after another
+
+module _ {D : Type 0} (g : disk.Ghosts D) where
+  -- nothing was asked
+  pub asks_nothing : {T : Type 0} (done : T) (caller : CallerView D) → caller.faults ≡ 0
+      → Asks g (Ok done) caller caller []
+  asks_nothing done caller calm =
+      record {
+        answered = refl;
+        stops = tt;
+        goes = stays g (Ok done) caller.store refl (λ is. absurd (on_unfinished done is));
+        calm = calm;
+      }
+
+  -- commands were asked, and then more
+  pub asks_on : {T U : Type 0} (done : T) (result : Result U Stop) (old between new : CallerView D)
+      (first more : List Command) → Asks g (Ok done) old between first
+      → Asks g result between new more → Asks g result old new (first ++ more)
+  asks_on done (Ok more_done) old between new first more before then =
+      record {
+        answered = then.answered
+            ∙ ap (λ (b : BookState). after_commands b more) before.answered
+            ∙ sym (after-append (stored_book old.store) first more);
+        stops = tt;
+        goes = goes_on g done (Ok more_done) old.store between.store new.store before.goes
+            then.goes;
+        calm = then.calm;
+      }
+  asks_on done (Err stop) old between new first more before then =
+      record {
+        answered = tt;
+        stops = stops_behind (stored_book old.store) (stored_book between.store)
+            (entries_of new.store) first more stop before.answered then.stops;
+        goes = goes_on g done (Err stop) old.store between.store new.store before.goes then.goes;
+        calm = tt;
+      }
+
+  -- a step that went on, with another answer
+  pub asks_with : {T U : Type 0} (done : T) (other : U) (old new : CallerView D)
+      (commands : List Command) → Asks g (Ok done) old new commands
+      → Asks g (Ok other) old new commands
+  asks_with done other old new commands asks =
+      record {
+        answered = asks.answered;
+        stops = tt;
+        goes = goes_with g done (Ok other) old.store new.store asks.goes asks.goes.cause
+            (λ is. absurd (on_unfinished other is));
+        calm = asks.calm;
+      }
+
+  -- a step that stopped, with more commands to come
+  pub asks_stopped : {T U : Type 0} (stop : Stop) (old new : CallerView D)
+      (commands more : List Command) → Asks {T = T} g (Err stop) old new commands
+      → Asks {T = U} g (Err stop) old new (commands ++ more)
+  asks_stopped stop old new commands more asks =
+      record {
+        answered = tt;
+        stops = stops_before (stored_book old.store) (entries_of new.store) commands more stop
+            asks.stops;
+        goes = goes_as g stop old.store new.store asks.goes;
+        calm = tt;
+      }
+
+  -- a step that stopped in all that it was to ask
+  pub asks_ended : {T U : Type 0} (stop : Stop) (old new : CallerView D) (commands : List Command)
+      → Asks {T = T} g (Err stop) old new commands → Asks {T = U} g (Err stop) old new commands
+  asks_ended stop old new commands asks =
+      subst (λ (cs : List Command). Asks g (Err stop) old new cs) (append-nil commands)
+      (asks_stopped stop old new commands [] asks)
+
+  -- the same of commands by another name
+  pub asks_same : {T : Type 0} (result : Result T Stop) (old new : CallerView D)
+      (commands others : List Command) → commands ≡ others → Asks g result old new commands
+      → Asks g result old new others
+  asks_same result old new commands others same asks =
+      subst (λ (cs : List Command). Asks g result old new cs) same asks
+
+  -- a step behind others stopped, and more was to come
+  pub stopped_behind : {T U V : Type 0} (done : T) (stop : Stop) (old between new : CallerView D)
+      (first next more all : List Command) → all ≡ (first ++ next) ++ more
+      → Asks g (Ok done) old between first → Asks {T = U} g (Err stop) between new next
+      → Asks {T = V} g (Err stop) old new all
+  stopped_behind done stop old between new first next more all is before stopped =
+      asks_same (Err stop) old new _ all (sym is)
+      (asks_stopped stop old new (first ++ next) more
+      (asks_on done (Err stop) old between new first next before stopped))
+
+  -- ---- scripts in turn
+
+  module _ {A : Type 0} (script : BookState → A → List Command) (old : CallerView D) where
+    abbrev turns : List A → List Command
+    turns xs = in_turn script (stored_book old.store) xs
+
+    -- what one more asks is what its script asks at the book that the others leave
+    turn_at : {T : Type 0} (done : T) (between : CallerView D) (first : List A) (x : A)
+        → Asks g (Ok done) old between (turns first)
+        → turns first ++ script (stored_book between.store) x ≡ turns (first ++ x ∷ [])
+    turn_at done between first x before =
+        ap (λ (b : BookState). turns first ++ script b x) before.answered
+        ∙ sym (turns-push script (stored_book old.store) first x)
+
+    pub turn_on : {T U V : Type 0} (done : T) (next_done : U) (other : V)
+        (between new : CallerView D) (first all : List A) (x : A) → all ≡ first ++ x ∷ []
+        → Asks g (Ok done) old between (turns first)
+        → Asks g (Ok next_done) between new (script (stored_book between.store) x)
+        → Asks g (Ok other) old new (turns all)
+    turn_on done next_done other between new first all x is before next =
+        asks_same (Ok other) old new _ _
+        (turn_at done between first x before ∙ ap (λ (xs : List A). turns xs) (sym is))
+        (asks_with next_done other old new _
+        (asks_on done (Ok next_done) old between new _ _ before next))
+
+    pub turn_stopped : {T U V : Type 0} (done : T) (stop : Stop) (between new : CallerView D)
+        (first rest all : List A) (x : A) → all ≡ (first ++ x ∷ []) ++ rest
+        → Asks g (Ok done) old between (turns first)
+        → Asks {T = U} g (Err stop) between new (script (stored_book between.store) x)
+        → Asks {T = V} g (Err stop) old new (turns all)
+    turn_stopped done stop between new first rest all x is before stopped =
+        let parts = ap (λ (xs : List A). turns xs) is
+        ∙ turns-append script (stored_book old.store) (first ++ x ∷ []) rest in
+        stopped_behind done stop old between new (turns first)
+        (script (stored_book between.store) x) _ (turns all)
+        (parts ∙ ap (λ (cs : List Command). cs
+        ++ in_turn script (after_commands (stored_book old.store) (turns (first ++ x ∷ []))) rest)
+        (sym (turn_at done between first x before))) before stopped

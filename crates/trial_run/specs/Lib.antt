@@ -1,0 +1,3 @@
+pub mod Steps
+pub mod TrialScripts
+pub mod Trials

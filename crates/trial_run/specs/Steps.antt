@@ -1,0 +1,40 @@
+-- What the steps of a trial make of its book: which commands they ask, and where one stops.
+use Rattle.std.specs.Prelude.{◌≡◌, ◌⊎◌, ℕ, List, ◌∷◌, ◌++◌, Result, OnOk, IfErr}
+use Rattle.disk_core.specs.declared.disk.Disk as disk
+use Rattle.book_words.specs.declared.act.Entry.{Entry}
+use Rattle.book_words.specs.declared.name.Name.{Name}
+use Rattle.script_lines.specs.declared.command.Command.{Command}
+use Rattle.book_store.specs.Callers.{CallerView}
+use Rattle.book_store.specs.Stores.{entries_of}
+use Rattle.store_runs.specs.declared.stop.Stop.{Stop}
+use Rattle.store_runs.specs.Books.{BookState, stored_book}
+use Rattle.store_runs.specs.Runs.{Goes}
+use Rattle.script_run.specs.Asking.{exchange_at}
+use Rattle.script_run.specs.Unanswered.{MayStopAt}
+use Rattle.trial_run.specs.TrialScripts.{after_commands, sample_question}
+
+-- what is asked next: the next command, or the question which packs of a batch were drawn
+abbrev pub IsNext : Command → List Command → Type 0
+IsNext asked rest =
+    ((more : List Command) × (rest ≡ asked ∷ more))
+    ⊎ ((batch : Name) × (asked ≡ sample_question batch))
+
+-- A script stopped so at a book: its first commands were answered, and these rows are left; what was
+-- asked next has no answer, since the disk failed or there is no memory for it.
+pub record StopsIn (book : BookState) (rows : List Entry) (script : List Command) (stop : Stop)
+    : Type 0 where
+  pub answered : List Command
+  pub rest : List Command
+  pub parts : script ≡ answered ++ rest
+  pub left : rows ≡ (after_commands book answered).entries
+  pub asked : Command
+  pub next : IsNext asked rest
+  pub may : MayStopAt (exchange_at (after_commands book answered) asked) stop
+
+-- a step asked these commands, or stopped in them
+pub record Asks {D T : Type 0} (disk : disk.Ghosts D) (result : Result T Stop)
+    (old new : CallerView D) (commands : List Command) : Type 0 where
+  pub answered : OnOk result (stored_book new.store ≡ after_commands (stored_book old.store) commands)
+  pub stops : IfErr result (StopsIn (stored_book old.store) (entries_of new.store) commands)
+  pub goes : Goes disk result old.store new.store
+  pub calm : OnOk result (new.faults ≡ 0)
