@@ -13,13 +13,15 @@ use Rattle.store_runs.specs.declared.stop.Stop.{Stop}
 use Rattle.store_runs.specs.declared.stop.Stop.TheVariants.{Finished, BadLine, ReadFault, WriteFault, DiskFault, NoMemory, Spent}
 use Rattle.store_runs.specs.Books.{BookState}
 use Rattle.store_runs.specs.Runs.{RunGoes, CountsStep}
+use Rattle.import_run.specs.Runs.{ExplainsImport}
+use Rattle.trial_run.specs.Trials.{ExplainsTrial}
 use Rattle.report_run.specs.Printing.{SaysText}
 use Rattle.hall_top.specs.declared.ended.Outcome.{Outcome}
 use Rattle.hall_top.specs.declared.ending.Ending.{Ending}
 use Rattle.hall_top.specs.declared.ending.Ending.TheVariants.{Usage, Unopened, Stopped}
 use Rattle.hall_top.specs.Endings.{early_status, is_early, is_spent, status_of, last_status, SaysLast, is_status}
 use Rattle.book_migration.specs.Migration.{ExplainsMigration}
-use Rattle.hall_top.specs.Calls.{SaysWhole, input_of, CarriesJournal, SaysMigration, LanesRest, ExplainsCheck, ExplainsPrinting, SaysMigrate, ExplainsMigrate, EndsAs}
+use Rattle.hall_top.specs.Calls.{SaysWhole, input_of, CarriesJournal, SaysMigration, LanesRest, ExplainsCheck, ExplainsPrinting, IsImport, IsTrial, stream_call, SaysMigrate, ExplainsMigrate, EndsAs}
 
 -- ---- the line that says that the book is whole
 
@@ -64,6 +66,35 @@ text_counts T before now text count (BadLine number) says = absurd says
 text_counts T before now text count ReadFault says = absurd says
 text_counts T before now text count (DiskFault offer) says = absurd says
 text_counts T before now text count Spent says = absurd says
+
+-- an import that was run
+pub is_import : {S : Type 0} (book : BookState) (call : Call S) (was stop : Stop)
+    (rows : List Entry) → LanesRest call.before.outside call.now.outside → call.rows ≡ rows
+    → stop ≡ was → ExplainsImport book (stream_call call.before call.now rows) was
+    → IsImport book call stop
+is_import book call was stop rows rest same stopped runs =
+    record {
+      rest = rest;
+      runs = subst (ExplainsImport book (stream_call call.before call.now call.rows)) (sym stopped)
+          (subst (λ (es : List Entry). ExplainsImport book
+          (stream_call call.before call.now es) was) (sym same) runs);
+    }
+
+-- a trial that was run
+pub is_trial : {S : Type 0} (number count : ℕ) (book : BookState) (call : Call S) (was stop : Stop)
+    (rows : List Entry) → call.now.source ≡ call.before.source
+    → LanesRest call.before.outside call.now.outside → call.rows ≡ rows → stop ≡ was
+    → ExplainsTrial number count book call.before.outside.output call.now.outside.output rows was
+    → IsTrial number count book call stop
+is_trial number count book call was stop rows unread rest same stopped runs =
+    record {
+      unread = unread;
+      rest = rest;
+      runs = subst (ExplainsTrial number count book call.before.outside.output
+          call.now.outside.output call.rows) (sym stopped)
+          (subst (λ (es : List Entry). ExplainsTrial number count book
+          call.before.outside.output call.now.outside.output es was) (sym same) runs);
+    }
 
 -- a migration, and then its line
 module _ {S : Type 0} (book : BookState) (call : Call S) where

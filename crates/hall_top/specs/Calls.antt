@@ -16,7 +16,7 @@ use Rattle.book_store.specs.Stores.{disk_of, entries_of}
 use Rattle.book_store.specs.Listing.{IsOpenedAs}
 use Rattle.book_store.specs.Mounting.{IsCauseOf, IsPassing}
 use Rattle.book_store.specs.Resting.{HoldsSnapshotOf}
-use Rattle.text_streams.specs.Streams.{Stream, WroteAll, IsCutIn}
+use Rattle.text_streams.specs.Streams.{Stream, WroteAll, IsCutIn, Devices as StreamDevices}
 use Rattle.store_runs.specs.declared.stop.Stop.{Stop}
 use Rattle.store_runs.specs.declared.stop.Stop.TheVariants.{Finished, WriteFault}
 use Rattle.store_runs.specs.Books.{BookState, stored_book}
@@ -25,6 +25,9 @@ use Rattle.store_runs.specs.Stops.{stop_row}
 use Rattle.script_run.specs.Outside.{Outside, Devices, Call}
 use Rattle.script_run.specs.Runs.{ExplainsRun}
 use Rattle.book_migration.specs.Migration.{InputMoment, ExplainsMigration}
+use Rattle.store_runs.specs.Calls.{Call as StreamCall}
+use Rattle.import_run.specs.Runs.{ExplainsImport}
+use Rattle.trial_run.specs.Trials.{ExplainsTrial}
 use Rattle.report_run.specs.Printing.{SaysText}
 use Rattle.report_run.specs.Reports.{batch_text, book_register, report_text}
 use Rattle.hall_top.specs.declared.ending.Ending.TheVariants.{Usage, Unopened, Stopped}
@@ -34,7 +37,8 @@ use Rattle.hall_top.specs.Endings.{SaysLast}
 use Rattle.hall_top.specs.Texts.{whole}
 use Rattle.command_line.specs.Words.{Wanted}
 use Rattle.command_line.specs.declared.types.Command.{Command}
-use Rattle.command_line.specs.declared.types.Command.TheVariants.{Run, Report, Export, Check, Migrate}
+use Rattle.command_line.specs.declared.types.Command.TheVariants.{Run, Report, Export, Check}
+use Rattle.command_line.specs.declared.types.Command.TheVariants.{Import, Trial, Migrate}
 
 -- nothing was read or written, no lane was worked, and there are no rows
 pub record NothingDone {S : Type 0} (call : Call S) : Type 0 where
@@ -133,6 +137,29 @@ ExplainsReport batch book call stop = ExplainsPrinting (reported batch) book cal
 abbrev pub ExplainsExport : {S : Type 0} → BookState → Call S → Stop → Type 0
 ExplainsExport book call stop = ExplainsPrinting book_register book call stop
 
+-- the streams among some devices
+abbrev pub streams_of : {S : Type 0} → Devices S → StreamDevices S
+streams_of devices =
+    record { source = devices.source; input = devices.input; output = devices.outside.output }
+
+-- a call by its streams and its rows
+abbrev pub stream_call : {S : Type 0} → Devices S → Devices S → List Entry → StreamCall S
+stream_call before now rows =
+    record { before = streams_of before; now = streams_of now; rows = rows }
+
+-- a run of an import: no lane was worked
+pub record IsImport {S : Type 0} (book : BookState) (call : Call S) (stop : Stop) : Type 0 where
+  pub rest : LanesRest call.before.outside call.now.outside
+  pub runs : ExplainsImport book (stream_call call.before call.now call.rows) stop
+
+-- a trial of two numbers: the input wasn't read, and no lane was worked
+pub record IsTrial {S : Type 0} (number count : ℕ) (book : BookState) (call : Call S) (stop : Stop)
+    : Type 0 where
+  pub unread : call.now.source ≡ call.before.source
+  pub rest : LanesRest call.before.outside call.now.outside
+  pub runs : ExplainsTrial number count book call.before.outside.output call.now.outside.output
+      call.rows stop
+
 -- the input among some devices
 abbrev pub input_of : {S : Type 0} → Devices S → InputMoment S
 input_of devices = record { source = devices.source; stream = devices.input }
@@ -167,6 +194,8 @@ ExplainsAs Run wanted book call stop = ExplainsRun book call stop
 ExplainsAs Report wanted book call stop = ExplainsReport wanted.batch book call stop
 ExplainsAs Export wanted book call stop = ExplainsExport book call stop
 ExplainsAs Check wanted book call stop = ExplainsCheck book call stop
+ExplainsAs Import wanted book call stop = IsImport book call stop
+ExplainsAs Trial wanted book call stop = IsTrial wanted.number wanted.count book call stop
 ExplainsAs Migrate wanted book call stop = ExplainsMigrate book call stop
 
 -- how the command that is asked for ends

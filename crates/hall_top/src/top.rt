@@ -23,10 +23,12 @@ use book_store::{MountError, Store};
 use command_line::{Command, Wants, WantsError, wants};
 use disk_core::{Disk, Sink, Source};
 use hall_limits::MAX_ROWS;
+use import_run::run_import;
 use lane_worker::Lane;
 use script_run::{LaneLog, ScriptEnd, run_script};
 use std::alloc::Global;
 use store_runs::RunEnd;
+use trial_run::run_trial;
 
 // The end of a command that works no lane.
 fn without_lanes<D: Disk>(alloc: Global, end: RunEnd<D>) -> ScriptEnd<D>
@@ -68,6 +70,11 @@ fn run_command<S: Source, K: Sink, D: Disk, L: Lane>(
         Command::Report => without_lanes(alloc, report(alloc, store, wanted.batch, output)),
         Command::Export => without_lanes(alloc, export(alloc, store, output)),
         Command::Check => without_lanes(alloc, say_whole(store, output)),
+        Command::Import => without_lanes(alloc, run_import(alloc, store, input, output)),
+        Command::Trial => {
+            let end = run_trial(alloc, store, wanted.number, wanted.count, output);
+            without_lanes(alloc, end)
+        }
         Command::Migrate => {
             let end = end_migration(migrate_journal(alloc, store, input), output);
             without_lanes(alloc, end)

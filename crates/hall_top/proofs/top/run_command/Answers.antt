@@ -10,7 +10,7 @@ use Rattle.store_runs.proofs.StoreSteps.{stays}
 use Rattle.report_run.specs.Reports.{book_register}
 use Rattle.hall_top.specs.Calls.{reported}
 use Rattle.hall_top.proofs.OpenedBooks.{call_from, lanes_rest}
-use Rattle.hall_top.proofs.EndingLemmas.{explains_check, explains_printing, ends_migration, whole_counts, text_counts, migrated_goes}
+use Rattle.hall_top.proofs.EndingLemmas.{explains_check, explains_printing, is_import, is_trial, ends_migration, whole_counts, text_counts, migrated_goes}
 use Rattle.hall_top.proofs.top.run_command.Goals as goal
 
 pub returns-in-Run-clause-explained : goal.returns-in-Run-clause-explained
@@ -93,6 +93,55 @@ returns-in-Check-clause-goes g c =
     (stays g.D.Disk (Err c.say_whole.result.stop) c.args.store
     (whole_counts ⊤ _ _ _ _ c.say_whole.result.stop c.say_whole.ensures.says)
     (λ finished grown calm. absurd (omega (arith, grown, c.requires.opened)))))
+
+pub returns-in-Import-clause-explained : goal.returns-in-Import-clause-explained
+returns-in-Import-clause-explained g c =
+    let here = outside_at g.K.Sink g.L.Cell g.L.Gate c.args.output.now c.args.lanes.now
+    nothing_told in
+    let end = c.without_lanes-in-Import.result in
+    let now = outside_at g.K.Sink g.L.Cell g.L.Gate c.run_import.new.output c.args.lanes.now
+    end.log.told in
+    let call = call_from (devices g.S.Source c.args.input.now here)
+    (devices g.S.Source c.run_import.new.input now) (entries_of end.store) in
+    rw c.in-Import.is (is_import (stored_book c.args.store) call c.run_import.result.stop end.stop
+    (entries_of c.run_import.result.store)
+    (lanes_rest here (output_at g.K.Sink c.run_import.new.output) end.log.told
+    c.without_lanes-in-Import.ensures.log)
+    (ap (λ (s : Store _). entries_of s) c.without_lanes-in-Import.ensures.store)
+    c.without_lanes-in-Import.ensures.stop c.run_import.ensures.explained)
+
+pub returns-in-Import-clause-goes : goal.returns-in-Import-clause-goes
+returns-in-Import-clause-goes g c =
+    rw (c.without_lanes-in-Import.ensures.stop, c.without_lanes-in-Import.ensures.store)
+    c.run_import.ensures.goes
+
+pub run_trial-requires-clause-least : goal.run_trial-requires-clause-least
+run_trial-requires-clause-least g c = c.requires.range.some c.in-Trial.is
+
+pub run_trial-requires-clause-most : goal.run_trial-requires-clause-most
+run_trial-requires-clause-most g c = c.requires.range.packs
+
+pub returns-in-Trial-clause-explained : goal.returns-in-Trial-clause-explained
+returns-in-Trial-clause-explained g c =
+    let here = outside_at g.K.Sink g.L.Cell g.L.Gate c.args.output.now c.args.lanes.now
+    nothing_told in
+    let end = c.without_lanes-in-Trial.result in
+    let now = outside_at g.K.Sink g.L.Cell g.L.Gate c.run_trial-end.new.output c.args.lanes.now
+    end.log.told in
+    let call = call_from (devices g.S.Source c.args.input.now here)
+    (devices g.S.Source c.args.input.now now) (entries_of end.store) in
+    rw c.in-Trial.is (is_trial c.args.wanted.now.number c.args.wanted.now.count
+    (stored_book c.args.store) call c.run_trial-end.result.stop end.stop
+    (entries_of c.run_trial-end.result.store) refl
+    (lanes_rest here (output_at g.K.Sink c.run_trial-end.new.output) end.log.told
+    c.without_lanes-in-Trial.ensures.log)
+    (ap (λ (s : Store _). entries_of s) c.without_lanes-in-Trial.ensures.store)
+    c.without_lanes-in-Trial.ensures.stop c.run_trial-end.ensures.explained)
+
+pub returns-in-Trial-clause-goes : goal.returns-in-Trial-clause-goes
+returns-in-Trial-clause-goes g c =
+    rw (c.without_lanes-in-Trial.ensures.stop, c.without_lanes-in-Trial.ensures.store)
+    c.run_trial-end.ensures.goes
 
 pub returns-in-Migrate-clause-explained : goal.returns-in-Migrate-clause-explained
 returns-in-Migrate-clause-explained g c =
