@@ -212,6 +212,11 @@ fn do_words<S: Source, K: Sink, D: Disk, L: Lane>(
 /// packs in the order of their weighing. `check` says that the book is whole. These three read
 /// nothing and leave the rows as they are.
 ///
+/// `import` reads a table of acts of desks to its end, and then answers each as `run` answers a
+/// line; at the end comes the summary. An import that comes again is answered again, and adds no
+/// row. `trial` reads nothing: it makes a script from its two numbers, runs it, and prints the
+/// summary alone.
+///
 /// `migrate` reads a journal of version 1 and carries its rows, up to the first slot that is cut
 /// or whose gate is closed; what follows is read and passed over. A row that the book has is
 /// compared with it, and one that it lacks is adopted as it stands, whatever the limit; a
@@ -224,7 +229,7 @@ fn do_words<S: Source, K: Sink, D: Disk, L: Lane>(
 /// |---|---|---|
 /// | 0 | where the command was done | |
 /// | 2 | at wrong words, and then nothing is read or opened | `usage: hall COMMAND [OPTIONS]` |
-/// | 3 | at a line outside the grammar, or a bad row | `bad line N` |
+/// | 3 | at a line outside the grammar, a bad record or a bad row | `bad line N` |
 /// | 4 | where the input failed | `read fault` |
 /// | 5 | where the output failed | |
 /// | 6 | where the disk failed | `disk fault` |
@@ -232,7 +237,7 @@ fn do_words<S: Source, K: Sink, D: Disk, L: Lane>(
 /// | 8 | where the disk isn't a journal | `not a journal at PLACE` |
 /// | 9 | where its rows aren't those of a book | `damaged row N` |
 /// | 10 | where a lane ended since its cell or its gate failed, an item wasn't a weight, or it was refused | |
-/// | 12 | where 100 000 000 reads (`migrate`: 200 000 000) each gave a byte, and no end came; or the bound of a cell was reached | |
+/// | 12 | where 100 000 000 reads (`migrate`: 200 000 000) each gave a byte, and no end came; an import has more than 1 000 000 records; or the bound of a cell was reached | |
 ///
 /// Where several hold, the least is answered, but 7 comes last.
 ///
