@@ -213,9 +213,9 @@ fn do_words<S: Source, K: Sink, D: Disk, L: Lane>(
 /// nothing and leave the rows as they are.
 ///
 /// `import` reads a table of acts of desks to its end, and then answers each as `run` answers a
-/// line; at the end comes the summary. An import that comes again is answered again, and adds no
-/// row. `trial` reads nothing: it makes a script from its two numbers, runs it, and prints the
-/// summary alone.
+/// line; at the end comes the summary. An import that comes again is answered again, and each of its
+/// acts stands once. `trial` reads nothing: it makes a script from its two numbers, runs it, and
+/// prints the summary alone.
 ///
 /// `migrate` reads a journal of version 1 and carries its rows, up to the first slot that is cut
 /// or whose gate is closed; what follows is read and passed over. A row that the book has is
