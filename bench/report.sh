@@ -3,9 +3,10 @@
 #
 # Export: a book of 1 000 000 rows in a file, 999 000 of them weighings in a hundred batches, beside
 # sqlite3 that selects the same columns of the same packs from a table in a file and writes them in
-# CSV; and its memory, as bytes a row above that of an empty book. Import: 200 000 acts of a desk from
-# CSV beside the same acts as a script; the answers have to be the same. Trial: 10 000 and 100 000
-# packs, and the growth, which is 10 where the work grows with the packs. Best of three, to a file.
+# CSV; and its memory, as bytes a row above that of an empty book. Import: 200 000 acts of a desk
+# from CSV beside the same acts as a script; the answers have to be the same. Trial: 10 000 and
+# 100 000 packs, and the growth, which is 10 where the work grows with the packs. Best of three, to
+# a file.
 #
 # usage: bench/report.sh [FOLDER]     (packages sqlite3, time; the files lie in a new folder below
 #                                     this one, and else below /dev/shm, where a sync costs nothing)
@@ -62,11 +63,13 @@ grep -qx "rows $rows" "$work/summary"
 ours=$(least "$work/nothing" "$work/register" "$program" export --book "$work/day.book")
 [ "$(wc -l <"$work/register")" -eq $((packs + 1)) ]
 
-sqlite3 "$work/day.sqlite" 'create table register (pack integer primary key, batch text, product text,
-    lane integer, day text, gross text, net text, class text, signal text, pile text)' \
+sqlite3 "$work/day.sqlite" 'create table register (pack integer primary key, batch text,
+    product text, lane integer, day text, gross text, net text, class text, signal text,
+    pile text)' \
     '.mode csv' ".import --skip 1 $work/register register"
 theirs=$(least "$work/nothing" "$work/selected" sqlite3 -csv "$work/day.sqlite" \
-    'select pack, batch, product, lane, day, gross, net, class, signal, pile from register order by pack')
+    'select pack, batch, product, lane, day, gross, net, class, signal, pile from register
+    order by pack')
 tail -n +2 "$work/register" >"$work/records"
 tr -d '"\r' <"$work/selected" | cmp - "$work/records"
 awk -v rows=$rows -v a="$ours" -v b="$theirs" 'BEGIN {

@@ -58,7 +58,8 @@ sqlite3 :memory: '.mode csv' ".import $work/register.csv register" \
 
 # csvkit
 csvsql --query 'select pile, count(*), printf("%.3f", sum(gross)) from register group by pile' \
-    "$work/register.csv" | tail -n +2 | sort | cmp - "$work/summary" || fail "csvkit sums up otherwise"
+    "$work/register.csv" | tail -n +2 | sort | cmp - "$work/summary" ||
+    fail "csvkit sums up otherwise"
 
 # A reader that goes.
 {

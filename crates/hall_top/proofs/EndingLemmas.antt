@@ -4,6 +4,7 @@ use Rattle.std.specs.List.{list_any}
 use Rattle.disk_core.specs.declared.disk.Disk as disk
 use Rattle.book_words.specs.declared.act.Entry.{Entry}
 use Rattle.command_line.specs.Words.{Wanted}
+use Rattle.command_line.specs.declared.types.Command.{Command}
 use Rattle.book_store.specs.declared.store.Store.{Store}
 use Rattle.book_store.specs.declared.types.MountError.TheVariants as mount
 use Rattle.text_streams.specs.Streams.{Stream}
@@ -21,7 +22,15 @@ use Rattle.hall_top.specs.declared.ending.Ending.{Ending}
 use Rattle.hall_top.specs.declared.ending.Ending.TheVariants.{Usage, Unopened, Stopped}
 use Rattle.hall_top.specs.Endings.{early_status, is_early, is_spent, status_of, last_status, SaysLast, is_status}
 use Rattle.book_migration.specs.Migration.{ExplainsMigration}
-use Rattle.hall_top.specs.Calls.{SaysWhole, input_of, CarriesJournal, SaysMigration, LanesRest, ExplainsCheck, ExplainsPrinting, IsImport, IsTrial, stream_call, SaysMigrate, ExplainsMigrate, EndsAs}
+use Rattle.hall_top.specs.Calls.{ExplainsAs, ExplainsCommand, SaysWhole, input_of, CarriesJournal, SaysMigration, LanesRest, ExplainsCheck, ExplainsPrinting, IsImport, IsTrial, stream_call, SaysMigrate, ExplainsMigrate, EndsAs}
+
+-- ---- the command that is asked for
+
+pub explains_as : {S : Type 0} (wanted : Wanted) (command : Command) (book : BookState)
+    (call : Call S) (stop : Stop) → wanted.command ≡ command
+    → ExplainsAs command wanted book call stop → ExplainsCommand wanted book call stop
+explains_as wanted command book call stop is explained =
+    subst (λ (c : Command). ExplainsAs c wanted book call stop) (sym is) explained
 
 -- ---- the line that says that the book is whole
 

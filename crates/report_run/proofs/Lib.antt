@@ -1,3 +1,4 @@
 mod Pieces
 mod Walks
 mod Questions
+mod EachReading

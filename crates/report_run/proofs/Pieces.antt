@@ -16,6 +16,10 @@ wrote_on before mid now first next one two =
       calm = two.calm ∙ one.calm;
     }
 
+-- what is appended to nothing is all
+pub behind_none : (held to text : List ℕ) → to ≡ held ++ text → held ≡ [] → to ≡ text
+behind_none held to text is none = is ∙ ap (λ (l : List ℕ). l ++ text) none
+
 -- nothing went out yet
 pub begins : (now : Stream) (held text : List ℕ) → IsPrinting now now held held text text
 begins now held text = record { out = []; wrote = wrote_nothing now; whole = refl }
@@ -30,7 +34,8 @@ appended before now held holds text one =
       whole = ap (λ (l : List ℕ). one.out ++ l) (append-nil (holds ++ text))
           ∙ sym (append_assoc one.out holds text)
           ∙ ap (λ (l : List ℕ). l ++ text)
-          (ap (λ (l : List ℕ). one.out ++ l) (sym (append-nil holds)) ∙ one.whole ∙ append-nil held);
+          (ap (λ (l : List ℕ). one.out ++ l) (sym (append-nil holds)) ∙ one.whole
+          ∙ append-nil held);
     }
 
 -- what the buffer held went out

@@ -61,7 +61,8 @@ told_pack entries None = refl
 told_pack entries (Some view) = refl
 
 -- the pack that is told is the one with the number
-pub looked_pack : (limit : ℕ) (entries : List Entry) (number : ℕ) (given : Result Answered BookError)
+pub looked_pack : (limit : ℕ) (entries : List Entry) (number : ℕ)
+    (given : Result Answered BookError)
     → GivesLook (Pack number) given (answer limit entries (asked_question (Pack number)))
     → pack_told given ≡ pack_view entries number
 looked_pack limit entries number (Ok answered) is =

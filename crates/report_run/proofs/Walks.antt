@@ -18,7 +18,8 @@ use Rattle.report_run.specs.Reports.{batch_text, sheets_text, weighed_packs, ope
 
 -- the sheets of the batches that are opened behind so many rows
 abbrev pub sheets_behind : List Entry → ℕ → List ℕ
-sheets_behind entries before = flat_map (batch_text entries) (said batch_opened (drop before entries))
+sheets_behind entries before =
+    flat_map (batch_text entries) (said batch_opened (drop before entries))
 
 pub all_sheets : (entries : List Entry) → sheets_behind entries 0 ≡ sheets_text entries
 all_sheets entries = refl
@@ -106,7 +107,8 @@ pub next_record : (entries : List Entry) (before : ℕ) → before < length entr
     ++ records_behind entries (before + 1)
 next_record entries before h =
     ap (records_from entries before)
-    (let more : length entries - before ≡ suc (length entries - (before + 1)) = omega (arith, h) in more)
+    (let more : length entries - before ≡ suc (length entries - (before + 1)) = omega (arith, h) in
+    more)
     ∙ record_first entries (placed_reading entries before)
     (filter_map (placed_reading entries)
     (range_with_len (before + 1) (length entries - (before + 1))))

@@ -4,8 +4,8 @@ use Rattle.store_runs.specs.declared.stop.Stop.{Stop}
 use Rattle.store_runs.specs.declared.stop.Stop.TheVariants.{Finished, WriteFault, NoMemory}
 use Rattle.text_streams.specs.Streams.{Stream, WroteAll, IsCutIn}
 
--- How the printing of a text stopped: finished, all of it went out; at a fault of the output, it was
--- cut, so that less than all did; without memory, nothing did. It stops in no other way.
+-- What went out of a text where its printing stopped so: finished, all of it did; at a fault of the
+-- output it was cut, and less than all did; without memory nothing did. It stops in no other way.
 abbrev pub SaysText : Stream → Stream → List ℕ → Stop → Type 0
 SaysText before now text Finished = WroteAll before now text
 SaysText before now text WriteFault = IsCutIn before now [] text

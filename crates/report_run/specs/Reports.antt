@@ -1,5 +1,5 @@
 -- What is printed of a book: reports and the register, over the list of its entries.
-use Rattle.std.specs.Prelude.{ℕ, List, [], ◌++◌, Option, Some, None, Result, Ok, Err}
+use Rattle.std.specs.Prelude.{◌≡◌, ℕ, List, [], ◌++◌, map, Option, Some, None, Result, Ok, Err}
 use Rattle.std.specs.List.{flat_map, filter_map}
 use Rattle.std.specs.Option.{option_and_then}
 use Rattle.book_words.specs.declared.name.Name.{Name}
@@ -12,6 +12,7 @@ use Rattle.book_words.specs.declared.reply.Refused.{Refused}
 use Rattle.book_words.specs.declared.views.PackView.{PackView}
 use Rattle.book_words.specs.Acts.{said, batch_opened}
 use Rattle.book_words.specs.Readings.{readings}
+use Rattle.book_words.specs.Samples.{numbers_of}
 use Rattle.book_words.specs.Views.{view_of_reading, question_told, summary}
 use Rattle.book_words.specs.Answers.{question_answer}
 use Rattle.book_core.specs.declared.types.BookError.{BookError}
@@ -42,6 +43,11 @@ weighed_packs entries = filter_map (view_of_reading entries) (readings entries)
 -- the register of a book: the header, and the record of each pack that was weighed
 abbrev pub book_register : List Entry → List ℕ
 book_register entries = register_text (weighed_packs entries)
+
+-- each reading has its record, and nothing else has one: the packs have the numbers of the readings
+abbrev pub HasEachReading : List Entry → Type 0
+HasEachReading entries =
+    map (λ pack. pack.pack) (weighed_packs entries) ≡ numbers_of (readings entries)
 
 -- the batch that the row of a number opens, where it opens one
 abbrev pub opened_at : List Entry → ℕ → Option Name

@@ -1,5 +1,5 @@
-//! What an inspector takes away of a book: the sheets of its batches with the summary, one sheet, or
-//! the register of its packs, each written to an output as the book stands.
+//! What an inspector takes away of a book: the sheets of its batches with the summary, one sheet,
+//! or the register of its packs, each written to an output as the book stands.
 #![tactic(auto)]
 
 mod buffer;

@@ -3,12 +3,13 @@ ghost use Rattle.std.specs.List.{flat_map};
 ghost use Rattle.csv.specs.Reading.{AreRecords, default_config, strip_bom};
 ghost use Rattle.csv.specs.declared.parser.State.TheVariants.{StartRecord};
 ghost use Rattle.text_streams.specs.Streams.{output_at, WroteAll, IsCutIn};
+ghost use Rattle.book_words.specs.Answers.{IsLegal};
 ghost use Rattle.book_words.specs.Ranges.{IsPackInRange};
 ghost use Rattle.book_words.specs.Views.{pack_view};
 ghost use Rattle.pack_register.specs.Register.{column_names, columns, record_text};
 ghost use Rattle.book_store.specs.Stores.{entries_of};
 ghost use Rattle.report_run.specs.Printing.{SaysText, HasPrinted};
-ghost use Rattle.report_run.specs.Reports.{weighed_packs, book_register, pack_told, text_if_there};
+ghost use Rattle.report_run.specs.Reports.{HasEachReading, weighed_packs, book_register, pack_told, text_if_there};
 
 use crate::buffer::{BUFFER_BYTES, empty_buffer, flush, make_way};
 use book_core::{Book, BookError};
@@ -24,10 +25,12 @@ fn pack_told(answer: Result<Answered, BookError>) -> Option<PackView>
     ensures { result ≡ pack_told answer }
 {
     match answer {
-        Ok(Answered {
-            reply: Reply::PackIs(view),
-            ..
-        }) => Some(view),
+        Ok(
+            Answered {
+                reply: Reply::PackIs(view),
+                ..
+            },
+        ) => Some(view),
         _ => None,
     }
 }
@@ -36,6 +39,7 @@ fn pack_told(answer: Result<Answered, BookError>) -> Option<PackView>
 fn pack_at(book: &Book, number: u32) -> Option<PackView>
     ensures view { result ≡ pack_view book.now.entries number }
     ensures range { IfSome result IsPackInRange }
+    ensures legal { IsLegal book.now.entries }
 {
     pack_told(book.look(&Question::Pack { pack: number }))
 }
@@ -54,6 +58,7 @@ fn print_pack<K: Sink>(
     ensures cut { OnErr result (IsCutIn (output_at K.Sink output.old)
         (output_at K.Sink output.new) [] text.old.items) }
     ensures room { vec_capacity text.new ≡ vec_capacity text.old }
+    ensures legal { IsLegal book.now.entries }
 {
     if let Some(pack) = pack_at(book, number) {
         make_way(output, text)?;
@@ -72,6 +77,7 @@ fn print_packs<K: Sink>(book: &Book, output: &mut K, text: &mut Vec<u8>) -> Resu
         (output_at K.Sink output.new) []
         (text.old.items ++ flat_map record_text (weighed_packs book.now.entries))) }
     ensures room { vec_capacity text.new ≡ vec_capacity text.old }
+    ensures each { OnOk result (HasEachReading book.now.entries) }
 {
     for before in 0..book.len() {
         print_pack(book, before + 1, output, text)?;
@@ -87,6 +93,7 @@ fn write_register<K: Sink>(book: &Book, output: &mut K, text: &mut Vec<u8>) -> R
         (output_at K.Sink output.new) (book_register book.now.entries)) }
     ensures cut { OnErr result (IsCutIn (output_at K.Sink output.old)
         (output_at K.Sink output.new) [] (book_register book.now.entries)) }
+    ensures each { OnOk result (HasEachReading book.now.entries) }
 {
     push_header(text);
     print_packs(book, output, text)?;
@@ -95,6 +102,7 @@ fn write_register<K: Sink>(book: &Book, output: &mut K, text: &mut Vec<u8>) -> R
 }
 
 /// Prints the register of the book: the header, and the record of each pack in order of weighing.
+/// Each reading has its record, under its number.
 /// The kit's `csv` reads back the names of the columns and what stands in them.
 ///
 /// All memory that it takes is a buffer, taken before the first write: without it, nothing goes
@@ -102,6 +110,7 @@ fn write_register<K: Sink>(book: &Book, output: &mut K, text: &mut Vec<u8>) -> R
 pub fn print_register<K: Sink, D: Disk>(alloc: Global, store: &Store<D>, output: &mut K) -> Stop
     ensures says { SaysText (output_at K.Sink output.old) (output_at K.Sink output.new)
         (book_register (entries_of store.now)) result }
+    ensures each { result ≡ Stop.Finished → HasEachReading (entries_of store.now) }
     ensures reads_back { AreRecords default_config StartRecord
         (strip_bom (book_register (entries_of store.now)))
         (column_names ∷ map columns (weighed_packs (entries_of store.now))) }

@@ -94,7 +94,7 @@ fn print_sheets<K: Sink>(book: &Book, output: &mut K, text: &mut Vec<u8>) -> Res
         (output_at K.Sink output.new) text.old.items text.new.items
         (sheets_text book.now.entries)) }
     ensures cut { OnErr result (IsCutIn (output_at K.Sink output.old)
-        (output_at K.Sink output.new) [] 
+        (output_at K.Sink output.new) []
         (text.old.items ++ sheets_text book.now.entries)) }
     ensures room { vec_capacity text.new ≡ vec_capacity text.old }
 {

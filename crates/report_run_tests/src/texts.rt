@@ -96,12 +96,18 @@ fn wrong_paper(alloc: Global) -> Option<&'static str> {
 // How many records of the long book stand behind a header, each whole.
 fn count_records(text: &[u8]) -> Option<u32> {
     let mut count = 0u32;
-    let mut rest = text.split_at(text.iter().position(|byte| *byte == b'\n')?).1;
+    let mut rest = text
+        .split_at(text.iter().position(|byte| *byte == b'\n')?)
+        .1;
     while let Some(line) = rest.strip_prefix(b"\n".as_slice()) {
         let Some(comma) = line.iter().position(|byte| *byte == b',') else {
             return if line.is_empty() { Some(count) } else { None };
         };
-        rest = line.split_at(comma).1.strip_prefix(b",".as_slice())?.strip_prefix(RECORD)?;
+        rest = line
+            .split_at(comma)
+            .1
+            .strip_prefix(b",".as_slice())?
+            .strip_prefix(RECORD)?;
         count = count.saturating_add(1);
     }
     None
@@ -121,7 +127,10 @@ fn papers(rt: HostRuntime) -> Result<(), AllocError> {
 
 #[test]
 fn many_records(rt: HostRuntime) -> Result<(), Fail> {
-    assert_eq!(rt; records_out(rt.alloc(), &[]), Some((End::Whole, Some(MANY))));
+    assert_eq!(rt;
+        records_out(rt.alloc(), &[]),
+        Some((End::Whole, Some(MANY)))
+    );
     assert_eq!(rt; records_out(rt.alloc(), &[1]), Some((End::Cut, None)));
     assert_eq!(rt; records_out(rt.alloc(), &[2]), Some((End::Cut, Some(969))));
     Ok(())

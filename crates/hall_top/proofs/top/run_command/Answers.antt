@@ -2,6 +2,9 @@ use Rattle.std.proofs.Common.{Err, refl, sym, ap, ◌∙◌, subst, arith}
 use Rattle.std.specs.Bool.{⊤}
 use Rattle.book_store.specs.declared.store.Store.{Store}
 use Rattle.book_store.specs.Stores.{entries_of}
+use Rattle.command_line.specs.declared.types.Command.TheVariants.{Run, Report, Export, Check}
+use Rattle.command_line.specs.declared.types.Command.TheVariants.{Import, Trial, Migrate}
+use Rattle.command_line.specs.Taken.{seen}
 use Rattle.text_streams.specs.Streams.{output_at}
 use Rattle.script_run.specs.Outside.{devices, outside_at, nothing_told}
 use Rattle.store_runs.specs.Books.{stored_book}
@@ -10,11 +13,20 @@ use Rattle.store_runs.proofs.StoreSteps.{stays}
 use Rattle.report_run.specs.Reports.{book_register}
 use Rattle.hall_top.specs.Calls.{reported}
 use Rattle.hall_top.proofs.OpenedBooks.{call_from, lanes_rest}
-use Rattle.hall_top.proofs.EndingLemmas.{explains_check, explains_printing, is_import, is_trial, ends_migration, whole_counts, text_counts, migrated_goes}
+use Rattle.hall_top.proofs.EndingLemmas.{explains_as, explains_check, explains_printing, is_import, is_trial, ends_migration, whole_counts, text_counts, migrated_goes}
 use Rattle.hall_top.proofs.top.run_command.Goals as goal
 
 pub returns-in-Run-clause-explained : goal.returns-in-Run-clause-explained
-returns-in-Run-clause-explained g c = rw c.in-Run.is c.run_script.ensures.explained
+returns-in-Run-clause-explained g c =
+    let here = outside_at g.K.Sink g.L.Cell g.L.Gate c.args.output.now c.args.lanes.now
+    nothing_told in
+    let end = c.run_script.result in
+    let now = outside_at g.K.Sink g.L.Cell g.L.Gate c.run_script.new.output
+    c.run_script.new.lanes end.log.told in
+    let call = call_from (devices g.S.Source c.args.input.now here)
+    (devices g.S.Source c.run_script.new.input now) (entries_of end.store) in
+    explains_as (seen c.args.wanted.now) Run (stored_book c.args.store) call end.stop c.in-Run.is
+    c.run_script.ensures.explained
 
 pub returns-in-Report-clause-explained : goal.returns-in-Report-clause-explained
 returns-in-Report-clause-explained g c =
@@ -27,7 +39,8 @@ returns-in-Report-clause-explained g c =
     (devices g.S.Source c.args.input.now now) (entries_of end.store) in
     let same = ap (λ (s : Store _). entries_of s)
     (c.without_lanes.ensures.store ∙ c.report.ensures.store) in
-    rw c.in-Report.is (explains_printing (reported c.args.wanted.now.batch)
+    explains_as (seen c.args.wanted.now) Report (stored_book c.args.store) call end.stop
+    c.in-Report.is (explains_printing (reported c.args.wanted.now.batch)
     (stored_book c.args.store) call end.stop (entries_of c.args.store) refl
     (lanes_rest here (output_at g.K.Sink c.report.new.output) end.log.told
     c.without_lanes.ensures.log) same
@@ -53,7 +66,8 @@ returns-in-Export-clause-explained g c =
     (devices g.S.Source c.args.input.now now) (entries_of end.store) in
     let same = ap (λ (s : Store _). entries_of s)
     (c.without_lanes-in-Export.ensures.store ∙ c.export.ensures.store) in
-    rw c.in-Export.is (explains_printing book_register (stored_book c.args.store) call
+    explains_as (seen c.args.wanted.now) Export (stored_book c.args.store) call end.stop
+    c.in-Export.is (explains_printing book_register (stored_book c.args.store) call
     end.stop (entries_of c.args.store) refl
     (lanes_rest here (output_at g.K.Sink c.export.new.output) end.log.told
     c.without_lanes-in-Export.ensures.log) same
@@ -79,7 +93,8 @@ returns-in-Check-clause-explained g c =
     (devices g.S.Source c.args.input.now now) (entries_of end.store) in
     let same = ap (λ (s : Store _). entries_of s)
     (c.without_lanes-in-Check.ensures.store ∙ c.say_whole.ensures.store) in
-    rw c.in-Check.is (explains_check (stored_book c.args.store) call end.stop
+    explains_as (seen c.args.wanted.now) Check (stored_book c.args.store) call end.stop
+    c.in-Check.is (explains_check (stored_book c.args.store) call end.stop
     (entries_of c.args.store) refl
     (lanes_rest here (output_at g.K.Sink c.say_whole.new.output) end.log.told
     c.without_lanes-in-Check.ensures.log) same
@@ -103,7 +118,8 @@ returns-in-Import-clause-explained g c =
     end.log.told in
     let call = call_from (devices g.S.Source c.args.input.now here)
     (devices g.S.Source c.run_import.new.input now) (entries_of end.store) in
-    rw c.in-Import.is (is_import (stored_book c.args.store) call c.run_import.result.stop end.stop
+    explains_as (seen c.args.wanted.now) Import (stored_book c.args.store) call end.stop
+    c.in-Import.is (is_import (stored_book c.args.store) call c.run_import.result.stop end.stop
     (entries_of c.run_import.result.store)
     (lanes_rest here (output_at g.K.Sink c.run_import.new.output) end.log.told
     c.without_lanes-in-Import.ensures.log)
@@ -130,7 +146,8 @@ returns-in-Trial-clause-explained g c =
     end.log.told in
     let call = call_from (devices g.S.Source c.args.input.now here)
     (devices g.S.Source c.args.input.now now) (entries_of end.store) in
-    rw c.in-Trial.is (is_trial c.args.wanted.now.number c.args.wanted.now.count
+    explains_as (seen c.args.wanted.now) Trial (stored_book c.args.store) call end.stop
+    c.in-Trial.is (is_trial c.args.wanted.now.number c.args.wanted.now.count
     (stored_book c.args.store) call c.run_trial-end.result.stop end.stop
     (entries_of c.run_trial-end.result.store) refl
     (lanes_rest here (output_at g.K.Sink c.run_trial-end.new.output) end.log.told
@@ -154,7 +171,8 @@ returns-in-Migrate-clause-explained g c =
     (devices g.S.Source c.migrate_journal.new.input now) (entries_of end.store) in
     let same = ap (λ (s : Store _). entries_of s)
     (c.without_lanes-in-Migrate.ensures.store ∙ c.end_migration-end.ensures.store) in
-    rw c.in-Migrate.is (ends_migration (stored_book c.args.store) call
+    explains_as (seen c.args.wanted.now) Migrate (stored_book c.args.store) call end.stop
+    c.in-Migrate.is (ends_migration (stored_book c.args.store) call
     (entries_of c.migrate_journal.result.store) c.migrate_journal.result.stop end.stop same
     (lanes_rest here (output_at g.K.Sink c.end_migration-end.new.output) end.log.told
     c.without_lanes-in-Migrate.ensures.log)

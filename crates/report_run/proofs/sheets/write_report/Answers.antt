@@ -13,7 +13,8 @@ returns-in_err-make_way-clause-cut g c =
     let before = output_at g.K.Sink c.args.output.now in
     let now = output_at g.K.Sink c.make_way.new.output in
     let balance = summary_text (summary entries) in
-    let p = err_from_is_err_and c.from_residual-in_err-make_way.result c.from_residual-in_err-make_way.ensures.1 in
+    let left = c.from_residual-in_err-make_way in
+    let p = err_from_is_err_and left.result left.ensures.1 in
     rw p.1 (subst (λ (l : List ℕ). IsCutIn before now [] ((l ++ sheets_text entries) ++ balance))
     c.requires.empty
     (cut_more before now (c.args.text.now.items ++ sheets_text entries) balance
@@ -28,7 +29,8 @@ returns-in_err-flush-clause-cut g c =
     let mid = output_at g.K.Sink c.make_way.new.output in
     let now = output_at g.K.Sink c.flush.new.output in
     let balance = summary_text (summary entries) in
-    let p = err_from_is_err_and c.from_residual-in_err-flush.result c.from_residual-in_err-flush.ensures.1 in
+    let left = c.from_residual-in_err-flush in
+    let p = err_from_is_err_and left.result left.ensures.1 in
     rw p.1 (subst (λ (l : List ℕ). IsCutIn before now [] ((l ++ sheets_text entries) ++ balance))
     c.requires.empty
     (cuts_behind before mid now c.args.text.now.items c.make_way.new.text.items
