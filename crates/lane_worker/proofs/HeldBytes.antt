@@ -22,7 +22,8 @@ moved_front bytes from count within fits =
     ∙ sym (drop-take from n bytes) ∙ ap (λ k. drop from (take k bytes)) whole
 
 -- bytes that were read behind those before
-pub read_behind : (at room count : ℕ) (bytes into : List ℕ) → at ≤ length bytes → count ≤ length into
+pub read_behind : (at room count : ℕ) (bytes into : List ℕ) → at ≤ length bytes
+    → count ≤ length into
     → take (at + count) (put_mid at room bytes into) ≡ take at bytes ++ take count into
 read_behind at room count bytes into within fits =
     let front = take at bytes in

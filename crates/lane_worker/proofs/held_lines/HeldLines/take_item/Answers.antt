@@ -36,8 +36,8 @@ returns-in-None-clause-item c =
     let taken = c.take_last.ensures in
     let some : 0 < length was.bytes = search rules in
     let says = taken.item ∙ ap (last_says was.bytes) number in
-    λ left end. (last_next was c.args.self.now c.take_last.new.self c.take_last.result c.self.view_is
-    some c.in-None.ensures says taken.bytes (taken.lines ∙ number) left end).0
+    λ left end. (last_next was c.args.self.now c.take_last.new.self c.take_last.result
+    c.self.view_is some c.in-None.ensures says taken.bytes (taken.lines ∙ number) left end).0
 
 pub returns-in-None-clause-rest : goal.returns-in-None-clause-rest
 returns-in-None-clause-rest c =
@@ -46,5 +46,5 @@ returns-in-None-clause-rest c =
     let taken = c.take_last.ensures in
     let some : 0 < length was.bytes = search rules in
     let says = taken.item ∙ ap (last_says was.bytes) number in
-    λ left end. (last_next was c.args.self.now c.take_last.new.self c.take_last.result c.self.view_is
-    some c.in-None.ensures says taken.bytes (taken.lines ∙ number) left end).1
+    λ left end. (last_next was c.args.self.now c.take_last.new.self c.take_last.result
+    c.self.view_is some c.in-None.ensures says taken.bytes (taken.lines ∙ number) left end).1

@@ -9,7 +9,8 @@ invariant-reading g l = record {
   ended : g.S.Source.ended l.self-inside.source ≡ l.self-inside.ended;
   at_end : l.self-inside.ended ≡ true → IsAtEnd (g.S.Source.left l.self-inside.source);
   bytes : prepend_known l.self-inside.held.bytes (g.S.Source.left l.self-inside.source)
-      ≡ prepend_known l.initial.self-inside.held.bytes (g.S.Source.left l.initial.self-inside.source);
+      ≡ prepend_known l.initial.self-inside.held.bytes
+      (g.S.Source.left l.initial.self-inside.source);
   lines : l.self-inside.held.lines ≡ l.initial.self-inside.held.lines;
   bad : l.self-inside.bad ≡ None;
   faults : l.self-inside.faults ≡ l.initial.self-inside.faults;
