@@ -1,5 +1,5 @@
 -- Laws of cuts: what is said on a connection doesn't depend on how its bytes were cut into reads.
-use Rattle.std.proofs.Common.{◌≡◌, ℕ, ◌+◌, ◌<◌, ◌≤◌, Bool, true, false, true≢false, ◌||◌, ◌==◌, List, [], ◌∷◌, ◌++◌, length, take, drop, All, Option, Some, None, IfSome, option_to_list, refl, sym, ◌∙◌, ap, subst, arith, append-nil, length-append}
+use Rattle.std.proofs.Common.{◌≡◌, ℕ, ◌+◌, ◌<◌, ◌≤◌, Bool, true, false, true≢false, ◌||◌, ◌==◌, List, [], ◌∷◌, ◌++◌, length, take, drop, All, Option, Some, None, IfSome, option_to_list, nat_le, ◌⊎◌, inl, inr, leb-true, leb-false, refl, sym, ◌∙◌, ap, subst, arith, append-nil, length-append}
 use Rattle.std.specs.Bool.{⊤}
 use Rattle.std.specs.Prelude.{zip}
 use Rattle.std.specs.List.{cons_option}
@@ -26,7 +26,7 @@ use Rattle.office_door.specs.Exchanges.{Exchange, ask_of, asks_of, response_to, 
 use Rattle.office_door.specs.Served.{Visit, GoesOn, EndsRight, IsLeft, IsServed, exchanges_of, requests_of}
 use Rattle.office_door.specs.Doors.{Site, TakesFrom, AreVisited, visited, links_of, ServesDoor}
 use Rattle.office_door.specs.Cuts.{IsAnsweredAlike, AreAnsweredAlike, SaysFirst, TalksAlike, VisitsAlike}
-use Rattle.office_door.proofs.Prefixes.{prefix_on, prefix_itself, prefix_both, prefix_behind, prefix_onto}
+use Rattle.office_door.proofs.Prefixes.{prefix_on, prefix_itself, prefix_both, prefix_within, prefix_behind, prefix_onto}
 
 -- ---- requests
 
@@ -268,7 +268,31 @@ part_written WriteFailed visit rest left =
     (sym (behind_last visit x left.1))
     (prefix_behind (responses visit.before) (take cut.0 (response_of x)) (response_of x) part))
 
+-- those before the last went out whole
+before_written : (leaving : Leaving) (visit : Visit) (rest : List ℕ)
+    → IsLeft leaving visit rest → IsPrefixOf (responses visit.before) visit.written
+before_written End visit rest left =
+    subst (λ (t : List ℕ). IsPrefixOf (responses visit.before) t) (sym left.3)
+    (prefix_itself (responses visit.before))
+before_written Last visit rest left = (response_of left.0, left.3)
+before_written ReadFailed visit rest left =
+    subst (λ (t : List ℕ). IsPrefixOf (responses visit.before) t) (sym left.3)
+    (prefix_itself (responses visit.before))
+before_written WriteFailed visit rest left = (take left.2.0 (response_of left.0), left.2.2)
+
 -- ---- two visits
+
+same_visits : (connection : Connection) (here there : Visit) → IsServed here → IsServed there
+    → TakesFrom (Some connection) here → TakesFrom (Some connection) there
+    → AreAnsweredAlike here there → AreSame (exchanges_of here) (exchanges_of there)
+same_visits connection here there one other takes_here takes_there alike =
+    let bytes = connection.left in
+    let first = first_of bytes here one.rest one.requests takes_here.0 takes_here.1 in
+    let second = first_of bytes there other.rest other.requests takes_there.0 takes_there.1 in
+    same_exchanges 0 bytes (exchanges_of here) (exchanges_of there) first.behind second.behind
+    first.requests second.requests
+    (marked_all here.before here.last one.ongoing one.few one.ends)
+    (marked_all there.before there.last other.ongoing other.few other.ends) alike
 
 says_first : (connection : Connection) (here there : Visit) → IsServed here → IsServed there
     → TakesFrom (Some connection) here → TakesFrom (Some connection) there
@@ -280,9 +304,7 @@ says_first connection here there one other takes_here takes_there alike calm =
     let first = first_of bytes here one.rest one.requests takes_here.0 takes_here.1 in
     let second = first_of bytes there other.rest other.requests takes_there.0 takes_there.1 in
     let same : AreSame xs ys =
-    same_exchanges 0 bytes xs ys first.behind second.behind first.requests second.requests
-    (marked_all here.before here.last one.ongoing one.few one.ends)
-    (marked_all there.before there.last other.ongoing other.few other.ends) alike in
+    same_visits connection here there one other takes_here takes_there alike in
     let short : length xs ≤ length ys = by there.leaving other.left calm first second same in
     record {
       asks = first_asks xs ys same short;
@@ -310,6 +332,79 @@ says_first connection here there one other takes_here takes_there alike calm =
     by ReadFailed left calm first second same = absurd (omega (arith, calm))
     by WriteFailed left calm first second same = absurd (omega (arith, calm))
 
+same_front : (xs ys more : List Exchange) → AreSame xs (ys ++ more) → AreSame xs ys
+same_front [] ys more same = tt
+same_front (x ∷ xs) [] more same = tt
+same_front (x ∷ xs) (y ∷ ys) more same = (same.0, same_front xs ys more same.1)
+
+one_at_most : (last : Option Exchange) → length (option_to_list last) ≤ 1
+one_at_most None = omega arith
+one_at_most (Some x) = omega arith
+
+-- a visit of fewer requests said no more
+fewer_says : (here there : Visit) → IsServed here → IsServed there
+    → AreSame (exchanges_of here) (exchanges_of there)
+    → length (exchanges_of here) < length (exchanges_of there) → SaysFirst here there
+fewer_says here there one other same less =
+    let xs = exchanges_of here in
+    let most = one_at_most there.last in
+    let parts = length-append there.before (option_to_list there.last) in
+    let short : length xs ≤ length there.before = omega (arith, less, most, parts) in
+    let front = same_front xs there.before (option_to_list there.last) same in
+    record {
+      asks = first_asks xs (exchanges_of there) same (omega (arith, less));
+      written = prefix_on here.written (responses xs) there.written
+          (part_written here.leaving here one.rest one.left)
+          (prefix_on (responses xs) (responses there.before) there.written
+          (first_responses xs there.before front short)
+          (before_written there.leaving there other.rest other.left));
+    }
+
+-- of two visits of as many requests, one said no more
+equal_says : (here there : Visit) → IsServed here → IsServed there
+    → AreSame (exchanges_of here) (exchanges_of there)
+    → length (exchanges_of here) ≤ length (exchanges_of there)
+    → length here.written ≤ length there.written → SaysFirst here there
+equal_says here there one other same few short =
+    let xs = exchanges_of here in
+    let ys = exchanges_of there in
+    record {
+      asks = first_asks xs ys same few;
+      written = prefix_within here.written there.written (responses ys)
+          (prefix_on here.written (responses xs) (responses ys)
+          (part_written here.leaving here one.rest one.left) (first_responses xs ys same few))
+          (part_written there.leaving there other.rest other.left)
+          short;
+    }
+
+says_either : (here there : Visit) → IsServed here → IsServed there
+    → AreSame (exchanges_of here) (exchanges_of there)
+    → AreSame (exchanges_of there) (exchanges_of here)
+    → SaysFirst here there ⊎ SaysFirst there here
+says_either here there one other same back =
+    by (nat_le (length (exchanges_of here)) (length (exchanges_of there))) refl
+    (nat_le (length (exchanges_of there)) (length (exchanges_of here))) refl
+    (nat_le (length here.written) (length there.written)) refl
+  where
+    by : (few : Bool) → nat_le (length (exchanges_of here)) (length (exchanges_of there)) ≡ few
+        → (many : Bool) → nat_le (length (exchanges_of there)) (length (exchanges_of here)) ≡ many
+        → (short : Bool) → nat_le (length here.written) (length there.written) ≡ short
+        → SaysFirst here there ⊎ SaysFirst there here
+    by false h many k short l =
+        let less = leb-false (length (exchanges_of here)) (length (exchanges_of there)) h in
+        inr (fewer_says there here other one back less)
+    by true h false k short l =
+        let less = leb-false (length (exchanges_of there)) (length (exchanges_of here)) k in
+        inl (fewer_says here there one other same less)
+    by true h true k true l =
+        let few = leb-true (length (exchanges_of here)) (length (exchanges_of there)) h in
+        let short = leb-true (length here.written) (length there.written) l in
+        inl (equal_says here there one other same few short)
+    by true h true k false l =
+        let few = leb-true (length (exchanges_of there)) (length (exchanges_of here)) k in
+        let less = leb-false (length here.written) (length there.written) l in
+        inr (equal_says there here other one back few (omega (arith, less)))
+
 alike_back : (xs ys : List Exchange) → All Alike (zip xs ys) → All Alike (zip ys xs)
 alike_back [] [] alike = All-nil Alike
 alike_back [] (y ∷ ys) alike = All-nil Alike
@@ -326,12 +421,15 @@ pub cuts_alike : (connection : Connection) (here there : Visit) → IsServed her
     → TakesFrom (Some connection) here → TakesFrom (Some connection) there
     → AreAnsweredAlike here there → TalksAlike here there
 cuts_alike connection here there one other takes_here takes_there alike =
+    let turned = alike_back (exchanges_of here) (exchanges_of there) alike in
     let first : links_of there.leaving ≡ 0 → SaysFirst here there =
     says_first connection here there one other takes_here takes_there alike in
     let back : links_of here.leaving ≡ 0 → SaysFirst there here =
-    says_first connection there here other one takes_there takes_here
-    (alike_back (exchanges_of here) (exchanges_of there) alike) in
+    says_first connection there here other one takes_there takes_here turned in
     record {
+      either = says_either here there one other
+          (same_visits connection here there one other takes_here takes_there alike)
+          (same_visits connection there here other one takes_there takes_here turned);
       same = λ here_calm there_calm. record {
         asks = prefix_both (asks_of (exchanges_of here)) (asks_of (exchanges_of there))
             (first there_calm).asks (back here_calm).asks;

@@ -1,5 +1,7 @@
 -- Lists that others begin with.
-use Rattle.std.proofs.Common.{◌≡◌, ◌+◌, ◌≤◌, List, [], ◌∷◌, ◌++◌, length, Option, Some, None, sym, ◌∙◌, ap, arith, append_assoc, append-nil, length-append}
+use Rattle.std.proofs.Common.{◌≡◌, ◌+◌, ◌≤◌, List, [], ◌∷◌, ◌++◌, length, take, drop, Option, Some, None, sym, ◌∙◌, ap, arith, append_assoc, append-nil, length-append}
+use Rattle.std.proofs.Math.Seq.{take-append_seam}
+use Rattle.std.proofs.lemmas.List.{take-append-drop, take-append-le}
 use Rattle.std.specs.List.{cons_option}
 use Rattle.device_facts.specs.Prefix.{IsPrefixOf}
 
@@ -23,6 +25,19 @@ prefix_both {A} a b first second = by first.0 first.1 where
   by (x ∷ more) is =
       let short = prefix_short b a second in
       absurd (omega (arith, short, ap length is, length-append a (x ∷ more)))
+
+-- of two lists with which the same list begins, the longer begins with the other
+pub prefix_within : {A : Type 0} (a b whole : List A) → IsPrefixOf a whole → IsPrefixOf b whole
+    → length a ≤ length b → IsPrefixOf a b
+prefix_within {A} a b whole one other short =
+    let front : take (length a) b ≡ a =
+    sym (take-append-le (length a) b other.0 short)
+    ∙ ap (λ (xs : List A). take (length a) xs) (sym other.1 ∙ one.1)
+    ∙ take-append_seam a one.0 in (
+      drop (length a) b,
+      sym (take-append-drop (length a) b)
+          ∙ ap (λ (xs : List A). xs ++ drop (length a) b) front,
+    )
 
 -- with the same elements before both
 pub prefix_behind : {A : Type 0} (before a b : List A) → IsPrefixOf a b

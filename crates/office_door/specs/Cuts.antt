@@ -1,6 +1,6 @@
 -- How the bytes of a connection were cut into reads tells nothing: what two visits say to the same
 -- bytes, where the caller answers alike.
-use Rattle.std.specs.Prelude.{◌≡◌, zip, All, List}
+use Rattle.std.specs.Prelude.{◌≡◌, ◌⊎◌, zip, All, List}
 use Rattle.device_facts.specs.Prefix.{IsPrefixOf}
 use Rattle.office_door.specs.Exchanges.{Exchange, asks_of}
 use Rattle.office_door.specs.Served.{Visit, exchanges_of}
@@ -27,11 +27,12 @@ pub record SaysSame (here there : Visit) : Type 0 where
   pub asks : asks_of (exchanges_of here) ≡ asks_of (exchanges_of there)
   pub written : here.written ≡ there.written
 
--- Two visits talked alike: where no fault of the link ended either, they said the same; and where
--- none ended one, the other said no more than this one.
+-- Two visits talked alike: one said no more than the other; where no fault of the link ended one,
+-- the other said no more than this one; and where none ended either, they said the same.
 pub record TalksAlike (here there : Visit) : Type 0 where
-  pub same : links_of here.leaving ≡ 0 → links_of there.leaving ≡ 0 → SaysSame here there
+  pub either : SaysFirst here there ⊎ SaysFirst there here
   pub first : links_of there.leaving ≡ 0 → SaysFirst here there
+  pub same : links_of here.leaving ≡ 0 → links_of there.leaving ≡ 0 → SaysSame here there
 
 -- The visits of two doors talked alike, the first ones, the second ones, and so on, where they were
 -- answered alike.
