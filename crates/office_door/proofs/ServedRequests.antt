@@ -7,7 +7,7 @@ use Rattle.device_facts.specs.Count.{Counted, CountsFault}
 use Rattle.book_words.specs.declared.act.Ask.{Ask}
 use Rattle.book_words.specs.Callers.{Known}
 use Rattle.office_wire.specs.declared.types.Framed.{Framed}
-use Rattle.office_wire.specs.declared.types.Frame.TheVariants.{Whole, More, Nothing}
+use Rattle.office_wire.specs.declared.types.Frame.TheVariants.{Whole, Nothing}
 use Rattle.office_wire.specs.Frames.{IsFrame, TellsFrame}
 use Rattle.office_wire.specs.Requests.{BeginWith}
 use Rattle.office_wire.proofs.FrameLaws.{frame_taken}
