@@ -12,7 +12,7 @@ use Rattle.import_table.specs.Imports.{Import, at_end}
 use Rattle.script_run.specs.Acknowledged.{AreLeft}
 use Rattle.script_run.specs.Ends.{StopsAtSummary}
 use Rattle.script_run.specs.Reached.{EndsAtSummary}
-use Rattle.script_run.specs.Transcript.{Event, AreEventsOf, texts}
+use Rattle.script_run.specs.Transcript.{AreEventsOf, texts}
 use Rattle.script_run.proofs.AcknowledgedRows.{lines_done, are_left}
 use Rattle.script_run.proofs.AnsweredLines.{wrote_on, cut_on, wrote_still}
 use Rattle.import_run.specs.Answered.{asking_lines, HasAnsweredTo}

@@ -1,5 +1,5 @@
 -- Lemmas on an import that is read piece by piece.
-use Rattle.std.proofs.Common.{◌≡◌, ℕ, ◌+◌, ◌<◌, ◌≤◌, List, [], ◌++◌, length, Err, refl, sym, ap, ◌∙◌, subst, arith}
+use Rattle.std.proofs.Common.{◌≡◌, ℕ, ◌+◌, ◌<◌, List, [], ◌++◌, length, Err, refl, sym, ap, ◌∙◌, subst, arith}
 use Rattle.std.proofs.KnownBytes.{Consumes-nil}
 use Rattle.disk_core.specs.declared.disk.Disk as disk
 use Rattle.book_store.specs.declared.store.Store.{Store}
@@ -14,7 +14,6 @@ use Rattle.store_runs.specs.declared.stop.Stop.TheVariants.{Finished, BadLine, R
 use Rattle.store_runs.specs.Runs.{RunGoes}
 use Rattle.store_runs.specs.Stops as runs
 use Rattle.store_runs.proofs.StoreSteps.{stays_same}
-use Rattle.import_table.specs.declared.types.TheConstants.{MAX_IMPORT}
 use Rattle.import_run.specs.declared.whole.TheConstants.{MAX_READS}
 use Rattle.import_run.specs.Reading.{StopsBehind, IsReadNoFurther, IsShort, StopsReading}
 

@@ -1,5 +1,5 @@
 -- Lemmas on a run of a whole import: how it ends, and why.
-use Rattle.std.proofs.Common.{◌≡◌, ◌⊎◌, inl, inr, ℕ, ◌+◌, ◌<◌, ◌≤◌, List, [], ◌++◌, length, Option, Some, None, IfSome, refl, sym, ap, ◌∙◌, subst, arith, length-append}
+use Rattle.std.proofs.Common.{◌≡◌, ◌⊎◌, inl, inr, ℕ, ◌<◌, List, length, Option, Some, None, IfSome, refl, sym, ap, subst, arith, length-append}
 use Rattle.std.specs.Io.KnownBytes.{Consumes}
 use Rattle.device_facts.specs.Count.{Calm}
 use Rattle.device_facts.specs.CountLaws.{calm_counts_none}
@@ -18,7 +18,7 @@ use Rattle.import_table.specs.Imports.{Import, import_in}
 use Rattle.import_table.proofs.ImportSteps.{too_long}
 use Rattle.import_run.specs.Ends.{EndsImport}
 use Rattle.import_run.specs.Reading.{StopsReading}
-use Rattle.import_run.specs.Runs.{EndsRead, EndsUnread, Explains, HasCause, IsImportWith, HasError, IsComplete, ExplainsImport}
+use Rattle.import_run.specs.Runs.{EndsRead, Explains, HasCause, IsImportWith, HasError, ExplainsImport}
 
 -- ---- why it stops
 

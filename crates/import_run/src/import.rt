@@ -1,7 +1,6 @@
-ghost use Rattle.std.specs.Prelude.{◌≡◌, ℕ, List, false, length};
+ghost use Rattle.std.specs.Prelude.{◌≡◌, false, length};
 ghost use Rattle.book_store.specs.Stores.{entries_of, held_of, IsSound};
 ghost use Rattle.text_streams.specs.Streams.{input_at, output_at};
-ghost use Rattle.text_streams.specs.Reading.{ReadsWhole};
 ghost use Rattle.store_runs.specs.Books.{stored_book};
 ghost use Rattle.store_runs.specs.Calls.{call};
 ghost use Rattle.store_runs.specs.Runs.{RunGoes};

@@ -1,4 +1,4 @@
-ghost use Rattle.std.specs.Prelude.{◌≡◌, ℕ, List, [], ◌∷◌, OnOk, IfOk, IfErr, MatchResult};
+ghost use Rattle.std.specs.Prelude.{◌≡◌, ℕ, [], ◌∷◌, OnOk, IfErr};
 ghost use Rattle.script_lines.specs.declared.command.Line.TheVariants as line;
 ghost use Rattle.book_store.specs.Stores.{entries_of};
 ghost use Rattle.text_streams.specs.Streams.{output_at};

@@ -1,4 +1,3 @@
-use Rattle.std.proofs.Common.{[]}
 use Rattle.std.proofs.lemmas.Result.{err_from_is_err_and}
 use Rattle.book_store.specs.Stores.{entries_of}
 use Rattle.script_run.specs.Books.{book_in, store_in}

@@ -1,10 +1,8 @@
 use Rattle.std.proofs.lemmas.List.{nil_from_length}
-use Rattle.std.proofs.Common.{rules, ◌≡◌, ◌<◌, length, refl, ap, ◌∙◌, subst, sym, arith}
+use Rattle.std.proofs.Common.{rules, ◌≡◌, ◌<◌, length, ◌∙◌}
 use Rattle.std.proofs.lemmas.Result.{err_from_is_err_and}
-use Rattle.text_streams.specs.Readers.{ReaderView}
-use Rattle.text_streams.specs.Streams.{Stream, input_at}
-use Rattle.text_streams.specs.Reading.{HasTaken}
-use Rattle.text_streams.proofs.ReadingLemmas.{taken_nothing, taken_whole}
+use Rattle.text_streams.specs.Streams.{input_at}
+use Rattle.text_streams.proofs.ReadingLemmas.{taken_whole}
 use Rattle.import_run.proofs.ImportReading.{unbegun, taken_next, stops_adding, stops_unread}
 use Rattle.import_run.proofs.whole.read_whole.Goals as goal
 
