@@ -35,10 +35,10 @@ returns-clause-name c =
     let long : length buf ≡ 32 = c.write_digits-digits.auto.buf in
     let back : drop digits buf ≡ decimal (c.args.place + 1) = told.written
     ∙ append-nil (decimal c.from.result) ∙ ap decimal c.from.ensures in
-    let text : take (length buf - (digits - 1)) (drop (digits - 1) buf)
+    let text : take (32 - (digits - 1)) (drop (digits - 1) buf)
     ≡ 84 ∷ decimal (c.args.place + 1) =
-    take_all (length buf - (digits - 1)) (drop (digits - 1) buf)
-    (omega (arith, length-drop (digits - 1) buf))
+    take_all (32 - (digits - 1)) (drop (digits - 1) buf)
+    (omega (arith, long, length-drop (digits - 1) buf))
     ∙ byte_before buf (decimal (c.args.place + 1)) 32 digits 84 some most told.before back in
     ap (λ (o : Option Name). unwrap_or o trial_product)
     (sym c.unwrap.ensures ∙ c.new.ensures.value ∙ ap (λ (bytes : List ℕ). name_of bytes) text)
@@ -56,13 +56,13 @@ returns-clause-bytes c =
     let long : length buf ≡ 32 = c.write_digits-digits.auto.buf in
     let back : drop digits buf ≡ decimal (c.args.place + 1) = told.written
     ∙ append-nil (decimal c.from.result) ∙ ap decimal c.from.ensures in
-    let text : take (length buf - (digits - 1)) (drop (digits - 1) buf)
+    let text : take (32 - (digits - 1)) (drop (digits - 1) buf)
     ≡ 84 ∷ decimal (c.args.place + 1) =
-    take_all (length buf - (digits - 1)) (drop (digits - 1) buf)
-    (omega (arith, length-drop (digits - 1) buf))
+    take_all (32 - (digits - 1)) (drop (digits - 1) buf)
+    (omega (arith, long, length-drop (digits - 1) buf))
     ∙ byte_before buf (decimal (c.args.place + 1)) 32 digits 84 some most told.before back in
-    let made : bytes_of c.unwrap.result ≡ take (length buf - (digits - 1)) (drop (digits - 1) buf) =
+    let made : bytes_of c.unwrap.result ≡ take (32 - (digits - 1)) (drop (digits - 1) buf) =
     subst (λ (o : Option Name). IfSome o (λ (name : Name). bytes_of name
-    ≡ take (length buf - (digits - 1)) (drop (digits - 1) buf))) c.unwrap.ensures
+    ≡ take (32 - (digits - 1)) (drop (digits - 1) buf))) c.unwrap.ensures
     c.new.ensures.bytes in
     made ∙ text

@@ -22,4 +22,4 @@ returns-in-Err-Refused-clause-packs c =
     let says = subst (λ (r : Result Answered BookError). GivesLook (Sample c.args.batch) r wanted)
     told c.look.ensures.answer in
     c.from.ensures ∙ c.new.ensures.items
-    ∙ sym (look_refused (Sample c.args.batch) c.in-Err-Refused.refused wanted says)
+    ∙ sym (look_refused (Sample c.args.batch) c.in-Err-Refused._refused wanted says)
