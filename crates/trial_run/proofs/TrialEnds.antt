@@ -1,5 +1,7 @@
 -- How a trial ends.
-use Rattle.std.proofs.Common.{◌≡◌, ⊥, ℕ, List, [], ◌∷◌, ◌++◌, length, inl, inr, refl, sym, ap, ◌∙◌, subst}
+use Rattle.std.proofs.Common.{◌≡◌, ℕ, Ok, Err, List, [], ◌∷◌, ◌++◌, length, inl, inr, refl, sym, ap, ◌∙◌, subst}
+use Rattle.std.specs.Bool.{⊤}
+use Rattle.disk_core.specs.declared.disk.Disk as disk
 use Rattle.book_words.specs.declared.act.Entry.{Entry}
 use Rattle.book_words.specs.Views.{summary}
 use Rattle.batch_reports.specs.Texts.{summary_text}
@@ -8,13 +10,18 @@ use Rattle.text_streams.specs.Streams.{Stream, WroteAll}
 use Rattle.text_streams.proofs.PrintedTexts.{wrote_nothing}
 use Rattle.store_runs.specs.declared.stop.Stop.{Stop}
 use Rattle.store_runs.specs.declared.stop.Stop.TheVariants.{Finished, BadLine, ReadFault, WriteFault, DiskFault, NoMemory, Spent}
-use Rattle.store_runs.specs.Books.{BookState}
+use Rattle.book_store.specs.declared.store.Store.{Store}
+use Rattle.book_store.specs.Callers.{CallerView}
+use Rattle.book_store.specs.Stores.{entries_of, held_of}
+use Rattle.store_runs.specs.Books.{BookState, stored_book}
+use Rattle.store_runs.specs.Runs.{Goes, RunGoes}
+use Rattle.store_runs.proofs.StoreSteps.{goes_on}
 use Rattle.script_run.specs.Reached.{EndsAtSummary}
 use Rattle.script_run.specs.Transcript.{Event, event_at, after_command, after_events, AreEventsOf, texts}
 use Rattle.script_run.proofs.AcknowledgedRows.{lines_done, are_left}
-use Rattle.trial_run.specs.Steps.{StopsIn}
-use Rattle.trial_run.specs.Trials.{lines_asking, AreAnswered, StopsEarly, EndsScript, ExplainsScript}
-use Rattle.trial_run.specs.TrialScripts.{after_commands}
+use Rattle.trial_run.specs.Steps.{StopsIn, Asks}
+use Rattle.trial_run.specs.Trials.{lines_asking, AreAnswered, StopsEarly, EndsScript, ExplainsScript, ExplainsTrial}
+use Rattle.trial_run.specs.TrialScripts.{after_commands, trial_commands}
 
 -- ---- commands as a run of a script does them
 
@@ -107,3 +114,48 @@ explained_stop book output rows script (DiskFault offer) stops =
 explained_stop book output rows script (BadLine number) stops = absurd stops.may
 explained_stop book output rows script ReadFault stops = absurd stops.may
 explained_stop book output rows script Spent stops = absurd stops.may
+
+-- ---- a whole trial
+
+module _ {D : Type 0} (g : disk.Ghosts D) (old new : CallerView D) (store back : Store D) where
+  pub trial_ended : (closed : Store D) (number count : ℕ) (before now : Stream) (stop : Stop)
+      → old.store ≡ store → held_of store ≡ length (entries_of store)
+      → Asks {T = ⊤} g (Ok tt) old new (trial_commands number count (stored_book old.store))
+      → back ≡ new.store → EndsScript (held_of back) before now (entries_of back) stop
+      → entries_of closed ≡ entries_of back
+      → ExplainsTrial number count (stored_book store) before now (entries_of closed) stop
+  trial_ended closed number count before now stop is opened asks back_is ends same =
+      let rows : entries_of closed ≡ entries_of new.store =
+      same ∙ ap (λ (s : Store D). entries_of s) back_is in
+      let held : held_of back ≡ length (entries_of old.store) =
+      ap (λ (s : Store D). held_of s) back_is ∙ asks.goes.held
+      ∙ subst (λ (s : Store D). held_of s ≡ length (entries_of s)) (sym is) opened in
+      let book = stored_book old.store in
+      let script = trial_commands number count book in
+      subst (λ (s : Store D). ExplainsTrial number count (stored_book s) before now
+      (entries_of closed) stop) is
+      (explained_end book before now (entries_of closed) script stop
+      (are_answered book script (entries_of closed)
+      (rows ∙ ap (λ (b : BookState). b.entries) asks.answered))
+      (subst (λ (n : ℕ). EndsScript n before now (entries_of closed) stop) held
+      (subst (λ (es : List Entry). EndsScript (held_of back) before now es stop) (sym same) ends)))
+
+  pub trial_goes : (closed : Store D) (stop : Stop) → old.store ≡ store
+      → Goes {T = ⊤} g (Ok tt) old.store new.store → back ≡ new.store → RunGoes g stop back closed
+      → RunGoes g stop store closed
+  trial_goes closed stop is goes back_is ends =
+      subst (λ (s : Store D). RunGoes g stop s closed) is
+      (goes_on g tt (Err stop) old.store new.store closed goes
+      (subst (λ (s : Store D). RunGoes g stop s closed) back_is ends))
+
+  pub trial_stopped : (number count : ℕ) (output : Stream) (stop : Stop) → old.store ≡ store
+      → Asks {T = ⊤} g (Err stop) old new (trial_commands number count (stored_book old.store))
+      → back ≡ new.store
+      → ExplainsTrial number count (stored_book store) output output (entries_of back) stop
+  trial_stopped number count output stop is asks back_is =
+      let book = stored_book old.store in
+      let script = trial_commands number count book in
+      subst (λ (s : Store D). ExplainsTrial number count (stored_book s) output output
+      (entries_of back) stop) is
+      (explained_stop book output (entries_of back) script stop
+      (subst (λ (s : Store D). StopsIn book (entries_of s) script stop) (sym back_is) asks.stops))

@@ -2,17 +2,20 @@
 use Rattle.std.proofs.Common.{◌≡◌, ℕ, List, [], ◌∷◌, ◌++◌, Result, Ok, Err, inl, inr, ⊎_elim, refl, sym, ap, ◌∙◌, subst, append_assoc, append-nil}
 use Rattle.disk_core.specs.declared.disk.Disk as disk
 use Rattle.book_words.specs.declared.act.Entry.{Entry}
+use Rattle.book_words.specs.declared.name.Name.{Name}
 use Rattle.script_lines.specs.declared.command.Command.{Command}
 use Rattle.book_store.specs.Callers.{CallerView}
 use Rattle.book_store.specs.Stores.{entries_of}
 use Rattle.store_runs.specs.declared.stop.Stop.{Stop}
+use Rattle.store_runs.specs.declared.stop.Stop.TheVariants.{NoMemory}
 use Rattle.store_runs.specs.Books.{BookState, stored_book}
+use Rattle.store_runs.specs.Runs.{Goes}
 use Rattle.store_runs.proofs.StoreSteps.{on_unfinished, goes_on, goes_with, goes_as, stays}
 use Rattle.script_run.specs.Asking.{exchange_at}
 use Rattle.script_run.specs.Transcript.{after_command}
 use Rattle.script_run.specs.Unanswered.{MayStopAt}
 use Rattle.trial_run.specs.Steps.{IsNext, StopsIn, Asks}
-use Rattle.trial_run.specs.TrialScripts.{after_commands, in_turn}
+use Rattle.trial_run.specs.TrialScripts.{after_commands, in_turn, sample_question}
 
 -- ---- lists of commands
 
@@ -95,6 +98,42 @@ module _ {D : Type 0} (g : disk.Ghosts D) where
         calm = calm;
       }
 
+  -- a command was asked
+  pub asked_one : {T U : Type 0} (done : T) (other : U) (old new : CallerView D) (command : Command)
+      → stored_book new.store ≡ after_command (stored_book old.store) command
+      → Goes g (Ok done) old.store new.store → new.faults ≡ 0
+      → Asks g (Ok other) old new (command ∷ [])
+  asked_one done other old new command is goes calm =
+      record {
+        answered = is;
+        stops = tt;
+        goes = goes_with g done (Ok other) old.store new.store goes goes.cause
+            (λ finished. absurd (on_unfinished other finished));
+        calm = calm;
+      }
+
+  -- a command has no answer
+  pub stopped_one : {T U : Type 0} (stop : Stop) (old new : CallerView D) (command : Command)
+      → stored_book new.store ≡ stored_book old.store
+      → MayStopAt (exchange_at (stored_book old.store) command) stop
+      → Goes {T = T} g (Err stop) old.store new.store
+      → Asks {T = U} g (Err stop) old new (command ∷ [])
+  stopped_one stop old new command same may goes =
+      record {
+        answered = tt;
+        stops = record {
+          answered = [];
+          rest = command ∷ [];
+          parts = refl;
+          left = ap (λ (b : BookState). b.entries) same;
+          asked = command;
+          next = inl ([], refl);
+          may = may;
+        };
+        goes = goes_as g stop old.store new.store goes;
+        calm = tt;
+      }
+
   -- commands were asked, and then more
   pub asks_on : {T U : Type 0} (done : T) (result : Result U Stop) (old between new : CallerView D)
       (first more : List Command) → Asks g (Ok done) old between first
@@ -147,9 +186,9 @@ module _ {D : Type 0} (g : disk.Ghosts D) where
   -- a step that stopped in all that it was to ask
   pub asks_ended : {T U : Type 0} (stop : Stop) (old new : CallerView D) (commands : List Command)
       → Asks {T = T} g (Err stop) old new commands → Asks {T = U} g (Err stop) old new commands
-  asks_ended stop old new commands asks =
-      subst (λ (cs : List Command). Asks g (Err stop) old new cs) (append-nil commands)
-      (asks_stopped stop old new commands [] asks)
+  asks_ended {T} {U} stop old new commands asks =
+      subst (λ (cs : List Command). Asks {T = U} g (Err stop) old new cs) (append-nil commands)
+      (asks_stopped {T = T} {U = U} stop old new commands [] asks)
 
   -- the same of commands by another name
   pub asks_same : {T : Type 0} (result : Result T Stop) (old new : CallerView D)
@@ -167,6 +206,55 @@ module _ {D : Type 0} (g : disk.Ghosts D) where
       asks_same (Err stop) old new _ all (sym is)
       (asks_stopped stop old new (first ++ next) more
       (asks_on done (Err stop) old between new first next before stopped))
+
+  -- ---- commands in three parts
+
+  module _ (old one two new : CallerView D) (a b c : List Command) where
+    pub first_of_three : {T U : Type 0} (stop : Stop) → Asks {T = T} g (Err stop) old new a
+        → Asks {T = U} g (Err stop) old new ((a ++ b) ++ c)
+    first_of_three {T} {U} stop first =
+        asks_stopped {T = U} {U = U} stop old new (a ++ b) c
+        (asks_stopped {T = T} {U = U} stop old new a b first)
+
+    pub second_of_three : {S T U : Type 0} (done : S) (stop : Stop)
+        → Asks g (Ok done) old one a → Asks {T = T} g (Err stop) one new b
+        → Asks {T = U} g (Err stop) old new ((a ++ b) ++ c)
+    second_of_three done stop first second = asks_stopped stop old new (a ++ b) c
+        (asks_on done (Err stop) old one new a b first second)
+
+    pub third_of_three : {R S T U : Type 0} (done : R) (more : S) (stop : Stop)
+        → Asks g (Ok done) old one a → Asks g (Ok more) one two b
+        → Asks {T = T} g (Err stop) two new c → Asks {T = U} g (Err stop) old new ((a ++ b) ++ c)
+    third_of_three done more stop first second third = asks_ended stop old new ((a ++ b) ++ c)
+        (asks_on more (Err stop) old two new (a ++ b) c
+        (asks_on done (Ok more) old one two a b first second) third)
+
+    pub all_three : {R S T U : Type 0} (done : R) (more : S) (last : T) (other : U)
+        → Asks g (Ok done) old one a → Asks g (Ok more) one two b → Asks g (Ok last) two new c
+        → Asks g (Ok other) old new ((a ++ b) ++ c)
+    all_three done more last other first second third =
+        asks_with last other old new ((a ++ b) ++ c)
+        (asks_on more (Ok last) old two new (a ++ b) c
+        (asks_on done (Ok more) old one two a b first second) third)
+
+  -- there is no memory for the packs of a sample
+  pub stopped_asking : {T : Type 0} (stop : Stop) (caller : CallerView D) (batch : Name)
+      (commands : List Command) → stop ≡ NoMemory → Asks {T = T} g (Err stop) caller caller commands
+  stopped_asking {T} stop caller batch commands is =
+      subst (λ (s : Stop). Asks {T = T} g (Err s) caller caller commands) (sym is) (record {
+        answered = tt;
+        stops = record {
+          answered = [];
+          rest = commands;
+          parts = refl;
+          left = refl;
+          asked = sample_question batch;
+          next = inr (batch, refl);
+          may = tt;
+        };
+        goes = stays g (Err NoMemory) caller.store refl (λ finished. absurd (cc (finished)));
+        calm = tt;
+      })
 
   -- ---- scripts in turn
 

@@ -10,7 +10,7 @@ use crate::asking::{ask_all, ask_one};
 use crate::commands::{BATCH_PACKS, close_commands, end_commands, open_commands, weighing};
 use crate::names::batch_name;
 use crate::samples::measure_sample;
-use crate::word::{following, gross_by};
+use crate::word::following;
 use book_store::OneCaller;
 use disk_core::Disk;
 use std::alloc::Global;
@@ -28,7 +28,7 @@ fn weigh_packs<D: Disk>(caller: &mut OneCaller<D>, word: u64, packs: u32) -> Res
     let mut last = word;
     for place in 0..packs {
         last = following(last);
-        ask_one(caller, &weighing(place, gross_by(last)))?;
+        ask_one(caller, &weighing(place, last))?;
     }
     Ok(last)
 }

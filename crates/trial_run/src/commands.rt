@@ -1,8 +1,8 @@
-ghost use Rattle.std.specs.Prelude.{◌≡◌, pos};
-ghost use Rattle.script_lines.specs.declared.command.Verb.TheVariants as verb;
-ghost use Rattle.trial_run.specs.TrialScripts.{hall_command, head_commands, open_commands, weighing, end_commands, close_commands};
+ghost use Rattle.std.specs.Prelude.{◌≡◌};
+ghost use Rattle.trial_run.specs.TrialScripts.{hall_command, head_commands, open_commands, gross_by, weighing, end_commands, close_commands};
 
 use crate::names::product_name;
+use crate::word::gross_by;
 use annex_tables::Mode;
 use book_words::{Name, Unit};
 use script_lines::{Command, Verb};
@@ -29,8 +29,8 @@ pub const BATCH_PACKS: u32 = 600;
 /// The lanes that weigh, 1 to this one, in turn.
 pub const LANES: u32 = 3;
 
-// A command of the hall's own.
-fn hall_command(verb: Verb) -> Command
+/// A command of the hall's own.
+pub fn hall_command(verb: Verb) -> Command
     ensures { result ≡ hall_command verb }
 {
     Command {
@@ -76,14 +76,13 @@ pub fn open_commands(batch: Name) -> [Command; 4]
     ]
 }
 
-/// The weighing of the pack at a place of its batch, from 0, at a gross in mg. The lanes weigh in
-/// turn.
-pub fn weighing(place: u32, gross: i64) -> Command
-    ensures { result ≡ weighing place gross }
+/// The weighing of the pack at a place of its batch, from 0, by its word. The lanes weigh in turn.
+pub fn weighing(place: u32, word: u64) -> Command
+    ensures { result ≡ weighing place (gross_by word) }
 {
     hall_command(Verb::Weigh {
         lane: (place % LANES) as u8 + 1,
-        gross,
+        gross: gross_by(word),
         prior: None,
     })
 }
@@ -112,17 +111,6 @@ pub fn end_commands(number: u64, batch: Name) -> [Command; 5]
             word: number,
         }),
     ]
-}
-
-/// The measuring of a pack that is kept, at a gross in mg.
-pub fn measuring(pack: u32, gross: i64) -> Command
-    ensures { result ≡ hall_command (verb.Measure pack gross (pos 0)) }
-{
-    hall_command(Verb::Measure {
-        pack,
-        gross,
-        empty: 0,
-    })
 }
 
 /// The command that closes a batch.

@@ -5,13 +5,13 @@ ghost use Rattle.trial_run.specs.Steps.{Asks};
 ghost use Rattle.trial_run.specs.TrialScripts.{gross_weighed, packs_in, drawn_packs, measure_at, measure_commands, in_turn};
 
 use crate::asking::ask_one;
-use crate::commands::measuring;
+use crate::commands::hall_command;
 use book_core::{Book, BookError};
 use book_store::OneCaller;
 use book_words::{Act, Answered, Name, Question, Reply};
 use disk_core::Disk;
 use sample_draw::Picks;
-use script_lines::Command;
+use script_lines::{Command, Verb};
 use std::alloc::Global;
 use store_runs::Stop;
 
@@ -29,10 +29,17 @@ fn gross_weighed(act: &Act) -> Option<i64>
 fn measure_at(book: &Book, pack: u64) -> Option<Command>
     ensures { result ≡ measure_at book.now.entries pack }
 {
-    let number = u32::try_from(pack).ok()?;
+    if pack > u64::from(book.len()) {
+        return None;
+    }
+    let number = pack as u32;
     let entry = book.entry(number)?;
     let gross = gross_weighed(&entry.act)?;
-    Some(measuring(number, gross))
+    Some(hall_command(Verb::Measure {
+        pack: number,
+        gross,
+        empty: 0,
+    }))
 }
 
 // Measures a pack at its own gross.
@@ -79,7 +86,7 @@ fn drawn_packs(alloc: Global, book: &Book, batch: Name) -> Result<Picks, Stop>
 {
     match book.look(&Question::Sample { batch }) {
         Ok(answered) => Ok(packs_told(alloc, answered)),
-        Err(BookError::Refused(_)) => Ok(Picks::from(Vec::new(alloc))),
+        Err(BookError::Refused(_refused)) => Ok(Picks::from(Vec::new(alloc))),
         Err(BookError::NoMemory) => Err(Stop::NoMemory),
     }
 }
