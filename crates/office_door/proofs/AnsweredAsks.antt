@@ -1,5 +1,5 @@
 -- How a caller goes on by the asks of exchanges, one after another.
-use Rattle.std.proofs.Common.{◌≡◌, ℕ, ◌+◌, ◌-◌, ◌≤◌, min, Bool, List, [], ◌∷◌, ◌++◌, length, All, filter, Option, Some, None, IsSome, Result, Ok, Err, refl, sym, ◌∙◌, ap, subst, arith, append_assoc, append-nil, length-append}
+use Rattle.std.proofs.Common.{◌≡◌, ℕ, ◌+◌, ◌≤◌, min, Bool, List, [], ◌∷◌, ◌++◌, length, All, filter, Option, Some, None, IsSome, Result, Ok, Err, refl, sym, ◌∙◌, ap, subst, arith, append_assoc, append-nil, length-append}
 use Rattle.std.proofs.lemmas.List.Elements.{All-nil, All-cons, All-append, All-weaker, filter-append, filter_map-append}
 use Rattle.std.specs.List.{cons_option}
 use Rattle.device_facts.specs.Prefix.{IsPrefixOf}
@@ -11,7 +11,7 @@ use Rattle.book_words.specs.declared.caller.AskError.{AskError}
 use Rattle.book_words.specs.declared.caller.AskError.TheVariants as error
 use Rattle.book_words.specs.Desks.{Row}
 use Rattle.book_words.specs.Answers.{added, entries_after, IsLegal}
-use Rattle.book_words.specs.Callers.{Known, FAULTS_END, IsAsked, HasAnswer, HasNoAnswer, MayFindNoMemory, number_named, row_added}
+use Rattle.book_words.specs.Callers.{Known, FAULTS_END, IsAsked, HasAnswer, HasNoAnswer, MayFindNoMemory, faults_told, number_named, row_added}
 use Rattle.book_words.proofs.LegalLemmas.{legal-prefix}
 use Rattle.book_words.proofs.RightAnswers.{right_names}
 use Rattle.office_wire.specs.declared.types.Bad as faults
@@ -21,21 +21,9 @@ use Rattle.office_wire.specs.declared.types.OfficeAsk.TheVariants.{Ask, Bad, NoM
 use Rattle.office_wire.specs.Responses.{IsBookAnswer, reply_response, bad_response}
 use Rattle.office_door.specs.Exchanges.{Exchange, ask_of, asks_of, rows_of, place_of, places_of, is_disk_fault, disk_faults, IsTold, IsLost, IsAnswered, IsAnsweredIn, NeverFall, HasAnswered}
 use Rattle.office_door.specs.Steps.{Responds}
+use Rattle.office_door.proofs.Prefixes.{prefix_on, prefix_itself, prefix_short}
 
 -- ---- lists that go on
-
-prefix_on : (a b c : List Entry) → IsPrefixOf a b → IsPrefixOf b c → IsPrefixOf a c
-prefix_on a b c first second = (
-  first.0 ++ second.0,
-  second.1 ∙ ap (λ (es : List Entry). es ++ second.0) first.1
-      ∙ append_assoc a first.0 second.0,
-)
-
-prefix_itself : (a : List Entry) → IsPrefixOf a a
-prefix_itself a = ([], sym (append-nil a))
-
-prefix_short : (a b : List Entry) → IsPrefixOf a b → length a ≤ length b
-prefix_short a b begins = omega (arith, ap length begins.1, length-append a begins.0)
 
 onto : (new : Option Entry) (after more : List Entry)
     → cons_option new after ++ more ≡ cons_option new (after ++ more)
@@ -166,14 +154,13 @@ answered_both One Two Both was mid now xs ys first second reached =
 
 -- ---- one ask
 
--- what an answer makes of what was seen, and which places it names
-pub record IsOne (was now : Known) (ask : asks.Ask) (given : Result Answered refusals.Refused)
-    : Type 0 where
+-- what an answer makes of what was seen, and which place it names
+record IsOne (was now : Known) (ask : asks.Ask) (given : Result Answered AskError) : Type 0 where
   pub seen : IsPrefixOf was.seen now.seen
   pub row : Option Row
-  pub told : IsTold was.limit was.by now.seen ask given row
-  pub low : length was.seen ≤ number_named given
-  pub high : number_named given ≤ length now.seen
+  pub right : IsAnswered was.limit was.by now.seen (Ask ask) (Some given) row
+  pub places : NeverFall (length was.seen) (cons_option (place_of (Some given)) [])
+      (length now.seen)
   pub mine : now.mine ≡ was.mine ++ cons_option row []
 
 then_more : (new : Option Entry) (after : List Entry)
@@ -181,30 +168,96 @@ then_more : (new : Option Entry) (after : List Entry)
 then_more None after = refl
 then_more (Some entry) after = refl
 
-one : (was now : Known) (ask : asks.Ask) (given : Result Answered refusals.Refused)
-    → HasAnswer was now ask given → IsOne was now ask given
-one was now ask given has =
+-- the parts of an answer that a caller has
+record IsHad (was now : Known) (ask : asks.Ask) (given : Result Answered refusals.Refused)
+    : Type 0 where
+  pub seen : IsPrefixOf was.seen now.seen
+  pub row : Option Row
+  pub right : IsTold was.limit was.by now.seen ask given row
+  pub low : length was.seen ≤ number_named given
+  pub high : number_named given ≤ length now.seen
+  pub mine : now.mine ≡ was.mine ++ cons_option row []
+
+had : (was now : Known) (ask : asks.Ask) (given : Result Answered refusals.Refused)
+    → HasAnswer was now ask given → IsHad was now ask given
+had was now ask given has =
     let right = has.right in
+    let new = added was.limit right.before was.by ask in
     let behind = entries_after was.limit right.before was.by ask in
     let parts : now.seen ≡ behind ++ right.after =
     right.parts
-    ∙ ap (λ (es : List Entry). right.before ++ es)
-    (then_more (added was.limit right.before was.by ask) right.after)
-    ∙ sym (append_assoc right.before
-    (cons_option (added was.limit right.before was.by ask) []) right.after) in
+    ∙ ap (λ (es : List Entry). right.before ++ es) (then_more new right.after)
+    ∙ sym (append_assoc right.before (cons_option new []) right.after) in
     let first : IsPrefixOf was.seen right.before = (has.unseen, has.grows) in
-    let second : IsPrefixOf right.before behind =
-    (cons_option (added was.limit right.before was.by ask) [], refl) in
+    let second : IsPrefixOf right.before behind = (cons_option new [], refl) in
     let early = prefix_on was.seen right.before behind first second in
     let names = right_names was.limit was.by now.seen ask given right in
     record {
       seen = prefix_on was.seen behind now.seen early (right.after, parts);
       row = row_added was.limit right.before was.by ask;
-      told = record { right = right; row_is = refl };
+      right = record { right = right; row_is = refl };
       low = omega (arith, names, prefix_short was.seen behind early);
       high = omega (arith, names, prefix_short behind now.seen (right.after, parts));
       mine = has.mine;
     }
+
+lost : (was now : Known) (ask : asks.Ask) (Cause : Option Entry → Type 0)
+    → now.limit ≡ was.limit → now.by ≡ was.by → Cause (added now.limit now.seen now.by ask)
+    → IsLost was.limit was.by now.seen ask Cause None
+lost was now ask Cause limit by cause =
+    let by_limit : Cause (added was.limit now.seen now.by ask) =
+    subst (λ (n : ℕ). Cause (added n now.seen now.by ask)) limit cause in
+    record {
+      entries = now.seen;
+      begins = prefix_itself now.seen;
+      cause = subst (λ (n : ℕ). Cause (added was.limit now.seen n ask)) by by_limit;
+      row_is = refl;
+    }
+
+-- where a caller has no answer
+none_had : (was now : Known) (ask : asks.Ask) (given : Result Answered AskError)
+    → HasNoAnswer was now → place_of (Some given) ≡ None
+    → IsAnswered was.limit was.by now.seen (Ask ask) (Some given) None → IsOne was now ask given
+none_had was now ask given none nowhere right =
+    let seen : IsPrefixOf was.seen now.seen = (none.unseen, none.grows) in
+    record {
+      seen = seen;
+      row = None;
+      right = right;
+      places = subst
+          (λ (o : Option ℕ). NeverFall (length was.seen) (cons_option o []) (length now.seen))
+          (sym nowhere) (prefix_short was.seen now.seen seen);
+      mine = none.mine ∙ sym (append-nil was.mine);
+    }
+
+one : (was now : Known) (ask : asks.Ask) (given : Result Answered AskError)
+    → IsAsked was now ask given → IsOne was now ask given
+one was now ask (Ok answered) asked =
+    let is = had was now ask (Ok answered) asked.says in
+    record {
+      seen = is.seen;
+      row = is.row;
+      right = is.right;
+      places = (is.low, is.high);
+      mine = is.mine;
+    }
+one was now ask (Err (error.Refused refused)) asked =
+    let is = had was now ask (Err refused) asked.says in
+    record {
+      seen = is.seen;
+      row = is.row;
+      right = is.right;
+      places = (is.low, is.high);
+      mine = is.mine;
+    }
+one was now ask (Err error.DiskFault) asked =
+    let says = asked.says in
+    none_had was now ask (Err error.DiskFault) says.0 refl
+    (lost was now ask IsSome asked.limit asked.by says.1)
+one was now ask (Err error.NoMemory) asked =
+    let says = asked.says in
+    none_had was now ask (Err error.NoMemory) says.0 refl
+    (lost was now ask (MayFindNoMemory ask.want) asked.limit asked.by says.1)
 
 -- what holds of one exchange holds of each
 each_one : (limit by : ℕ) (seen : List Entry) (x : Exchange) → IsAnsweredIn limit by seen x
@@ -222,96 +275,39 @@ asked_by request ask given row last = record {
   last = last;
 }
 
+-- how many faults it tells
+faults_one : (request : Framed) (ask : asks.Ask) (given : Result Answered AskError)
+    (row : Option Row) (last : Bool)
+    → faults_told given ≡ disk_faults (asked_by request ask given row last ∷ [])
+faults_one request ask (Ok answered) row last = refl
+faults_one request ask (Err (error.Refused refused)) row last = refl
+faults_one request ask (Err error.DiskFault) row last = refl
+faults_one request ask (Err error.NoMemory) row last = refl
+
 -- what a caller was answered to an ask: the row that this added
-pub record IsGiven (Reached : List asks.Ask → Type 0) (was now : Known) (ask : asks.Ask)
+record IsGiven (Reached : List asks.Ask → Type 0) (was now : Known) (ask : asks.Ask)
     (given : Result Answered AskError) (last : Bool) : Type 0 where
   pub row : Option Row
-  pub answered : (request : Framed) → HasAnswered Reached was now (record {
-    request = request;
-    told = Ask ask;
-    given = Some given;
-    row = row;
-    last = last;
-  } ∷ [])
+  pub answered : (request : Framed)
+      → HasAnswered Reached was now (asked_by request ask given row last ∷ [])
 
-lost : (was now : Known) (ask : asks.Ask) (Cause : Option Entry → Type 0) → HasNoAnswer was now
-    → now.limit ≡ was.limit → now.by ≡ was.by → Cause (added now.limit now.seen now.by ask)
-    → IsLost was.limit was.by now.seen ask Cause None
-lost was now ask Cause no_answer limit by cause =
-    let by_limit : Cause (added was.limit now.seen now.by ask) =
-    subst (λ (n : ℕ). Cause (added n now.seen now.by ask)) limit cause in
-    record {
-      entries = now.seen;
-      begins = prefix_itself now.seen;
-      cause = subst (λ (n : ℕ). Cause (added was.limit now.seen n ask)) by by_limit;
-      row_is = refl;
-    }
-
-pub given_one : (Reached : List asks.Ask → Type 0) (was now : Known) (ask : asks.Ask)
+given_one : (Reached : List asks.Ask → Type 0) (was now : Known) (ask : asks.Ask)
     (given : Result Answered AskError) (last : Bool) → IsAsked was now ask given
     → Reached (ask ∷ []) → IsGiven Reached was now ask given last
-given_one Reached was now ask (Ok answered) last asked reached =
-    let is = one was now ask (Ok answered) asked.says in
+given_one Reached was now ask given last asked reached =
+    let is = one was now ask given asked in
     record {
       row = is.row;
       answered = λ request. record {
         seen = is.seen;
         asked = reached;
-        right = each_one was.limit was.by now.seen
-            (asked_by request ask (Ok answered) is.row last) is.told;
-        places = (is.low, is.high);
+        right = each_one was.limit was.by now.seen (asked_by request ask given is.row last)
+            is.right;
+        places = is.places;
         mine = is.mine;
-        faults = counted_once was.faults now.faults 0 FAULTS_END asked.faults;
-        limit = asked.limit;
-        by = asked.by;
-      };
-    }
-given_one Reached was now ask (Err (error.Refused refused)) last asked reached =
-    let is = one was now ask (Err refused) asked.says in
-    record {
-      row = is.row;
-      answered = λ request. record {
-        seen = is.seen;
-        asked = reached;
-        right = each_one was.limit was.by now.seen
-            (asked_by request ask (Err (error.Refused refused)) is.row last) is.told;
-        places = (is.low, is.high);
-        mine = is.mine;
-        faults = counted_once was.faults now.faults 0 FAULTS_END asked.faults;
-        limit = asked.limit;
-        by = asked.by;
-      };
-    }
-given_one Reached was now ask (Err error.DiskFault) last asked reached =
-    let says = asked.says in
-    record {
-      row = None;
-      answered = λ request. record {
-        seen = (says.0.unseen, says.0.grows);
-        asked = reached;
-        right = each_one was.limit was.by now.seen
-            (asked_by request ask (Err error.DiskFault) None last)
-            (lost was now ask IsSome says.0 asked.limit asked.by says.1);
-        places = prefix_short was.seen now.seen (says.0.unseen, says.0.grows);
-        mine = says.0.mine ∙ sym (append-nil was.mine);
-        faults = counted_once was.faults now.faults 1 FAULTS_END asked.faults;
-        limit = asked.limit;
-        by = asked.by;
-      };
-    }
-given_one Reached was now ask (Err error.NoMemory) last asked reached =
-    let says = asked.says in
-    record {
-      row = None;
-      answered = λ request. record {
-        seen = (says.0.unseen, says.0.grows);
-        asked = reached;
-        right = each_one was.limit was.by now.seen
-            (asked_by request ask (Err error.NoMemory) None last)
-            (lost was now ask (MayFindNoMemory ask.want) says.0 asked.limit asked.by says.1);
-        places = prefix_short was.seen now.seen (says.0.unseen, says.0.grows);
-        mine = says.0.mine ∙ sym (append-nil was.mine);
-        faults = counted_once was.faults now.faults 0 FAULTS_END asked.faults;
+        faults = counted_once was.faults now.faults (faults_told given) FAULTS_END asked.faults
+            ∙ ap (λ (n : ℕ). min (was.faults + n) FAULTS_END)
+            (faults_one request ask given is.row last);
         limit = asked.limit;
         by = asked.by;
       };

@@ -1,49 +1,21 @@
 -- What was said on a connection since it began, with bytes more that were read or written, and with
 -- one request more.
-use Rattle.std.proofs.Common.{◌≡◌, ℕ, ◌+◌, Bool, true, false, true≢false, List, [], ◌∷◌, ◌++◌, length, drop, Option, Some, None, option_map, refl, sym, ◌∙◌, ap, subst, append_assoc, append-nil, length-append}
+use Rattle.std.proofs.Common.{◌≡◌, ℕ, Bool, false, true≢false, List, [], ◌∷◌, ◌++◌, length, drop, Option, Some, None, option_map, refl, sym, ◌∙◌, ap, subst, append_assoc, append-nil, length-append}
+use Rattle.std.proofs.lemmas.List.{map-append}
+use Rattle.std.proofs.lemmas.List.Elements.{All-nil, All-push}
 use Rattle.std.proofs.KnownBytes.{Consumes-nil, Consumes-trans}
-use lib.Seq.{drop-append-le, drop-drop}
+use lib.Seq.{drop-drop}
 use Rattle.std.specs.Io.KnownBytes.{Consumes, IsAtEnd}
 use Rattle.disk_core.specs.Doors.{Connection, Connections, left_now, taken_from, written_to, with_taken, with_written}
 use Rattle.office_wire.specs.declared.types.Frame.TheVariants.{Whole}
-use Rattle.office_wire.specs.Frames.{IsFrame, MayTell}
-use Rattle.office_wire.proofs.FrameLaws.{frame_still, frame_taken}
+use Rattle.office_wire.specs.declared.types.Framed.{Framed}
+use Rattle.office_wire.specs.Frames.{IsFrame}
+use Rattle.office_wire.specs.Requests.{BeginWith}
+use Rattle.office_wire.proofs.RequestLaws.{begin_more, begin_push}
 use Rattle.office_door.specs.Exchanges.{Exchange}
-use Rattle.office_door.specs.Served.{BeginWith}
+use Rattle.office_door.specs.Served.{IsToldRight, requests_of}
 use Rattle.office_door.specs.Doors.{Port, with_talk}
 use Rattle.office_door.specs.Steps.{HeldView, HasRead, IsHeard}
-
--- ---- requests
-
--- bytes more behind requests leave them as they are, where the end wasn't given before
-begin_more : (ended : Bool) (bytes more : List ℕ) (xs : List Exchange) (rest : List ℕ)
-    → BeginWith false bytes xs rest → BeginWith ended (bytes ++ more) xs (rest ++ more)
-begin_more ended bytes more [] rest is = ap (λ (b : List ℕ). b ++ more) is
-begin_more ended bytes more (x ∷ xs) rest is =
-    let within = (frame_taken bytes false x.request is.0).1 in
-    let behind : drop x.request.taken (bytes ++ more) ≡ drop x.request.taken bytes ++ more =
-    drop-append-le x.request.taken bytes more within in (
-      frame_still bytes more ended x.request is.0,
-      is.1,
-      subst (λ (b : List ℕ). BeginWith ended b xs (rest ++ more)) (sym behind)
-          (begin_more ended (drop x.request.taken bytes) more xs rest is.2),
-    )
-
--- the next request stands behind them
-begin_push : (ended : Bool) (bytes : List ℕ) (xs : List Exchange) (rest : List ℕ) (x : Exchange)
-    → BeginWith ended bytes xs rest → IsFrame rest ended (Whole x.request)
-    → MayTell x.request.what x.told
-    → BeginWith ended bytes (xs ++ x ∷ []) (drop x.request.taken rest)
-begin_push ended bytes [] rest x is whole tells = (
-  subst (λ (b : List ℕ). IsFrame b ended (Whole x.request)) (sym is) whole,
-  tells,
-  ap (drop x.request.taken) is,
-)
-begin_push ended bytes (y ∷ ys) rest x is whole tells = (
-  is.0,
-  is.1,
-  begin_push ended (drop y.request.taken bytes) ys rest x is.2 whole tells,
-)
 
 -- ---- connections
 
@@ -126,6 +98,7 @@ heard_none was begins = record {
   bytes = Consumes-nil was.left;
   connections = with_talk_none was.connections;
   requests = refl;
+  told = All-nil IsToldRight;
   at_end = λ ended. absurd (true≢false (sym ended ∙ begins));
 }
 
@@ -135,8 +108,9 @@ pub heard_read : (start was now : Port) (xs : List Exchange) (written : List ℕ
     → IsHeard start was xs written old.bytes → IsHeard start now xs written new.bytes
 heard_read start was now xs written old new begins read heard =
     let bytes = read.bytes in
-    let before : BeginWith false heard.taken xs old.bytes =
-    subst (λ (e : Bool). BeginWith e heard.taken xs old.bytes) begins heard.requests in
+    let before : BeginWith false heard.taken (requests_of xs) old.bytes =
+    subst (λ (e : Bool). BeginWith e heard.taken (requests_of xs) old.bytes) begins
+    heard.requests in
     record {
       taken = heard.taken ++ bytes;
       bytes = Consumes-trans start.left was.left now.left heard.taken bytes heard.bytes
@@ -144,9 +118,11 @@ heard_read start was now xs written old new begins read heard =
       connections = read.connections
           ∙ ap (option_map (with_taken bytes)) heard.connections
           ∙ with_talk_taken heard.taken written bytes start.connections;
-      requests = subst (λ (h : List ℕ). BeginWith now.ended (heard.taken ++ bytes) xs h)
+      requests = subst
+          (λ (h : List ℕ). BeginWith now.ended (heard.taken ++ bytes) (requests_of xs) h)
           (sym read.held)
-          (begin_more now.ended heard.taken bytes xs old.bytes before);
+          (begin_more now.ended heard.taken bytes (requests_of xs) old.bytes before);
+      told = heard.told;
       at_end = λ ended. read.at_end (sym read.ended ∙ ended);
     }
 
@@ -161,19 +137,25 @@ heard_written start was now xs written held bytes left ended connections heard =
   connections = connections
       ∙ ap (option_map (with_written bytes)) heard.connections
       ∙ with_talk_written heard.taken written bytes start.connections;
-  requests = subst (λ (e : Bool). BeginWith e heard.taken xs held) (sym ended) heard.requests;
+  requests = subst (λ (e : Bool). BeginWith e heard.taken (requests_of xs) held) (sym ended)
+      heard.requests;
+  told = heard.told;
   at_end = λ is. subst IsAtEnd (sym left) (heard.at_end (sym ended ∙ is));
 }
 
 -- the next request was told
 pub heard_request : (start was : Port) (xs : List Exchange) (written held : List ℕ) (x : Exchange)
-    → IsFrame held was.ended (Whole x.request) → MayTell x.request.what x.told
+    → IsFrame held was.ended (Whole x.request) → IsToldRight x
     → IsHeard start was xs written held
     → IsHeard start was (xs ++ x ∷ []) written (drop x.request.taken held)
 heard_request start was xs written held x whole tells heard = record {
   taken = heard.taken;
   bytes = heard.bytes;
   connections = heard.connections;
-  requests = begin_push was.ended heard.taken xs held x heard.requests whole tells;
+  requests = subst
+      (λ (fs : List Framed). BeginWith was.ended heard.taken fs (drop x.request.taken held))
+      (sym (map-append (λ (e : Exchange). e.request) xs (x ∷ [])))
+      (begin_push was.ended heard.taken (requests_of xs) held x.request heard.requests whole);
+  told = All-push IsToldRight xs x heard.told tells;
   at_end = heard.at_end;
 }

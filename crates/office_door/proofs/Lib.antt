@@ -1,7 +1,9 @@
 pub mod FrameEnds
+pub mod Prefixes
 pub mod AnsweredAsks
 pub mod HeardBytes
 pub mod HeldBytes
 pub mod SentBytes
 pub mod ServedRequests
 pub mod VisitedConnections
+pub mod CutLaws

@@ -7,16 +7,17 @@ use Rattle.device_facts.specs.Count.{Counted, CountsFault}
 use Rattle.book_words.specs.declared.act.Ask.{Ask}
 use Rattle.book_words.specs.Callers.{Known}
 use Rattle.office_wire.specs.declared.types.Framed.{Framed}
-use Rattle.office_wire.specs.declared.types.Frame.TheVariants.{Whole, More, Nothing}
+use Rattle.office_wire.specs.declared.types.Frame.TheVariants.{Whole, Nothing}
 use Rattle.office_wire.specs.Frames.{IsFrame, TellsFrame}
+use Rattle.office_wire.specs.Requests.{BeginWith}
 use Rattle.office_wire.proofs.FrameLaws.{frame_taken}
 use Rattle.office_wire.proofs.FrameSteps.{told_whole}
 use Rattle.office_door.specs.declared.leaving.Leaving.{Leaving}
-use Rattle.office_door.specs.declared.leaving.Leaving.TheVariants.{End, Last, ReadFailed, WriteFailed}
+use Rattle.office_door.specs.declared.leaving.Leaving.TheVariants.{Last, WriteFailed}
 use Rattle.office_door.specs.declared.limits.TheConstants.{MAX_REQUESTS}
 use Rattle.office_door.specs.Exchanges.{Exchange, asks_of, response_of, responses, HasAnswered}
-use Rattle.office_door.specs.Served.{Visit, BeginWith, GoesOn, EndsRight}
-use Rattle.office_door.specs.Doors.{Port, Site}
+use Rattle.office_door.specs.Served.{Visit, GoesOn, EndsRight, IsLeft, IsToldRight, requests_of}
+use Rattle.office_door.specs.Doors.{Port, Site, links_of, FailedSoOften}
 use Rattle.office_door.specs.Steps.{IsHeard, IsFound, IsServing, IsVisited, StepsTo, Responds, IsSent, Sends, left_behind}
 use Rattle.office_door.proofs.AnsweredAsks.{answered_none, answered_both}
 use Rattle.office_door.proofs.HeardBytes.{heard_none, heard_request, heard_written}
@@ -67,11 +68,8 @@ serving_heard Reached was known old now held more served serving heard calm = re
   calm = calm ∙ serving.calm;
 }
 
-no_last : (xs : List Exchange) → xs ++ option_to_list None ≡ xs
-no_last xs = append-nil xs
-
 -- the visit of a connection that is left behind no response
-abbrev visit_open : List ℕ → Bool → List Exchange → Leaving → Visit
+abbrev pub visit_open : List ℕ → Bool → List Exchange → Leaving → Visit
 visit_open taken ended xs leaving = record {
   taken = taken;
   ended = ended;
@@ -81,62 +79,39 @@ visit_open taken ended xs leaving = record {
   leaving = leaving;
 }
 
--- its end was given
-pub visited_ended : (Reached : List Ask → Type 0) (was now : Site) (held : List ℕ) (served : ℕ)
-    → IsServing Reached was now held served → IsFrame held true Nothing → now.door.ended ≡ true
-    → IsVisited Reached was now served End
-visited_ended Reached was now held served serving nothing ended =
-    let heard = serving.heard in
-    let xs = serving.exchanges in
-    record {
-      visit = visit_open heard.taken now.door.ended xs End;
-      right = record {
-        rest = held;
-        requests = subst (λ (all : List Exchange). BeginWith now.door.ended heard.taken all held)
-            (sym (no_last xs)) heard.requests;
-        ongoing = serving.ongoing;
-        few = serving.few;
-        ends = tt;
-        left = (nothing, ended, refl, refl);
-      };
-      left_so = refl;
-      bytes = heard.bytes;
-      connections = heard.connections;
-      at_end = heard.at_end;
-      served_is = serving.served_is ∙ ap length (sym (no_last xs));
-      answered = subst (λ (all : List Exchange). HasAnswered Reached was.caller now.caller all)
-          (sym (no_last xs)) serving.answered;
-      faults = serving.calm;
-    }
-
--- its link failed at a read
-pub visited_unread : (Reached : List Ask → Type 0) (was : Site) (known : Known) (old now : Port)
-    (held more : List ℕ) (served : ℕ)
+-- it is left: its end was given, or its link failed at a read
+pub visited_open : (Reached : List Ask → Type 0) (was : Site) (known : Known) (old now : Port)
+    (held more : List ℕ) (served : ℕ) (leaving : Leaving)
     → (serving : IsServing Reached was (record { caller = known; door = old }) held served)
-    → IsHeard was.door now serving.exchanges (responses serving.exchanges) more
-    → IsFrame more false More → now.ended ≡ false → Counted old.faults now.faults 1
-    → IsVisited Reached was (record { caller = known; door = now }) served ReadFailed
-visited_unread Reached was known old now held more served serving heard wanted unended failed =
+    → (heard : IsHeard was.door now serving.exchanges (responses serving.exchanges) more)
+    → IsLeft leaving (visit_open heard.taken now.ended serving.exchanges leaving) more
+    → FailedSoOften old.faults now.faults (links_of leaving)
+    → IsVisited Reached was (record { caller = known; door = now }) served leaving
+visited_open Reached was known old now held more served leaving serving heard left failed =
     let xs = serving.exchanges in
+    let all : xs ≡ xs ++ option_to_list None = sym (append-nil xs) in
     record {
-      visit = visit_open heard.taken now.ended xs ReadFailed;
+      visit = visit_open heard.taken now.ended xs leaving;
       right = record {
         rest = more;
-        requests = subst (λ (all : List Exchange). BeginWith now.ended heard.taken all more)
-            (sym (no_last xs)) heard.requests;
+        requests = subst
+            (λ (es : List Exchange). BeginWith now.ended heard.taken (requests_of es) more) all
+            heard.requests;
+        told = subst (All IsToldRight) all heard.told;
         ongoing = serving.ongoing;
         few = serving.few;
         ends = tt;
-        left = (wanted, unended, refl, refl);
+        left = left;
       };
       left_so = refl;
       bytes = heard.bytes;
       connections = heard.connections;
       at_end = heard.at_end;
-      served_is = serving.served_is ∙ ap length (sym (no_last xs));
-      answered = subst (λ (all : List Exchange). HasAnswered Reached was.caller known all)
-          (sym (no_last xs)) serving.answered;
-      faults = subst (λ (n : ℕ). Counted n now.faults 1) serving.calm failed;
+      served_is = serving.served_is ∙ ap length all;
+      answered = subst (λ (es : List Exchange). HasAnswered Reached was.caller known es) all
+          serving.answered;
+      faults = subst (λ (n : ℕ). FailedSoOften n now.faults (links_of leaving)) serving.calm
+          failed;
     }
 
 -- ---- a request that is answered
@@ -195,85 +170,67 @@ goes_on Reached was now held served sent more calm =
       calm = calm;
     }
 
+-- the visit of a connection that is left behind a response, of which these bytes went out
+abbrev visit_behind : List ℕ → Bool → List Exchange → Exchange → List ℕ → Leaving → Visit
+visit_behind taken ended before x sent leaving = record {
+  taken = taken;
+  ended = ended;
+  written = responses before ++ sent;
+  before = before;
+  last = Some x;
+  leaving = leaving;
+}
+
+-- it is left: the response ended it, or its link failed at the write
+visited_behind : (Reached : List Ask → Type 0) (was now : Site) (held : List ℕ) (served : ℕ)
+    (last : Bool) (text sent : List ℕ) (leaving : Leaving)
+    → (more : IsMore Reached was now held served last text sent)
+    → IsLeft leaving
+    (visit_behind more.heard.taken now.door.ended more.before more.x sent leaving) held
+    → FailedSoOften was.door.faults now.door.faults (links_of leaving)
+    → IsVisited Reached was now served leaving
+visited_behind Reached was now held served last text sent leaving more left failed = record {
+  visit = visit_behind more.heard.taken now.door.ended more.before more.x sent leaving;
+  right = record {
+    rest = held;
+    requests = more.heard.requests;
+    told = more.heard.told;
+    ongoing = more.ongoing;
+    few = more.few;
+    ends = more.ends;
+    left = left;
+  };
+  left_so = refl;
+  bytes = more.heard.bytes;
+  connections = more.heard.connections;
+  at_end = more.heard.at_end;
+  served_is = more.served_is;
+  answered = more.answered;
+  faults = failed;
+}
+
 -- the response ended it
-pub ends_last : (Reached : List Ask → Type 0) (was now : Site) (held : List ℕ) (served : ℕ)
+ends_last : (Reached : List Ask → Type 0) (was now : Site) (held : List ℕ) (served : ℕ)
     (text : List ℕ) → (more : IsMore Reached was now held served true text text)
     → now.door.faults ≡ was.door.faults
     → IsVisited Reached was now served Last
-ends_last Reached was now held served sent more calm =
-    let whole = more.text_is in
-    record {
-      visit = record {
-        taken = more.heard.taken;
-        ended = now.door.ended;
-        written = responses more.before ++ sent;
-        before = more.before;
-        last = Some more.x;
-        leaving = Last;
-      };
-      right = record {
-        rest = held;
-        requests = more.heard.requests;
-        ongoing = more.ongoing;
-        few = more.few;
-        ends = more.ends;
-        left = (
-          more.x,
-          refl,
-          more.last_is,
-          ap (λ (t : List ℕ). responses more.before ++ t) whole,
-        );
-      };
-      left_so = refl;
-      bytes = more.heard.bytes;
-      connections = more.heard.connections;
-      at_end = more.heard.at_end;
-      served_is = more.served_is;
-      answered = more.answered;
-      faults = calm;
-    }
+ends_last Reached was now held served text more calm =
+    let is : responses more.before ++ text ≡ responses more.before ++ response_of more.x =
+    ap (λ (t : List ℕ). responses more.before ++ t) more.text_is in
+    visited_behind Reached was now held served true text text Last more
+    (more.x, refl, more.last_is, is) calm
 
 -- its link failed at the write
-pub ends_cut : (Reached : List Ask → Type 0) (was now : Site) (held : List ℕ) (served : ℕ)
+ends_cut : (Reached : List Ask → Type 0) (was now : Site) (held : List ℕ) (served : ℕ)
     (last : Bool) (part : ℕ) (text : List ℕ)
     → (more : IsMore Reached was now held served last text (take part text))
     → part < length text
     → Counted was.door.faults now.door.faults 1 → IsVisited Reached was now served WriteFailed
 ends_cut Reached was now held served last part text more less failed =
-    let is = more.text_is in
-    record {
-      visit = record {
-        taken = more.heard.taken;
-        ended = now.door.ended;
-        written = responses more.before ++ take part text;
-        before = more.before;
-        last = Some more.x;
-        leaving = WriteFailed;
-      };
-      right = record {
-        rest = held;
-        requests = more.heard.requests;
-        ongoing = more.ongoing;
-        few = more.few;
-        ends = more.ends;
-        left = (
-          more.x,
-          refl,
-          (
-            part,
-            subst (λ (t : List ℕ). part < length t) is less,
-            ap (λ (t : List ℕ). responses more.before ++ take part t) is,
-          ),
-        );
-      };
-      left_so = refl;
-      bytes = more.heard.bytes;
-      connections = more.heard.connections;
-      at_end = more.heard.at_end;
-      served_is = more.served_is;
-      answered = more.answered;
-      faults = failed;
-    }
+    let short = subst (λ (t : List ℕ). part < length t) more.text_is less in
+    let is = ap (λ (t : List ℕ). responses more.before ++ take part t) more.text_is in
+    visited_behind Reached was now held served last text (take part text) WriteFailed more
+    (more.x, refl, (part, short, is)) failed
 
 -- so it is left, or goes on, as what was sent says
 pub steps_to : {E : Type 0} (Reached : List Ask → Type 0) (was now : Site) (held : List ℕ)

@@ -1,19 +1,22 @@
 -- What is served on one connection: its bytes are requests, in order, and what is written to it is
 -- one response for each.
-use Rattle.std.specs.Prelude.{◌≡◌, ℕ, ◌+◌, ◌<◌, Bool, true, false, ◌||◌, ◌==◌, List, [], ◌∷◌, ◌++◌, length, take, drop, All, Option, Some, None, IfSome, option_to_list}
-use Rattle.office_wire.specs.declared.types.Frame.TheVariants.{Whole, More, Nothing}
+use Rattle.std.specs.Prelude.{◌≡◌, ℕ, ◌+◌, ◌<◌, Bool, true, false, ◌||◌, ◌==◌, List, ◌++◌, length, map, take, All, Option, Some, None, IfSome, option_to_list}
+use Rattle.office_wire.specs.declared.types.Framed.{Framed}
+use Rattle.office_wire.specs.declared.types.Frame.TheVariants.{More, Nothing}
 use Rattle.office_wire.specs.Frames.{IsFrame, MayTell}
+use Rattle.office_wire.specs.Requests.{BeginWith}
 use Rattle.office_door.specs.declared.leaving.Leaving.{Leaving}
 use Rattle.office_door.specs.declared.leaving.Leaving.TheVariants.{End, Last, ReadFailed, WriteFailed}
 use Rattle.office_door.specs.declared.limits.TheConstants.{MAX_REQUESTS}
 use Rattle.office_door.specs.Exchanges.{Exchange, response_of, responses}
 
--- bytes begin with the requests of these exchanges, in order; what stands behind them
-abbrev pub BeginWith : Bool → List ℕ → List Exchange → List ℕ → Type 0
-BeginWith ended bytes [] rest = bytes ≡ rest
-BeginWith ended bytes (x ∷ xs) rest =
-    IsFrame bytes ended (Whole x.request) × MayTell x.request.what x.told
-    × BeginWith ended (drop x.request.taken bytes) xs rest
+-- the requests of some exchanges, in order
+abbrev pub requests_of : List Exchange → List Framed
+requests_of exchanges = map (λ x. x.request) exchanges
+
+-- the request of an exchange is told as it may be
+abbrev pub IsToldRight : Exchange → Type 0
+IsToldRight x = MayTell x.request.what x.told
 
 -- the connection goes on behind an exchange
 abbrev pub GoesOn : Exchange → Type 0
@@ -66,7 +69,8 @@ IsLeft WriteFailed visit rest =
 -- left as a connection is.
 pub record IsServed (visit : Visit) : Type 0 where
   pub rest : List ℕ
-  pub requests : BeginWith visit.ended visit.taken (exchanges_of visit) rest
+  pub requests : BeginWith visit.ended visit.taken (requests_of (exchanges_of visit)) rest
+  pub told : All IsToldRight (exchanges_of visit)
   pub ongoing : All GoesOn visit.before
   pub few : length visit.before < MAX_REQUESTS
   pub ends : IfSome visit.last (EndsRight (length visit.before))

@@ -13,6 +13,7 @@ use Rattle.office_wire.specs.declared.types.Framed.{Framed}
 use Rattle.office_wire.specs.declared.types.Frame.TheVariants.{Whole, More, Nothing}
 use Rattle.office_wire.specs.declared.types.OfficeAsk.{OfficeAsk}
 use Rattle.office_wire.specs.Frames.{IsFrame, TellsFrame}
+use Rattle.office_wire.specs.Requests.{BeginWith}
 use Rattle.office_door.specs.declared.leaving.Leaving.{Leaving}
 use Rattle.office_door.specs.declared.leaving.Leaving.TheVariants.{Last, WriteFailed}
 use Rattle.office_door.specs.declared.ending.DoorStop.{DoorStop}
@@ -20,7 +21,7 @@ use Rattle.office_door.specs.declared.ending.DoorEnd.{DoorEnd}
 use Rattle.office_door.specs.declared.tally.Tally.{Tally}
 use Rattle.office_door.specs.declared.limits.TheConstants.{MAX_REQUESTS, MAX_CONNECTIONS}
 use Rattle.office_door.specs.Exchanges.{Exchange, response_to, responses, HasAnswered}
-use Rattle.office_door.specs.Served.{Visit, BeginWith, GoesOn, IsServed, exchanges_of}
+use Rattle.office_door.specs.Served.{Visit, GoesOn, IsServed, IsToldRight, exchanges_of, requests_of}
 use Rattle.office_door.specs.Doors.{Port, Site, with_talk, links_of, FailedSoOften, HasServed, ServesDoor}
 
 -- the bytes that are held of a connection, and whether its end was given
@@ -44,7 +45,8 @@ pub record IsHeard (was now : Port) (exchanges : List Exchange) (written held : 
   pub taken : List ℕ
   pub bytes : Consumes was.left now.left taken
   pub connections : now.connections ≡ option_map (with_talk taken written) was.connections
-  pub requests : BeginWith now.ended taken exchanges held
+  pub requests : BeginWith now.ended taken (requests_of exchanges) held
+  pub told : All IsToldRight exchanges
   pub at_end : now.ended ≡ true → IsAtEnd now.left
 
 -- what the next request came to: it is whole; or the end was given, and none begins; or the link

@@ -1,55 +1,49 @@
 -- Laws of the requests of a connection.
-use Rattle.std.proofs.Common.{◌≡◌, ℕ, Bool, true, false, List, [], ◌∷◌, ◌++◌, drop, refl, sym, ap, subst, ◌∙◌, append-nil}
-use Rattle.std.proofs.lemmas.Bool.{true≢false}
+use Rattle.std.proofs.Common.{◌≡◌, ℕ, Bool, true, false, List, [], ◌∷◌, ◌++◌, drop, refl, sym, ap, subst, ◌∙◌}
 use Rattle.std.proofs.lemmas.List.{drop-append-le}
 use Rattle.office_wire.specs.declared.types.Framed.{Framed}
 use Rattle.office_wire.specs.declared.types.Frame.TheVariants.{Whole, Nothing}
 use Rattle.office_wire.specs.Frames.{IsFrame}
-use Rattle.office_wire.specs.Requests.{AreRequests, BeginsWith}
+use Rattle.office_wire.specs.Requests.{BeginWith, AreRequests}
 use Rattle.office_wire.proofs.FrameKinds.{nothing_not_whole, same_framed}
 use Rattle.office_wire.proofs.FrameLaws.{frame_still, frame_unique, frame_taken}
 
 -- ---- the first requests
 
--- they are the first whatever follows
-pub begins_still : (bytes : List ℕ) (requests : List Framed) (rest more : List ℕ)
-    → BeginsWith bytes requests rest → BeginsWith (bytes ++ more) requests (rest ++ more)
-begins_still bytes [] rest more is = ap (λ (xs : List ℕ). xs ++ more) is
-begins_still bytes (framed ∷ behind) rest more is =
-    let taken = frame_taken bytes false framed is.0 in (
-      frame_still bytes more false framed is.0,
-      is.1,
-      subst (λ (xs : List ℕ). BeginsWith xs behind (rest ++ more)) (sym (drop-append-le
-          framed.taken bytes more taken.1))
-          (begins_still (drop framed.taken bytes) behind rest more is.2),
+-- they are the first whatever follows, where the end wasn't given before
+pub begin_more : (ended : Bool) (bytes more : List ℕ) (requests : List Framed) (rest : List ℕ)
+    → BeginWith false bytes requests rest
+    → BeginWith ended (bytes ++ more) requests (rest ++ more)
+begin_more ended bytes more [] rest is = ap (λ (xs : List ℕ). xs ++ more) is
+begin_more ended bytes more (framed ∷ behind) rest is =
+    let within = (frame_taken bytes false framed is.0).1 in
+    let parts : drop framed.taken (bytes ++ more) ≡ drop framed.taken bytes ++ more =
+    drop-append-le framed.taken bytes more within in (
+      frame_still bytes more ended framed is.0,
+      subst (λ (xs : List ℕ). BeginWith ended xs behind (rest ++ more)) (sym parts)
+          (begin_more ended (drop framed.taken bytes) more behind rest is.1),
     )
 
--- one more
-pub begins_push : (bytes : List ℕ) (requests : List Framed) (rest : List ℕ) (framed : Framed)
-    → BeginsWith bytes requests rest → IsFrame rest false (Whole framed) → framed.last ≡ false
-    → BeginsWith bytes (requests ++ framed ∷ []) (drop framed.taken rest)
-begins_push bytes [] rest framed is next on = (
-  subst (λ (xs : List ℕ). IsFrame xs false (Whole framed)) (sym is) next,
-  on,
-  ap (drop
-      framed.taken) is,
+-- the next request stands behind them
+pub begin_push : (ended : Bool) (bytes : List ℕ) (requests : List Framed) (rest : List ℕ)
+    (framed : Framed)
+    → BeginWith ended bytes requests rest → IsFrame rest ended (Whole framed)
+    → BeginWith ended bytes (requests ++ framed ∷ []) (drop framed.taken rest)
+begin_push ended bytes [] rest framed is next = (
+  subst (λ (xs : List ℕ). IsFrame xs ended (Whole framed)) (sym is) next,
+  ap (drop framed.taken) is,
 )
-begins_push bytes (first ∷ behind) rest framed is next on =
-    (is.0, is.1, begins_push (drop first.taken bytes) behind rest framed is.2 next on)
+begin_push ended bytes (first ∷ behind) rest framed is next =
+    (is.0, begin_push ended (drop first.taken bytes) behind rest framed is.1 next)
 
--- the requests of what stands behind them are the others
-pub requests_behind : (bytes : List ℕ) (requests : List Framed) (rest : List ℕ) (others : List
-    Framed)
-    → BeginsWith bytes requests rest → AreRequests rest others
-    → AreRequests bytes (requests ++ others)
-requests_behind bytes [] rest others is are =
-    subst (λ (xs : List ℕ). AreRequests xs others) (sym is) are
-requests_behind bytes (framed ∷ behind) rest others is are = (
-  subst (λ (xs : List ℕ). IsFrame xs true (Whole framed)) (append-nil bytes) (frame_still bytes []
-      true framed is.0),
-  λ last. absurd (true≢false (sym last ∙ is.1)),
-  λ on. requests_behind (drop framed.taken bytes) behind rest others is.2 are,
-)
+-- the first of what the same bytes begin with is the same, and so is what stands behind it
+pub begin_same : (ended : Bool) (bytes : List ℕ) (a b : Framed) (here : List Framed)
+    (rest : List ℕ)
+    → BeginWith ended bytes (a ∷ here) rest → IsFrame bytes ended (Whole b)
+    → (a ≡ b) × BeginWith ended (drop b.taken bytes) here rest
+begin_same ended bytes a b here rest x y =
+    let same = same_framed a b (frame_unique bytes ended (Whole a) (Whole b) x.0 y) in
+    (same, subst (λ (f : Framed). BeginWith ended (drop f.taken bytes) here rest) same x.1)
 
 -- ---- one list
 

@@ -1,10 +1,12 @@
 -- Whole requests that were written down by hand, framed by the definitions.
-use Rattle.std.proofs.Common.{◌∷◌, ◌++◌, [], ℕ, List, codes, Some, pos, true, false, refl, lit<, lit≤}
+use Rattle.std.proofs.Common.{◌≡◌, ◌<◌, ◌∷◌, ◌++◌, [], ℕ, List, length, codes, Some, pos, true, false, refl, lit<, lit≤}
+use Rattle.std.specs.Prelude.{IsUtf8}
+use Rattle.std.specs.List.{list_all}
 use Rattle.std.specs.Str.{chars, is_utf8}
 use Rattle.std.proofs.lemmas.List.Elements.{All-cons, All-nil}
 use Rattle.std.proofs.lemmas.List.Sums.{AllPass-from_list_all}
 use lib.Utf8.{encode}
-use Rattle.httparse.specs.Grammar.{Field, IsField, RequestHead, ReadsRequest, crlf, is_token_byte, is_uri_byte, is_value_byte}
+use Rattle.httparse.specs.Grammar.{Field, IsField, IsRequestHead, RequestHead, ReadsRequest, crlf, is_token_byte, is_uri_byte, is_value_byte}
 use Rattle.httparse.proofs.OnLiterals.{httparse_on_literals}
 use Rattle.serde_json.proofs.OnLiterals.{serde_json_on_literals}
 use Rattle.book_words.specs.declared.act.Act.TheVariants.{PutProduct}
@@ -17,37 +19,65 @@ use Rattle.office_wire.specs.declared.types.OfficeAsk.TheVariants as asked
 use Rattle.office_wire.specs.declared.types.Frame.TheVariants.{Whole}
 use Rattle.office_wire.specs.Frames.{IsFrame, question_ask}
 
+-- ---- heads of version 1.1
+
+abbrev field : List ℕ → List ℕ → Field
+field name raw = record { name = name; raw = raw; end = crlf }
+
+-- of bytes that a name and a value may have
+field_is : (name raw : List ℕ) → 0 < length name → list_all is_token_byte name ≡ true
+    → list_all is_value_byte raw ≡ true → IsField (field name raw)
+field_is name raw some token value = record {
+  name = (some, AllPass-from_list_all is_token_byte name token);
+  raw = AllPass-from_list_all is_value_byte raw value;
+}
+
+abbrev head : List ℕ → List ℕ → List Field → RequestHead
+head method target fields = record {
+  blank = [];
+  method = method;
+  target = target;
+  minor = 1;
+  line_end = crlf;
+  fields = fields;
+  last = crlf;
+}
+
+-- of bytes that a method and a target may have, with two headers
+head_is : (method target : List ℕ) (a b : Field) → 0 < length method
+    → list_all is_token_byte method ≡ true → 0 < length target
+    → list_all is_uri_byte target ≡ true → IsUtf8 target → IsField a → IsField b
+    → IsRequestHead (head method target (a ∷ b ∷ []))
+head_is method target a b some token long uri text first second = record {
+  method = (some, AllPass-from_list_all is_token_byte method token);
+  target = (long, AllPass-from_list_all is_uri_byte target uri);
+  target_text = text;
+  minor = lit≤ tt;
+  fields = All-cons IsField a (b ∷ []) first (All-cons IsField b [] second (All-nil IsField));
+}
+
 -- ---- headers
 
 abbrev host : Field
-host = record { name = codes "Host"; raw = codes " 127.0.0.1:8080"; end = crlf }
+host = field (codes "Host") (codes " 127.0.0.1:8080")
 
 host_is : IsField host
 unfolding httparse_on_literals
-host_is = record {
-  name = (lit< tt, AllPass-from_list_all is_token_byte (codes "Host") refl);
-  raw = AllPass-from_list_all is_value_byte (codes " 127.0.0.1:8080") refl;
-}
+host_is = field_is (codes "Host") (codes " 127.0.0.1:8080") (lit< tt) refl refl
 
 abbrev agent : Field
-agent = record { name = codes "User-Agent"; raw = codes " curl/8.5.0"; end = crlf }
+agent = field (codes "User-Agent") (codes " curl/8.5.0")
 
 agent_is : IsField agent
 unfolding httparse_on_literals
-agent_is = record {
-  name = (lit< tt, AllPass-from_list_all is_token_byte (codes "User-Agent") refl);
-  raw = AllPass-from_list_all is_value_byte (codes " curl/8.5.0") refl;
-}
+agent_is = field_is (codes "User-Agent") (codes " curl/8.5.0") (lit< tt) refl refl
 
 abbrev size : Field
-size = record { name = codes "Content-Length"; raw = codes " 68"; end = crlf }
+size = field (codes "Content-Length") (codes " 68")
 
 size_is : IsField size
 unfolding httparse_on_literals
-size_is = record {
-  name = (lit< tt, AllPass-from_list_all is_token_byte (codes "Content-Length") refl);
-  raw = AllPass-from_list_all is_value_byte (codes " 68") refl;
-}
+size_is = field_is (codes "Content-Length") (codes " 68") (lit< tt) refl refl
 
 -- ---- the sheet of a batch
 
@@ -59,28 +89,13 @@ get =
     ++ codes "\r\n"
 
 abbrev get_head : RequestHead
-get_head = record {
-  blank = [];
-  method = codes "GET";
-  target = codes "/batches/A";
-  minor = 1;
-  line_end = crlf;
-  fields = host ∷ agent ∷ [];
-  last = crlf;
-}
+get_head = head (codes "GET") (codes "/batches/A") (host ∷ agent ∷ [])
 
 get_reads : ReadsRequest get get_head []
 unfolding httparse_on_literals encode
 get_reads = (
-  record {
-    method = (lit< tt, AllPass-from_list_all is_token_byte (codes "GET") refl);
-    target = (lit< tt, AllPass-from_list_all is_uri_byte (codes "/batches/A") refl);
-    target_text = (codes "/batches/A", (refl, refl));
-    minor = lit≤ tt;
-    fields =
-        All-cons IsField host (agent ∷ []) host_is
-        (All-cons IsField agent [] agent_is (All-nil IsField));
-  },
+  head_is (codes "GET") (codes "/batches/A") host agent (lit< tt) refl (lit< tt) refl
+      (codes "/batches/A", (refl, refl)) host_is agent_is,
   refl,
 )
 
@@ -106,28 +121,13 @@ abbrev body : List ℕ
 body = codes "{\"act\":\"product\",\"desk\":101,\"request\":1,\"name\":\"a\",\"nominal\":250000}"
 
 abbrev post_head : RequestHead
-post_head = record {
-  blank = [];
-  method = codes "POST";
-  target = codes "/acts";
-  minor = 1;
-  line_end = crlf;
-  fields = host ∷ size ∷ [];
-  last = crlf;
-}
+post_head = head (codes "POST") (codes "/acts") (host ∷ size ∷ [])
 
 post_reads : ReadsRequest post post_head []
 unfolding httparse_on_literals encode
 post_reads = (
-  record {
-    method = (lit< tt, AllPass-from_list_all is_token_byte (codes "POST") refl);
-    target = (lit< tt, AllPass-from_list_all is_uri_byte (codes "/acts") refl);
-    target_text = (codes "/acts", (refl, refl));
-    minor = lit≤ tt;
-    fields =
-        All-cons IsField host (size ∷ []) host_is
-        (All-cons IsField size [] size_is (All-nil IsField));
-  },
+  head_is (codes "POST") (codes "/acts") host size (lit< tt) refl (lit< tt) refl
+      (codes "/acts", (refl, refl)) host_is size_is,
   refl,
 )
 

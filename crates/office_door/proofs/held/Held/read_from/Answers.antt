@@ -1,4 +1,4 @@
-use Rattle.std.proofs.Common.{◌≡◌, ◌+◌, ◌-◌, ◌<◌, ◌≤◌, true, false, true≢false, [], ◌++◌, length, take, sym, ◌∙◌, ap, arith, append-nil, length-take-le, rules}
+use Rattle.std.proofs.Common.{◌≡◌, ◌-◌, ◌<◌, ◌≤◌, false, true≢false, [], ◌++◌, length, take, sym, ◌∙◌, ap, arith, append-nil, length-take-le, rules}
 use Rattle.std.proofs.KnownBytes.{Consumes-nil, Consumes-kept}
 use Rattle.std.proofs.lemmas.Bool.{eqb-true}
 use Rattle.std.proofs.lemmas.List.{with_items_is, places}
