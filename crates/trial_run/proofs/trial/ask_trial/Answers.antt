@@ -1,4 +1,4 @@
-use Rattle.std.proofs.Common.{◌≡◌, Ok, Err, ap, ◌∙◌}
+use Rattle.std.proofs.Common.{Ok, Err, ap}
 use Rattle.std.proofs.lemmas.Result.{err_from_is_err_and}
 use Rattle.store_runs.specs.Books.{BookState}
 use Rattle.trial_run.specs.TrialScripts.{head_commands, batch_commands, batch_places, in_turn}
