@@ -6,7 +6,7 @@ use Rattle.book_words.specs.declared.act.Entry.{Entry}
 use Rattle.book_words.specs.Views.{summary}
 use Rattle.batch_reports.specs.Texts.{summary_text}
 use Rattle.script_lines.specs.declared.command.Command.{Command}
-use Rattle.text_streams.specs.Streams.{Stream, WroteAll}
+use Rattle.text_streams.specs.Streams.{Stream}
 use Rattle.text_streams.proofs.PrintedTexts.{wrote_nothing}
 use Rattle.store_runs.specs.declared.stop.Stop.{Stop}
 use Rattle.store_runs.specs.declared.stop.Stop.TheVariants.{Finished, BadLine, ReadFault, WriteFault, DiskFault, NoMemory, Spent}

@@ -113,7 +113,8 @@ weighings-more word place =
 
 pub weighings_parts : (word packs place : ℕ) → place < packs
     → weighings word packs
-    ≡ (weighings word place ++ weighing_at word place ∷ []) ++ drop (place + 1) (weighings word packs)
+    ≡ (weighings word place ++ weighing_at word place ∷ [])
+    ++ drop (place + 1) (weighings word packs)
 weighings_parts word packs place less =
     let all = weighings word packs in
     sym (take-append-drop (place + 1) all)

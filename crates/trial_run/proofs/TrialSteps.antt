@@ -1,5 +1,5 @@
 -- What the steps of a trial ask, one after another.
-use Rattle.std.proofs.Common.{◌≡◌, ℕ, List, [], ◌∷◌, ◌++◌, Result, Ok, Err, inl, inr, ⊎_elim, refl, sym, ap, ◌∙◌, subst, append_assoc, append-nil}
+use Rattle.std.proofs.Common.{◌≡◌, List, [], ◌∷◌, ◌++◌, Result, Ok, Err, inl, inr, ⊎_elim, refl, sym, ap, ◌∙◌, subst, append_assoc, append-nil}
 use Rattle.disk_core.specs.declared.disk.Disk as disk
 use Rattle.book_words.specs.declared.act.Entry.{Entry}
 use Rattle.book_words.specs.declared.name.Name.{Name}
@@ -14,7 +14,7 @@ use Rattle.store_runs.proofs.StoreSteps.{on_unfinished, goes_on, goes_with, goes
 use Rattle.script_run.specs.Asking.{exchange_at}
 use Rattle.script_run.specs.Transcript.{after_command}
 use Rattle.script_run.specs.Unanswered.{MayStopAt}
-use Rattle.trial_run.specs.Steps.{IsNext, StopsIn, Asks}
+use Rattle.trial_run.specs.Steps.{StopsIn, Asks}
 use Rattle.trial_run.specs.TrialScripts.{after_commands, in_turn, sample_question}
 
 -- ---- lists of commands

@@ -1,5 +1,5 @@
 -- What the steps of a trial make of its book: which commands they ask, and where one stops.
-use Rattle.std.specs.Prelude.{◌≡◌, ◌⊎◌, ℕ, List, ◌∷◌, ◌++◌, Result, OnOk, IfErr}
+use Rattle.std.specs.Prelude.{◌≡◌, ◌⊎◌, List, ◌∷◌, ◌++◌, Result, OnOk, IfErr}
 use Rattle.disk_core.specs.declared.disk.Disk as disk
 use Rattle.book_words.specs.declared.act.Entry.{Entry}
 use Rattle.book_words.specs.declared.name.Name.{Name}
@@ -19,8 +19,8 @@ IsNext asked rest =
     ((more : List Command) × (rest ≡ asked ∷ more))
     ⊎ ((batch : Name) × (asked ≡ sample_question batch))
 
--- A script stopped so at a book: its first commands were answered, and these rows are left; what was
--- asked next has no answer, since the disk failed or there is no memory for it.
+-- A script stopped so at a book: its first commands were answered, and these rows are left; what
+-- was asked next has no answer, since the disk failed or there is no memory for it.
 pub record StopsIn (book : BookState) (rows : List Entry) (script : List Command) (stop : Stop)
     : Type 0 where
   pub answered : List Command
@@ -34,7 +34,8 @@ pub record StopsIn (book : BookState) (rows : List Entry) (script : List Command
 -- a step asked these commands, or stopped in them
 pub record Asks {D T : Type 0} (disk : disk.Ghosts D) (result : Result T Stop)
     (old new : CallerView D) (commands : List Command) : Type 0 where
-  pub answered : OnOk result (stored_book new.store ≡ after_commands (stored_book old.store) commands)
+  pub answered : OnOk result
+      (stored_book new.store ≡ after_commands (stored_book old.store) commands)
   pub stops : IfErr result (StopsIn (stored_book old.store) (entries_of new.store) commands)
   pub goes : Goes disk result old.store new.store
   pub calm : OnOk result (new.faults ≡ 0)

@@ -32,7 +32,8 @@ after_commands book [] = book
 after_commands book (command ∷ commands) = after_commands (after_command book command) commands
 
 -- scripts in turn, one for each thing, where each depends on the book behind those before it
-abbrev pub in_turn : {A : Type 0} → (BookState → A → List Command) → BookState → List A → List Command
+abbrev pub in_turn : {A : Type 0} → (BookState → A → List Command) → BookState → List A
+    → List Command
 in_turn script book [] = []
 in_turn script book (x ∷ xs) =
     script book x ++ in_turn script (after_commands book (script book x)) xs
@@ -141,8 +142,8 @@ batch_run number count place =
     ++ weighings (word_behind number (place * BATCH_PACKS)) (packs_of_batch count place)
     ++ end_commands number (batch_name place)
 
--- what is asked of the batch at a place: its run, then each pack that was drawn is measured, and the
--- batch is closed
+-- what is asked of the batch at a place: its run, then each pack that was drawn is measured, and
+-- the batch is closed
 abbrev pub batch_commands : ℕ → ℕ → BookState → ℕ → List Command
 batch_commands number count book place =
     let run = batch_run number count place in

@@ -48,8 +48,8 @@ pub record StopsEarly (book : BookState) (rows : List Entry) (script : List Comm
   pub stops : StopsIn book rows script stop
   pub answered : AreAnswered book stops.answered rows
 
--- what may stop a trial behind its script: where rows were added, the disk may fail while a snapshot
--- of them is kept; and memory may lack for that, or for the text of the summary
+-- what may stop a trial behind its script: where rows were added, the disk may fail while a
+-- snapshot of them is kept; and memory may lack for that, or for the text of the summary
 abbrev pub MayFailAtEnd : ℕ → List Entry → Stop → Type 0
 MayFailAtEnd opened rows NoMemory = ⊤
 MayFailAtEnd opened rows stop = FailsToKeep opened rows stop

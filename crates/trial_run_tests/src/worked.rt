@@ -2,8 +2,8 @@ use crate::runs::{Way, disk_failing, run_on};
 use disk_core::MemorySink;
 use std::alloc::Global;
 
-// The two numbers of a trial, and the summary that it writes. Worked out by a Python script that has
-// a list of grosses and draws by `list.pop`.
+// The two numbers of a trial, and the summary that it writes. Worked out by a Python script that
+// has a list of grosses and draws by `list.pop`.
 static TRIALS: [((u64, u32), &str); 6] = [
     (
         (0, 2),

@@ -1,4 +1,4 @@
-use Rattle.std.proofs.Common.{rules, ◌≡◌, ◌+◌, [], ◌∷◌, ◌++◌, get_or, ◌∙◌, take, drop, Ok, Err, ap, sym, take_all, arith}
+use Rattle.std.proofs.Common.{rules, ◌≡◌, ◌+◌, [], ◌∷◌, ◌++◌, get_or, ◌∙◌, take, drop, Ok, ap, sym, take_all, arith}
 use Rattle.std.proofs.lemmas.List.{take_more}
 use Rattle.std.proofs.lemmas.Result.{err_from_is_err_and}
 use Rattle.script_lines.specs.declared.command.Command.{Command}

@@ -26,7 +26,8 @@ returns-in_err-last-clause-asks g c =
 
 pub returns-in_err-measure_sample-clause-asks : goal.returns-in_err-measure_sample-clause-asks
 returns-in_err-measure_sample-clause-asks g c =
-    let p = err_from_is_err_and c.from_residual-in_err-measure_sample.result c.from_residual-in_err-measure_sample.ensures.1 in
+    let p = err_from_is_err_and c.from_residual-in_err-measure_sample.result
+    c.from_residual-in_err-measure_sample.ensures.1 in
     let batch = c.batch_name.ensures.name in
     let filled = c.in_ok-last.ensures.asks.answered in
     let run = batch_run c.args.number c.args.count c.args.place in
@@ -47,7 +48,8 @@ returns-in_err-measure_sample-clause-asks g c =
 
 pub returns-in_err-ask_all-clause-asks : goal.returns-in_err-ask_all-clause-asks
 returns-in_err-ask_all-clause-asks g c =
-    let p = err_from_is_err_and c.from_residual-in_err-ask_all.result c.from_residual-in_err-ask_all.ensures.1 in
+    let p = err_from_is_err_and c.from_residual-in_err-ask_all.result
+    c.from_residual-in_err-ask_all.ensures.1 in
     let batch = c.batch_name.ensures.name in
     let filled = c.in_ok-last.ensures.asks.answered in
     let run = batch_run c.args.number c.args.count c.args.place in

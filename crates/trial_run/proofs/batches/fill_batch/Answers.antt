@@ -1,5 +1,4 @@
-use Rattle.std.proofs.Common.{◌≡◌, ◌*◌, ◌≤◌, Ok, Err, ap, ◌∙◌, arith}
-use Rattle.std.specs.Bool.{⊤}
+use Rattle.std.proofs.Common.{◌≡◌, ◌*◌, Ok, Err, ap, ◌∙◌}
 use Rattle.std.proofs.lemmas.Result.{err_from_is_err_and}
 use Rattle.book_words.specs.declared.name.Name.{Name}
 use Rattle.trial_run.specs.declared.commands.TheConstants.{BATCH_PACKS}
@@ -30,7 +29,8 @@ returns-in_err-ask_all-clause-asks g c =
 
 pub returns-in_err-last-clause-asks : goal.returns-in_err-last-clause-asks
 returns-in_err-last-clause-asks g c =
-    let p = err_from_is_err_and c.from_residual-in_err-last.result c.from_residual-in_err-last.ensures.1 in
+    let p = err_from_is_err_and c.from_residual-in_err-last.result
+    c.from_residual-in_err-last.ensures.1 in
     let batch = c.batch_name-batch.ensures.name in
     let opening = c.open_commands.ensures ∙ ap (λ (n : Name). open_commands n) batch in
     let weighed : weighings c.args.word c.packs_of_batch.result
@@ -51,7 +51,8 @@ returns-in_err-last-clause-asks g c =
 
 pub returns-in_err-ask_all-2-clause-asks : goal.returns-in_err-ask_all-2-clause-asks
 returns-in_err-ask_all-2-clause-asks g c =
-    let p = err_from_is_err_and c.from_residual-in_err-ask_all-2.result c.from_residual-in_err-ask_all-2.ensures.1 in
+    let p = err_from_is_err_and c.from_residual-in_err-ask_all-2.result
+    c.from_residual-in_err-ask_all-2.ensures.1 in
     let batch = c.batch_name-batch.ensures.name in
     let opening = c.open_commands.ensures ∙ ap (λ (n : Name). open_commands n) batch in
     let weighed : weighings c.args.word c.packs_of_batch.result

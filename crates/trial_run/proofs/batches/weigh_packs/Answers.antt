@@ -1,9 +1,8 @@
-use Rattle.std.proofs.Common.{◌≡◌, ◌+◌, [], ◌∷◌, ◌++◌, List, drop, Ok, refl, sym, ap, ◌∙◌, arith}
+use Rattle.std.proofs.Common.{◌≡◌, ◌+◌, [], ◌∷◌, ◌++◌, drop, Ok, refl, sym, ap, ◌∙◌, arith}
 use Rattle.std.proofs.lemmas.Result.{err_from_is_err_and}
-use Rattle.sample_draw.specs.Draws.{next_word}
 use Rattle.script_lines.specs.declared.command.Command.{Command}
 use Rattle.trial_run.specs.TrialScripts.{word_behind, gross_by, weighing, weighings}
-use Rattle.trial_run.proofs.TrialNames.{weighing_at, word-next, weighings-more, weighings_parts}
+use Rattle.trial_run.proofs.TrialNames.{word-next, weighings-more, weighings_parts}
 use Rattle.trial_run.proofs.TrialSteps.{asks_nothing, asks_on, asks_with, asks_same, stopped_behind}
 use Rattle.trial_run.proofs.batches.weigh_packs.Goals as goal
 

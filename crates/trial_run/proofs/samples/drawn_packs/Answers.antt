@@ -1,7 +1,6 @@
-use Rattle.std.proofs.Common.{◌≡◌, Result, Err, sym, ap, ◌∙◌, subst}
+use Rattle.std.proofs.Common.{Result, Err, sym, ap, ◌∙◌, subst}
 use Rattle.book_words.specs.declared.act.Question.TheVariants.{Sample}
 use Rattle.book_words.specs.declared.reply.Answered.{Answered}
-use Rattle.book_words.specs.declared.reply.Refused.{Refused}
 use Rattle.book_words.specs.Answers.{answer}
 use Rattle.book_core.specs.declared.types.BookError.{BookError}
 use Rattle.book_core.specs.Steps.{asked_question, GivesLook}

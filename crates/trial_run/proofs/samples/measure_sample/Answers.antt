@@ -18,7 +18,8 @@ returns-in_err-packs g c =
 
 pub returns-in_err-measure_packs : goal.returns-in_err-measure_packs
 returns-in_err-measure_packs g c =
-    let p = err_from_is_err_and c.from_residual-in_err-measure_packs.result c.from_residual-in_err-measure_packs.ensures.1 in
+    let p = err_from_is_err_and c.from_residual-in_err-measure_packs.result
+    c.from_residual-in_err-measure_packs.ensures.1 in
     let book = c.book.ensures ∙ ap (λ (s : Store _). book_of s) c.store.ensures.store in
     let packs : c.as_slice.result.now ≡ drawn_packs (stored_book c.args.caller.now.store)
     c.args.batch = c.as_slice.ensures ∙ c.in_ok-packs.ensures.packs

@@ -1,4 +1,4 @@
-use Rattle.std.proofs.Common.{◌≡◌, Ok, Err, ap, ◌∙◌}
+use Rattle.std.proofs.Common.{Ok, Err, ap}
 use Rattle.std.proofs.lemmas.Result.{err_from_is_err_and}
 use Rattle.store_runs.specs.Books.{BookState}
 use Rattle.trial_run.specs.TrialScripts.{head_commands, batch_commands, batch_places, in_turn}
@@ -22,7 +22,8 @@ returns-in_err-ask_all g c =
 
 pub returns-in_err-ask_batches : goal.returns-in_err-ask_batches
 returns-in_err-ask_batches g c =
-    let p = err_from_is_err_and c.from_residual-in_err-ask_batches.result c.from_residual-in_err-ask_batches.ensures.1 in
+    let p = err_from_is_err_and c.from_residual-in_err-ask_batches.result
+    c.from_residual-in_err-ask_batches.ensures.1 in
     let stop = c.in_err-ask_batches.field-0.0 in
     let old = c.args.caller.now in
     let one = c.ask_all.new.caller in

@@ -1,4 +1,4 @@
-use Rattle.std.proofs.Common.{Err, sym, ap, ◌∙◌, subst}
+use Rattle.std.proofs.Common.{Err, sym, ap, subst}
 use Rattle.std.specs.Bool.{⊤}
 use Rattle.book_store.specs.declared.store.Store.{Store}
 use Rattle.book_store.specs.Callers.{CallerView}
