@@ -32,7 +32,8 @@ awk -v packs=$((PACKS / 4)) 'BEGIN {
         for (i = 1; i <= packs; i++) {
             s = (s * 16807) % 2147483647
             printf "weigh %d %d.%03d\n", b, i % 100 ? 256 + s % 10 : 231, s % 1000
-            if (++row && i % 100 == 51) back[++voids] = row - 1
+            row++
+            if (i % 100 == 51) back[++voids] = row
         }
         printf "stop %d\n", b
         row++
