@@ -131,11 +131,11 @@ returns-in-Import-clause-goes g c =
     rw (c.without_lanes-in-Import.ensures.stop, c.without_lanes-in-Import.ensures.store)
     c.run_import.ensures.goes
 
-pub run_trial-requires-clause-least : goal.run_trial-requires-clause-least
-run_trial-requires-clause-least g c = c.requires.range.some c.in-Trial.is
+pub run_trial-end-requires-clause-least : goal.run_trial-end-requires-clause-least
+run_trial-end-requires-clause-least g c = c.requires.range.some c.in-Trial.is
 
-pub run_trial-requires-clause-most : goal.run_trial-requires-clause-most
-run_trial-requires-clause-most g c = c.requires.range.packs
+pub run_trial-end-requires-clause-most : goal.run_trial-end-requires-clause-most
+run_trial-end-requires-clause-most g c = c.requires.range.packs
 
 pub returns-in-Trial-clause-explained : goal.returns-in-Trial-clause-explained
 returns-in-Trial-clause-explained g c =
