@@ -7,18 +7,19 @@
 # command or the end of the block are what it prints, on both outputs. Commands run in their order,
 # at the top of the repository, with a folder of their own in the place of /tmp. A page that isn't
 # done after 5 minutes fails: a command waits for what doesn't come. With the word --write the page
-# gets what they print, so that a changed text is seen in a diff.
+# gets what they print, so that a changed text is seen in a diff. HALL names another program to try.
 cd "$(dirname "$0")/.." || exit 1
 page=$1
 room=$(mktemp -d) || exit 1
 trap 'rm -rf "$room"' EXIT
 
 # builds where a source is newer, so that no command below prints how far it is
-tools/build || exit 1
+if [ -z "${HALL:-}" ]; then tools/build || exit 1; fi
 
-timeout 300 awk -v room="$room" '
+timeout 300 awk -v room="$room" -v hall="${HALL:-./hall}" '
     function said(command,    line, status) {
         gsub("/tmp", room, command)
+        gsub("[.]/hall ", hall " ", command)
         command = "{ " command "\n} 2>&1"
         while ((command | getline line) > 0) {
             gsub(room, "/tmp", line)

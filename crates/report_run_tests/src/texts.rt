@@ -67,8 +67,11 @@ static PAPERS: [(Worked, Paper, &str); 5] = [
     ),
 ];
 
+// The header of the register.
+static HEADER: &[u8] = b"pack,batch,product,lane,day,gross,net,class,signal,pile\n";
+
 // What follows the number in each record of the long book.
-static RECORD: &[u8] = b"A,rice250,1,2025-03-03,260.000,250.000,standard,pass,passed";
+static RECORD: &[u8] = b",A,rice250,1,2025-03-03,260.000,250.000,standard,pass,passed\n";
 
 // Whether a printing goes out whole, and is this text; and whether none of it goes out where the
 // first write fails.
@@ -93,22 +96,14 @@ fn wrong_paper(alloc: Global) -> Option<&'static str> {
     None
 }
 
-// How many records of the long book stand behind a header, each whole.
+// How many records of the long book stand behind the header, where each of them is whole.
 fn count_records(text: &[u8]) -> Option<u32> {
-    let mut count = 0u32;
-    let mut rest = text
-        .split_at(text.iter().position(|byte| *byte == b'\n')?)
-        .1;
-    while let Some(line) = rest.strip_prefix(b"\n".as_slice()) {
-        let Some(comma) = line.iter().position(|byte| *byte == b',') else {
-            return if line.is_empty() { Some(count) } else { None };
+    let mut rest = text.strip_prefix(HEADER)?;
+    for count in 0..=MANY {
+        let Some(comma) = rest.iter().position(|byte| *byte == b',') else {
+            return if rest.is_empty() { Some(count) } else { None };
         };
-        rest = line
-            .split_at(comma)
-            .1
-            .strip_prefix(b",".as_slice())?
-            .strip_prefix(RECORD)?;
-        count = count.saturating_add(1);
+        rest = rest.split_at(comma).1.strip_prefix(RECORD)?;
     }
     None
 }
