@@ -1,6 +1,6 @@
 -- What is kept of a store in a session: as it begins, with each ask, and at its end.
-use Rattle.std.proofs.Common.{◌≡◌, ◌⊎◌, inl, inr, ⊎_elim, ℕ, ◌≤◌, List, [], ◌∷◌, ◌++◌, length, take}
-use Rattle.std.proofs.Common.{Bool, Option, Some, None, IsSome, Result, Ok, Err, OnOk, refl, sym, ap, ◌∙◌}
+use Rattle.std.proofs.Common.{◌≡◌, ◌⊎◌, inl, inr, ⊎_elim, ℕ, ◌+◌, ◌≤◌, List, [], ◌∷◌, ◌++◌, length, take}
+use Rattle.std.proofs.Common.{true, Bool, Option, Some, None, IsSome, Result, Ok, Err, OnOk, refl, sym, ap, ◌∙◌}
 use Rattle.std.proofs.Common.{subst, arith, append_assoc, append-nil, length-append}
 use Rattle.std.proofs.Math.Seq.{take-append_seam}
 use Rattle.std.proofs.lemmas.List.{take-append-le}
@@ -8,18 +8,26 @@ use Rattle.device_facts.specs.Count.{Counted, Rose}
 use Rattle.device_facts.specs.Prefix.{IsPrefixOf}
 use Rattle.disk_core.specs.Devices.{LeavesOnly}
 use Rattle.disk_core.specs.declared.disk.Disk as disk
+use Rattle.book_words.specs.declared.act.Ask.{Ask}
 use Rattle.book_words.specs.declared.act.Entry.{Entry}
+use Rattle.book_words.specs.declared.act.Want.{Want}
+use Rattle.book_words.specs.declared.act.Want.TheVariants as want
 use Rattle.book_words.specs.declared.caller.AskError.{AskError}
 use Rattle.book_words.specs.declared.caller.AskError.TheVariants as error
 use Rattle.book_words.specs.declared.reply.Answered.{Answered}
+use Rattle.book_words.specs.declared.reply.Refused.{Refused}
 use Rattle.book_words.specs.Answers.{IsLawful}
+use Rattle.book_core.specs.Steps.{MayLackMemory}
 use Rattle.book_core.specs.View.{BookView}
 use Rattle.book_journal.specs.Mounting.{KeepsFromSync}
 use Rattle.book_store.specs.declared.store.Store.{Store}
 use Rattle.book_store.specs.Images.{HoldsBook}
-use Rattle.book_store.specs.Stores.{disk_of, book_of, KeepsBook, entries_of, Hangs, HasBook, HangsWith, HoldsOrHangs}
+use Rattle.book_laws.proofs.MoveLaws.{balanced}
+use Rattle.book_store.specs.Stores.{disk_of, book_of, KeepsBook, entries_of, limit_of, spare_of}
+use Rattle.book_store.specs.Stores.{Hangs, HasBook, HangsWith, HoldsOrHangs}
 use Rattle.book_store.specs.Stores.{ImagesHoldBook, IsSound}
-use Rattle.book_store.specs.Offers.{Offers, OffersEntry, LeavesDisk, CountsDiskFault, list_behind}
+use Rattle.book_store.specs.Offers.{Offers, OffersEntry, LeavesDisk, CountsDiskFault, GivesAnswer}
+use Rattle.book_store.specs.Offers.{list_behind}
 use Rattle.book_store.specs.Mounting.{HasHeld}
 use Rattle.book_store.specs.Resting.{CountsRestFault}
 use Rattle.book_store.specs.declared.types.RestError.{RestError}
@@ -27,7 +35,8 @@ use Rattle.book_store.specs.declared.types.RestError.TheVariants as rest
 use Rattle.book_store.proofs.KeptLemmas.{synced_on}
 use Rattle.session_laws.specs.declared.session.Session as session
 use Rattle.session_laws.specs.Sessions.{HoldsOrOneMore, LeavesFrom, RestsOnDisk, Begins}
-use Rattle.session_laws.specs.Sessions.{HasBookSince, IsKeptSince, KeepsRun}
+use Rattle.session_laws.specs.Sessions.{HasBookSince, IsKeptSince, KeepsRun, session_of, weighs}
+use Rattle.turn_pass.specs.History.{TableId}
 
 -- ---- lists that go on
 
@@ -95,6 +104,21 @@ rose_behind a b c (inl same) rose = omega arith
 rose_behind a b c (inr first) rose = omega arith
 
 module _ {D : Type 0} (g : disk.Ghosts D) where
+  -- a session begins with the store that it is named after
+  pub begins_named : {N : Type 0} (table : TableId) (store : Store D) → ¬ Hangs store
+      → Begins g (session_of {N = N} g table store) store
+  begins_named table store calm =
+      record {
+        rows = refl;
+        limit = refl;
+        spare = refl;
+        start = refl;
+        faults = refl;
+        past = λ t c. ((λ was. was), (λ was. was));
+        rests = ((λ rests. rests), (λ rests. rests));
+        calm = calm;
+      }
+
   -- ---- what hangs
 
   rose_on : (start old new : ℕ) → Counted old new 1 → (old ≡ start) ⊎ Rose start old
@@ -231,10 +255,13 @@ module _ {D : Type 0} (g : disk.Ghosts D) where
     kept_first only_now store sound first =
         record {
           sound = sound;
+          balanced = balanced (entries_of store);
           begins = begins_same s.before (entries_of store) (sym first.rows);
+          limit = sym first.limit;
+          room = omega (arith, first.spare, ap length first.rows);
           fault = inl (first.calm, sym first.faults);
           book = λ rests.
-              let it = first.rests rests in record {
+              let it = first.rests.0 rests in record {
                 has = it.has;
                 later = omega (arith, first.start);
                 hung = λ entry hangs. absurd (first.calm hangs.row.hangs);
@@ -244,9 +271,28 @@ module _ {D : Type 0} (g : disk.Ghosts D) where
                     (begins_same (entries_of store) (entries_of store) refl)
                     (inl (it.images c (only_now (disk_of store) c
                     (subst (λ (t : ℕ). g.since (disk_of store) t c) first.start was))));
-                earlier = λ t c le was. inl (first.past t c was);
+                earlier = λ t c le was. inl ((first.past t c).1 was);
               };
         }
+
+    -- a weighing finds no memory only where the session has used its room
+    pub used_room : (old : Store D) (by : ℕ) (ask : Ask) (w : Want) → IsKeptSince g s old
+        → MayLackMemory (book_of old) by ask w → weighs w ≡ true
+        → s.spare + length s.before ≤ length (entries_of old)
+    used_room old by ask (want.Act act) kept lacks is =
+        omega (arith, kept.room, lacks.1 is)
+    used_room old by ask (want.Question question) kept lacks is = absurd (cc)
+
+    pub no_memory : (old : Store D) (by : ℕ) (ask : Ask) (new : Option Entry)
+        (result : Result Answered AskError) (wanted : Result Answered Refused)
+        → IsKeptSince g s old → GivesAnswer (book_of old) by ask new result wanted
+        → result ≡ Err error.NoMemory → weighs ask.want ≡ true
+        → s.spare + length s.before ≤ length (entries_of old)
+    no_memory old by ask new (Err error.NoMemory) wanted kept gives is weighed =
+        used_room old by ask ask.want kept gives weighed
+    no_memory old by ask new (Err error.DiskFault) wanted kept gives is weighed = absurd (cc)
+    no_memory old by ask new (Err (error.Refused why)) wanted kept gives is weighed = absurd (cc)
+    no_memory old by ask new (Ok answered) wanted kept gives is weighed = absurd (cc)
 
     -- a store behind an ask
     pub kept_asked : (old new : Store D) (result : Result Answered AskError)
@@ -254,10 +300,15 @@ module _ {D : Type 0} (g : disk.Ghosts D) where
         → Offers g offered old new → (IsSome offered → OnOk result (¬ Hangs new))
         → ImagesHoldBook g new → (Hangs new → (result ≡ Err error.DiskFault) ⊎ Hangs old)
         → CountsDiskFault (g.faults (disk_of old)) (g.faults (disk_of new)) result
+        → limit_of new ≡ limit_of old
+        → spare_of old + length (entries_of old) ≤ spare_of new + length (entries_of new)
         → IsSound g new → IsKeptSince g s old → IsKeptSince g s new
-    kept_asked old new result offered is offers settled images hangs cause sound kept =
+    kept_asked old new result offered is offers settled images hangs cause limit spare sound kept =
         record {
           sound = sound;
+          balanced = balanced (entries_of new);
+          limit = limit ∙ kept.limit;
+          room = omega (arith, kept.room, spare);
           begins = begins_on s.before (entries_of old) (entries_of new) kept.begins
               (asked_begins result (entries_of old) (entries_of new) offered is);
           fault = fault_asked s.faults old new result hangs cause kept.fault;
@@ -339,14 +390,16 @@ module _ {D : Type 0} (g : disk.Ghosts D) where
         inr (subst (Rose (g.faults start)) (sym calm.1) rose)
 
     -- the whole run with a session, from what is kept at its end
-    pub run_on : (held : List Entry) (start : D) (first last : Store D)
-        → s.before ≡ entries_of first → s.start ≡ g.time (disk_of first)
-        → s.faults ≡ g.faults (disk_of first)
-        → ((t : ℕ) (c : List ℕ) → s.past t c → g.since (disk_of first) t c)
-        → s.rests → IsKeptSince g s last → KeepsRun g held start first
+    pub run_on : (held : List Entry) (start : D) (first last : Store D) → Begins g s first
+        → RestsOnDisk g first → IsKeptSince g s last → KeepsRun g held start first
         → KeepsRun g held start last
-    run_on held start first last rows began faults past rests kept run =
-        let book = kept.book rests in
+    run_on held start first last names rests kept run =
+        let rows = names.rows in
+        let began = names.start in
+        let faults = names.faults in
+        let past : (t : ℕ) (c : List ℕ) → s.past t c → g.since (disk_of first) t c =
+        λ t c was. (names.past t c).0 was in
+        let book = kept.book (names.rests.1 rests) in
         let before : (s.faults ≡ g.faults start) ⊎ Rose (g.faults start) s.faults =
         subst (λ (n : ℕ). (n ≡ g.faults start) ⊎ Rose (g.faults start) n) (sym faults) run.faults in
         record {

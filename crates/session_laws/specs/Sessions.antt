@@ -1,16 +1,21 @@
 -- What a crash leaves of a book that callers of one session ask: what is kept of it from call to
 -- call, and what that makes of the whole run.
-use Rattle.std.specs.Prelude.{◌≡◌, ◌⊎◌, ℕ, ◌≤◌, List, [], ◌∷◌, ◌++◌, length, take}
+use Rattle.std.specs.Prelude.{◌≡◌, ◌⊎◌, ◌↔◌, ℕ, ◌+◌, ◌≤◌, Bool, false, List, [], ◌∷◌, ◌++◌, length, take}
 use Rattle.device_facts.specs.Count.{Rose}
 use Rattle.device_facts.specs.Prefix.{IsPrefixOf}
 use Rattle.disk_core.specs.declared.disk.Disk as disk
+use Rattle.turn_pass.specs.History.{TableId}
 use Rattle.book_words.specs.declared.act.Entry.{Entry}
+use Rattle.book_words.specs.declared.act.Want.{Want}
+use Rattle.book_words.specs.declared.act.Want.TheVariants as want
 use Rattle.book_words.specs.Answers.{IsLawful}
+use Rattle.book_words.specs.Balance.{IsBalanced}
+use Rattle.book_core.specs.Steps.{is_weighing}
 use Rattle.book_journal.specs.Mounting.{KeepsFromSync}
 use Rattle.book_store.specs.declared.store.Store.{Store}
 use Rattle.book_store.specs.Images.{HoldsBook}
-use Rattle.book_store.specs.Stores.{disk_of, entries_of, Hangs, HasBook, HangsWith, HoldsOrHangs}
-use Rattle.book_store.specs.Stores.{IsSound}
+use Rattle.book_store.specs.Stores.{disk_of, entries_of, limit_of, spare_of, Hangs, HasBook}
+use Rattle.book_store.specs.Stores.{HangsWith, HoldsOrHangs, IsSound}
 use Rattle.session_laws.specs.declared.session.Session as session
 
 -- an image holds these entries, or these and one more that is lawful behind them
@@ -35,11 +40,32 @@ pub record RestsOnDisk {D : Type 0} (disk : disk.Ghosts D) (store : Store D) : T
 pub record Begins {D N : Type 0} (disk : disk.Ghosts D) (session : session.Ghosts N)
     (store : Store D) : Type 0 where
   pub rows : session.before ≡ entries_of store
+  pub limit : session.limit ≡ limit_of store
+  pub spare : session.spare ≡ spare_of store
   pub start : session.start ≡ disk.time (disk_of store)
   pub faults : session.faults ≡ disk.faults (disk_of store)
-  pub past : (t : ℕ) (c : List ℕ) → disk.since (disk_of store) t c → session.past t c
-  pub rests : session.rests → RestsOnDisk disk store
+  pub past : (t : ℕ) (c : List ℕ) → session.past t c ↔ disk.since (disk_of store) t c
+  pub rests : session.rests ↔ RestsOnDisk disk store
   pub calm : ¬ Hangs store
+
+-- the names of a session that begins with this store, and with a Turn of this table
+abbrev pub session_of : {D N : Type 0} → disk.Ghosts D → TableId → Store D → session.Ghosts N
+session_of disk table store =
+    record {
+      table = table;
+      before = entries_of store;
+      limit = limit_of store;
+      spare = spare_of store;
+      start = disk.time (disk_of store);
+      faults = disk.faults (disk_of store);
+      past = disk.since (disk_of store);
+      rests = RestsOnDisk disk store;
+    }
+
+-- whether a weighing is asked
+abbrev pub weighs : Want → Bool
+weighs (want.Act act) = is_weighing act
+weighs (want.Question question) = false
 
 -- The disk has the book of a session. What hangs is lawful behind it, and a crash leaves the book
 -- or that and what hangs. A crash at a moment since the session began leaves what it may; one at a
@@ -55,12 +81,17 @@ pub record HasBookSince {D N : Type 0} (disk : disk.Ghosts D) (session : session
   pub earlier : (t : ℕ) (c : List ℕ) → t ≤ session.start → disk.since (disk_of store) t c
       → session.past t c ⊎ LeavesFrom session.before (entries_of store) c
 
--- What is kept of a store from call to call of a session: its rows go on from those before, and
--- something hangs only where the disk failed. Where its disk had the book, it has it still.
+-- What is kept of a store from call to call of a session: its list is legal (`sound`) and balanced,
+-- goes on from the rows before, and has the limit of then; each row more took at most one of the
+-- places for which there was room. Something hangs only where the disk failed. Where its disk had
+-- the book, it has it still.
 pub record IsKeptSince {D N : Type 0} (disk : disk.Ghosts D) (session : session.Ghosts N)
     (store : Store D) : Type 0 where
   pub sound : IsSound disk store
+  pub balanced : IsBalanced (entries_of store)
   pub begins : IsPrefixOf session.before (entries_of store)
+  pub limit : limit_of store ≡ session.limit
+  pub room : session.spare + length session.before ≤ spare_of store + length (entries_of store)
   pub fault : (¬ Hangs store × (disk.faults (disk_of store) ≡ session.faults))
       ⊎ Rose session.faults (disk.faults (disk_of store))
   pub book : session.rests → HasBookSince disk session store

@@ -1,7 +1,7 @@
 //! The store of a session.
 use crate::session::Session;
 use book_store::Store;
-use book_words::{Answered, Ask, AskError};
+use book_words::{Answered, Ask, AskError, Entry};
 use disk_core::Disk;
 use std::marker::{Model, PhantomData};
 
@@ -23,12 +23,15 @@ impl<D: Disk, N: Session> Model for HeldStore<D, N> {
 }
 
 impl<D: Disk, N: Session> HeldStore<D, N> {
-    ghost use Rattle.std.specs.Prelude.{◌≡◌};
+    ghost use Rattle.std.specs.Prelude.{◌≡◌, ◌⊎◌, ◌+◌, ◌≤◌, Err, true, length};
+    ghost use Rattle.hall_limits.specs.declared.TheConstants.{MAX_ROWS};
     ghost use Rattle.device_facts.specs.Prefix.{IsPrefixOf};
-    ghost use Rattle.book_words.specs.Answers.{answer, added};
-    ghost use Rattle.book_store.specs.Stores.{book_of, entries_of, limit_of, IsSound};
-    ghost use Rattle.book_store.specs.Offers.{GivesAnswer, list_behind};
-    ghost use Rattle.session_laws.specs.Sessions.{Begins, IsKeptSince};
+    ghost use Rattle.book_words.specs.declared.caller.AskError.TheVariants as error;
+    ghost use Rattle.book_words.specs.Answers.{answer, added, IsLegal};
+    ghost use Rattle.book_state.specs.Told.{entry_numbered};
+    ghost use Rattle.book_store.specs.Stores.{disk_of, book_of, entries_of, limit_of, Hangs, IsSound};
+    ghost use Rattle.book_store.specs.Offers.{CountsDiskFault, GivesAnswer, list_behind};
+    ghost use Rattle.session_laws.specs.Sessions.{Begins, IsKeptSince, weighs};
 
     /// Begins a session with this store.
     pub fn new(store: Store<D>) -> HeldStore<D, N>
@@ -42,14 +45,37 @@ impl<D: Disk, N: Session> HeldStore<D, N> {
         }
     }
 
-    /// Answers an ask of the caller `by`, as the store does.
+    /// The number of rows, those before the session among them.
+    pub fn len(&self) -> u32
+        ensures len { result ≡ length (entries_of self.now) }
+        ensures most { result ≤ MAX_ROWS }
+    {
+        self.store.len()
+    }
+
+    /// The entry of a number; `None` exactly where the number isn't 1 to the number of rows.
+    pub fn entry(&self, number: u32) -> Option<Entry>
+        ensures { result ≡ entry_numbered (entries_of self.now) number }
+    {
+        self.store.entry(number)
+    }
+
+    /// Answers an ask of the caller `by`, as the store does. A weighing finds no memory only where
+    /// the session has taken down as many rows as there was room for.
     pub fn ask(&mut self, by: u16, ask: &Ask) -> Result<Answered, AskError>
         ensures answer { GivesAnswer (book_of self.old) by ask.now
-            (added (limit_of self.old) (entries_of self.old) by ask.now) result
-            (answer (limit_of self.old) (entries_of self.old) ask.now) }
+            (added N.limit (entries_of self.old) by ask.now) result
+            (answer N.limit (entries_of self.old) ask.now) }
         ensures entries { entries_of self.new ≡ list_behind result (entries_of self.old)
-            (added (limit_of self.old) (entries_of self.old) by ask.now) }
+            (added N.limit (entries_of self.old) by ask.now) }
+        ensures limit { limit_of self.old ≡ N.limit }
+        ensures legal { IsLegal (entries_of self.new) }
         ensures begins { IsPrefixOf (entries_of self.old) (entries_of self.new) }
+        ensures room { result ≡ Err error.NoMemory → weighs ask.now.want ≡ true
+            → N.spare + length N.before ≤ length (entries_of self.old) }
+        ensures hangs { Hangs self.new → (result ≡ Err error.DiskFault) ⊎ Hangs self.old }
+        ensures cause { CountsDiskFault (D.faults (disk_of self.old)) (D.faults (disk_of self.new))
+            result }
     {
         self.store.ask(by, ask)
     }

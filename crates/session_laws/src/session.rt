@@ -1,13 +1,24 @@
 //! The names of a session.
 use std::marker::Brand;
 
-/// Which session it is. Each call of a program picks it, as the session begins.
+/// Which session it is. Each call of a program picks it, as the session begins. Its names stand for
+/// contracts alone: what lies under a lock and what each caller holds speak of one session by them.
 pub trait Session {
     ghost use Rattle.std.specs.Prelude.{ℕ, List};
+    ghost use Rattle.turn_pass.specs.History.{TableId};
     ghost use Rattle.book_words.specs.declared.act.Entry.{Entry};
+
+    /// The table of its Turn.
+    ghost table: { TableId };
 
     /// The rows before it.
     ghost before: { List Entry };
+
+    /// The most rows of its book.
+    ghost limit: { ℕ };
+
+    /// For how many rows there was room.
+    ghost spare: { ℕ };
 
     /// The time of the disk.
     ghost start: { ℕ };
@@ -24,8 +35,15 @@ pub trait Session {
 
 impl Session for Brand {
     ghost use Rattle.std.specs.Prelude.{[], ⊤};
+    ghost use Rattle.turn_pass.specs.History.{no_table};
+
+    ghost table = { no_table };
 
     ghost before = { [] };
+
+    ghost limit = { 0 };
+
+    ghost spare = { 0 };
 
     ghost start = { 0 };
 

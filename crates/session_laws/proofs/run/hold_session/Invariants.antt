@@ -1,13 +1,7 @@
-use Rattle.book_store.specs.Stores.{disk_of, entries_of}
-use Rattle.session_laws.specs.Sessions.{RestsOnDisk}
+use Rattle.turn_pass.specs.History.{no_table}
+use Rattle.session_laws.specs.Sessions.{session_of}
 use Rattle.session_laws.proofs.run.hold_session.Given as goal
 
--- the session that begins with this store
+-- the session that begins with this store. It has no Turn
 abbrev pub ghosts-serve : goal.ghosts-serve
-ghosts-serve g a = record {
-  before = entries_of a.store;
-  start = g.D.Disk.time (disk_of a.store);
-  faults = g.D.Disk.faults (disk_of a.store);
-  past = g.D.Disk.since (disk_of a.store);
-  rests = RestsOnDisk g.D.Disk a.store;
-}
+ghosts-serve g a = session_of g.D.Disk no_table a.store
