@@ -3,10 +3,10 @@
 #
 # Export: a book of 1 000 000 rows in a file, 999 000 of them weighings in a hundred batches, beside
 # sqlite3 that selects the same columns of the same packs from a table in a file and writes them in
-# CSV; and its memory, as bytes a row above that of an empty book. Import: 200 000 acts of a desk
-# from CSV beside the same acts as a script; the answers have to be the same. Trial: 10 000 and
-# 100 000 packs, and the growth, which is 10 where the work grows with the packs. Best of three, to
-# a file.
+# CSV, whole and without the opening of the book, which is what `check` takes; and its memory, as
+# bytes a row above that of an empty book. Import: 200 000 acts of a desk from CSV beside the same
+# acts as a script; the answers have to be the same. Trial: 10 000 and 100 000 packs, and the
+# growth, which is 10 where the work grows with the packs. Best of three, to a file.
 #
 # usage: bench/report.sh [FOLDER]     (packages sqlite3, time; the files lie in a new folder below
 #                                     this one, and else below /dev/shm, where a sync costs nothing)
@@ -60,6 +60,7 @@ awk -v rows=$rows 'BEGIN {
 "$program" run --book "$work/day.book" <"$work/script" | tail -7 >"$work/summary"
 grep -qx "rows $rows" "$work/summary"
 : >"$work/nothing"
+opening=$(least "$work/nothing" "$work/whole" "$program" check --book "$work/day.book")
 ours=$(least "$work/nothing" "$work/register" "$program" export --book "$work/day.book")
 [ "$(wc -l <"$work/register")" -eq $((packs + 1)) ]
 
@@ -72,8 +73,9 @@ theirs=$(least "$work/nothing" "$work/selected" sqlite3 -csv "$work/day.sqlite" 
     order by pack')
 tail -n +2 "$work/register" >"$work/records"
 tr -d '"\r' <"$work/selected" | cmp - "$work/records"
-awk -v rows=$rows -v a="$ours" -v b="$theirs" 'BEGIN {
+awk -v rows=$rows -v a="$ours" -v o="$opening" -v b="$theirs" 'BEGIN {
     printf "export of %d rows: %d ms, sqlite3 %d ms: %.2f\n", rows, a, b, a / b
+    printf "behind the opening, which takes %d ms: %d ms: %.2f\n", o, a - o, (a - o) / b
 }'
 
 large=$(most_memory "$program" export --book "$work/day.book")
