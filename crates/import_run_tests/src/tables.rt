@@ -14,21 +14,30 @@ const TWICE: &str = "refused 2 RequestOld 2 at 2\n2 ok\nrows 2\nreadings 0 gross
 passed 0 gross 0.000\nrejected 0 gross 0.000\nsampled 0 gross 0.000\nvoided 0 gross 0.000\n\
 batches running 0 ended 0 drawn 0 closed 0\n";
 
+const ONE_ROW: &str = "1 ok\nrefused 10 NameShape at 1\nrows 1\nreadings 0 gross 0.000\n\
+passed 0 gross 0.000\nrejected 0 gross 0.000\nsampled 0 gross 0.000\nvoided 0 gross 0.000\n\
+batches running 0 ended 0 drawn 0 closed 0\n";
+
 const NO_ROWS: &str = "rows 0\nreadings 0 gross 0.000\n\
 passed 0 gross 0.000\nrejected 0 gross 0.000\nsampled 0 gross 0.000\nvoided 0 gross 0.000\n\
 batches running 0 ended 0 drawn 0 closed 0\n";
 
 // An import over an empty book, and what comes of it.
-static IMPORTS: [(&[u8], Wanted); 11] = [
+static IMPORTS: [(&[u8], Wanted); 12] = [
     (TWO, (TWO_ROWS, Ends::Finished, 2)),
-    // quotes round a field, and quotes in mid-field: the products are called "a and a"b
+    // quotes round a field, doubled quotes in one, and a quote in mid-field: no product may be
+    // called "a or a"b
     (
-        b"desk,request,command\n\"101\",1,\"day 2025-03-03\"\n101,\"2\",\"product \"\"a 250\"\n",
+        b"desk,request,command\n\"101\",1,\"day 2025-03-03\"\n101,\"2\",\"product a 250\"\n",
         (TWO_ROWS, Ends::Finished, 2),
     ),
     (
+        b"desk,request,command\n101,1,day 2025-03-03\n101,2,\"product \"\"a 250\"\n",
+        (ONE_ROW, Ends::Finished, 1),
+    ),
+    (
         b"desk,request,command\n101,1,day 2025-03-03\n101,2,product a\"b 250\n",
-        (TWO_ROWS, Ends::Finished, 2),
+        (ONE_ROW, Ends::Finished, 1),
     ),
     (b"desk,request,command\n", (NO_ROWS, Ends::Finished, 0)),
     // the commands before a bad record are answered, and none behind it is asked
