@@ -9,7 +9,7 @@ use Rattle.command_line.specs.declared.types.Command.{Command}
 use Rattle.command_line.specs.declared.types.Command.TheVariants.{Run, Report, Export, Check}
 use Rattle.command_line.specs.declared.types.Command.TheVariants.{Import, Trial, Migrate}
 use Rattle.command_line.specs.declared.table.NumberForm.{NumberForm}
-use Rattle.command_line.specs.declared.table.TheConstants.{COUNT, LANES, LIMIT, MAX_TRIAL, NUMBER}
+use Rattle.command_line.specs.declared.table.TheConstants.{COUNT, LANES, LIMIT, NUMBER}
 use Rattle.command_line.specs.declared.values.Values.{Values}
 use Rattle.command_line.specs.Taken.{IsInRange}
 use Rattle.command_line.specs.Words.{Item, Wanted, batch_in, command_of, form_of, in_range, items_in}

@@ -2,8 +2,7 @@
 use Rattle.std.specs.Prelude.{◌≡◌, ◌≤◌, ℕ, Bool, false, List, map, Option, None, option_map, is_some}
 use Rattle.std.specs.Option.{option_and_then, option_map_or}
 use Rattle.std.specs.Borrow.{Bor}
-use Rattle.hall_limits.specs.declared.TheConstants.{MAX_ROWS}
-use Rattle.command_line.specs.declared.table.TheConstants.{MAX_TRIAL}
+use Rattle.hall_limits.specs.declared.TheConstants.{MAX_ROWS, MAX_TRIAL}
 use Rattle.command_line.specs.declared.table.Form.{Form as Told}
 use Rattle.command_line.specs.declared.table.Form.TheVariants as told
 use Rattle.command_line.specs.declared.types.Command.TheVariants.{Trial}

@@ -12,6 +12,5 @@ mod types;
 mod values;
 
 pub use asked::wants;
-pub use table::MAX_TRIAL;
 pub use text::Text;
 pub use types::{Command, Wants, WantsError};

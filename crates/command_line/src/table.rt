@@ -3,7 +3,7 @@ ghost use Rattle.command_line.specs.Taken.{form_in};
 ghost use Rattle.command_line.specs.Words.{command_of, form_of};
 
 use crate::types::Command;
-use hall_limits::{MAX_LANE, MAX_ROWS};
+use hall_limits::{MAX_LANE, MAX_ROWS, MAX_TRIAL};
 
 /// The command that a word names.
 pub fn find_command(word: &str) -> Option<Command>
@@ -64,9 +64,6 @@ pub struct NumberForm {
     pub most: u64,
     pub absent: u64,
 }
-
-/// The most packs of a trial: its book then has room for all of their rows.
-pub const MAX_TRIAL: u32 = 100_000;
 
 /// The most rows of the book.
 pub const LIMIT: NumberForm = NumberForm {

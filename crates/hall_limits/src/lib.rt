@@ -25,6 +25,9 @@ pub const MAX_ROWS: u32 = 1_000_000;
 /// The most packs in the population of a batch: this project's own limit, on every batch.
 pub const MAX_POPULATION: u32 = 10_000;
 
+/// The most packs of a trial: its book then has room for all of their rows.
+pub const MAX_TRIAL: u32 = 100_000;
+
 /// The greatest number of a lane; the least is 1. More lanes than a hall of this kind has.
 pub const MAX_LANE: u8 = 16;
 

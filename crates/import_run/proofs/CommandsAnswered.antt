@@ -15,13 +15,14 @@ use Rattle.store_runs.proofs.StoreSteps.{goes_with}
 use Rattle.import_table.specs.declared.types.ImportError.{ImportError}
 use Rattle.import_table.specs.declared.types.ImportError.TheVariants as error
 use Rattle.import_table.specs.Imports.{Import, stopped, with_command}
+use Rattle.script_run.specs.Commands.{lines_asking}
 use Rattle.script_run.specs.Ends.{HaveToldWorks, AreTold, next_exchange, StopsAtLine}
 use Rattle.script_run.specs.Outside.{Outside}
 use Rattle.script_run.specs.Reached.{HasAnswered}
 use Rattle.script_run.specs.Transcript.{Event, Asked, Worked, after_event, AreEventsOf, ends_of}
 use Rattle.script_run.proofs.AcknowledgedRows.{lines_done, are_left}
 use Rattle.script_run.proofs.AnsweredLines.{answered_none, answered_more, stops_after}
-use Rattle.import_run.specs.Answered.{alone, asking_lines, AreAnswered, AreFirstAnswered, StopsAtCommand, HasAnsweredTo}
+use Rattle.import_run.specs.Answered.{alone, AnswersGoOut, AreFirstAnswered, StopsAtCommand, HasAnsweredTo}
 use Rattle.import_run.specs.Ends.{StopsAtError, EndsImport}
 use Rattle.import_run.specs.Reading.{stop_of}
 
@@ -29,7 +30,7 @@ use Rattle.import_run.specs.Reading.{stop_of}
 
 -- commands work no lane
 pub no_ends : (book : BookState) (commands : List Command) (events : List Event)
-    → AreEventsOf book (asking_lines commands) events → ends_of events ≡ []
+    → AreEventsOf book (lines_asking commands) events → ends_of events ≡ []
 no_ends book [] events are = ap ends_of are
 no_ends book (command ∷ commands) [] are = absurd are
 no_ends book (command ∷ commands) (Asked exchange ∷ events) are =
@@ -44,7 +45,7 @@ works_alone before now events none =
 pub answered_alone : (book after : BookState) (before now : Outside) (command : Command)
     → HasAnswered book before now after (Asks command ∷ [])
     → HasAnswered book (alone before.output) (alone now.output) after
-    (asking_lines (command ∷ []))
+    (lines_asking (command ∷ []))
 answered_alone book after before now command has =
     record {
       events = has.events;
@@ -88,7 +89,7 @@ stops_alone book before now rows number command Spent stops = absurd stops.1
 -- ---- one command after the other
 
 lines_more : (first more : List Command)
-    → asking_lines (first ++ more) ≡ asking_lines first ++ asking_lines more
+    → lines_asking (first ++ more) ≡ lines_asking first ++ lines_asking more
 lines_more [] more = refl
 lines_more (command ∷ first) more = ap (λ lines. Asks command ∷ lines) (lines_more first more)
 
@@ -102,7 +103,7 @@ answered_nothing book now import =
 pub answered_next : (book old_after after : BookState) (before old now : Stream)
     (import left behind : Import) (command : Command)
     → HasAnsweredTo book before old old_after import left → left ≡ with_command command behind
-    → HasAnswered old_after (alone old) (alone now) after (asking_lines (command ∷ []))
+    → HasAnswered old_after (alone old) (alone now) after (lines_asking (command ∷ []))
     → HasAnsweredTo book before now after import behind
 answered_next book old_after after before old now import left behind command has is then =
     record {
@@ -113,14 +114,14 @@ answered_next book old_after after before old now import left behind command has
       answered = subst (HasAnswered book (alone before) (alone now) after)
           (sym (lines_more has.first (command ∷ [])))
           (answered_more book old_after after (alone before) (alone old) (alone now)
-          (asking_lines has.first) (asking_lines (command ∷ [])) has.answered then);
+          (lines_asking has.first) (lines_asking (command ∷ [])) has.answered then);
     }
 
 -- the rows that commands leave
 are_answered : (book after : BookState) (before now : Stream) (rows : List Entry)
     (commands : List Command)
-    → HasAnswered book (alone before) (alone now) after (asking_lines commands)
-    → rows ≡ after.entries → AreAnswered book before now rows commands
+    → HasAnswered book (alone before) (alone now) after (lines_asking commands)
+    → rows ≡ after.entries → AnswersGoOut book before now rows commands
 are_answered book after before now rows commands has same =
     record {
       events = has.events;
@@ -129,7 +130,7 @@ are_answered book after before now rows commands has same =
         wrote = has.wrote;
         worked = has.worked;
         rows_left = are_left book has.events rows
-            (lines_done book (asking_lines commands) has.events has.right)
+            (lines_done book (lines_asking commands) has.events has.right)
             (same ∙ ap (λ (b : BookState). b.entries) has.left);
       };
     }
@@ -139,7 +140,7 @@ are_answered book after before now rows commands has same =
 module _ (book after : BookState) (before now : Stream) (rows : List Entry)
     (import left : Import) (has : HasAnsweredTo book before now after import left)
     (same : rows ≡ after.entries) where
-  first_answered : AreAnswered book before now rows has.first
+  first_answered : AnswersGoOut book before now rows has.first
   first_answered = are_answered book after before now rows has.first has.answered same
 
   -- it has an error there
@@ -149,7 +150,7 @@ module _ (book after : BookState) (before now : Stream) (rows : List Entry)
       ∙ ap (λ (i : Import). has.first ++ i.commands) is ∙ append-nil has.first) in
       record {
         is = has.error ∙ ap (λ (i : Import). i.error) is;
-        answered = subst (AreAnswered book before now rows) all first_answered;
+        answered = subst (AnswersGoOut book before now rows) all first_answered;
       }
 
   -- there is no memory to read on
@@ -204,7 +205,7 @@ stops_asking book old_after before old now rows import left behind command stop 
       events = has.answered.events;
       right = has.answered.right;
       stops = stops_after book old_after (alone before) (alone old) (alone now) rows
-          (asking_lines has.first) number (Asks command) stop has.answered (stops number);
+          (lines_asking has.first) number (Asks command) stop has.answered (stops number);
     })
 
 -- and the store goes on as it did

@@ -10,12 +10,13 @@ use Rattle.store_runs.specs.declared.stop.Stop.TheVariants.{Finished, BadLine, R
 use Rattle.store_runs.specs.Books.{BookState}
 use Rattle.import_table.specs.Imports.{Import, at_end}
 use Rattle.script_run.specs.Acknowledged.{AreLeft}
+use Rattle.script_run.specs.Commands.{lines_asking}
 use Rattle.script_run.specs.Ends.{StopsAtSummary}
 use Rattle.script_run.specs.Reached.{EndsAtSummary}
 use Rattle.script_run.specs.Transcript.{AreEventsOf, texts}
 use Rattle.script_run.proofs.AcknowledgedRows.{lines_done, are_left}
 use Rattle.script_run.proofs.AnsweredLines.{wrote_on, cut_on, wrote_still}
-use Rattle.import_run.specs.Answered.{asking_lines, HasAnsweredTo}
+use Rattle.import_run.specs.Answered.{HasAnsweredTo}
 use Rattle.import_run.specs.Ends.{EndsEarly, EndsImport}
 use Rattle.import_run.proofs.CommandsAnswered.{no_ends, works_alone}
 
@@ -25,13 +26,13 @@ module _ (book after : BookState) (before old now : Stream) (rows : List Entry)
   all_first : has.first ≡ import.commands
   all_first = sym (has.commands ∙ append-nil has.first)
 
-  right : AreEventsOf book (asking_lines import.commands) has.answered.events
-  right = subst (λ (commands : List Command). AreEventsOf book (asking_lines commands)
+  right : AreEventsOf book (lines_asking import.commands) has.answered.events
+  right = subst (λ (commands : List Command). AreEventsOf book (lines_asking commands)
       has.answered.events) all_first has.answered.right
 
   rows_left : AreLeft book has.answered.events rows
   rows_left = are_left book has.answered.events rows
-      (lines_done book (asking_lines has.first) has.answered.events has.answered.right)
+      (lines_done book (lines_asking has.first) has.answered.events has.answered.right)
       (same ∙ ap (λ (b : BookState). b.entries) has.answered.left)
 
   early : (stop : Stop)

@@ -1,13 +1,13 @@
 -- Which commands of an import are answered, and what has then gone out.
-use Rattle.std.specs.Prelude.{◌≡◌, ◌+◌, List, [], ◌∷◌, ◌++◌, length, map}
+use Rattle.std.specs.Prelude.{◌≡◌, ◌+◌, List, [], ◌∷◌, ◌++◌, length}
 use Rattle.book_words.specs.declared.act.Entry.{Entry}
 use Rattle.script_lines.specs.declared.command.Command.{Command}
-use Rattle.script_lines.specs.declared.command.Line.{Line}
 use Rattle.script_lines.specs.declared.command.Line.TheVariants.{Asks}
 use Rattle.text_streams.specs.Streams.{Stream}
 use Rattle.store_runs.specs.declared.stop.Stop.{Stop}
 use Rattle.store_runs.specs.Books.{BookState}
 use Rattle.import_table.specs.Imports.{Import}
+use Rattle.script_run.specs.Commands.{lines_asking}
 use Rattle.script_run.specs.Ends.{AreTold, StopsAtLine}
 use Rattle.script_run.specs.Outside.{Outside, nothing_told}
 use Rattle.script_run.specs.Reached.{HasAnswered}
@@ -17,15 +17,11 @@ use Rattle.script_run.specs.Transcript.{Event, AreEventsOf}
 abbrev pub alone : Stream → Outside
 alone output = record { output = output; lanes = []; log = nothing_told }
 
--- the lines of a script that ask these commands
-abbrev pub asking_lines : List Command → List Line
-asking_lines commands = map (λ command. Asks command) commands
-
 -- these commands are answered and nothing else went out, and these rows are left
-pub record AreAnswered (book : BookState) (before now : Stream) (rows : List Entry)
+pub record AnswersGoOut (book : BookState) (before now : Stream) (rows : List Entry)
     (commands : List Command) : Type 0 where
   pub events : List Event
-  pub right : AreEventsOf book (asking_lines commands) events
+  pub right : AreEventsOf book (lines_asking commands) events
   pub told : AreTold book (alone before) (alone now) rows events
 
 -- the first of these commands are answered, none of them or all among it
@@ -34,7 +30,7 @@ pub record AreFirstAnswered (book : BookState) (before now : Stream) (rows : Lis
   pub first : List Command
   pub others : List Command
   pub parts : commands ≡ first ++ others
-  pub answered : AreAnswered book before now rows first
+  pub answered : AnswersGoOut book before now rows first
 
 -- one of these commands stops an import as it stops a script: those before it are answered
 pub record StopsAtCommand (book : BookState) (before now : Stream) (rows : List Entry)
@@ -44,7 +40,7 @@ pub record StopsAtCommand (book : BookState) (before now : Stream) (rows : List 
   pub others : List Command
   pub parts : commands ≡ first ++ command ∷ others
   pub events : List Event
-  pub right : AreEventsOf book (asking_lines first) events
+  pub right : AreEventsOf book (lines_asking first) events
   pub stops : StopsAtLine book (alone before) (alone now) rows events (length first + 2)
       (Asks command) stop
 
@@ -54,4 +50,4 @@ pub record HasAnsweredTo (book : BookState) (before now : Stream) (after : BookS
   pub first : List Command
   pub commands : import.commands ≡ first ++ left.commands
   pub error : import.error ≡ left.error
-  pub answered : HasAnswered book (alone before) (alone now) after (asking_lines first)
+  pub answered : HasAnswered book (alone before) (alone now) after (lines_asking first)

@@ -9,16 +9,17 @@ use Rattle.import_table.specs.declared.types.ImportError.{ImportError}
 use Rattle.import_table.specs.declared.types.ImportError.TheVariants.{Bad, TooMany}
 use Rattle.import_table.specs.Imports.{Import}
 use Rattle.script_run.specs.Acknowledged.{AreLeft}
+use Rattle.script_run.specs.Commands.{lines_asking}
 use Rattle.script_run.specs.Ends.{StopsAtSummary}
 use Rattle.script_run.specs.Transcript.{Event, AreEventsOf, transcript}
-use Rattle.import_run.specs.Answered.{asking_lines, AreAnswered, AreFirstAnswered, StopsAtCommand}
+use Rattle.import_run.specs.Answered.{AnswersGoOut, AreFirstAnswered, StopsAtCommand}
 
 -- all records are commands, its transcript went out, and these rows are left
 pub record HasTranscript (book : BookState) (before now : Stream) (rows : List Entry)
     (import : Import) : Type 0 where
   pub good : import.error ≡ None
   pub events : List Event
-  pub right : AreEventsOf book (asking_lines import.commands) events
+  pub right : AreEventsOf book (lines_asking import.commands) events
   pub wrote : WroteAll before now (transcript book events)
   pub rows_left : AreLeft book events rows
 
@@ -27,7 +28,7 @@ pub record EndsEarly (book : BookState) (before now : Stream) (rows : List Entry
     (import : Import) (stop : Stop) : Type 0 where
   pub good : import.error ≡ None
   pub events : List Event
-  pub right : AreEventsOf book (asking_lines import.commands) events
+  pub right : AreEventsOf book (lines_asking import.commands) events
   pub stops : StopsAtSummary (length book.entries) before now rows events stop
   pub rows_left : AreLeft book events rows
 
@@ -35,7 +36,7 @@ pub record EndsEarly (book : BookState) (before now : Stream) (rows : List Entry
 pub record StopsAtError (book : BookState) (before now : Stream) (rows : List Entry)
     (import : Import) (error : ImportError) : Type 0 where
   pub is : import.error ≡ Some error
-  pub answered : AreAnswered book before now rows import.commands
+  pub answered : AnswersGoOut book before now rows import.commands
 
 -- How an import ends that was read whole: with its transcript; at a bad record, or at the one by
 -- which it has too many; in a failed write; where the disk fails, which is offered a command's row

@@ -5,9 +5,10 @@ ghost use Rattle.text_streams.specs.Streams.{output_at};
 ghost use Rattle.store_runs.specs.Runs.{Goes};
 ghost use Rattle.import_table.specs.Imports.{import_in, at_end};
 ghost use Rattle.script_run.specs.Books.{book_in, store_in, IsReady};
+ghost use Rattle.script_run.specs.Commands.{lines_asking};
 ghost use Rattle.script_run.specs.Ends.{StopsAtLine};
 ghost use Rattle.script_run.specs.Reached.{HasAnswered};
-ghost use Rattle.import_run.specs.Answered.{alone, asking_lines, HasAnsweredTo};
+ghost use Rattle.import_run.specs.Answered.{alone, HasAnsweredTo};
 ghost use Rattle.import_run.specs.Ends.{EndsImport};
 ghost use Rattle.import_run.specs.Reading.{stop_of};
 
@@ -42,7 +43,7 @@ fn answer<K: Sink, D: Disk>(
     requires ready { IsReady session.old }
     ensures answered { OnOk result (HasAnswered (book_in session.old)
         (alone (output_at K.Sink output.old)) (alone (output_at K.Sink output.new))
-        (book_in session.new) (asking_lines (command.now ∷ []))) }
+        (book_in session.new) (lines_asking (command.now ∷ []))) }
     ensures stops { (number : ℕ) → IfErr result (StopsAtLine (book_in session.old)
         (alone (output_at K.Sink output.old)) (alone (output_at K.Sink output.new))
         (entries_of (store_in session.new)) [] number (line.Asks command.now)) }

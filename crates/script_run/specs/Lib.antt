@@ -1,6 +1,7 @@
 pub mod Acknowledged
 pub mod Asking
 pub mod Books
+pub mod Commands
 pub mod Ends
 pub mod LaneLogs
 pub mod LaneMoves

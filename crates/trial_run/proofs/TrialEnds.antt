@@ -16,12 +16,13 @@ use Rattle.book_store.specs.Stores.{entries_of, held_of}
 use Rattle.store_runs.specs.Books.{BookState, stored_book}
 use Rattle.store_runs.specs.Runs.{Goes, RunGoes}
 use Rattle.store_runs.proofs.StoreSteps.{goes_on}
+use Rattle.script_run.specs.Commands.{lines_asking, after_commands, AreAnswered}
 use Rattle.script_run.specs.Reached.{EndsAtSummary}
 use Rattle.script_run.specs.Transcript.{Event, event_at, after_command, after_events, AreEventsOf, texts}
 use Rattle.script_run.proofs.AcknowledgedRows.{lines_done, are_left}
 use Rattle.trial_run.specs.Steps.{StopsIn, Asks}
-use Rattle.trial_run.specs.Trials.{lines_asking, AreAnswered, StopsEarly, EndsScript, ExplainsScript, ExplainsTrial}
-use Rattle.trial_run.specs.TrialScripts.{after_commands, trial_commands}
+use Rattle.trial_run.specs.Trials.{StopsEarly, EndsScript, ExplainsScript, ExplainsTrial}
+use Rattle.trial_run.specs.TrialScripts.{trial_commands}
 
 -- ---- commands as a run of a script does them
 

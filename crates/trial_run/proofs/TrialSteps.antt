@@ -12,10 +12,11 @@ use Rattle.store_runs.specs.Books.{BookState, stored_book}
 use Rattle.store_runs.specs.Runs.{Goes}
 use Rattle.store_runs.proofs.StoreSteps.{on_unfinished, goes_on, goes_with, goes_as, stays}
 use Rattle.script_run.specs.Asking.{exchange_at}
+use Rattle.script_run.specs.Commands.{after_commands}
 use Rattle.script_run.specs.Transcript.{after_command}
 use Rattle.script_run.specs.Unanswered.{MayStopAt}
 use Rattle.trial_run.specs.Steps.{StopsIn, Asks}
-use Rattle.trial_run.specs.TrialScripts.{after_commands, in_turn, sample_question}
+use Rattle.trial_run.specs.TrialScripts.{in_turn, sample_question}
 
 -- ---- lists of commands
 

@@ -10,8 +10,9 @@ use Rattle.store_runs.specs.declared.stop.Stop.{Stop}
 use Rattle.store_runs.specs.Books.{BookState, stored_book}
 use Rattle.store_runs.specs.Runs.{Goes}
 use Rattle.script_run.specs.Asking.{exchange_at}
+use Rattle.script_run.specs.Commands.{after_commands}
 use Rattle.script_run.specs.Unanswered.{MayStopAt}
-use Rattle.trial_run.specs.TrialScripts.{after_commands, sample_question}
+use Rattle.trial_run.specs.TrialScripts.{sample_question}
 
 -- what is asked next: the next command, or the question which packs of a batch were drawn
 abbrev pub IsNext : Command → List Command → Type 0

@@ -21,15 +21,10 @@ use Rattle.script_lines.specs.declared.command.Verb.{Verb}
 use Rattle.script_lines.specs.declared.command.Verb.TheVariants.{Day, Product, Tare, Open, Start, Weigh, Stop, End, Draw, Measure, Close, Sample}
 use Rattle.store_runs.specs.Books.{BookState}
 use Rattle.script_run.specs.Asking.{exchange_at}
-use Rattle.script_run.specs.Transcript.{after_command}
+use Rattle.script_run.specs.Commands.{after_commands}
 use Rattle.trial_run.specs.declared.commands.TheConstants.{TRIAL_DAY, TRIAL_NOMINAL, TRIAL_TARE, LEAST_GROSS, GROSSES, BATCH_PACKS, LANES}
 
 -- ---- commands in order
-
--- the book that commands leave, one after another
-abbrev pub after_commands : BookState → List Command → BookState
-after_commands book [] = book
-after_commands book (command ∷ commands) = after_commands (after_command book command) commands
 
 -- scripts in turn, one for each thing, where each depends on the book behind those before it
 abbrev pub in_turn : {A : Type 0} → (BookState → A → List Command) → BookState → List A

@@ -1,32 +1,18 @@
 -- What a trial writes, which rows it leaves, and why it stopped.
-use Rattle.std.specs.Prelude.{◌≡◌, ◌⊎◌, ⊤, ℕ, List, [], ◌++◌, length, map}
+use Rattle.std.specs.Prelude.{◌≡◌, ◌⊎◌, ⊤, ℕ, List, [], ◌++◌, length}
 use Rattle.book_words.specs.declared.act.Entry.{Entry}
 use Rattle.book_words.specs.Views.{summary}
 use Rattle.batch_reports.specs.Texts.{summary_text}
 use Rattle.script_lines.specs.declared.command.Command.{Command}
-use Rattle.script_lines.specs.declared.command.Line.{Line}
-use Rattle.script_lines.specs.declared.command.Line.TheVariants.{Asks}
 use Rattle.text_streams.specs.Streams.{Stream, WroteAll, IsCutIn}
 use Rattle.store_runs.specs.declared.stop.Stop.{Stop}
 use Rattle.store_runs.specs.declared.stop.Stop.TheVariants.{Finished, WriteFault, DiskFault, NoMemory}
 use Rattle.store_runs.specs.Books.{BookState}
 use Rattle.store_runs.specs.Runs.{FailsToKeep}
-use Rattle.script_run.specs.Acknowledged.{AreLeft}
-use Rattle.script_run.specs.Transcript.{Event, AreEventsOf, texts, transcript}
+use Rattle.script_run.specs.Commands.{AreAnswered}
+use Rattle.script_run.specs.Transcript.{texts, transcript}
 use Rattle.trial_run.specs.Steps.{StopsIn}
 use Rattle.trial_run.specs.TrialScripts.{trial_commands}
-
--- the lines of a script that asks these commands
-abbrev pub lines_asking : List Command → List Line
-lines_asking commands = map (λ command. Asks command) commands
-
--- commands were asked and answered, one after another as in a run of a script, and these rows are
--- left; what was acknowledged stands among them once
-pub record AreAnswered (book : BookState) (commands : List Command) (rows : List Entry) : Type 0
-  where
-    pub events : List Event
-    pub right : AreEventsOf book (lines_asking commands) events
-    pub rows_left : AreLeft book events rows
 
 -- the whole script was answered, and the summary went out with which its transcript ends
 pub record IsDone (book : BookState) (before now : Stream) (rows : List Entry)

@@ -2,7 +2,7 @@ ghost use Rattle.std.specs.Prelude.{◌≡◌, ◌+◌, ◌*◌, ◌<◌, ◌≤
 ghost use Rattle.std.specs.Int.{div_ceil};
 ghost use Rattle.store_runs.specs.Books.{stored_book};
 ghost use Rattle.trial_run.specs.declared.commands.TheConstants.{BATCH_PACKS};
-ghost use Rattle.trial_run.specs.declared.batches.TheConstants.{MAX_PACKS};
+ghost use Rattle.hall_limits.specs.declared.TheConstants.{MAX_TRIAL};
 ghost use Rattle.trial_run.specs.Steps.{Asks};
 ghost use Rattle.trial_run.specs.TrialScripts.{word_behind, weighings, packs_of_batch, batch_run, batch_commands, batch_places, in_turn};
 
@@ -15,9 +15,6 @@ use book_store::OneCaller;
 use disk_core::Disk;
 use std::alloc::Global;
 use store_runs::Stop;
-
-/// A trial has at most so many packs, and one at least.
-pub const MAX_PACKS: u32 = 100_000;
 
 // Weighs so many packs of a batch behind a word, and gives the word behind them.
 fn weigh_packs<D: Disk>(caller: &mut OneCaller<D>, word: u64, packs: u32) -> Result<u64, Stop>
@@ -51,7 +48,7 @@ fn fill_batch<D: Disk>(
     word: u64,
 ) -> Result<u64, Stop>
     requires calm { caller.old.faults ≡ 0 }
-    requires most { count ≤ MAX_PACKS }
+    requires most { count ≤ MAX_TRIAL }
     requires begun { place * BATCH_PACKS ≤ count }
     requires word { word ≡ word_behind number (place * BATCH_PACKS) }
     ensures word { IfOk result (λ last. last ≡ word_behind word (packs_of_batch count place)) }
@@ -74,7 +71,7 @@ fn ask_batch<D: Disk>(
     word: u64,
 ) -> Result<u64, Stop>
     requires calm { caller.old.faults ≡ 0 }
-    requires most { count ≤ MAX_PACKS }
+    requires most { count ≤ MAX_TRIAL }
     requires begun { place * BATCH_PACKS ≤ count }
     requires word { word ≡ word_behind number (place * BATCH_PACKS) }
     ensures word { IfOk result (λ last. last ≡ word_behind word (packs_of_batch count place)) }
@@ -95,7 +92,7 @@ pub fn ask_batches<D: Disk>(
     count: u32,
 ) -> Result<(), Stop>
     requires calm { caller.old.faults ≡ 0 }
-    requires most { count ≤ MAX_PACKS }
+    requires most { count ≤ MAX_TRIAL }
     ensures asks { Asks D.Disk result caller.old caller.new
         (in_turn (batch_commands number count) (stored_book caller.old.store)
         (batch_places count)) }

@@ -10,7 +10,6 @@ mod samples;
 mod trial;
 mod word;
 
-pub use batches::MAX_PACKS;
 pub use commands::{
     BATCH_PACKS, GROSSES, LANES, LEAST_GROSS, TRIAL_DAY, TRIAL_NOMINAL, TRIAL_TARE,
 };

@@ -3,7 +3,7 @@ ghost use Rattle.book_store.specs.Stores.{entries_of, held_of, IsSound};
 ghost use Rattle.text_streams.specs.Streams.{output_at};
 ghost use Rattle.store_runs.specs.Books.{stored_book};
 ghost use Rattle.store_runs.specs.Runs.{RunGoes};
-ghost use Rattle.trial_run.specs.declared.batches.TheConstants.{MAX_PACKS};
+ghost use Rattle.hall_limits.specs.declared.TheConstants.{MAX_TRIAL};
 ghost use Rattle.trial_run.specs.Steps.{Asks};
 ghost use Rattle.trial_run.specs.TrialScripts.{trial_commands};
 ghost use Rattle.trial_run.specs.Trials.{EndsScript, ExplainsTrial};
@@ -28,7 +28,7 @@ fn ask_trial<D: Disk>(
     count: u32,
 ) -> Result<(), Stop>
     requires calm { caller.old.faults ≡ 0 }
-    requires most { count ≤ MAX_PACKS }
+    requires most { count ≤ MAX_TRIAL }
     ensures asks { Asks D.Disk result caller.old caller.new
         (trial_commands number count (stored_book caller.old.store)) }
 {
@@ -78,7 +78,7 @@ pub fn run_trial<K: Sink, D: Disk>(
     output: &mut K,
 ) -> RunEnd<D>
     requires least { 1 ≤ count }
-    requires most { count ≤ MAX_PACKS }
+    requires most { count ≤ MAX_TRIAL }
     requires opened { held_of store ≡ length (entries_of store) }
     requires sound { IsSound D.Disk store }
     ensures explained { ExplainsTrial number count (stored_book store)

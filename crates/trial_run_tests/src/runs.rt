@@ -1,8 +1,9 @@
 use book_store::Store;
 use disk_core::{MemoryDisk, MemorySink};
+use hall_limits::MAX_TRIAL;
 use std::alloc::{AllocError, Global};
 use store_runs::{Offer, Stop};
-use trial_run::{MAX_PACKS, run_trial};
+use trial_run::run_trial;
 
 /// How a trial stopped.
 #[derive(Clone, Copy, Debug, PartialEq, Eq)]
@@ -40,7 +41,7 @@ pub(crate) fn run_on(
     output: &mut MemorySink,
 ) -> Option<(Way, u32, MemoryDisk)> {
     let (number, count) = trial;
-    if count == 0 || count > MAX_PACKS {
+    if count == 0 || count > MAX_TRIAL {
         return None;
     }
     let Ok(store) = Store::mount(alloc, disk, 1_000_000) else {

@@ -2,7 +2,8 @@ use Rattle.std.proofs.Common.{◌≡◌, Ok, Err, ap, ◌∙◌}
 use Rattle.std.proofs.lemmas.Result.{err_from_is_err_and}
 use Rattle.book_words.specs.declared.name.Name.{Name}
 use Rattle.store_runs.specs.Books.{stored_book}
-use Rattle.trial_run.specs.TrialScripts.{after_commands, batch_name, batch_run, in_turn, measure_commands, drawn_packs, close_commands}
+use Rattle.script_run.specs.Commands.{after_commands}
+use Rattle.trial_run.specs.TrialScripts.{batch_name, batch_run, in_turn, measure_commands, drawn_packs, close_commands}
 use Rattle.trial_run.proofs.TrialSteps.{asks_same, first_of_three, second_of_three, third_of_three, all_three}
 use Rattle.trial_run.proofs.batches.ask_batch.Goals as goal
 
