@@ -42,7 +42,7 @@ import time
 
 from book import Book
 from clients import (FIRST_DESK, FIRST_DOOR, OPENING, Desk, Hall, Lane, Link, drawn_gross,
-                     free_ports, get, need, plan, post, spell_grams)
+                     free_ports, get, need, plan, spell_grams)
 from rows import SLOT, digest
 
 program, work, seed = sys.argv[1:]

@@ -9,7 +9,7 @@
 # heard of. At the end the register has each weighing. Where the rows are full, lanes and desks are
 # refused for that and nothing else, and the book stays as it is.
 #
-# usage: tests/soak.sh [FOLDER [SECONDS [ROWS [SEED]]]]    the book lies in a folder below this one
+# usage: tests/soak.sh [FOLDER [SECONDS [ROWS [SEED]]]]    the book lies in a folder below it
 set -eu
 here=$(dirname "$(readlink -f "$0")")/..
 seconds=${2:-3600}

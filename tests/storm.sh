@@ -13,7 +13,7 @@
 # answered 200 is at the row that it was told; the gates opened for just the packs that passed; the
 # register has each. Peak memory is printed, and how it grew.
 #
-# usage: tests/storm.sh [FOLDER [SECONDS [REQUESTS [SEED]]]]    the book lies in a folder below this one
+# usage: tests/storm.sh [FOLDER [SECONDS [REQUESTS [SEED]]]]    the book lies in a folder below it
 set -eu
 here=$(dirname "$(readlink -f "$0")")/..
 seconds=${2:-120}
@@ -27,7 +27,6 @@ program=${HALL:-$here/crates/hall_cli/out/hall_cli}
 
 PYTHONPATH=$here/tests timeout $((3 * seconds + 300)) \
     python3 -B - "$program" "$work" "$seconds" "$requests" "$seed" <<'PYTHON' ||
-import json
 import random
 import sys
 import time
@@ -230,9 +229,10 @@ class Visitor(Client):
         return False
 
     def noise(self, link):
-        """Drawn bytes. What comes for them is responses, or nothing."""
+        """Drawn bytes, which are no head."""
         self.sent["noise"] += 1
-        link.send(self.draw.randbytes(self.draw.randint(1, 9000)) + b"\r\n\r\n")
+        first = self.draw.choice((b"\0", b" ", b"a", b"G", b"\xff"))
+        link.send(first + self.draw.randbytes(self.draw.randrange(9000)) + b"\r\n\r\n")
         response = link.response()
         need(response.status == 400 and response.last, f"noise is answered {response}")
         return False
