@@ -189,11 +189,13 @@ class Visitor(Client):
             (f"/packs/{self.draw.choice(self.packs() or [0])}", "pack "),
             (f"/batches/{batch}/sample", "sample ")))
         self.sent["questions"] += 1
-        response = link.ask(get(path))
+        version = self.draw.choice((b"HTTP/1.1", b"HTTP/1.1", b"HTTP/1.1", b"HTTP/1.0"))
+        response = link.ask(get(path).replace(b"HTTP/1.1", version))
         need(response.status == 409 and response.json()["at"] == response.row
              or response.status == 200 and response.body.decode().startswith(said),
              f"{path} is answered {response}")
-        return True
+        need(response.last == (version == b"HTTP/1.0"), f"{version}: {response}")
+        return not response.last or self.end(link)
 
     def bad_form(self, link):
         request, status, bad, allow, ends = self.draw.choice(FAULTS)
