@@ -159,10 +159,10 @@ class Visitor(Client):
         """The last act once more, which is told its row again."""
         if self.desk.last in self.desk.told:
             self.sent["repeats"] += 1
-            row, act = self.desk.told[self.desk.last]
-            response = link.act(self.desk.spell(self.desk.last, act))
-            need(response.status == 200 and response.row == response.json()["row"] == row,
-                 f"{act} of row {row} is told again {response}")
+            request, (_, act) = self.desk.last, self.desk.told[self.desk.last]
+            response = link.act(self.desk.spell(request, act))
+            need(response.status == 200, f"request {request}, {act} is told again {response}")
+            self.desk.hear(request, act, response, again=True)
         return True
 
     def refused(self, link):
