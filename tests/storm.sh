@@ -1,8 +1,9 @@
 #!/bin/sh
 # A storm over `hall serve`: four lanes over named pipes and four doors on a book in a file, for two
-# minutes. Two clients at each of three doors send 100 000 requests in all: acts of a desk each,
-# whole, under drawn headers, several at once, sent again, under used numbers and such that leave a
-# gap, cut at a drawn byte, or left without hearing the answer; questions; each fault of form; noise.
+# minutes. Two clients at each of three doors send 100 000 requests in all, or what they can in twice
+# that time: acts of a desk each, whole, under drawn headers, several at once, sent again, under used
+# numbers and such that leave a gap, cut at a drawn byte, or left without hearing the answer;
+# questions; each fault of form; noise.
 # The fourth door has a reader of the summary. The lanes weigh in bursts; one gets a unit behind a
 # weight at a drawn moment, and one is cut in mid-weight.
 #
@@ -348,10 +349,13 @@ def main():
     watch = Watch(hall, reader)
     for client in [*lanes, *visitors, reader, watch]:
         client.start()
+    until = time.monotonic() + 2 * seconds
     for visitor in visitors:
-        visitor.finish(2 * seconds + 60)
-    for client in [*lanes[:2], reader, watch]:
+        visitor.join(max(0, until - time.monotonic()))
+    for client in [*visitors, *lanes[:2], reader, watch]:
         client.ending.set()
+    for visitor in visitors:
+        visitor.finish()
     reader.finish()
     watch.finish()
     status = hall.drain(120)
