@@ -349,9 +349,10 @@ def main():
     watch = Watch(hall, reader)
     for client in [*lanes, *visitors, reader, watch]:
         client.start()
-    until = time.monotonic() + 2 * seconds
+    began = time.monotonic()
     for visitor in visitors:
-        visitor.join(max(0, until - time.monotonic()))
+        visitor.join(max(0, began + 2 * seconds - time.monotonic()))
+    took = time.monotonic() - began
     for client in [*visitors, *lanes[:2], reader, watch]:
         client.ending.set()
     for visitor in visitors:
@@ -368,12 +369,12 @@ def main():
     need(f"rows {len(rows)}" in hall.said(), f"{len(rows)} rows, and the hall said {hall.said()}")
     compare_piles(rows, reader.seen)
     book.compare_register()
-    tell(book, visitors, reader, watch)
+    tell(book, visitors, reader, watch, took)
 
 
-def tell(book, visitors, reader, watch):
+def tell(book, visitors, reader, watch, took):
     sent = sum((visitor.sent for visitor in visitors), Counter())
-    print(f"seed {seed}: {sent.total()} requests in {seconds} s:",
+    print(f"seed {seed}: {sent.total()} requests in {took:.0f} s:",
           ", ".join(f"{count} {kind}" for kind, count in sent.most_common()))
     print(f"{book.rows} rows, {book.gates} packs let out, {len(book.acts)} acts of desks,"
           f" {len(reader.seen)} summaries that add up")
