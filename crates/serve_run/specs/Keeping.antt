@@ -1,5 +1,6 @@
 -- What `serve` makes of the store that it asks.
 use Rattle.std.specs.Prelude.{◌≡◌, List, None}
+use Rattle.device_facts.specs.Prefix.{IsPrefixOf}
 use Rattle.disk_core.specs.declared.disk.Disk as disk
 use Rattle.book_words.specs.declared.act.Entry.{Entry}
 use Rattle.book_store.specs.declared.store.Store.{Store}
@@ -20,6 +21,7 @@ use Rattle.serve_run.specs.Serving.{CountsJobs}
 pub record RanOver {D : Type 0} (disk : disk.Ghosts D) (old new : Store D) (stop : JobsStop)
     : Type 0 where
   pub limit : limit_of new ≡ limit_of old
+  pub begins : IsPrefixOf (entries_of old) (entries_of new)
   pub cause : CountsJobs (disk.faults (disk_of old)) (disk.faults (disk_of new)) stop
   pub kept : (held : List Entry) (start : D) → disk.faults (disk_of old) ≡ disk.faults start
       → HasKept disk held start None old → KeepsRun disk held start new

@@ -1,6 +1,8 @@
 -- From the end of a session to what all its jobs come to.
-use Rattle.std.proofs.Common.{◌≡◌, ⊤, ⊥, ℕ, ◌+◌, ◌-◌, ◌^◌, ◌<◌, ◌≤◌, min, List, [], ◌∷◌, ◌++◌, length, map, drop, get_or, All, Contains, AllZip, sum_by, Option, Some}
+use Rattle.std.specs.Prelude.{⊤}
+use Rattle.std.proofs.Common.{zero, suc, ◌≡◌, ℕ, ◌+◌, ◌-◌, ◌^◌, ◌<◌, ◌≤◌, min, List, [], ◌∷◌, ◌++◌, length, map, drop, get_or, All, Contains, sum_by, Option, Some}
 use Rattle.std.proofs.Common.{refl, sym, ap, ◌∙◌, subst, arith, append-nil, length-append}
+use Rattle.std.specs.List.{AllZip}
 use Rattle.std.proofs.lemmas.List.{length-map}
 use Rattle.std.proofs.lemmas.List.Elements.{All-cons, All-head, All-map, All-nil, All-tail, All-weaker}
 use Rattle.std.proofs.lemmas.List.Sums.{sum_by-cons}
@@ -102,7 +104,7 @@ failed_so before now (suc k) calm counted = counted (omega arith)
 
 -- ---- the jobs of a session
 
-module _ {D N L O : Type 0} (session : session.Ghosts N) (weighs : cell.Ghosts L)
+module _ {N L O : Type 0} (session : session.Ghosts N) (weighs : cell.Ghosts L)
     (lifts : gate.Ghosts L) (reads : source.Ghosts O) (connections : O → Option Connections) where
   abbrev lane_at : Known → L → lanes.Site
   lane_at = lane_site weighs lifts
@@ -136,8 +138,8 @@ module _ {D N L O : Type 0} (session : session.Ghosts N) (weighs : cell.Ghosts L
       }) (ap (λ list. session.before ++ entries_in list) empty ∙ append-nil session.before)
 
   module _ (seat : BookState Entry) (empty : seat.list ≡ []) where
-    one_done : (work : Work L O) (job : Job L O) (pass : PassState Entry)
-        → IsRun session lane_at door_at (new_job seat work) job → Some pass ≡ job.seat
+    one_done : {A B : Type 0} (work : Work L O) (job : Job L O A B) (pass : PassState Entry)
+        → IsRun {A = A} {B = B} session lane_at door_at (new_job seat work) job → Some pass ≡ job.seat
         → IsDoneBeside lane_at door_at
         (newcomer session.limit session.before (number_of work)) (known_of session pass) work job.work
     one_done work job pass is seated =
@@ -149,18 +151,18 @@ module _ {D N L O : Type 0} (session : session.Ghosts N) (weighs : cell.Ghosts L
         (subst (λ (p : PassState Entry). IsDoneBeside lane_at door_at (known_of session is.first)
         (known_of session p) work job.work) last is.done)
 
-    matched : (works : List (Work L O)) (behind : List (Job L O)) (ends : List (PassState Entry))
+    matched : {A B : Type 0} (works : List (Work L O)) (behind : List (Job L O A B)) (ends : List (PassState Entry))
         → AllZip (IsRun session lane_at door_at) (map (new_job seat) works) behind
-        → map (λ (p : PassState Entry). Some p) ends ≡ map (λ (j : Job L O). j.seat) behind
-        → Matched works ends (map (λ (j : Job L O). j.work) behind)
-    matched [] [] [] run seats =
+        → map (λ (p : PassState Entry). Some p) ends ≡ map (λ (j : Job L O A B). j.seat) behind
+        → Matched works ends (map (λ (j : Job L O A B). j.work) behind)
+    matched {A} {B} [] [] [] run seats =
         record { runs = []; was = refl; now = refl; known = refl; done = All-nil DoneIn }
-    matched [] [] (p ∷ ps) run seats = absurd (omega (arith, ap length seats))
-    matched [] (j ∷ js) ends run seats = absurd run
-    matched (w ∷ ws) [] ends run seats = absurd run
-    matched (w ∷ ws) (j ∷ js) [] run seats = absurd (omega (arith, ap length seats))
-    matched (w ∷ ws) (j ∷ js) (p ∷ ps) run seats =
-        let seat_of : Job L O → Option (PassState Entry) = λ k. k.seat in
+    matched {A} {B} [] [] (p ∷ ps) run seats = absurd (omega (arith, ap length seats))
+    matched {A} {B} [] (j ∷ js) ends run seats = absurd run
+    matched {A} {B} (w ∷ ws) [] ends run seats = absurd run
+    matched {A} {B} (w ∷ ws) (j ∷ js) [] run seats = absurd (omega (arith, ap length seats))
+    matched {A} {B} (w ∷ ws) (j ∷ js) (p ∷ ps) run seats =
+        let seat_of : Job L O A B → Option (PassState Entry) = λ k. k.seat in
         let some : List (PassState Entry) → List (Option (PassState Entry)) = map (λ p. Some p) in
         let rest = matched ws js ps run.1
         (cons_tail (Some p) (seat_of j) (some ps) (map seat_of js) seats) in
@@ -240,8 +242,8 @@ module _ {D N L O : Type 0} (session : session.Ghosts N) (weighs : cell.Ghosts L
         made.others)
 
   -- how often the disk failed while a session lasted, as it is told
-  module _ (disk : disk.Ghosts D) (first last : Store D) (begins : Begins disk session first)
-      (jobs : List (Job L O)) (works : List (Work L O)) (failed : ℕ)
+  module _ {D A B : Type 0} (disk : disk.Ghosts D) (first last : Store D) (begins : Begins disk session first)
+      (jobs : List (Job L O A B)) (works : List (Work L O)) (failed : ℕ)
       (ended : HasEnded disk session lane_at door_at jobs last works failed) where
     booked : ℕ
     booked = sum_by (λ (p : PassState Entry). p.faults) ended.ends
@@ -257,13 +259,14 @@ module _ {D N L O : Type 0} (session : session.Ghosts N) (weighs : cell.Ghosts L
     settled_right is = let told = ended.told in
         let none : booked ≡ 0 = omega arith in (ended.calm none).settled
 
-  pub have_run : (disk : disk.Ghosts D) (first last : Store D) → Begins disk session first
+  pub have_run : {D A B : Type 0} (disk : disk.Ghosts D) (first last : Store D) → Begins disk session first
       → (seat : BookState Entry) → seat.list ≡ [] → (works behind : List (Work L O)) (failed : ℕ)
-      → HasEnded disk session lane_at door_at (map (new_job seat) works) last behind failed
+      → HasEnded {A = A} {B = B} disk session lane_at door_at (map (new_job seat) works) last behind
+      failed
       → HaveRun lane_at door_at (limit_of first) (entries_of first) (entries_of last) failed works
       behind
-  have_run disk first last begins seat empty works behind failed ended =
-      let jobs : List (Work L O) = map (λ (j : Job L O). j.work) ended.behind in
+  have_run {D} {A} {B} disk first last begins seat empty works behind failed ended =
+      let jobs : List (Work L O) = map (λ (j : Job L O A B). j.work) ended.behind in
       let m : Matched works ended.ends jobs =
       matched seat empty works ended.behind ended.ends ended.run ended.ends_are in
       let rows : List Entry = entries_of last in

@@ -1,5 +1,6 @@
 -- A work that was done, as it looks beside other callers.
-use Rattle.std.proofs.Common.{◌≡◌, ◌⊎◌, inl, inr, ⊎_elim, ⊤, ⊥, ℕ, List, Option}
+use Rattle.std.specs.Prelude.{⊤}
+use Rattle.std.proofs.Common.{◌≡◌, ◌⊎◌, inl, inr, ⊎_elim, ℕ, List, Option}
 use Rattle.disk_core.specs.declared.source.Source as source
 use Rattle.disk_core.specs.Doors.{Connections}
 use Rattle.book_words.specs.declared.act.Ask.{Ask}

@@ -20,15 +20,15 @@ use Rattle.session_jobs.specs.Jobs.{IsRun}
 -- A session ended: each of its jobs was run, and these are their works; the seats of their callers
 -- make the rows; the faults that they were answered were counted by the disk. What is kept from ask
 -- to ask is kept, and what the whole run kept before.
-pub record HasEnded {D N L O : Type 0} (disk : disk.Ghosts D) (session : session.Ghosts N)
+pub record HasEnded {D N L O A B : Type 0} (disk : disk.Ghosts D) (session : session.Ghosts N)
     (lane_at : Known → L → lanes.Site) (door_at : Known → O → doors.Site)
-    (jobs : List (Job L O)) (store : Store D) (works : List (Work L O)) (faults : ℕ) : Type 0
+    (jobs : List (Job L O A B)) (store : Store D) (works : List (Work L O)) (faults : ℕ) : Type 0
   where
-    pub behind : List (Job L O)
+    pub behind : List (Job L O A B)
     pub run : AllZip (IsRun session lane_at door_at) jobs behind
-    pub works_are : works ≡ map (λ (j : Job L O). j.work) behind
+    pub works_are : works ≡ map (λ (j : Job L O A B). j.work) behind
     pub ends : List (PassState Entry)
-    pub ends_are : map (λ (p : PassState Entry). Some p) ends ≡ map (λ (j : Job L O). j.seat) behind
+    pub ends_are : map (λ (p : PassState Entry). Some p) ends ≡ map (λ (j : Job L O A B). j.seat) behind
     pub rows : MakeRows session.before (entries_of store) ends
     pub counted : 0 < sum_by (λ (p : PassState Entry). p.faults) ends
         → Counted session.faults (disk.faults (disk_of store))

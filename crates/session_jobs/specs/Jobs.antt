@@ -14,14 +14,14 @@ use Rattle.session_jobs.specs.Runs.{IsDoneBeside}
 use Rattle.session_jobs.specs.Works.{number_of}
 
 -- a job has the seat of its caller, a pass of the session
-pub record IsReady {N L O : Type 0} (session : session.Ghosts N) (job : Job L O) : Type 0 where
+pub record IsReady {N L O A B : Type 0} (session : session.Ghosts N) (job : Job L O A B) : Type 0 where
   pub pass : PassState Entry
   pub seated : job.seat ≡ Some pass
   pub of_session : IsPassOf session pass
 
 -- a job was run by the caller of its seat, which it has back
-pub record IsRun {N L O : Type 0} (session : session.Ghosts N) (lane_at : Known → L → lanes.Site)
-    (door_at : Known → O → doors.Site) (was now : Job L O) : Type 0 where
+pub record IsRun {N L O A B : Type 0} (session : session.Ghosts N) (lane_at : Known → L → lanes.Site)
+    (door_at : Known → O → doors.Site) (was now : Job L O A B) : Type 0 where
   pub first : PassState Entry
   pub last : PassState Entry
   pub seat_before : was.seat ≡ Some first
@@ -31,7 +31,7 @@ pub record IsRun {N L O : Type 0} (session : session.Ghosts N) (lane_at : Known 
       was.work now.work
 
 -- a work with a new pass of its number: it has seen what the book seat has appended
-abbrev pub new_job : {L O : Type 0} → BookState Entry → Work L O → Job L O
+abbrev pub new_job : {L O A B : Type 0} → BookState Entry → Work L O → Job L O A B
 new_job seat work = record { work = work; seat = Some (newcomer seat (number_of work)) }
 
 -- the book seat when passes of these numbers more were made
@@ -44,13 +44,13 @@ with_passes seat bys =
     }
 
 -- nothing has come into the lists of a session
-pub record IsEmptyCrew {L O : Type 0} (crew : Crew L O) : Type 0 where
+pub record IsEmptyCrew {L O A B : Type 0} (crew : Crew L O A B) : Type 0 where
   pub jobs : crew.jobs.items ≡ []
   pub works : crew.works.items ≡ []
   pub ends : crew.ends.items ≡ []
 
 -- the lists of a session have room for so many jobs
-pub record HasRoomFor {L O : Type 0} (count : ℕ) (crew : Crew L O) : Type 0 where
+pub record HasRoomFor {L O A B : Type 0} (count : ℕ) (crew : Crew L O A B) : Type 0 where
   pub jobs : count ≤ vec_capacity crew.jobs
   pub works : count ≤ vec_capacity crew.works
   pub ends : count ≤ vec_capacity crew.ends

@@ -1,5 +1,7 @@
 -- What the jobs of a session come to, all together.
-use Rattle.std.specs.Prelude.{◌≡◌, ⊤, ℕ, ◌+◌, min, List, [], ◌++◌, length, map, drop, All, Contains, Err, Vec}
+use Rattle.std.specs.Prelude.{◌≡◌, ⊤, ℕ, ◌+◌, min, List, [], ◌++◌, length, map, drop, All, Contains, Err}
+use Rattle.std.specs.declared.alloc.Global.{Global}
+use Rattle.std.specs.declared.vec.Vec.{Vec}
 use Rattle.std.specs.List.{sum_by}
 use Rattle.device_facts.specs.Prefix.{IsPrefixOf}
 use Rattle.book_words.specs.declared.act.Ask.{Ask}
@@ -68,7 +70,7 @@ pub record HaveRun {L O : Type 0} (lane_at : Known → L → lanes.Site)
   pub faults : failed ≡ min (faults_answered runs) FAULTS_END
 
 -- no job was run: all is as it was
-pub record IsUnbegun {D L O : Type 0} (store : Store D) (jobs : Vec (Work L O))
+pub record IsUnbegun {D L O : Type 0} (store : Store D) (jobs : Vec (Work L O) Global)
     (end : JobsEnd D L O) : Type 0 where
   pub store_left : end.store ≡ store
   pub jobs_left : end.jobs ≡ jobs

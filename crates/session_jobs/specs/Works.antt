@@ -1,5 +1,5 @@
 -- What a job does: a lane is worked, or a door served, by one caller of the book.
-use Rattle.std.specs.Prelude.{◌≡◌, ⊥, ℕ, ◌+◌, List, Option, Some}
+use Rattle.std.specs.Prelude.{◌≡◌, ℕ, ◌+◌, List, Option, Some}
 use Rattle.hall_limits.specs.declared.TheConstants.{MAX_LANE}
 use Rattle.disk_core.specs.declared.source.Source as source
 use Rattle.disk_core.specs.Doors.{Connections}

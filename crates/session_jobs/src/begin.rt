@@ -74,7 +74,7 @@ fn hold_session<
         × (rows.parts ≡ length jobs.items + 1) }
     requires faults { (faults.name ≡ B.name) × (faults.parts ≡ B.parts)
         × (faults.parts ≡ length jobs.items + 1) }
-    ensures ran { result.ran ≡ true → HaveRun D.Disk (lane_site L.Cell L.Gate)
+    ensures ran { result.ran ≡ true → HaveRun (lane_site L.Cell L.Gate)
         (door_site O.Source O.connections) (limit_of store) (entries_of store)
         (entries_of result.store) result.faults jobs.items result.jobs.items }
     ensures unbegun { result.ran ≡ false → IsUnbegun store jobs result }
@@ -133,7 +133,7 @@ pub fn run_jobs<
     requires calm { ¬ Hangs store }
     requires apart { AllPairs (λ v w. number_of v ≢ number_of w) jobs.items }
     requires few { length jobs.items ≤ MAX_JOBS }
-    ensures ran { result.ran ≡ true → HaveRun D.Disk (lane_site L.Cell L.Gate)
+    ensures ran { result.ran ≡ true → HaveRun (lane_site L.Cell L.Gate)
         (door_site O.Source O.connections) (limit_of store) (entries_of store)
         (entries_of result.store) result.faults jobs.items result.jobs.items }
     ensures unbegun { result.ran ≡ false → IsUnbegun store jobs result }

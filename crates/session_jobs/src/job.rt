@@ -11,6 +11,7 @@ use std::sync::Wait;
 use std::sync::ledger::Ledger;
 
 /// A work with the seat of its caller, which is away only while it runs.
+#[derive(Drop)]
 pub struct Job<L, O, A: Ledger, B: Ledger> {
     pub work: Work<L, O>,
     pub seat: Option<PassEnd<A, B>>,

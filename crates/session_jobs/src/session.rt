@@ -17,7 +17,7 @@ use book_words::Entry;
 use disk_core::{Disk, Door};
 use lane_worker::Lane;
 use session_laws::Session;
-use shared_book::{PassEnd, Shared};
+use shared_book::{Closed, PassEnd, Shared};
 use std::alloc::Global;
 use std::sync::Wait;
 use std::sync::ledger::Ledger;
@@ -26,6 +26,7 @@ use std::thread::Threads;
 use turn_pass::{BookSeat, Turn};
 
 /// What the jobs of a session are made of, and the room for what comes back from them.
+#[derive(Drop)]
 pub struct Crew<L, O, A: Ledger, B: Ledger> {
     pub jobs: Vec<Job<L, O, A, B>>,
     pub works: Vec<Work<L, O>>,
@@ -92,6 +93,6 @@ pub fn hold<
     let shared = Shared::<D, A, B, N>::new(store, turn, seat);
     run_all(rt, alloc, &shared, jobs.as_mut_slice());
     let (works, ends) = dismiss(jobs, works, ends);
-    let closed = shared.close(ends);
-    (closed.store, works, closed.faults)
+    let Closed { store, faults } = shared.close(ends);
+    (store, works, faults)
 }

@@ -12,6 +12,7 @@ use std::alloc::Global;
 pub const MAX_JOBS: usize = MAX_LANE as usize + MAX_DOOR as usize;
 
 /// A lane that is worked for the packs of one batch.
+#[derive(Drop)]
 pub struct LaneJob<L> {
     pub lane: L,
     /// The number of the lane, from 1; its rows bear it.
@@ -22,6 +23,7 @@ pub struct LaneJob<L> {
 }
 
 /// A door of the office that is served.
+#[derive(Drop)]
 pub struct DoorJob<O> {
     pub door: O,
     /// The number of the door, from 1; its rows bear the numbers behind those of all lanes.
@@ -31,6 +33,7 @@ pub struct DoorJob<O> {
 }
 
 /// What a job does.
+#[derive(Drop)]
 pub enum Work<L, O> {
     Lane(LaneJob<L>),
     Door(DoorJob<O>),
