@@ -1,0 +1,7 @@
+pub mod GrownAnswers
+pub mod HistoryLaws
+pub mod JobShares
+pub mod ManyLists
+pub mod OwnRows
+pub mod ToldVerdicts
+pub mod WorkedActs

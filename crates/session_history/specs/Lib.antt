@@ -1,0 +1,4 @@
+pub mod Deeds
+pub mod Histories
+pub mod Replies
+pub mod Rows
