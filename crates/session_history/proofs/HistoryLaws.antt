@@ -18,8 +18,9 @@ use Rattle.session_jobs.specs.Runs.{HaveRun, Run}
 use Rattle.session_jobs.specs.Works.{door_site, lane_site, number_of}
 use Rattle.session_history.specs.Deeds.{Share, DidSo, OfEach, caller_of, faults_of}
 use Rattle.session_history.specs.Histories.{OneHistory}
+use Rattle.session_history.specs.Gates.{OpensRight}
 use Rattle.session_history.specs.Replies.{RepliesRight, NamesWhatWasSeen, TellsVerdicts}
-use Rattle.session_history.specs.Rows.{AddsActs, AddsItsRows, HaveOwnNumbers, NobodyElse, OpensRight, StandsIn, acknowledged, rows_added}
+use Rattle.session_history.specs.Rows.{AddsActs, AddsItsRows, HaveOwnNumbers, NobodyElse, StandsIn, acknowledged, rows_added}
 use Rattle.session_history.proofs.JobShares.{AreShares, IsHeldShare, shares_of}
 use Rattle.session_history.proofs.ManyLists.{all_flat, length_flat, map_twice, pairs_flat, pairs_of_map, sum_map, sum_same, sum_up_to}
 use Rattle.session_history.proofs.OwnRows.{StandsAs, added_apart, added_stand, apart_by}
@@ -36,13 +37,13 @@ module _ {L O : Type 0} (weighs : cell.Ghosts L) (lifts : gate.Ghosts L) (reads 
 
   module _ (apart : AllPairs (λ (v w : Work L O). number_of v ≢ number_of w) was)
       (ran : HaveRun lane_at door_at limit before rows failed was now) (legal : IsLegal rows) where
-    made : AreShares weighs lifts reads connections limit before rows (verdicts_stay rows legal)
+    made : AreShares weighs lifts reads connections limit before rows legal
         ran.runs
-    made = shares_of weighs lifts reads connections limit before rows (verdicts_stay rows legal)
+    made = shares_of weighs lifts reads connections limit before rows legal
         ran.runs ran.each
 
     abbrev IsHere : Share L O → Type 0
-    IsHere = IsHeldShare weighs lifts reads connections limit before rows (verdicts_stay rows legal)
+    IsHere = IsHeldShare weighs lifts reads connections limit before rows legal
 
     -- what follows of each share
     of_each : (K : Share L O → Type 0) → ((s : Share L O) → IsHere s → K s) → All K made.shares

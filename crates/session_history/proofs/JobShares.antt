@@ -8,8 +8,9 @@ use Rattle.disk_core.specs.declared.source.Source as source
 use Rattle.disk_core.specs.Doors.{Connections}
 use Rattle.book_words.specs.declared.act.Ask.{Ask}
 use Rattle.book_words.specs.declared.act.Entry.{Entry}
-use Rattle.book_words.specs.Balance.{VerdictsStay}
+use Rattle.book_words.specs.Answers.{IsLegal}
 use Rattle.book_words.specs.Callers.{Known, FAULTS_END}
+use Rattle.book_laws.proofs.VerdictLaws.{verdicts_stay}
 use Rattle.book_store.specs.Callers.{own_rows}
 use Rattle.lane_worker.specs.declared.cell.Cell as cell
 use Rattle.lane_worker.specs.declared.gate.Gate as gate
@@ -27,16 +28,18 @@ use Rattle.session_jobs.specs.declared.work.Work.TheVariants.{Lane, Door}
 use Rattle.session_jobs.specs.Runs.{BrokeBefore, HasRun, IsDoneBeside, Run, newcomer}
 use Rattle.session_jobs.specs.Works.{IsDoorDone, IsLaneDone, door_site, lane_site, number_of}
 use Rattle.session_history.specs.Deeds.{Deed, Worked, Served, LaneDeed, DoorDeed, Share, HasDone, faults_of}
+use Rattle.session_history.specs.Gates.{OpensRight}
 use Rattle.session_history.specs.Replies.{RepliesRight, NamesWhatWasSeen, TellsVerdicts, EndsRight}
-use Rattle.session_history.specs.Rows.{AddsActs, AddsItsRows, OpensRight, rows_added}
+use Rattle.session_history.specs.Rows.{AddsActs, AddsItsRows, is_whole, rows_added}
 use Rattle.session_history.proofs.GrownAnswers.{all_answered_on, error_on, fall_on, prefix_short}
 use Rattle.session_history.proofs.OwnRows.{opened_stand, stand_on}
+use Rattle.session_history.proofs.ReleasedPacks.{opened_released}
 use Rattle.session_history.proofs.ToldVerdicts.{all_told}
 use Rattle.session_history.proofs.WorkedActs.{all_weighed, answered_all, answered_first}
 
 module _ {L O : Type 0} (weighs : cell.Ghosts L) (lifts : gate.Ghosts L) (reads : source.Ghosts O)
     (connections : O → Option Connections) (limit : ℕ) (before rows : List Entry)
-    (stay : VerdictsStay rows) where
+    (legal : IsLegal rows) where
   abbrev lane_at : Known → L → lanes.Site
   lane_at = lane_site weighs lifts
 
@@ -117,6 +120,10 @@ module _ {L O : Type 0} (weighs : cell.Ghosts L) (lifts : gate.Ghosts L) (reads 
               all = is.opened.passed;
               kept = opened_stand rows was.number (length work.asked) work.rows
                   (gate_failed work.ending) work.opened stand is.opened.passed;
+              told = opened_released rows legal was.number (length work.asked) was.batch work
+                  (gate_failed work.ending) (is_whole done.end.stop) stand is.opened.passed is.accepted
+                  (answered_first _ _ asks work done.end.stop is.stops)
+                  (answered_all _ _ asks work done.end.stop is.stops);
               count = is.count;
             };
             mine = is.added.mine;
@@ -156,7 +163,8 @@ module _ {L O : Type 0} (weighs : cell.Ghosts L) (lifts : gate.Ghosts L) (reads 
             replies = record { served = is.has.each; right = right };
             places = fall_on (length before) (length known.seen) (length rows)
                 (places_of exchanges) (prefix_short known.seen rows seen) is.has.answered.places;
-            closings = all_told limit (MAX_LANE + was.number) rows stay exchanges right;
+            closings = all_told limit (MAX_LANE + was.number) rows (verdicts_stay rows legal) exchanges
+                right;
             gates = tt;
             mine = is.has.answered.mine;
             counted = is.has.answered.faults

@@ -1,5 +1,5 @@
 -- The rows that bear a number stand in their list, each at its own number.
-use Rattle.std.proofs.Common.{◌≡◌, ◌≢◌, ℕ, zero, suc, ◌+◌, ◌-◌, ◌<◌, ◌≤◌, ◌==◌, Bool, true, false, cond, List, [], ◌∷◌, ◌++◌, length, get_or, slice_get, All, AllPairs, Option, Some, None, option_map, refl, sym, ◌∙◌, ap, subst, arith}
+use Rattle.std.proofs.Common.{◌≡◌, ◌≢◌, ℕ, zero, suc, ◌+◌, ◌-◌, ◌<◌, ◌≤◌, ◌==◌, Bool, true, false, cond, List, [], ◌∷◌, ◌++◌, length, get_or, slice_get, take, drop, All, AllPairs, Option, Some, None, option_map, refl, sym, ◌∙◌, ap, subst, arith}
 use Rattle.std.proofs.lemmas.Bool.{eqb-true}
 use Rattle.std.proofs.lemmas.List.Elements.{All-cons, All-filter, All-nil, filter_passes}
 use Rattle.std.proofs.lemmas.List.Kept.{AllPairs-cons, AllPairs-filter}
@@ -13,7 +13,8 @@ use Rattle.book_words.proofs.RowLemmas.{row_at}
 use Rattle.book_store.specs.Callers.{own_rows}
 use Rattle.lane_worker.specs.Asks.{passed_packs}
 use Rattle.lane_worker.specs.Works.{AreOpened, StandBehind}
-use Rattle.session_history.specs.Rows.{HasPassed, StandsIn}
+use Rattle.session_history.specs.Gates.{HasPassed}
+use Rattle.session_history.specs.Rows.{StandsIn}
 use Rattle.session_history.proofs.ManyLists.{all_left, all_right, pairs_none, pairs_right, pairs_weaker}
 
 -- ---- the rows of a list
@@ -116,6 +117,13 @@ slice_get_on : (entries more : List Entry) (place : ℕ) (entry : Entry)
 slice_get_on [] more place entry is = absurd (none-some entry is)
 slice_get_on (e ∷ es) more zero entry is = is
 slice_get_on (e ∷ es) more (suc place) entry is = slice_get_on es more place entry is
+
+-- an entry parts its list
+pub parted : (entries : List Entry) (place : ℕ) (entry : Entry) → slice_get entries place ≡ Some entry
+    → entries ≡ take place entries ++ entry ∷ drop (suc place) entries
+parted [] place entry is = absurd (none-some entry is)
+parted (e ∷ es) zero entry is = ap (λ (x : Entry). x ∷ es) (same_Some e entry is)
+parted (e ∷ es) (suc place) entry is = ap (λ (xs : List Entry). e ∷ xs) (parted es place entry is)
 
 -- rows stand in a list that goes on
 pub stand_on : (entries others : List Entry) → IsPrefixOf entries others → (by number : ℕ)

@@ -1,7 +1,6 @@
 -- A verdict that was told of a batch is its verdict over all rows.
-use Rattle.std.proofs.Common.{◌≡◌, ℕ, zero, suc, ◌-◌, Bool, true, false, cond, nat_le, List, [], ◌∷◌, ◌++◌, take, drop, slice_get, All, Option, Some, None, Result, Ok, Err, refl, sym, ◌∙◌, ap, append_assoc}
+use Rattle.std.proofs.Common.{◌≡◌, ℕ, suc, ◌-◌, Bool, true, false, cond, nat_le, List, ◌∷◌, ◌++◌, take, drop, slice_get, All, Option, Some, None, Result, Ok, Err, refl, sym, ◌∙◌, ap, append_assoc}
 use Rattle.std.proofs.lemmas.List.Elements.{All-weaker}
-use Rattle.std.proofs.lemmas.Option.{same_Some}
 use Rattle.std.specs.List.{cons_option}
 use Rattle.book_words.specs.declared.act.Act.TheVariants.{Close}
 use Rattle.book_words.specs.declared.act.Ask.{Ask}
@@ -28,13 +27,8 @@ use Rattle.book_state.specs.Told.{entry_numbered}
 use Rattle.office_door.specs.Exchanges.{Exchange, IsAnswered, IsAnsweredIn}
 use Rattle.office_wire.specs.declared.types.OfficeAsk.{OfficeAsk}
 use Rattle.office_wire.specs.declared.types.OfficeAsk.TheVariants as office
+use Rattle.session_history.proofs.OwnRows.{parted}
 use Rattle.session_history.specs.Replies.{IsVerdictIn, TellsVerdict}
-
-parted : (entries : List Entry) (place : ℕ) (entry : Entry) → slice_get entries place ≡ Some entry
-    → entries ≡ take place entries ++ entry ∷ drop (suc place) entries
-parted [] place entry is = absurd (cc)
-parted (e ∷ es) zero entry is = ap (λ (x : Entry). x ∷ es) (same_Some e entry is)
-parted (e ∷ es) (suc place) entry is = ap (λ (xs : List Entry). e ∷ xs) (parted es place entry is)
 
 parted_at : (entries : List Entry) (row : ℕ) (entry : Entry)
     → entry_numbered entries row ≡ Some entry

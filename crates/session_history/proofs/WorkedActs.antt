@@ -22,7 +22,7 @@ use Rattle.session_history.specs.Rows.{gross_told, grosses_told, is_whole}
 
 -- ---- grosses
 
-abbrev row_ask : Row → Ask
+abbrev pub row_ask : Row → Ask
 row_ask row = ask_of row.entry
 
 -- the gross that is wanted, where a weighing is

@@ -75,11 +75,12 @@ pub record HasServed {O : Type 0} (door_at : Known → O → doors.Site) (first 
   pub end : now.end ≡ Some did.end
   pub behind : Option Connections
   pub visited : AreVisited (door_at first was.door).door.connections did.visits behind
-  pub stops : StopsAt did.end.stop (length did.visits) behind (door_at last now.door).door.connections
+  pub stops : StopsAt did.end.stop (length did.visits) behind
+      (door_at last now.door).door.connections
   pub served : did.end.served ≡ length (all_exchanges did.visits)
   pub links : did.end.links ≡ link_faults did.visits
-  pub faults : FailedSoOften (door_at first was.door).door.faults (door_at last now.door).door.faults
-      (did.end.links + next_faults did.end.stop)
+  pub faults : FailedSoOften (door_at first was.door).door.faults
+      (door_at last now.door).door.faults (did.end.links + next_faults did.end.stop)
 
 -- a job did so, by its kind
 abbrev pub HasDone : {L O : Type 0} → (Known → L → lanes.Site) → (Known → O → doors.Site)

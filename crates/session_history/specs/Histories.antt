@@ -10,11 +10,12 @@ use Rattle.lane_worker.specs.Works as lanes
 use Rattle.office_door.specs.Doors as doors
 use Rattle.session_jobs.specs.declared.work.Work.{Work}
 use Rattle.session_history.specs.Deeds.{Share, DidSo, OfEach, faults_of}
+use Rattle.session_history.specs.Gates.{OpensRight}
 use Rattle.session_history.specs.Replies.{RepliesRight, NamesWhatWasSeen, TellsVerdicts}
-use Rattle.session_history.specs.Rows.{AddsActs, AddsItsRows, HaveOwnNumbers, NobodyElse, OpensRight, StandsIn, acknowledged}
+use Rattle.session_history.specs.Rows.{AddsActs, AddsItsRows, HaveOwnNumbers, NobodyElse, StandsIn, acknowledged}
 
--- Whatever the jobs of a session did at once, over a book of so many rows at most that began with the
--- rows `before`: `rows` is one history of them all.
+-- Whatever the jobs of a session did at once, over a book of so many rows at most that began with
+-- the rows `before`: `rows` is one history of them all.
 pub record OneHistory {L O : Type 0} (lane_at : Known → L → lanes.Site)
     (door_at : Known → O → doors.Site) (limit : ℕ) (before rows : List Entry) (failed : ℕ)
     (was now : List (Work L O)) : Type 0 where
@@ -30,8 +31,9 @@ pub record OneHistory {L O : Type 0} (lane_at : Known → L → lanes.Site)
   pub own : OfEach (AddsItsRows before rows) shares
   pub acts : OfEach (AddsActs before rows) shares
   pub others : NobodyElse before rows shares
-  -- every reply is the book's answer to the prefix that it names, which holds what was told before
+  -- every reply is the book's answer to the prefix that it names
   pub replies : OfEach (RepliesRight limit rows) shares
+  -- which holds, at a door, what was told there before; the rows of a worker rise
   pub places : OfEach (NamesWhatWasSeen before rows) shares
   -- each acknowledged reading stands once, as all acknowledged rows do, and they are as many as the
   -- list grew by

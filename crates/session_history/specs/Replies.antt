@@ -21,12 +21,13 @@ use Rattle.office_wire.specs.declared.types.OfficeAsk.TheVariants as office
 use Rattle.session_history.specs.Deeds.{Deed, Worked, Served, LaneDeed}
 
 -- An error to an ask is right in a list. A refusal is the book's answer over the entries that it
--- names, with which the list begins. The disk failed only where an entry would have been added behind
--- such entries; so did memory, but for a question for a sample.
+-- names, with which the list begins. The disk failed only where an entry would have been added
+-- behind such entries; so did memory, but for a question for a sample.
 abbrev pub IsErrorIn : ℕ → ℕ → List Entry → Ask → AskError → Type 0
 IsErrorIn limit by rows ask (error.Refused refused) = IsRight limit by rows ask (Err refused)
 IsErrorIn limit by rows ask error.DiskFault = IsLost limit by rows ask IsSome None
-IsErrorIn limit by rows ask error.NoMemory = IsLost limit by rows ask (MayFindNoMemory ask.want) None
+IsErrorIn limit by rows ask error.NoMemory =
+    IsLost limit by rows ask (MayFindNoMemory ask.want) None
 
 -- How a lane's work ended is right: all that its worker was to ask was answered; or the next had an
 -- error, which is kept in its end, and right in these rows.
@@ -48,8 +49,8 @@ abbrev pub RepliesRight : ℕ → List Entry → ℕ → Deed → Type 0
 RepliesRight limit rows lane (Worked did) = EndsRight limit rows lane did
 RepliesRight limit rows by (Served did) = RespondsRight limit by rows did.visits
 
--- Answers name more and more of the rows, and at least those of before. A worker's rows stand behind
--- all that it had seen when it began to ask, each behind the one before it.
+-- The places that a door's answers name never fall, and each is behind the rows of before. A worker's
+-- rows stand behind all that it had seen when it was told of its lane, each behind the one before.
 abbrev pub NamesWhatWasSeen : List Entry → List Entry → ℕ → Deed → Type 0
 NamesWhatWasSeen before rows lane (Worked did) =
     StandBehind rows lane (length did.work.asked) did.work.rows

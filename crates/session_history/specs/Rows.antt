@@ -7,13 +7,10 @@ use Rattle.book_words.specs.declared.act.Act.TheVariants.{Weigh}
 use Rattle.book_words.specs.declared.act.Entry.{Entry}
 use Rattle.book_words.specs.Answers.{ask_of}
 use Rattle.book_words.specs.Desks.{Row}
-use Rattle.book_words.specs.Population.{is_pass}
 use Rattle.book_store.specs.Callers.{own_rows}
 use Rattle.lane_worker.specs.declared.ending.LaneStop.{LaneStop}
 use Rattle.lane_worker.specs.declared.ending.LaneStop.TheVariants as stop
-use Rattle.lane_worker.specs.Asks.{passed_packs}
-use Rattle.lane_worker.specs.Endings.{gate_failed}
-use Rattle.lane_worker.specs.Works.{AreOpened, asks_of_work}
+use Rattle.lane_worker.specs.Works.{asks_of_work}
 use Rattle.office_door.specs.Doors.{all_exchanges}
 use Rattle.office_door.specs.Exchanges as exchanges
 use Rattle.session_history.specs.Deeds.{Deed, Worked, Served, LaneDeed, Share, caller_of}
@@ -48,10 +45,10 @@ gross_told _ = None
 abbrev pub grosses_told : List Row → List ℤ
 grosses_told rows = filter_map (λ (row : Row). gross_told row.entry.act) rows
 
--- What the worker of a lane added: the acts of its work for its batch, for the grosses that its cell
--- gave and the packs for which its gate opened, in order, over a list that begins with the rows of
--- before. All of them, and then each gross was weighed; or, where its end tells that an ask had no
--- answer, the first of them.
+-- What the worker of a lane added: the acts of its work for its batch, in order, for the grosses
+-- that its cell gave and the packs for which its gate opened, over a list that begins with the rows
+-- of before. All of them, and then each gross was weighed; or, where its end tells that an ask had
+-- no answer, the first of them.
 pub record AddsItsActs (before rows : List Entry) (lane : ℕ) (did : LaneDeed) : Type 0 where
   pub knows : IsPrefixOf before did.work.asked
   pub begins : IsPrefixOf did.work.asked rows
@@ -77,22 +74,3 @@ StandsIn rows row = (0 < row.number) × (slice_get rows (row.number - 1) ≡ Som
 -- no two of some rows have one number
 abbrev pub HaveOwnNumbers : List Row → Type 0
 HaveOwnNumbers rows = AllPairs (λ (r s : Row). r.number ≢ s.number) rows
-
--- the weighing of a pack that passed stands in a list, as a row of this lane
-pub record HasPassed (rows : List Entry) (lane pack : ℕ) : Type 0 where
-  pub entry : Entry
-  pub stands : StandsIn rows (record { number = pack; entry = entry })
-  pub by : entry.by ≡ lane
-  pub passed : is_pass entry.signal ≡ true
-
--- A lane's gate opened for the packs of its worker's rows that passed, in order: for all of them, or
--- where it failed for all but the last. Each has its row, and the end tells how many.
-pub record OpensBehindRows (rows : List Entry) (lane : ℕ) (did : LaneDeed) : Type 0 where
-  pub all : AreOpened (gate_failed did.work.ending) (passed_packs did.work.rows) did.work.opened
-  pub kept : All (HasPassed rows lane) did.work.opened
-  pub count : did.end.opened ≡ length did.work.opened
-
--- so it is of a lane; a door has no gate
-abbrev pub OpensRight : List Entry → ℕ → Deed → Type 0
-OpensRight rows lane (Worked did) = OpensBehindRows rows lane did
-OpensRight rows by (Served did) = Unit {0}
