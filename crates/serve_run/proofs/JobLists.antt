@@ -1,20 +1,26 @@
 -- The jobs of a plan: how many they are, their numbers, and what they hand back before they run.
-use Rattle.std.proofs.Common.{◌≡◌, ◌≢◌, ℕ, ◌+◌, ◌<◌, ◌≤◌, ◌==◌, ◌&&◌, Bool, true, false, not, List, [], ◌∷◌, ◌++◌, length, get_or, All, AllPairs, Option, Some, None, refl, sym, ap, ◌∙◌, subst, arith, length-append, append-nil}
+use Rattle.std.proofs.Common.{suc, ◌≡◌, ◌≢◌, ℕ, ◌+◌, ◌<◌, ◌≤◌, ◌==◌, ◌&&◌, Bool, true, false, not, List, [], ◌∷◌, ◌++◌, length, get_or, All, AllPairs, Option, Some, None, refl, sym, ap, ◌∙◌, subst, arith, length-append, append-nil}
 use Rattle.std.specs.List.{filter_map, list_any}
 use Rattle.std.proofs.lemmas.Bool.Decides.{nat_tests}
 use Rattle.std.proofs.lemmas.List.Elements.{All-append, All-cons, All-head, All-nil, All-tail, All-weaker, filter_map-append}
+use Rattle.std.proofs.lemmas.List.{length-map}
 use Rattle.std.proofs.lemmas.List.Kept.{AllPairs-cons}
 use Rattle.hall_limits.specs.declared.TheConstants.{MAX_LANE}
 use Rattle.hall_plan.specs.declared.types.PlannedLane.{PlannedLane}
 use Rattle.hall_plan.specs.Limits.{IsNumbered}
 use Rattle.hall_plan.specs.Plans.{are_distinct}
+use Rattle.book_words.specs.declared.act.Entry.{Entry}
+use Rattle.book_words.specs.Callers.{Known}
+use Rattle.lane_worker.specs.Works as lanes
+use Rattle.office_door.specs.Doors as doors
 use Rattle.lane_worker.specs.declared.ending.LaneEnd.{LaneEnd}
 use Rattle.office_door.specs.declared.ending.DoorEnd.{DoorEnd}
 use Rattle.session_jobs.specs.declared.work.Work.{Work}
+use Rattle.session_jobs.specs.Runs.{HaveRun, Run}
 use Rattle.session_jobs.specs.Works.{number_of}
 use Rattle.serve_run.specs.Jobs.{lane_job, lane_jobs, door_jobs, jobs_of, lane_of, lane_end_of, door_of, door_end_of, Handed, handed_in, handed_back}
 
-module _ {L O : Type 0} where
+module _ (L O : Type 0) where
   abbrev Apart : Work L O → Work L O → Type 0
   Apart v w = number_of v ≢ number_of w
 
@@ -51,7 +57,7 @@ module _ {L O : Type 0} where
       (λ w from. omega (arith, from)) (door_jobs (n + 1) doors) (doors_from (n + 1) doors))
 
   doors_apart : (n : ℕ) (doors : List O) → AllPairs Apart (door_jobs {L = L} n doors)
-  doors_apart n [] i j d less inside = absurd (omega (arith, inside))
+  doors_apart n [] = λ i j d less inside. absurd (omega (arith, inside))
   doors_apart n (door ∷ doors) = AllPairs-cons Apart _ (door_jobs (n + 1) doors)
       (All-weaker (IsFrom (MAX_LANE + (n + 1))) (λ w. MAX_LANE + n ≢ number_of w)
       (λ w from same. absurd (omega (arith, from, same))) (door_jobs (n + 1) doors)
@@ -151,3 +157,20 @@ module _ {L O : Type 0} where
         let ds = both door_of [] doors (no_doors plan lanes) (doors_back 1 doors) in
         let des = both door_end_of [] [] (no_door_ends plan lanes) (unended 1 doors) in
         λ i. record { lanes = ls i; lane_ends = les i; doors = ds i; door_ends = des i }
+
+  -- they are all of them, where lanes and then doors were added to none
+  pub jobs_made : (plan said : List PlannedLane) (lanes : List L) (doors : List O)
+      (none with_lanes all : List (Work L O)) → none ≡ [] → said ≡ plan
+      → with_lanes ≡ none ++ lane_jobs said lanes → all ≡ with_lanes ++ door_jobs 1 doors
+      → all ≡ jobs_of plan lanes doors
+  jobs_made plan said lanes doors none with_lanes all empty same first second =
+      second ∙ ap (λ xs. xs ++ door_jobs 1 doors)
+      (first ∙ (ap (λ xs. xs ++ lane_jobs said lanes) empty ∙ ap (λ ps. lane_jobs ps lanes) same))
+
+  -- as many come back as ran
+  pub run_many : (lane_at : Known → L → lanes.Site) (door_at : Known → O → doors.Site) (limit : ℕ)
+      (before rows : List Entry) (failed : ℕ) (was now : List (Work L O))
+      → HaveRun lane_at door_at limit before rows failed was now → length now ≡ length was
+  run_many lane_at door_at limit before rows failed was now ran =
+      sym (ap length ran.jobs_behind) ∙ (length-map ran.runs (λ (r : Run L O). r.now)
+      ∙ (sym (length-map ran.runs (λ (r : Run L O). r.was)) ∙ ap length ran.jobs_before))

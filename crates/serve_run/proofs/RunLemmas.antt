@@ -1,6 +1,6 @@
 -- What a whole run keeps, from its mount to the end of its jobs.
 use Rattle.std.specs.Prelude.{⊤}
-use Rattle.std.proofs.Common.{◌≡◌, ◌⊎◌, inl, inr, ⊎_elim, ℕ, ◌+◌, ◌<◌, ◌≤◌, min, List, [], ◌∷◌, ◌++◌, length, take, Option, Some, None, refl, sym, ap, ◌∙◌, subst, arith, length-append}
+use Rattle.std.proofs.Common.{◌≡◌, ◌⊎◌, inl, inr, ⊎_elim, ℕ, ◌+◌, ◌<◌, ◌≤◌, min, List, [], ◌∷◌, ◌++◌, length, take, Bool, true, false, Option, Some, None, Result, Ok, refl, sym, ap, ◌∙◌, subst, arith, length-append}
 use Rattle.std.proofs.lemmas.List.{take_min}
 use Rattle.device_facts.specs.Prefix.{IsPrefixOf}
 use Rattle.disk_core.specs.declared.disk.Disk as disk
@@ -9,7 +9,12 @@ use Rattle.book_journal.specs.Mounting.{KeepsFromSync}
 use Rattle.book_store.specs.declared.store.Store.{Store}
 use Rattle.book_store.specs.Images.{HoldsBook}
 use Rattle.book_store.specs.Kept.{CrashLeaves, HasKept}
-use Rattle.book_store.specs.Stores.{disk_of, entries_of, Hangs, HangsWith}
+use Rattle.book_store.specs.Stores.{disk_of, entries_of, held_of, limit_of, Hangs, HangsWith, HasBook}
+use Rattle.book_store.proofs.KeptLemmas.{same_begins}
+use Rattle.book_store.specs.declared.types.RestError.{RestError}
+use Rattle.book_store.specs.Resting.{HasNothingToKeep, HoldsOwnSnapshot}
+use Rattle.store_runs.specs.Runs.{Goes, HasGrown}
+use Rattle.store_runs.proofs.StoreSteps.{on_unfinished}
 use Rattle.session_laws.specs.Sessions.{HoldsOrOneMore, LeavesFrom, KeepsRun, RestsOnDisk}
 
 -- a crash that leaves the first so many rows leaves no more than there are
@@ -26,7 +31,8 @@ leaves held rows short c crash = record {
 module _ {D : Type 0} (g : disk.Ghosts D) (held : List Entry) (start : D) (store : Store D)
     (kept : HasKept g held start None store) where
   none_hangs : (entry : Entry) → HangsWith g store entry → ⊥
-  none_hangs entry hangs = let no : None ≡ Some entry = kept.hung entry hangs in absurd no
+  none_hangs entry hangs =
+      absurd (let never : None ≡ Some entry = kept.hung entry hangs in cc)
 
   -- of a store over which nothing was offered that isn't there a crash leaves the book
   pub rests_kept : RestsOnDisk g store
@@ -60,3 +66,43 @@ module _ {D : Type 0} (g : disk.Ghosts D) (held : List Entry) (start : D) (store
         };
         end = λ c image. inl (rests_kept.images c image);
       }
+
+-- a store for whose rows room was made goes on as it is
+pub reserved : {D : Type 0} (g : disk.Ghosts D) (old new : Store D)
+    → entries_of new ≡ entries_of old → limit_of new ≡ limit_of old → held_of new ≡ held_of old
+    → disk_of new ≡ disk_of old → (Hangs new → Hangs old) → (HasBook g old → HasBook g new)
+    → ((entry : Entry) → HangsWith g new entry → HangsWith g old entry)
+    → Goes {T = Unit {0}} g (Ok tt) old new
+reserved {D} g old new rows limit held same_disk hangs book hung =
+    record {
+      limit = limit;
+      held = held;
+      begins = same_begins (entries_of old) (entries_of new) rows;
+      kept = λ first start has. record {
+        has = book has.has;
+        begins = subst (λ (es : List Entry). IsPrefixOf first es) (sym rows) has.begins;
+        hung = λ entry hangs_so. has.hung entry (hung entry hangs_so);
+        moments = subst (λ (d : D). KeepsFromSync g start d (CrashLeaves first (entries_of new)))
+            (sym same_disk)
+            (subst (λ (es : List Entry). KeepsFromSync g start (disk_of old) (CrashLeaves first es))
+            (sym rows) has.moments);
+        images = λ c image. subst (λ (es : List Entry). HoldsBook es c ⊎ HoldsBook es c) (sym rows)
+            (has.images c (subst (λ (d : D). g.image d c) same_disk image));
+      };
+      cause = ap (λ (d : D). g.faults d) same_disk;
+      calm = λ quiet hung_now. hangs hung_now;
+      still = λ quiet few small. same_disk;
+      snapshot = λ finished. absurd (on_unfinished tt finished);
+    }
+
+-- a snapshot of rows that were added is kept where nothing hangs
+pub keeps_own : {D : Type 0} (g : disk.Ghosts D) (old new : Store D) (opened : ℕ)
+    (result : Result Bool RestError) (kept : Bool) → result ≡ Ok kept
+    → (result ≡ Ok false → HasNothingToKeep old) → (result ≡ Ok true → HoldsOwnSnapshot g new)
+    → ¬ Hangs old → HasGrown opened (entries_of old) → HoldsOwnSnapshot g new
+keeps_own g old new opened result true is idle holds calm grown = holds is
+keeps_own g old new opened result false is idle holds calm grown = nothing (idle is)
+  where
+    nothing : {A : Type 0} → HasNothingToKeep old → A
+    nothing (inl empty) = absurd (omega (arith, grown, ap length empty))
+    nothing (inr hung) = absurd (calm hung)

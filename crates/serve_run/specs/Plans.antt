@@ -13,6 +13,7 @@ use Rattle.hall_plan.specs.declared.types.PlannedLane.{PlannedLane}
 use Rattle.lane_worker.specs.Works as lanes
 use Rattle.office_door.specs.Doors as doors
 use Rattle.session_laws.specs.Sessions.{KeepsRun}
+use Rattle.session_history.specs.Histories.{OneHistory}
 use Rattle.session_jobs.specs.declared.begin.JobsEnd.{JobsEnd}
 use Rattle.session_jobs.specs.declared.work.Work.{Work}
 use Rattle.session_jobs.specs.Runs.{HaveRun}
@@ -51,6 +52,8 @@ pub record RunsPlan {D L O : Type 0} (disk : disk.Ghosts D) (lane_at : Known →
     pub failed : ℕ
     pub ran : HaveRun lane_at door_at (limit_of store) (entries_of store) (entries_of end.store)
         failed (jobs_of plan given.lanes given.doors) jobs
+    pub history : OneHistory lane_at door_at (limit_of store) (entries_of store)
+        (entries_of end.store) failed (jobs_of plan given.lanes given.doors) jobs
     pub back : handed_at end ≡ handed_back jobs
     pub faults : counted (disk.faults (disk_of store)) failed ≤ disk.faults (disk_of end.store)
     pub says : SaysJobs before now (serve_text jobs (entries_of end.store)) failed (handed_at end)

@@ -21,6 +21,7 @@ use Rattle.store_runs.specs.declared.stop.Stop.TheVariants as stops
 use Rattle.store_runs.specs.Books.{BookState}
 use Rattle.store_runs.specs.Runs.{CountsStop}
 use Rattle.text_streams.specs.Streams.{Stream, WroteAll, IsCutIn}
+use Rattle.session_history.specs.Histories.{OneHistory}
 use Rattle.session_jobs.specs.declared.work.Work.{Work}
 use Rattle.session_jobs.specs.Runs.{HaveRun}
 use Rattle.setup_run.specs.declared.planning.NoPlan.TheVariants as no_plan
@@ -86,6 +87,8 @@ pub record HasRunPlan {L O : Type 0} (lane_at : Known → L → lanes.Site)
   pub failed : ℕ
   pub ran : HaveRun lane_at door_at book.limit set_up rows failed
       (jobs_of plan.lanes before.handed.lanes before.handed.doors) jobs
+  pub history : OneHistory lane_at door_at book.limit set_up rows failed
+      (jobs_of plan.lanes before.handed.lanes before.handed.doors) jobs
   pub back : now.handed ≡ handed_back jobs
   pub faults : counted before.faults failed ≤ now.faults
   pub says : SaysJobs before.output now.output (serve_text jobs rows) failed now.handed stop
@@ -109,16 +112,21 @@ pub record IsPrepared (book : BookState) (count : ℕ) (before now : Stream) (ro
   pub read : ReadsPlan count before now plan
   pub asked : IsSetUp book plan.setup rows
 
--- why no job ran: the input failed; the setup stopped; or there was no memory, for the plan, in the
--- setup, or for the room that is taken before jobs run
-abbrev pub IsStoppedEarly : BookState → ℕ → Stream → Stream → List Entry → Stop → Type 0
-IsStoppedEarly book count before now rows stops.ReadFault =
+-- there is no plan, since the input failed or there was no memory for it: the rows are as they were
+abbrev pub HasNoPlan : BookState → ℕ → Stream → Stream → List Entry → Stop → Type 0
+HasNoPlan book count before now rows stops.ReadFault =
     ReadsNoPlan count before now no_plan.ReadFault × (rows ≡ book.entries)
-IsStoppedEarly book count before now rows stops.NoMemory =
-    (ReadsNoPlan count before now no_plan.NoMemory × (rows ≡ book.entries))
-    ⊎ StopsSettingUp book count before now rows stops.NoMemory
-    ⊎ IsPrepared book count before now rows
-IsStoppedEarly book count before now rows stop = StopsSettingUp book count before now rows stop
+HasNoPlan book count before now rows stops.NoMemory =
+    ReadsNoPlan count before now no_plan.NoMemory × (rows ≡ book.entries)
+HasNoPlan book count before now rows stop = ⊥
+
+-- why no job ran: there is no plan; its setup stopped; or there was no memory for the room that is
+-- taken before jobs run
+abbrev pub IsStoppedEarly : BookState → ℕ → Stream → Stream → List Entry → Stop → Type 0
+IsStoppedEarly book count before now rows stop =
+    HasNoPlan book count before now rows stop
+    ⊎ (StopsSettingUp book count before now rows stop
+    ⊎ ((stop ≡ stops.NoMemory) × IsPrepared book count before now rows))
 
 -- what each way to stop says of a `serve` over a book
 abbrev pub ExplainsServe : {L O : Type 0} → (Known → L → lanes.Site) → (Known → O → doors.Site)

@@ -11,6 +11,7 @@ use session_jobs::{DoorJob, LaneJob, Work};
 use std::alloc::{AllocError, Global};
 
 /// The lanes and the doors that jobs hand back, and how they ended.
+#[derive(Drop)]
 pub struct HandedBack<L, O> {
     pub lanes: Vec<L>,
     pub lane_ends: Vec<LaneEnd>,

@@ -1,5 +1,6 @@
 //! A whole `serve` over a book.
 ghost use Rattle.std.specs.Prelude.{◌≡◌, ◌≢◌, ◌≤◌, All, IfOk, false, length, true};
+ghost use Rattle.std.specs.List.{list_any};
 ghost use Rattle.hall_limits.specs.declared.TheConstants.{MAX_DOOR, MAX_LANE};
 ghost use Rattle.book_store.specs.Stores.{disk_of, entries_of, held_of, Hangs, IsSound};
 ghost use Rattle.hall_plan.specs.Limits.{IsNumbered};
@@ -11,12 +12,12 @@ ghost use Rattle.store_runs.specs.declared.stop.Stop.TheVariants.{NoMemory};
 ghost use Rattle.text_streams.specs.Streams.{input_at, output_at};
 ghost use Rattle.serve_run.specs.declared.stop.JobsStop.TheVariants.{WriteFault};
 ghost use Rattle.serve_run.specs.declared.stop.ServeStop.TheVariants.{Early};
-ghost use Rattle.serve_run.specs.Jobs.{handed_in};
+ghost use Rattle.serve_run.specs.Jobs.{handed_in, handed_back};
 ghost use Rattle.serve_run.specs.Keeping.{ServeGoes};
 ghost use Rattle.serve_run.specs.Plans.{handed_at, EndsPlan, IsFinished, IsRoomFor, IsTextRoom};
 ghost use Rattle.serve_run.specs.Plans.{RestsBehind, Says};
 ghost use Rattle.serve_run.specs.Rooms.{IsEmpty, HasRoomFor, lists_of};
-ghost use Rattle.serve_run.specs.Serving.{moment, some_lack, ExplainsServe};
+ghost use Rattle.serve_run.specs.Serving.{door_lacks, lane_lacks, moment, some_lack, ExplainsServe};
 
 use crate::door_ends::DoorEnds;
 use crate::jobs::{HandedBack, hand_back, push_doors, push_lanes, take_room};
@@ -25,8 +26,8 @@ use crate::prepare::{Prepared, Unprepared, prepare};
 use crate::stop::{JobsStop, ServeStop};
 use book_store::{RestError, Store};
 use disk_core::{Disk, Door, Sink, Source};
-use lane_worker::{Lane, LaneStop};
-use office_door::DoorStop;
+use lane_worker::{Lane, LaneEnd, LaneStop};
+use office_door::{DoorEnd, DoorStop};
 use script_run::LaneEnds;
 use session_jobs::{JobsEnd, Work, run_jobs};
 use std::alloc::{AllocError, Global};
@@ -50,6 +51,7 @@ pub struct ServeEnd<D: Disk, L, O> {
 }
 
 // The room that is taken before jobs run: for them, for what they hand back, and for what is said.
+#[derive(Drop)]
 struct Room<L, O> {
     jobs: Vec<Work<L, O>>,
     handed: HandedBack<L, O>,
@@ -78,9 +80,10 @@ fn end_early<D: Disk, L, O>(
     ensures store { result.store ≡ early.store }
     ensures handed { handed_at result ≡ handed_in lanes.items doors.items }
 {
+    let Unprepared { store, stop } = early;
     ServeEnd {
-        stop: early.stop,
-        store: early.store,
+        stop,
+        store,
         lanes,
         lane_ends: LaneEnds::new(Vec::new(alloc)),
         doors,
@@ -108,12 +111,45 @@ fn end_with<D: Disk, L, O>(
     }
 }
 
+// Whether memory was lacking for a lane.
+fn lane_lacks(end: &LaneEnd) -> bool
+    ensures { result ≡ lane_lacks end.now.stop }
+{
+    match end.stop {
+        LaneStop::NoMemory => true,
+        _ => false,
+    }
+}
+
+// Whether memory was lacking for a door.
+fn door_lacks(end: &DoorEnd) -> bool
+    ensures { result ≡ door_lacks end.now.stop }
+{
+    match end.stop {
+        DoorStop::NoMemory => true,
+        _ => false,
+    }
+}
+
+// Whether memory was lacking for a lane of some.
+fn lanes_lack(ends: &[LaneEnd]) -> bool
+    ensures { result ≡ list_any (λ end. lane_lacks end.stop) ends.now }
+{
+    ends.iter().any(lane_lacks)
+}
+
+// Whether memory was lacking for a door of some.
+fn doors_lack(ends: &[DoorEnd]) -> bool
+    ensures { result ≡ list_any (λ end. door_lacks end.stop) ends.now }
+{
+    ends.iter().any(door_lacks)
+}
+
 // Whether memory was lacking for a lane or for a door.
 fn some_lack<L, O>(handed: &HandedBack<L, O>) -> bool
     ensures { result ≡ some_lack (lists_of handed.now) }
 {
-    handed.lane_ends.iter().any(|end| end.stop == LaneStop::NoMemory)
-        || handed.door_ends.iter().any(|end| end.stop == DoorStop::NoMemory)
+    lanes_lack(&handed.lane_ends) || doors_lack(&handed.door_ends)
 }
 
 // Keeps a snapshot behind the jobs, where nothing failed and rows were added to those of before.
@@ -168,8 +204,8 @@ fn finish<K: Sink, D: Disk, L, O>(
     let JobsEnd {
         mut store,
         jobs,
+        ran: _,
         faults,
-        ..
     } = end;
     let mut text = text;
     compose(&jobs, store.book(), &mut text);
@@ -205,24 +241,48 @@ fn serve_plan<
         prepared.store prepared.lanes (handed_in lanes.items doors.items)
         (output_at K.Sink output.old) (output_at K.Sink output.new) result result.stop }
 {
+    let Prepared {
+        store,
+        lanes: planned,
+    } = prepared;
     let Ok(room) = take_all(alloc, lanes.len() + doors.len()) else {
-        return end_early(alloc, without_memory(prepared.store), lanes, doors);
+        return end_early(alloc, without_memory(store), lanes, doors);
     };
     let Room {
         mut jobs,
         handed,
         text,
     } = room;
-    push_lanes(&mut jobs, lanes, prepared.lanes.as_slice());
+    push_lanes(&mut jobs, lanes, planned.as_slice());
     push_doors(&mut jobs, doors);
-    let opened = prepared.store.held();
-    let end = run_jobs(rt, alloc, prepared.store, jobs);
+    let opened = store.held();
+    let end = run_jobs(rt, alloc, store, jobs);
     if end.ran {
         finish(end, opened, handed, text, output)
     } else {
-        let early = without_memory(end.store);
-        end_with(early.stop, early.store, hand_back(end.jobs, handed))
+        give_back(end, handed)
     }
+}
+
+// Hands back jobs that didn't run, for want of memory.
+fn give_back<D: Disk, L, O>(
+    end: JobsEnd<D, L, O>,
+    room: HandedBack<L, O>,
+) -> ServeEnd<D, L, O>
+    requires empty { IsEmpty room }
+    requires room { HasRoomFor (length end.jobs.items) room }
+    ensures stop { result.stop ≡ Early NoMemory }
+    ensures store { result.store ≡ end.store }
+    ensures handed { handed_at result ≡ handed_back end.jobs.items }
+{
+    let JobsEnd {
+        store,
+        jobs,
+        ran: _,
+        faults: _,
+    } = end;
+    let early = ServeStop::Early(Stop::NoMemory);
+    end_with(early, store, hand_back(jobs, room))
 }
 
 // No job runs over this store, for want of memory.
