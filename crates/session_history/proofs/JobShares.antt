@@ -1,5 +1,5 @@
 -- What each job did, and that all of it is so in the rows that the session leaves.
-use Rattle.std.proofs.Common.{◌≡◌, ⊎_elim, inl, inr, ℕ, ◌+◌, min, List, [], ◌∷◌, ◌++◌, length, map, All, Option, refl, sym, ◌∙◌, ap, arith}
+use Rattle.std.proofs.Common.{◌≡◌, ⊎_elim, inl, inr, ℕ, ◌+◌, min, List, [], ◌∷◌, ◌++◌, length, map, subst, All, Option, refl, sym, ◌∙◌, ap, arith}
 use Rattle.std.specs.Bool.{⊤}
 use Rattle.std.proofs.lemmas.List.Elements.{All-cons, All-head, All-nil, All-tail}
 use Rattle.device_facts.specs.Prefix.{IsPrefixOf}
