@@ -1,6 +1,6 @@
 -- From the end of a session to what all its jobs come to.
 use Rattle.std.specs.Prelude.{⊤}
-use Rattle.std.proofs.Common.{zero, suc, ◌≡◌, ℕ, ◌+◌, ◌-◌, ◌^◌, ◌<◌, ◌≤◌, min, List, [], ◌∷◌, ◌++◌, length, map, drop, get_or, All, Contains, sum_by, Option, Some}
+use Rattle.std.proofs.Common.{zero, suc, ◌≡◌, ℕ, ◌+◌, ◌-◌, ◌^◌, ◌<◌, ◌≤◌, min, List, [], ◌∷◌, ◌++◌, length, map, drop, get_or, All, Contains, sum_by, Option, Some, IsSome}
 use Rattle.std.proofs.Common.{refl, sym, ap, ◌∙◌, subst, arith, append-nil, length-append}
 use Rattle.std.specs.List.{AllZip}
 use Rattle.std.proofs.lemmas.List.{length-map}
@@ -24,12 +24,13 @@ use Rattle.office_door.specs.Doors.{FailedSoOften}
 use Rattle.session_laws.specs.declared.session.Session as session
 use Rattle.session_laws.specs.Sessions.{Begins}
 use Rattle.shared_book.specs.Closing.{IsCalm, MakeRows}
-use Rattle.shared_book.specs.Passes.{entries_in, known_of, row_of}
-use Rattle.turn_pass.specs.History.{BookState, PassState, newcomer as new_pass}
+use Rattle.shared_book.specs.Locked.{IsNewSeat}
+use Rattle.shared_book.specs.Passes.{IsPassOf, entries_in, known_of, row_of}
+use Rattle.turn_pass.specs.History.{BookState, PassState, TurnState, opening, newcomer as new_pass}
 use Rattle.session_jobs.specs.declared.job.Job.{Job}
 use Rattle.session_jobs.specs.declared.work.Work.{Work}
 use Rattle.session_jobs.specs.Ends.{HasEnded}
-use Rattle.session_jobs.specs.Jobs.{IsRun, new_job}
+use Rattle.session_jobs.specs.Jobs.{IsReady, IsRun, new_job, with_passes}
 use Rattle.session_jobs.specs.Runs.{newcomer, IsDoneBeside, Run, HasRun, HaveRun, faults_answered}
 use Rattle.session_jobs.specs.Works.{number_of, lane_site, door_site}
 use Rattle.session_jobs.proofs.WorkLemmas.{by_stays}
@@ -176,6 +177,78 @@ module _ {N L O : Type 0} (session : session.Ghosts N) (weighs : cell.Ghosts L)
               (cons_head (Some p) (seat_of j) (some ps) (map seat_of js) seats)) rest.done;
         }
 
+  -- new jobs have passes of the session
+  pub all_ready : {A B : Type 0} (seat : BookState Entry) → seat.table ≡ session.table
+      → seat.history ≡ length session.before → (works : List (Work L O))
+      → All (IsReady {A = A} {B = B} session) (map (new_job seat) works)
+  all_ready {A} {B} seat table behind works k d inside =
+      All-map (IsReady {A = A} {B = B} session) (new_job seat) works
+      (λ i e less. record {
+        pass = new_pass seat (number_of (get_or works i e));
+        seated = refl;
+        of_session = record { same_table = table; behind = behind; booked = refl };
+      }) k d inside
+
+  -- the book seat of the session, when all passes were made
+  pub new_seat : (seat : BookState Entry) (turn : TurnState) (rows faults : ℕ) (bys : List ℕ)
+      → seat ≡ with_passes (opening turn rows faults) bys → turn.table ≡ session.table
+      → turn.history ≡ length session.before → rows ≡ length bys + 1 → faults ≡ length bys + 1
+      → IsNewSeat session seat
+  new_seat seat turn rows faults bys is table behind row_parts fault_parts =
+      subst (IsNewSeat session) (sym is) (record {
+        same_table = table;
+        behind = behind;
+        parts = (omega (arith, row_parts), omega (arith, fault_parts));
+        appended = refl;
+        booked = refl;
+      })
+
+  -- jobs that were run have their seats, which are passes of the session
+  module _ {A B : Type 0} where
+    pub all_seated : (jobs behind : List (Job L O A B))
+        → AllZip (IsRun session lane_at door_at) jobs behind
+        → All (λ (j : Job L O A B). IsSome j.seat) behind
+    all_seated [] [] run = All-nil (λ (j : Job L O A B). IsSome j.seat)
+    all_seated [] (j ∷ js) run = absurd run
+    all_seated (i ∷ is) [] run = absurd run
+    all_seated (i ∷ is) (j ∷ js) run =
+        All-cons (λ (k : Job L O A B). IsSome k.seat) j js
+        (subst (λ (s : Option (PassState Entry)). IsSome s) (sym run.0.seat_behind) refl)
+        (all_seated is js run.1)
+
+    pub all_passes : (jobs behind : List (Job L O A B)) (ends : List (PassState Entry))
+        → AllZip (IsRun session lane_at door_at) jobs behind
+        → map (λ (p : PassState Entry). Some p) ends ≡ map (λ (j : Job L O A B). j.seat) behind
+        → All (IsPassOf session) ends
+    all_passes jobs behind [] run seats = All-nil (IsPassOf session)
+    all_passes [] [] (p ∷ ps) run seats = absurd (omega (arith, ap length seats))
+    all_passes [] (j ∷ js) (p ∷ ps) run seats = absurd run
+    all_passes (i ∷ is) [] (p ∷ ps) run seats = absurd run
+    all_passes (i ∷ is) (j ∷ js) (p ∷ ps) run seats =
+        let seat_of : Job L O A B → Option (PassState Entry) = λ k. k.seat in
+        let some : List (PassState Entry) → List (Option (PassState Entry)) = map (λ p. Some p) in
+        let head = cons_head (Some p) (seat_of j) (some ps) (map seat_of js) seats in
+        let same : run.0.last ≡ p = let all : Some p ≡ Some run.0.last =
+        head ∙ run.0.seat_behind in cc in
+        All-cons (IsPassOf session) p ps (subst (IsPassOf session) same run.0.of_session)
+        (all_passes is js ps run.1
+        (cons_tail (Some p) (seat_of j) (some ps) (map seat_of js) seats))
+
+    pub all_many : (jobs behind : List (Job L O A B)) (ends : List (PassState Entry))
+        → AllZip (IsRun session lane_at door_at) jobs behind
+        → map (λ (p : PassState Entry). Some p) ends ≡ map (λ (j : Job L O A B). j.seat) behind
+        → length ends ≡ length jobs
+    all_many [] [] ends run seats =
+        sym (length-map ends (λ (p : PassState Entry). Some p)) ∙ ap length seats
+    all_many [] (j ∷ js) ends run seats = absurd run
+    all_many (i ∷ is) [] ends run seats = absurd run
+    all_many (i ∷ is) (j ∷ js) [] run seats = absurd (omega (arith, ap length seats))
+    all_many (i ∷ is) (j ∷ js) (p ∷ ps) run seats =
+        let seat_of : Job L O A B → Option (PassState Entry) = λ k. k.seat in
+        let some : List (PassState Entry) → List (Option (PassState Entry)) = map (λ p. Some p) in
+        ap (λ n. suc n) (all_many is js ps run.1
+        (cons_tail (Some p) (seat_of j) (some ps) (map seat_of js) seats))
+
   -- what all jobs come to, from the end of the session
   module _ (works : List (Work L O)) (ends : List (PassState Entry))
       (behind : List (Work L O)) (m : Matched works ends behind) (rows : List Entry)
@@ -245,7 +318,7 @@ module _ {N L O : Type 0} (session : session.Ghosts N) (weighs : cell.Ghosts L)
   module _ {D A B : Type 0} (disk : disk.Ghosts D) (first last : Store D) (begins : Begins disk session first)
       (jobs : List (Job L O A B)) (works : List (Work L O)) (failed : ℕ)
       (ended : HasEnded disk session lane_at door_at jobs last works failed) where
-    booked : ℕ
+    abbrev booked : ℕ
     booked = sum_by (λ (p : PassState Entry). p.faults) ended.ends
 
     pub failed_right : FailedSoOften (disk.faults (disk_of first)) (disk.faults (disk_of last)) failed
@@ -291,6 +364,6 @@ module _ {N L O : Type 0} (session : session.Ghosts N) (weighs : cell.Ghosts L)
         others = subst (λ (es : List Entry). All
             (λ (e : Entry). Contains (map number_of works) e.by) (drop (length es) rows)) begins.rows
             (others_right works ended.ends jobs m rows ended.rows);
-        faults = ended.told ∙ (sym (counts faults_of FAULTS_END 0 ended.ends)
-            ∙ ap (λ n. min n FAULTS_END) same);
+        faults = let all = counts faults_of FAULTS_END 0 ended.ends in
+            omega (arith, ended.told, all, same);
       }

@@ -53,7 +53,12 @@ fn run_all<
         (door_site O.Source O.connections)) jobs.old jobs.new }
 {
     let threads = jobs.len().max(1);
-    thread::for_each_mut(rt, jobs, threads, &|_, job| job.run(rt, alloc, shared));
+    let run = |_: usize, job: &mut Job<L, O, A, B>|
+        requires { IsReady N.Session job.now }
+        ensures { IsRun N.Session (lane_site L.Cell L.Gate) (door_site O.Source O.connections)
+            job.entry.now job.exit.now }
+    { job.run(rt, alloc, shared) };
+    thread::for_each_mut(rt, jobs, threads, &run);
 }
 
 /// Holds a session: its jobs run, and it ends when the last of them has.

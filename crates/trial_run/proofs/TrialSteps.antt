@@ -15,15 +15,11 @@ use Rattle.script_run.specs.Asking.{exchange_at}
 use Rattle.script_run.specs.Commands.{after_commands}
 use Rattle.script_run.specs.Transcript.{after_command}
 use Rattle.script_run.specs.Unanswered.{MayStopAt}
+use Rattle.script_run.proofs.CommandsInTurn.{after-append}
 use Rattle.trial_run.specs.Steps.{StopsIn, Asks}
 use Rattle.trial_run.specs.TrialScripts.{in_turn, sample_question}
 
--- ---- lists of commands
-
-pub after-append : (book : BookState) (first more : List Command)
-    → after_commands book (first ++ more) ≡ after_commands (after_commands book first) more
-after-append book [] more = refl
-after-append book (command ∷ first) more = after-append (after_command book command) first more
+-- ---- scripts in turn
 
 -- scripts in turn, and then more
 pub turns-append : {A : Type 0} (script : BookState → A → List Command) (book : BookState)
@@ -257,7 +253,7 @@ module _ {D : Type 0} (g : disk.Ghosts D) where
         calm = tt;
       })
 
-  -- ---- scripts in turn
+  -- ---- steps of scripts in turn
 
   module _ {A : Type 0} (script : BookState → A → List Command) (old : CallerView D) where
     abbrev turns : List A → List Command

@@ -3,17 +3,17 @@ use Rattle.std.proofs.Common.{rules, ◌≡◌, ◌<◌, length, ◌∙◌}
 use Rattle.std.proofs.lemmas.Result.{err_from_is_err_and}
 use Rattle.text_streams.specs.Streams.{input_at}
 use Rattle.text_streams.proofs.ReadingLemmas.{taken_whole}
-use Rattle.import_run.proofs.ImportReading.{unbegun, taken_next, stops_adding, stops_unread}
-use Rattle.import_run.proofs.whole.read_whole.Goals as goal
+use Rattle.whole_input.proofs.WholeReading.{unbegun, taken_next, stops_adding, stops_unread}
+use Rattle.whole_input.proofs.whole.read_whole.Goals as goal
 
 pub returns-in_default-clause-stops : goal.returns-in_default-clause-stops
-returns-in_default-clause-stops g c = unbegun (input_at g.S.Source c.args.input.now)
+returns-in_default-clause-stops g c = unbegun c.args.most (input_at g.S.Source c.args.input.now)
 
 pub returns-in_err-read-clause-stops : goal.returns-in_err-read-clause-stops
 returns-in_err-read-clause-stops g c =
     let p = err_from_is_err_and c.from_residual.result c.from_residual.ensures.1 in
     let inv = c.loop-bytes.invariant in
-    rw (p.1, p.2) (stops_unread (input_at g.S.Source c.args.input.now)
+    rw (p.1, p.2) (stops_unread c.args.most (input_at g.S.Source c.args.input.now)
     (input_at g.S.Source c.loop-bytes.input) (input_at g.S.Source c.read.new.input)
     c.loop-bytes.reader c.loop-bytes.bytes.items c.in_err-read.field-0.0 inv.taken inv.most
     inv.short c.in_err-read.ensures.none)
@@ -32,7 +32,7 @@ returns-in_err-add_piece-clause-stops g c =
     let p = err_from_is_err_and c.from_residual-in_err-add_piece.result
     c.from_residual-in_err-add_piece.ensures.1 in
     let some : 0 < length c.read.new.self.piece = search rules in
-    rw (p.1, p.2) (stops_adding (input_at g.S.Source c.args.input.now)
+    rw (p.1, p.2) (stops_adding c.args.most (input_at g.S.Source c.args.input.now)
     (input_at g.S.Source c.loop-bytes.input) (input_at g.S.Source c.read.new.input)
     c.loop-bytes.reader c.read.new.self c.loop-bytes.bytes.items
     c.piece-in-loop-bytes.result.now c.in_err-add_piece.field-0.0 c.loop-bytes.invariant.taken
