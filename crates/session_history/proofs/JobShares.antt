@@ -1,5 +1,5 @@
 -- What each job did, and that all of it is so in the rows that the session leaves.
-use Rattle.std.proofs.Common.{◌≡◌, ⊎_elim, inl, inr, ℕ, ◌+◌, min, List, [], ◌∷◌, ◌++◌, length, map, All, Option, refl, sym, ◌∙◌, ap, arith}
+use Rattle.std.proofs.Common.{◌≡◌, ⊎_elim, inl, inr, ℕ, ◌+◌, min, List, [], ◌∷◌, ◌++◌, length, map, subst, All, Option, refl, sym, ◌∙◌, ap, arith}
 use Rattle.std.specs.Bool.{⊤}
 use Rattle.std.proofs.lemmas.List.Elements.{All-cons, All-head, All-nil, All-tail}
 use Rattle.device_facts.specs.Prefix.{IsPrefixOf}
@@ -10,11 +10,12 @@ use Rattle.book_words.specs.declared.act.Ask.{Ask}
 use Rattle.book_words.specs.declared.act.Entry.{Entry}
 use Rattle.book_words.specs.Answers.{IsLegal}
 use Rattle.book_words.specs.Callers.{Known, FAULTS_END}
+use Rattle.book_words.specs.Desks.{Row}
 use Rattle.book_laws.proofs.VerdictLaws.{verdicts_stay}
 use Rattle.book_store.specs.Callers.{own_rows}
 use Rattle.lane_worker.specs.declared.cell.Cell as cell
 use Rattle.lane_worker.specs.declared.gate.Gate as gate
-use Rattle.lane_worker.specs.Endings.{faults_at, gate_failed}
+use Rattle.lane_worker.specs.Endings.{faults_at, gate_failed, stop_at}
 use Rattle.lane_worker.specs.Works as lanes
 use Rattle.lane_worker.specs.Works.{IsWork, asks_of_work}
 use Rattle.office_door.specs.Doors as doors
@@ -29,9 +30,9 @@ use Rattle.session_jobs.specs.Runs.{BrokeBefore, HasRun, IsDoneBeside, Run, newc
 use Rattle.session_jobs.specs.Works.{IsDoorDone, IsLaneDone, door_site, lane_site, number_of}
 use Rattle.session_history.specs.Deeds.{Deed, Worked, Served, LaneDeed, DoorDeed, Share, HasDone, faults_of}
 use Rattle.session_history.specs.Gates.{OpensRight}
-use Rattle.session_history.specs.Replies.{RepliesRight, NamesWhatWasSeen, TellsVerdicts, EndsRight}
+use Rattle.session_history.specs.Replies.{RepliesRight, NamesWhatWasSeen, TellsVerdicts, EndsRight, NamesOwnRows}
 use Rattle.session_history.specs.Rows.{AddsActs, AddsItsRows, is_whole, rows_added}
-use Rattle.session_history.proofs.GrownAnswers.{all_answered_on, error_on, fall_on, prefix_short}
+use Rattle.session_history.proofs.GrownAnswers.{all_answered_on, error_names, error_on, fall_on, finish_names, prefix_short}
 use Rattle.session_history.proofs.OwnRows.{opened_stand, stand_on}
 use Rattle.session_history.proofs.ReleasedPacks.{opened_released}
 use Rattle.session_history.proofs.ToldVerdicts.{all_told}
@@ -61,7 +62,7 @@ module _ {L O : Type 0} (weighs : cell.Ghosts L) (lifts : gate.Ghosts L) (reads 
   module _ (known : Known) (seen : IsPrefixOf known.seen rows) where
     module _ (was now : LaneJob L)
         (done : IsLaneDone (λ asks. ⊤)
-        (λ answered next why. BrokeBefore known next why)
+        (λ answered next why. BrokeBefore (newcomer limit before was.number) known next why)
         lane_at (newcomer limit before was.number) known was now)
         (own : own_rows was.number rows ≡ own_rows was.number before ++ known.mine) where
       abbrev lane_deed : LaneDeed
@@ -84,9 +85,17 @@ module _ {L O : Type 0} (weighs : cell.Ghosts L) (lifts : gate.Ghosts L) (reads 
             why = b.why;
             told = b.told;
             first = b.first;
-            broke = error_on known rows seen b.next limit was.number done.works.added.limit
+            broke = error_on (newcomer limit before was.number) known rows seen b.next limit was.number done.works.added.limit
                 done.works.added.by b.why b.broke;
           })) done.works.stops
+
+      names_own : NamesOwnRows before done.works.work.rows done.end.stop
+      names_own = ⊎_elim
+          (λ f. subst (NamesOwnRows before done.works.work.rows) (sym f.told)
+          (finish_names before done.works.work.rows f.ending))
+          (λ b. subst (NamesOwnRows before done.works.work.rows) (sym b.told)
+          (subst (λ (own : List Row). NamesOwnRows before own (stop_at b.why)) done.works.added.mine
+          (error_names limit was.number before known b.next b.why b.broke))) done.works.stops
 
       pub lane_held : IsHeld known (Lane was) (Lane now) (Worked lane_deed)
       lane_held =
@@ -114,7 +123,7 @@ module _ {L O : Type 0} (weighs : cell.Ghosts L) (lifts : gate.Ghosts L) (reads 
                   (answered_all _ _ asks work done.end.stop is.stops whole);
             };
             replies = ends_right;
-            places = stand;
+            places = (stand, names_own);
             closings = tt;
             gates = record {
               all = is.opened.passed;

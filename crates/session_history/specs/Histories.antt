@@ -33,7 +33,7 @@ pub record OneHistory {L O : Type 0} (lane_at : Known → L → lanes.Site)
   pub others : NobodyElse before rows shares
   -- every reply is the book's answer to the prefix that it names
   pub replies : OfEach (RepliesRight limit rows) shares
-  -- which holds, at a door, what was told there before; the rows of a worker rise
+  -- which holds all that its caller was told before
   pub places : OfEach (NamesWhatWasSeen before rows) shares
   -- each acknowledged reading stands once, as all acknowledged rows do, and they are as many as the
   -- list grew by

@@ -1,5 +1,5 @@
 -- What was answered in a session, held against the rows that it leaves.
-use Rattle.std.specs.Prelude.{◌≡◌, ◌⊎◌, ⊤, ℕ, List, length, All, Option, Some, None, IsSome, Result, Ok, Err}
+use Rattle.std.specs.Prelude.{◌≡◌, ◌⊎◌, ⊤, ℕ, ◌≤◌, List, length, All, Option, Some, None, IsSome, Result, Ok, Err}
 use Rattle.book_words.specs.declared.act.Act.TheVariants.{Close}
 use Rattle.book_words.specs.declared.act.Ask.{Ask}
 use Rattle.book_words.specs.declared.act.Entry.{Entry}
@@ -11,7 +11,10 @@ use Rattle.book_words.specs.declared.reply.Answered.{Answered}
 use Rattle.book_words.specs.declared.reply.Reply.{Reply}
 use Rattle.book_words.specs.declared.reply.Reply.TheVariants.{Closed}
 use Rattle.book_words.specs.Callers.{IsRight, MayFindNoMemory}
+use Rattle.book_words.specs.Desks.{Row}
 use Rattle.book_words.specs.Verdicts.{verdict_of}
+use Rattle.lane_worker.specs.declared.ending.LaneStop.{LaneStop}
+use Rattle.lane_worker.specs.declared.ending.LaneStop.TheVariants as stop
 use Rattle.lane_worker.specs.Works.{StandBehind, Finishes, BreaksOff, asks_of_work}
 use Rattle.office_door.specs.Doors.{all_exchanges}
 use Rattle.office_door.specs.Exchanges.{Exchange, IsAnsweredIn, IsLost, NeverFall, places_of}
@@ -49,11 +52,19 @@ abbrev pub RepliesRight : ℕ → List Entry → ℕ → Deed → Type 0
 RepliesRight limit rows lane (Worked did) = EndsRight limit rows lane did
 RepliesRight limit rows by (Served did) = RespondsRight limit by rows did.visits
 
--- The places that a door's answers name never fall, and each is behind the rows of before. A worker's
--- rows stand behind all that it had seen when it was told of its lane, each behind the one before.
+-- a refusal that is kept in a worker's end names at least the rows of before, and the worker's own
+abbrev pub NamesOwnRows : List Entry → List Row → LaneStop → Type 0
+NamesOwnRows before own (stop.Refused refused) =
+    (length before ≤ refused.at) × All (λ (row : Row). row.number ≤ refused.at) own
+NamesOwnRows before own _ = Unit {0}
+
+-- The places that a door's answers name never fall, and none is before the rows of before. A worker's
+-- rows stand behind all that it had seen when it was told of its lane, each behind the one before;
+-- and a refusal that ended its work names them all.
 abbrev pub NamesWhatWasSeen : List Entry → List Entry → ℕ → Deed → Type 0
 NamesWhatWasSeen before rows lane (Worked did) =
     StandBehind rows lane (length did.work.asked) did.work.rows
+    × NamesOwnRows before did.work.rows did.end.stop
 NamesWhatWasSeen before rows by (Served did) =
     NeverFall (length before) (places_of (all_exchanges did.visits)) (length rows)
 

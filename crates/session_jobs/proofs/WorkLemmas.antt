@@ -20,7 +20,7 @@ use Rattle.session_jobs.specs.Runs.{BrokeBefore, IsDoneBeside}
 module _ {L O : Type 0} (Reached : List Ask → Type 0) (Broke : List Ask → Ask → AskError → Type 0)
     (lane_at : Known → L → lanes.Site) (door_at : Known → O → doors.Site) (first last : Known)
     (broke : (answered : List Ask) (next : Ask) (why : AskError) → Broke answered next why
-    → BrokeBefore last next why) where
+    → BrokeBefore first last next why) where
   pub beside : (was now : Work L O) → IsDone Reached Broke lane_at door_at first last was now
       → IsDoneBeside lane_at door_at first last was now
   beside (Lane was) (Lane now) done =

@@ -13,6 +13,7 @@ use Rattle.book_store.specs.Callers.{own_rows}
 use Rattle.lane_worker.specs.Works as lanes
 use Rattle.office_door.specs.Doors as doors
 use Rattle.session_jobs.specs.declared.begin.JobsEnd.{JobsEnd}
+use Rattle.shared_book.specs.Passes.{HasMet}
 use Rattle.session_jobs.specs.declared.work.Work.{Work}
 use Rattle.session_jobs.specs.Works.{number_of, IsDone}
 
@@ -21,17 +22,19 @@ abbrev pub newcomer : ℕ → List Entry → ℕ → Known
 newcomer limit before by =
     record { seen = before; mine = []; faults = 0; limit = limit; by = by }
 
--- a caller of which this is known was answered an error to an ask
-pub record BrokeBefore (last : Known) (next : Ask) (why : AskError) : Type 0 where
+-- a caller, of which this was known at the begin and at the end, went on, and then was answered an
+-- error to an ask
+pub record BrokeBefore (first last : Known) (next : Ask) (why : AskError) : Type 0 where
   pub between : Known
+  pub before : HasMet first between
   pub answer : IsAsked between last next (Err why)
 
 -- a work was done by a caller beside others, who ask between its asks
 abbrev pub IsDoneBeside : {L O : Type 0} → (Known → L → lanes.Site) → (Known → O → doors.Site)
     → Known → Known → Work L O → Work L O → Type 0
 IsDoneBeside lane_at door_at first last was now =
-    IsDone (λ asks. ⊤) (λ answered next why. BrokeBefore last next why) lane_at door_at first last
-    was now
+    IsDone (λ asks. ⊤) (λ answered next why. BrokeBefore first last next why) lane_at door_at
+    first last was now
 
 -- a job that was run: what is known of its caller at the end, and its work before and behind
 pub record Run (L O : Type 0) : Type 0 where

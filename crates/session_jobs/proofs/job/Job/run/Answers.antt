@@ -21,6 +21,7 @@ returns-in-Some g c =
     beside _ _ lane_at door_at _ _
     (λ answered next why broke. record {
       between = known_of s broke.between;
+      before = broke.before;
       answer = broke.answer;
     }) _ _ c.run.ensures.done in
     record {
