@@ -2,7 +2,7 @@
 use Rattle.std.proofs.Common.{◌≡◌, ℕ, ◌≤◌, ◌&&◌, ◌^◌, ◌-◌, nat_le, Bool, true, false, List, [], ◌∷◌, codes, if◌then◌else◌, Option, Some, None, option_map, option_and_then, refl, subst, arith}
 use Rattle.std.specs.Prelude.{⊤}
 use Rattle.std.proofs.lemmas.Bool.Decides.{nat_tests}
-use Rattle.hall_limits.specs.declared.TheConstants.{MAX_ROWS}
+use Rattle.hall_limits.specs.declared.TheConstants.{MAX_ROWS, MAX_TRIAL}
 use Rattle.hall_units.specs.Number.{bounded_number}
 use Rattle.book_words.specs.declared.name.Name.{Name}
 use Rattle.command_line.specs.declared.types.Command.{Command}
