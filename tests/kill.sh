@@ -7,12 +7,20 @@
 # more. At the end each acknowledged weighing is asked for by its number: its gross and its signal
 # have to be those that were sent and answered. Status 1 at any difference; the folder then stays.
 #
-# usage: tests/kill.sh [FOLDER [SEED]]      the book lies in a new folder below this one
+# Then `hall serve` in the same way, on a book of its own: three lanes over named pipes weigh, a desk
+# asks at each of two doors, one by connections that stay and one by curl, and the hall is killed
+# fifty times. After each kill every line of a gate has to be a passed row of its lane, in order, and
+# every act that was answered 200 the row that it was told; a gate or a desk may lack the answer to
+# its last row alone; the weighings of a lane are the first of those that were sent; no row stands
+# twice, and no other row is there. The packs are asked for by `hall run`, and read in the register.
+#
+# usage: tests/kill.sh [FOLDER [SEED [SERVES]]]     the books lie in a new folder below this one
 set -eu
 here=$(dirname "$(readlink -f "$0")")/..
 most_kills=100
 most_seconds=120
 seed=${2:-$(date +%s)}
+serves=${3:-50}
 work=$(mktemp -d "${1:-/tmp}/hall_kill.XXXXXX")
 book=$work/book
 
@@ -143,4 +151,24 @@ echo "seed $seed: $((kills + late)) runs of up to $((packs + 4)) rows, some $too
 echo "$kills kills fell within a run, $early of them before its first answer; $late runs had ended"
 echo "$offered times the book held a row more than was acknowledged"
 echo "the book holds ${found#* } rows; all $(wc -l <"$work/weighings") acknowledged weighings are in it"
+
+mkdir "$work/serve"
+PYTHONPATH=$here/tests timeout 900 python3 -B - "$program" "$work/serve" "$seed" "$serves" <<'PYTHON' ||
+import sys
+
+from rounds import Rounds
+
+program, folder, seed, serves = sys.argv[1:]
+rounds = Rounds(program, folder, int(seed))
+for _ in range(int(serves)):
+    rounds.serve(load=0.5)
+    rounds.book.compare_register()
+book = rounds.book
+acts = sum(len(desk.told) for desk in rounds.desks)
+print(f"seed {seed}: serve was killed {rounds.kills} times, {rounds.early} of them before its first"
+      f" answer; {book.unheard} packs had passed whose line the gate hadn't got")
+print(f"the book holds {book.rows} rows, with all {book.gates} packs that a gate let out, and all"
+      f" {acts} acts that were answered, each once")
+PYTHON
+    fail "serve, with the seed $seed"
 rm -rf "$work"
