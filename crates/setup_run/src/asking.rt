@@ -1,4 +1,4 @@
-ghost use Rattle.std.specs.Prelude.{◌≡◌, ◌+◌, ◌<◌, ◌≤◌, true, [], ◌∷◌, length, OnOk, OnErr, IfErr};
+ghost use Rattle.std.specs.Prelude.{◌≡◌, true, [], ◌∷◌, OnOk, OnErr, IfErr};
 ghost use Rattle.book_store.specs.Stores.{entries_of};
 ghost use Rattle.script_lines.specs.Script.{is_good, all_good};
 ghost use Rattle.store_runs.specs.Books.{stored_book};
