@@ -4,7 +4,7 @@ use Rattle.hall_top.specs.Calls.{ExplainsCommand}
 use Rattle.text_streams.specs.Streams.{output_at}
 use Rattle.script_run.specs.Outside.{devices, outside_at, nothing_told}
 use Rattle.hall_top.proofs.OpenedBooks.{call_from, is_opened, lanes_rest, is_unopened}
-use Rattle.hall_top.proofs.top.do_wanted.Goals as goal
+use Rattle.hall_top.proofs.alone.do_wanted.Goals as goal
 
 pub returns-in-Ok-clause-ends : goal.returns-in-Ok-clause-ends
 returns-in-Ok-clause-ends g c =

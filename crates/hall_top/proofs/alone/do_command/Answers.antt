@@ -5,7 +5,7 @@ use Rattle.command_line.specs.Taken.{seen}
 use Rattle.store_runs.specs.Books.{stored_book}
 use Rattle.hall_top.specs.Calls.{ExplainsCommand}
 use Rattle.hall_top.proofs.OpenedBooks.{call_from}
-use Rattle.hall_top.proofs.top.do_command.Goals as goal
+use Rattle.hall_top.proofs.alone.do_command.Goals as goal
 
 pub returns-clause-done : goal.returns-clause-done
 returns-clause-done g c =

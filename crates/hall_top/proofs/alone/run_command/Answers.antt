@@ -14,7 +14,7 @@ use Rattle.report_run.specs.Reports.{book_register}
 use Rattle.hall_top.specs.Calls.{reported}
 use Rattle.hall_top.proofs.OpenedBooks.{call_from, lanes_rest}
 use Rattle.hall_top.proofs.EndingLemmas.{explains_as, explains_check, explains_printing, is_import, is_trial, ends_migration, whole_counts, text_counts, migrated_goes}
-use Rattle.hall_top.proofs.top.run_command.Goals as goal
+use Rattle.hall_top.proofs.alone.run_command.Goals as goal
 
 pub returns-in-Run-clause-explained : goal.returns-in-Run-clause-explained
 returns-in-Run-clause-explained g c =
