@@ -108,7 +108,15 @@ pub fn check_case(
     let mut lanes = lanes_of(alloc, case)?;
     lanes.truncate(usize::from(MAX_LANE));
     let doors: Vec<ListDoor> = Vec::new(alloc);
-    let ended = hall_alone(alloc, &words(alloc)?, &mut input, &mut output, disk, lanes, doors);
+    let ended = hall_alone(
+        alloc,
+        &words(alloc)?,
+        &mut input,
+        &mut output,
+        disk,
+        lanes,
+        doors,
+    );
     let printed = String::from_utf8_lossy(alloc, output.bytes())?;
     assert_eq!(rt; printed.as_str(), case.printed);
     let rows = ended.rows.as_slice().len();

@@ -73,106 +73,109 @@ planless g store count before now no_plan.NoMemory reads = record {
 }
 
 module _ {L O : Type 0} (lane_at : Known → L → lanes.Site) (door_at : Known → O → doors.Site)
-    where
-  -- where no job ran, nothing went out
-  pub explains_early : (book : BookState) (before now : Moment L O) (rows : List Entry)
-      (stop : ServeStop) → now.output ≡ before.output → now.handed ≡ before.handed
-      → WhyUnprepared book (length before.handed.lanes) before.input now.input rows stop
-      → ExplainsServe lane_at door_at book before now rows stop
-  explains_early book before now rows BadPlan silent idle why =
-      (record { silent = silent; idle = idle }, why.0, why.1)
-  explains_early book before now rows (Early stop) silent idle why =
-      (record { silent = silent; idle = idle }, why)
-  explains_early book before now rows (Ran stop) silent idle why = absurd why
+  where
+    -- where no job ran, nothing went out
+    pub explains_early : (book : BookState) (before now : Moment L O) (rows : List Entry)
+        (stop : ServeStop) → now.output ≡ before.output → now.handed ≡ before.handed
+        → WhyUnprepared book (length before.handed.lanes) before.input now.input rows stop
+        → ExplainsServe lane_at door_at book before now rows stop
+    explains_early book before now rows BadPlan silent idle why =
+        (record { silent = silent; idle = idle }, why.0, why.1)
+    explains_early book before now rows (Early stop) silent idle why =
+        (record { silent = silent; idle = idle }, why)
+    explains_early book before now rows (Ran stop) silent idle why = absurd why
 
-  module _ {D : Type 0} (g : disk.Ghosts D) (store : Store D) (given : Handed L O) (before now : Stream)
-      (prepared : Prepared D)
-      (is : IsPreparedFor g store (length given.lanes) before now prepared) where
-    abbrev left : Store D
-    left = prepared.store
+    module _ {D : Type 0} (g : disk.Ghosts D) (store : Store D) (given : Handed L O) (before now : Stream)
+        (prepared : Prepared D)
+        (is : IsPreparedFor g store (length given.lanes) before now prepared) where
+      abbrev left : Store D
+      left = prepared.store
 
-    -- nothing failed until then
-    same_faults : g.faults (disk_of left) ≡ g.faults (disk_of store)
-    same_faults = is.set_up.goes.cause
+      -- nothing failed until then
+      same_faults : g.faults (disk_of left) ≡ g.faults (disk_of store)
+      same_faults = is.set_up.goes.cause
 
-    limits : limit_of left ≡ limit_of store
-    limits = is.set_up.goes.limit
+      limits : limit_of left ≡ limit_of store
+      limits = is.set_up.goes.limit
 
-    module _ (out_before out_now : Stream) (end : ServeEnd D L O) where
-      abbrev moment_before : Moment L O
-      moment_before = moment before out_before (g.faults (disk_of store)) given
+      module _ (out_before out_now : Stream) (end : ServeEnd D L O) where
+        abbrev moment_before : Moment L O
+        moment_before = moment before out_before (g.faults (disk_of store)) given
 
-      abbrev moment_now : Moment L O
-      moment_now = moment now out_now (g.faults (disk_of end.store)) (handed_at end)
+        abbrev moment_now : Moment L O
+        moment_now = moment now out_now (g.faults (disk_of end.store)) (handed_at end)
 
-      runs_whole : (stop : JobsStop)
-          → RunsPlan g lane_at door_at left prepared.lanes given out_before out_now end stop
-          → HasRunPlan lane_at door_at (stored_book store) moment_before moment_now
-          (entries_of end.store) stop
-      runs_whole stop ran =
-          let plan = is.plan in
-          let rows = entries_of end.store in
-          record {
-            plan = plan;
-            read = is.read;
-            set_up = entries_of left;
-            asked = is.set_up.asked;
-            jobs = ran.jobs;
-            failed = ran.failed;
-            ran = subst (λ (n : ℕ). HaveRun lane_at door_at n (entries_of left) rows ran.failed
-                (jobs_of plan.lanes given.lanes given.doors) ran.jobs) limits
-                (subst (λ (ps : List PlannedLane). HaveRun lane_at door_at (limit_of left)
-                (entries_of left) rows ran.failed (jobs_of ps given.lanes given.doors) ran.jobs)
-                is.set_up.lanes ran.ran);
-            history = subst (λ (n : ℕ). OneHistory lane_at door_at n (entries_of left) rows
-                ran.failed (jobs_of plan.lanes given.lanes given.doors) ran.jobs) limits
-                (subst (λ (ps : List PlannedLane). OneHistory lane_at door_at (limit_of left)
-                (entries_of left) rows ran.failed (jobs_of ps given.lanes given.doors) ran.jobs)
-                is.set_up.lanes ran.history);
-            back = ran.back;
-            faults = subst (λ (n : ℕ). counted n ran.failed ≤ g.faults (disk_of end.store))
-                same_faults ran.faults;
-            says = ran.says;
-          }
+        runs_whole : (stop : JobsStop)
+            → RunsPlan g lane_at door_at left prepared.lanes given out_before out_now end stop
+            → HasRunPlan lane_at door_at (stored_book store) moment_before moment_now
+            (entries_of end.store) stop
+        runs_whole stop ran =
+            let plan = is.plan in
+            let rows = entries_of end.store in
+            record {
+              plan = plan;
+              read = is.read;
+              set_up = entries_of left;
+              asked = is.set_up.asked;
+              jobs = ran.jobs;
+              failed = ran.failed;
+              ran = subst (λ (n : ℕ). HaveRun lane_at door_at n (entries_of left) rows ran.failed
+                  (jobs_of plan.lanes given.lanes given.doors) ran.jobs) limits
+                  (subst (λ (ps : List PlannedLane). HaveRun lane_at door_at (limit_of left)
+                  (entries_of left) rows ran.failed (jobs_of ps given.lanes given.doors) ran.jobs)
+                  is.set_up.lanes ran.ran);
+              history = subst (λ (n : ℕ). OneHistory lane_at door_at n (entries_of left) rows
+                  ran.failed (jobs_of plan.lanes given.lanes given.doors) ran.jobs) limits
+                  (subst (λ (ps : List PlannedLane). OneHistory lane_at door_at (limit_of left)
+                  (entries_of left) rows ran.failed (jobs_of ps given.lanes given.doors) ran.jobs)
+                  is.set_up.lanes ran.history);
+              back = ran.back;
+              faults = subst (λ (n : ℕ). counted n ran.failed ≤ g.faults (disk_of end.store))
+                  same_faults ran.faults;
+              says = ran.says;
+            }
 
-      pub explains_jobs : (stop : ServeStop)
-          → EndsPlan g lane_at door_at left prepared.lanes given out_before out_now end stop
-          → ExplainsServe lane_at door_at (stored_book store) moment_before moment_now
-          (entries_of end.store) stop
-      explains_jobs BadPlan ends = absurd ends
-      explains_jobs (Early stop) ends = explains_early (stored_book store) moment_before moment_now
-          (entries_of end.store) (Early stop) ends.silent ends.handed
-          (inr (inr (ends.why, record {
-            plan = is.plan;
-            read = is.read;
-            asked = subst (λ (s : Store D). IsSetUp (stored_book store) is.plan.setup (entries_of s))
-                (sym ends.store_left) is.set_up.asked;
-          })))
-      explains_jobs (Ran stop) ends = runs_whole stop ends
+        pub explains_jobs : (stop : ServeStop)
+            → EndsPlan g lane_at door_at left prepared.lanes given out_before out_now end stop
+            → ExplainsServe lane_at door_at (stored_book store) moment_before moment_now
+            (entries_of end.store) stop
+        explains_jobs BadPlan ends = absurd ends
+        explains_jobs (Early stop) ends = explains_early (stored_book store) moment_before moment_now
+            (entries_of end.store) (Early stop) ends.silent ends.handed
+            (inr (inr (
+              ends.why,
+              record {
+                plan = is.plan;
+                read = is.read;
+                asked = subst (λ (s : Store D). IsSetUp (stored_book store) is.plan.setup (entries_of s))
+                    (sym ends.store_left) is.set_up.asked;
+              },
+            )))
+        explains_jobs (Ran stop) ends = runs_whole stop ends
 
-      pub goes_jobs : (stop : ServeStop)
-          → EndsPlan g lane_at door_at left prepared.lanes given out_before out_now end stop
-          → ServeGoes g store end.store stop
-      goes_jobs BadPlan ends = absurd ends
-      goes_jobs (Early stop) ends =
-          subst (λ (s : Store D). Goes {T = Unit {0}} g (Err stop) store s) (sym ends.store_left)
-          (subst (λ (s : Stop). Goes {T = Unit {0}} g (Err s) store left) (sym ends.why)
-          (goes_with g tt (Err stops.NoMemory) store left is.set_up.goes is.set_up.goes.cause
-          (λ finished. absurd (let never : Err stops.NoMemory ≡ Err stops.Finished = finished in cc))))
-      goes_jobs (Ran stop) ends =
-          let over = ends.over in
-          let goes = is.set_up.goes in
-          record {
-            limit = over.limit ∙ limits;
-            begins = begins_on (entries_of store) (entries_of left) (entries_of end.store)
-                goes.begins over.begins;
-            cause = subst (λ (n : ℕ). CountsJobs n (g.faults (disk_of end.store)) stop) same_faults
-                over.cause;
-            kept = λ held start same has.
-                over.kept held start (same_faults ∙ same) (goes.kept held start has);
-            snapshot = λ finished grown. over.snapshot finished
-                (subst (λ (n : ℕ). HasGrown n (entries_of end.store)) (sym goes.held) grown);
-          }
+        pub goes_jobs : (stop : ServeStop)
+            → EndsPlan g lane_at door_at left prepared.lanes given out_before out_now end stop
+            → ServeGoes g store end.store stop
+        goes_jobs BadPlan ends = absurd ends
+        goes_jobs (Early stop) ends =
+            subst (λ (s : Store D). Goes {T = Unit {0}} g (Err stop) store s) (sym ends.store_left)
+            (subst (λ (s : Stop). Goes {T = Unit {0}} g (Err s) store left) (sym ends.why)
+            (goes_with g tt (Err stops.NoMemory) store left is.set_up.goes is.set_up.goes.cause
+            (λ finished. absurd (let never : Err stops.NoMemory ≡ Err stops.Finished = finished in cc))))
+        goes_jobs (Ran stop) ends =
+            let over = ends.over in
+            let goes = is.set_up.goes in
+            record {
+              limit = over.limit ∙ limits;
+              begins = begins_on (entries_of store) (entries_of left) (entries_of end.store)
+                  goes.begins over.begins;
+              cause = subst (λ (n : ℕ). CountsJobs n (g.faults (disk_of end.store)) stop) same_faults
+                  over.cause;
+              kept = λ held start same has.
+                  over.kept held start (same_faults ∙ same) (goes.kept held start has);
+              snapshot = λ finished grown. over.snapshot finished
+                  (subst (λ (n : ℕ). HasGrown n (entries_of end.store)) (sym goes.held) grown);
+            }
 
 -- the jobs of a plan, from their run to what is said behind them
 module _ {D L O : Type 0} (g : disk.Ghosts D) (lane_at : Known → L → lanes.Site)

@@ -265,10 +265,7 @@ fn serve_plan<
 }
 
 // Hands back jobs that didn't run, for want of memory.
-fn give_back<D: Disk, L, O>(
-    end: JobsEnd<D, L, O>,
-    room: HandedBack<L, O>,
-) -> ServeEnd<D, L, O>
+fn give_back<D: Disk, L, O>(end: JobsEnd<D, L, O>, room: HandedBack<L, O>) -> ServeEnd<D, L, O>
     requires empty { IsEmpty room }
     requires room { HasRoomFor (length end.jobs.items) room }
     ensures stop { result.stop ≡ Early NoMemory }

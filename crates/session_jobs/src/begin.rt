@@ -123,12 +123,7 @@ pub fn run_jobs<
     O: Door + Send + Drop,
     D: Disk + Send,
     R: Threads + Wait + Sync,
->(
-    rt: &R,
-    alloc: Global,
-    store: Store<D>,
-    jobs: Vec<Work<L, O>>,
-) -> JobsEnd<D, L, O>
+>(rt: &R, alloc: Global, store: Store<D>, jobs: Vec<Work<L, O>>) -> JobsEnd<D, L, O>
     requires sound { IsSound D.Disk store }
     requires calm { ¬ Hangs store }
     requires apart { AllPairs (λ v w. number_of v ≢ number_of w) jobs.items }

@@ -42,12 +42,7 @@ fn run_all<
     B: Ledger + Send + Sync,
     N: Session + Send + Sync,
     R: Threads + Wait + Sync,
->(
-    rt: &R,
-    alloc: Global,
-    shared: &Shared<D, A, B, N>,
-    jobs: &mut [Job<L, O, A, B>],
-)
+>(rt: &R, alloc: Global, shared: &Shared<D, A, B, N>, jobs: &mut [Job<L, O, A, B>])
     requires ready { All (IsReady N.Session) jobs.old }
     ensures run { AllZip (IsRun N.Session (lane_site L.Cell L.Gate)
         (door_site O.Source O.connections)) jobs.old jobs.new }

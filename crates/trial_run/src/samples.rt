@@ -90,4 +90,3 @@ pub fn drawn_packs(alloc: Global, book: &Book, batch: Name) -> Result<Picks, Sto
         Err(BookError::NoMemory) => Err(Stop::NoMemory),
     }
 }
-

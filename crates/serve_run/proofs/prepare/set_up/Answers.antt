@@ -40,8 +40,11 @@ returns-in-Err-reserve-clause-stops g c =
       goes_on disk tt (Err NoMemory) first mid last c.in-Ok.ensures.goes
           (goes_with disk tt (Err NoMemory) mid last step step.cause
           (λ finished. absurd (let never : Err NoMemory ≡ Err Finished = finished in cc))),
-      inl (refl, subst (λ (es : List Entry). IsSetUp (stored_book first) c.args.plan.setup es)
-          (sym r.entries)
-          (subst (λ bytes. IsSetUp (stored_book first) bytes (entries_of mid)) c.as_bytes.ensures
-          c.in-Ok.ensures.done)),
+      inl (
+        refl,
+        subst (λ (es : List Entry). IsSetUp (stored_book first) c.args.plan.setup es)
+            (sym r.entries)
+            (subst (λ bytes. IsSetUp (stored_book first) bytes (entries_of mid)) c.as_bytes.ensures
+            c.in-Ok.ensures.done),
+      ),
     )
