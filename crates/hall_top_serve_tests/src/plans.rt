@@ -24,19 +24,19 @@ batches running 1 ended 0 drawn 0 closed 0
 
 // The responses that the door may have written, by the row that they name.
 const RESPONSES: [&str; 5] = [
-    "HTTP/1.1 200 OK\r\nContent-Type: text/plain\r\nContent-Length: 161\r\nBook-Row: 4\r\n\r\n\
+    "HTTP/1.1 200 OK\r\nContent-Type: text/plain\r\nContent-Length: 160\r\nBook-Row: 4\r\n\r\n\
 rows 4\nreadings 0 gross 0.000\npassed 0 gross 0.000\nrejected 0 gross 0.000\n\
 sampled 0 gross 0.000\nvoided 0 gross 0.000\nbatches running 1 ended 0 drawn 0 closed 0\n",
-    "HTTP/1.1 200 OK\r\nContent-Type: text/plain\r\nContent-Length: 161\r\nBook-Row: 5\r\n\r\n\
+    "HTTP/1.1 200 OK\r\nContent-Type: text/plain\r\nContent-Length: 160\r\nBook-Row: 5\r\n\r\n\
 rows 5\nreadings 0 gross 0.000\npassed 0 gross 0.000\nrejected 0 gross 0.000\n\
 sampled 0 gross 0.000\nvoided 0 gross 0.000\nbatches running 1 ended 0 drawn 0 closed 0\n",
-    "HTTP/1.1 200 OK\r\nContent-Type: text/plain\r\nContent-Length: 165\r\nBook-Row: 6\r\n\r\n\
+    "HTTP/1.1 200 OK\r\nContent-Type: text/plain\r\nContent-Length: 164\r\nBook-Row: 6\r\n\r\n\
 rows 6\nreadings 1 gross 251.000\npassed 1 gross 251.000\nrejected 0 gross 0.000\n\
 sampled 0 gross 0.000\nvoided 0 gross 0.000\nbatches running 1 ended 0 drawn 0 closed 0\n",
-    "HTTP/1.1 200 OK\r\nContent-Type: text/plain\r\nContent-Length: 165\r\nBook-Row: 7\r\n\r\n\
+    "HTTP/1.1 200 OK\r\nContent-Type: text/plain\r\nContent-Length: 164\r\nBook-Row: 7\r\n\r\n\
 rows 7\nreadings 2 gross 501.999\npassed 2 gross 501.999\nrejected 0 gross 0.000\n\
 sampled 0 gross 0.000\nvoided 0 gross 0.000\nbatches running 1 ended 0 drawn 0 closed 0\n",
-    "HTTP/1.1 200 OK\r\nContent-Type: text/plain\r\nContent-Length: 165\r\nBook-Row: 8\r\n\r\n\
+    "HTTP/1.1 200 OK\r\nContent-Type: text/plain\r\nContent-Length: 164\r\nBook-Row: 8\r\n\r\n\
 rows 8\nreadings 2 gross 501.999\npassed 2 gross 501.999\nrejected 0 gross 0.000\n\
 sampled 0 gross 0.000\nvoided 0 gross 0.000\nbatches running 1 ended 0 drawn 0 closed 0\n",
 ];
