@@ -3,9 +3,10 @@
 #
 # Lanes from files, each with as many weights as the others, on a book in memory and on one in a file
 # of the folder: one lane alone, 4 and 16 at once, and 16 with 16 doors, at each of which a client
-# asks 1 000 acts one by one. Told are rows a second of the whole process, beside those of one lane,
-# and replies a second of the doors. In memory a lane has 62 000 weights, of which its batch takes
-# 10 000; in the file all lanes have 10 000 together. The 16 lanes in memory leave some million rows:
+# asks acts one by one. Told are rows a second of the whole process, beside those of one lane, and
+# replies a second of the doors. In memory a lane has 60 000 weights, of which its batch takes 10 000,
+# and a door 1 000 acts; in the file all lanes have 10 000 together, unless another number is given,
+# and all doors as many acts. The 16 lanes in memory leave some million rows:
 # their time stands beside that of `run`, which works the same lanes over the same files one after
 # another.
 #
@@ -17,7 +18,7 @@
 #
 # Best of three, in turn; the clients are in Python and take a processor of their own.
 #
-# usage: bench/serve.sh FOLDER
+# usage: bench/serve.sh FOLDER [WEIGHTS]
 set -eu
 here=$(dirname "$(readlink -f "$0")")/..
 work=$(mktemp -d "$1/hall_serve.XXXXXX")
@@ -27,7 +28,7 @@ trap 'rm -rf "$work"' EXIT
 if [ -z "${HALL:-}" ]; then "$here/hall" run </dev/null >/dev/null; fi
 program=${HALL:-$here/crates/hall_cli/out/hall_cli}
 
-PYTHONPATH=$here/tests timeout 900 python3 -B - "$program" "$work" <<'PYTHON'
+PYTHONPATH=$here/tests timeout 900 python3 -B - "$program" "$work" "${2:-10000}" <<'PYTHON'
 import os
 import random
 import select
@@ -39,10 +40,10 @@ import time
 from clients import (FIRST_DESK, FIRST_DOOR, OPENING, Client, Desk, Hall, Link, free_ports, get,
                      good_gross, need, plan, spell_grams)
 
-program, work = sys.argv[1:]
+program, work = sys.argv[1:3]
 DAY = {"act": "day", "day": "2025-03-03"}
-# Weights of each lane in memory, and of all lanes in a file.
-IN_MEMORY, IN_A_FILE = 62_000, 10_000
+# Weights of each lane in memory and acts of each door, and weights and acts of all in a file.
+IN_MEMORY, ACTS_IN_MEMORY, IN_A_FILE = 60_000, 1000, int(sys.argv[3])
 CASES = ((1, 0), (4, 0), (16, 0), (16, 16))
 TURNS = 3
 
@@ -88,10 +89,11 @@ def start(folder, lanes, doors=0, on_file=False, pipes=False, connections=1):
 
 
 class Asker(Client):
-    """Asks 1 000 acts of a desk one by one, on one connection, and says how many a second."""
+    """Asks acts of a desk one by one, at most 1 000 on one connection, and says how many a second."""
 
-    def __init__(self, hall, door):
+    def __init__(self, hall, door, acts):
         super().__init__(hall)
+        self.acts = acts
         self.port = hall.ports[door]
         self.desk = Desk(FIRST_DESK + door, FIRST_DOOR + door)
         self.rate = 0
@@ -99,10 +101,10 @@ class Asker(Client):
     def work(self):
         link = self.connect()
         began = time.monotonic()
-        for request in range(1, 1001):
+        for request in range(1, self.acts + 1):
             response = link.act(self.desk.spell(request, DAY))
             need(response.status == 200, f"an act is answered {response}")
-        self.rate = 1000 / (time.monotonic() - began)
+        self.rate = self.acts / (time.monotonic() - began)
         link.socket.close()
 
     def connect(self):
@@ -119,7 +121,8 @@ def serve(lanes, doors, on_file):
     folder = new_folder()
     fill_cells(folder, lanes, IN_A_FILE // lanes if on_file else IN_MEMORY)
     hall = start(folder, lanes, doors, on_file)
-    askers = [Asker(hall, door) for door in range(doors)]
+    acts = min(1000, IN_A_FILE // 16) if on_file else ACTS_IN_MEMORY
+    askers = [Asker(hall, door, acts) for door in range(doors)]
     for asker in askers:
         asker.start()
     status = hall.process.wait()
@@ -208,7 +211,7 @@ def send_next(gate, left):
 
 def gates():
     best = {}
-    for lanes, each in ((1, 2000), (16, 300)) * TURNS:
+    for lanes, each in ((1, IN_A_FILE // 5), (16, IN_A_FILE // 32)) * TURNS:
         times = to_the_gates(lanes, each)
         if lanes not in best or median(times) < median(best[lanes]):
             best[lanes] = times

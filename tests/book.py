@@ -17,8 +17,9 @@ class Book:
         self.desks = {desk.number: desk for desk in desks}
         # the row of each request of a desk
         self.acts = {}
-        # the number, the gross and the signal of each weighing
+        # the number, the gross and the signal of each weighing, and how many were there at the last look
         self.weighed = []
+        self.looked = 0
         self.rows = 0
         self.stood = ""
         # seconds that the last check took
@@ -44,6 +45,7 @@ class Book:
         self.rows += len(rows)
         self.stood = digest(self.path, self.rows)
         need(said == [f"rows {self.rows} whole"], f"check says {said}, the file has {self.rows} rows")
+        self.looked = len(self.weighed)
         self.weighed += [(row.number, spell_grams(row.act["gross"]), row.signal)
                          for row in rows if row.act["act"] == "weigh"]
         return rows
@@ -117,10 +119,11 @@ class Book:
         return len(accepted)
 
     def compare_packs(self, packs):
-        """Asks `hall run` for packs that were let out: their grosses and signals are those sent."""
+        """Asks `hall run` for packs that were let out since the last look: their grosses and signals
+        are those sent."""
         told = self.ask("run", script="".join(f"pack {pack}\n" for pack in packs))
         need(f"rows {self.rows}" in told, f"the summary doesn't say rows {self.rows}")
-        grosses = {pack: gross for pack, gross, _ in self.weighed}
+        grosses = {pack: gross for pack, gross, _ in self.weighed[self.looked :]}
         for pack, line in zip(packs, told):
             words = line.split()
             need(words[:2] == ["pack", str(pack)] and f"{words[7]}\n" == grosses[pack]

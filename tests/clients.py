@@ -419,13 +419,14 @@ class Desk:
         self.sent.setdefault(request, []).append(act)
         return self.spell(request, act)
 
-    def hear(self, request, act, response):
-        """Takes down what an act was answered; a repeat is told what it was told before."""
+    def hear(self, request, act, response, again=False):
+        """Takes down what an act was answered. The place of its answer is its row; one that is asked
+        again is told the row again, at the length that the book has then."""
         need(response.status in (200, 409), f"{act} is answered {response}")
         if response.status == 409:
             return
         row = response.json()["row"]
-        need(response.row == row, f"{act} is answered {response}")
+        need(response.row == row or again and response.row > row, f"{act} is answered {response}")
         need(self.told.setdefault(request, (row, act)) == (row, act),
              f"desk {self.number}: request {request} is told row {row}, and was {self.told[request]}")
         self.fresh.append((request, row, act))
@@ -439,7 +440,7 @@ class Desk:
         self.last = int(answer.json()["kept"])
         if self.last > 0 and self.last not in self.told:
             act = self.sent[self.last][-1]
-            self.hear(self.last, act, link.act(self.spell(self.last, act)))
+            self.hear(self.last, act, link.act(self.spell(self.last, act)), again=True)
 
 
 def drawn_act(draw, desk, packs):

@@ -17,7 +17,7 @@ WAYS = (Link, Curl)
 CONNECTIONS = 2000
 DESK_LINKS = 1900
 # The most packs that a lane weighs in a round, and in a piece.
-LANE_PACKS = 10_000
+LANE_PACKS = 3000
 MOST_AT_ONCE = 40
 # The lane that scripts of `run` weigh on, and how many packs they weigh.
 SCRIPT_LANE = 16
@@ -162,6 +162,6 @@ class Rounds:
 
 
 def pieces(draw):
-    """Pieces of weights, as many as one batch takes."""
+    """Pieces of weights, some thousands of them."""
     for _ in range(LANE_PACKS // MOST_AT_ONCE):
         yield [drawn_gross(draw) for _ in range(draw.randint(1, MOST_AT_ONCE))]

@@ -1,8 +1,9 @@
 #!/bin/sh
 # A storm over `hall serve`: four lanes over named pipes and four doors on a book in a file, for two
-# minutes. Two clients at each of three doors send 100 000 requests in all: acts of a desk each,
-# whole, under drawn headers, several at once, sent again, under used numbers and such that leave a
-# gap, cut at a drawn byte, or left without hearing the answer; questions; each fault of form; noise.
+# minutes. Two clients at each of three doors send 100 000 requests in all, or what they can in twice
+# that time: acts of a desk each, whole, under drawn headers, several at once, sent again, under used
+# numbers and such that leave a gap, cut at a drawn byte, or left without hearing the answer;
+# questions; each fault of form; noise.
 # The fourth door has a reader of the summary. The lanes weigh in bursts; one gets a unit behind a
 # weight at a drawn moment, and one is cut in mid-weight.
 #
@@ -159,10 +160,10 @@ class Visitor(Client):
         """The last act once more, which is told its row again."""
         if self.desk.last in self.desk.told:
             self.sent["repeats"] += 1
-            row, act = self.desk.told[self.desk.last]
-            response = link.act(self.desk.spell(self.desk.last, act))
-            need(response.status == 200 and response.row == response.json()["row"] == row,
-                 f"{act} of row {row} is told again {response}")
+            request, (_, act) = self.desk.last, self.desk.told[self.desk.last]
+            response = link.act(self.desk.spell(request, act))
+            need(response.status == 200, f"request {request}, {act} is told again {response}")
+            self.desk.hear(request, act, response, again=True)
         return True
 
     def refused(self, link):
@@ -348,10 +349,14 @@ def main():
     watch = Watch(hall, reader)
     for client in [*lanes, *visitors, reader, watch]:
         client.start()
+    began = time.monotonic()
     for visitor in visitors:
-        visitor.finish(2 * seconds + 60)
-    for client in [*lanes[:2], reader, watch]:
+        visitor.join(max(0, began + 2 * seconds - time.monotonic()))
+    took = time.monotonic() - began
+    for client in [*visitors, *lanes[:2], reader, watch]:
         client.ending.set()
+    for visitor in visitors:
+        visitor.finish()
     reader.finish()
     watch.finish()
     status = hall.drain(120)
@@ -364,12 +369,12 @@ def main():
     need(f"rows {len(rows)}" in hall.said(), f"{len(rows)} rows, and the hall said {hall.said()}")
     compare_piles(rows, reader.seen)
     book.compare_register()
-    tell(book, visitors, reader, watch)
+    tell(book, visitors, reader, watch, took)
 
 
-def tell(book, visitors, reader, watch):
+def tell(book, visitors, reader, watch, took):
     sent = sum((visitor.sent for visitor in visitors), Counter())
-    print(f"seed {seed}: {sent.total()} requests in {seconds} s:",
+    print(f"seed {seed}: {sent.total()} requests in {took:.0f} s:",
           ", ".join(f"{count} {kind}" for kind, count in sent.most_common()))
     print(f"{book.rows} rows, {book.gates} packs let out, {len(book.acts)} acts of desks,"
           f" {len(reader.seen)} summaries that add up")
