@@ -2,14 +2,13 @@
 use Rattle.std.proofs.Common.{◌≡◌, ℕ, ◌≤◌, ◌&&◌, ◌^◌, ◌-◌, nat_le, Bool, true, false, List, [], ◌∷◌, codes, if◌then◌else◌, Option, Some, None, option_map, option_and_then, refl, subst, arith}
 use Rattle.std.specs.Prelude.{⊤}
 use Rattle.std.proofs.lemmas.Bool.Decides.{nat_tests}
-use Rattle.hall_limits.specs.declared.TheConstants.{MAX_ROWS}
+use Rattle.hall_limits.specs.declared.TheConstants.{MAX_DOOR, MAX_LANE, MAX_ROWS, MAX_TRIAL}
 use Rattle.hall_units.specs.Number.{bounded_number}
-use Rattle.book_words.specs.declared.name.Name.{Name}
 use Rattle.command_line.specs.declared.types.Command.{Command}
-use Rattle.command_line.specs.declared.types.Command.TheVariants.{Run, Report, Export, Check}
-use Rattle.command_line.specs.declared.types.Command.TheVariants.{Import, Trial, Migrate}
+use Rattle.command_line.specs.declared.types.Command.TheVariants.{Trial}
 use Rattle.command_line.specs.declared.table.NumberForm.{NumberForm}
-use Rattle.command_line.specs.declared.table.TheConstants.{COUNT, LANES, LIMIT, NUMBER}
+use Rattle.command_line.specs.declared.table.TheConstants.{CONNECTIONS, COUNT, DOORS, LANES, LIMIT}
+use Rattle.command_line.specs.declared.table.TheConstants.{MAX_DOOR_CONNECTIONS, MAX_PORT, NUMBER, PORT}
 use Rattle.command_line.specs.declared.values.Values.{Values}
 use Rattle.command_line.specs.Taken.{IsInRange}
 use Rattle.command_line.specs.Words.{Item, Wanted, batch_in, command_of, form_of, in_range, items_in}
@@ -56,11 +55,14 @@ given_within form text number is = then_gives (IsWithin form.least form.most num
     (in_range form) (bounded_number 20 (2 ^ 64 - 1) text) number is
     (λ n read here. in_bounds form n number here)
 
-limit_within : (given : Option (List ℕ)) (limit : ℕ) → number_in LIMIT given ≡ Some limit
-    → IsWithin 1 MAX_ROWS limit
-limit_within None limit is = subst (IsWithin 1 MAX_ROWS) (some_same MAX_ROWS limit is)
-    (record { from = omega arith; to = omega arith })
-limit_within (Some text) limit is = given_within LIMIT text limit is
+-- where the number without a text is in the range too, each is
+number_within : (form : NumberForm) (given : Option (List ℕ)) (number : ℕ)
+    → form.least ≤ form.absent → form.absent ≤ form.most → number_in form given ≡ Some number
+    → IsWithin form.least form.most number
+number_within form None number least most is =
+    subst (IsWithin form.least form.most) (some_same form.absent number is)
+    (record { from = least; to = most })
+number_within form (Some text) number least most is = given_within form text number is
 
 -- how many packs are asked for: none, where no text says so
 count_within : (given : Option (List ℕ)) (count : ℕ) → number_in COUNT given ≡ Some count
@@ -85,22 +87,37 @@ least_packs (Some text) count is = (given_within COUNT text count is).from
 
 record AreWithin (given : Option (List ℕ)) (values : Values) : Type 0 where
   limit : IsWithin 1 MAX_ROWS values.limit
+  lanes : IsWithin 0 MAX_LANE values.lanes
+  doors : IsWithin 0 MAX_DOOR values.doors
+  port : IsWithin 1 MAX_PORT values.port
+  connections : IsWithin 1 MAX_DOOR_CONNECTIONS values.connections
   count : IsWithin 0 MAX_TRIAL values.count
   some : LeastPacks given values.count
 
-values_within : (batch limit lanes number count : Option (List ℕ)) (values : Values)
-    → values_in batch limit lanes number count ≡ Some values → AreWithin count values
-values_within batch limit lanes number count values is =
+values_within : (batch limit lanes doors port connections number count : Option (List ℕ))
+    (values : Values)
+    → values_in batch limit lanes doors port connections number count ≡ Some values
+    → AreWithin count values
+values_within batch limit lanes doors port connections number count values is =
     then_gives (AreWithin count values) _ (batch_in batch) values is (λ b batch_is one.
     then_gives (AreWithin count values) _ (number_in LIMIT limit) values one (λ l limit_is two.
     then_gives (AreWithin count values) _ (number_in LANES lanes) values two (λ n lanes_is three.
-    then_gives (AreWithin count values) _ (number_in NUMBER number) values three
-    (λ u number_is four.
-    map_gives (AreWithin count) _ (number_in COUNT count) values four (λ c count_is. record {
-      limit = limit_within limit l limit_is;
+    then_gives (AreWithin count values) _ (number_in DOORS doors) values three (λ d doors_is four.
+    then_gives (AreWithin count values) _ (number_in PORT port) values four (λ p port_is five.
+    then_gives (AreWithin count values) _ (number_in CONNECTIONS connections) values five
+    (λ s connections_are six.
+    then_gives (AreWithin count values) _ (number_in NUMBER number) values six
+    (λ u number_is seven.
+    map_gives (AreWithin count) _ (number_in COUNT count) values seven (λ c count_is. record {
+      limit = number_within LIMIT limit l (omega arith) (omega arith) limit_is;
+      lanes = number_within LANES lanes n (omega arith) (omega arith) lanes_is;
+      doors = number_within DOORS doors d (omega arith) (omega arith) doors_is;
+      port = number_within PORT port p (omega arith) (omega arith) port_is;
+      connections =
+          number_within CONNECTIONS connections s (omega arith) (omega arith) connections_are;
       count = count_within count c count_is;
       some = least_packs count c count_is;
-    })))))
+    }))))))))
 
 -- the two words of a trial say how many packs it has
 count_placed : (words : List (List ℕ)) (items : List Item)
@@ -137,11 +154,18 @@ by_values : (command : Command) (items : List Item) (wanted : Wanted)
 by_values command items wanted given is =
     map_gives IsInRange _ (values_of (value_of items)) wanted is (λ values values_are.
     let within = values_within (value_of items (codes "batch")) (value_of items (codes "limit"))
-    (value_of items (codes "lanes")) (value_of items (codes "number"))
-    (value_of items (codes "count")) values values_are in
+    (value_of items (codes "lanes")) (value_of items (codes "doors"))
+    (value_of items (codes "port")) (value_of items (codes "connections"))
+    (value_of items (codes "number")) (value_of items (codes "count")) values values_are in
     record {
       least = within.limit.from;
       most = within.limit.to;
+      lanes = within.lanes.to;
+      doors = within.doors.to;
+      port_least = within.port.from;
+      port_most = within.port.to;
+      connections_least = within.connections.from;
+      connections_most = within.connections.to;
       packs = within.count.to;
       some = λ trial.
           let text = given trial in

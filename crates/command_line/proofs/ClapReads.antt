@@ -1,5 +1,5 @@
 -- What `clap` answers to the words of the grammar.
-use Rattle.std.proofs.Common.{if◌then◌else◌, ◌≡◌, ◌∙◌, ap, sym, subst, refl, Bool, true, false, List, [], Option, Some, None, codes}
+use Rattle.std.proofs.Common.{if◌then◌else◌, ◌≡◌, ◌∙◌, ap, sym, subst, refl, Bool, true, false, List, [], Option, Some, None}
 use Rattle.std.specs.Prelude.{⊤}
 use Rattle.std.specs.List.{list_all}
 use Rattle.std.specs.Option.{option_and_then}
@@ -13,10 +13,10 @@ use Rattle.command_line.specs.declared.types.Command.{Command}
 use Rattle.command_line.specs.Options.{app_by, app_for}
 use Rattle.command_line.specs.Words.{Form, Item, Wanted, are_taken, form_of, items_in, options, places}
 use Rattle.command_line.specs.Words.{read_items, taken_items, value_of, wanted_by, wanted_values}
-use Rattle.command_line.specs.declared.types.Command.TheVariants.{Run, Report, Export, Check}
+use Rattle.command_line.specs.declared.types.Command.TheVariants.{Run, Serve, Report, Export, Check}
 use Rattle.command_line.specs.declared.types.Command.TheVariants.{Import, Trial, Migrate}
 use Rattle.command_line.proofs.ManyOptions.{defaults_pass, finished_as, shape_for, simple, valid}
-use Rattle.command_line.proofs.Rows.{first_given, rows_for}
+use Rattle.command_line.proofs.Rows.{first_given}
 use Rattle.command_line.proofs.ClapPlaces.{ClapReads, two, two_placed}
 use Rattle.command_line.proofs.ClapWalks.{Reads, Walks, both, reads_all}
 
@@ -71,6 +71,7 @@ IsKnown (places names) = names ≡ two
 
 is_known : (command : Command) → IsKnown (form_of command)
 is_known Run = tt
+is_known Serve = tt
 is_known Report = tt
 is_known Export = tt
 is_known Check = tt

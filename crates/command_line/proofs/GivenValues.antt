@@ -1,14 +1,14 @@
 -- What items give to the options of a command, an item at a time.
-use Rattle.std.proofs.Common.{if◌then◌else◌, ◌≡◌, ◌∙◌, ◌&&◌, ap, refl, sym, is_none, Bor, Bool, true, false, not, List, [], ◌∷◌, Option, Some, None, option_map, option_and_then, is_some, codes, find, ℕ, length, arith}
+use Rattle.std.proofs.Common.{◌≡◌, ◌∙◌, ◌&&◌, ap, refl, sym, is_none, Bor, Bool, true, false, not, List, [], ◌∷◌, Option, Some, None, option_map, option_and_then, is_some, codes, ℕ, length, arith}
 use Rattle.std.specs.List.{list_any}
 use Rattle.std.specs.Option.{option_map_or}
 use Rattle.std.specs.Str.{bytes_eq}
 use Rattle.command_line.specs.declared.types.Command.{Command}
 use Rattle.command_line.specs.declared.values.Values.{Values}
 use Rattle.command_line.specs.Taken.{are_words_taken, bytes_in, is_read}
-use Rattle.command_line.specs.Words.{Form, Item, Wanted, are_taken, form_of, gives, is_among, items_in}
-use Rattle.command_line.specs.Words.{read_items, taken_items, value_of, values_in, values_of}
-use Rattle.command_line.specs.Words.{wanted_by, wanted_values, with_item}
+use Rattle.command_line.specs.Words.{Form, Item, Wanted, are_taken, command_of, form_of, gives, is_among}
+use Rattle.command_line.specs.Words.{items_in, read_items, taken_items, value_of, values_in, values_of}
+use Rattle.command_line.specs.Words.{wanted_by, wanted_of, wanted_values, with_item}
 
 -- ---- whether items are taken
 
@@ -89,42 +89,50 @@ abbrev Gives : Option (List Item) → List ℕ → Option (List ℕ) → Type 0
 Gives left name text = (items : List Item) → left ≡ Some items → text ≡ value_of items name
 
 -- what is read of the items that words are
-abbrev read_of : Option (List Item) → Option Values
+abbrev pub read_of : Option (List Item) → Option Values
 read_of = option_and_then (λ items. values_of (value_of items))
 
 -- texts that are the values of their names say what these say
 pub texts_read : (value : List ℕ → Option (List ℕ))
-    (batch limit lanes number count : Option (List ℕ))
+    (batch limit lanes doors port connections number count : Option (List ℕ))
     → batch ≡ value (codes "batch") → limit ≡ value (codes "limit")
-    → lanes ≡ value (codes "lanes") → number ≡ value (codes "number")
-    → count ≡ value (codes "count") → values_in batch limit lanes number count ≡ values_of value
-texts_read value batch limit lanes number count b l n u c = rw (b, l, n, u, c) refl
+    → lanes ≡ value (codes "lanes") → doors ≡ value (codes "doors") → port ≡ value (codes "port")
+    → connections ≡ value (codes "connections") → number ≡ value (codes "number")
+    → count ≡ value (codes "count")
+    → values_in batch limit lanes doors port connections number count ≡ values_of value
+texts_read value batch limit lanes doors port connections number count b l n d p s u c =
+    rw (b, l, n, d, p, s, u, c) refl
 
-pub items_read : (left : Option (List Item)) (batch limit lanes number count : Option (List ℕ))
+pub items_read : (left : Option (List Item))
+    (batch limit lanes doors port connections number count : Option (List ℕ))
     → is_some left ≡ true → Gives left (codes "batch") batch → Gives left (codes "limit") limit
-    → Gives left (codes "lanes") lanes → Gives left (codes "number") number
-    → Gives left (codes "count") count
-    → is_some (values_in batch limit lanes number count) ≡ is_some (read_of left)
-items_read None batch limit lanes number count is b l n u c = cc
-items_read (Some items) batch limit lanes number count is b l n u c =
-    rw (b items refl, l items refl, n items refl, u items refl, c items refl) refl
+    → Gives left (codes "lanes") lanes → Gives left (codes "doors") doors
+    → Gives left (codes "port") port → Gives left (codes "connections") connections
+    → Gives left (codes "number") number → Gives left (codes "count") count
+    → is_some (values_in batch limit lanes doors port connections number count)
+    ≡ is_some (read_of left)
+items_read None batch limit lanes doors port connections number count is b l n d p s u c = cc
+items_read (Some items) batch limit lanes doors port connections number count is b l n d p s u c =
+    ap (λ (values : Option Values). is_some values)
+    (texts_read (value_of items) batch limit lanes doors port connections number count
+    (b items refl) (l items refl) (n items refl) (d items refl) (p items refl) (s items refl)
+    (u items refl) (c items refl))
 
 pub none_read : (left : Option (List Item)) → is_some left ≡ false
     → is_some (read_of left) ≡ false
 none_read None is = refl
 none_read (Some items) is = cc
 
-pub taken_read : (names : List (List ℕ)) (left : Option (List Item))
-    (batch limit lanes number count : Option (List ℕ))
+pub taken_all : (names : List (List ℕ)) (left : Option (List Item))
     → option_map_or (are_taken names) left false ≡ true
-    → Gives left (codes "batch") batch → Gives left (codes "limit") limit
-    → Gives left (codes "lanes") lanes → Gives left (codes "number") number
-    → Gives left (codes "count") count
-    → is_some (values_in batch limit lanes number count)
-    ≡ is_some (read_of (option_and_then (taken_items names) left))
-taken_read names None batch limit lanes number count taken b l n u c = cc
-taken_read names (Some items) batch limit lanes number count taken b l n u c =
-    rw (taken, b items refl, l items refl, n items refl, u items refl, c items refl) refl
+    → option_and_then (taken_items names) left ≡ left
+taken_all names None taken = cc
+taken_all names (Some items) taken = rw taken refl
+
+pub taken_some : (names : List (List ℕ)) (left : Option (List Item))
+    → option_map_or (are_taken names) left false ≡ true → is_some left ≡ true
+taken_some names None taken = cc
+taken_some names (Some items) taken = refl
 
 pub not_taken_read : (names : List (List ℕ)) (left : Option (List Item))
     → option_map_or (are_taken names) left false ≡ false
@@ -147,6 +155,31 @@ pub read_asked : (command : Command) (form : Form) (words : List (List ℕ)) →
     → is_read form words ≡ is_some (wanted_by command words)
 read_asked command form words is = rw is (values_asked command (items_in (form_of command) words))
 
+lacks_some : {A : Type 0} (found : Option A) → is_some found ≡ false → found ≡ None
+lacks_some None is = refl
+lacks_some (Some x) is = cc
+
+-- words ask for nothing where those behind the command's ask for nothing of it
+pub none_asked : (words : List (List ℕ)) (word : List ℕ) (rest : List (List ℕ)) (command : Command)
+    → words ≡ word ∷ rest → command_of word ≡ Some command
+    → is_some (wanted_by command rest) ≡ false → wanted_of words ≡ None
+none_asked words word rest command begins named lacks =
+    ap wanted_of begins ∙ ap (option_and_then (λ c. wanted_by c rest)) named
+    ∙ lacks_some (wanted_by command rest) lacks
+
+none_wanted : (command : Command) (value : List ℕ → Option (List ℕ)) → values_of value ≡ None
+    → wanted_values command value ≡ None
+none_wanted command value none = rw none refl
+
+-- where a command asks for something, the values that it was given are read
+pub values_there : (command : Command) (asked : Option Wanted) (value : List ℕ → Option (List ℕ))
+    → is_some asked ≡ true
+    → ((wanted : Wanted) → asked ≡ Some wanted → wanted_values command value ≡ Some wanted)
+    → values_of value ≡ None → ⊥
+values_there command None value some tells none = cc
+values_there command (Some wanted) value some tells none =
+    let bad : None ≡ Some wanted = sym (none_wanted command value none) ∙ tells wanted refl in cc
+
 -- what a command asks for is what was read of the values that it was given
 pub asks_read : (command : Command) (asked : Option Wanted) (value : List ℕ → Option (List ℕ))
     (values : Values) (book cells : Option (List ℕ)) → is_some asked ≡ true
@@ -158,7 +191,10 @@ pub asks_read : (command : Command) (asked : Option Wanted) (value : List ℕ �
       batch = values.batch;
       limit = values.limit;
       lanes = values.lanes;
+      doors = values.doors;
       cells = cells;
+      port = values.port;
+      connections = values.connections;
       number = values.number;
       count = values.count;
     })

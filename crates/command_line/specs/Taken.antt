@@ -2,9 +2,10 @@
 use Rattle.std.specs.Prelude.{◌≡◌, ◌≤◌, ℕ, Bool, false, List, map, Option, None, option_map, is_some}
 use Rattle.std.specs.Option.{option_and_then, option_map_or}
 use Rattle.std.specs.Borrow.{Bor}
-use Rattle.hall_limits.specs.declared.TheConstants.{MAX_ROWS, MAX_TRIAL}
+use Rattle.hall_limits.specs.declared.TheConstants.{MAX_DOOR, MAX_LANE, MAX_ROWS, MAX_TRIAL}
 use Rattle.command_line.specs.declared.table.Form.{Form as Told}
 use Rattle.command_line.specs.declared.table.Form.TheVariants as told
+use Rattle.command_line.specs.declared.table.TheConstants.{MAX_DOOR_CONNECTIONS, MAX_PORT}
 use Rattle.command_line.specs.declared.types.Command.TheVariants.{Trial}
 use Rattle.command_line.specs.declared.types.Wants.{Wants}
 use Rattle.command_line.specs.Words.{Form, Wanted, are_taken, items_in, read_items, value_of}
@@ -41,15 +42,24 @@ seen wants = record {
   batch = wants.batch;
   limit = wants.limit;
   lanes = wants.lanes;
+  doors = wants.doors;
   cells = wants.cells;
+  port = wants.port;
+  connections = wants.connections;
   number = wants.number;
   count = wants.count;
 }
 
--- the numbers that are asked for are in their ranges: a book has room for a row at least, and a
--- trial has a pack at least
+-- the numbers that are asked for are in their ranges: a book has room for a row at least, each door
+-- has a port and a connection at least, and a trial has a pack at least
 pub record IsInRange (wanted : Wanted) : Type 0 where
   pub least : 1 ≤ wanted.limit
   pub most : wanted.limit ≤ MAX_ROWS
+  pub lanes : wanted.lanes ≤ MAX_LANE
+  pub doors : wanted.doors ≤ MAX_DOOR
+  pub port_least : 1 ≤ wanted.port
+  pub port_most : wanted.port ≤ MAX_PORT
+  pub connections_least : 1 ≤ wanted.connections
+  pub connections_most : wanted.connections ≤ MAX_DOOR_CONNECTIONS
   pub packs : wanted.count ≤ MAX_TRIAL
   pub some : wanted.command ≡ Trial → 1 ≤ wanted.count

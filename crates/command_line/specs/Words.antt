@@ -12,11 +12,12 @@ use Rattle.book_words.specs.Names.{name_of}
 use Rattle.book_words.specs.declared.name.Name.{Name}
 use Rattle.hall_units.specs.Number.{bounded_number}
 use Rattle.command_line.specs.declared.types.Command.{Command}
-use Rattle.command_line.specs.declared.types.Command.TheVariants.{Run, Report, Export, Check}
+use Rattle.command_line.specs.declared.types.Command.TheVariants.{Run, Serve, Report, Export, Check}
 use Rattle.command_line.specs.declared.types.Command.TheVariants.{Import, Trial, Migrate}
 use Rattle.command_line.specs.declared.values.Values.{Values}
 use Rattle.command_line.specs.declared.table.NumberForm.{NumberForm}
-use Rattle.command_line.specs.declared.table.TheConstants.{LIMIT, LANES, NUMBER, COUNT}
+use Rattle.command_line.specs.declared.table.TheConstants.{LIMIT, LANES, DOORS, PORT, CONNECTIONS}
+use Rattle.command_line.specs.declared.table.TheConstants.{NUMBER, COUNT}
 
 -- a name, and the value given to it
 pub record Item : Type 0 where
@@ -24,14 +25,18 @@ pub record Item : Type 0 where
   pub value : List ℕ
 
 -- what is asked for: a command, the path of the book and a batch where they are named, the most
--- rows, how many lanes, the folder of their files where one is named, and the numbers of a trial
+-- rows, how many lanes and doors, the folder of the lanes' files where one is named, the port of
+-- the first door, the connections of each, and the numbers of a trial
 pub record Wanted : Type 0 where
   pub command : Command
   pub book : Option (List ℕ)
   pub batch : Option Name
   pub limit : ℕ
   pub lanes : ℕ
+  pub doors : ℕ
   pub cells : Option (List ℕ)
+  pub port : ℕ
+  pub connections : ℕ
   pub number : ℕ
   pub count : ℕ
 
@@ -43,9 +48,9 @@ bytes_of words = map string_bytes words
 
 -- the commands by their words
 abbrev pub commands : List (List ℕ × Command)
-commands = (codes "run", Run) ∷ (codes "report", Report) ∷ (codes "export", Export)
-    ∷ (codes "check", Check) ∷ (codes "import", Import) ∷ (codes "trial", Trial)
-    ∷ (codes "migrate", Migrate) ∷ []
+commands = (codes "run", Run) ∷ (codes "serve", Serve) ∷ (codes "report", Report)
+    ∷ (codes "export", Export) ∷ (codes "check", Check) ∷ (codes "import", Import)
+    ∷ (codes "trial", Trial) ∷ (codes "migrate", Migrate) ∷ []
 
 -- the command that a word names
 abbrev pub command_of : List ℕ → Option Command
@@ -60,6 +65,8 @@ pub data Form : Type 0 where
 -- what stands behind each command
 abbrev pub form_of : Command → Form
 form_of Run = options (codes "book" ∷ codes "limit" ∷ codes "lanes" ∷ codes "cells" ∷ [])
+form_of Serve = options (codes "book" ∷ codes "limit" ∷ codes "lanes" ∷ codes "cells"
+    ∷ codes "doors" ∷ codes "port" ∷ codes "connections" ∷ [])
 form_of Report = options (codes "book" ∷ codes "batch" ∷ [])
 form_of Export = options (codes "book" ∷ [])
 form_of Check = options (codes "book" ∷ [])
@@ -156,21 +163,28 @@ batch_in None = Some None
 batch_in (Some text) = option_map (λ name. Some name) (name_of text)
 
 -- what is read of these texts, where each is in its range
-abbrev pub values_in : (batch limit lanes number count : Option (List ℕ)) → Option Values
-values_in batch limit lanes number count = option_and_then (λ batch.
-    option_and_then (λ limit. option_and_then (λ lanes. option_and_then (λ number.
+abbrev pub values_in : (batch limit lanes doors port connections number count : Option (List ℕ))
+    → Option Values
+values_in batch limit lanes doors port connections number count = option_and_then (λ batch.
+    option_and_then (λ limit. option_and_then (λ lanes. option_and_then (λ doors.
+    option_and_then (λ port. option_and_then (λ connections. option_and_then (λ number.
     option_map (λ count. record {
       batch = batch;
       limit = limit;
       lanes = lanes;
+      doors = doors;
+      port = port;
+      connections = connections;
       number = number;
       count = count;
-    }) (number_in COUNT count)) (number_in NUMBER number)) (number_in LANES lanes))
+    }) (number_in COUNT count)) (number_in NUMBER number)) (number_in CONNECTIONS connections))
+    (number_in PORT port)) (number_in DOORS doors)) (number_in LANES lanes))
     (number_in LIMIT limit)) (batch_in batch)
 
 -- the same by a value for each name
 abbrev pub values_of : (List ℕ → Option (List ℕ)) → Option Values
 values_of value = values_in (value (codes "batch")) (value (codes "limit")) (value (codes "lanes"))
+    (value (codes "doors")) (value (codes "port")) (value (codes "connections"))
     (value (codes "number")) (value (codes "count"))
 
 -- what a command asks for by the values of its names
@@ -181,7 +195,10 @@ wanted_values command value = option_map (λ values. record {
   batch = values.batch;
   limit = values.limit;
   lanes = values.lanes;
+  doors = values.doors;
   cells = value (codes "cells");
+  port = values.port;
+  connections = values.connections;
   number = values.number;
   count = values.count;
 }) (values_of value)

@@ -44,7 +44,10 @@ pub fn wants(alloc: Global, words: &[String]) -> Result<Wants, WantsError>
         batch: values.batch,
         limit: values.limit,
         lanes: values.lanes,
+        doors: values.doors,
         cells,
+        port: values.port,
+        connections: values.connections,
         number: values.number,
         count: values.count,
     })
@@ -58,6 +61,9 @@ fn values_in(matches: &ArgMatches) -> Option<Values>
         batch: matches.get_str("batch"),
         limit: matches.get_str("limit"),
         lanes: matches.get_str("lanes"),
+        doors: matches.get_str("doors"),
+        port: matches.get_str("port"),
+        connections: matches.get_str("connections"),
         number: matches.get_str("number"),
         count: matches.get_str("count"),
     })

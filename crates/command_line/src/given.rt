@@ -34,6 +34,9 @@ fn are_options_read(names: &[&str], words: &[String]) -> bool
         batch: find_value("batch", words),
         limit: find_value("limit", words),
         lanes: find_value("lanes", words),
+        doors: find_value("doors", words),
+        port: find_value("port", words),
+        connections: find_value("connections", words),
         number: find_value("number", words),
         count: find_value("count", words),
     };
@@ -52,6 +55,9 @@ fn are_places_read(names: &[&str], words: &[String]) -> bool
         batch: placed_value(names, "batch", words),
         limit: placed_value(names, "limit", words),
         lanes: placed_value(names, "lanes", words),
+        doors: placed_value(names, "doors", words),
+        port: placed_value(names, "port", words),
+        connections: placed_value(names, "connections", words),
         number: placed_value(names, "number", words),
         count: placed_value(names, "count", words),
     };

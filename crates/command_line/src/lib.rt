@@ -12,5 +12,6 @@ mod types;
 mod values;
 
 pub use asked::wants;
+pub use table::{MAX_DOOR_CONNECTIONS, MAX_PORT};
 pub use text::Text;
 pub use types::{Command, Wants, WantsError};

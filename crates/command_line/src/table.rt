@@ -3,7 +3,7 @@ ghost use Rattle.command_line.specs.Taken.{form_in};
 ghost use Rattle.command_line.specs.Words.{command_of, form_of};
 
 use crate::types::Command;
-use hall_limits::{MAX_LANE, MAX_ROWS, MAX_TRIAL};
+use hall_limits::{MAX_DOOR, MAX_LANE, MAX_ROWS, MAX_TRIAL};
 
 /// The command that a word names.
 pub fn find_command(word: &str) -> Option<Command>
@@ -11,6 +11,9 @@ pub fn find_command(word: &str) -> Option<Command>
 {
     if word == "run" {
         return Some(Command::Run);
+    }
+    if word == "serve" {
+        return Some(Command::Serve);
     }
     if word == "report" {
         return Some(Command::Report);
@@ -48,6 +51,15 @@ pub fn form_of(command: Command) -> Form
 {
     match command {
         Command::Run => Form::Options(&["book", "limit", "lanes", "cells"]),
+        Command::Serve => Form::Options(&[
+            "book",
+            "limit",
+            "lanes",
+            "cells",
+            "doors",
+            "port",
+            "connections",
+        ]),
         Command::Report => Form::Options(&["book", "batch"]),
         Command::Export => Form::Options(&["book"]),
         Command::Check => Form::Options(&["book"]),
@@ -77,6 +89,34 @@ pub const LANES: NumberForm = NumberForm {
     least: 0,
     most: MAX_LANE as u64,
     absent: 0,
+};
+
+/// The greatest port of door 1: as many ports stand above it as there may be doors besides.
+pub const MAX_PORT: u16 = u16::MAX - (MAX_DOOR as u16 - 1);
+
+/// The most connections of a door: one fewer than a door of the office serves at most, so that it
+/// ends by itself.
+pub const MAX_DOOR_CONNECTIONS: u32 = 999_999;
+
+/// How many doors the office has.
+pub const DOORS: NumberForm = NumberForm {
+    least: 0,
+    most: MAX_DOOR as u64,
+    absent: 0,
+};
+
+/// The port of door 1.
+pub const PORT: NumberForm = NumberForm {
+    least: 1,
+    most: MAX_PORT as u64,
+    absent: 8_080,
+};
+
+/// How many connections each door serves.
+pub const CONNECTIONS: NumberForm = NumberForm {
+    least: 1,
+    most: MAX_DOOR_CONNECTIONS as u64,
+    absent: 1,
 };
 
 /// The number that the weights of a trial are made from.

@@ -7,6 +7,10 @@ use std::fmt;
 pub enum Command {
     /// Reads a script: `run [--book PATH] [--limit N] [--lanes N] [--cells DIR]`
     Run,
+    /// Reads a plan, and has its lanes and the doors of the office at work at once:
+    /// `serve [--book PATH] [--limit N] [--lanes N] [--cells DIR] [--doors N] [--port P]
+    /// [--connections C]`
+    Serve,
     /// Prints the sheets of all batches, or that of one: `report [--book PATH] [--batch NAME]`
     Report,
     /// Prints the register of all packs: `export [--book PATH]`
@@ -29,15 +33,23 @@ pub struct Wants {
     pub book: Option<Text>,
     /// The batch whose sheet is reported; without one all are.
     pub batch: Option<Name>,
-    /// The most rows of the book.
+    /// The most rows of the book, 1 to `MAX_ROWS`.
     pub limit: u32,
-    /// How many lanes the script may work.
+    /// How many lanes are at work, 0 to `MAX_LANE`; in a run, how many the script may work.
     pub lanes: u8,
+    /// How many doors the office has, 0 to `MAX_DOOR`; 0 for other commands than `serve`.
+    pub doors: u8,
     /// The folder of the lanes' files; without one it is the folder that the program runs in.
     pub cells: Option<Text>,
+    /// The port of door 1 on 127.0.0.1, 1 to `MAX_PORT`; that of door J is J - 1 above it. It is
+    /// 8 080 for other commands than `serve`.
+    pub port: u16,
+    /// How many connections each door serves, 1 to `MAX_DOOR_CONNECTIONS`; 1 for other commands
+    /// than `serve`.
+    pub connections: u32,
     /// The number that the weights of a trial are made from; 0 for other commands.
     pub number: u64,
-    /// How many packs a trial weighs; 0 for other commands.
+    /// How many packs a trial weighs, 1 to `MAX_TRIAL`; 0 for other commands.
     pub count: u32,
 }
 

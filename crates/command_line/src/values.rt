@@ -2,7 +2,7 @@ ghost use Rattle.std.specs.Prelude.{◌≡◌, ◌≤◌, IfSome};
 ghost use Rattle.command_line.specs.Words.{batch_in, number_in, values_in};
 ghost use Rattle.command_line.specs.Taken.{bytes_in};
 
-use crate::table::{COUNT, LANES, LIMIT, NUMBER, NumberForm};
+use crate::table::{CONNECTIONS, COUNT, DOORS, LANES, LIMIT, NUMBER, NumberForm, PORT};
 use book_words::Name;
 use hall_units::read_number;
 
@@ -12,6 +12,9 @@ pub struct Texts<'a> {
     pub batch: Option<&'a str>,
     pub limit: Option<&'a str>,
     pub lanes: Option<&'a str>,
+    pub doors: Option<&'a str>,
+    pub port: Option<&'a str>,
+    pub connections: Option<&'a str>,
     pub number: Option<&'a str>,
     pub count: Option<&'a str>,
 }
@@ -22,6 +25,9 @@ pub struct Values {
     pub batch: Option<Name>,
     pub limit: u32,
     pub lanes: u8,
+    pub doors: u8,
+    pub port: u16,
+    pub connections: u32,
     pub number: u64,
     pub count: u32,
 }
@@ -29,17 +35,24 @@ pub struct Values {
 /// What the texts of values say, where each is in its range.
 pub fn read_values(texts: &Texts) -> Option<Values>
     ensures { result ≡ values_in (bytes_in texts.now.batch) (bytes_in texts.now.limit)
-        (bytes_in texts.now.lanes) (bytes_in texts.now.number) (bytes_in texts.now.count) }
+        (bytes_in texts.now.lanes) (bytes_in texts.now.doors) (bytes_in texts.now.port)
+        (bytes_in texts.now.connections) (bytes_in texts.now.number) (bytes_in texts.now.count) }
 {
     let batch = read_batch(texts.batch)?;
     let limit = read_within(&LIMIT, texts.limit)?;
     let lanes = read_within(&LANES, texts.lanes)?;
+    let doors = read_within(&DOORS, texts.doors)?;
+    let port = read_within(&PORT, texts.port)?;
+    let connections = read_within(&CONNECTIONS, texts.connections)?;
     let number = read_within(&NUMBER, texts.number)?;
     let count = read_within(&COUNT, texts.count)?;
     Some(Values {
         batch,
         limit: limit as u32,
         lanes: lanes as u8,
+        doors: doors as u8,
+        port: port as u16,
+        connections: connections as u32,
         number,
         count: count as u32,
     })

@@ -1,5 +1,5 @@
 use book_words::Name;
-use command_line::Command::{Check, Export, Import, Migrate, Report, Run, Trial};
+use command_line::Command::{Check, Export, Import, Migrate, Report, Run, Serve, Trial};
 use command_line::{Command, Text, Wants, WantsError, wants};
 use hall_limits::MAX_ROWS;
 use std::alloc::{AllocError, Global};
@@ -15,7 +15,10 @@ struct Asked {
     batch: Option<&'static str>,
     limit: u32,
     lanes: u8,
+    doors: u8,
     cells: Option<&'static str>,
+    port: u16,
+    connections: u32,
     number: u64,
     count: u32,
 }
@@ -26,9 +29,17 @@ const RUN: Asked = Asked {
     batch: None,
     limit: MAX_ROWS,
     lanes: 0,
+    doors: 0,
     cells: None,
+    port: 8_080,
+    connections: 1,
     number: 0,
     count: 0,
+};
+
+const SERVE: Asked = Asked {
+    command: Serve,
+    ..RUN
 };
 
 const CHECK: Asked = Asked {
@@ -65,7 +76,7 @@ const TRIAL: Asked = Asked {
 const BOOK: Option<&str> = Some("b.hall");
 
 // Words and what they ask for, written by hand from the grammar, as what follows.
-static ASKED: [(Words, Asked); 34] = [
+static ASKED: [(Words, Asked); 45] = [
     (&["run"], RUN),
     (&["check"], CHECK),
     (&["migrate"], MIGRATE),
@@ -159,6 +170,62 @@ static ASKED: [(Words, Asked); 34] = [
             ..RUN
         },
     ),
+    (&["serve"], SERVE),
+    (
+        &[
+            "serve",
+            "--book=b.hall",
+            "--limit",
+            "9",
+            "--lanes",
+            "16",
+            "--cells=c",
+        ],
+        Asked {
+            book: BOOK,
+            limit: 9,
+            lanes: 16,
+            cells: Some("c"),
+            ..SERVE
+        },
+    ),
+    (&["serve", "--doors", "0"], SERVE),
+    (&["serve", "--doors=1"], Asked { doors: 1, ..SERVE }),
+    (&["serve", "--doors", "16"], Asked { doors: 16, ..SERVE }),
+    (&["serve", "--port", "1"], Asked { port: 1, ..SERVE }),
+    (&["serve", "--port=8080"], SERVE),
+    (
+        &["serve", "--port=65520"],
+        Asked {
+            port: 65_520,
+            ..SERVE
+        },
+    ),
+    (&["serve", "--connections", "1"], SERVE),
+    (
+        &["serve", "--connections=999999"],
+        Asked {
+            connections: 999_999,
+            ..SERVE
+        },
+    ),
+    (
+        &[
+            "serve",
+            "--connections=20",
+            "--port",
+            "9000",
+            "--doors=2",
+            "--lanes=3",
+        ],
+        Asked {
+            lanes: 3,
+            doors: 2,
+            port: 9_000,
+            connections: 20,
+            ..SERVE
+        },
+    ),
     (&["report"], REPORT),
     (&["export"], EXPORT),
     (&["import"], IMPORT),
@@ -240,7 +307,7 @@ static ASKED: [(Words, Asked); 34] = [
     ),
 ];
 
-static REFUSED: [Words; 65] = [
+static REFUSED: [Words; 84] = [
     &[],
     &["runs"],
     &["run", "run"],
@@ -305,7 +372,26 @@ static REFUSED: [Words; 65] = [
     &["run", "1", "2"],
     &["check", "--batch=A"],
     &["migrate", "--limit=5"],
-    &["serve"],
+    &["serve", "--doors", "17"],
+    &["serve", "--doors=-1"],
+    &["serve", "--doors=1", "--doors", "2"],
+    &["serve", "--port=0"],
+    &["serve", "--port", "65521"],
+    &["serve", "--port=80", "--port=80"],
+    &["serve", "--connections", "0"],
+    &["serve", "--connections=1000000"],
+    &["serve", "--connections=1", "--connections=1"],
+    &["serve", "--lanes=17"],
+    &["serve", "--limit=0"],
+    &["serve", "--batch=A"],
+    &["serve", "1", "2"],
+    &["run", "--doors=1"],
+    &["run", "--port=80"],
+    &["run", "--connections=1"],
+    &["import", "--doors=1"],
+    &["report", "--port=80"],
+    &["trial", "1", "1", "--connections=1"],
+    &["serves"],
 ];
 
 fn words_of(alloc: Global, words: &[&str]) -> Result<Vec<String>, AllocError> {
@@ -341,7 +427,10 @@ fn is_found(found: &Wants, asked: &Asked) -> bool {
         && is_batch(found.batch, asked.batch)
         && found.limit == asked.limit
         && found.lanes == asked.lanes
+        && found.doors == asked.doors
         && is_same(&found.cells, asked.cells)
+        && found.port == asked.port
+        && found.connections == asked.connections
         && found.number == asked.number
         && found.count == asked.count
 }

@@ -1,33 +1,44 @@
-//! The program `hall`: the real streams, the file of the book, those of lanes, and the words of the
-//! command line.
+//! The program `hall`: the real streams, the file of the book, those of lanes, the ports of doors,
+//! and the words of the command line.
 #![tactic(auto)]
 
-ghost use Rattle.std.specs.Prelude.{◌≡◌, ◌↔◌, false, None, Some, ◌≤◌, length, OnOk, IfOk};
+ghost use Rattle.std.specs.Prelude.{◌≡◌, ◌⊎◌, ◌↔◌, false, true, None, Some, ◌≤◌, [], length, IfOk};
 ghost use Rattle.std.specs.Process.{exit_status};
-ghost use Rattle.hall_limits.specs.declared.TheConstants.{MAX_LANE, MAX_ROWS};
+ghost use Rattle.hall_limits.specs.declared.TheConstants.{MAX_LANE, MAX_DOOR};
 ghost use Rattle.command_line.specs.Words.{Wanted, bytes_of, wanted_of};
 ghost use Rattle.hall_top.specs.declared.ended.Ended.{Ended};
 ghost use Rattle.book_store.specs.declared.types.MountError.TheVariants as why;
-ghost use Rattle.text_streams.specs.Streams.{output_at};
+ghost use Rattle.text_streams.specs.Streams.{input_at, output_at};
 ghost use Rattle.script_run.specs.Outside.{call, outside_at, nothing_told, all_said};
+ghost use Rattle.session_jobs.specs.Works.{lane_site, door_site};
+ghost use Rattle.serve_run.specs.Jobs.{handed_in};
+ghost use Rattle.serve_run.specs.Serving.{moment};
 ghost use Rattle.hall_top.specs.declared.ending.Ending.TheVariants as ending;
+ghost use Rattle.hall_top.specs.Asked.{is_serve};
 ghost use Rattle.hall_top.specs.Endings.{SaysLast};
-ghost use Rattle.hall_top.specs.Calls.{EndsAs, LeavesOutcome};
+ghost use Rattle.hall_top.specs.Calls.{EndsAs, IsUnopened, LeavesOutcome};
+ghost use Rattle.hall_top.specs.Serving.{IsServed};
 
 use book_snapshot::ROW_BYTES;
 use book_store::MountError;
 use command_line::{Wants, WantsError, wants};
-use disk_core::{Disk, QuietDisk, Sink, Source, StdSink, StdSource};
+use disk_core::{Disk, Door, QuietDisk, Sink, Source, StdSink, StdSource};
 use file_disk::FileDisk;
-use hall_limits::{MAX_LANE, MAX_ROWS};
-use hall_top::{Ending, hall, say_last};
+use hall_limits::{MAX_DOOR, MAX_LANE, MAX_ROWS};
+use hall_top::{DoorEnds, Ending, hall, say_last};
 use lane_files::{FileLane, file_lanes};
 use lane_worker::Lane;
-use script_run::LaneLog;
+use script_run::LaneEnds;
 use std::alloc::{AllocError, Global};
 use std::env;
+use std::fs::File;
+use std::io::Eprint;
+use std::net::{Net, TcpListener, TcpStream};
 use std::process::ExitCode;
-use std::rt::Env;
+use std::rt::{Env, Files};
+use std::sync::Wait;
+use std::thread::Threads;
+use tcp_door::TcpDoor;
 
 /// The bytes that a book in memory has room for with each row: the row itself, and as many again
 /// for its snapshot.
@@ -46,28 +57,50 @@ fn words(rt: &(impl Env + AllocGlobal)) -> Vec<String> {
     kept.unwrap_or(Vec::new(rt.alloc()))
 }
 
-// Does what the words say over a disk, with these lanes. The exit status is that of the call, and
-// what it says of the streams, the disk and the lanes is true for some rows.
-fn run<S: Source, K: Sink, D: Disk + Drop, L: Lane + Drop>(
-    alloc: Global,
+// Does what the words say over a disk, with these lanes and doors. The exit status is that of the
+// call, and what it says of the streams, the disk, the lanes and the doors is true for some rows.
+fn run<
+    S: Source,
+    K: Sink,
+    D: Disk + Send + Drop,
+    L: Lane + Send + Drop,
+    O: Door + Send + Drop,
+    R: AllocGlobal + Threads + Wait + Sync,
+>(
+    rt: &R,
     words: &[String],
     input: &mut S,
     output: &mut K,
     disk: D,
     lanes: Vec<L>,
+    doors: Vec<O>,
 ) -> ExitCode
     requires few { length lanes.items ≤ MAX_LANE }
+    requires few_doors { length doors.items ≤ MAX_DOOR }
     requires unended { S.ended input.old ≡ false }
     ensures words { (exit_status result ≡ 2) ↔ (wanted_of (bytes_of words.now) ≡ None) }
     ensures ends { (wanted : Wanted) → wanted_of (bytes_of words.now) ≡ Some wanted →
-        (ended : Ended D L) × (ended.status ≡ exit_status result)
+        is_serve wanted.command ≡ false →
+        (ended : Ended D L O) × (ended.status ≡ exit_status result)
         × LeavesOutcome (EndsAs D.Disk wanted disk) ended
         (call S.Source input.old input.new
         (outside_at K.Sink L.Cell L.Gate output.old lanes.items nothing_told)
         (outside_at K.Sink L.Cell L.Gate output.new ended.lanes.items (all_said ended.lane_ends))
         ended.rows) }
+    ensures serves { (wanted : Wanted) → wanted_of (bytes_of words.now) ≡ Some wanted →
+        is_serve wanted.command ≡ true →
+        (ended : Ended D L O) × (ended.status ≡ exit_status result)
+        × (IsServed D.Disk (lane_site L.Cell L.Gate) (door_site O.Source O.connections)
+        wanted.limit disk (moment (input_at S.Source input.old) (output_at K.Sink output.old)
+        (D.faults disk) (handed_in lanes.items doors.items))
+        (input_at S.Source input.new) (output_at K.Sink output.new) ended
+        ⊎ (LeavesOutcome (IsUnopened D.Disk disk) ended
+        (call S.Source input.old input.new
+        (outside_at K.Sink L.Cell L.Gate output.old lanes.items nothing_told)
+        (outside_at K.Sink L.Cell L.Gate output.new ended.lanes.items (all_said ended.lane_ends))
+        ended.rows) × (ended.doors ≡ doors))) }
 {
-    ExitCode::from(hall(alloc, words, input, output, disk, lanes).status)
+    ExitCode::from(hall(rt, rt.alloc(), words, input, output, disk, lanes, doors).status)
 }
 
 // A disk in memory with room for a book of so many rows and its snapshot.
@@ -77,7 +110,7 @@ fn memory_disk(alloc: Global, limit: u32) -> Result<QuietDisk, AllocError> {
 }
 
 // The file of a book. Where it can't be opened, standard error says why.
-fn open_book(rt: &HostRuntime, path: &str) -> FileDisk {
+fn open_book<R: AllocGlobal + Eprint + Files<File = File>>(rt: &R, path: &str) -> FileDisk {
     let disk = FileDisk::open(rt, path);
     if let Some(error) = disk.open_error() {
         let _ = eprintln!(rt; "hall: can't open {path}: {error}");
@@ -87,7 +120,6 @@ fn open_book(rt: &HostRuntime, path: &str) -> FileDisk {
 
 // The lanes that the words ask for, over the files of their folder.
 fn open_lanes<'a>(
-    alloc: Global,
     rt: &'a HostRuntime,
     wanted: &Wants,
 ) -> Result<Vec<FileLane<'a, HostRuntime>>, AllocError>
@@ -97,39 +129,78 @@ fn open_lanes<'a>(
         Some(path) => path.as_str(),
         None => ".",
     };
-    file_lanes(alloc, rt, folder, wanted.lanes.min(MAX_LANE))
+    file_lanes(rt.alloc(), rt, folder, wanted.lanes.min(MAX_LANE))
+}
+
+// A door at a port, for so many connections. Where it can't listen, standard error says why; it
+// then fails as it awaits its first connection.
+fn open_door<R: Eprint + Net<Listener = TcpListener, Stream = TcpStream>>(
+    rt: &R,
+    port: u16,
+    connections: u32,
+) -> TcpDoor {
+    let door = TcpDoor::listen(rt, port, connections);
+    if let Some(error) = door.listen_error() {
+        let _ = eprintln!(rt; "hall: can't listen at port {port}: {error}");
+    }
+    door
+}
+
+// The doors that the words ask for, at ports that rise from that of the first.
+fn open_doors<R: AllocGlobal + Eprint + Net<Listener = TcpListener, Stream = TcpStream>>(
+    rt: &R,
+    wanted: &Wants,
+) -> Result<Vec<TcpDoor>, AllocError>
+    ensures { IfOk result (λ doors. length doors.items ≤ MAX_DOOR) }
+{
+    let count = wanted.doors.min(MAX_DOOR);
+    let mut doors = Vec::with_capacity(rt.alloc(), usize::from(count))?;
+    for number in 0..count {
+        let port = wanted.port.saturating_add(u16::from(number));
+        doors.push(open_door(rt, port, wanted.connections))?;
+    }
+    Ok(doors)
 }
 
 // The end of a call for which there is no memory: its last line and its status.
 fn end_without_memory<K: Sink>(alloc: Global, output: &mut K) -> ExitCode
-    ensures { SaysLast (ending.Unopened why.NoMemory) nothing_told (output_at K.Sink output.old)
+    ensures { SaysLast (ending.Unopened why.NoMemory) nothing_told [] (output_at K.Sink output.old)
         (output_at K.Sink output.new) (exit_status result) }
 {
     let ending = Ending::Unopened(MountError::NoMemory);
-    ExitCode::from(say_last(ending, &LaneLog::new(alloc), output))
+    let lanes = LaneEnds::new(Vec::new(alloc));
+    let doors = DoorEnds::new(Vec::new(alloc));
+    ExitCode::from(say_last(ending, b"", lanes.as_slice(), doors.as_slice(), output))
 }
 
-// Does what the words ask for, over the file of the book or one in memory.
-fn do_wanted<S: Source, K: Sink>(
-    rt: &HostRuntime,
+// Does what the words ask for, over the file of the book or one in memory, with these lanes and
+// doors.
+fn over_book<
+    S: Source,
+    K: Sink,
+    L: Lane + Send + Drop,
+    O: Door + Send + Drop,
+    R: AllocGlobal + Eprint + Files<File = File> + Threads + Wait + Sync,
+>(
+    rt: &R,
     words: &[String],
     wanted: &Wants,
     input: &mut S,
     output: &mut K,
+    lanes: Vec<L>,
+    doors: Vec<O>,
 ) -> ExitCode
-    requires { S.ended input.old ≡ false }
+    requires few { length lanes.items ≤ MAX_LANE }
+    requires few_doors { length doors.items ≤ MAX_DOOR }
+    requires unended { S.ended input.old ≡ false }
 {
-    let alloc = rt.alloc();
-    let Ok(lanes) = open_lanes(alloc, rt, wanted) else {
-        return end_without_memory(alloc, output);
-    };
     if let Some(path) = &wanted.book {
         let disk = open_book(rt, path.as_str());
-        return run(alloc, words, input, output, disk, lanes);
+        return run(rt, words, input, output, disk, lanes, doors);
     }
-    match memory_disk(alloc, wanted.limit) {
-        Ok(disk) => run(alloc, words, input, output, disk, lanes),
-        Err(_) => end_without_memory(alloc, output),
+    match memory_disk(rt.alloc(), wanted.limit) {
+        Ok(disk) => run(rt, words, input, output, disk, lanes, doors),
+        Err(_) => end_without_memory(rt.alloc(), output),
     }
 }
 
@@ -138,13 +209,21 @@ fn main(rt: HostRuntime) -> ExitCode {
     let words = words(&rt);
     let mut input = StdSource::new(rt.stdin());
     let mut output = StdSink::new(rt.stdout());
-    match wants(alloc, &words) {
-        Ok(wanted) => do_wanted(&rt, &words, &wanted, &mut input, &mut output),
-        Err(WantsError::NoMemory) => end_without_memory(alloc, &mut output),
+    let wanted = match wants(alloc, &words) {
+        Ok(wanted) => wanted,
+        Err(WantsError::NoMemory) => return end_without_memory(alloc, &mut output),
         Err(WantsError::Usage) => {
             let disk = QuietDisk::new(Vec::new(alloc));
             let lanes: Vec<FileLane<HostRuntime>> = Vec::new(alloc);
-            run(alloc, &words, &mut input, &mut output, disk, lanes)
+            let doors: Vec<TcpDoor> = Vec::new(alloc);
+            return run(&rt, &words, &mut input, &mut output, disk, lanes, doors);
         }
-    }
+    };
+    let Ok(lanes) = open_lanes(&rt, &wanted) else {
+        return end_without_memory(alloc, &mut output);
+    };
+    let Ok(doors) = open_doors(&rt, &wanted) else {
+        return end_without_memory(alloc, &mut output);
+    };
+    over_book(&rt, &words, &wanted, &mut input, &mut output, lanes, doors)
 }

@@ -1,3 +1,6 @@
+pub mod CallEnds
 pub mod EndingLemmas
 pub mod OpenedBooks
 pub mod RequestOrder
+pub mod ServedBooks
+pub mod WordsRead

@@ -37,26 +37,25 @@ lanes_rest here now log same =
     ap (λ (l : LogView). record { output = now; lanes = here.lanes; log = l }) same
 
 -- the front of a list that begins with another
-front_of : (first more : List Entry) → take (length first) (first ++ more) ≡ first
+pub front_of : (first more : List Entry) → take (length first) (first ++ more) ≡ first
 front_of [] more = refl
 front_of (entry ∷ first) more = ap (λ (es : List Entry). entry ∷ es) (front_of first more)
 
 -- what is left of a disk that held these entries
-keeps_rows : {D : Type 0} (g : disk.Ghosts D) (held : List Entry) (before : D)
-    (offered : Option Entry) (store last : Store D) (outcome : Outcome D)
+pub keeps_rows : {D : Type 0} (g : disk.Ghosts D) (held : List Entry) (before : D)
+    (offered : Option Entry) (store last : Store D) (left : D) (opened : ℕ) (rows : List Entry)
     → HasHeld g before held store → HasKept g held before offered last
-    → outcome.disk ≡ disk_of last → outcome.rows ≡ entries_of last
-    → take outcome.held outcome.rows ≡ entries_of store
-    → KeepsRows g held offered before outcome
-keeps_rows g held before offered store last outcome has kept disk_left rows front =
+    → left ≡ disk_of last → rows ≡ entries_of last → take opened rows ≡ entries_of store
+    → KeepsRows g held offered before left opened rows
+keeps_rows g held before offered store last left opened rows has kept disk_left same front =
     record {
       same = front ∙ has.same;
       moments = subst (λ (d : _). KeepsFromSync g before d (CrashLeaves held
-          (with_offered outcome.rows offered))) (sym disk_left)
+          (with_offered rows offered))) (sym disk_left)
           (subst (λ (es : List Entry). KeepsFromSync g before (disk_of last) (CrashLeaves held
-          (with_offered es offered))) (sym rows) kept.moments);
+          (with_offered es offered))) (sym same) kept.moments);
       end = λ c image.
-          subst (λ (es : List Entry). HoldsBook es c ⊎ HoldsBook (with_offered es offered) c) (sym rows)
+          subst (λ (es : List Entry). HoldsBook es c ⊎ HoldsBook (with_offered es offered) c) (sym same)
           (kept.images c (subst (λ (d : _). g.image d c) disk_left image));
     }
 
@@ -107,8 +106,8 @@ is_opened g counts_now limit Explains before store outcome call limit_is count c
           let kept = subst (λ (b : BookState). HasKept g rows before
           (stop_row b done.stop) done.last) book (done.goes.kept rows before
           (kept_mounted g counts_now rows before store has calm)) in
-          keeps_rows g rows before (stop_row left done.stop) store done.last outcome has kept
-          done.disk_left done.rows front;
+          keeps_rows g rows before (stop_row left done.stop) store done.last outcome.disk
+          outcome.held outcome.rows has kept done.disk_left done.rows front;
       snapshot = λ finished grown.
           let new : HasAddedRows done.last = omega (
             arith,

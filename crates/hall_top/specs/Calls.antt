@@ -37,7 +37,7 @@ use Rattle.hall_top.specs.Endings.{SaysLast}
 use Rattle.hall_top.specs.Texts.{whole}
 use Rattle.command_line.specs.Words.{Wanted}
 use Rattle.command_line.specs.declared.types.Command.{Command}
-use Rattle.command_line.specs.declared.types.Command.TheVariants.{Run, Report, Export, Check}
+use Rattle.command_line.specs.declared.types.Command.TheVariants.{Run, Serve, Report, Export, Check}
 use Rattle.command_line.specs.declared.types.Command.TheVariants.{Import, Trial, Migrate}
 
 -- nothing was read or written, no lane was worked, and there are no rows
@@ -64,12 +64,11 @@ pub record IsUnopened {S D : Type 0} (disk : disk.Ghosts D) (before : D) (outcom
 -- with those that it held; each crash from the first sync on leaves the first so many, or all and
 -- the one that was offered; and at the end one leaves all rows, or all and that one
 pub record KeepsRows {D : Type 0} (disk : disk.Ghosts D) (held : List Entry)
-    (offered : Option Entry) (before : D) (outcome : Outcome D) : Type 0 where
-  pub same : take outcome.held outcome.rows ≡ held
-  pub moments : KeepsFromSync disk before outcome.disk
-      (CrashLeaves held (with_offered outcome.rows offered))
-  pub end : (c : List ℕ) → disk.image outcome.disk c
-      → HoldsBook outcome.rows c ⊎ HoldsBook (with_offered outcome.rows offered) c
+    (offered : Option Entry) (before now : D) (opened : ℕ) (rows : List Entry) : Type 0 where
+  pub same : take opened rows ≡ held
+  pub moments : KeepsFromSync disk before now (CrashLeaves held (with_offered rows offered))
+  pub end : (c : List ℕ) → disk.image now c
+      → HoldsBook rows c ⊎ HoldsBook (with_offered rows offered) c
 
 -- The disk was opened as a book, and the command stopped in one of its ways. What `Explains` says of
 -- that way is the command's own meaning over the book as it was opened, and names what was offered
@@ -90,7 +89,7 @@ pub record IsOpened {S D : Type 0} (disk : disk.Ghosts D) (limit : ℕ)
   pub kept : WhereTold (disk.reads before) (λ bytes.
       (held : List Entry) → HoldsBook held bytes → IsLegal held
       → KeepsRows disk held (stop_row (record { limit = limit; entries = outcome.rows }) stop)
-      before outcome)
+      before outcome.disk outcome.held outcome.rows)
   pub snapshot : stop ≡ Finished → HasGrown outcome.held outcome.rows
       → HoldsSnapshotOf disk outcome.rows outcome.disk
   pub unwritten : SparesDisk stop → ¬ HasGrown outcome.held outcome.rows
@@ -188,8 +187,9 @@ pub record ExplainsMigrate {S : Type 0} (book : BookState) (call : Call S) (stop
     pub rest : LanesRest call.before.outside call.now.outside
     pub says : SaysMigrate book call stop
 
--- how each command ends
+-- how each command but `serve` ends
 abbrev pub ExplainsAs : {S : Type 0} → Command → Wanted → BookState → Call S → Stop → Type 0
+ExplainsAs Serve wanted book call stop = ⊥
 ExplainsAs Run wanted book call stop = ExplainsRun book call stop
 ExplainsAs Report wanted book call stop = ExplainsReport wanted.batch book call stop
 ExplainsAs Export wanted book call stop = ExplainsExport book call stop
@@ -218,21 +218,22 @@ pub record IsUsage {S D : Type 0} (before : D) (outcome : Outcome D) (call : Cal
     pub none : outcome.held ≡ 0
 
 -- A call ended with an outcome of which this holds, and then came its last text. Disk, rows and the
--- ends of works are those of the outcome, and no lane is worked any more.
-pub record LeavesOutcome {S D L : Type 0} (Holds : Outcome D → Call S → Type 0) (ended : Ended D L)
-    (call : Call S) : Type 0 where
+-- ends of works are those of the outcome, no lane is worked any more, and no door was served.
+pub record LeavesOutcome {S D L O : Type 0} (Holds : Outcome D → Call S → Type 0)
+    (ended : Ended D L O) (call : Call S) : Type 0 where
   pub outcome : Outcome D
   pub said : Stream
   pub disk_left : ended.disk ≡ outcome.disk
   pub held : ended.held ≡ outcome.held
   pub rows : ended.rows ≡ outcome.rows
   pub ends : ended.lane_ends ≡ outcome.log.told.ends
+  pub no_doors : ended.door_ends ≡ []
   pub holds : Holds outcome (record call {
     now = record call.now {
       outside = record call.now.outside { output = said; log = outcome.log.told };
     };
   })
-  pub last : SaysLast outcome.ending outcome.log.told said call.now.outside.output ended.status
+  pub last : SaysLast outcome.ending outcome.log.told [] said call.now.outside.output ended.status
 
 -- A command was done over a store: it stopped in one of its ways, and the disk and the rows are those
 -- of the store that it left.

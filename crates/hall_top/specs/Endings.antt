@@ -1,6 +1,7 @@
 -- How a call of the program ended, its last line, and its status.
-use Rattle.std.specs.Prelude.{◌≡◌, ◌⊎◌, ℕ, min, Bool, true, false, List, [], ◌++◌, ◌==◌, ◌||◌, Option, Some, None, if◌then◌else◌}
+use Rattle.std.specs.Prelude.{◌≡◌, ◌⊎◌, ℕ, min, Bool, true, false, List, [], ◌++◌, ◌==◌, ◌||◌, nat_lt, Option, Some, None, if◌then◌else◌}
 use Rattle.std.specs.List.{list_any}
+use Rattle.std.specs.Option.{unwrap_or}
 use Rattle.book_store.specs.declared.types.MountError.{MountError}
 use Rattle.book_store.specs.declared.types.MountError.TheVariants as mount
 use Rattle.store_runs.specs.declared.stop.Stop.{Stop}
@@ -9,10 +10,17 @@ use Rattle.text_streams.specs.Streams.{Stream, WroteAll, IsCutIn}
 use Rattle.lane_worker.specs.declared.ending.LaneEnd.{LaneEnd}
 use Rattle.lane_worker.specs.declared.ending.LaneStop.{LaneStop}
 use Rattle.lane_worker.specs.declared.ending.LaneStop.TheVariants as lane
+use Rattle.office_door.specs.declared.ending.DoorEnd.{DoorEnd}
+use Rattle.office_door.specs.declared.ending.DoorStop.{DoorStop}
+use Rattle.office_door.specs.declared.ending.DoorStop.TheVariants as door
 use Rattle.script_run.specs.Outside.{LogView}
+use Rattle.serve_run.specs.declared.stop.ServeStop.{ServeStop}
+use Rattle.serve_run.specs.declared.stop.ServeStop.TheVariants as serve
+use Rattle.serve_run.specs.declared.stop.JobsStop.{JobsStop}
+use Rattle.serve_run.specs.declared.stop.JobsStop.TheVariants as jobs
 use Rattle.hall_top.specs.declared.ending.Ending.{Ending}
-use Rattle.hall_top.specs.declared.ending.Ending.TheVariants.{Usage, Unopened, Stopped}
-use Rattle.hall_top.specs.Texts.{bad_line, usage, read_fault, no_memory, disk_fault, not_journal, damaged_row}
+use Rattle.hall_top.specs.declared.ending.Ending.TheVariants.{Usage, Unopened, Stopped, Served}
+use Rattle.hall_top.specs.Texts.{bad_line, bad_plan, usage, read_fault, no_memory, disk_fault, not_journal, damaged_row}
 
 -- the line that says why a disk wasn't opened as a book
 abbrev pub line_of_why : MountError → List ℕ
@@ -48,10 +56,33 @@ is_spent_stop _ = false
 abbrev pub is_spent : LaneEnd → Bool
 is_spent end = is_spent_stop end.stop
 
--- the status of lanes that ended so, where they have one of their own
-abbrev pub early_status : List LaneEnd → Option ℕ
-early_status ends =
-    if list_any is_early ends then Some 10 else (if list_any is_spent ends then Some 12 else None)
+-- the service of a door ended early: the next connection couldn't be admitted, or a fault of the
+-- link ended one
+abbrev pub is_cut_stop : DoorStop → Bool
+is_cut_stop door.Door = true
+is_cut_stop _ = false
+
+abbrev pub is_cut : DoorEnd → Bool
+is_cut end = is_cut_stop end.stop || nat_lt 0 end.links
+
+-- a door served as many connections as may be
+abbrev pub is_full_stop : DoorStop → Bool
+is_full_stop door.Turns = true
+is_full_stop _ = false
+
+abbrev pub is_full : DoorEnd → Bool
+is_full end = is_full_stop end.stop
+
+-- the turns of a lane or of a door were spent
+abbrev pub are_spent : List LaneEnd → List DoorEnd → Bool
+are_spent lanes doors = list_any is_full doors || list_any is_spent lanes
+
+-- the status of lanes and doors that ended so, where they have one of their own
+abbrev pub early_status : List LaneEnd → List DoorEnd → Option ℕ
+early_status lanes doors =
+    if list_any is_early lanes then Some 10
+    else (if list_any is_cut doors then Some 11
+    else (if are_spent lanes doors then Some 12 else None))
 
 -- the line of a command that stopped so, where lanes have this status: want of memory isn't said
 -- behind a lane that ended early
@@ -59,11 +90,25 @@ abbrev pub line_behind : Stop → Option ℕ → List ℕ
 line_behind NoMemory (Some status) = []
 line_behind stop early = line_of_stop stop
 
+-- the line of a serve whose jobs came to their end so, if it has one: want of memory isn't said
+-- behind a lane or a door that ended early
+abbrev pub line_of_jobs : JobsStop → Option ℕ → List ℕ
+line_of_jobs jobs.DiskFault early = disk_fault
+line_of_jobs jobs.NoMemory None = no_memory
+line_of_jobs _ early = []
+
+-- the line of a serve that stopped so, if it has one
+abbrev pub line_of_serve : ServeStop → Option ℕ → List ℕ
+line_of_serve serve.BadPlan early = bad_plan
+line_of_serve (serve.Early stop) early = line_of_stop stop
+line_of_serve (serve.Ran stop) early = line_of_jobs stop early
+
 -- the last line of a call
 abbrev pub last_line : Ending → Option ℕ → List ℕ
 last_line Usage early = usage
 last_line (Unopened why) early = line_of_why why
 last_line (Stopped stop) early = line_behind stop early
+last_line (Served stop) early = line_of_serve stop early
 
 -- the status of each way to stop
 abbrev pub status_of_stop : Stop → ℕ
@@ -90,29 +135,44 @@ status_behind NoMemory (Some status) = status
 status_behind stop (Some status) = min (status_of_stop stop) status
 status_behind stop None = status_of_stop stop
 
+-- the status of a serve whose jobs came to their end so, where lanes or doors have this status: that
+-- of a failed output or disk is less than any of theirs, and want of memory comes last
+abbrev pub status_of_jobs : JobsStop → Option ℕ → ℕ
+status_of_jobs jobs.WriteFault early = 5
+status_of_jobs jobs.DiskFault early = 6
+status_of_jobs jobs.Finished early = unwrap_or early 0
+status_of_jobs jobs.NoMemory early = unwrap_or early 7
+
+-- the status of a serve that stopped so
+abbrev pub status_of_serve : ServeStop → Option ℕ → ℕ
+status_of_serve serve.BadPlan early = 3
+status_of_serve (serve.Early stop) early = status_of_stop stop
+status_of_serve (serve.Ran stop) early = status_of_jobs stop early
+
 -- the status of a call whose last text goes out
 abbrev pub status_of : Ending → Option ℕ → ℕ
 status_of Usage early = 2
 status_of (Unopened why) early = status_of_why why
 status_of (Stopped stop) early = status_behind stop early
+status_of (Served stop) early = status_of_serve stop early
 
 -- the last text of a call: the line of a lane that is still to be said, and the line of the status
-abbrev pub last_text : Ending → LogView → List ℕ
-last_text ending log = log.unsaid ++ last_line ending (early_status log.ends)
+abbrev pub last_text : Ending → LogView → List DoorEnd → List ℕ
+last_text ending log doors = log.unsaid ++ last_line ending (early_status log.ends doors)
 
-abbrev pub last_status : Ending → LogView → ℕ
-last_status ending log = status_of ending (early_status log.ends)
+abbrev pub last_status : Ending → LogView → List DoorEnd → ℕ
+last_status ending log doors = status_of ending (early_status log.ends doors)
 
 -- the last text of a call went out, and it has its status; or that text was cut, and the status is
 -- the least of its own and that of a failed output
-abbrev pub SaysLast : Ending → LogView → Stream → Stream → ℕ → Type 0
-SaysLast ending log before now status =
-    (WroteAll before now (last_text ending log) × (status ≡ last_status ending log))
-    ⊎ (IsCutIn before now [] (last_text ending log)
-    × (status ≡ min (last_status ending log) (status_of_stop WriteFault)))
+abbrev pub SaysLast : Ending → LogView → List DoorEnd → Stream → Stream → ℕ → Type 0
+SaysLast ending log doors before now status =
+    (WroteAll before now (last_text ending log doors) × (status ≡ last_status ending log doors))
+    ⊎ (IsCutIn before now [] (last_text ending log doors)
+    × (status ≡ min (last_status ending log doors) (status_of_stop WriteFault)))
 
 -- the statuses that the program may end with
 abbrev pub is_status : ℕ → Bool
 is_status status =
     status == 0 || status == 2 || status == 3 || status == 4 || status == 5 || status == 6
-    || status == 7 || status == 8 || status == 9 || status == 10 || status == 12
+    || status == 7 || status == 8 || status == 9 || status == 10 || status == 11 || status == 12

@@ -1,4 +1,6 @@
+pub mod Asked
 pub mod Calls
 pub mod Endings
 pub mod Requests
+pub mod Serving
 pub mod Texts

@@ -5,6 +5,10 @@ use Rattle.std.specs.Prelude.{ℕ, List, ◌++◌, codes, decimal}
 abbrev pub bad_line : ℕ → List ℕ
 bad_line number = codes "bad line " ++ decimal number ++ codes "\n"
 
+-- the input is no plan
+abbrev pub bad_plan : List ℕ
+bad_plan = codes "bad plan\n"
+
 -- the words are no command
 abbrev pub usage : List ℕ
 usage = codes "usage: hall COMMAND [OPTIONS]\n"

@@ -1,8 +1,9 @@
 use crate::ending::Ending;
 use book_core::Rows;
 use script_run::{LaneEnds, LaneLog};
+use serve_run::DoorEnds;
 
-/// What a call of the program leaves before its last text.
+/// What a command other than `serve` leaves before its last text.
 #[derive(Drop)]
 pub struct Outcome<D> {
     /// How it ended.
@@ -19,7 +20,7 @@ pub struct Outcome<D> {
 
 /// What a call of the program leaves.
 #[derive(Drop)]
-pub struct Ended<D, L> {
+pub struct Ended<D, L, O> {
     /// The status with which the program ends.
     pub status: u8,
     /// The disk.
@@ -30,6 +31,11 @@ pub struct Ended<D, L> {
     pub rows: Rows,
     /// The lanes that were handed in.
     pub lanes: Vec<L>,
-    /// How each work of a lane ended, in the order of the lines that set them to work.
+    /// How each work of a lane ended: of `run` in the order of the lines that set them to work, of
+    /// `serve` in the order of the lanes, each once or none.
     pub lane_ends: LaneEnds,
+    /// The doors that were handed in.
+    pub doors: Vec<O>,
+    /// How each door ended, in their order, where `serve` served them.
+    pub door_ends: DoorEnds,
 }

@@ -1,23 +1,19 @@
 ghost use Rattle.std.specs.Prelude.{◌≡◌, [], ◌++◌, min, OnOk, OnErr};
 ghost use Rattle.text_streams.specs.Streams.{output_at, WroteAll, IsCutIn};
-ghost use Rattle.std.specs.List.{list_any};
-ghost use Rattle.hall_top.specs.Endings.{line_of_why, line_of_stop, line_behind, last_line, status_of_why, status_of_stop, status_behind, status_of, is_early, is_spent, early_status, SaysLast};
+ghost use Rattle.hall_top.specs.Endings.{line_of_why, line_of_stop, line_behind, last_line, status_of_why, status_of_stop, status_behind, status_of, SaysLast};
 
+use crate::early::{SPENT, early_status};
+use crate::served::{status_of_serve, write_serve};
 use book_store::MountError;
 use disk_core::{Partly, Sink};
-use lane_worker::{LaneEnd, LaneStop};
-use script_run::LaneLog;
+use lane_worker::LaneEnd;
+use office_door::DoorEnd;
+use serve_run::ServeStop;
 use store_runs::Stop;
 use text_streams::{write_numbered, write_text};
 
 /// The status where the output failed.
-const WRITE_FAULT: u8 = 5;
-
-/// The status where a lane ended early.
-const LANE_EARLY: u8 = 10;
-
-/// The status where turns were spent.
-const SPENT: u8 = 12;
+pub const WRITE_FAULT: u8 = 5;
 
 /// How a call of the program ended, before its last text.
 #[derive(Clone, Copy)]
@@ -26,8 +22,10 @@ pub enum Ending {
     Usage,
     /// The disk wasn't opened as a book.
     Unopened(MountError),
-    /// The command stopped so.
+    /// A command other than `serve` stopped so.
     Stopped(Stop),
+    /// The command `serve` stopped so.
+    Served(ServeStop),
 }
 
 // Writes the line that says why a disk wasn't opened as a book.
@@ -49,8 +47,8 @@ fn write_why<K: Sink>(why: MountError, output: &mut K) -> Result<(), Partly>
     }
 }
 
-// Writes the line that says how a command stopped, where it has one.
-fn write_stop<K: Sink>(stop: Stop, output: &mut K) -> Result<(), Partly>
+/// Writes the line that says how a command stopped, where it has one.
+pub fn write_stop<K: Sink>(stop: Stop, output: &mut K) -> Result<(), Partly>
     ensures wrote { OnOk result (WroteAll (output_at K.Sink output.old)
         (output_at K.Sink output.new) (line_of_stop stop)) }
     ensures cut { OnErr result (IsCutIn (output_at K.Sink output.old)
@@ -90,6 +88,7 @@ fn write_line<K: Sink>(ending: Ending, early: Option<u8>, output: &mut K) -> Res
         Ending::Usage => write_text(output, b"usage: hall COMMAND [OPTIONS]\n"),
         Ending::Unopened(why) => write_why(why, output),
         Ending::Stopped(stop) => write_behind(stop, early, output),
+        Ending::Served(stop) => write_serve(stop, early, output),
     }
 }
 
@@ -110,50 +109,6 @@ fn write_last<K: Sink>(
     Ok(())
 }
 
-// Whether a lane ended early.
-fn is_early(end: &LaneEnd) -> bool
-    ensures { result ≡ is_early end.now }
-{
-    match end.stop {
-        LaneStop::Cell | LaneStop::Gate | LaneStop::Bad { .. } | LaneStop::Refused(_) => true,
-        LaneStop::Done | LaneStop::DiskFault | LaneStop::NoMemory | LaneStop::Turns => false,
-    }
-}
-
-// Whether the turns of a lane were spent.
-fn is_spent(end: &LaneEnd) -> bool
-    ensures { result ≡ is_spent end.now }
-{
-    end.stop == LaneStop::Turns
-}
-
-// Whether one of some lanes ended early.
-fn any_early(ends: &[LaneEnd]) -> bool
-    ensures { result ≡ list_any is_early ends.now }
-{
-    ends.iter().any(is_early)
-}
-
-// Whether the turns of one of some lanes were spent.
-fn any_spent(ends: &[LaneEnd]) -> bool
-    ensures { result ≡ list_any is_spent ends.now }
-{
-    ends.iter().any(is_spent)
-}
-
-// The status of lanes that ended so, where they have one of their own.
-fn early_status(ends: &[LaneEnd]) -> Option<u8>
-    ensures { result ≡ early_status ends.now }
-{
-    if any_early(ends) {
-        Some(LANE_EARLY)
-    } else if any_spent(ends) {
-        Some(SPENT)
-    } else {
-        None
-    }
-}
-
 // The status where a disk wasn't opened as a book.
 fn status_of_why(why: MountError) -> u8
     ensures { result ≡ status_of_why why }
@@ -166,8 +121,8 @@ fn status_of_why(why: MountError) -> u8
     }
 }
 
-// The status of a command that stopped so.
-fn status_of_stop(stop: Stop) -> u8
+/// The status of a command that stopped so.
+pub fn status_of_stop(stop: Stop) -> u8
     ensures { result ≡ status_of_stop stop }
 {
     match stop {
@@ -201,18 +156,25 @@ fn status_of(ending: Ending, early: Option<u8>) -> u8
         Ending::Usage => 2,
         Ending::Unopened(why) => status_of_why(why),
         Ending::Stopped(stop) => status_behind(stop, early),
+        Ending::Served(stop) => status_of_serve(stop, early),
     }
 }
 
 /// Writes the last text of a call, and gives its status: the line of a lane that is still to be
-/// said, and the line that its status has. It takes no memory.
-pub fn say_last<K: Sink>(ending: Ending, log: &LaneLog, output: &mut K) -> u8
-    ensures { SaysLast ending log.now.told (output_at K.Sink output.old)
-        (output_at K.Sink output.new) result }
+/// said, and the line that its status has, where its lanes and doors ended so. It takes no memory.
+pub fn say_last<K: Sink>(
+    ending: Ending,
+    unsaid: &[u8],
+    lanes: &[LaneEnd],
+    doors: &[DoorEnd],
+    output: &mut K,
+) -> u8
+    ensures { SaysLast ending (record { ends = lanes.now; unsaid = unsaid.now }) doors.now
+        (output_at K.Sink output.old) (output_at K.Sink output.new) result }
 {
-    let early = early_status(log.ends());
+    let early = early_status(lanes, doors);
     let status = status_of(ending, early);
-    match write_last(log.unsaid(), ending, early, output) {
+    match write_last(unsaid, ending, early, output) {
         Ok(()) => status,
         Err(_) => status.min(WRITE_FAULT),
     }

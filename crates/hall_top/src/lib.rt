@@ -1,13 +1,19 @@
 //! The program: words and a disk in, a command done over the book, and its last line out.
 #![tactic(auto)]
 
+mod alone;
+mod early;
 mod ended;
 mod ending;
 mod reports;
+mod served;
+mod serving;
 mod top;
 mod whole;
 
+pub use alone::hall_alone;
 pub use command_line::{Command, Text, Wants, WantsError, wants};
 pub use ended::Ended;
 pub use ending::{Ending, say_last};
+pub use serve_run::{DoorEnds, JobsStop, ServeStop};
 pub use top::hall;

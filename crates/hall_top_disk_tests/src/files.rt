@@ -1,6 +1,6 @@
 use crate::books::{FIVE_ROWS, SIXTH_ROW};
 use crate::runs::{Ends, NoLane, compare, run_over, run_script};
-use disk_core::MemorySink;
+use disk_core::{ListDoor, MemorySink};
 use file_disk::FileDisk;
 use hall_top::Ended;
 use std::alloc::AllocError;
@@ -22,7 +22,7 @@ fn run_file<R: Abort + AllocGlobal + Files<File = File>>(
     words: &[&str],
     play: (&[u8], &str),
     ends: Ends,
-) -> Result<Ended<FileDisk, NoLane>, AllocError> {
+) -> Result<Ended<FileDisk, NoLane, ListDoor>, AllocError> {
     let (script, wanted) = play;
     let alloc = rt.alloc();
     let mut output = MemorySink::new(alloc, Vec::new(alloc));

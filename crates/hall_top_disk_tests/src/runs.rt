@@ -1,7 +1,7 @@
 ghost use Rattle.std.specs.Prelude.{◌≡◌, ◌≤◌, false, length};
 
-use disk_core::{Disk, MemoryDisk, MemorySink, QuietSource, Sink, Source};
-use hall_top::{Ended, hall};
+use disk_core::{Disk, ListDoor, MemoryDisk, MemorySink, QuietSource, Sink, Source};
+use hall_top::{Ended, hall_alone};
 use lane_worker::{ListCell, ListGate, PairLane};
 use std::alloc::{AllocError, Global};
 use std::process::Abort;
@@ -16,7 +16,7 @@ pub fn run<S: Source, K: Sink, D: Disk + Drop>(
     input: &mut S,
     output: &mut K,
     disk: D,
-) -> Result<Ended<D, NoLane>, AllocError>
+) -> Result<Ended<D, NoLane, ListDoor>, AllocError>
     requires { S.ended input.old ≡ false }
 {
     let mut all = Vec::new(alloc);
@@ -24,7 +24,8 @@ pub fn run<S: Source, K: Sink, D: Disk + Drop>(
         all.push(String::from_str(alloc, word)?)?;
     }
     let lanes: Vec<NoLane> = Vec::new(alloc);
-    Ok(hall(alloc, &all, input, output, disk, lanes))
+    let doors: Vec<ListDoor> = Vec::new(alloc);
+    Ok(hall_alone(alloc, &all, input, output, disk, lanes, doors))
 }
 
 /// Does what the words say, where the input is a script that is read without a fault.
@@ -34,7 +35,7 @@ pub fn run_script<D: Disk + Drop>(
     script: &[u8],
     output: &mut MemorySink,
     disk: D,
-) -> Result<Ended<D, NoLane>, AllocError> {
+) -> Result<Ended<D, NoLane, ListDoor>, AllocError> {
     let mut input = QuietSource::new(Vec::from_slice(alloc, script)?);
     run(alloc, words, &mut input, output, disk)
 }
@@ -48,7 +49,7 @@ pub fn compare<D>(
     alloc: Global,
     printed: &[u8],
     wanted: &str,
-    ended: &Ended<D, NoLane>,
+    ended: &Ended<D, NoLane, ListDoor>,
     ends: Ends,
 ) -> Result<(), AllocError> {
     let printed = String::from_utf8_lossy(alloc, printed)?;

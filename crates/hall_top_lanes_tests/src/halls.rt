@@ -1,6 +1,6 @@
-use disk_core::{MemoryDisk, MemorySink, QuietSource};
+use disk_core::{ListDoor, MemoryDisk, MemorySink, QuietSource};
 use hall_limits::MAX_LANE;
-use hall_top::{Ended, hall};
+use hall_top::{Ended, hall_alone};
 use lane_worker::{CellNext, LaneStop, ListCell, ListGate, PairLane};
 use std::alloc::{AllocError, Global};
 use std::process::Abort;
@@ -107,7 +107,16 @@ pub fn check_case(
     let mut output = MemorySink::new(alloc, Vec::from_slice(alloc, case.output_fails)?);
     let mut lanes = lanes_of(alloc, case)?;
     lanes.truncate(usize::from(MAX_LANE));
-    let ended = hall(alloc, &words(alloc)?, &mut input, &mut output, disk, lanes);
+    let doors: Vec<ListDoor> = Vec::new(alloc);
+    let ended = hall_alone(
+        alloc,
+        &words(alloc)?,
+        &mut input,
+        &mut output,
+        disk,
+        lanes,
+        doors,
+    );
     let printed = String::from_utf8_lossy(alloc, output.bytes())?;
     assert_eq!(rt; printed.as_str(), case.printed);
     let rows = ended.rows.as_slice().len();
@@ -121,7 +130,7 @@ pub fn check_case(
 }
 
 // Compares what the lanes of a run were left with, and how their works ended.
-fn check_lanes(rt: &impl Abort, case: &Case, ended: &Ended<MemoryDisk, MemoryLane>) {
+fn check_lanes(rt: &impl Abort, case: &Case, ended: &Ended<MemoryDisk, MemoryLane, ListDoor>) {
     for (lane, opened) in ended.lanes.iter().zip(case.opened) {
         assert!(rt; lane.gate.opened() == *opened, "{}", case.printed);
     }

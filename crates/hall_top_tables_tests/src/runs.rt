@@ -1,7 +1,7 @@
 ghost use Rattle.std.specs.Prelude.{◌≡◌, false};
 
-use disk_core::{MemoryDisk, MemorySink, QuietSource, Sink, Source};
-use hall_top::{Ended, hall};
+use disk_core::{ListDoor, MemoryDisk, MemorySink, QuietSource, Sink, Source};
+use hall_top::{Ended, hall_alone};
 use lane_worker::{ListCell, ListGate, PairLane};
 use std::alloc::{AllocError, Global};
 use std::process::Abort;
@@ -23,7 +23,7 @@ pub fn run<S: Source, K: Sink>(
     input: &mut S,
     output: &mut K,
     bytes: &[u8],
-) -> Result<Ended<MemoryDisk, NoLane>, AllocError>
+) -> Result<Ended<MemoryDisk, NoLane, ListDoor>, AllocError>
     requires { S.ended input.old ≡ false }
 {
     let mut all = Vec::new(alloc);
@@ -32,7 +32,8 @@ pub fn run<S: Source, K: Sink>(
     }
     let disk = MemoryDisk::new(alloc, Vec::from_slice(alloc, bytes)?, Vec::new(alloc));
     let lanes: Vec<NoLane> = Vec::new(alloc);
-    Ok(hall(alloc, &all, input, output, disk, lanes))
+    let doors: Vec<ListDoor> = Vec::new(alloc);
+    Ok(hall_alone(alloc, &all, input, output, disk, lanes, doors))
 }
 
 /// Compares what was printed, and how a call ended, with what is wanted.
@@ -41,7 +42,7 @@ pub fn compare(
     alloc: Global,
     printed: &[u8],
     wanted: &str,
-    ended: &Ended<MemoryDisk, NoLane>,
+    ended: &Ended<MemoryDisk, NoLane, ListDoor>,
     ends: Ends,
 ) -> Result<(), AllocError> {
     let printed = String::from_utf8_lossy(alloc, printed)?;

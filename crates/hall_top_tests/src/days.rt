@@ -1,6 +1,6 @@
 use crate::{desks, lanes, limits, refusals, samples, small, tares, worked};
-use disk_core::{MemorySink, QuietDisk, QuietSource};
-use hall_top::{Ended, hall};
+use disk_core::{ListDoor, MemorySink, QuietDisk, QuietSource};
+use hall_top::{Ended, hall_alone};
 use lane_worker::{ListCell, ListGate, PairLane};
 use std::alloc::{AllocError, Global};
 use std::process::Abort;
@@ -93,7 +93,7 @@ pub fn check_run(
     words: &[&str],
     play: &Play,
     ends: Ends,
-) -> Result<Ended<QuietDisk, NoLane>, AllocError> {
+) -> Result<Ended<QuietDisk, NoLane, ListDoor>, AllocError> {
     let mut all = Vec::new(alloc);
     for word in words {
         all.push(String::from_str(alloc, word)?)?;
@@ -102,7 +102,8 @@ pub fn check_run(
     let mut output = MemorySink::new(alloc, Vec::new(alloc));
     let disk = QuietDisk::new(Vec::with_capacity(alloc, ROOM)?);
     let lanes: Vec<NoLane> = Vec::new(alloc);
-    let ended = hall(alloc, &all, &mut input, &mut output, disk, lanes);
+    let doors: Vec<ListDoor> = Vec::new(alloc);
+    let ended = hall_alone(alloc, &all, &mut input, &mut output, disk, lanes, doors);
     let printed = String::from_utf8_lossy(alloc, output.bytes())?;
     assert_eq!(rt; printed.as_str(), play.wanted.as_str());
     assert_eq!(rt; (ended.status, ended.rows.as_slice().len()), ends);

@@ -1,11 +1,13 @@
 -- Lemmas on a run of a whole import: how it ends, and why.
-use Rattle.std.proofs.Common.{◌≡◌, ◌⊎◌, inl, inr, ℕ, ◌<◌, List, length, Option, Some, None, IfSome, refl, sym, ap, subst, arith, length-append}
-use Rattle.std.specs.Io.KnownBytes.{Consumes}
+use Rattle.std.proofs.Common.{◌≡◌, ◌⊎◌, inl, inr, ℕ, List, Option, Some, None, IfSome, refl, ap, subst}
 use Rattle.device_facts.specs.Count.{Calm}
 use Rattle.device_facts.specs.CountLaws.{calm_counts_none}
 use Rattle.book_words.specs.declared.act.Entry.{Entry}
 use Rattle.text_streams.specs.Streams.{Stream, IsCalm, HasFailed}
 use Rattle.text_streams.specs.Reading.{ReadsWhole}
+use Rattle.whole_input.specs.declared.whole.Unread.{Unread}
+use Rattle.whole_input.specs.declared.whole.Unread.TheVariants as unread
+use Rattle.whole_input.proofs.WholeReading.{told_whole, told_long}
 use Rattle.store_runs.specs.declared.stop.Offer.{Offer}
 use Rattle.store_runs.specs.declared.stop.Stop.{Stop}
 use Rattle.store_runs.specs.declared.stop.Stop.TheVariants.{Finished, BadLine, ReadFault, WriteFault, DiskFault, NoMemory, Spent}
@@ -17,8 +19,8 @@ use Rattle.import_table.specs.declared.types.ImportError.TheVariants.{Bad, TooMa
 use Rattle.import_table.specs.Imports.{Import, import_in}
 use Rattle.import_table.proofs.ImportSteps.{too_long}
 use Rattle.import_run.specs.Ends.{EndsImport}
-use Rattle.import_run.specs.Reading.{StopsReading}
-use Rattle.import_run.specs.Runs.{EndsRead, Explains, HasCause, IsImportWith, HasError, ExplainsImport}
+use Rattle.import_run.specs.Reading.{stop_unread, IsUnread}
+use Rattle.import_run.specs.Runs.{EndsRead, Explains, HasCause, HasError, ExplainsImport}
 
 -- ---- why it stops
 
@@ -62,37 +64,21 @@ never_read book before now rows import Spent ends is = absurd (cc)
 
 -- ---- its error
 
--- what holds of the bytes that an input gave holds of all that it tells
-of_all : (told : Option (List ℕ)) (bytes : List ℕ) (Holds : List ℕ → Type 0)
-    → IfSome told (λ left. left ≡ bytes) → Holds bytes → IfSome told Holds
-of_all None bytes Holds all holds = tt
-of_all (Some left) bytes Holds all holds = subst Holds (sym all) holds
-
 read_error : {S : Type 0} (book : BookState) (call : Call S) (bytes : List ℕ) (stop : Stop)
     → ReadsWhole call.before.input call.now.input bytes
     → EndsImport book call.before.output call.now.output call.rows (import_in bytes) stop
     → HasError call stop
 read_error book call bytes Finished read ends = tt
 read_error book call bytes (BadLine number) read ends =
-    of_all call.before.input.bytes bytes (λ all. (import_in all).error ≡ Some (Bad number)) read.all
-    ends.is
+    told_whole call.before.input call.now.input bytes
+    (λ all. (import_in all).error ≡ Some (Bad number)) read ends.is
 read_error book call bytes ReadFault read ends = tt
 read_error book call bytes WriteFault read ends = tt
 read_error book call bytes (DiskFault offer) read ends = tt
 read_error book call bytes NoMemory read ends = tt
 read_error book call bytes Spent read ends =
-    of_all call.before.input.bytes bytes (λ all. (import_in all).error ≡ Some TooMany) read.all
-    ends.is
-
--- an import that begins with too many bytes is bad
-too_long_whole : (before now : Option (List ℕ)) (taken : List ℕ) → Consumes before now taken
-    → MAX_IMPORT < length taken → IfSome before (λ all. (import_in all).error ≡ Some (Bad 0))
-too_long_whole None now taken read long = tt
-too_long_whole (Some all) None taken read long = absurd read
-too_long_whole (Some all) (Some rest) taken read long =
-    let over : MAX_IMPORT < length all =
-    omega (arith, long, ap length read, length-append taken rest) in
-    ap (λ (i : Import). i.error) (too_long all over)
+    told_whole call.before.input call.now.input bytes
+    (λ all. (import_in all).error ≡ Some TooMany) read ends.is
 
 -- ---- it is done unless something stops it
 
@@ -164,24 +150,20 @@ explains_read book call bytes stop read ends =
     (read_error book call bytes stop read ends)
 
 -- it wasn't
-pub explains_unread : {S : Type 0} (book : BookState) (call : Call S) (stop : Stop)
-    → StopsReading call.before.input call.now.input stop → call.rows ≡ book.entries
-    → call.now.output ≡ call.before.output → ExplainsImport book call stop
-explains_unread book call ReadFault stops unasked silent =
+pub explains_unread : {S : Type 0} (book : BookState) (call : Call S) (why : Unread)
+    → IsUnread call.before.input call.now.input why → call.rows ≡ book.entries
+    → call.now.output ≡ call.before.output → ExplainsImport book call (stop_unread why)
+explains_unread book call unread.TooLong stops unasked silent =
+    explains book call (BadLine 0)
+    (inr (record { stops = (refl, stops); unasked = unasked; silent = silent }))
+    (stops.calm, ap (λ (s : Stream). s.faults) silent)
+    (told_long MAX_IMPORT call.before.input call.now.input
+    (λ all. (import_in all).error ≡ Some (Bad 0)) stops
+    (λ all long. ap (λ (i : Import). i.error) (too_long all long)))
+explains_unread book call unread.Failed stops unasked silent =
     explains book call ReadFault (record { stops = stops; unasked = unasked; silent = silent })
     (stops.cause, ap (λ (s : Stream). s.faults) silent) tt
-explains_unread book call (BadLine number) stops unasked silent =
-    explains book call (BadLine number)
-    (inr (record { stops = stops; unasked = unasked; silent = silent }))
-    (stops.calm, ap (λ (s : Stream). s.faults) silent)
-    (subst (λ n. IsImportWith call (Bad n)) (sym stops.why.0)
-    (too_long_whole call.before.input.bytes call.now.input.bytes stops.taken stops.read
-    stops.why.1))
-explains_unread book call NoMemory stops unasked silent =
+explains_unread book call unread.NoMemory stops unasked silent =
     explains book call NoMemory
     (inr (record { stops = stops; unasked = unasked; silent = silent }))
     (stops.calm, ap (λ (s : Stream). s.faults) silent) tt
-explains_unread book call Finished stops unasked silent = absurd stops.why
-explains_unread book call WriteFault stops unasked silent = absurd stops.why
-explains_unread book call (DiskFault offer) stops unasked silent = absurd stops.why
-explains_unread book call Spent stops unasked silent = absurd stops.why

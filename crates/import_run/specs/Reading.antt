@@ -1,8 +1,9 @@
 -- How the reading of an import stops before its end.
-use Rattle.std.specs.Prelude.{◌≡◌, ⊤, ℕ, ◌<◌, ◌≤◌, List, length}
-use Rattle.std.specs.Io.KnownBytes.{Consumes}
-use Rattle.text_streams.specs.Streams.{Stream, IsCalm}
-use Rattle.text_streams.specs.Reading.{FailsBehind}
+use Rattle.std.specs.Prelude.{◌≡◌}
+use Rattle.text_streams.specs.Streams.{Stream}
+use Rattle.whole_input.specs.declared.whole.Unread.{Unread}
+use Rattle.whole_input.specs.declared.whole.Unread.TheVariants as unread
+use Rattle.whole_input.specs.Reading as whole
 use Rattle.store_runs.specs.declared.stop.Stop.{Stop}
 use Rattle.store_runs.specs.declared.stop.Stop.TheVariants.{BadLine, ReadFault, NoMemory, Spent}
 use Rattle.import_table.specs.declared.types.TheConstants.{MAX_IMPORT}
@@ -15,25 +16,19 @@ stop_of (error.Bad number) = BadLine number
 stop_of error.TooMany = Spent
 stop_of error.NoMemory = NoMemory
 
--- why an import isn't read on: it has more bytes than an import may have, which is the bad line 0,
--- or there is no memory for them
-abbrev pub StopsBehind : List ℕ → Stop → Type 0
-StopsBehind taken (BadLine number) = (number ≡ 0) × (MAX_IMPORT < length taken)
-StopsBehind taken NoMemory = ⊤
-StopsBehind taken _ = ⊥
+-- how a run stops whose import wasn't read whole: too many bytes are the bad line 0
+abbrev pub stop_unread : Unread → Stop
+stop_unread unread.TooLong = BadLine 0
+stop_unread unread.Failed = ReadFault
+stop_unread unread.NoMemory = NoMemory
 
--- these bytes were taken of an input that didn't fail, and no more
-pub record IsReadNoFurther (before now : Stream) (stop : Stop) : Type 0 where
-  pub taken : List ℕ
-  pub read : Consumes before.bytes now.bytes taken
-  pub calm : IsCalm before now
-  pub why : StopsBehind taken stop
+-- an import wasn't read whole: it has too many bytes, it failed, or there was no memory for it
+abbrev pub IsUnread : Stream → Stream → Unread → Type 0
+IsUnread before now unread = whole.StopsReading MAX_IMPORT before now unread
 
--- no more bytes than an import may have
-abbrev pub IsShort : List ℕ → Type 0
-IsShort bytes = length bytes ≤ MAX_IMPORT
-
--- how the reading of an import stops: the input failed, or it is read no further
+-- how the reading of an import stops
 abbrev pub StopsReading : Stream → Stream → Stop → Type 0
-StopsReading before now ReadFault = FailsBehind before now IsShort
-StopsReading before now stop = IsReadNoFurther before now stop
+StopsReading before now (BadLine number) = (number ≡ 0) × IsUnread before now unread.TooLong
+StopsReading before now ReadFault = IsUnread before now unread.Failed
+StopsReading before now NoMemory = IsUnread before now unread.NoMemory
+StopsReading before now _ = ⊥

@@ -7,15 +7,28 @@ ghost use Rattle.store_runs.specs.Runs.{RunGoes};
 ghost use Rattle.import_table.specs.Imports.{import_in};
 ghost use Rattle.script_run.specs.Books.{book_in, store_in, IsReady};
 ghost use Rattle.import_run.specs.Ends.{EndsImport};
+ghost use Rattle.import_run.specs.Reading.{stop_unread};
 ghost use Rattle.import_run.specs.Runs.{ExplainsImport};
 
 use crate::records::answer_import;
-use crate::whole::read_whole;
 use book_store::Store;
 use disk_core::{Disk, Sink, Source};
+use import_table::MAX_IMPORT;
 use script_run::{ScriptEnd, Session};
 use std::alloc::Global;
 use store_runs::{RunEnd, Stop};
+use whole_input::{Unread, read_whole};
+
+// How a run stops whose import wasn't read whole.
+fn stop_unread(unread: Unread) -> Stop
+    ensures { result ≡ stop_unread unread }
+{
+    match unread {
+        Unread::TooLong => Stop::BadLine(0),
+        Unread::Failed => Stop::ReadFault,
+        Unread::NoMemory => Stop::NoMemory,
+    }
+}
 
 // Answers an import that was read whole, and ends its run.
 fn finish<K: Sink, D: Disk>(
@@ -52,9 +65,9 @@ fn run_whole<S: Source, K: Sink, D: Disk>(
         (entries_of result.store)) result.stop }
     ensures goes { RunGoes D.Disk result.stop (store_in session) result.store }
 {
-    match read_whole(alloc, input) {
+    match read_whole(alloc, input, MAX_IMPORT as u32) {
         Ok(bytes) => finish(alloc, session, &bytes, output),
-        Err(stop) => session.stop(stop),
+        Err(unread) => session.stop(stop_unread(unread)),
     }
 }
 

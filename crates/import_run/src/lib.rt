@@ -4,6 +4,5 @@
 
 mod import;
 mod records;
-mod whole;
 
 pub use import::run_import;

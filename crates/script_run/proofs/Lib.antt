@@ -4,6 +4,7 @@ pub mod LanesHandedIn
 pub mod WorkedLanes
 pub mod RepeatLemmas
 pub mod AcknowledgedRows
+pub mod CommandsInTurn
 pub mod AskedCommands
 pub mod AnsweredLines
 pub mod WorkedLines

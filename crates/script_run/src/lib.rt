@@ -10,7 +10,7 @@ mod script;
 mod session;
 mod writing;
 
-pub use asking::{Unanswered, ask_at, ask_command};
+pub use asking::{SCRIPT, Unanswered, ask_at, ask_command};
 pub use composing::{compose_answer, compose_summary};
 pub use lane_log::{LaneEnds, LaneLog};
 pub use script::{MAX_READS, run_script};

@@ -1,2 +1,4 @@
 pub mod AskLemmas
 pub mod CloseLemmas
+pub mod MetPasses
+pub mod Crossing

@@ -1,3 +1,4 @@
 pub mod Closing
 pub mod Locked
+pub mod PassLaws
 pub mod Passes

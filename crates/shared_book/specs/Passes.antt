@@ -1,11 +1,11 @@
 -- What the Turn and the passes of a session know of its book.
-use Rattle.std.specs.Prelude.{◌≡◌, ⊤, ℕ, List, ◌++◌, length, map, min}
+use Rattle.std.specs.Prelude.{◌≡◌, ℕ, ◌≤◌, List, ◌++◌, length, map, min, All}
+use Rattle.device_facts.specs.Prefix.{IsPrefixOf}
 use Rattle.turn_pass.specs.declared.entries.Appended.{Appended}
 use Rattle.turn_pass.specs.declared.entries.Own.{Own}
 use Rattle.turn_pass.specs.History.{PassState, TurnState}
-use Rattle.book_words.specs.declared.act.Ask.{Ask}
 use Rattle.book_words.specs.declared.act.Entry.{Entry}
-use Rattle.book_words.specs.Callers.{FAULTS_END, IsReached, Known}
+use Rattle.book_words.specs.Callers.{FAULTS_END, Known}
 use Rattle.book_words.specs.Desks.{Row}
 use Rattle.session_laws.specs.declared.session.Session as session
 
@@ -41,13 +41,10 @@ pub record IsPassOf {N : Type 0} (session : session.Ghosts N) (pass : PassState 
   pub behind : pass.history ≡ length session.before
   pub booked : pass.rows ≡ length pass.mine
 
--- whatever was asked between two states of a pass: nothing is said, since others ask between
-abbrev pub HasMet : {C : Type 0} → C → C → List Ask → Type 0
-HasMet old new asks = ⊤
-
-pub always_met : {C : Type 0} → IsReached (HasMet {C = C})
-always_met =
-    record {
-      by_none = λ caller. tt;
-      by_both = λ first between last some more one two. tt;
-    }
+-- A pass went on, whatever was asked between by whomever: what it had seen begins what it has seen
+-- now, and its own rows grow by rows that it has seen by now.
+pub record HasMet (old new : Known) : Type 0 where
+  pub seen : IsPrefixOf old.seen new.seen
+  pub added : List Row
+  pub mine : new.mine ≡ old.mine ++ added
+  pub within : All (λ (row : Row). row.number ≤ length new.seen) added

@@ -61,15 +61,16 @@ impl<'a, D: Disk, R: Wait, L: Ledger, M: Ledger, N: Session> Pass<'a, D, R, L, M
 }
 
 impl<'a, D: Disk, R: Wait, L: Ledger, M: Ledger, N: Session> Caller for Pass<'a, D, R, L, M, N> {
-    ghost use Rattle.std.specs.Prelude.{◌≡◌, ◌+◌, ◌≤◌, [], ◌∷◌, Err, true, length};
+    ghost use Rattle.std.specs.Prelude.{◌≡◌, ◌+◌, ◌≤◌, Err, true, length};
     ghost use Rattle.book_words.specs.Callers.{IsAsked, faults_told};
     ghost use Rattle.book_words.specs.declared.caller.AskError.TheVariants as error;
     ghost use Rattle.session_laws.specs.Sessions.{weighs};
-    ghost use Rattle.shared_book.specs.Passes.{known_of, HasMet, always_met};
+    ghost use Rattle.shared_book.specs.Passes.{known_of, HasMet};
+    ghost use Rattle.shared_book.specs.PassLaws.{met_reached};
 
     ghost known = { λ pass. known_of N.Session pass };
 
-    ghost later = { λ old new asks. HasMet old new asks };
+    ghost later = { λ old new asks. HasMet (known_of N.Session old) (known_of N.Session new) };
 
     /// Asks the book, as soon as nobody else asks. The answer is the book's to the whole list of
     /// then, which the pass has seen afterwards: what it had seen before begins it, and an entry
@@ -79,7 +80,7 @@ impl<'a, D: Disk, R: Wait, L: Ledger, M: Ledger, N: Session> Caller for Pass<'a,
     fn ask(&mut self, ask: &Ask) -> Result<Answered, AskError>
         ensures asked { IsAsked (known_of N.Session self.old) (known_of N.Session self.new)
             ask.now result }
-        ensures later { HasMet self.old self.new (ask.now ∷ []) }
+        ensures later { HasMet (known_of N.Session self.old) (known_of N.Session self.new) }
         ensures room { result ≡ Err error.NoMemory → weighs ask.now.want ≡ true
             → N.spare + length N.before ≤ length (known_of N.Session self.new).seen }
         ensures booked { self.new.faults ≡ self.old.faults + faults_told result }
@@ -87,5 +88,5 @@ impl<'a, D: Disk, R: Wait, L: Ledger, M: Ledger, N: Session> Caller for Pass<'a,
         self.shared.ask(self.rt, &mut self.seat, ask)
     }
 
-    ghost reached = { always_met };
+    ghost reached = { met_reached (known_of N.Session) };
 }

@@ -1,5 +1,5 @@
 -- How a trial ends.
-use Rattle.std.proofs.Common.{◌≡◌, ℕ, Ok, Err, List, [], ◌∷◌, ◌++◌, length, inl, inr, refl, sym, ap, ◌∙◌, subst}
+use Rattle.std.proofs.Common.{◌≡◌, ℕ, Ok, Err, List, ◌++◌, length, inl, inr, sym, ap, ◌∙◌, subst}
 use Rattle.std.specs.Bool.{⊤}
 use Rattle.disk_core.specs.declared.disk.Disk as disk
 use Rattle.book_words.specs.declared.act.Entry.{Entry}
@@ -16,45 +16,13 @@ use Rattle.book_store.specs.Stores.{entries_of, held_of}
 use Rattle.store_runs.specs.Books.{BookState, stored_book}
 use Rattle.store_runs.specs.Runs.{Goes, RunGoes}
 use Rattle.store_runs.proofs.StoreSteps.{goes_on}
-use Rattle.script_run.specs.Commands.{lines_asking, after_commands, AreAnswered}
+use Rattle.script_run.specs.Commands.{AreAnswered}
 use Rattle.script_run.specs.Reached.{EndsAtSummary}
-use Rattle.script_run.specs.Transcript.{Event, event_at, after_command, after_events, AreEventsOf, texts}
-use Rattle.script_run.proofs.AcknowledgedRows.{lines_done, are_left}
+use Rattle.script_run.specs.Transcript.{texts}
+use Rattle.script_run.proofs.CommandsInTurn.{are_answered}
 use Rattle.trial_run.specs.Steps.{StopsIn, Asks}
 use Rattle.trial_run.specs.Trials.{StopsEarly, EndsScript, ExplainsScript, ExplainsTrial}
 use Rattle.trial_run.specs.TrialScripts.{trial_commands}
-
--- ---- commands as a run of a script does them
-
--- what is done at the lines that ask them
-abbrev pub events_asked : BookState → List Command → List Event
-events_asked book [] = []
-events_asked book (command ∷ commands) =
-    event_at book command ∷ events_asked (after_command book command) commands
-
-asked_right : (book : BookState) (commands : List Command)
-    → AreEventsOf book (lines_asking commands) (events_asked book commands)
-asked_right book [] = refl
-asked_right book (command ∷ commands) =
-    (refl, asked_right (after_command book command) commands)
-
--- the book that they leave is the one that commands leave
-pub asked_left : (book : BookState) (commands : List Command)
-    → after_events book (events_asked book commands) ≡ after_commands book commands
-asked_left book [] = refl
-asked_left book (command ∷ commands) = asked_left (after_command book command) commands
-
-pub are_answered : (book : BookState) (commands : List Command) (rows : List Entry)
-    → rows ≡ (after_commands book commands).entries → AreAnswered book commands rows
-are_answered book commands rows is =
-    record {
-      events = events_asked book commands;
-      right = asked_right book commands;
-      rows_left = are_left book (events_asked book commands) rows
-          (lines_done book (lines_asking commands) (events_asked book commands)
-          (asked_right book commands))
-          (is ∙ ap (λ (b : BookState). b.entries) (sym (asked_left book commands)));
-    }
 
 -- ---- the ends
 

@@ -12,14 +12,15 @@ use Rattle.book_words.specs.declared.act.Entry.{Entry}
 use Rattle.book_words.specs.declared.act.Question.{Question}
 use Rattle.book_words.specs.declared.reply.Answered.{Answered}
 use Rattle.book_words.specs.declared.reply.Refused.{Refused}
+use Rattle.book_words.specs.declared.name.Name.{Name}
 use Rattle.book_words.specs.Names.{name_of}
 use Rattle.book_state.specs.Told.{entry_numbered}
 use Rattle.book_core.specs.declared.types.BookError.TheVariants as error
 use Rattle.book_core.specs.Steps.{GivesLook}
 use Rattle.script_lines.specs.declared.command.Command.{Command}
-use Rattle.script_lines.specs.declared.command.Verb.TheVariants.{Measure}
+use Rattle.script_lines.specs.declared.command.Verb.TheVariants.{End, Measure, Stop}
 use Rattle.trial_run.specs.declared.commands.TheConstants.{BATCH_PACKS}
-use Rattle.trial_run.specs.TrialScripts.{trial_product, word_behind, gross_by, weighing, weighings, packs_of_batch, hall_command, gross_weighed, measure_at, packs_in, packs_told}
+use Rattle.trial_run.specs.TrialScripts.{trial_product, batch_name, word_behind, gross_by, open_commands, weighing, weighings, draw_command, batch_run, packs_of_batch, hall_command, gross_weighed, measure_at, packs_in, packs_told}
 
 -- the product's name
 pub product_named : name_of (codes "trial") ≡ Some trial_product
@@ -146,6 +147,25 @@ word-batch number count place word last begun was is =
     omega (arith, begun) in
     is ∙ ap (λ w. word_behind w packs) (was ∙ ap (word_behind number) first)
     ∙ word-behind number (place * BATCH_PACKS) packs ∙ ap (word_behind number) all
+
+-- what is asked between the last pack of a batch and its draw
+abbrev pub stop_commands : Name → List Command
+stop_commands batch =
+    hall_command (Stop 1 None) ∷ hall_command (Stop 2 None) ∷ hall_command (Stop 3 None)
+    ∷ hall_command (End batch) ∷ []
+
+-- what is asked up to its last pack
+abbrev pub packs_weighed : ℕ → ℕ → ℕ → List Command
+packs_weighed number count place =
+    open_commands (batch_name place)
+    ++ weighings (word_behind number (place * BATCH_PACKS)) (packs_of_batch count place)
+
+-- the run of a batch ends with its draw
+pub run_drawn : (number count place : ℕ) → batch_run number count place
+    ≡ (packs_weighed number count place ++ stop_commands (batch_name place))
+    ++ draw_command (batch_name place) number ∷ []
+run_drawn number count place = sym (append_assoc (packs_weighed number count place)
+    (stop_commands (batch_name place)) (draw_command (batch_name place) number ∷ []))
 
 -- ---- the packs of a sample
 

@@ -1,5 +1,5 @@
 -- What the steps of a trial ask, one after another.
-use Rattle.std.proofs.Common.{◌≡◌, List, [], ◌∷◌, ◌++◌, Result, Ok, Err, inl, inr, ⊎_elim, refl, sym, ap, ◌∙◌, subst, append_assoc, append-nil}
+use Rattle.std.proofs.Common.{◌≡◌, ℕ, List, [], ◌∷◌, ◌++◌, Result, Ok, Err, inl, inr, ⊎_elim, refl, sym, ap, ◌∙◌, subst, append_assoc, append-nil}
 use Rattle.disk_core.specs.declared.disk.Disk as disk
 use Rattle.book_words.specs.declared.act.Entry.{Entry}
 use Rattle.book_words.specs.declared.name.Name.{Name}
@@ -15,15 +15,11 @@ use Rattle.script_run.specs.Asking.{exchange_at}
 use Rattle.script_run.specs.Commands.{after_commands}
 use Rattle.script_run.specs.Transcript.{after_command}
 use Rattle.script_run.specs.Unanswered.{MayStopAt}
-use Rattle.trial_run.specs.Steps.{StopsIn, Asks}
-use Rattle.trial_run.specs.TrialScripts.{in_turn, sample_question}
+use Rattle.script_run.proofs.CommandsInTurn.{after-append}
+use Rattle.trial_run.specs.Steps.{IsNext, StopsIn, Asks}
+use Rattle.trial_run.specs.TrialScripts.{draw_command, in_turn, sample_question}
 
--- ---- lists of commands
-
-pub after-append : (book : BookState) (first more : List Command)
-    → after_commands book (first ++ more) ≡ after_commands (after_commands book first) more
-after-append book [] more = refl
-after-append book (command ∷ first) more = after-append (after_command book command) first more
+-- ---- scripts in turn
 
 -- scripts in turn, and then more
 pub turns-append : {A : Type 0} (script : BookState → A → List Command) (book : BookState)
@@ -49,6 +45,21 @@ turns-push script book first x = turns-append script book first (x ∷ [])
 
 -- ---- where a script stops
 
+-- what is asked next is that with more answered before
+next_behind : (first answered rest : List Command) (asked : Command)
+    → IsNext answered asked rest → IsNext (first ++ answered) asked rest
+next_behind first answered rest asked next = ⊎_elim
+    (λ is. inl is)
+    (λ asks. inr (record {
+      batch = asks.batch;
+      word = asks.word;
+      before = first ++ asks.before;
+      drawn = ap (λ (cs : List Command). first ++ cs) asks.drawn
+          ∙ sym (append_assoc first asks.before (draw_command asks.batch asks.word ∷ []));
+      is = asks.is;
+    }))
+    next
+
 -- it stops behind commands that were answered
 pub stops_behind : (book between : BookState) (rows : List Entry) (first more : List Command)
     (stop : Stop) → between ≡ after_commands book first → StopsIn between rows more stop
@@ -63,7 +74,7 @@ stops_behind book between rows first more stop is stops =
           ∙ sym (append_assoc first s.answered s.rest);
       left = s.left ∙ ap (λ (b : BookState). b.entries) (sym on);
       asked = s.asked;
-      next = s.next;
+      next = next_behind first s.answered s.rest s.asked s.next;
       may = subst (λ (b : BookState). MayStopAt (exchange_at b s.asked) stop) (sym on) s.may;
     }
 
@@ -238,26 +249,35 @@ module _ {D : Type 0} (g : disk.Ghosts D) where
         (asks_on more (Ok last) old two new (a ++ b) c
         (asks_on done (Ok more) old one two a b first second) third)
 
-  -- there is no memory for the packs of a sample
-  pub stopped_asking : {T : Type 0} (stop : Stop) (caller : CallerView D) (batch : Name)
-      (commands : List Command) → stop ≡ NoMemory → Asks {T = T} g (Err stop) caller caller commands
-  stopped_asking {T} stop caller batch commands is =
-      subst (λ (s : Stop). Asks {T = T} g (Err s) caller caller commands) (sym is) (record {
+  -- a sample was drawn last, and there is no memory for its packs
+  pub stopped_drawn : {T : Type 0} (done : T) (stop : Stop) (old new : CallerView D)
+      (batch : Name) (word : ℕ) (before drawn : List Command)
+      → drawn ≡ before ++ draw_command batch word ∷ [] → stop ≡ NoMemory
+      → Asks g (Ok done) old new drawn → Asks {T = T} g (Err stop) old new drawn
+  stopped_drawn {T} done stop old new batch word before drawn last is asks =
+      subst (λ (s : Stop). Asks {T = T} g (Err s) old new drawn) (sym is) (record {
         answered = tt;
         stops = record {
-          answered = [];
-          rest = commands;
-          parts = refl;
-          left = refl;
+          answered = drawn;
+          rest = [];
+          parts = sym (append-nil drawn);
+          left = ap (λ (b : BookState). b.entries) asks.answered;
           asked = sample_question batch;
-          next = inr (batch, refl);
+          next = inr (record {
+            batch = batch;
+            word = word;
+            before = before;
+            drawn = last;
+            is = refl;
+          });
           may = tt;
         };
-        goes = stays g (Err NoMemory) caller.store refl (λ finished. absurd (cc (finished)));
+        goes = goes_on g done (Err NoMemory) old.store new.store new.store asks.goes
+            (stays g (Err NoMemory) new.store refl (λ finished. absurd (cc (finished))));
         calm = tt;
       })
 
-  -- ---- scripts in turn
+  -- ---- steps of scripts in turn
 
   module _ {A : Type 0} (script : BookState → A → List Command) (old : CallerView D) where
     abbrev turns : List A → List Command

@@ -1,5 +1,5 @@
 -- What the steps of a trial make of its book: which commands they ask, and where one stops.
-use Rattle.std.specs.Prelude.{◌≡◌, ◌⊎◌, List, ◌∷◌, ◌++◌, Result, OnOk, IfErr}
+use Rattle.std.specs.Prelude.{◌≡◌, ◌⊎◌, ℕ, List, [], ◌∷◌, ◌++◌, Result, OnOk, IfErr}
 use Rattle.disk_core.specs.declared.disk.Disk as disk
 use Rattle.book_words.specs.declared.act.Entry.{Entry}
 use Rattle.book_words.specs.declared.name.Name.{Name}
@@ -12,13 +12,20 @@ use Rattle.store_runs.specs.Runs.{Goes}
 use Rattle.script_run.specs.Asking.{exchange_at}
 use Rattle.script_run.specs.Commands.{after_commands}
 use Rattle.script_run.specs.Unanswered.{MayStopAt}
-use Rattle.trial_run.specs.TrialScripts.{sample_question}
+use Rattle.trial_run.specs.TrialScripts.{draw_command, sample_question}
 
--- what is asked next: the next command, or the question which packs of a batch were drawn
-abbrev pub IsNext : Command → List Command → Type 0
-IsNext asked rest =
-    ((more : List Command) × (rest ≡ asked ∷ more))
-    ⊎ ((batch : Name) × (asked ≡ sample_question batch))
+-- the question which packs of a batch were drawn, right behind its draw
+pub record AsksForSample (answered : List Command) (asked : Command) : Type 0 where
+  pub batch : Name
+  pub word : ℕ
+  pub before : List Command
+  pub drawn : answered ≡ before ++ draw_command batch word ∷ []
+  pub is : asked ≡ sample_question batch
+
+-- what is asked next: the next command, or, where a sample was drawn last, for its packs
+abbrev pub IsNext : List Command → Command → List Command → Type 0
+IsNext answered asked rest =
+    ((more : List Command) × (rest ≡ asked ∷ more)) ⊎ AsksForSample answered asked
 
 -- A script stopped so at a book: its first commands were answered, and these rows are left; what
 -- was asked next has no answer, since the disk failed or there is no memory for it.
@@ -29,7 +36,7 @@ pub record StopsIn (book : BookState) (rows : List Entry) (script : List Command
   pub parts : script ≡ answered ++ rest
   pub left : rows ≡ (after_commands book answered).entries
   pub asked : Command
-  pub next : IsNext asked rest
+  pub next : IsNext answered asked rest
   pub may : MayStopAt (exchange_at (after_commands book answered) asked) stop
 
 -- a step asked these commands, or stopped in them

@@ -83,11 +83,15 @@ abbrev pub weighings : ℕ → ℕ → List Command
 weighings word packs =
     map (λ place. weighing place (gross_by (word_behind word (place + 1)))) (range_with_len 0 packs)
 
+-- the sample of a batch is drawn by a word
+abbrev pub draw_command : Name → ℕ → Command
+draw_command batch word = hall_command (Draw batch Keep word)
+
 -- the lanes are stopped, the batch is ended, and its sample is drawn by the number of the trial
 abbrev pub end_commands : ℕ → Name → List Command
 end_commands number batch =
     hall_command (Stop 1 None) ∷ hall_command (Stop 2 None) ∷ hall_command (Stop 3 None)
-    ∷ hall_command (End batch) ∷ hall_command (Draw batch Keep number) ∷ []
+    ∷ hall_command (End batch) ∷ draw_command batch number ∷ []
 
 -- the question which packs of a batch were drawn
 abbrev pub sample_question : Name → Command

@@ -9,7 +9,7 @@ ghost use Rattle.trial_run.specs.TrialScripts.{word_behind, weighings, packs_of_
 use crate::asking::{ask_all, ask_one};
 use crate::commands::{BATCH_PACKS, close_commands, end_commands, open_commands, weighing};
 use crate::names::batch_name;
-use crate::samples::measure_sample;
+use crate::samples::{drawn_packs, measure_packs};
 use crate::word::following;
 use book_store::OneCaller;
 use disk_core::Disk;
@@ -79,7 +79,8 @@ fn ask_batch<D: Disk>(
         (batch_commands number count (stored_book caller.old.store) place) }
 {
     let last = fill_batch(caller, number, count, place, word)?;
-    measure_sample(alloc, caller, batch_name(place))?;
+    let packs = drawn_packs(alloc, caller.store().book(), batch_name(place))?;
+    measure_packs(caller, packs.as_slice())?;
     ask_all(caller, &close_commands(batch_name(place)))?;
     Ok(last)
 }

@@ -57,8 +57,8 @@ fn measure_pack<D: Disk>(caller: &mut OneCaller<D>, pack: u64) -> Result<(), Sto
     }
 }
 
-// Measures packs, one after another.
-fn measure_packs<D: Disk>(caller: &mut OneCaller<D>, packs: &[u64]) -> Result<(), Stop>
+/// Measures packs, one after another, each at its own gross.
+pub fn measure_packs<D: Disk>(caller: &mut OneCaller<D>, packs: &[u64]) -> Result<(), Stop>
     requires calm { caller.old.faults ≡ 0 }
     ensures asks { Asks D.Disk result caller.old caller.new
         (in_turn measure_commands (stored_book caller.old.store) packs.now) }
@@ -79,8 +79,8 @@ fn packs_told(alloc: Global, answered: Answered) -> Picks
     }
 }
 
-// The packs that were drawn from a batch, in drawing order, unless there is no memory for them.
-fn drawn_packs(alloc: Global, book: &Book, batch: Name) -> Result<Picks, Stop>
+/// The packs that were drawn from a batch, in drawing order, unless there is no memory for them.
+pub fn drawn_packs(alloc: Global, book: &Book, batch: Name) -> Result<Picks, Stop>
     ensures packs { IfOk result (λ packs. packs ≡ drawn_packs (book_state book.now) batch) }
     ensures lacks { IfErr result (λ how. how ≡ stop.NoMemory) }
 {
@@ -89,20 +89,4 @@ fn drawn_packs(alloc: Global, book: &Book, batch: Name) -> Result<Picks, Stop>
         Err(BookError::Refused(_refused)) => Ok(Picks::from(Vec::new(alloc))),
         Err(BookError::NoMemory) => Err(Stop::NoMemory),
     }
-}
-
-/// Measures each pack that was drawn from a batch, in drawing order, at its own gross.
-pub fn measure_sample<D: Disk>(
-    alloc: Global,
-    caller: &mut OneCaller<D>,
-    batch: Name,
-) -> Result<(), Stop>
-    requires calm { caller.old.faults ≡ 0 }
-    ensures asks { Asks D.Disk result caller.old caller.new
-        (in_turn measure_commands (stored_book caller.old.store)
-        (drawn_packs (stored_book caller.old.store) batch)) }
-{
-    let packs = drawn_packs(alloc, caller.store().book(), batch)?;
-    measure_packs(caller, packs.as_slice())?;
-    Ok(())
 }

@@ -13,12 +13,9 @@ use crate::batches::ask_batches;
 use crate::commands::head_commands;
 use book_store::{OneCaller, Store};
 use disk_core::{Disk, Sink};
-use script_run::Session;
+use script_run::{SCRIPT, Session};
 use std::alloc::Global;
 use store_runs::{RunEnd, Stop};
-
-// The number with which a caller begins; each ask of a command speaks as the script.
-const FIRST_CALLER: u16 = 0;
 
 // Asks the whole script of a trial.
 fn ask_trial<D: Disk>(
@@ -86,7 +83,7 @@ pub fn run_trial<K: Sink, D: Disk>(
         result.stop }
     ensures goes { RunGoes D.Disk result.stop store result.store }
 {
-    let mut caller = OneCaller::new(store, FIRST_CALLER);
+    let mut caller = OneCaller::new(store, SCRIPT);
     match ask_trial(alloc, &mut caller, number, count) {
         Ok(()) => finish(alloc, caller.back(), output),
         Err(stop) => RunEnd {

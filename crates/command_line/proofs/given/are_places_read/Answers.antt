@@ -1,4 +1,4 @@
-use Rattle.std.proofs.Common.{◌≡◌, ◌∙◌, ap, rules, true, map, Option, None, is_some}
+use Rattle.std.proofs.Common.{◌≡◌, ◌∙◌, ap, rules, true, map, Option, is_some}
 use Rattle.std.specs.String.{string_bytes}
 use Rattle.command_line.specs.declared.values.Values.{Values}
 use Rattle.command_line.specs.Taken.{texts_of}
@@ -12,6 +12,7 @@ returns c =
     let taken : is_some (placed_items (texts_of c.args.names.now) words) ≡ true = search rules in
     let found : c.is_some.result ≡ is_some c.read_values.result = search rules in
     found ∙ ap (λ (values : Option Values). is_some values) c.read_values.ensures
-    ∙ items_read (placed_items (texts_of c.args.names.now) words) _ _ _ _ _ taken
+    ∙ items_read (placed_items (texts_of c.args.names.now) words) _ _ _ _ _ _ _ _ taken
     c.placed_value.ensures c.placed_value-2.ensures c.placed_value-3.ensures
-    c.placed_value-4.ensures c.placed_value-5.ensures
+    c.placed_value-4.ensures c.placed_value-5.ensures c.placed_value-6.ensures
+    c.placed_value-7.ensures c.placed_value-8.ensures

@@ -1,75 +1,39 @@
-use Rattle.std.proofs.Common.{List, refl, sym, ◌∙◌, subst}
-use Rattle.std.proofs.lemmas.List.{with_items_is}
-use Rattle.script_run.specs.Outside.{call, outside_at, nothing_told}
-use Rattle.hall_top.specs.Calls.{EndsAs, IsUsage}
-use Rattle.text_streams.specs.Streams.{output_at}
-use Rattle.hall_top.proofs.EndingLemmas.{status_named, status_two, usage_two}
+use Rattle.std.proofs.Common.{Ok, Err, inr}
+use Rattle.command_line.specs.Words.{bytes_of, wanted_of}
+use Rattle.script_run.specs.Outside.{call, outside_at, nothing_told, all_said}
+use Rattle.hall_top.proofs.CallEnds.{serve_unopened}
+use Rattle.hall_top.proofs.WordsRead.{read_right}
 use Rattle.hall_top.proofs.top.hall.Goals as goal
 
-pub returns-clause-words : goal.returns-clause-words
-returns-clause-words g c =
-    let outcome = c.do_words-outcome.result in (
-      (λ two. c.do_words-outcome.ensures.words.0 (status_two outcome.ending outcome.log.told _ _
-          c.say_last-status.result c.say_last-status.ensures two)),
-      (λ none. usage_two outcome.ending outcome.log.told _ _ c.say_last-status.result
-          c.say_last-status.ensures (c.do_words-outcome.ensures.words.1 none)),
+pub returns-else-is_serve-clause-words : goal.returns-else-is_serve-clause-words
+returns-else-is_serve-clause-words g c =
+    let asked = wanted_of (bytes_of c.args.words.now) in
+    c.end_answer.ensures.words asked
+    (read_right asked (Ok c.in-Ok.wanted) c.in-Ok.ensures.ok tt)
+
+pub returns-in-Err-clause-words : goal.returns-in-Err-clause-words
+returns-in-Err-clause-words g c =
+    let asked = wanted_of (bytes_of c.args.words.now) in
+    c.end_answer-in-Err.ensures.words asked
+    (read_right asked (Err c.in-Err.why) tt c.in-Err.ensures.err)
+
+pub returns-in-Err-clause-ends : goal.returns-in-Err-clause-ends
+returns-in-Err-clause-ends g c = λ wanted asks other.
+    let asked = wanted_of (bytes_of c.args.words.now) in
+    c.end_answer-in-Err.ensures.ends asked wanted
+    (read_right asked (Err c.in-Err.why) tt c.in-Err.ensures.err) asks
+
+pub returns-in-Err-clause-serves : goal.returns-in-Err-clause-serves
+returns-in-Err-clause-serves g c = λ wanted asks serves.
+    let asked = wanted_of (bytes_of c.args.words.now) in
+    let ended = c.end_answer-in-Err.result in
+    let leaves = c.end_answer-in-Err.ensures.ends asked wanted
+    (read_right asked (Err c.in-Err.why) tt c.in-Err.ensures.err) asks in
+    inr (
+      serve_unopened g.D.Disk wanted c.args.disk ended
+          (call g.S.Source c.args.input.now c.end_answer-in-Err.new.input
+          (outside_at g.K.Sink g.L.Cell g.L.Gate c.args.output.now c.args.lanes.items nothing_told)
+          (outside_at g.K.Sink g.L.Cell g.L.Gate c.end_answer-in-Err.new.output ended.lanes.items
+          (all_said ended.lane_ends)) ended.rows) serves leaves,
+      c.end_answer-in-Err.ensures.doors,
     )
-
-pub returns-clause-usage : goal.returns-clause-usage
-returns-clause-usage g c = λ two.
-    let outcome = c.do_words-outcome.result in
-    let left = with_items_is c.args.lanes c.do_words-outcome.new.lanes
-    (c.do_words-outcome.auto.lanes ∙ c.deref_mut.ensures.len) in
-    record {
-      outcome = outcome;
-      said = output_at g.K.Sink c.do_words-outcome.new.output;
-      disk_left = refl;
-      held = refl;
-      rows = refl;
-      ends = c.into_ends.ensures;
-      holds = subst (λ (ls : List _). IsUsage c.args.disk outcome (call g.S.Source
-          c.args.input.now c.do_words-outcome.new.input
-          (outside_at g.K.Sink g.L.Cell g.L.Gate c.args.output.now c.args.lanes.items nothing_told)
-          (outside_at g.K.Sink g.L.Cell g.L.Gate c.do_words-outcome.new.output ls
-          outcome.log.told) outcome.rows)) (sym left)
-          (subst (λ (ls : List _). IsUsage c.args.disk outcome (call g.S.Source
-          c.args.input.now c.do_words-outcome.new.input
-          (outside_at g.K.Sink g.L.Cell g.L.Gate c.args.output.now ls nothing_told)
-          (outside_at g.K.Sink g.L.Cell g.L.Gate c.do_words-outcome.new.output
-          c.do_words-outcome.new.lanes outcome.log.told) outcome.rows))
-          c.deref_mut.ensures.value (c.do_words-outcome.ensures.usage
-          (status_two outcome.ending outcome.log.told _ _
-          c.say_last-status.result c.say_last-status.ensures two)));
-      last = c.say_last-status.ensures;
-    }
-
-pub returns-clause-ends : goal.returns-clause-ends
-returns-clause-ends g c = λ wanted asks.
-    let outcome = c.do_words-outcome.result in
-    let left = with_items_is c.args.lanes c.do_words-outcome.new.lanes
-    (c.do_words-outcome.auto.lanes ∙ c.deref_mut.ensures.len) in
-    record {
-      outcome = outcome;
-      said = output_at g.K.Sink c.do_words-outcome.new.output;
-      disk_left = refl;
-      held = refl;
-      rows = refl;
-      ends = c.into_ends.ensures;
-      holds = subst (λ (ls : List _). EndsAs g.D.Disk wanted c.args.disk outcome (call g.S.Source
-          c.args.input.now c.do_words-outcome.new.input
-          (outside_at g.K.Sink g.L.Cell g.L.Gate c.args.output.now c.args.lanes.items nothing_told)
-          (outside_at g.K.Sink g.L.Cell g.L.Gate c.do_words-outcome.new.output ls
-          outcome.log.told) outcome.rows)) (sym left)
-          (subst (λ (ls : List _). EndsAs g.D.Disk wanted c.args.disk outcome (call g.S.Source
-          c.args.input.now c.do_words-outcome.new.input
-          (outside_at g.K.Sink g.L.Cell g.L.Gate c.args.output.now ls nothing_told)
-          (outside_at g.K.Sink g.L.Cell g.L.Gate c.do_words-outcome.new.output
-          c.do_words-outcome.new.lanes outcome.log.told) outcome.rows))
-          c.deref_mut.ensures.value (c.do_words-outcome.ensures.ends wanted asks));
-      last = c.say_last-status.ensures;
-    }
-
-pub returns-clause-status : goal.returns-clause-status
-returns-clause-status g c =
-    status_named c.do_words-outcome.result.ending c.do_words-outcome.result.log.told _ _
-    c.say_last-status.result c.say_last-status.ensures

@@ -1,7 +1,7 @@
-use Rattle.std.proofs.Common.{List, ℕ, refl, sym, ap, subst}
+use Rattle.std.proofs.Common.{List, ℕ, refl, sym, ap, ◌∙◌, subst}
 use Rattle.book_store.specs.declared.store.Store.{Store}
 use Rattle.book_store.specs.Stores.{entries_of}
-use Rattle.text_streams.specs.Streams.{input_at, output_at}
+use Rattle.text_streams.specs.Streams.{output_at}
 use Rattle.store_runs.specs.declared.stop.Stop.{Stop}
 use Rattle.store_runs.specs.Calls.{call}
 use Rattle.store_runs.specs.Runs.{RunGoes}
@@ -29,14 +29,13 @@ returns-in-Err-clause-explained g c =
     let book = book_in c.args.session in
     let whole = call g.S.Source g.K.Sink c.args.input.now c.args.output.now
     c.read_whole.new.input c.args.output.now (entries_of c.stop.result.store) in
-    subst (ExplainsImport book whole) (sym c.stop.ensures.stop)
-    (explains_unread book whole c.in-Err.stop c.in-Err.ensures.stops
+    subst (ExplainsImport book whole) (sym (c.stop.ensures.stop ∙ c.stop_unread.ensures))
+    (explains_unread book whole c.in-Err.unread c.in-Err.ensures.stops
     (ap (λ (s : Store _). entries_of s) c.stop.ensures.store) refl)
 
 pub returns-in-Err-clause-goes : goal.returns-in-Err-clause-goes
 returns-in-Err-clause-goes g c =
     subst (λ (s : Stop). RunGoes g.D.Disk s (store_in c.args.session) c.stop.result.store)
-    (sym c.stop.ensures.stop)
-    (goes_unread g.D.Disk (input_at g.S.Source c.args.input.now)
-    (input_at g.S.Source c.read_whole.new.input) c.in-Err.stop (store_in c.args.session)
-    c.stop.result.store c.in-Err.ensures.stops c.stop.ensures.store)
+    (sym (c.stop.ensures.stop ∙ c.stop_unread.ensures))
+    (goes_unread g.D.Disk c.in-Err.unread (store_in c.args.session) c.stop.result.store
+    c.stop.ensures.store)

@@ -1,0 +1,61 @@
+-- Lemmas on what a call leaves behind its last text.
+use Rattle.std.proofs.Common.{◌≡◌, true, inl, inr}
+use Rattle.disk_core.specs.declared.disk.Disk as disk
+use Rattle.command_line.specs.Words.{Wanted}
+use Rattle.command_line.specs.declared.types.Command.{Command}
+use Rattle.command_line.specs.declared.types.Command.TheVariants.{Run, Serve, Report, Export, Check, Import, Trial, Migrate}
+use Rattle.store_runs.specs.declared.stop.Stop.{Stop}
+use Rattle.store_runs.specs.Books.{BookState}
+use Rattle.script_run.specs.Outside.{Call}
+use Rattle.hall_top.specs.declared.ended.Ended.{Ended}
+use Rattle.hall_top.specs.declared.ended.Outcome.{Outcome}
+use Rattle.hall_top.specs.Asked.{is_serve}
+use Rattle.hall_top.specs.Calls.{EndsAs, ExplainsAs, IsUnopened, LeavesOutcome}
+
+-- an outcome of which more holds
+leaves_more : {S D L O : Type 0} (Holds Also : Outcome D → Call S → Type 0)
+    → ((outcome : Outcome D) (call : Call S) → Holds outcome call → Also outcome call)
+    → (ended : Ended D L O) (call : Call S) → LeavesOutcome Holds ended call
+    → LeavesOutcome Also ended call
+leaves_more Holds Also more ended call leaves =
+    record {
+      outcome = leaves.outcome;
+      said = leaves.said;
+      disk_left = leaves.disk_left;
+      held = leaves.held;
+      rows = leaves.rows;
+      ends = leaves.ends;
+      no_doors = leaves.no_doors;
+      holds = more leaves.outcome _ leaves.holds;
+      last = leaves.last;
+    }
+
+-- no command but `serve` serves
+not_explained : {S : Type 0} (command : Command) (wanted : Wanted) (book : BookState)
+    (call : Call S) (stop : Stop) → is_serve command ≡ true
+    → ExplainsAs command wanted book call stop → ⊥
+not_explained Serve wanted book call stop serves explained = explained
+not_explained Run wanted book call stop serves explained = absurd (cc)
+not_explained Report wanted book call stop serves explained = absurd (cc)
+not_explained Export wanted book call stop serves explained = absurd (cc)
+not_explained Check wanted book call stop serves explained = absurd (cc)
+not_explained Import wanted book call stop serves explained = absurd (cc)
+not_explained Trial wanted book call stop serves explained = absurd (cc)
+not_explained Migrate wanted book call stop serves explained = absurd (cc)
+
+-- a call of `serve` whose disk was opened as a book isn't one of another command
+not_opened : {S D : Type 0} (g : disk.Ghosts D) (wanted : Wanted) (before : D)
+    (outcome : Outcome D) (call : Call S) → is_serve wanted.command ≡ true
+    → EndsAs g wanted before outcome call → IsUnopened g before outcome call
+not_opened g wanted before outcome call serves (inl opened) = absurd
+    (not_explained wanted.command wanted _ call opened.stop serves opened.explained)
+not_opened g wanted before outcome call serves (inr unopened) = unopened
+
+-- words of `serve` for which there was no memory
+pub serve_unopened : {S D L O : Type 0} (g : disk.Ghosts D) (wanted : Wanted) (before : D)
+    (ended : Ended D L O) (call : Call S) → is_serve wanted.command ≡ true
+    → LeavesOutcome (EndsAs g wanted before) ended call
+    → LeavesOutcome (IsUnopened g before) ended call
+serve_unopened g wanted before ended call serves leaves =
+    leaves_more (EndsAs g wanted before) (IsUnopened g before)
+    (λ outcome here. not_opened g wanted before outcome here serves) ended call leaves

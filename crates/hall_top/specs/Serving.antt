@@ -1,0 +1,105 @@
+-- What a call that serves does: its disk, its plan, its lanes and doors, its last line.
+use Rattle.std.specs.Prelude.{◌≡◌, ◌⊎◌, ℕ, ◌≤◌, List, length, take, None}
+use Rattle.device_facts.specs.Count.{Rose}
+use Rattle.disk_core.specs.Disk.{WhereTold}
+use Rattle.disk_core.specs.declared.disk.Disk as disk
+use Rattle.book_words.specs.declared.act.Entry.{Entry}
+use Rattle.book_words.specs.Answers.{IsLegal}
+use Rattle.book_words.specs.Callers.{Known}
+use Rattle.book_journal.specs.Mounting.{KeepsFromSync}
+use Rattle.book_store.specs.declared.store.Store.{Store}
+use Rattle.book_store.specs.Images.{HoldsBook}
+use Rattle.book_store.specs.Listing.{IsOpenedAs}
+use Rattle.book_store.specs.Resting.{HoldsSnapshotOf}
+use Rattle.book_store.specs.Stores.{disk_of, entries_of}
+use Rattle.lane_worker.specs.Works as lanes
+use Rattle.office_door.specs.Doors as doors
+use Rattle.session_laws.specs.Sessions.{HoldsOrOneMore, LeavesFrom}
+use Rattle.text_streams.specs.Streams.{Stream}
+use Rattle.store_runs.specs.Books.{BookState, stored_book}
+use Rattle.store_runs.specs.Runs.{HasGrown}
+use Rattle.store_runs.specs.Stops.{stop_row}
+use Rattle.script_run.specs.Outside.{all_said}
+use Rattle.serve_run.specs.declared.stop.ServeStop.{ServeStop}
+use Rattle.serve_run.specs.declared.stop.ServeStop.TheVariants.{BadPlan, Early, Ran}
+use Rattle.serve_run.specs.declared.stop.JobsStop.TheVariants.{Finished}
+use Rattle.serve_run.specs.Jobs.{Handed}
+use Rattle.serve_run.specs.Keeping.{ServeGoes}
+use Rattle.serve_run.specs.Serving.{Moment, moment, ExplainsServe, CountsServe}
+use Rattle.hall_top.specs.declared.ended.Ended.{Ended}
+use Rattle.hall_top.specs.declared.ending.Ending.TheVariants.{Served}
+use Rattle.hall_top.specs.Calls.{KeepsRows}
+use Rattle.hall_top.specs.Endings.{SaysLast}
+
+-- the lanes and doors that a call leaves, and how they ended
+abbrev pub handed_of : {D L O : Type 0} → Ended D L O → Handed L O
+handed_of ended =
+    record {
+      lanes = ended.lanes.items;
+      lane_ends = ended.lane_ends;
+      doors = ended.doors.items;
+      door_ends = ended.door_ends;
+    }
+
+-- What is left of a disk that held these rows, where jobs ran: the rows begin with those that it
+-- held. Each crash from the first sync on leaves the first so many rows, those among them, and
+-- perhaps one lawful entry more. At the end it leaves all rows, or, only where the disk failed,
+-- these and one lawful entry more.
+pub record KeepsAll {D : Type 0} (disk : disk.Ghosts D) (held : List Entry) (before now : D)
+    (opened : ℕ) (rows : List Entry) : Type 0 where
+  pub same : take opened rows ≡ held
+  pub moments : KeepsFromSync disk before now (LeavesFrom held rows)
+  pub end : (c : List ℕ) → disk.image now c
+      → HoldsBook rows c
+      ⊎ (Rose (disk.faults before) (disk.faults now) × HoldsOrOneMore rows c)
+
+-- the same as it stopped: before its jobs a serve leaves what a run leaves that stops so
+abbrev pub KeepsServed : {D : Type 0} → disk.Ghosts D → List Entry → D → D → ℕ → BookState
+    → ServeStop → Type 0
+KeepsServed disk held before now opened book BadPlan =
+    KeepsRows disk held None before now opened book.entries
+KeepsServed disk held before now opened book (Early stop) =
+    KeepsRows disk held (stop_row book stop) before now opened book.entries
+KeepsServed disk held before now opened book (Ran stop) =
+    KeepsAll disk held before now opened book.entries
+
+-- The disk was opened as a book, the serve stopped in one of its ways over the book as it was
+-- opened, and then came the last line. A serve that is done and added rows leaves a snapshot of all
+-- rows.
+pub record IsServed {D L O : Type 0} (disk : disk.Ghosts D) (lane_at : Known → L → lanes.Site)
+    (door_at : Known → O → doors.Site) (limit : ℕ) (before : D) (start : Moment L O)
+    (input output : Stream) (ended : Ended D L O) : Type 0 where
+  pub few : ended.held ≤ length ended.rows
+  pub opened : WhereTold (disk.reads before) (λ bytes.
+      IsOpenedAs bytes (take ended.held ended.rows))
+  pub stop : ServeStop
+  pub said : Stream
+  pub explained : ExplainsServe lane_at door_at
+      (record { limit = limit; entries = take ended.held ended.rows }) start
+      (moment input said (disk.faults ended.disk) (handed_of ended)) ended.rows stop
+  pub cause : CountsServe (disk.faults before) (disk.faults ended.disk) stop
+  pub kept : WhereTold (disk.reads before) (λ bytes.
+      (held : List Entry) → HoldsBook held bytes → IsLegal held
+      → KeepsServed disk held before ended.disk ended.held
+      (record { limit = limit; entries = ended.rows }) stop)
+  pub snapshot : stop ≡ Ran Finished → HasGrown ended.held ended.rows
+      → HoldsSnapshotOf disk ended.rows ended.disk
+  pub last : SaysLast (Served stop) (all_said ended.lane_ends) ended.door_ends said output
+      ended.status
+
+-- A serve was done over a store: it stopped in one of its ways, the disk and the rows are those of
+-- the store that it left, and then came the last line.
+pub record ServeDone {D L O : Type 0} (disk : disk.Ghosts D) (lane_at : Known → L → lanes.Site)
+    (door_at : Known → O → doors.Site) (store : Store D) (start : Moment L O)
+    (input output : Stream) (ended : Ended D L O) : Type 0 where
+  pub left : Store D
+  pub stop : ServeStop
+  pub said : Stream
+  pub disk_left : ended.disk ≡ disk_of left
+  pub rows : ended.rows ≡ entries_of left
+  pub held : ended.held ≡ length (entries_of store)
+  pub explained : ExplainsServe lane_at door_at (stored_book store) start
+      (moment input said (disk.faults (disk_of left)) (handed_of ended)) (entries_of left) stop
+  pub goes : ServeGoes disk store left stop
+  pub last : SaysLast (Served stop) (all_said ended.lane_ends) ended.door_ends said output
+      ended.status

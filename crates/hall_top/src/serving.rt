@@ -1,0 +1,127 @@
+//! The command `serve`: a disk is opened as a book, and a plan's lanes and doors are at work on it.
+ghost use Rattle.std.specs.Prelude.{◌≡◌, ◌≢◌, ◌≤◌, ◌⊎◌, length, false, IsTrue};
+ghost use Rattle.hall_limits.specs.declared.TheConstants.{MAX_LANE, MAX_DOOR, MAX_ROWS};
+ghost use Rattle.book_words.specs.Soundness.{IsSound as IsSoundBook};
+ghost use Rattle.book_store.specs.Stores.{disk_of, entries_of, held_of, Hangs, IsSound};
+ghost use Rattle.text_streams.specs.Streams.{input_at, output_at};
+ghost use Rattle.script_run.specs.Outside.{call, outside_at, nothing_told, all_said};
+ghost use Rattle.session_jobs.specs.Works.{lane_site, door_site};
+ghost use Rattle.serve_run.specs.Jobs.{handed_in};
+ghost use Rattle.serve_run.specs.Serving.{moment};
+ghost use Rattle.hall_top.specs.Endings.{is_status};
+ghost use Rattle.hall_top.specs.Calls.{IsUnopened, LeavesOutcome};
+ghost use Rattle.hall_top.specs.Serving.{IsServed, ServeDone};
+
+use crate::alone::{end_call, leave_unopened};
+use crate::ended::Ended;
+use crate::ending::{Ending, say_last};
+use book_store::Store;
+use disk_core::{Disk, Door, Sink, Source};
+use lane_worker::Lane;
+use serve_run::{ServeEnd, run_serve};
+use std::alloc::Global;
+use std::sync::Wait;
+use std::thread::Threads;
+
+// Serves over a store, says the last line, and closes the store.
+fn serve_store<
+    S: Source,
+    K: Sink,
+    D: Disk + Send,
+    L: Lane + Send + Drop,
+    O: Door + Send + Drop,
+    R: Threads + Wait + Sync,
+>(
+    rt: &R,
+    alloc: Global,
+    store: Store<D>,
+    input: &mut S,
+    output: &mut K,
+    lanes: Vec<L>,
+    doors: Vec<O>,
+) -> Ended<D, L, O>
+    requires few_lanes { length lanes.items ≤ MAX_LANE }
+    requires few_doors { length doors.items ≤ MAX_DOOR }
+    requires unended { S.ended input.old ≡ false }
+    requires opened { held_of store ≡ length (entries_of store) }
+    requires sound { IsSound D.Disk store }
+    requires calm { ¬ Hangs store }
+    ensures done { ServeDone D.Disk (lane_site L.Cell L.Gate) (door_site O.Source O.connections)
+        store (moment (input_at S.Source input.old) (output_at K.Sink output.old)
+        (D.faults (disk_of store)) (handed_in lanes.items doors.items))
+        (input_at S.Source input.new) (output_at K.Sink output.new) result }
+    ensures sound { IsSoundBook result.rows }
+{
+    let held = store.len();
+    let end = run_serve(rt, alloc, store, input, output, lanes, doors);
+    let ServeEnd {
+        stop,
+        store,
+        lanes,
+        lane_ends,
+        doors,
+        door_ends,
+    } = end;
+    let status = say_last(
+        Ending::Served(stop),
+        b"",
+        lane_ends.as_slice(),
+        door_ends.as_slice(),
+        output,
+    );
+    let (disk, rows) = store.close();
+    Ended {
+        status,
+        disk,
+        held,
+        rows,
+        lanes,
+        lane_ends,
+        doors,
+        door_ends,
+    }
+}
+
+/// Opens a disk as a book of so many rows at most, and serves over it.
+pub fn serve<
+    S: Source,
+    K: Sink,
+    D: Disk + Send,
+    L: Lane + Send + Drop,
+    O: Door + Send + Drop,
+    R: Threads + Wait + Sync,
+>(
+    rt: &R,
+    alloc: Global,
+    limit: u32,
+    input: &mut S,
+    output: &mut K,
+    disk: D,
+    lanes: Vec<L>,
+    doors: Vec<O>,
+) -> Ended<D, L, O>
+    requires few_lanes { length lanes.items ≤ MAX_LANE }
+    requires few_doors { length doors.items ≤ MAX_DOOR }
+    requires unended { S.ended input.old ≡ false }
+    requires least { 1 ≤ limit }
+    requires most { limit ≤ MAX_ROWS }
+    ensures serves { IsServed D.Disk (lane_site L.Cell L.Gate) (door_site O.Source O.connections)
+        limit disk (moment (input_at S.Source input.old) (output_at K.Sink output.old)
+        (D.faults disk) (handed_in lanes.items doors.items))
+        (input_at S.Source input.new) (output_at K.Sink output.new) result
+        ⊎ (LeavesOutcome (IsUnopened D.Disk disk) result
+        (call S.Source input.old input.new
+        (outside_at K.Sink L.Cell L.Gate output.old lanes.items nothing_told)
+        (outside_at K.Sink L.Cell L.Gate output.new result.lanes.items (all_said result.lane_ends))
+        result.rows) × (result.doors ≡ doors)) }
+    ensures status { IsTrue (is_status result.status) × (result.status ≢ 2) }
+    ensures rows { IsSoundBook result.rows }
+{
+    match Store::mount(alloc, disk, limit) {
+        Ok(store) => serve_store(rt, alloc, store, input, output, lanes, doors),
+        Err(refused) => {
+            let outcome = leave_unopened(alloc, Ending::Unopened(refused.why), refused.disk);
+            end_call(alloc, outcome, output, lanes, doors)
+        }
+    }
+}

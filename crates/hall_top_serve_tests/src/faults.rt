@@ -1,0 +1,189 @@
+use crate::halls::{CALM, Case, ONE_LANE, SUMMARY, check_cases, empty_disk, play, word};
+use disk_core::MemorySink;
+use lane_worker::CellNext::{Bad, Gross, Spent};
+use std::alloc::{AllocError, Global};
+use std::process::Abort;
+use std::sync::Wait;
+use std::test::Fail;
+use std::thread::Threads;
+
+const FAULTS: [Case; 8] = [
+    // the cell fails at its first call
+    Case {
+        plan: ONE_LANE,
+        cells: &[&[Gross(251_000)]],
+        cell_fails: &[1],
+        printed: "\
+lane 1 opened 0 cell
+rows 6
+readings 0 gross 0.000
+passed 0 gross 0.000
+rejected 0 gross 0.000
+sampled 0 gross 0.000
+voided 0 gross 0.000
+batches running 1 ended 0 drawn 0 closed 0
+",
+        status: 10,
+        rows: 6,
+        ..CALM
+    },
+    // an item isn't a weight, and the door can't admit its connection: the least is answered
+    Case {
+        plan: ONE_LANE,
+        cells: &[&[Bad { line: 1 }]],
+        doors: &[&[SUMMARY]],
+        door_fails: &[1],
+        printed: "\
+lane 1 opened 0 bad 1
+door 1 served 0 links 0 door
+rows 6
+readings 0 gross 0.000
+passed 0 gross 0.000
+rejected 0 gross 0.000
+sampled 0 gross 0.000
+voided 0 gross 0.000
+batches running 1 ended 0 drawn 0 closed 0
+",
+        status: 10,
+        rows: 6,
+        ..CALM
+    },
+    // the door can't admit its connection
+    Case {
+        doors: &[&[SUMMARY]],
+        door_fails: &[1],
+        printed: "\
+door 1 served 0 links 0 door
+rows 0
+readings 0 gross 0.000
+passed 0 gross 0.000
+rejected 0 gross 0.000
+sampled 0 gross 0.000
+voided 0 gross 0.000
+batches running 0 ended 0 drawn 0 closed 0
+",
+        status: 11,
+        ..CALM
+    },
+    // a fault of the link ends a connection, and the cell of the lane is spent: the least is answered
+    Case {
+        plan: ONE_LANE,
+        cells: &[&[Spent]],
+        doors: &[&[SUMMARY]],
+        door_fails: &[2],
+        printed: "\
+lane 1 opened 0 turns
+door 1 served 0 links 1 done
+rows 6
+readings 0 gross 0.000
+passed 0 gross 0.000
+rejected 0 gross 0.000
+sampled 0 gross 0.000
+voided 0 gross 0.000
+batches running 1 ended 0 drawn 0 closed 0
+",
+        status: 11,
+        rows: 6,
+        ..CALM
+    },
+    // the cell is spent
+    Case {
+        plan: ONE_LANE,
+        cells: &[&[Gross(251_000), Spent]],
+        printed: "\
+lane 1 opened 1 turns
+rows 7
+readings 1 gross 251.000
+passed 1 gross 251.000
+rejected 0 gross 0.000
+sampled 0 gross 0.000
+voided 0 gross 0.000
+batches running 1 ended 0 drawn 0 closed 0
+",
+        status: 12,
+        rows: 7,
+        ..CALM
+    },
+    // the output fails behind a lane that ended early
+    Case {
+        plan: ONE_LANE,
+        cells: &[&[Gross(251_000)]],
+        gate_fails: &[1],
+        output_fails: &[1],
+        status: 5,
+        rows: 7,
+        ..CALM
+    },
+    // the line of a bad plan can't be said
+    Case {
+        plan: "lane = 1\n",
+        output_fails: &[1],
+        status: 3,
+        ..CALM
+    },
+    // the second door has no connection
+    Case {
+        doors: &[&[SUMMARY], &[]],
+        printed: "\
+door 1 served 1 links 0 done
+door 2 served 0 links 0 done
+rows 0
+readings 0 gross 0.000
+passed 0 gross 0.000
+rejected 0 gross 0.000
+sampled 0 gross 0.000
+voided 0 gross 0.000
+batches running 0 ended 0 drawn 0 closed 0
+",
+        ..CALM
+    },
+];
+
+#[test]
+fn faults(rt: HostRuntime) -> Result<(), Fail> {
+    check_cases(&rt, rt.alloc(), &FAULTS)?;
+    Ok(())
+}
+
+// A day of one lane.
+const DAY: Case = Case {
+    plan: ONE_LANE,
+    cells: &[&[Gross(260_000), Gross(260_000)]],
+    ..CALM
+};
+
+// More calls than that day asks of its disk.
+const CALLS: u32 = 200;
+
+// The status of that day, where this call of the disk fails; where it is that of a disk that
+// failed, the last line says so.
+fn failing_at<R: Abort + Threads + Wait + Sync>(
+    rt: &R,
+    alloc: Global,
+    call: u32,
+) -> Result<u8, AllocError> {
+    let mut output = MemorySink::new(alloc, Vec::new(alloc));
+    let words = word(alloc, "serve")?;
+    let disk = empty_disk(alloc, &[call])?;
+    let ended = play(rt, alloc, &words, &DAY, disk, &mut output)?;
+    let said = output.bytes().ends_with(b"disk fault\n");
+    assert_eq!(rt; said, ended.status == 6);
+    Ok(ended.status)
+}
+
+// Each call of the disk fails once, from mounting on to the snapshot behind the jobs.
+#[test]
+fn each_call_of_the_disk(rt: HostRuntime) -> Result<(), Fail> {
+    let mut failed: u32 = 0;
+    for call in 1..CALLS {
+        match failing_at(&rt, rt.alloc(), call)? {
+            6 => failed = call,
+            status => {
+                assert_eq!(rt; status, 0);
+                break;
+            }
+        }
+    }
+    assert!(rt; failed > 32 && failed < CALLS - 1);
+    Ok(())
+}

@@ -1,0 +1,108 @@
+-- What a whole run keeps, from its mount to the end of its jobs.
+use Rattle.std.specs.Prelude.{⊤}
+use Rattle.std.proofs.Common.{◌≡◌, ◌⊎◌, inl, inr, ⊎_elim, ℕ, ◌+◌, ◌<◌, ◌≤◌, min, List, [], ◌∷◌, ◌++◌, length, take, Bool, true, false, Option, Some, None, Result, Ok, refl, sym, ap, ◌∙◌, subst, arith, length-append}
+use Rattle.std.proofs.lemmas.List.{take_min}
+use Rattle.device_facts.specs.Prefix.{IsPrefixOf}
+use Rattle.disk_core.specs.declared.disk.Disk as disk
+use Rattle.book_words.specs.declared.act.Entry.{Entry}
+use Rattle.book_journal.specs.Mounting.{KeepsFromSync}
+use Rattle.book_store.specs.declared.store.Store.{Store}
+use Rattle.book_store.specs.Images.{HoldsBook}
+use Rattle.book_store.specs.Kept.{CrashLeaves, HasKept}
+use Rattle.book_store.specs.Stores.{disk_of, entries_of, held_of, limit_of, Hangs, HangsWith, HasBook}
+use Rattle.book_store.proofs.KeptLemmas.{same_begins}
+use Rattle.book_store.specs.declared.types.RestError.{RestError}
+use Rattle.book_store.specs.Resting.{HasNothingToKeep, HoldsOwnSnapshot}
+use Rattle.store_runs.specs.Runs.{Goes, HasGrown}
+use Rattle.store_runs.proofs.StoreSteps.{on_unfinished}
+use Rattle.session_laws.specs.Sessions.{HoldsOrOneMore, LeavesFrom, KeepsRun, RestsOnDisk}
+
+-- a crash that leaves the first so many rows leaves no more than there are
+leaves : (held rows : List Entry) → length held ≤ length rows → (c : List ℕ)
+    → CrashLeaves held rows c → LeavesFrom held rows c
+leaves held rows short c crash = record {
+  count = min crash.count (length rows);
+  least = let l = crash.least in omega arith;
+  most = omega arith;
+  holds = inl (subst (λ (es : List Entry). HoldsBook es c) (sym (take_min crash.count rows))
+      crash.holds);
+}
+
+module _ {D : Type 0} (g : disk.Ghosts D) (held : List Entry) (start : D) (store : Store D)
+    (kept : HasKept g held start None store) where
+  none_hangs : (entry : Entry) → HangsWith g store entry → ⊥
+  none_hangs entry hangs =
+      absurd (let never : None ≡ Some entry = kept.hung entry hangs in cc)
+
+  -- of a store over which nothing was offered that isn't there a crash leaves the book
+  pub rests_kept : RestsOnDisk g store
+  rests_kept = record {
+    has = kept.has;
+    images = λ c image. ⊎_elim (λ holds. holds) (λ holds. holds) (kept.images c image);
+  }
+
+  short : length held ≤ length (entries_of store)
+  short = let begins = kept.begins in
+      omega (arith, ap length begins.1, length-append held begins.0)
+
+  -- and a whole run over it has kept its rows
+  pub run_kept : g.faults (disk_of store) ≡ g.faults start → KeepsRun g held start store
+  run_kept same =
+      let rows = entries_of store in
+      record {
+        has = kept.has;
+        begins = kept.begins;
+        faults = inl same;
+        hung = λ entry hangs. absurd (none_hangs entry hangs);
+        moments = record {
+          synced = kept.moments.synced;
+          after = kept.moments.after;
+          before = kept.moments.before;
+          each = λ c was. leaves held rows short c (kept.moments.each c was);
+          handed_in = λ c was. ⊎_elim (λ is. inl is)
+              (λ crash. inr (leaves held rows short c crash)) (kept.moments.handed_in c was);
+          earlier = λ t c less was. ⊎_elim (λ is. inl is)
+              (λ crash. inr (leaves held rows short c crash)) (kept.moments.earlier t c less was);
+        };
+        end = λ c image. inl (rests_kept.images c image);
+      }
+
+-- a store for whose rows room was made goes on as it is
+pub reserved : {D : Type 0} (g : disk.Ghosts D) (old new : Store D)
+    → entries_of new ≡ entries_of old → limit_of new ≡ limit_of old → held_of new ≡ held_of old
+    → disk_of new ≡ disk_of old → (Hangs new → Hangs old) → (HasBook g old → HasBook g new)
+    → ((entry : Entry) → HangsWith g new entry → HangsWith g old entry)
+    → Goes {T = Unit {0}} g (Ok tt) old new
+reserved {D} g old new rows limit held same_disk hangs book hung =
+    record {
+      limit = limit;
+      held = held;
+      begins = same_begins (entries_of old) (entries_of new) rows;
+      kept = λ first start has. record {
+        has = book has.has;
+        begins = subst (λ (es : List Entry). IsPrefixOf first es) (sym rows) has.begins;
+        hung = λ entry hangs_so. has.hung entry (hung entry hangs_so);
+        moments = subst (λ (d : D). KeepsFromSync g start d (CrashLeaves first (entries_of new)))
+            (sym same_disk)
+            (subst (λ (es : List Entry). KeepsFromSync g start (disk_of old) (CrashLeaves first es))
+            (sym rows) has.moments);
+        images = λ c image. subst (λ (es : List Entry). HoldsBook es c ⊎ HoldsBook es c) (sym rows)
+            (has.images c (subst (λ (d : D). g.image d c) same_disk image));
+      };
+      cause = ap (λ (d : D). g.faults d) same_disk;
+      calm = λ quiet hung_now. hangs hung_now;
+      still = λ quiet few small. same_disk;
+      snapshot = λ finished. absurd (on_unfinished tt finished);
+    }
+
+-- a snapshot of rows that were added is kept where nothing hangs
+pub keeps_own : {D : Type 0} (g : disk.Ghosts D) (old new : Store D) (opened : ℕ)
+    (result : Result Bool RestError) (kept : Bool) → result ≡ Ok kept
+    → (result ≡ Ok false → HasNothingToKeep old) → (result ≡ Ok true → HoldsOwnSnapshot g new)
+    → ¬ Hangs old → HasGrown opened (entries_of old) → HoldsOwnSnapshot g new
+keeps_own g old new opened result true is idle holds calm grown = holds is
+keeps_own g old new opened result false is idle holds calm grown = nothing (idle is)
+  where
+    nothing : {A : Type 0} → HasNothingToKeep old → A
+    nothing (inl empty) = absurd (omega (arith, grown, ap length empty))
+    nothing (inr hung) = absurd (calm hung)

@@ -1,0 +1,14 @@
+//! `serve`: the plan of a hall is read and its setup asked, then all lanes and all doors of the
+//! office run at once over one book, and their lines and the summary come last.
+#![tactic(auto)]
+
+mod door_ends;
+mod jobs;
+mod lines;
+mod prepare;
+mod serve;
+mod stop;
+
+pub use door_ends::DoorEnds;
+pub use serve::{ServeEnd, run_serve};
+pub use stop::{JobsStop, ServeStop};

@@ -1,0 +1,147 @@
+//! The begin of a session, and the whole of it.
+ghost use Rattle.std.specs.Prelude.{◌≡◌, ◌≢◌, ◌+◌, ◌≤◌, AllPairs, IfOk, List, length, true, false};
+ghost use Rattle.book_words.specs.declared.act.Entry.{Entry as Entered};
+ghost use Rattle.book_words.specs.Balance.{IsBalanced};
+ghost use Rattle.book_store.specs.Stores.{disk_of, entries_of, limit_of, Hangs, IsSound};
+ghost use Rattle.office_door.specs.Doors.{FailedSoOften};
+ghost use Rattle.session_laws.specs.Sessions.{KeepsRun, RestsOnDisk};
+ghost use Rattle.session_jobs.specs.declared.work.TheConstants.{MAX_JOBS};
+ghost use Rattle.session_jobs.specs.Jobs.{IsEmptyCrew, HasRoomFor};
+ghost use Rattle.session_jobs.specs.Runs.{HaveRun, IsUnbegun};
+ghost use Rattle.session_jobs.specs.Works.{number_of, lane_site, door_site};
+
+use crate::crew::employ;
+use crate::session::{Crew, hold};
+use crate::work::Work;
+use book_store::Store;
+use book_words::Entry;
+use disk_core::{Disk, Door};
+use lane_worker::Lane;
+use std::alloc::{AllocError, Global};
+use std::marker::Brand;
+use std::sync::Wait;
+use std::sync::ledger::{Blank, Ledger};
+use std::thread::Threads;
+use turn_pass::Turn;
+
+/// What the jobs of a session leave.
+pub struct JobsEnd<D: Disk, L, O> {
+    pub store: Store<D>,
+    /// The jobs, in their order.
+    pub jobs: Vec<Work<L, O>>,
+    /// Whether they ran; they didn't where there was no memory to begin.
+    pub ran: bool,
+    /// How many faults of the disk their callers were answered, up to the greatest number of 64
+    /// bits.
+    pub faults: u64,
+}
+
+// Room for so many jobs, and for what comes back from them.
+fn take_room<L: Drop, O: Drop, A: Ledger, B: Ledger>(
+    alloc: Global,
+    count: usize,
+) -> Result<Crew<L, O, A, B>, AllocError>
+    ensures empty { IfOk result IsEmptyCrew }
+    ensures room { IfOk result (HasRoomFor count) }
+{
+    Ok(Crew {
+        jobs: Vec::with_capacity(alloc, count)?,
+        works: Vec::with_capacity(alloc, count)?,
+        ends: Vec::with_capacity(alloc, count)?,
+    })
+}
+
+// A session of these ledgers, from its Turn to its end.
+fn hold_session<
+    L: Lane + Send + Drop,
+    O: Door + Send + Drop,
+    D: Disk + Send,
+    A: Ledger + Send + Sync,
+    B: Ledger + Send + Sync,
+    R: Threads + Wait + Sync,
+>(
+    rt: &R,
+    alloc: Global,
+    store: Store<D>,
+    jobs: Vec<Work<L, O>>,
+    rows: Blank,
+    faults: Blank,
+) -> JobsEnd<D, L, O>
+    requires sound { IsSound D.Disk store }
+    requires calm { ¬ Hangs store }
+    requires apart { AllPairs (λ v w. number_of v ≢ number_of w) jobs.items }
+    requires rows { (rows.name ≡ A.name) × (rows.parts ≡ A.parts)
+        × (rows.parts ≡ length jobs.items + 1) }
+    requires faults { (faults.name ≡ B.name) × (faults.parts ≡ B.parts)
+        × (faults.parts ≡ length jobs.items + 1) }
+    ensures ran { result.ran ≡ true → HaveRun (lane_site L.Cell L.Gate)
+        (door_site O.Source O.connections) (limit_of store) (entries_of store)
+        (entries_of result.store) result.faults jobs.items result.jobs.items }
+    ensures unbegun { result.ran ≡ false → IsUnbegun store jobs result }
+    ensures faults { FailedSoOften (D.faults (disk_of store)) (D.faults (disk_of result.store))
+        result.faults }
+    ensures settled { result.faults ≡ 0 → ¬ Hangs result.store }
+    ensures sound { IsSound D.Disk result.store }
+    ensures balanced { IsBalanced (entries_of result.store) }
+    ensures limit { limit_of result.store ≡ limit_of store }
+    ensures kept { RestsOnDisk D.Disk store → (held : List Entered) (start : D)
+        → KeepsRun D.Disk held start store → KeepsRun D.Disk held start result.store }
+{
+    let Ok(mut crew) = take_room(alloc, jobs.len()) else {
+        return unbegun(store, jobs);
+    };
+    let Ok((turn, mut seat)) = Turn::<Entry, A, B>::begin(alloc, store.len(), rows, faults) else {
+        return unbegun(store, jobs);
+    };
+    crew.jobs = employ(jobs, &turn, &mut seat, crew.jobs);
+    let (store, jobs, faults) = hold::<L, O, D, A, B, Brand, R>(rt, alloc, store, turn, seat, crew);
+    JobsEnd {
+        store,
+        jobs,
+        ran: true,
+        faults,
+    }
+}
+
+// No job ran.
+fn unbegun<D: Disk, L, O>(store: Store<D>, jobs: Vec<Work<L, O>>) -> JobsEnd<D, L, O>
+    ensures { result ≡ record { store = store; jobs = jobs; ran = false; faults = 0 } }
+{
+    JobsEnd {
+        store,
+        jobs,
+        ran: false,
+        faults: 0,
+    }
+}
+
+/// Runs jobs at once over a store in which nothing hangs, each in a thread of its own where one can
+/// be made, and waits for the last of them. Each job is a caller of its own number, whose rows bear
+/// it; all room is taken before the first begins, and where there is none nothing is done.
+pub fn run_jobs<
+    L: Lane + Send + Drop,
+    O: Door + Send + Drop,
+    D: Disk + Send,
+    R: Threads + Wait + Sync,
+>(rt: &R, alloc: Global, store: Store<D>, jobs: Vec<Work<L, O>>) -> JobsEnd<D, L, O>
+    requires sound { IsSound D.Disk store }
+    requires calm { ¬ Hangs store }
+    requires apart { AllPairs (λ v w. number_of v ≢ number_of w) jobs.items }
+    requires few { length jobs.items ≤ MAX_JOBS }
+    ensures ran { result.ran ≡ true → HaveRun (lane_site L.Cell L.Gate)
+        (door_site O.Source O.connections) (limit_of store) (entries_of store)
+        (entries_of result.store) result.faults jobs.items result.jobs.items }
+    ensures unbegun { result.ran ≡ false → IsUnbegun store jobs result }
+    ensures faults { FailedSoOften (D.faults (disk_of store)) (D.faults (disk_of result.store))
+        result.faults }
+    ensures settled { result.faults ≡ 0 → ¬ Hangs result.store }
+    ensures sound { IsSound D.Disk result.store }
+    ensures balanced { IsBalanced (entries_of result.store) }
+    ensures limit { limit_of result.store ≡ limit_of store }
+    ensures kept { RestsOnDisk D.Disk store → (held : List Entered) (start : D)
+        → KeepsRun D.Disk held start store → KeepsRun D.Disk held start result.store }
+{
+    let parts = jobs.len() as u64 + 1;
+    let (rows, faults) = (Blank::new(parts), Blank::new(parts));
+    hold_session::<L, O, D, Brand, Brand, R>(rt, alloc, store, jobs, rows, faults)
+}

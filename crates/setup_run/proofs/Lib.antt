@@ -1,0 +1,2 @@
+mod PlanEnds
+mod SetupLines

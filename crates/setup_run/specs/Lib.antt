@@ -1,0 +1,2 @@
+pub mod PlanReading
+pub mod Setups

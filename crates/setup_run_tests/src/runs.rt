@@ -1,0 +1,45 @@
+use book_store::Store;
+use disk_core::MemoryDisk;
+use setup_run::run_setup;
+use std::alloc::Global;
+use store_runs::{Offer, Stop};
+
+/// How a setup ends.
+#[derive(Clone, Copy, Debug, PartialEq, Eq)]
+pub(crate) enum Way {
+    SetUp,
+    BadLine(u64),
+    Row,
+    Other,
+}
+
+// How it stopped, where a row was offered by the script.
+fn way_of(stop: &Stop) -> Way {
+    match stop {
+        Stop::BadLine(number) => Way::BadLine(*number),
+        Stop::DiskFault(Offer::Asked { by: 0, .. }) => Way::Row,
+        _ => Way::Other,
+    }
+}
+
+/// Runs a setup over a disk that can be mounted: how it ends, and the store.
+pub(crate) fn run_over(
+    alloc: Global,
+    disk: MemoryDisk,
+    setup: &[u8],
+) -> Option<(Way, Store<MemoryDisk>)> {
+    let Ok(store) = Store::mount(alloc, disk, 1_000_000) else {
+        return None;
+    };
+    match run_setup(store, setup) {
+        Ok(store) => Some((Way::SetUp, store)),
+        Err(end) => Some((way_of(&end.stop), end.store)),
+    }
+}
+
+/// How a setup over an empty book ends, and how many rows it leaves.
+pub(crate) fn ends(alloc: Global, setup: &[u8]) -> Option<(Way, u32)> {
+    let disk = MemoryDisk::new(alloc, Vec::new(alloc), Vec::new(alloc));
+    let (way, store) = run_over(alloc, disk, setup)?;
+    Some((way, store.len()))
+}
