@@ -24,6 +24,37 @@ fn a_plan_is_a_text_of_65_536_bytes(rt: HostRuntime) -> Result<(), AllocError> {
     Ok(())
 }
 
+// What a document begins with, what comes then so often, and what ends it.
+type Deep = (&'static str, &'static str, usize, &'static str);
+
+// Documents that nest deeper than `toml` reads.
+const DEEP: [Deep; 5] = [
+    ("a=", "[", 65_000, ""),
+    ("a=", "{a=", 20_000, "1"),
+    ("a", ".a", 32_000, "=1"),
+    ("[a", ".a", 32_000, "]"),
+    ("[[a", ".a", 32_000, "]]"),
+];
+
+// Why a document is no plan without lanes, where it is none.
+fn deep_refused(alloc: Global, document: &Deep) -> Result<Option<PlanError>, AllocError> {
+    let (first, copy, count, last) = *document;
+    let mut text = String::from_str(alloc, first)?;
+    for _turn in 0..count {
+        text.push_str(copy)?;
+    }
+    text.push_str(last)?;
+    Ok(read_plan(alloc, text.as_bytes(), 0).err())
+}
+
+#[test]
+fn deep_documents_are_bad(rt: HostRuntime) -> Result<(), AllocError> {
+    for document in &DEEP {
+        assert_eq!(rt; deep_refused(rt.alloc(), document)?, Some(PlanError::Bad));
+    }
+    Ok(())
+}
+
 #[test]
 fn errors_have_texts(rt: HostRuntime) -> Result<(), AllocError> {
     let text = format!(in rt.alloc(); "{}, {}", PlanError::Bad, PlanError::NoMemory)?;

@@ -1,9 +1,9 @@
 use crate::halls::open_hall;
 use CellNext::{Bad, End, Gross};
 use book_words::Name;
-use disk_core::{StdSink, StdSource};
-use lane_worker::{Cell, CellNext, LaneEnd, LaneStop, LineCell, LineGate, PairLane, run_lane};
-use std::fs::{File, OpenOptions};
+use disk_core::StdSource;
+use lane_files::file_lanes;
+use lane_worker::{Cell, CellNext, LaneEnd, LaneStop, LineCell, run_lane};
 use std::io::{Read, Write};
 use std::os::unix::net::UnixStream;
 use std::test::Fail;
@@ -60,30 +60,20 @@ const CELL: &str = "lane_worker_tests_files/cell-1.txt";
 
 const GATE: &str = "lane_worker_tests_files/gate-1.txt";
 
-// A lane over the two files; its gate writes behind what its file has.
-type FileLane = PairLane<LineCell<StdSource<File>>, LineGate<StdSink<File>>>;
-
-fn open_lane(rt: &HostRuntime) -> io::Result<FileLane> {
-    let cell = File::open(rt, CELL)?;
-    let gate = OpenOptions::new().append(true).create(true).open(rt, GATE)?;
-    Ok(PairLane::new(
-        LineCell::new(StdSource::new(cell)),
-        LineGate::new(StdSink::new(gate)),
-    ))
-}
-
-// The end of a lane over the files, in a hall of its own.
-fn work(rt: &HostRuntime) -> Option<LaneEnd> {
+// The end of one of two lanes over the files of the folder, in a hall of its own.
+fn work(rt: &HostRuntime, place: usize) -> Option<LaneEnd> {
     let alloc = rt.alloc();
     let batch = Name::new(b"A".as_slice())?;
-    let mut lane = open_lane(rt).ok()?;
+    let mut lanes = file_lanes(alloc, rt, FOLDER, 2).ok()?;
+    let lane = lanes.get_mut(place)?;
     let mut hall = open_hall(alloc, Vec::new(alloc))?;
-    let end = run_lane(&mut hall, &mut lane, 1, batch);
+    let end = run_lane(&mut hall, lane, 1, batch);
     let _ = hall.back().close();
     Some(end)
 }
 
-// The second pack is rejected.
+// The second pack is rejected. Its gate writes behind what its file has, and the second lane has no
+// file for its cell.
 #[test]
 fn a_lane_over_files(rt: HostRuntime) -> Result<(), Fail> {
     let _ = fs::remove_dir_all(&rt, FOLDER);
@@ -93,11 +83,16 @@ fn a_lane_over_files(rt: HostRuntime) -> Result<(), Fail> {
         stop: LaneStop::Done,
     };
     fs::write(&rt, CELL, "260\n240\r\n261.5")?;
-    assert!(rt; work(&rt) == Some(done));
+    assert!(rt; work(&rt, 0) == Some(done));
     assert!(rt; fs::read(&rt, GATE)?.as_slice() == b"open 8\nopen 10\n".as_slice());
     fs::write(&rt, CELL, "262\n")?;
-    assert!(rt; work(&rt) == Some(LaneEnd { opened: 1, ..done }));
+    assert!(rt; work(&rt, 0) == Some(LaneEnd { opened: 1, ..done }));
     assert!(rt; fs::read(&rt, GATE)?.as_slice() == b"open 8\nopen 10\nopen 8\n".as_slice());
+    let failed = LaneEnd {
+        opened: 0,
+        stop: LaneStop::Cell,
+    };
+    assert!(rt; work(&rt, 1) == Some(failed));
     fs::remove_dir_all(&rt, FOLDER)?;
     Ok(())
 }

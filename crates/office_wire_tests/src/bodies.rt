@@ -1,5 +1,5 @@
 use book_words::{Act, Ask, Name, Unit, Want};
-use office_wire::desk_ask;
+use office_wire::{MAX_BODY, desk_ask};
 use std::fmt;
 use std::test::Fail;
 
@@ -37,11 +37,15 @@ fn a_product_of_a_desk(rt: HostRuntime) -> Result<(), Fail> {
     Ok(())
 }
 
+// A longest body of nothing but beginnings of lists, which nests deeper than `serde_json` reads.
+const DEEP: [u8; MAX_BODY] = [b'['; MAX_BODY];
+
 #[test]
 fn bodies_that_are_no_acts(rt: HostRuntime) -> Result<(), Fail> {
     for body in &NO_ACTS {
         let asked = desk_ask(rt.alloc(), body)?;
         assert!(rt; asked.is_none());
     }
+    assert!(rt; desk_ask(rt.alloc(), &DEEP)?.is_none());
     Ok(())
 }

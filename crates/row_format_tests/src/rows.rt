@@ -168,7 +168,7 @@ const END: &[Piece] = &[(0, b"\x01\x09\x01\0\0\0\0\0\0\0\0\0\0\0\x01B")];
 const WEIGHING: &[Piece] = &[(0, b"\x01\x06\x01\0\0\0\0\0\0\0\0\0\0\0\x01\x80\xc3\xc9\x01")];
 
 // All of them are read as row 1.
-const FAULTS: [Broken; 19] = [
+const FAULTS: [Broken; 20] = [
     (DAY, 0, 0, 0),
     (DAY, 1, 0, 1),
     (DAY, 1, 14, 1),
@@ -188,6 +188,7 @@ const FAULTS: [Broken; 19] = [
     (WEIGHING, 15, 0x81, 18),
     (WEIGHING, 19, 4, 19),
     (WEIGHING, 20, 5, 20),
+    (WEIGHING, 95, 1, 95),
 ];
 
 #[test]
