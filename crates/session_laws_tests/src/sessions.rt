@@ -1,7 +1,7 @@
 use book_store::{MountError, Store};
 use book_words::{Act, Ask, Want};
 use disk_core::{Disk, MemoryDisk};
-use session_laws::{hold_session, mount_session};
+use session_laws::{hold_session, mount_session, rest_session};
 use std::alloc::{AllocError, Global};
 use std::sync::Wait;
 use std::test::Fail;
@@ -65,5 +65,25 @@ fn mount_bytes<R: Wait>(
 fn a_foreign_disk_has_no_session(rt: HostRuntime) -> Result<(), Fail> {
     let why = MountError::NotJournal { place: 0 };
     assert!(rt; mount_bytes(&rt, rt.alloc(), &[7; 98])? == Some((why, 98)));
+    Ok(())
+}
+
+// Whether a book of one day is kept, and how many bytes its disk has then: the header, the row, a
+// closed slot, and the head, one block and the tail of its snapshot, each of 96.
+fn rest_day(alloc: Global) -> Option<(bool, usize)> {
+    let disk = MemoryDisk::new(alloc, Vec::new(alloc), Vec::new(alloc));
+    let Ok(mut store) = Store::mount(alloc, disk, 9) else {
+        return None;
+    };
+    let (by, ask) = new_day(1, 20_150);
+    let _ = store.ask(by, &ask);
+    let rested = rest_session(&mut store) == Ok(true);
+    let (disk, _) = store.close();
+    Some((rested, disk.bytes().len()))
+}
+
+#[test]
+fn a_book_is_kept_behind_a_session(rt: HostRuntime) -> Result<(), Fail> {
+    assert!(rt; rest_day(rt.alloc()) == Some((true, 576)));
     Ok(())
 }
