@@ -1,0 +1,75 @@
+#!/bin/sh
+# Refuses each call for memory of worked days in turn, a run for each: a corrected tare and a held
+# batch; a second sample; the repeats of a desk, in a script and at a door; lanes and a door that wait
+# for each other; a day of 600 packs, and its sheet at a door. tests/refuse.c counts the calls of the
+# program and refuses one. The day with lanes also has each start of a thread refused, and each call
+# for memory that the C library makes for it.
+#
+# A run has to end with status 7, `no memory` behind a beginning of what a run with ample memory says
+# (2 and `usage` where the words themselves couldn't be stored); or to go on behind an answer 503,
+# which is asked again; or with 10, where a lane waits in vain for one that lacked memory. Its rows are
+# those that were answered, a beginning of the day's, and `check` finds them whole. The rest of the
+# day over that book then ends with the whole day's summary and rows. What the days say with ample
+# memory was worked out by hand. Status 1 where a run came out otherwise: each is named.
+#
+# usage: tests/memory.sh [FOLDER [WORKERS [DAY]]]     so many runs at once, each in a folder below it;
+#                                                     DAY: those alone whose name begins so
+set -eu
+here=$(dirname "$(readlink -f "$0")")/..
+workers=${2:-$(nproc)}
+work=$(mktemp -d "${1:-/dev/shm}/hall_memory.XXXXXX")
+trap 'rm -rf "$work"' EXIT
+
+# HALL names another program to try.
+if [ -z "${HALL:-}" ]; then "$here/hall" run </dev/null >/dev/null; fi
+program=${HALL:-$here/crates/hall_cli/out/hall_cli}
+
+"${CC:-cc}" -O1 -fPIC -shared -fno-builtin -o "$work/refuse.so" "$here/tests/refuse.c"
+
+PYTHONPATH=$here/tests timeout 3600 python3 -B - "$program" "$work" "$workers" "${3:-}" <<'PYTHON'
+import sys
+import time
+
+from refusals import LIBRARY, PROGRAM, THREAD, ScriptDay, each_number
+from served_days import ServedDay, ServedDesk, ServedSheet
+from worked_days import corrected_tare, desk_row, desk_row_again, many_packs, second_sample
+
+program, work, workers, chosen = sys.argv[1:]
+shim = f"{work}/refuse.so"
+KINDS = {PROGRAM: "calls", THREAD: "starts of threads", LIBRARY: "calls of the C library"}
+runs = 0
+faults = []
+
+
+def try_kind(day, kind, told):
+    """A run for each call of a kind; says how these ended, and names each that did otherwise."""
+    global runs
+    calls = told.calls[kind]
+    counts = each_number(calls, int(workers), lambda number: day.refuse(kind, number))
+    runs += calls
+    print(f"{day.name}, {calls} {KINDS[kind]}, the most bytes of one {told.most}: {counts}", flush=True)
+    for fault in counts.faults:
+        print(f"  {day.name}, {KINDS[kind]}, {fault}", flush=True)
+    faults.extend(counts.faults)
+
+
+def days():
+    """Each day with the kinds of calls that are refused."""
+    script = [ScriptDay(program, shim, f"{work}/{day.name}", day, again) for day, again in (
+        (corrected_tare(), None), (second_sample(), None), (desk_row(), desk_row_again()),
+        (many_packs(), None))]
+    served = [kind(program, shim, f"{work}/{kind.name}")
+              for kind in (ServedDesk, ServedSheet, ServedDay)]
+    for day in script + served:
+        yield day, list(KINDS) if isinstance(day, ServedDay) and day.grosses else [PROGRAM]
+
+
+began = time.monotonic()
+for day, kinds in days():
+    if day.name.startswith(chosen):
+        told = day.count()
+        for kind in kinds:
+            try_kind(day, kind, told)
+print(f"{runs} runs in {time.monotonic() - began:.0f} s; {len(faults)} came out otherwise")
+sys.exit(1 if faults or not runs else 0)
+PYTHON
