@@ -12,8 +12,12 @@
 # day over that book then ends with the whole day's summary and rows. What the days say with ample
 # memory was worked out by hand. Status 1 where a run came out otherwise: each is named.
 #
-# usage: tests/memory.sh [FOLDER [WORKERS [DAY]]]     so many runs at once, each in a folder below it;
-#                                                     DAY: those alone whose name begins so
+# Room is made for 64 rows at first, and then for twice as many. So the corrected tare and the lanes
+# also come behind so many other rows that each of their acts in turn is the one for which there has
+# to be more.
+#
+# usage: tests/memory.sh [FOLDER [WORKERS [DAY [FIRST]]]]     so many runs at once, each in a folder of
+#     its own below FOLDER; the days alone whose name begins with DAY, and the calls from FIRST on
 set -eu
 here=$(dirname "$(readlink -f "$0")")/..
 workers=${2:-$(nproc)}
@@ -26,17 +30,20 @@ program=${HALL:-$here/crates/hall_cli/out/hall_cli}
 
 "${CC:-cc}" -O1 -fPIC -shared -fno-builtin -o "$work/refuse.so" "$here/tests/refuse.c"
 
-PYTHONPATH=$here/tests timeout 3600 python3 -B - "$program" "$work" "$workers" "${3:-}" <<'PYTHON'
+PYTHONPATH=$here/tests timeout 3600 python3 -B - "$program" "$work" "$workers" "${3:-}" "${4:-1}" <<'PYTHON'
 import sys
 import time
 
 from refusals import LIBRARY, PROGRAM, THREAD, ScriptDay, each_number
-from served_days import ServedDay, ServedDesk, ServedSheet
+from served_days import ServedDay, ServedDesk, ServedLater, ServedSheet
 from worked_days import corrected_tare, desk_row, desk_row_again, many_packs, second_sample
 
-program, work, workers, chosen = sys.argv[1:]
+program, work, workers, chosen, first = sys.argv[1:]
 shim = f"{work}/refuse.so"
 KINDS = {PROGRAM: "calls", THREAD: "starts of threads", LIBRARY: "calls of the C library"}
+# How many rows come before a day, so that the 65th is one of its own.
+BEFORE_TARE = (0, 59, 58, 57, 56, 55)
+BEFORE_LANES = (60, 58, 56, 54, 52)
 runs = 0
 faults = []
 
@@ -45,27 +52,36 @@ def try_kind(day, kind, told):
     """A run for each call of a kind; says how these ended, and names each that did otherwise."""
     global runs
     calls = told.calls[kind]
-    counts = each_number(calls, int(workers), lambda number: day.refuse(kind, number))
-    runs += calls
+    counts = each_number(int(first), calls, int(workers), lambda number: day.refuse(kind, number))
+    runs += sum(counts.ways.values())
     print(f"{day.name}, {calls} {KINDS[kind]}, the most bytes of one {told.most}: {counts}", flush=True)
     for fault in counts.faults:
         print(f"  {day.name}, {KINDS[kind]}, {fault}", flush=True)
     faults.extend(counts.faults)
 
 
-def days():
+def script_days():
+    """Days of `run`, each with what a desk is told again."""
+    for before in BEFORE_TARE:
+        yield corrected_tare(before), None
+    yield second_sample(), None
+    yield desk_row(), desk_row_again()
+    yield many_packs(), None
+
+
+def all_days():
     """Each day with the kinds of calls that are refused."""
-    script = [ScriptDay(program, shim, f"{work}/{day.name}", day, again) for day, again in (
-        (corrected_tare(), None), (second_sample(), None), (desk_row(), desk_row_again()),
-        (many_packs(), None))]
-    served = [kind(program, shim, f"{work}/{kind.name}")
-              for kind in (ServedDesk, ServedSheet, ServedDay)]
-    for day in script + served:
-        yield day, list(KINDS) if isinstance(day, ServedDay) and day.grosses else [PROGRAM]
+    for day, again in script_days():
+        yield ScriptDay(program, shim, f"{work}/{day.name}", day, again), [PROGRAM]
+    for kind in (ServedDesk, ServedSheet):
+        yield kind(program, shim, f"{work}/{kind.name}"), [PROGRAM]
+    yield ServedDay(program, shim, f"{work}/lanes"), list(KINDS)
+    for before in BEFORE_LANES:
+        yield ServedLater(program, shim, f"{work}/lanes", before), [PROGRAM]
 
 
 began = time.monotonic()
-for day, kinds in days():
+for day, kinds in all_days():
     if day.name.startswith(chosen):
         told = day.count()
         for kind in kinds:

@@ -102,8 +102,8 @@ class Counts:
         return ", ".join(f"{self.ways[way]} {way}" for way in sorted(self.ways))
 
 
-def each_number(last, workers, attempt):
-    """Makes a run for each number, several at once; names each that came out otherwise."""
+def each_number(first, last, workers, attempt):
+    """Makes a run for each of these numbers, several at once; names each that came out otherwise."""
     counts = Counts()
 
     def one(number):
@@ -113,7 +113,7 @@ def each_number(last, workers, attempt):
             return fault
 
     with ThreadPoolExecutor(workers) as pool:
-        for number, way in enumerate(pool.map(one, range(1, last + 1)), 1):
+        for number, way in enumerate(pool.map(one, range(first, last + 1)), first):
             if isinstance(way, str):
                 counts.add(way)
             else:
@@ -143,8 +143,8 @@ class ScriptDay:
         self.whole = place.slots()
         kinds = [row.act["act"] for row in place.rows()]
         verbs = [line.split()[2 if line[0] == "@" else 0] for line, _ in self.day.told]
-        last = [at for at in range(len(verbs)) if self.day.rows(at + 1) > self.day.rows(at)]
-        need(kinds == [verbs[at] for at in last], f"{self.name}: other rows {kinds}")
+        new = [at for at in range(len(verbs)) if self.day.rows(at + 1) > self.day.rows(at)]
+        need(kinds == [verbs[at] for at in new], f"{self.name}: other rows {kinds}")
         return place.told()
 
     def refuse(self, kind, number):

@@ -8,7 +8,7 @@ from clients import FIRST_DOOR, Hall, free_ports, get, need, plan, post
 from meeting import Meeting
 from refusals import (ASKED_AGAIN, LONGEST, NO_MEMORY, PROGRAM, UNOPENED, UNREAD_WORDS, USAGE, Place)
 from rows import Piles
-from worked_days import OPENING, SHEET, desk_row, many_packs, summary
+from worked_days import OPENING, SHEET, days, desk_row, many_packs, summary
 
 DONE = "done (status 0)"
 LATE = "a job began behind another, and they waited in vain (status 10)"
@@ -32,6 +32,7 @@ class ServedDay:
     """Two lanes that weigh for one batch, and a desk at a door; each waits for the others."""
 
     name = "lanes and a door"
+    # the lines of the setup
     opening = OPENING
     # of each lane the grosses of its packs, in mg
     grosses = {1: [260_000, 260_000], 2: [260_000, 260_000]}
@@ -205,6 +206,16 @@ class ServedDay:
         rows, piles = self.summary.split("\n", 1)
         whole = f"{int(rows.split()[1]) + 2 * again}\n{piles}"
         need((status, end) == (0, whole), f"the rest ends with {status}: {said}")
+
+
+class ServedLater(ServedDay):
+    """The same behind so many rows more, so that other asks have to make room."""
+
+    def __init__(self, program, shim, folder, before):
+        super().__init__(program, shim, f"{folder} {before}")
+        self.name = f"lanes and a door behind {before + len(OPENING)} rows"
+        self.opening = days(before) + OPENING
+        self.summary = summary(14 + before, readings=(4, 1040), passed=(4, 1040))
 
 
 class ServedDesk(ServedDay):

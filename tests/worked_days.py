@@ -70,14 +70,24 @@ def numbered(lines, first, answer="ok"):
     return [(line, f"{row} {answer}") for row, line in enumerate(lines, first)]
 
 
-def corrected_tare():
-    """A corrected tare makes a passed pack inadequate; its batch is held until the pack is voided."""
-    told = OPENING + [
-        ("start 1 A", "5 ok"), ("weigh 1 243.000", "6 pass"),
-        ("tare rice250 2025-03-03 12", "7 ok"), ("weigh 1 260.000", "8 reject held"),
-        ("void 6", "9 ok"), ("weigh 1 260.000", "10 pass")]
-    return Day("corrected tare", told, summary(10, readings=(3, 763), passed=(1, 260),
-                                               rejected=(1, 260), voided=(1, 243)))
+def days(count):
+    """So many lines that set the day, at the beginning of a book."""
+    return [("day 2025-03-03", f"{row} ok") for row in range(1, count + 1)]
+
+
+def corrected_tare(before=0):
+    """A corrected tare makes a passed pack inadequate; its batch is held until the pack is voided. So
+    many rows come before."""
+    lines = [line for line, _ in OPENING]
+    told = days(before) + numbered([*lines, "start 1 A"], before + 1)
+    told += [("weigh 1 243.000", f"{before + 6} pass"),
+             ("tare rice250 2025-03-03 12", f"{before + 7} ok"),
+             ("weigh 1 260.000", f"{before + 8} reject held"),
+             (f"void {before + 6}", f"{before + 9} ok"),
+             ("weigh 1 260.000", f"{before + 10} pass")]
+    name = f"corrected tare behind {before} rows" if before else "corrected tare"
+    return Day(name, told, summary(before + 10, readings=(3, 763), passed=(1, 260),
+                                   rejected=(1, 260), voided=(1, 243)))
 
 
 def measures(packs):
