@@ -13,7 +13,8 @@ import time
 
 from clients import Gone, Link, need, spell_grams
 
-# Seconds for which nothing comes before it is looked whether the hall sleeps; and for which it may run.
+# Seconds for which nothing comes before it is looked whether the hall sleeps; and for which it may
+# run.
 QUIET = 0.2
 LONGEST = 60
 
@@ -36,7 +37,7 @@ class Pipes:
         self.given += 1
 
     def end(self, met):
-        """Ends the cell: where all met its file is open at the other end, so that it can be closed."""
+        """Ends the cell. Where all met, its file is open at the other end, so it can be closed."""
         if met:
             os.close(self.cell)
             self.cell = None

@@ -62,8 +62,8 @@ class Place:
     def run(self, *words, script="", env=None):
         """The status of a command over the book, and what it printed."""
         try:
-            ran = subprocess.run([self.program, *words, f"--book={self.book}"], input=script, env=env,
-                                 capture_output=True, text=True, timeout=LONGEST)
+            ran = subprocess.run([self.program, *words, f"--book={self.book}"], input=script,
+                                 env=env, capture_output=True, text=True, timeout=LONGEST)
         except subprocess.TimeoutExpired:
             raise Wrong(f"{words} doesn't return in {LONGEST} s") from None
         self.errors = ran.stderr
@@ -84,7 +84,8 @@ class Place:
         """The rows of the book, which `check` has to find whole."""
         rows = rows_behind(self.book, 0) if os.path.exists(self.book) else []
         said = self.run("check")
-        need(said == (0, f"rows {len(rows)} whole\n"), f"the file has {len(rows)} rows, check: {said}")
+        need(said == (0, f"rows {len(rows)} whole\n"),
+             f"the file has {len(rows)} rows, check says {said}")
         return rows
 
 
@@ -103,7 +104,7 @@ class Counts:
 
 
 def each_number(first, last, workers, attempt):
-    """Makes a run for each of these numbers, several at once; names each that came out otherwise."""
+    """Makes a run for each of these numbers, some at once; names each that came out otherwise."""
     counts = Counts()
 
     def one(number):
@@ -152,7 +153,7 @@ class ScriptDay:
         program then asks for the same in another way, that is refused too in a second run."""
         way = self.attempt(kind, number, 1)
         if way == ASKED_AGAIN:
-            need(self.attempt(kind, number, 2) != ASKED_AGAIN, "the day is whole also where two are refused")
+            need(self.attempt(kind, number, 2) != ASKED_AGAIN, "whole also where two are refused")
         return way
 
     def attempt(self, kind, number, count):
@@ -179,7 +180,7 @@ class ScriptDay:
             return len(self.day.told), ASKED_AGAIN
         need(status == 7 and said.endswith(NO_MEMORY), f"status {status}: {said[-200:]!r}")
         answered = self.day.answered(said[: -len(NO_MEMORY)])
-        need(answered is not None, f"what was printed isn't a beginning of the day: {said[-200:]!r}")
+        need(answered is not None, f"printed was no beginning of the day: {said[-200:]!r}")
         if answered == 0:
             return 0, "no memory before the first answer (status 7)"
         behind = answered == len(self.day.told)

@@ -1,4 +1,5 @@
-"""Worked days of `hall serve` with a call for memory refused, and what they left. For tests/memory.sh.
+"""Worked days of `hall serve` with a call for memory refused, and what they left. For
+tests/memory.sh.
 """
 
 import os
@@ -6,7 +7,8 @@ import shutil
 
 from clients import FIRST_DOOR, Hall, free_ports, get, need, plan, post
 from meeting import Meeting
-from refusals import (ASKED_AGAIN, LONGEST, NO_MEMORY, PROGRAM, UNOPENED, UNREAD_WORDS, USAGE, Place)
+from refusals import (ASKED_AGAIN, LONGEST, NO_MEMORY, PROGRAM, UNOPENED, UNREAD_WORDS, USAGE,
+                      Place)
 from rows import Piles
 from worked_days import OPENING, SHEET, days, desk_row, many_packs, summary
 
@@ -14,8 +16,8 @@ DONE = "done (status 0)"
 LATE = "a job began behind another, and they waited in vain (status 10)"
 
 # What the door is asked in the day of a desk, and what it answers, as (status, Book-Row, body).
-DESK_ASKED = [(101, 1, "a"), (101, 1, "a"), (101, 1, "b"), (101, 2, "b"), (101, 1, "a"), (101, 4, "c"),
-              (100, 1, "c")]
+DESK_ASKED = [(101, 1, "a"), (101, 1, "a"), (101, 1, "b"), (101, 2, "b"), (101, 1, "a"),
+              (101, 4, "c"), (100, 1, "c")]
 DESK_ANSWERED = [
     (200, 2, {"row": 2}), (200, 2, {"row": 2}),
     (409, 2, {"at": 2, "kept": "2", "name": "RequestReused", "refused": 3}), (200, 3, {"row": 3}),
@@ -123,7 +125,8 @@ class ServedDay:
         self.compare_rows(rows, meeting)
         self.go_on(place, rows)
         if unbegun:
-            need(not meeting.answers and all(row.by == 0 for row in rows), f"{said}, and rows: {rows}")
+            need(not meeting.answers and all(row.by == 0 for row in rows),
+                 f"{said}, and answers or rows: {meeting.answers}, {rows}")
             return unbegun
         return self.compare_end(status, said, rows, meeting, met)
 
@@ -140,7 +143,7 @@ class ServedDay:
         return place.rows()
 
     def compare_rows(self, rows, meeting):
-        """Each row is of the setup, of a lane whose gate opened for what passed, or was answered."""
+        """Each row is of the setup, of a lane whose gate opened for what passed, or answered."""
         setup = [row.act["act"] for row in rows if row.by == 0]
         need(setup == [line.split()[0] for line, _ in self.opening][: len(setup)],
              f"the setup has left {setup}")
@@ -172,7 +175,7 @@ class ServedDay:
         early = any(stop in ("bad", "cell", "gate", "refused") for stop in stops)
         need(status == (10 if early else 11 if stops[-1] == "door" else 7 if lacking else 0),
              f"status {status}: {said}")
-        need(lacking or early or not lacks, f"a job lacked memory, and no last line says so: {said}")
+        need(lacking or early or not lacks, f"a job lacked memory, without the last line: {said}")
         need(said.removesuffix(NO_MEMORY) == "".join(f"{line}\n" for line in lines)
              + self.summary_of(rows), f"that isn't the summary of {len(rows)} rows: {said}")
         whole = met and not lacks

@@ -1,6 +1,6 @@
 """Worked days of a hall: what is asked and what it is answered, for tests/memory.sh.
 
-The answers follow from docs/RULES.md and docs/FORMATS.md by hand; nothing here comes from the program.
+The answers follow from docs/RULES.md and docs/FORMATS.md by hand; none comes from the program.
 Packs are of 250 g, in packages of 10 g: the limits are 241 g and 232 g.
 """
 
@@ -49,7 +49,7 @@ class Day(NamedTuple):
 
 
 def summary(rows, batches="running 1 ended 0 drawn 0 closed 0", **piles):
-    """The text of a summary, of the piles that hold anything: their packs and their grosses in g."""
+    """The text of a summary; of the piles that hold anything their packs and grosses in g."""
     names = ("readings", "passed", "rejected", "sampled", "voided")
     held = [(name, *piles.get(name, (0, 0))) for name in names]
     lines = [f"rows {rows}"] + [f"{name} {packs} gross {grams}.000" for name, packs, grams in held]
@@ -76,8 +76,8 @@ def days(count):
 
 
 def corrected_tare(before=0):
-    """A corrected tare makes a passed pack inadequate; its batch is held until the pack is voided. So
-    many rows come before."""
+    """A corrected tare makes a passed pack inadequate, and its batch is held until the pack is
+    voided. So many rows come before."""
     lines = [line for line, _ in OPENING]
     told = days(before) + numbered([*lines, "start 1 A"], before + 1)
     told += [("weigh 1 243.000", f"{before + 6} pass"),
@@ -114,8 +114,10 @@ def second_sample():
 def desk_row():
     """A desk repeats a request, uses its number again, falls behind it and leaves a gap."""
     told = [
-        ("day 2025-03-03", "1 ok"), ("@101 1 product a 250", "2 ok"), ("@101 1 product a 250", "2 ok"),
-        ("@101 1 product b 250", "refused 3 RequestReused 2 at 2"), ("@101 2 product b 250", "3 ok"),
+        ("day 2025-03-03", "1 ok"), ("@101 1 product a 250", "2 ok"),
+        ("@101 1 product a 250", "2 ok"),
+        ("@101 1 product b 250", "refused 3 RequestReused 2 at 2"),
+        ("@101 2 product b 250", "3 ok"),
         ("@101 1 product a 250", "refused 2 RequestOld 2 at 3"),
         ("@101 4 product c 250", "refused 4 RequestGap 2 at 3"),
         ("@100 1 product c 250", "refused 1 DeskNumber at 3")]
