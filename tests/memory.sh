@@ -24,7 +24,6 @@ set -eu
 here=$(dirname "$(readlink -f "$0")")/..
 workers=${2:-$(nproc)}
 work=$(mktemp -d "${1:-/dev/shm}/hall_memory.XXXXXX")
-trap 'rm -rf "$work"' EXIT
 
 # HALL names another program to try.
 if [ -z "${HALL:-}" ]; then "$here/hall" run </dev/null >/dev/null; fi
@@ -33,7 +32,7 @@ program=${HALL:-$here/crates/hall_cli/out/hall_cli}
 "${CC:-cc}" -O1 -fPIC -shared -fno-builtin -o "$work/refuse.so" "$here/tests/refuse.c"
 
 PYTHONPATH=$here/tests timeout 3600 \
-    python3 -B - "$program" "$work" "$workers" "${3:-*}" "${4:-1}" <<'PYTHON'
+    python3 -B - "$program" "$work" "$workers" "${3:-*}" "${4:-1}" <<'PYTHON' ||
 import sys
 import time
 from fnmatch import fnmatch
@@ -93,3 +92,8 @@ for day, kinds in all_days():
 print(f"{runs} runs in {time.monotonic() - began:.0f} s; {len(faults)} came out otherwise")
 sys.exit(1 if faults or not runs else 0)
 PYTHON
+{
+    echo "memory: failed; see $work" >&2
+    exit 1
+}
+rm -rf "$work"

@@ -4,6 +4,7 @@ Which call it is tests/refuse.c counts, which is loaded before the C library.
 """
 
 import os
+import shutil
 import struct
 import subprocess
 from concurrent.futures import ThreadPoolExecutor
@@ -53,6 +54,9 @@ class Place:
         return {"LD_PRELOAD": self.shim, "REFUSE_TOLD": f"{self.folder}/told",
                 "REFUSE_KIND": str(kind), "REFUSE_NUMBER": str(number),
                 "REFUSE_COUNT": str(count)}
+
+    def remove(self):
+        shutil.rmtree(self.folder)
 
     def told(self):
         with open(f"{self.folder}/told", "rb") as told:
@@ -110,7 +114,7 @@ def each_number(first, last, workers, attempt):
     def one(number):
         try:
             return attempt(number)
-        except (Wrong, OSError, ValueError) as fault:
+        except Exception as fault:
             return fault
 
     with ThreadPoolExecutor(workers) as pool:
@@ -119,7 +123,7 @@ def each_number(first, last, workers, attempt):
                 counts.add(way)
             else:
                 counts.add("otherwise")
-                counts.faults.append(f"number {number}: {way}")
+                counts.faults.append(f"number {number}: {type(way).__name__}: {way}")
     return counts
 
 
@@ -167,6 +171,7 @@ class ScriptDay:
              f"{rows} rows were answered, the book has others: {len(place.slots()) // SLOT}")
         need(len(place.rows()) == rows, f"{rows} rows were answered, and they aren't there")
         self.go_on(place, answered, rows)
+        place.remove()
         return way
 
     def ended(self, place, status, said):

@@ -112,7 +112,9 @@ class ServedDay:
             meeting.close()
         with open(f"{place.folder}/errors", encoding="utf-8") as errors:
             place.errors = errors.read()
-        return self.compare(place, meeting, met, status), place.told()
+        way, told = self.compare(place, meeting, met, status), place.told()
+        place.remove()
+        return way, told
 
     def compare(self, place, meeting, met, status):
         """Compares what a hall said, answered and left; tells how it ended, where that is right."""
