@@ -7,8 +7,8 @@ import shutil
 
 from clients import FIRST_DOOR, Hall, free_ports, get, need, plan, post
 from meeting import Meeting
-from refusals import (ASKED_AGAIN, LONGEST, NO_MEMORY, PROGRAM, UNOPENED, UNREAD_WORDS, USAGE,
-                      Place)
+from refusals import (ASKED_AGAIN, LONGEST, NO_MEMORY, PROGRAM, THREAD, UNOPENED, UNREAD_WORDS,
+                      USAGE, Place)
 from rows import Piles
 from worked_days import OPENING, SHEET, days, desk_row, many_packs, summary
 
@@ -48,6 +48,8 @@ class ServedDay:
     def __init__(self, program, shim, folder):
         self.program, self.shim, self.folder = program, shim, folder
         self.port = free_ports()
+        # how many threads begin
+        self.threads = 0
 
     def requests(self):
         return [post({"desk": desk, "request": request} | act) for desk, request, act in self.asked]
@@ -78,6 +80,7 @@ class ServedDay:
         """A run with ample memory, which has to come out as worked out; tells of its calls."""
         way, told = self.attempt("whole", PROGRAM, 0)
         need(way == DONE, f"{self.name}: with ample memory {way}")
+        self.threads = told.calls[THREAD]
         return told
 
     def refuse(self, kind, number):
@@ -88,6 +91,8 @@ class ServedDay:
         if not told.refused:
             need(way == DONE, f"the call didn't come in this run, and {way}")
             return "whole, since the call didn't come"
+        need(way != LATE or kind != PROGRAM or told.calls[THREAD] < self.threads,
+             "nobody lacked memory, each thread began, and yet some waited in vain")
         if way != DONE:
             return way
         if not self.grosses:
