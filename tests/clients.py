@@ -64,7 +64,7 @@ class Hall:
     running = []
 
     def __init__(self, program, folder, plan_text, book=None, lanes=0, doors=0, port=8080,
-                 connections=1, pipes=True, limit=1_000_000):
+                 connections=1, pipes=True, limit=1_000_000, env=None):
         self.folder = folder
         self.ports = range(port, port + doors)
         words = {"lanes": lanes, "cells": folder, "doors": doors, "port": port,
@@ -80,7 +80,7 @@ class Hall:
             self.began = time.monotonic()
             self.process = subprocess.Popen(
                 [program, "serve"] + [f"--{word}={value}" for word, value in words.items()],
-                stdin=source, stdout=said, stderr=errors)
+                stdin=source, stdout=said, stderr=errors, env=env)
         Hall.running.append(self.process)
 
     def ended(self):
