@@ -24,7 +24,7 @@ USAGE = "usage: hall COMMAND [OPTIONS]\n"
 
 # How a run may end.
 UNREAD_WORDS = "usage (status 2)"
-UNOPENED = "a book that can't be opened (status 6)"
+UNOPENED = "a book that can't be opened (status 7)"
 ASKED_AGAIN = "whole, since the program asked again (status 0)"
 
 
@@ -78,7 +78,7 @@ class Place:
     def is_unopened(self, status, said):
         """Whether the file couldn't be opened for want of memory: standard error says so."""
         why = f"hall: can't open {self.book}: out of memory\n"
-        return (status, said, self.errors) == (6, "disk fault\n", why)
+        return (status, said, self.errors) == (7, NO_MEMORY, why)
 
     def slots(self):
         """The bytes of the rows of the book; none where no file was made."""

@@ -23,7 +23,7 @@ use book_snapshot::ROW_BYTES;
 use book_store::MountError;
 use command_line::{Wants, WantsError, wants};
 use disk_core::{Disk, Door, QuietDisk, Sink, Source, StdSink, StdSource};
-use file_disk::FileDisk;
+use file_disk::{FileDisk, OpenError};
 use hall_limits::{MAX_DOOR, MAX_LANE, MAX_ROWS};
 use hall_top::{DoorEnds, Ending, hall, say_last};
 use lane_files::{FileLane, file_lanes};
@@ -32,7 +32,7 @@ use script_run::LaneEnds;
 use std::alloc::{AllocError, Global};
 use std::env;
 use std::fs::File;
-use std::io::Eprint;
+use std::io::{Eprint, ErrorKind};
 use std::net::{Net, TcpListener, TcpStream};
 use std::process::ExitCode;
 use std::rt::{Env, Files};
@@ -118,6 +118,14 @@ fn open_book<R: AllocGlobal + Eprint + Files<File = File>>(rt: &R, path: &str) -
     disk
 }
 
+// Whether there was no memory to open the file of a book.
+fn lacks_memory(disk: &FileDisk) -> bool {
+    match disk.open_error() {
+        Some(OpenError::System(error)) => error.kind() == ErrorKind::OutOfMemory,
+        _ => false,
+    }
+}
+
 // The lanes that the words ask for, over the files of their folder.
 fn open_lanes<'a>(
     rt: &'a HostRuntime,
@@ -196,6 +204,9 @@ fn over_book<
 {
     if let Some(path) = &wanted.book {
         let disk = open_book(rt, path.as_str());
+        if lacks_memory(&disk) {
+            return end_without_memory(rt.alloc(), output);
+        }
         return run(rt, words, input, output, disk, lanes, doors);
     }
     match memory_disk(rt.alloc(), wanted.limit) {
