@@ -1,12 +1,8 @@
-// The end of a response that tells a row, by the number of the row.
-const TOLD: [&str; 14] = [
-    "",
-    "",
-    "",
-    "",
-    "",
-    "",
-    "",
+// The number of the first row that an act can get.
+const FIRST_ROW: usize = 7;
+
+// The end of a response that tells a row, from that one on.
+const TOLD: [&str; 7] = [
     "\r\n\r\n{\"row\":7}",
     "\r\n\r\n{\"row\":8}",
     "\r\n\r\n{\"row\":9}",
@@ -31,8 +27,8 @@ const ASKED: [(usize, usize); 6] = [(0, 3), (0, 3), (1, 0), (1, 0), (2, 1), (2, 
 fn is_right(response: &str, row: Option<usize>, before: Option<usize>) -> bool {
     match row {
         Some(row) => {
-            response.starts_with("200 OK\r\n")
-                && response.ends_with(TOLD.get(row).copied().unwrap_or("none"))
+            let told = TOLD.get(row.wrapping_sub(FIRST_ROW)).copied();
+            response.starts_with("200 OK\r\n") && response.ends_with(told.unwrap_or("none"))
         }
         None => {
             before.is_none() && response.starts_with("409 Conflict\r\n") && response.ends_with(GAP)

@@ -74,6 +74,11 @@ fn is_front(printed: &[u8], told: (&[u8], &[u8])) -> bool {
     }
 }
 
+// What was printed before the line that says that the disk failed, where it ends so.
+fn before_fault(printed: &[u8]) -> &[u8] {
+    printed.strip_suffix(b"disk fault\n").unwrap_or(printed)
+}
+
 // How many of the four answers there are in what was printed.
 fn answers_in(printed: &[u8]) -> usize {
     let mut lines = 0usize;
@@ -162,10 +167,8 @@ fn run_day(
     let bytes = Vec::from_slice(alloc, &found.bytes)?;
     let disk = MemoryDisk::new(alloc, bytes, vec![in alloc; call]?);
     let end = run(alloc, DAY, disk, &mut output)?;
-    let (printed, failed) = match output.bytes().strip_suffix(b"disk fault\n") {
-        Some(printed) => (printed, true),
-        None => (output.bytes(), false),
-    };
+    let printed = before_fault(output.bytes());
+    let failed = printed.len() < output.bytes().len();
     let status = if failed { 6 } else { 0 };
     assert!(rt; end.status == status && is_right(&end, printed, found.rows, whole));
     push_left(alloc, left, &end.disk, rows_after(&end, found.rows))?;
