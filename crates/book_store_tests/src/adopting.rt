@@ -39,39 +39,44 @@ fn unlawful(entries: &[Entry; 20]) -> [Entry; 5] {
     ]
 }
 
+const REFUSED: (Told, bool) = (Told::Refused, false);
+
 // Mounting makes four calls and each act four.
 #[test]
 fn what_is_not_lawful_touches_no_disk(rt: HostRuntime) -> Result<(), Fail> {
     let alloc = rt.alloc();
     let entries = long_run()?;
     for entry in &unlawful(&entries) {
-        let (lines, disk) = act_on(alloc, &[], &entries, true, &[*entry, *entry])?;
-        assert!(rt; lines == Some([(Told::Refused, false); 2]) && calls_of(&disk) == 24);
+        let (lines, disk) = act_on(alloc, &[], &entries, true, &[*entry; 3])?;
+        assert!(rt; lines == Some([REFUSED; 3]) && calls_of(&disk) == 24);
         check_held(&rt, alloc, &disk, &entries, 5)?;
     }
     Ok(())
 }
 
-const ADDED: Told = Told::Row(6, None);
+const ADDED: (Told, bool) = (Told::Row(6, None), false);
 
-// Which calls fail, and what adopting the sixth entry twice is told, and whether an entry hangs
-// then. The sixth row is written by the calls 25 to 28. Behind itself it isn't lawful, since it
-// says nothing of the gate.
-const TWICE: [(&[u32], Lines); 5] = [
-    (&[], [(ADDED, false), (Told::Refused, false)]),
-    (&[25], [(Told::DiskFault, false), (ADDED, false)]),
-    (&[26], [(Told::DiskFault, false), (ADDED, false)]),
-    (&[27], [(Told::DiskFault, true), (ADDED, false)]),
-    (&[28], [(Told::DiskFault, true), (ADDED, false)]),
+const FAILED: (Told, bool) = (Told::DiskFault, false);
+
+const HANGS: (Told, bool) = (Told::DiskFault, true);
+
+// Which calls fail, and what adopting the sixth entry three times is told, and whether an entry
+// hangs then. The sixth row is written by the calls 25 to 28. Behind itself it isn't lawful, since
+// it says nothing of the gate.
+const ADOPTIONS: [(&[u32], Lines); 5] = [
+    (&[], [ADDED, REFUSED, REFUSED]),
+    (&[25], [FAILED, ADDED, REFUSED]),
+    (&[26], [FAILED, ADDED, REFUSED]),
+    (&[27], [HANGS, ADDED, REFUSED]),
+    (&[28], [HANGS, ADDED, REFUSED]),
 ];
 
 #[test]
 fn an_entry_is_adopted_once(rt: HostRuntime) -> Result<(), Fail> {
     let alloc = rt.alloc();
     let entries = long_run()?;
-    for (fails, wanted) in &TWICE {
-        let twice = [entries[5], entries[5]];
-        let (lines, disk) = act_on(alloc, fails, &entries, true, &twice)?;
+    for (fails, wanted) in &ADOPTIONS {
+        let (lines, disk) = act_on(alloc, fails, &entries, true, &[entries[5]; 3])?;
         assert!(rt; lines == Some(*wanted));
         check_held(&rt, alloc, &disk, &entries, 6)?;
     }

@@ -87,8 +87,8 @@ pub(crate) struct Seen {
     pub(crate) why: Option<MountError>,
 }
 
-/// What two acts are told behind five rows, and whether an entry hangs then.
-pub(crate) type Lines = [(Told, bool); 2];
+/// What three acts are told behind five rows, and whether an entry hangs then.
+pub(crate) type Lines = [(Told, bool); 3];
 
 /// A book on a disk, and how often the disk failed.
 #[derive(Drop)]
@@ -220,13 +220,18 @@ impl<D: Disk> TestStore<D> {
         }
     }
 
-    // Asks two acts behind five rows, or adopts two entries.
-    fn act_twice(&mut self, entries: &[Entry], adopts: bool, acts: &[Entry; 2]) -> Lines {
+    // Asks an act or adopts an entry, and tells whether an entry hangs then.
+    fn act_and_look(&mut self, entry: &Entry, adopts: bool) -> (Told, bool) {
+        let told = self.act(entry, adopts);
+        (told, self.store.hanging())
+    }
+
+    // Asks three acts behind five rows, or adopts three entries.
+    fn act_in_turn(&mut self, entries: &[Entry], adopts: bool, acts: &[Entry; 3]) -> Lines {
         self.go(entries, FIVE);
-        let told = self.act(&acts[0], adopts);
-        let hangs = self.store.hanging();
-        let then = self.act(&acts[1], adopts);
-        [(told, hangs), (then, self.store.hanging())]
+        let first = self.act_and_look(&acts[0], adopts);
+        let second = self.act_and_look(&acts[1], adopts);
+        [first, second, self.act_and_look(&acts[2], adopts)]
     }
 }
 
@@ -285,27 +290,27 @@ pub(crate) fn use_bytes(
     use_disk(alloc, disk, entries, way)
 }
 
-// Asks two acts behind five rows, or adopts two entries, and gives the disk.
+// Asks three acts behind five rows, or adopts three entries, and gives the disk.
 fn act_and_close<D: Disk>(
     store: TestStore<D>,
     entries: &[Entry],
     adopts: bool,
-    acts: &[Entry; 2],
+    acts: &[Entry; 3],
 ) -> (Lines, D) {
     let mut store = store;
-    let lines = store.act_twice(entries, adopts, acts);
+    let lines = store.act_in_turn(entries, adopts, acts);
     let (disk, _) = store.store.close();
     (lines, disk)
 }
 
-/// Asks two acts behind five rows, or adopts two entries, on a disk of which these calls fail. The
-/// book may have six rows, and where it adopts five.
+/// Asks three acts behind five rows, or adopts three entries, on a disk of which these calls fail.
+/// The book may have six rows, and where it adopts five.
 pub(crate) fn act_on(
     alloc: Global,
     fails: &[u32],
     entries: &[Entry],
     adopts: bool,
-    acts: &[Entry; 2],
+    acts: &[Entry; 3],
 ) -> Result<(Option<Lines>, MemoryDisk), AllocError> {
     let disk = MemoryDisk::new(alloc, Vec::new(alloc), Vec::from_slice(alloc, fails)?);
     let limit = if adopts { 5 } else { 6 };

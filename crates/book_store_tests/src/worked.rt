@@ -1,5 +1,5 @@
 use crate::books::{long_run, weighed};
-use crate::stores::{FIVE, LOOK, Lines, Told, Used, Way, act_on, calls_of, use_bytes};
+use crate::stores::{FIVE, LOOK, Lines, Told, Used, Way, act_on, calls_of, check_held, use_bytes};
 use book_words::{Entry, Prior};
 use disk_core::MemoryDisk;
 use pack_judge::Signal;
@@ -14,55 +14,42 @@ const FIVE_KEPT: Way = Way {
     ..FIVE
 };
 
-const PASSED: Told = Told::Row(6, Some(Signal::Pass));
+const FULL: (Told, bool) = (Told::Refused, false);
 
-// Which calls fail, and what the sixth act and another in its place are told, and whether an entry
-// hangs then. Mounting makes four calls and each act four, so that the calls 25 to 28 are those of
-// the sixth act. Where it hangs, the next two close its gate.
+const HANGS: (Told, bool) = (Told::DiskFault, true);
+
+const FAILED: (Told, bool) = (Told::DiskFault, false);
+
+const PASSED: (Told, bool) = (Told::Row(6, Some(Signal::Pass)), false);
+
+// Which calls fail, and what the sixth act, another in its place and this one again are told, and
+// whether an entry hangs then. Mounting makes four calls and each act four, so that the calls 25 to
+// 28 are those of the sixth act. Where it hangs, the next two close its gate.
 const HANGING: [(&[u32], Lines); 10] = [
-    (&[25], [(Told::DiskFault, false), (PASSED, false)]),
-    (&[26], [(Told::DiskFault, false), (PASSED, false)]),
-    (&[27], [(Told::DiskFault, true), (PASSED, false)]),
-    (&[28], [(Told::DiskFault, true), (PASSED, false)]),
-    (
-        &[28, 29],
-        [(Told::DiskFault, true), (Told::DiskFault, true)],
-    ),
-    (
-        &[28, 30],
-        [(Told::DiskFault, true), (Told::DiskFault, true)],
-    ),
-    (
-        &[28, 31],
-        [(Told::DiskFault, true), (Told::DiskFault, false)],
-    ),
-    (
-        &[28, 32],
-        [(Told::DiskFault, true), (Told::DiskFault, false)],
-    ),
-    (
-        &[28, 33],
-        [(Told::DiskFault, true), (Told::DiskFault, true)],
-    ),
-    (
-        &[28, 34],
-        [(Told::DiskFault, true), (Told::DiskFault, true)],
-    ),
+    (&[25], [FAILED, PASSED, FULL]),
+    (&[26], [FAILED, PASSED, FULL]),
+    (&[27], [HANGS, PASSED, FULL]),
+    (&[28], [HANGS, PASSED, FULL]),
+    (&[28, 29], [HANGS, HANGS, PASSED]),
+    (&[28, 30], [HANGS, HANGS, PASSED]),
+    (&[28, 31], [HANGS, FAILED, PASSED]),
+    (&[28, 32], [HANGS, FAILED, PASSED]),
+    (&[28, 33], [HANGS, HANGS, PASSED]),
+    (&[28, 34], [HANGS, HANGS, PASSED]),
 ];
 
-// Where the second act passed, the disk then has it as row 6.
+// The disk then has the other act as row 6.
 #[test]
 fn another_act_behind_one_that_hangs(rt: HostRuntime) -> Result<(), Fail> {
     let alloc = rt.alloc();
     let entries = long_run()?;
-    let second = weighed(255_000, Prior::Nothing, Signal::Pass);
-    let mut other = entries;
-    other[5] = second;
+    let other = weighed(255_000, Prior::Nothing, Signal::Pass);
+    let mut rows = entries;
+    rows[5] = other;
     for (fails, wanted) in &HANGING {
-        let (lines, disk) = act_on(alloc, fails, &entries, false, &[entries[5], second])?;
+        let (lines, disk) = act_on(alloc, fails, &entries, false, &[entries[5], other, other])?;
         assert!(rt; lines == Some(*wanted));
-        let seen = use_bytes(alloc, Vec::from_slice(alloc, disk.bytes())?, &other, LOOK).seen;
-        assert!(rt; wanted[1].0 != PASSED || (seen.right && seen.held == 6));
+        check_held(&rt, alloc, &disk, &rows, 6)?;
     }
     Ok(())
 }
