@@ -108,20 +108,16 @@ fn begin<
     A: Ledger + Send + Sync,
     B: Ledger + Send + Sync,
     R: Threads + Wait + Sync,
->(
-    rt: &R,
-    alloc: Global,
-    store: Store<D>,
-    ends: Vec<PassEnd<A, B>>,
-    rows: Blank,
-    faults: Blank,
-) -> Option<Held<D>>
+>(rt: &R, alloc: Global, store: Store<D>, rows: Blank, faults: Blank) -> Option<Held<D>>
     requires sound { IsSound D.Disk store }
     requires calm { ¬ Hangs store }
-    requires room { (ends.items ≡ []) × (2 ≤ vec_capacity ends) }
     requires rows { (rows.name ≡ A.name) × (rows.parts ≡ A.parts) × (rows.parts ≡ 3) }
     requires faults { (faults.name ≡ B.name) × (faults.parts ≡ B.parts) × (faults.parts ≡ 3) }
 {
+    let Ok(ends) = Vec::with_capacity(alloc, 2) else {
+        let _ = store.close();
+        return None;
+    };
     let Ok((turn, mut seat)) = Turn::<Entry, A, B>::begin(alloc, store.len(), rows, faults) else {
         let _ = store.close();
         return None;
@@ -152,13 +148,12 @@ fn count_own(rows: &[Entry], by: u16) -> u16 {
 type Outcome = ((u32, u32), (u16, u16), usize, u64);
 
 fn outcome<R: Threads + Wait + Sync>(rt: &R, alloc: Global) -> Result<Option<Outcome>, AllocError> {
-    let ends = Vec::with_capacity(alloc, 2)?;
     let disk = QuietDisk::new(Vec::with_capacity(alloc, 1_000_000)?);
     let Ok(store) = Store::mount(alloc, disk, 10_000) else {
         return Ok(None);
     };
     let (rows, faults) = (Blank::new(3), Blank::new(3));
-    let held = begin::<QuietDisk, Brand, Brand, R>(rt, alloc, store, ends, rows, faults);
+    let held = begin::<QuietDisk, Brand, Brand, R>(rt, alloc, store, rows, faults);
     let Some(
         Held {
             store,

@@ -6,5 +6,5 @@ use Rattle.shared_book_tests.proofs.sessions.ask_at_once.Goals as goal
 
 pub join-requires-send-F : goal.join-requires-send-F
 join-requires-send-F g c κs =
-    λ _. search (shared_sync, seat.the_send, heap.sync, heap.crosses, sendable) depth 60 fits 20000
+    λ _. search (shared_sync, seat.the_send, heap.crosses, sendable) depth 60 fits 20000
     steps 20000000
