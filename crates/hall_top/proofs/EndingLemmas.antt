@@ -209,13 +209,13 @@ migrated_goes g before now rows old new Spent stop ends goes = subst (λ
 -- ---- the status
 
 -- a status of lanes and doors
-data IsEarly : Option ℕ → Type 0 where
+pub data IsEarly : Option ℕ → Type 0 where
   None_is : IsEarly None
   Lane_is : IsEarly (Some 10)
   Door_is : IsEarly (Some 11)
   Spent_is : IsEarly (Some 12)
 
-is_early_status : (ends : List LaneEnd) (doors : List DoorEnd) → IsEarly (early_status ends doors)
+pub is_early_status : (ends : List LaneEnd) (doors : List DoorEnd) → IsEarly (early_status ends doors)
 is_early_status ends doors =
     by_tests (list_any is_early ends) (list_any is_cut doors) (are_spent ends doors)
   where

@@ -1,4 +1,5 @@
 pub mod CallEnds
+pub mod DoneLemmas
 pub mod EndingLemmas
 pub mod OpenedBooks
 pub mod RequestOrder

@@ -31,6 +31,7 @@ use Rattle.serve_run.specs.Keeping.{ServeGoes}
 use Rattle.serve_run.specs.Serving.{moment, ExplainsServe, CountsServe}
 use Rattle.hall_top.specs.declared.ended.Ended.{Ended}
 use Rattle.hall_top.specs.Serving.{handed_of, KeepsAll, KeepsServed, IsServed, ServeDone}
+use Rattle.hall_top.proofs.DoneLemmas.{serve_done}
 use Rattle.hall_top.proofs.OpenedBooks.{front_of, keeps_rows}
 
 module _ {D : Type 0} (g : disk.Ghosts D) where
@@ -173,4 +174,8 @@ module _ {D : Type 0} (g : disk.Ghosts D) where
         snapshot = serve_snapshot store done.left ended.disk ended.held ended.rows done.stop
             (count ∙ sym done.held) done.goes done.disk_left done.rows;
         last = done.last;
+        done = serve_done lane_at door_at (stored_book store)
+            (moment input output (g.faults (disk_of store)) handed)
+            (moment input_now done.said (g.faults (disk_of done.left)) (handed_of ended))
+            (entries_of done.left) done.stop now ended.status done.explained done.last;
       }

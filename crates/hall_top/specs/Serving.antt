@@ -1,5 +1,5 @@
 -- What a call that serves does: its disk, its plan, its lanes and doors, its last line.
-use Rattle.std.specs.Prelude.{◌≡◌, ◌⊎◌, ℕ, ◌≤◌, List, length, take, None}
+use Rattle.std.specs.Prelude.{◌≡◌, ◌⊎◌, ℕ, ◌≤◌, List, length, take, All, None}
 use Rattle.device_facts.specs.Count.{Rose}
 use Rattle.disk_core.specs.Disk.{WhereTold}
 use Rattle.disk_core.specs.declared.disk.Disk as disk
@@ -12,7 +12,11 @@ use Rattle.book_store.specs.Images.{HoldsBook}
 use Rattle.book_store.specs.Listing.{IsOpenedAs}
 use Rattle.book_store.specs.Resting.{HoldsSnapshotOf}
 use Rattle.book_store.specs.Stores.{disk_of, entries_of}
+use Rattle.lane_worker.specs.declared.ending.LaneEnd.{LaneEnd}
+use Rattle.lane_worker.specs.declared.ending.LaneStop.TheVariants as lane
 use Rattle.lane_worker.specs.Works as lanes
+use Rattle.office_door.specs.declared.ending.DoorEnd.{DoorEnd}
+use Rattle.office_door.specs.declared.ending.DoorStop.TheVariants as door
 use Rattle.office_door.specs.Doors as doors
 use Rattle.session_laws.specs.Sessions.{HoldsOrOneMore, LeavesFrom}
 use Rattle.text_streams.specs.Streams.{Stream}
@@ -63,9 +67,16 @@ KeepsServed disk held before now opened book (Early stop) =
 KeepsServed disk held before now opened book (Ran stop) =
     KeepsAll disk held before now opened book.entries
 
+-- lanes came to the end of their cells, and doors to that of their connections, none of which a
+-- fault of the link ended
+pub record AreDone (lane_ends : List LaneEnd) (door_ends : List DoorEnd) : Type 0 where
+  pub lanes : All (λ (end : LaneEnd). end.stop ≡ lane.Done) lane_ends
+  pub doors : All (λ (end : DoorEnd). end.stop ≡ door.Done) door_ends
+  pub links : All (λ (end : DoorEnd). end.links ≡ 0) door_ends
+
 -- The disk was opened as a book, the serve stopped in one of its ways over the book as it was
 -- opened, and then came the last line. A serve that is done and added rows leaves a snapshot of all
--- rows.
+-- rows. At status 0 its jobs ran, and all lanes and doors are done.
 pub record IsServed {D L O : Type 0} (disk : disk.Ghosts D) (lane_at : Known → L → lanes.Site)
     (door_at : Known → O → doors.Site) (limit : ℕ) (before : D) (start : Moment L O)
     (input output : Stream) (ended : Ended D L O) : Type 0 where
@@ -86,6 +97,8 @@ pub record IsServed {D L O : Type 0} (disk : disk.Ghosts D) (lane_at : Known →
       → HoldsSnapshotOf disk ended.rows ended.disk
   pub last : SaysLast (Served stop) (all_said ended.lane_ends) ended.door_ends said output
       ended.status
+  pub done : ended.status ≡ 0
+      → (stop ≡ Ran Finished) × AreDone ended.lane_ends ended.door_ends
 
 -- A serve was done over a store: it stopped in one of its ways, the disk and the rows are those of
 -- the store that it left, and then came the last line.

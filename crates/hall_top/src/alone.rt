@@ -6,7 +6,6 @@ ghost use Rattle.book_words.specs.Soundness.{IsSound as IsSoundBook};
 ghost use Rattle.book_store.specs.Stores.{entries_of, held_of, IsSound};
 ghost use Rattle.command_line.specs.Words.{Wanted, bytes_of};
 ghost use Rattle.command_line.specs.Taken.{IsInRange, seen};
-ghost use Rattle.office_door.specs.declared.ending.DoorEnd.{DoorEnd};
 ghost use Rattle.store_runs.specs.Books.{stored_book};
 ghost use Rattle.script_run.specs.Outside.{call, outside_at, nothing_told, all_said};
 ghost use Rattle.store_runs.specs.Runs.{RunGoes};
