@@ -12,11 +12,10 @@ import select
 import time
 
 from clients import Gone, Link, need, spell_grams
+from refusals import LONGEST
 
-# Seconds for which nothing comes before it is looked whether the hall sleeps; and for which it may
-# run.
+# Seconds for which nothing comes before it is looked whether the hall sleeps.
 QUIET = 0.2
-LONGEST = 60
 
 IN_VAIN = b"in vain\n"
 
@@ -88,7 +87,9 @@ class Meeting:
 
     def connect(self):
         """The connection to the door, as soon as it listens; none where the hall ends before."""
+        until = time.monotonic() + LONGEST
         while not self.link and not self.hall.ended():
+            need(time.monotonic() < until, f"the door doesn't listen within {LONGEST} s")
             try:
                 self.link = Link(self.hall.ports[0])
             except OSError:

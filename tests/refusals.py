@@ -33,7 +33,6 @@ class Told(NamedTuple):
 
     calls: tuple
     refused: int
-    size: int
     most: int
 
 
@@ -60,8 +59,8 @@ class Place:
 
     def told(self):
         with open(f"{self.folder}/told", "rb") as told:
-            *calls, refused, size, most = struct.unpack("6Q", told.read(48))
-        return Told(tuple(calls), refused, size, most)
+            *calls, refused, most = struct.unpack("5Q", told.read(40))
+        return Told(tuple(calls), refused, most)
 
     def run(self, *words, script="", env=None):
         """The status of a command over the book, and what it printed."""

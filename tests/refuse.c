@@ -24,7 +24,6 @@ enum kind { PROGRAM, LIBRARY, THREAD, KINDS };
 struct told {
     atomic_ulong calls[KINDS]; /* how many came of each kind */
     atomic_ulong refused;      /* how many of them were refused */
-    atomic_ulong size;         /* the bytes that were asked for there at last */
     atomic_ulong most;         /* the most bytes that a call of the program asked for */
 };
 
@@ -90,7 +89,6 @@ static int refuses(enum kind of, size_t size)
         ;
     if ((int)of != kind || number == 0 || call < number || call >= number + count)
         return 0;
-    atomic_store(&told->size, size);
     atomic_fetch_add(&told->refused, 1);
     errno = ENOMEM;
     return 1;

@@ -213,8 +213,8 @@ class ServedDay:
         lines += self.desk_lines
         status, said = place.run("run", script="".join(f"{line}\n" for line in lines))
         end = said.rpartition("rows ")[2]
-        rows, piles = self.summary.split("\n", 1)
-        whole = f"{int(rows.split()[1]) + 2 * again}\n{piles}"
+        count, piles = self.summary.split("\n", 1)
+        whole = f"{int(count.split()[1]) + 2 * again}\n{piles}"
         need((status, end) == (0, whole), f"the rest ends with {status}: {said}")
 
 

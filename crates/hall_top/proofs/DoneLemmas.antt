@@ -33,7 +33,7 @@ use Rattle.serve_run.specs.Jobs.{lane_end_of}
 use Rattle.serve_run.specs.Serving.{ExplainsServe, HasRunPlan, IsStoppedEarly, Moment, door_lacks, lane_lacks}
 use Rattle.hall_top.specs.declared.ending.Ending.TheVariants.{Served}
 use Rattle.hall_top.specs.Endings.{early_status, is_cut, is_cut_stop, is_early, is_early_stop, is_full, is_full_stop, is_spent, is_spent_stop, status_of_serve, SaysLast}
-use Rattle.hall_top.specs.Serving.{AreDone}
+use Rattle.hall_top.specs.Serving.{AllEndDone}
 use Rattle.hall_top.proofs.EndingLemmas.{IsEarly, None_is, Lane_is, Door_is, Spent_is, is_early_status}
 
 no : {A : Type 0} → true ≡ false → A
@@ -41,7 +41,7 @@ no clash = absurd (cc)
 
 -- ---- lanes and doors that have no status of their own
 
--- none of a list passes a test that nothing of it passes
+-- where no item of a list passes a test, the test is false of each
 none_passes : {X : Type 0} (test : X → Bool) (xs : List X) → list_any test xs ≡ false
     → All (λ (x : X). test x ≡ false) xs
 none_passes test [] none = All-nil (λ x. test x ≡ false)
@@ -79,7 +79,7 @@ are_done : (lanes : List LaneEnd) (doors : List DoorEnd)
     → list_any (λ (end : LaneEnd). lane_lacks end.stop) lanes ≡ false → All IsCalm lanes
     → list_any is_cut doors ≡ false → list_any is_full doors ≡ false
     → list_any (λ (end : DoorEnd). door_lacks end.stop) doors ≡ false
-    → AreDone lanes doors
+    → AllEndDone lanes doors
 are_done lanes doors early spent lack calm cut full lacking =
     let none_early = none_passes is_early lanes early in
     let none_spent = none_passes is_spent lanes spent in
@@ -95,17 +95,17 @@ are_done lanes doors early spent lack calm cut full lacking =
       links = λ k d less. no_links _ (or_parts _ _ (none_cut k d less)).1;
     }
 
--- where they have none, none of them is so
+-- without such a status no test holds
 abbrev by_tests : (early cut spent : Bool) → Option ℕ
 by_tests early cut spent =
     if early then Some 10 else (if cut then Some 11 else (if spent then Some 12 else None))
 
-none_early : (early cut spent : Bool) → by_tests early cut spent ≡ None
+no_test_holds : (early cut spent : Bool) → by_tests early cut spent ≡ None
     → (early ≡ false) × (cut ≡ false) × (spent ≡ false)
-none_early true cut spent is = absurd (cc)
-none_early false true spent is = absurd (cc)
-none_early false false true is = absurd (cc)
-none_early false false false is = (refl, refl, refl)
+no_test_holds true cut spent is = absurd (cc)
+no_test_holds false true spent is = absurd (cc)
+no_test_holds false false true is = absurd (cc)
+no_test_holds false false false is = (refl, refl, refl)
 
 -- ---- lanes whose asks never failed
 
@@ -143,12 +143,12 @@ module _ {L O : Type 0} (lane_at : Known → L → lanes.Site) (door_at : Known 
   finished : (book : BookState) (before now : Moment L O) (rows : List Entry)
       → HasRunPlan lane_at door_at book before now rows jobs.Finished
       → early_status now.handed.lane_ends now.handed.door_ends ≡ None
-      → AreDone now.handed.lane_ends now.handed.door_ends
+      → AllEndDone now.handed.lane_ends now.handed.door_ends
   finished book before now rows ran none =
       let history = ran.history in
       let lanes = now.handed.lane_ends in
       let doors = now.handed.door_ends in
-      let early = none_early (list_any is_early lanes) (list_any is_cut doors) _ none in
+      let early = no_test_holds (list_any is_early lanes) (list_any is_cut doors) _ none in
       let spent = or_parts (list_any is_full doors) (list_any is_spent lanes) early.2 in
       let lack = or_parts (list_any (λ (end : LaneEnd). lane_lacks end.stop) lanes)
       (list_any (λ (end : DoorEnd). door_lacks end.stop) doors) ran.says.2 in
@@ -218,7 +218,7 @@ pub serve_done : {L O : Type 0} (lane_at : Known → L → lanes.Site)
     → ExplainsServe lane_at door_at book before now rows stop
     → SaysLast (Served stop) (all_said now.handed.lane_ends) now.handed.door_ends now.output output
     status → status ≡ 0
-    → (stop ≡ serve.Ran jobs.Finished) × AreDone now.handed.lane_ends now.handed.door_ends
+    → (stop ≡ serve.Ran jobs.Finished) × AllEndDone now.handed.lane_ends now.handed.door_ends
 serve_done lane_at door_at book before now rows stop output status explained last none =
     by_stop (has_none stop early (is_early_status now.handed.lane_ends now.handed.door_ends)
     (stop_status stop now.handed.lane_ends now.handed.door_ends now.output output status last none))
@@ -227,7 +227,7 @@ serve_done lane_at door_at book before now rows stop output status explained las
     early = early_status now.handed.lane_ends now.handed.door_ends
 
     by_stop : HasNone stop early
-        → (stop ≡ serve.Ran jobs.Finished) × AreDone now.handed.lane_ends now.handed.door_ends
+        → (stop ≡ serve.Ran jobs.Finished) × AllEndDone now.handed.lane_ends now.handed.door_ends
     by_stop (inl (is, none)) = (
       is,
       finished lane_at door_at book before now rows

@@ -215,7 +215,8 @@ pub data IsEarly : Option ℕ → Type 0 where
   Door_is : IsEarly (Some 11)
   Spent_is : IsEarly (Some 12)
 
-pub is_early_status : (ends : List LaneEnd) (doors : List DoorEnd) → IsEarly (early_status ends doors)
+pub is_early_status : (ends : List LaneEnd) (doors : List DoorEnd)
+    → IsEarly (early_status ends doors)
 is_early_status ends doors =
     by_tests (list_any is_early ends) (list_any is_cut doors) (are_spent ends doors)
   where

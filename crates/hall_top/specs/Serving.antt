@@ -69,7 +69,7 @@ KeepsServed disk held before now opened book (Ran stop) =
 
 -- lanes came to the end of their cells, and doors to that of their connections, none of which a
 -- fault of the link ended
-pub record AreDone (lane_ends : List LaneEnd) (door_ends : List DoorEnd) : Type 0 where
+pub record AllEndDone (lane_ends : List LaneEnd) (door_ends : List DoorEnd) : Type 0 where
   pub lanes : All (λ (end : LaneEnd). end.stop ≡ lane.Done) lane_ends
   pub doors : All (λ (end : DoorEnd). end.stop ≡ door.Done) door_ends
   pub links : All (λ (end : DoorEnd). end.links ≡ 0) door_ends
@@ -98,7 +98,7 @@ pub record IsServed {D L O : Type 0} (disk : disk.Ghosts D) (lane_at : Known →
   pub last : SaysLast (Served stop) (all_said ended.lane_ends) ended.door_ends said output
       ended.status
   pub done : ended.status ≡ 0
-      → (stop ≡ Ran Finished) × AreDone ended.lane_ends ended.door_ends
+      → (stop ≡ Ran Finished) × AllEndDone ended.lane_ends ended.door_ends
 
 -- A serve was done over a store: it stopped in one of its ways, the disk and the rows are those of
 -- the store that it left, and then came the last line.

@@ -10,7 +10,10 @@ pub const PACKS: u32 = 1_000;
 pub const REQUESTS: u32 = 1_000;
 
 /// How many rows the setup of sixteen lanes leaves: a day, a product, a tare, and a batch a lane.
-pub const SETUP_ROWS: u32 = 19;
+pub const SETUP_ROWS: usize = 19;
+
+// The place of the act behind all packs of a lane.
+const STOP: u32 = PACKS + 1;
 
 // From the number that the first door's rows bear, 17, to its desk, 101, and so on for the others.
 const TO_DESK: u16 = 84;
@@ -20,8 +23,8 @@ fn is_light(lane: u8, pack: u32) -> bool {
     pack.saturating_add(u32::from(lane)) % 10 == 0
 }
 
-/// The gross of a pack of a lane, in mg; each comes once. Of 250 g with 10 g of tare a pack passes
-/// from 251 g on, and below 242 g it is inadequate.
+/// The gross of a pack of a lane, in mg; each comes once. Of 250 g with 10 g of tare a pack is
+/// standard from 251 g on, and inadequate below 242 g.
 pub fn gross(lane: u8, pack: u32) -> i64 {
     let least: i64 = if is_light(lane, pack) {
         200_000
@@ -51,7 +54,7 @@ fn lane_act(lane: u8, place: u32) -> Option<Act> {
             gross: gross(lane, place),
             prior,
         }),
-        1_001 => Some(Act::StopLane { lane, prior }),
+        STOP => Some(Act::StopLane { lane, prior }),
         _ => None,
     }
 }

@@ -66,11 +66,11 @@ const ALL: Callers = Callers {
 // The setup, 1 002 acts of each lane and 1 000 of each door.
 const ALL_ROWS: usize = 32_051;
 
-// Whether this is the next entry of its caller, behind so many others of its own. The setup is by
-// nobody, and stands first.
-fn is_next(entry: &Entry, place: u32) -> bool {
+// Whether the entry of a row, from 0, is the next of its caller, behind so many others of its own.
+// The setup is by nobody, and stands first.
+fn is_next(entry: &Entry, row: usize, place: u32) -> bool {
     if entry.by == 0 {
-        place < SETUP_ROWS
+        row < SETUP_ROWS
     } else {
         Some(*entry) == entry_of(entry.by, place)
     }
@@ -83,7 +83,7 @@ fn wrong_row(rows: &[Entry]) -> Option<usize> {
         let Some(count) = counts.get_mut(usize::from(entry.by)) else {
             return Some(row);
         };
-        if !is_next(entry, *count) {
+        if !is_next(entry, row, *count) {
             return Some(row);
         }
         *count = count.saturating_add(1);

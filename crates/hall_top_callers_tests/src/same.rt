@@ -2,6 +2,7 @@ use crate::acts::desk_act;
 use crate::devices::Meeting;
 use crate::halls::{Callers, MeetingEnd, serve};
 use book_words::Entry;
+use hall_limits::MAX_LANE;
 use hall_units::NoMemory;
 use std::alloc::Global;
 use std::sync::Wait;
@@ -22,7 +23,7 @@ const SIXTEEN: Callers = Callers {
     ..TWO
 };
 
-// The response to whom the act is told in its row.
+// The response that tells the row of the act.
 const RESPONSE: &[u8] = b"HTTP/1.1 200 OK\r\nContent-Type: application/json\r\n\
 Content-Length: 9\r\nBook-Row: 2\r\n\r\n{\"row\":2}";
 
@@ -31,7 +32,7 @@ const TIMES: u32 = 20;
 
 // Whether an entry is that of the request, brought by a door.
 fn is_act(entry: &Entry) -> bool {
-    entry.by > 16
+    entry.by > u16::from(MAX_LANE)
         && (entry.desk, entry.request) == (101, 1)
         && Some(entry.act) == desk_act(101, 1)
         && entry.signal.is_none()

@@ -17,7 +17,7 @@ fn push_act(to: &mut Vec<u8>, desk: u16, request: u32) -> Result<(), NoMemory> {
     push_bytes(to, b"\",\"nominal\":250000}")
 }
 
-/// Appends a request of a desk. The other list has room for its body.
+/// Appends a request of a desk. The other list is for its body.
 pub fn push_request(
     to: &mut Vec<u8>,
     body: &mut Vec<u8>,
@@ -33,7 +33,7 @@ pub fn push_request(
 }
 
 /// Appends the response to an act that stands in this row; `last` says that the connection ends
-/// behind it. The other list has room for its body.
+/// behind it. The other list is for its body.
 pub fn push_response(
     to: &mut Vec<u8>,
     body: &mut Vec<u8>,

@@ -1,5 +1,5 @@
-//! Tests of a hall whose disk fails while a lane weighs and a door answers, by the public calls of
-//! the program.
+//! Tests of a disk that fails twice: in a run and in the one behind it, and while a lane weighs and a
+//! door answers.
 #![tactic(auto)]
 
 #[cfg(test)]

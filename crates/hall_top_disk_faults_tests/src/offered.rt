@@ -19,7 +19,7 @@ pub struct Offered {
     pub desk: [Entry; 3],
 }
 
-fn by(by: u16, act: Act) -> Entry {
+fn entry_by(by: u16, act: Act) -> Entry {
     Entry {
         by,
         desk: 0,
@@ -57,19 +57,19 @@ fn by_lane(batch: Name) -> [Entry; 4] {
         prior: Prior::Nothing,
     };
     [
-        by(
+        entry_by(
             1,
             Act::StopLane {
                 lane,
                 prior: Prior::Nothing,
             },
         ),
-        by(1, Act::StartLane { lane, batch }),
+        entry_by(1, Act::StartLane { lane, batch }),
         Entry {
             signal: Some(Signal::Pass),
             ..by(1, weighed)
         },
-        by(
+        entry_by(
             1,
             Act::StopLane {
                 lane,
@@ -96,12 +96,12 @@ impl Offered {
         };
         Some(Offered {
             front: [
-                by(0, Act::NewDay { day: MARCH_3 }),
-                by(0, product(rice)),
-                by(0, tare),
-                by(0, open),
-                by(0, Act::StartLane { lane: 1, batch }),
-                by(0, Act::NewDay { day: MARCH_3 + 1 }),
+                entry_by(0, Act::NewDay { day: MARCH_3 }),
+                entry_by(0, product(rice)),
+                entry_by(0, tare),
+                entry_by(0, open),
+                entry_by(0, Act::StartLane { lane: 1, batch }),
+                entry_by(0, Act::NewDay { day: MARCH_3 + 1 }),
             ],
             lane: by_lane(batch),
             desk: [
