@@ -1,5 +1,5 @@
 -- Lemmas on a serve that ends with status 0.
-use Rattle.std.proofs.Common.{◌≡◌, ◌⊎◌, ℕ, ◌+◌, min, Bool, true, false, if◌then◌else◌, List, [], ◌∷◌, map, All, sum_by, nat_lt, Option, Some, None, inl, inr, refl, sym, ap, ◌∙◌, subst, length, arith}
+use Rattle.std.proofs.Common.{◌≡◌, ◌⊎◌, ℕ, ◌+◌, min, Bool, true, false, List, [], ◌∷◌, map, All, sum_by, nat_lt, Option, Some, None, inl, inr, refl, sym, ap, ◌∙◌, subst, length, arith}
 use Rattle.std.proofs.lemmas.Bool.Decides.{nat_tests}
 use Rattle.std.specs.List.{cons_option, filter_map, list_any}
 use Rattle.std.proofs.lemmas.Bool.{or_parts}
@@ -32,7 +32,7 @@ use Rattle.serve_run.specs.declared.stop.ServeStop.TheVariants as serve
 use Rattle.serve_run.specs.Jobs.{lane_end_of}
 use Rattle.serve_run.specs.Serving.{ExplainsServe, HasRunPlan, IsStoppedEarly, Moment, door_lacks, lane_lacks}
 use Rattle.hall_top.specs.declared.ending.Ending.TheVariants.{Served}
-use Rattle.hall_top.specs.Endings.{early_status, is_cut, is_cut_stop, is_early, is_early_stop, is_full, is_full_stop, is_spent, is_spent_stop, status_of_serve, SaysLast}
+use Rattle.hall_top.specs.Endings.{early_status, least_status, is_cut, is_cut_stop, is_early, is_early_stop, is_full, is_full_stop, is_spent, is_spent_stop, status_of_serve, SaysLast}
 use Rattle.hall_top.specs.Serving.{AllEndDone}
 use Rattle.hall_top.proofs.EndingLemmas.{IsEarly, None_is, Lane_is, Door_is, Spent_is, is_early_status}
 
@@ -96,11 +96,7 @@ are_done lanes doors early spent lack calm cut full lacking =
     }
 
 -- without such a status no test holds
-abbrev by_tests : (early cut spent : Bool) → Option ℕ
-by_tests early cut spent =
-    if early then Some 10 else (if cut then Some 11 else (if spent then Some 12 else None))
-
-no_test_holds : (early cut spent : Bool) → by_tests early cut spent ≡ None
+no_test_holds : (early cut spent : Bool) → least_status early cut spent ≡ None
     → (early ≡ false) × (cut ≡ false) × (spent ≡ false)
 no_test_holds true cut spent is = absurd (cc)
 no_test_holds false true spent is = absurd (cc)

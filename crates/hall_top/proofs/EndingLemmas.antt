@@ -1,5 +1,5 @@
 -- Lemmas on how a call ended, its last line and its status.
-use Rattle.std.proofs.Common.{◌≡◌, ◌⊎◌, ℕ, Bool, true, false, not, ◌&&◌, ◌==◌, if◌then◌else◌, List, length, min, Option, Some, None, Err, inl, inr, ⊎_elim, IsTrue, refl, sym, ◌∙◌, ap, subst}
+use Rattle.std.proofs.Common.{◌≡◌, ◌⊎◌, ℕ, Bool, true, false, not, ◌&&◌, ◌==◌, List, length, min, Option, Some, None, Err, inl, inr, ⊎_elim, IsTrue, refl, sym, ◌∙◌, ap, subst}
 use Rattle.std.specs.List.{list_any}
 use Rattle.std.proofs.lemmas.Bool.{and_parts}
 use Rattle.disk_core.specs.declared.disk.Disk as disk
@@ -27,7 +27,7 @@ use Rattle.report_run.specs.Printing.{SaysText}
 use Rattle.hall_top.specs.declared.ended.Outcome.{Outcome}
 use Rattle.hall_top.specs.declared.ending.Ending.{Ending}
 use Rattle.hall_top.specs.declared.ending.Ending.TheVariants.{Usage, Unopened, Stopped, Served}
-use Rattle.hall_top.specs.Endings.{early_status, is_early, is_cut, are_spent, status_of, status_of_stop, status_of_why, status_behind, status_of_jobs, status_of_serve, last_status, SaysLast, is_status}
+use Rattle.hall_top.specs.Endings.{early_status, least_status, is_early, is_cut, are_spent, status_of, status_of_stop, status_of_why, status_behind, status_of_jobs, status_of_serve, last_status, SaysLast, is_status}
 use Rattle.book_migration.specs.Migration.{ExplainsMigration}
 use Rattle.hall_top.specs.Calls.{ExplainsAs, ExplainsCommand, SaysWhole, input_of, CarriesJournal, SaysMigration, LanesRest, ExplainsCheck, ExplainsPrinting, IsImport, IsTrial, stream_call, SaysMigrate, ExplainsMigrate, EndsAs}
 
@@ -220,8 +220,7 @@ pub is_early_status : (ends : List LaneEnd) (doors : List DoorEnd)
 is_early_status ends doors =
     by_tests (list_any is_early ends) (list_any is_cut doors) (are_spent ends doors)
   where
-    by_tests : (early cut spent : Bool) → IsEarly (if early then Some 10
-        else (if cut then Some 11 else (if spent then Some 12 else None)))
+    by_tests : (early cut spent : Bool) → IsEarly (least_status early cut spent)
     by_tests true cut spent = Lane_is
     by_tests false true spent = Door_is
     by_tests false false true = Spent_is

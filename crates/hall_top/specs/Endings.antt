@@ -77,12 +77,16 @@ is_full end = is_full_stop end.stop
 abbrev pub are_spent : List LaneEnd → List DoorEnd → Bool
 are_spent lanes doors = list_any is_full doors || list_any is_spent lanes
 
+-- the least status of lanes that ended early, of doors that did, and of turns that were spent, by
+-- which of them there are
+abbrev pub least_status : Bool → Bool → Bool → Option ℕ
+least_status early cut spent =
+    if early then Some 10 else (if cut then Some 11 else (if spent then Some 12 else None))
+
 -- the status of lanes and doors that ended so, where they have one of their own
 abbrev pub early_status : List LaneEnd → List DoorEnd → Option ℕ
 early_status lanes doors =
-    if list_any is_early lanes then Some 10
-    else (if list_any is_cut doors then Some 11
-    else (if are_spent lanes doors then Some 12 else None))
+    least_status (list_any is_early lanes) (list_any is_cut doors) (are_spent lanes doors)
 
 -- the line of a command that stopped so, where lanes have this status: want of memory isn't said
 -- behind a lane that ended early
