@@ -67,7 +67,7 @@ fn by_lane(batch: Name) -> [Entry; 4] {
         entry_by(1, Act::StartLane { lane, batch }),
         Entry {
             signal: Some(Signal::Pass),
-            ..by(1, weighed)
+            ..entry_by(1, weighed)
         },
         entry_by(
             1,
