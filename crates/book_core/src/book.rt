@@ -15,9 +15,11 @@ use crate::pending::Pending;
 use crate::ready::Ready;
 use crate::rows::Rows;
 use crate::types::{BookError, NoMemory, ReplayError, Step};
-use book_rules::{desk_number, recorded_signal, refuse, repeated_row, reply_again, reply_new};
+use book_rules::{
+    desk_number, look, recorded_signal, refuse, repeated_row, reply_again, reply_new, summarize,
+    view_pack,
+};
 use book_state::{Drawn, State};
-use book_views::{look, summarize, view_pack};
 use book_words::{Act, Answered, Ask, Entry, PackView, Question, Refused, SummaryView, Want};
 use hall_limits::MAX_ROWS;
 use pack_judge::Signal;

@@ -7,7 +7,6 @@ use Rattle.std.specs.Option.{option_or, option_and_then, option_map_or, unwrap_o
 use Rattle.annex_tables.specs.declared.types.Mode.{Mode}
 use Rattle.annex_tables.specs.declared.types.Mode.TheVariants.{Keep, Destroy}
 use Rattle.annex_tables.specs.Errors.{limits_of}
-use Rattle.reference_test.specs.Contents.{contents_of}
 use Rattle.book_words.specs.declared.name.Name.{Name}
 use Rattle.book_words.specs.declared.act.BatchState.TheVariants.{Ended, Drawn, Closed}
 use Rattle.book_words.specs.declared.act.Act.{Act}
@@ -19,13 +18,11 @@ use Rattle.book_words.specs.declared.views.Verdict.TheVariants.{Empty}
 use Rattle.book_words.specs.Names.{same_name}
 use Rattle.book_words.specs.Acts.{last_said, state_set, product_of, state_of}
 use Rattle.book_words.specs.Readings.{readings, reading_of, is_of_batch, tare_of_reading, net_of_reading}
-use Rattle.reference_test.specs.declared.means.TheConstants.{UNIT_DENSITY}
 use Rattle.book_words.specs.Classes.{is_below, nominal_of_batch, limits_of_batch, density_of_batch}
 use Rattle.book_words.specs.Population.{is_counted, population, count_below, nonstandard_count, inadequate_count, net_sum}
 use Rattle.book_words.specs.Samples.{Drawing, Sample, numbers_of, drawing_from, drawing_of, second_word, sample_by, sample_of}
 use Rattle.book_words.specs.Measures.{Measured, measured_of, actual_contents, contents_of_pack, contents_among, defective_count}
-use Rattle.reference_test.specs.Means.{mean_accepts}
-use Rattle.book_words.specs.Verdicts.{second_packs, first_defective, second_defective, is_accepted, contents_check_accepts, mean_check_accepts, average_accepts, fails_of, verdict_by_fails, verdict_of}
+use Rattle.book_words.specs.Verdicts.{contents_of, UNIT_DENSITY, mean_accepts, second_packs, first_defective, second_defective, is_accepted, contents_check_accepts, mean_check_accepts, average_accepts, fails_of, verdict_by_fails, verdict_of}
 use Rattle.book_words.specs.Answers.{IsLawful, IsLegal}
 use Rattle.book_words.specs.Balance.{VerdictsStay}
 use Rattle.book_words.proofs.LastSaid.{last_said-push}

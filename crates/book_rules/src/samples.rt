@@ -7,8 +7,7 @@ ghost use Rattle.book_rules.specs.Counted.{counted_packs};
 
 use crate::checks::{batch_state, refuse_if};
 use annex_tables::Mode;
-use book_samples::Sample;
-use book_state::State;
+use book_state::{Sample, State};
 use book_views::{count_first, is_open};
 use book_words::{BatchState, Name, Refusal};
 use hall_limits::MAX_TARE;

@@ -14,6 +14,7 @@ mod types;
 mod weighed;
 
 pub use book_packs::AtWeighing;
+pub use book_samples::Sample;
 pub use drawn::Drawn;
 pub use state::State;
 pub use types::{KnownPack, NoMemory};

@@ -9,7 +9,7 @@ use Rattle.std.specs.List.{slice_get}
 use Rattle.hall_limits.specs.declared.TheConstants.{NAME_BYTES}
 use Rattle.book_words.specs.declared.act.Entry.{Entry}
 use Rattle.book_words.specs.Answers.{IsLegal}
-use Rattle.book_state.specs.Told.{entry_numbered}
+use Rattle.book_core.specs.View.{entry_numbered}
 use Rattle.book_snapshot.specs.declared.layout.TheConstants.{ROW_BYTES, KIND_PLACE, FIELDS_PLACE, LEFT_OUT}
 use Rattle.book_snapshot.specs.DenseRows.{dense, content}
 use Rattle.book_snapshot.proofs.EndZeros.{trimmed_no_longer}

@@ -16,7 +16,7 @@ pub struct Store<D: Disk> {
 impl<D: Disk> Store<D> {
     ghost use Rattle.std.specs.Prelude.{◌≡◌, ◌↔◌, ◌≤◌, IsTrue, length, OnOk};
     ghost use Rattle.book_words.specs.Soundness.{IsSound as IsSoundBook};
-    ghost use Rattle.book_state.specs.Told.{entry_numbered};
+    ghost use Rattle.book_core.specs.View.{entry_numbered};
     ghost use Rattle.book_store.specs.Stores.{disk_of, book_of, entries_of, limit_of, spare_of, held_of, Hangs, HasBook, HangsWith, IsSound};
     ghost use Rattle.book_words.specs.declared.act.Entry.{Entry as Entered};
 

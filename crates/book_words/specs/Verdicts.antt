@@ -4,9 +4,9 @@ use Rattle.std.specs.Option.{option_map_or, unwrap_or}
 use Rattle.annex_tables.specs.declared.types.Plan.{Plan}
 use Rattle.reference_test.specs.declared.types.Contents.{Contents}
 use Rattle.reference_test.specs.declared.types.Contents.TheVariants.{Accept}
-use Rattle.reference_test.specs.Contents.{contents_of}
-use Rattle.reference_test.specs.declared.means.TheConstants.{UNIT_DENSITY}
-use Rattle.reference_test.specs.Means.{mean_accepts}
+pub use Rattle.reference_test.specs.Contents.{contents_of}
+pub use Rattle.reference_test.specs.declared.means.TheConstants.{UNIT_DENSITY}
+pub use Rattle.reference_test.specs.Means.{mean_accepts}
 use Rattle.book_words.specs.declared.name.Name.{Name}
 use Rattle.book_words.specs.declared.act.Entry.{Entry}
 use Rattle.book_words.specs.declared.act.Reading.{Reading}

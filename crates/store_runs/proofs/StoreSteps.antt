@@ -9,7 +9,6 @@ use Rattle.book_words.specs.declared.caller.AskError.TheVariants as error
 use Rattle.book_words.specs.declared.reply.Answered.{Answered}
 use Rattle.book_words.specs.Answers.{IsLawful, added}
 use Rattle.book_words.specs.Callers.{faults_told}
-use Rattle.book_core.specs.View.{BookView}
 use Rattle.book_store.specs.declared.store.Store.{Store}
 use Rattle.book_store.specs.declared.types.AdoptError.{AdoptError}
 use Rattle.book_store.specs.declared.types.AdoptError.TheVariants as adopt
@@ -19,7 +18,7 @@ use Rattle.book_store.specs.Callers.{CallerView, IsReachedBy}
 use Rattle.book_store.specs.Kept.{KeepsOn}
 use Rattle.book_store.specs.Offers.{OffersEntry, LeavesDisk, list_behind, offered_behind, CountsDiskFault}
 use Rattle.book_store.specs.Resting.{HasNothingToKeep, HoldsOwnSnapshot}
-use Rattle.book_store.specs.Stores.{disk_of, book_of, entries_of, limit_of, held_of, Hangs, HasBook, ImagesHoldBook, KeepsBook}
+use Rattle.book_store.specs.Stores.{BookView, disk_of, book_of, entries_of, limit_of, held_of, Hangs, HasBook, ImagesHoldBook, KeepsBook}
 use Rattle.book_store.proofs.KeptLemmas.{same_begins, begins_on, begins_short, adopted_begins, kept_adopted, kept_rested, keeps_offered}
 use Rattle.store_runs.specs.declared.stop.Stop.{Stop}
 use Rattle.store_runs.specs.declared.stop.Stop.TheVariants.{Finished}

@@ -1,9 +1,8 @@
 -- A book as the runs over it see it.
 use Rattle.std.specs.Prelude.{ℕ, List}
 use Rattle.book_words.specs.declared.act.Entry.{Entry}
-use Rattle.book_core.specs.View.{BookView}
 use Rattle.book_store.specs.declared.store.Store.{Store}
-use Rattle.book_store.specs.Stores.{book_of}
+use Rattle.book_store.specs.Stores.{BookView, book_of}
 
 -- a book at one moment: the most rows that it may have, and its entries
 pub record BookState : Type 0 where
