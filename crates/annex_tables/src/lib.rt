@@ -9,6 +9,3 @@ mod types;
 pub use errors::{limits, tne};
 pub use plans::plan;
 pub use types::{Limits, Mode, NominalRange, Plan, PlanRefusal};
-
-#[cfg(test)]
-mod tests;

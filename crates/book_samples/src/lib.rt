@@ -10,6 +10,3 @@ mod types;
 pub use drawing::{draw_first, draw_second};
 pub use samples::Samples;
 pub use types::{Measured, Sample};
-
-#[cfg(test)]
-mod tests;

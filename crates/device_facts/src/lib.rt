@@ -3,7 +3,5 @@
 #![tactic(auto)]
 
 mod count;
-#[cfg(test)]
-mod tests;
 
 pub use count::counted_once_more;

@@ -15,8 +15,6 @@ mod file_disk;
 mod open_error;
 mod opening;
 mod read_at;
-#[cfg(test)]
-mod tests;
 mod transfer;
 
 pub use file_disk::FileDisk;

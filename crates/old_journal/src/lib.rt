@@ -9,6 +9,3 @@ mod types;
 
 pub use reader::{OldJournal, what_follows_leaves_rows};
 pub use types::OldPiece;
-
-#[cfg(test)]
-mod tests;

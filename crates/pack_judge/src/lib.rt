@@ -7,6 +7,3 @@ mod types;
 
 pub use judge::{class, signal};
 pub use types::{Cause, Class, Pile, Signal, Tally};
-
-#[cfg(test)]
-mod tests;

@@ -9,6 +9,3 @@ mod types;
 pub use contents::contents_check;
 pub use means::{UNIT_DENSITY, mean_check, mean_check_at};
 pub use types::{Contents, Sums};
-
-#[cfg(test)]
-mod tests;

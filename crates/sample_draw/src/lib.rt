@@ -7,6 +7,3 @@ mod word;
 
 pub use sample::{draw, draw_more};
 pub use types::{NoMemory, Picks};
-
-#[cfg(test)]
-mod tests;

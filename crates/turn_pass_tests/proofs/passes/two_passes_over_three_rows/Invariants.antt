@@ -1,4 +1,4 @@
-use Rattle.turn_pass_tests.proofs.tests.two_passes_over_three_rows.Given as goal
+use Rattle.turn_pass_tests.proofs.passes.two_passes_over_three_rows.Given as goal
 
 -- the two ledgers that were made here
 abbrev pub ghosts-the_row-L-Ledger : goal.ghosts-the_row-L-Ledger

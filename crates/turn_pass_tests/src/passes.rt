@@ -1,17 +1,10 @@
-//! The row of the pass by hand, and sessions on threads.
 ghost use Rattle.std.specs.Prelude.{◌≡◌, ◌+◌, ◌∷◌, [], IfOk};
 ghost use Rattle.turn_pass.specs.History.{appended, own};
 
-use crate::session::{Report, hold};
-use hall_limits::MAX_ROWS;
 use std::alloc::Global;
 use std::marker::Brand;
-use std::process::Abort;
-use std::sync::Wait;
 use std::sync::ledger::{Blank, Ledger};
-use std::test::*;
-use std::thread;
-use std::thread::Threads;
+use std::test::Fail;
 use turn_pass::{BookSeat, NoMemory, PassSeat, Turn};
 
 // What stands before the Turn is closed.
@@ -89,54 +82,6 @@ fn the_row<L: Ledger, M: Ledger>(
 #[test]
 fn two_passes_over_three_rows(rt: HostRuntime) -> Result<(), Fail> {
     let answers = the_row::<Brand, Brand>(rt.alloc(), Blank::new(3), Blank::new(3))?;
-    assert_eq!(rt; answers, (4, 5, (5, 0)));
-    Ok(())
-}
-
-fn session<R: Threads + Wait + Sync>(
-    rt: &R,
-    alloc: Global,
-    history: u32,
-    callers: u16,
-    asks: u32,
-) -> Result<Report, NoMemory> {
-    let parts = u64::from(callers) + 1;
-    let (rows, faults) = (Blank::new(parts), Blank::new(parts));
-    hold::<Brand, Brand, R>(rt, alloc, history, rows, faults, callers, asks)
-}
-
-// As many callers as processors, who ask 10 000 times each: of ten values in turn five are accepted
-// and one fails.
-#[test]
-fn callers_on_all_processors(rt: HostRuntime) -> Result<(), Fail> {
-    let callers = thread::available_parallelism(&rt)?.get().min(16) as u16;
-    let report = session(&rt, rt.alloc(), 7, callers, 10_000)?;
-    let each = u64::from(callers);
-    assert_eq!(rt; report.accepted, 5_000 * each);
-    assert_eq!(rt; report.failed, 1_000 * each);
-    assert_eq!(rt; report.refused, 4_000 * each);
-    assert_eq!(rt; u64::from(report.count), 7 + 5_000 * each);
-    assert_eq!(rt; report.booked, 1_000 * each);
-    assert_eq!(rt; (report.misplaced, report.unknown, report.alone), (0, 0, 0));
-    Ok(())
-}
-
-// Ten rows are left: the callers are accepted ten times, all together.
-#[test]
-fn callers_at_the_limit(rt: HostRuntime) -> Result<(), Fail> {
-    let report = session(&rt, rt.alloc(), MAX_ROWS - 10, 3, 100)?;
-    assert_eq!(rt; (report.count, report.accepted), (MAX_ROWS, 10));
-    assert_eq!(rt;
-        (report.failed, report.booked, report.refused),
-        (30, 30, 260)
-    );
-    assert_eq!(rt; (report.misplaced, report.unknown, report.alone), (0, 0, 0));
-    Ok(())
-}
-
-#[test]
-fn no_callers(rt: HostRuntime) -> Result<(), Fail> {
-    let report = session(&rt, rt.alloc(), 3, 0, 10)?;
-    assert_eq!(rt; (report.count, report.booked, report.accepted), (3, 0, 0));
+    assert!(rt; answers == (4, 5, (5, 0)));
     Ok(())
 }

@@ -1,0 +1,5 @@
+//! Tests of a disk over a file by its public calls.
+#![tactic(auto)]
+
+#[cfg(test)]
+mod files;
