@@ -1,4 +1,5 @@
 pub mod Responses
+pub mod Codes
 pub mod Acts
 pub mod HeadSize
 pub mod Headers

@@ -129,7 +129,13 @@ fn whole_request(
 {
     Frame::Whole(Framed {
         taken: size + body.len(),
-        what: ask_at(alloc, route_of(routes, said.target), said.method, given, body),
+        what: ask_at(
+            alloc,
+            route_of(routes, said.target),
+            said.method,
+            given,
+            body,
+        ),
         last: said.last,
     })
 }

@@ -13,8 +13,9 @@ pub fn is_method(alloc: Global, bytes: &[u8], method: &Method) -> bool
     requires { length method.now ≤ FREE_METHOD }
     ensures { result ≡ bytes_eq bytes.now method.now }
 {
+    let word = method.as_str();
     match Method::from_bytes(alloc, bytes) {
-        Ok(given) => given == *method,
+        Ok(given) => given.as_str() == word,
         Err(_) => false,
     }
 }
