@@ -6,12 +6,13 @@ ghost use Rattle.office_door.specs.Steps.{IsHeard, IsFound};
 
 use crate::held::Held;
 use disk_core::{Door, Failed};
-use office_wire::{Frame, Framed};
+use office_wire::{Frame, Framed, Routes};
 use std::alloc::Global;
 
 /// The next request of the present connection: it reads until one is whole. `None` where none
 /// begins before the end.
 pub(crate) fn next_request<O: Door>(
+    routes: &Routes,
     alloc: Global,
     door: &mut O,
     held: &mut Held,
@@ -25,7 +26,7 @@ pub(crate) fn next_request<O: Door>(
     ensures cause { CountsFault (O.Source.faults door.old) (O.Source.faults door.new) result }
 {
     'reading: loop {
-        match held.frame(alloc) {
+        match held.frame(routes, alloc) {
             Frame::Whole(framed) => return Ok(Some(framed)),
             Frame::Nothing => return Ok(None),
             Frame::More => held.read_from(door)?,

@@ -1,5 +1,5 @@
 use disk_core::{Door, Failed};
-use office_wire::{Frame, REQUEST_ROOM, frame};
+use office_wire::{Frame, REQUEST_ROOM, Routes, frame_with};
 use std::alloc::{AllocError, Global};
 use std::marker::Model;
 
@@ -52,10 +52,10 @@ impl Held {
     }
 
     /// What the bytes begin with.
-    pub fn frame(&self, alloc: Global) -> Frame
+    pub fn frame(&self, routes: &Routes, alloc: Global) -> Frame
         ensures { TellsFrame self.now.bytes self.now.ended result }
     {
-        frame(alloc, &self.buffer[..self.count], self.ended)
+        frame_with(routes, alloc, &self.buffer[..self.count], self.ended)
     }
 
     /// Takes the first so many bytes away.

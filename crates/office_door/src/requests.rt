@@ -77,7 +77,7 @@ pub(crate) fn serve_request<C: Caller, O: Door>(
         (site C.Caller O.Source O.connections caller.new door.new) buffers.new.held.bytes served.new
         result }
 {
-    match next_request(alloc, door, &mut buffers.held) {
+    match next_request(&buffers.routes, alloc, door, &mut buffers.held) {
         Ok(Some(framed)) => serve_held(caller, door, buffers, &framed, served),
         Ok(None) => Some(Leaving::End),
         Err(Failed) => Some(Leaving::ReadFailed),

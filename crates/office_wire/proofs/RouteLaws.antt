@@ -1,45 +1,78 @@
--- The segments of a path, one by one.
-use Rattle.std.proofs.Common.{◌≡◌, ℕ, suc, ◌+◌, ◌<◌, ◌≤◌, Bool, ◌==◌, List, [], ◌∷◌, length, take, drop, None, refl, inl, inr, arith}
-use Rattle.std.specs.List.{position_or_len}
-use Rattle.std.proofs.lemmas.Bool.{cases_Bool}
-use Rattle.std.proofs.lemmas.List.Splits.{slice_split_first}
-use Rattle.office_wire.specs.Routes.{segments, route_at}
+-- What is found at segments is what their spot is with the text of its parameter.
+use Rattle.std.proofs.Common.{◌≡◌, Bool, true, false, List, ℕ, [], ◌∷◌, ◌&&◌, codes, Option, Some, None, if◌then◌else◌, refl, ap, ◌∙◌}
+use Rattle.std.specs.Option.{option_and_then}
+use Rattle.std.specs.Str.{bytes_eq}
+use Rattle.book_words.specs.Names.{name_of}
+use Rattle.office_routes.specs.declared.spot.Spot.{Spot}
+use Rattle.office_routes.specs.declared.spot.Spot.TheVariants.{Acts, Summary, Sheet, Sample, Pack, Lane}
+use Rattle.office_routes.specs.Spots.{with_text, found_word, found_part, found_detail, found_at, find}
+use Rattle.office_wire.specs.declared.types.Route.{Route}
+use Rattle.office_wire.specs.Routes.{word_route, part_route, detail_route, sheet_route, sample_route, pack_route, lane_route, segments, route_at}
+use Rattle.office_wire.specs.Spots.{spot_route}
 
-abbrev pub is_slash : ℕ → Bool
-is_slash byte = byte == 47
+abbrev pub found_route : Option (Spot × List ℕ) → Option Route
+found_route found = option_and_then (λ f. spot_route f.0 f.1) found
 
--- a path without `/` is one segment
-pub one_segment : (path : List ℕ) → length path ≤ position_or_len is_slash path
-    → segments path ≡ path ∷ []
-one_segment [] all = refl
-one_segment (byte ∷ path) all = elim (cases_Bool (is_slash byte)) [
-  | inl h ↦ absurd (let none : suc (length path) ≤ 0 = rw h at all in omega (arith, none))
-  | inr h ↦
-      let inside : suc (length path) ≤ 1 + position_or_len is_slash path = rw h at all in
-      let rest = one_segment path (omega (arith, inside)) in
-      rw (h, rest) refl
-]
+-- a spot with a parameter, with which nothing is found where its text is empty
+with_text_is : (spot : Spot) → None ≡ spot_route spot [] → (text : List ℕ)
+    → found_route (with_text spot text) ≡ spot_route spot text
+with_text_is spot none [] = none
+with_text_is spot none (byte ∷ text) = refl
 
--- the first segment, and those behind its `/`
-pub first_of_more : (path : List ℕ) → position_or_len is_slash path < length path
-    → segments path ≡ take (position_or_len is_slash path) path
-    ∷ segments (drop (position_or_len is_slash path + 1) path)
-first_of_more path less = slice_split_first is_slash path 0 less
+no_sheet : None ≡ spot_route Sheet []
+unfolding name_of
+no_sheet = refl
 
--- there is one
-pub some_segment : (path : List ℕ)
-    → (first : List ℕ) × (others : List (List ℕ)) × (segments path ≡ first ∷ others)
-some_segment [] = ([], [], refl)
-some_segment (byte ∷ path) = elim (cases_Bool (is_slash byte)) [
-  | inl h ↦ ([], segments path, rw h refl)
-  | inr h ↦
-      let rest = some_segment path in
-      (byte ∷ rest.0, rest.1, rw (h, rest.2) refl)
-]
+no_sample : None ≡ spot_route Sample []
+unfolding name_of
+no_sample = refl
 
--- nothing is found at a path that has a fifth segment
-pub too_long : (word part detail : List ℕ) (rest : List ℕ)
-    → None ≡ route_at ([] ∷ word ∷ part ∷ detail ∷ segments rest)
-too_long word part detail rest =
-    let some = some_segment rest in
-    rw some.2 refl
+word_is : (word : List ℕ) → found_route (found_word word) ≡ word_route word
+word_is word = by (bytes_eq word (codes "acts")) (bytes_eq word (codes "summary")) where
+  by : (acts summary : Bool)
+      → found_route (if acts then Some (Acts, []) else (if summary then Some (Summary, []) else None))
+      ≡ (if acts then spot_route Acts [] else (if summary then spot_route Summary [] else None))
+  by true summary = refl
+  by false true = refl
+  by false false = refl
+
+part_is : (word part : List ℕ) → found_route (found_part word part) ≡ part_route word part
+part_is word part =
+    by (bytes_eq word (codes "batches")) (bytes_eq word (codes "packs"))
+    (bytes_eq word (codes "lanes"))
+  where
+    by : (batches packs lanes : Bool)
+        → found_route (if batches then with_text Sheet part
+        else (if packs then with_text Pack part
+        else (if lanes then with_text Lane part else None)))
+        ≡ (if batches then sheet_route part
+        else (if packs then pack_route part
+        else (if lanes then lane_route part else None)))
+    by true packs lanes = with_text_is Sheet no_sheet part
+    by false true lanes = with_text_is Pack refl part
+    by false false true = with_text_is Lane refl part
+    by false false false = refl
+
+detail_is : (word part detail : List ℕ)
+    → found_route (found_detail word part detail) ≡ detail_route word part detail
+detail_is word part detail =
+    by (bytes_eq word (codes "batches") && bytes_eq detail (codes "sample"))
+  where
+    by : (sample : Bool) → found_route (if sample then with_text Sample part else None)
+        ≡ (if sample then sample_route part else None)
+    by true = with_text_is Sample no_sample part
+    by false = refl
+
+route_at_is : (segments : List (List ℕ)) → found_route (found_at segments) ≡ route_at segments
+route_at_is [] = refl
+route_at_is ((byte ∷ first) ∷ others) = refl
+route_at_is ([] ∷ []) = refl
+route_at_is ([] ∷ word ∷ []) = word_is word
+route_at_is ([] ∷ word ∷ part ∷ []) = part_is word part
+route_at_is ([] ∷ word ∷ part ∷ detail ∷ []) = detail_is word part detail
+route_at_is ([] ∷ word ∷ part ∷ detail ∷ more ∷ others) = refl
+
+-- what the routes find at a path is what is found there
+pub route_found : (path : List ℕ) (found : Option (Spot × List ℕ)) → found ≡ find path
+    → found_route found ≡ route_at (segments path)
+route_found path found is = ap found_route is ∙ route_at_is (segments path)

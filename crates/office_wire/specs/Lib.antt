@@ -1,8 +1,10 @@
 pub mod Responses
+pub mod Codes
 pub mod Acts
 pub mod HeadSize
 pub mod Headers
 pub mod Routes
+pub mod Spots
 pub mod Frames
 pub mod HeadParts
 pub mod Requests

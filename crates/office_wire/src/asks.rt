@@ -1,31 +1,31 @@
 ghost use Rattle.std.specs.Prelude.{◌≡◌, ℕ, List, Option, Some};
 ghost use Rattle.office_wire.specs.declared.types.Route.TheVariants as route;
 ghost use Rattle.office_wire.specs.Frames.{question_ask, act_ask, ask_at, MayTell};
-ghost use Rattle.office_wire.specs.Routes.{route_of};
 
 use crate::body::desk_ask;
-use crate::routes::route_of;
+use crate::methods::is_method;
 use crate::types::{Bad, OfficeAsk, Route};
 use book_words::{Ask, Question, Want};
+use http::Method;
 use std::alloc::Global;
 
-/// What is asked at a target by a method, with the length of the body where one is given. It takes
+/// What is asked at a route by a method, with the length of the body where one is given. It takes
 /// memory for an act alone.
 pub fn ask_at(
     alloc: Global,
-    target: &[u8],
+    route: Option<Route>,
     method: &[u8],
     given: Option<usize>,
     body: &[u8],
 ) -> OfficeAsk
-    ensures { MayTell (ask_at (route_of target.now) method.now given body.now) result }
+    ensures { MayTell (ask_at route method.now given body.now) result }
 {
-    let Some(route) = route_of(target) else {
+    let Some(route) = route else {
         return OfficeAsk::Bad(Bad::Path);
     };
     match route {
         Route::Acts => posted_ask(alloc, method, given, body),
-        Route::Question(question) => got_ask(method, question),
+        Route::Question(question) => got_ask(alloc, method, question),
     }
 }
 
@@ -33,7 +33,7 @@ pub fn ask_at(
 fn posted_ask(alloc: Global, method: &[u8], given: Option<usize>, body: &[u8]) -> OfficeAsk
     ensures { MayTell (ask_at (Some route.Acts) method.now given body.now) result }
 {
-    if method == b"POST".as_slice() {
+    if is_method(alloc, method, &Method::POST) {
         act_ask(alloc, given, body)
     } else {
         OfficeAsk::Bad(Bad::Method { post: true })
@@ -41,11 +41,11 @@ fn posted_ask(alloc: Global, method: &[u8], given: Option<usize>, body: &[u8]) -
 }
 
 // What is asked where the answer to a question is got.
-fn got_ask(method: &[u8], question: Question) -> OfficeAsk
+fn got_ask(alloc: Global, method: &[u8], question: Question) -> OfficeAsk
     ensures { (given : Option ℕ) (body : List ℕ)
         → result ≡ ask_at (Some (route.Question question)) method.now given body }
 {
-    if method == b"GET".as_slice() {
+    if is_method(alloc, method, &Method::GET) {
         OfficeAsk::Ask(question_ask(question))
     } else {
         OfficeAsk::Bad(Bad::Method { post: false })

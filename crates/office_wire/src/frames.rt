@@ -1,4 +1,4 @@
-ghost use Rattle.std.specs.Prelude.{◌≡◌, ◌≤◌, Some, length, take};
+ghost use Rattle.std.specs.Prelude.{◌≡◌, ◌≤◌, IfOk, length, take};
 ghost use Rattle.httparse.specs.Grammar.{RequestHead};
 ghost use Rattle.office_wire.specs.Frames.{frame_at_end, frame_by_size, frame_without_head, last_fault, part_of_body, whole_request, MayFrame, TellsFrame, TellsFrameOf};
 ghost use Rattle.office_wire.specs.HeadParts.{Says};
@@ -7,19 +7,29 @@ use crate::asks::ask_at;
 use crate::head_size::{are_newlines, head_size};
 use crate::limits::MAX_HEAD;
 use crate::request_heads::{Said, read_head};
+use crate::routes::route_of;
 use crate::types::{Bad, Frame, Framed, OfficeAsk};
-use std::alloc::Global;
+use office_routes::Routes;
+use std::alloc::{AllocError, Global};
+
+/// What `frame_with` tells, by routes of its own. The error is want of memory for them.
+pub fn frame(alloc: Global, buffer: &[u8], ended: bool) -> Result<Frame, AllocError>
+    ensures { IfOk result (TellsFrame buffer.now ended) }
+{
+    let routes = Routes::new(alloc)?;
+    Ok(frame_with(&routes, alloc, buffer, ended))
+}
 
 /// What the bytes of a connection begin with that weren't taken yet: a request and what it asks, or
 /// its first fault of form. `ended` says that the input has no more bytes. It takes memory for the
-/// body of an act alone.
-pub fn frame(alloc: Global, buffer: &[u8], ended: bool) -> Frame
+/// body of an act, and for a method of more than 15 bytes, which needn't be there.
+pub fn frame_with(routes: &Routes, alloc: Global, buffer: &[u8], ended: bool) -> Frame
     ensures { TellsFrame buffer.now ended result }
 {
     match head_size(first_bytes(buffer)) {
         Some(size) => {
             let (text, rest) = buffer.split_at(size);
-            frame_of(alloc, text, rest, ended)
+            frame_of(routes, alloc, text, rest, ended)
         }
         None => frame_without_head(buffer, ended),
     }
@@ -71,18 +81,25 @@ fn last_fault(taken: usize, fault: Bad) -> Frame
 }
 
 // What a head text and the bytes behind it are.
-fn frame_of(alloc: Global, text: &[u8], rest: &[u8], ended: bool) -> Frame
+fn frame_of(routes: &Routes, alloc: Global, text: &[u8], rest: &[u8], ended: bool) -> Frame
     requires { length text.now ≤ MAX_HEAD }
     ensures { TellsFrameOf text.now rest.now ended result }
 {
     match read_head(text) {
-        Some(said) => frame_by_size(alloc, &said, text.len(), rest, ended),
+        Some(said) => frame_by_size(routes, alloc, &said, text.len(), rest, ended),
         None => last_fault(text.len(), Bad::Head),
     }
 }
 
 // What a head of so many bytes and the bytes behind it are.
-fn frame_by_size(alloc: Global, said: &Said, size: usize, rest: &[u8], ended: bool) -> Frame
+fn frame_by_size(
+    routes: &Routes,
+    alloc: Global,
+    said: &Said,
+    size: usize,
+    rest: &[u8],
+    ended: bool,
+) -> Frame
     requires { size ≤ MAX_HEAD }
     ensures { (head : RequestHead) → Says said.now head
         → MayFrame (frame_by_size said.now.size head size rest.now ended) result }
@@ -91,7 +108,7 @@ fn frame_by_size(alloc: Global, said: &Said, size: usize, rest: &[u8], ended: bo
         Err(fault) => last_fault(size, fault),
         Ok(given) if given.unwrap_or(0) <= rest.len() => {
             let body = rest.split_at(given.unwrap_or(0)).0;
-            whole_request(alloc, said, size, given, body)
+            whole_request(routes, alloc, said, size, given, body)
         }
         Ok(_) => part_of_body(size, rest, ended),
     }
@@ -99,6 +116,7 @@ fn frame_by_size(alloc: Global, said: &Said, size: usize, rest: &[u8], ended: bo
 
 // The request of a head of so many bytes and of its body.
 fn whole_request(
+    routes: &Routes,
     alloc: Global,
     said: &Said,
     size: usize,
@@ -111,7 +129,13 @@ fn whole_request(
 {
     Frame::Whole(Framed {
         taken: size + body.len(),
-        what: ask_at(alloc, said.target, said.method, given, body),
+        what: ask_at(
+            alloc,
+            route_of(routes, said.target),
+            said.method,
+            given,
+            body,
+        ),
         last: said.last,
     })
 }

@@ -1,9 +1,11 @@
 ghost use Rattle.std.specs.Prelude.{◌≡◌, ◌≤◌, ◌+◌, ◌++◌, List, ℕ, codes, decimal, length, vec_capacity, vec_len};
 ghost use Rattle.batch_reports.specs.Appending.{HasRoom, Appended};
+ghost use Rattle.office_wire.specs.Codes.{code_text};
 ghost use Rattle.office_wire.specs.Responses.{status_text, media_text, method_text, head_line, extra_line, closing_line, head_text, response};
 
 use crate::types::{Extra, Head, Media, Status};
 use batch_reports::{append, append_count, append_number};
+use http::StatusCode;
 
 /// The most bytes of the label of a line.
 const MAX_LABEL: usize = 16;
@@ -49,7 +51,7 @@ fn push_head(to: &mut Vec<u8>, head: &Head, size: usize)
     requires { HasRoom to.old HEAD_ROOM }
     ensures { Appended to.old to.new (head_text head.now size) HEAD_ROOM }
 {
-    push_line(to, b"HTTP/1.1 ", status_word(head.status));
+    push_status(to, head.status);
     push_line(to, b"Content-Type: ", media_word(head.media));
     push_size(to, size);
     push_extra(to, head.extra);
@@ -66,6 +68,20 @@ fn push_line(to: &mut Vec<u8>, label: &[u8], word: &[u8])
 {
     append(to, label);
     append(to, word);
+    append(to, b"\r\n");
+}
+
+// Appends the first line: the code of a status and its phrase.
+fn push_status(to: &mut Vec<u8>, status: Status)
+    requires { HasRoom to.old MAX_LINE }
+    ensures { Appended to.old to.new
+        (head_line (codes "HTTP/1.1 ") (status_text status)) MAX_LINE }
+{
+    let code = code_of(status);
+    append(to, b"HTTP/1.1 ");
+    append(to, code.as_str().as_bytes());
+    append(to, b" ");
+    append(to, code.canonical_reason().unwrap_or("").as_bytes());
     append(to, b"\r\n");
 }
 
@@ -112,21 +128,20 @@ fn push_closing(to: &mut Vec<u8>, last: bool)
     }
 }
 
-// The code of a status and its phrase.
-fn status_word(status: Status) -> &'static [u8]
-    ensures text { result.now ≡ status_text status }
-    ensures short { length result.now ≤ MAX_VALUE }
+// The code of a status.
+fn code_of(status: Status) -> StatusCode
+    ensures { code_text result ≡ status_text status }
 {
     match status {
-        Status::Ok => b"200 OK",
-        Status::BadRequest => b"400 Bad Request",
-        Status::NotFound => b"404 Not Found",
-        Status::MethodNotAllowed => b"405 Method Not Allowed",
-        Status::Conflict => b"409 Conflict",
-        Status::LengthRequired => b"411 Length Required",
-        Status::PayloadTooLarge => b"413 Payload Too Large",
-        Status::InternalServerError => b"500 Internal Server Error",
-        Status::ServiceUnavailable => b"503 Service Unavailable",
+        Status::Ok => StatusCode::OK,
+        Status::BadRequest => StatusCode::BAD_REQUEST,
+        Status::NotFound => StatusCode::NOT_FOUND,
+        Status::MethodNotAllowed => StatusCode::METHOD_NOT_ALLOWED,
+        Status::Conflict => StatusCode::CONFLICT,
+        Status::LengthRequired => StatusCode::LENGTH_REQUIRED,
+        Status::PayloadTooLarge => StatusCode::PAYLOAD_TOO_LARGE,
+        Status::InternalServerError => StatusCode::INTERNAL_SERVER_ERROR,
+        Status::ServiceUnavailable => StatusCode::SERVICE_UNAVAILABLE,
     }
 }
 

@@ -13,13 +13,15 @@ mod headers;
 mod heads;
 mod limits;
 mod members;
+mod methods;
 mod replies;
 mod request_heads;
 mod routes;
 mod types;
 
 pub use body::desk_ask;
-pub use frames::frame;
+pub use frames::{frame, frame_with};
 pub use limits::{MAX_BODY, MAX_HEAD, MAX_HEADERS, REQUEST_ROOM};
+pub use office_routes::Routes;
 pub use replies::{REPLY_ROOM, bad_into, reply_into};
 pub use types::{Bad, Extra, Frame, Framed, Head, Media, OfficeAsk, Route, Status};

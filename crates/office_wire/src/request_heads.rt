@@ -1,6 +1,6 @@
 ghost use Rattle.std.specs.Prelude.{◌≡◌, All, None, length, map, IfSome, IfNone};
 ghost use Rattle.httparse.specs.Grammar.{RequestHead};
-ghost use Rattle.httparse.specs.Spans.{IsHeaderWithin, IsRequestAt, header_bytes};
+ghost use Rattle.httparse.specs.Spans.{IsHeaderWithin, IsRequestAt, header_bytes, span_bytes};
 ghost use Rattle.office_wire.specs.Frames.{IsHeadOf, allowed_size, size_of};
 ghost use Rattle.office_wire.specs.HeadParts.{IsWholeHead, Says, SaysHeadOf};
 
@@ -14,7 +14,7 @@ use httparse::spans::{EMPTY_HEADER_SPAN, HeaderSpan, RequestSpans, parse_request
 #[derive(Clone, Copy)]
 pub struct Said<'t> {
     pub method: &'t [u8],
-    pub target: &'t [u8],
+    pub target: &'t str,
     /// The length of the body, where one is given, or what is wrong with it.
     pub size: Result<Option<usize>, Bad>,
     /// Whether the connection ends behind the response.
@@ -54,10 +54,18 @@ fn read_parts<'t>(text: &'t [u8], room: &[HeaderSpan], spans: &RequestSpans) -> 
     let headers = room.split_at(spans.headers).0;
     Said {
         method: spans.method.of(text),
-        target: spans.path.of(text),
+        target: target_of(text, room, spans),
         size: size_of(text, headers),
         last: spans.version == 0 || is_closing(text, headers),
     }
+}
+
+// The target of a head, which is a text.
+fn target_of<'t>(text: &'t [u8], room: &[HeaderSpan], spans: &RequestSpans) -> &'t str
+    requires { IsWholeHead text.now room.now spans.now }
+    ensures { result.now ≡ span_bytes text.now spans.now.path }
+{
+    str::from_utf8(spans.path.of(text)).unwrap()
 }
 
 // The length of a body, where one is given, or what is wrong with it.

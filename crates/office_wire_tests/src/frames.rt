@@ -1,5 +1,5 @@
 use book_words::{Act, Ask, Name, Question, Unit, Want};
-use office_wire::{Bad, Frame, Framed, MAX_HEAD, MAX_HEADERS, OfficeAsk, frame};
+use office_wire::{Bad, Frame, Framed, MAX_HEAD, MAX_HEADERS, OfficeAsk, Routes, frame, frame_with};
 use std::alloc::{AllocError, Global};
 use std::fmt;
 use std::test::Fail;
@@ -180,9 +180,9 @@ fn question(taken: usize, question: Question, last: bool) -> Frame {
 }
 
 // The first request of the table whose fault isn't told so.
-fn wrong_fault(alloc: Global) -> Option<&'static [u8]> {
+fn wrong_fault(routes: &Routes, alloc: Global) -> Option<&'static [u8]> {
     for (bytes, bad, last) in &FAULTS {
-        if frame(alloc, bytes, false) != fault(bytes.len(), *bad, *last) {
+        if frame_with(routes, alloc, bytes, false) != fault(bytes.len(), *bad, *last) {
             return Some(bytes);
         }
     }
@@ -190,9 +190,9 @@ fn wrong_fault(alloc: Global) -> Option<&'static [u8]> {
 }
 
 // The first request of the table whose end of the connection isn't told so.
-fn wrong_last(alloc: Global) -> Option<&'static [u8]> {
+fn wrong_last(routes: &Routes, alloc: Global) -> Option<&'static [u8]> {
     for (bytes, last) in &LASTS {
-        if frame(alloc, bytes, false) != question(bytes.len(), Question::Summary, *last) {
+        if frame_with(routes, alloc, bytes, false) != question(bytes.len(), Question::Summary, *last) {
             return Some(bytes);
         }
     }
@@ -200,7 +200,7 @@ fn wrong_last(alloc: Global) -> Option<&'static [u8]> {
 }
 
 // The first request that isn't told as its question.
-fn wrong_question(alloc: Global, batch: Name) -> Option<&'static [u8]> {
+fn wrong_question(routes: &Routes, alloc: Global, batch: Name) -> Option<&'static [u8]> {
     let rows: [(&'static [u8], Question); 6] = [
         (
             b"GET /batches/A HTTP/1.1\r\nHost: 127.0.0.1:8080\r\nUser-Agent: curl/8.5.0\r\n\
@@ -231,7 +231,7 @@ Accept: */*\r\n\r\n",
         ),
     ];
     for (bytes, asked) in &rows {
-        if frame(alloc, bytes, true) != question(bytes.len(), *asked, false) {
+        if frame_with(routes, alloc, bytes, true) != question(bytes.len(), *asked, false) {
             return Some(bytes);
         }
     }
@@ -250,10 +250,11 @@ fn cut_post(size: usize) -> Frame {
 }
 
 // The first size of a part of the POST that isn't told so.
-fn wrong_cut(alloc: Global) -> Option<usize> {
+fn wrong_cut(routes: &Routes, alloc: Global) -> Option<usize> {
     for size in 0..POST.len() {
         let part = POST.split_at(size).0;
-        if frame(alloc, part, false) != Frame::More || frame(alloc, part, true) != cut_post(size) {
+        let cut = frame_with(routes, alloc, part, true);
+        if frame_with(routes, alloc, part, false) != Frame::More || cut != cut_post(size) {
             return Some(size);
         }
     }
@@ -274,21 +275,23 @@ fn with_headers(alloc: Global, count: usize) -> Result<Vec<u8>, AllocError> {
 // What so many equal bytes are.
 fn told_of(alloc: Global, byte: u8, count: usize, ended: bool) -> Result<Frame, AllocError> {
     let bytes = vec![in alloc; byte; count]?;
-    Ok(frame(alloc, &bytes, ended))
+    frame(alloc, &bytes, ended)
 }
 
 #[test]
 fn each_fault(rt: HostRuntime) -> Result<(), Fail> {
-    assert_eq!(rt; wrong_fault(rt.alloc()), None);
-    assert_eq!(rt; wrong_last(rt.alloc()), None);
-    assert_eq!(rt; wrong_cut(rt.alloc()), None);
+    let routes = Routes::new(rt.alloc())?;
+    assert_eq!(rt; wrong_fault(&routes, rt.alloc()), None);
+    assert_eq!(rt; wrong_last(&routes, rt.alloc()), None);
+    assert_eq!(rt; wrong_cut(&routes, rt.alloc()), None);
     Ok(())
 }
 
 #[test]
 fn each_ask(rt: HostRuntime) -> Result<(), Fail> {
+    let routes = Routes::new(rt.alloc())?;
     let batch = Name::new(b"A".as_slice()).ok_or(fmt::Error)?;
-    assert_eq!(rt; wrong_question(rt.alloc(), batch), None);
+    assert_eq!(rt; wrong_question(&routes, rt.alloc(), batch), None);
     let name = Name::new(b"a".as_slice()).ok_or(fmt::Error)?;
     let act = Act::PutProduct {
         name,
@@ -305,16 +308,16 @@ fn each_ask(rt: HostRuntime) -> Result<(), Fail> {
         what: OfficeAsk::Ask(ask),
         last: false,
     };
-    assert!(rt; frame(rt.alloc(), POST, false) == Frame::Whole(framed));
+    assert!(rt; frame(rt.alloc(), POST, false)? == Frame::Whole(framed));
     Ok(())
 }
 
 #[test]
 fn each_limit(rt: HostRuntime) -> Result<(), Fail> {
     let most = with_headers(rt.alloc(), MAX_HEADERS)?;
-    assert!(rt; frame(rt.alloc(), &most, false) == question(most.len(), Question::Summary, false));
+    assert!(rt; frame(rt.alloc(), &most, false)? == question(most.len(), Question::Summary, false));
     let many = with_headers(rt.alloc(), MAX_HEADERS + 1)?;
-    assert!(rt; frame(rt.alloc(), &many, false) == fault(many.len(), Bad::Head, true));
+    assert!(rt; frame(rt.alloc(), &many, false)? == fault(many.len(), Bad::Head, true));
     assert!(rt; told_of(rt.alloc(), b'a', MAX_HEAD - 1, false)? == Frame::More);
     assert!(rt; told_of(rt.alloc(), b'a', MAX_HEAD, false)? == fault(MAX_HEAD, Bad::Head, true));
     assert!(rt; told_of(rt.alloc(), b'\n', MAX_HEAD - 1, false)? == Frame::More);

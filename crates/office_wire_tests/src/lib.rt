@@ -7,3 +7,5 @@ mod bodies;
 mod frames;
 #[cfg(test)]
 mod responses;
+#[cfg(test)]
+mod targets;

@@ -28,14 +28,13 @@ returns c = record {
     c.push_closing.ensures.items,
     c.push_extra.ensures.items,
     c.push_size.ensures.items,
-    c.push_line-2.ensures.items,
     c.push_line.ensures.items,
+    c.push_status.ensures.items,
     c.media_word.ensures.text,
-    c.status_word.ensures.text,
   )
       (in_lines c.args.to.now.items c.args.head.now c.args.size);
   longest = omega arith;
   capacity = c.append.ensures.capacity ∙ c.push_closing.ensures.capacity
       ∙ c.push_extra.ensures.capacity ∙ c.push_size.ensures.capacity
-      ∙ c.push_line-2.ensures.capacity ∙ c.push_line.ensures.capacity;
+      ∙ c.push_line.ensures.capacity ∙ c.push_status.ensures.capacity;
 }

@@ -2,7 +2,7 @@ use Rattle.std.proofs.Common.{◌≡◌, ◌≤◌, ◌∙◌, ap, sym, take, le
 use Rattle.office_wire.specs.declared.limits.TheConstants.{MAX_HEAD}
 use Rattle.office_wire.specs.HeadSize.{head_size}
 use Rattle.office_wire.proofs.FrameSteps.{tells_with_head, tells_without_head}
-use Rattle.office_wire.proofs.frames.frame.Goals as goal
+use Rattle.office_wire.proofs.frames.frame_with.Goals as goal
 
 pub split_at-requires : goal.split_at-requires
 split_at-requires c =

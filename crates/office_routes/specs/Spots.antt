@@ -1,0 +1,48 @@
+-- What is found at a path, by its segments, and the text of its parameter: empty where it has none.
+use Rattle.std.specs.Prelude.{ℕ, ◌==◌, ◌&&◌, List, [], ◌∷◌, if◌then◌else◌, Option, Some, None, codes}
+use Rattle.std.specs.List.{slice_split}
+use Rattle.std.specs.Str.{bytes_eq}
+use Rattle.office_routes.specs.declared.spot.Spot.{Spot}
+use Rattle.office_routes.specs.declared.spot.Spot.TheVariants.{Acts, Summary, Sheet, Sample, Pack, Lane}
+
+-- the segments of a path: what stands between its `/`
+abbrev pub segments : List ℕ → List (List ℕ)
+segments path = slice_split (λ byte. byte == 47) path
+
+-- a spot with a parameter, which isn't empty
+abbrev pub with_text : Spot → List ℕ → Option (Spot × List ℕ)
+with_text spot [] = None
+with_text spot (byte ∷ text) = Some (spot, byte ∷ text)
+
+-- `/acts` and `/summary`
+abbrev pub found_word : List ℕ → Option (Spot × List ℕ)
+found_word word =
+    if bytes_eq word (codes "acts") then Some (Acts, [])
+    else (if bytes_eq word (codes "summary") then Some (Summary, [])
+    else None)
+
+-- `/batches/{name}`, `/packs/{number}` and `/lanes/{number}`
+abbrev pub found_part : List ℕ → List ℕ → Option (Spot × List ℕ)
+found_part word part =
+    if bytes_eq word (codes "batches") then with_text Sheet part
+    else (if bytes_eq word (codes "packs") then with_text Pack part
+    else (if bytes_eq word (codes "lanes") then with_text Lane part
+    else None))
+
+-- `/batches/{name}/sample`
+abbrev pub found_detail : List ℕ → List ℕ → List ℕ → Option (Spot × List ℕ)
+found_detail word part detail =
+    if (bytes_eq word (codes "batches") && bytes_eq detail (codes "sample"))
+    then with_text Sample part
+    else None
+
+-- what is found at the segments of a path; before its first `/` there is nothing
+abbrev pub found_at : List (List ℕ) → Option (Spot × List ℕ)
+found_at ([] ∷ word ∷ []) = found_word word
+found_at ([] ∷ word ∷ part ∷ []) = found_part word part
+found_at ([] ∷ word ∷ part ∷ detail ∷ []) = found_detail word part detail
+found_at _ = None
+
+-- what is found at a path
+abbrev pub find : List ℕ → Option (Spot × List ℕ)
+find path = found_at (segments path)

@@ -1,0 +1,16 @@
+/// What is found at a path.
+#[derive(Clone, Copy, Debug, Drop, PartialEq, Eq)]
+pub enum Spot {
+    /// `/acts`: acts, which are posted.
+    Acts,
+    /// `/summary`: the summary of the book.
+    Summary,
+    /// `/batches/{name}`: the sheet of a batch.
+    Sheet,
+    /// `/batches/{name}/sample`: the sample of a batch.
+    Sample,
+    /// `/packs/{number}`: a pack.
+    Pack,
+    /// `/lanes/{number}`: a lane.
+    Lane,
+}
