@@ -71,3 +71,11 @@ call reads input input_now before now rows =
       now = devices reads input_now now;
       rows = rows;
     }
+
+-- a call that began with nothing told of lanes: its input, its output and its lanes before it and
+-- after it, what is then told of lanes, and the rows that it leaves
+abbrev pub call_between : {S K L : Type 0} → source.Ghosts S → sink.Ghosts K → cell.Ghosts L
+    → gate.Ghosts L → S → S → K → K → List L → List L → LogView → List Entry → Call S
+call_between reads writes weighs lifts input input_now output output_now lanes lanes_now log rows =
+    call reads input input_now (outside_at writes weighs lifts output lanes nothing_told)
+        (outside_at writes weighs lifts output_now lanes_now log) rows
