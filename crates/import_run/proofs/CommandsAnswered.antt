@@ -15,13 +15,12 @@ use Rattle.store_runs.proofs.StoreSteps.{goes_with}
 use Rattle.import_table.specs.declared.types.ImportError.{ImportError}
 use Rattle.import_table.specs.declared.types.ImportError.TheVariants as error
 use Rattle.import_table.specs.Imports.{Import, stopped, with_command}
-use Rattle.script_run.specs.Commands.{lines_asking}
-use Rattle.script_run.specs.Ends.{HaveToldWorks, AreTold, next_exchange, StopsAtLine}
-use Rattle.script_run.specs.Outside.{Outside}
-use Rattle.script_run.specs.Reached.{HasAnswered}
-use Rattle.script_run.specs.Transcript.{Event, Asked, Worked, after_event, AreEventsOf, ends_of}
-use Rattle.script_run.proofs.AcknowledgedRows.{lines_done, are_left}
-use Rattle.script_run.proofs.AnsweredLines.{answered_none, answered_more, stops_after}
+use Rattle.script_events.specs.Commands.{lines_asking}
+use Rattle.script_session.specs.Ends.{HaveToldWorks, AreTold, next_exchange, StopsAtLine, HasAnswered}
+use Rattle.script_session.specs.Outside.{Outside}
+use Rattle.script_events.specs.Transcript.{Event, Asked, Worked, after_event, AreEventsOf, ends_of}
+use Rattle.script_events.proofs.AcknowledgedRows.{lines_done, are_left}
+use Rattle.script_session.proofs.AnsweredLines.{answered_none, answered_more, stops_after}
 use Rattle.import_run.specs.Answered.{alone, AnswersGoOut, AreFirstAnswered, StopsAtCommand, HasAnsweredTo}
 use Rattle.import_run.specs.Ends.{StopsAtError, EndsImport}
 use Rattle.import_run.specs.Reading.{stop_of}

@@ -9,13 +9,12 @@ use Rattle.store_runs.specs.declared.stop.Stop.{Stop}
 use Rattle.store_runs.specs.declared.stop.Stop.TheVariants.{Finished, BadLine, ReadFault, WriteFault, DiskFault, NoMemory, Spent}
 use Rattle.store_runs.specs.Books.{BookState}
 use Rattle.import_table.specs.Imports.{Import, at_end}
-use Rattle.script_run.specs.Acknowledged.{AreLeft}
-use Rattle.script_run.specs.Commands.{lines_asking}
-use Rattle.script_run.specs.Ends.{StopsAtSummary}
-use Rattle.script_run.specs.Reached.{EndsAtSummary}
-use Rattle.script_run.specs.Transcript.{AreEventsOf, texts}
-use Rattle.script_run.proofs.AcknowledgedRows.{lines_done, are_left}
-use Rattle.script_run.proofs.AnsweredLines.{wrote_on, cut_on, wrote_still}
+use Rattle.script_events.specs.Acknowledged.{AreLeft}
+use Rattle.script_events.specs.Commands.{lines_asking}
+use Rattle.script_session.specs.Ends.{StopsAtSummary, EndsAtSummary}
+use Rattle.script_events.specs.Transcript.{AreEventsOf, texts}
+use Rattle.script_events.proofs.AcknowledgedRows.{lines_done, are_left}
+use Rattle.script_session.proofs.AnsweredLines.{wrote_on, cut_on, wrote_still}
 use Rattle.import_run.specs.Answered.{HasAnsweredTo}
 use Rattle.import_run.specs.Ends.{EndsEarly, EndsImport}
 use Rattle.import_run.proofs.CommandsAnswered.{no_ends, works_alone}

@@ -7,11 +7,10 @@ use Rattle.text_streams.specs.Streams.{Stream}
 use Rattle.store_runs.specs.declared.stop.Stop.{Stop}
 use Rattle.store_runs.specs.Books.{BookState}
 use Rattle.import_table.specs.Imports.{Import}
-use Rattle.script_run.specs.Commands.{lines_asking}
-use Rattle.script_run.specs.Ends.{AreTold, StopsAtLine}
-use Rattle.script_run.specs.Outside.{Outside, nothing_told}
-use Rattle.script_run.specs.Reached.{HasAnswered}
-use Rattle.script_run.specs.Transcript.{Event, AreEventsOf}
+use Rattle.script_events.specs.Commands.{lines_asking}
+use Rattle.script_session.specs.Ends.{AreTold, StopsAtLine, HasAnswered}
+use Rattle.script_session.specs.Outside.{Outside, nothing_told}
+use Rattle.script_events.specs.Transcript.{Event, AreEventsOf}
 
 -- an output, where no lane is handed in
 abbrev pub alone : Stream → Outside

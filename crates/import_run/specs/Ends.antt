@@ -8,10 +8,10 @@ use Rattle.store_runs.specs.Books.{BookState}
 use Rattle.import_table.specs.declared.types.ImportError.{ImportError}
 use Rattle.import_table.specs.declared.types.ImportError.TheVariants.{Bad, TooMany}
 use Rattle.import_table.specs.Imports.{Import}
-use Rattle.script_run.specs.Acknowledged.{AreLeft}
-use Rattle.script_run.specs.Commands.{lines_asking}
-use Rattle.script_run.specs.Ends.{StopsAtSummary}
-use Rattle.script_run.specs.Transcript.{Event, AreEventsOf, transcript}
+use Rattle.script_events.specs.Acknowledged.{AreLeft}
+use Rattle.script_events.specs.Commands.{lines_asking}
+use Rattle.script_session.specs.Ends.{StopsAtSummary}
+use Rattle.script_events.specs.Transcript.{Event, AreEventsOf, transcript}
 use Rattle.import_run.specs.Answered.{AnswersGoOut, AreFirstAnswered, StopsAtCommand}
 
 -- all records are commands, its transcript went out, and these rows are left

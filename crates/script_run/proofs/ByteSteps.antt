@@ -10,13 +10,13 @@ use Rattle.script_lines.specs.Script.{is_good, all_good}
 use Rattle.script_lines.proofs.LineLists.{ended_with_line, rest_with_line, ended_with_part, rest_with_part}
 use Rattle.store_runs.specs.declared.stop.Stop.{Stop}
 use Rattle.store_runs.specs.Books.{BookState}
-use Rattle.script_run.specs.Ends.{StopsAtLine, StopsInScript}
-use Rattle.script_run.specs.Outside.{Outside, lane_count}
-use Rattle.script_run.specs.Scripts.{ended_lines_of, lines_of, HasLine}
-use Rattle.script_run.specs.Reached.{RunState, HasAnswered, Reached, ReachedMore, StopsAnyway, StopsAfter, Steps}
-use Rattle.script_run.proofs.ScriptLines.{ended_line, ended_of_line, ended_of_part, all_good-push}
-use Rattle.script_run.proofs.AnsweredLines.{answered_more, stops_after}
-use Rattle.script_run.proofs.WorkedLanes.{same_lanes}
+use Rattle.script_session.specs.Ends.{StopsAtLine, StopsInScript, HasAnswered}
+use Rattle.script_session.specs.Outside.{Outside, lane_count}
+use Rattle.script_events.specs.Scripts.{ended_lines_of, lines_of, HasLine}
+use Rattle.script_run.specs.Reached.{RunState, Reached, ReachedMore, StopsAnyway, StopsAfter, Steps}
+use Rattle.script_events.proofs.ScriptLines.{ended_line, ended_of_line, ended_of_part, all_good-push}
+use Rattle.script_session.proofs.AnsweredLines.{answered_more, stops_after}
+use Rattle.script_session.proofs.WorkedLanes.{same_lanes}
 
 abbrev make : ℕ → List ℕ → FeedView
 make ended begun = record { ended = ended; begun = begun }

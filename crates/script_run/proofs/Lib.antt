@@ -1,14 +1,3 @@
-pub mod EventLists
-pub mod ScriptLines
-pub mod LanesHandedIn
-pub mod WorkedLanes
-pub mod RepeatLemmas
-pub mod AcknowledgedRows
-pub mod CommandsInTurn
-pub mod AskedCommands
-pub mod AnsweredLines
-pub mod WorkedLines
-pub mod Summaries
 pub mod ByteSteps
 pub mod ScriptEnds
 pub mod RunEnds

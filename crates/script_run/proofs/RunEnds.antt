@@ -24,22 +24,22 @@ use Rattle.store_runs.specs.declared.stop.Offer.{Offer}
 use Rattle.store_runs.specs.declared.stop.Stop.{Stop}
 use Rattle.store_runs.specs.declared.stop.Stop.TheVariants.{Finished, BadLine, ReadFault, WriteFault, DiskFault, NoMemory, Spent}
 use Rattle.store_runs.specs.Books.{BookState}
-use Rattle.store_runs.specs.Runs.{FailsToKeep, Goes}
+use Rattle.store_runs.specs.Runs.{Goes}
 use Rattle.store_runs.proofs.StoreSteps.{stays}
 use Rattle.store_runs.specs.Stops.{stop_of}
 use Rattle.script_run.specs.declared.script.TheConstants.{MAX_READS}
-use Rattle.script_run.specs.Outside.{Outside, Devices, Call, lane_count}
-use Rattle.script_run.specs.Scripts.{ended_lines_of, lines_of, HasLine}
-use Rattle.script_run.specs.Transcript.{Event, texts}
-use Rattle.script_run.specs.Ends.{HaveToldWorks, StopsAtLine, StopsInScript, StopsAtSummary}
-use Rattle.script_run.specs.Acknowledged.{AreLeft}
+use Rattle.script_session.specs.Outside.{Outside, Devices, Call, lane_count}
+use Rattle.script_events.specs.Scripts.{ended_lines_of, lines_of, HasLine}
+use Rattle.script_events.specs.Transcript.{Event, texts}
+use Rattle.script_session.specs.Ends.{HaveToldWorks, StopsAtLine, StopsInScript, StopsAtSummary, EndsAtSummary}
+use Rattle.script_events.specs.Acknowledged.{AreLeft}
 use Rattle.script_run.specs.Runs.{StopsInInput, StopsAtEnd, IsGoodStill, Explains}
-use Rattle.script_run.specs.Reached.{RunState, Reached, Steps, StopsAfter, IsWholeSoFar, EndsAtSummary}
+use Rattle.script_run.specs.Reached.{RunState, Reached, Steps, StopsAfter, IsWholeSoFar}
 use Rattle.script_run.specs.Books.{HasRead, HasReadWhole}
-use Rattle.script_run.proofs.AcknowledgedRows.{lines_done, are_left}
+use Rattle.script_events.proofs.AcknowledgedRows.{lines_done, are_left}
 use Rattle.text_streams.proofs.PrintedTexts.{wrote_nothing}
-use Rattle.script_run.proofs.AnsweredLines.{job_stops, works_none, works_still, answered_none, wrote_on, cut_on, wrote_still}
-use Rattle.script_run.proofs.ScriptLines.{all_good-bad}
+use Rattle.script_session.proofs.AnsweredLines.{job_stops, works_none, works_still, answered_none, wrote_on, cut_on, wrote_still}
+use Rattle.script_events.proofs.ScriptLines.{all_good-bad}
 
 -- a call that began with these devices
 abbrev pub call_from : {S : Type 0} → Devices S → Devices S → List Entry → Call S
@@ -396,28 +396,6 @@ summary_stops opened before old now rows events Finished wrote stops = absurd st
 summary_stops opened before old now rows events (BadLine named) wrote stops = absurd stops.1
 summary_stops opened before old now rows events ReadFault wrote stops = absurd stops.1
 summary_stops opened before old now rows events Spent wrote stops = absurd stops.1
-
--- where no snapshot is kept nothing goes out
-pub stops_unkept : (opened : ℕ) (now : Stream) (rows : List Entry) (stop : Stop)
-    → FailsToKeep opened rows stop → StopsAtSummary opened now now rows [] stop
-stops_unkept opened now rows (DiskFault offer) fails = (wrote_nothing now, fails)
-stops_unkept opened now rows NoMemory fails = (wrote_nothing now, fails)
-stops_unkept opened now rows Finished fails = absurd fails
-stops_unkept opened now rows (BadLine named) fails = absurd fails
-stops_unkept opened now rows ReadFault fails = absurd fails
-stops_unkept opened now rows WriteFault fails = absurd fails
-stops_unkept opened now rows Spent fails = absurd fails
-
--- a run that stops at its summary has ended so
-pub ends_stopped : (opened : ℕ) (before now : Stream) (rows : List Entry) (stop : Stop)
-    → StopsAtSummary opened before now rows [] stop → EndsAtSummary opened before now rows stop
-ends_stopped opened before now rows WriteFault stops = stops
-ends_stopped opened before now rows (DiskFault offer) stops = stops
-ends_stopped opened before now rows NoMemory stops = stops
-ends_stopped opened before now rows (BadLine named) stops = stops
-ends_stopped opened before now rows ReadFault stops = stops
-ends_stopped opened before now rows Spent stops = stops
-ends_stopped opened before now rows Finished stops = absurd stops.1
 
 module _ {S : Type 0} (book left : BookState) (before now : Devices S) (old : Outside)
     (script : List ℕ) (reads : ReadsWhole before.input now.input script)

@@ -7,12 +7,12 @@ use Rattle.script_lines.specs.Feed.{FeedView}
 use Rattle.script_lines.specs.Script.{is_good}
 use Rattle.store_runs.specs.declared.stop.Stop.{Stop}
 use Rattle.store_runs.specs.Books.{BookState}
-use Rattle.script_run.specs.Ends.{StopsAtLine, StopsInScript}
-use Rattle.script_run.specs.Outside.{Outside, lane_count}
-use Rattle.script_run.specs.Scripts.{ended_lines_of}
-use Rattle.script_run.specs.Reached.{RunState, HasAnswered, Reached, IsWholeSoFar}
-use Rattle.script_run.proofs.AnsweredLines.{answered_more}
-use Rattle.script_run.proofs.ScriptLines.{last_line_of, line_last, last_line_whole}
+use Rattle.script_session.specs.Ends.{StopsAtLine, StopsInScript, HasAnswered}
+use Rattle.script_session.specs.Outside.{Outside, lane_count}
+use Rattle.script_events.specs.Scripts.{ended_lines_of}
+use Rattle.script_run.specs.Reached.{RunState, Reached, IsWholeSoFar}
+use Rattle.script_session.proofs.AnsweredLines.{answered_more}
+use Rattle.script_events.proofs.ScriptLines.{last_line_of, line_last, last_line_whole}
 use Rattle.script_run.proofs.ByteSteps.{lanes_stay, stops_at_line}
 
 -- a good last line is answered; where none has begun there is nothing to answer

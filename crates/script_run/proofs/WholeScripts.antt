@@ -9,8 +9,8 @@ use Rattle.store_runs.specs.declared.stop.Stop.{Stop}
 use Rattle.store_runs.specs.declared.stop.Stop.TheVariants.{Finished, BadLine, ReadFault, WriteFault, DiskFault, NoMemory, Spent}
 use Rattle.store_runs.specs.Books.{BookState}
 use Rattle.script_run.specs.declared.script.TheConstants.{MAX_READS}
-use Rattle.script_run.specs.Outside.{Call, lane_count}
-use Rattle.script_run.specs.Scripts.{lines_of}
+use Rattle.script_session.specs.Outside.{Call, lane_count}
+use Rattle.script_events.specs.Scripts.{lines_of}
 use Rattle.script_run.specs.Runs.{Explains, IsComplete, ExplainsRun}
 
 where_told : (left : Option (List ℕ)) (P : List ℕ → Type 0)

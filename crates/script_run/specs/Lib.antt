@@ -1,13 +1,4 @@
-pub mod Acknowledged
-pub mod Asking
 pub mod Books
-pub mod Commands
-pub mod Ends
-pub mod LaneLogs
-pub mod LaneMoves
-pub mod Outside
 pub mod Reached
 pub mod Runs
-pub mod Scripts
-pub mod Transcript
-pub mod Unanswered
+pub use Rattle.script_session.specs.Outside

@@ -1,35 +1,20 @@
 -- Where a run stands in its script.
 use Rattle.std.specs.Prelude.{◌≡◌, ℕ, ◌<◌, ◌≤◌, true, List, [], ◌++◌, length, Result, MatchResult}
 use Rattle.book_words.specs.declared.act.Entry.{Entry}
-use Rattle.book_words.specs.Views.{summary}
-use Rattle.batch_reports.specs.Texts.{summary_text}
 use Rattle.script_lines.specs.declared.lines.TheConstants.{MAX_LINE}
-use Rattle.script_lines.specs.declared.command.Line.{Line}
 use Rattle.script_lines.specs.Lines.{rest_of}
 use Rattle.script_lines.specs.Feed.{FeedView, feed_after}
 use Rattle.script_lines.specs.Script.{all_good}
-use Rattle.text_streams.specs.Streams.{Stream, WroteAll}
 use Rattle.store_runs.specs.declared.stop.Stop.{Stop}
-use Rattle.store_runs.specs.declared.stop.Stop.TheVariants.{Finished}
 use Rattle.store_runs.specs.Books.{BookState}
-use Rattle.script_run.specs.Ends.{HaveToldWorks, StopsInScript, StopsAtSummary}
-use Rattle.script_run.specs.Outside.{Outside, lane_count}
-use Rattle.script_run.specs.Scripts.{ended_lines_of, lines_of, HasLine}
-use Rattle.script_run.specs.Transcript.{Event, after_events, AreEventsOf, texts}
+use Rattle.script_session.specs.Ends.{HasAnswered, StopsInScript}
+use Rattle.script_session.specs.Outside.{Outside, lane_count}
+use Rattle.script_events.specs.Scripts.{ended_lines_of, lines_of, HasLine}
 
 -- a run at one moment: its book, how many lines have ended, and the line that has begun
 pub record RunState : Type 0 where
   pub book : BookState
   pub feed : FeedView
-
--- lines were answered, and this is the book that they leave
-pub record HasAnswered (book : BookState) (before now : Outside) (after : BookState)
-    (lines : List Line) : Type 0 where
-  pub events : List Event
-  pub right : AreEventsOf book lines events
-  pub wrote : WroteAll before.output now.output (texts events)
-  pub worked : HaveToldWorks before now events
-  pub left : after ≡ after_events book events
 
 -- after these bytes the lines that ended are good, counted and answered, and the one that has begun
 -- is kept
@@ -75,8 +60,3 @@ pub record IsWholeSoFar (book : BookState) (before now : Outside) (script : List
     (left : BookState) : Type 0 where
   pub good : all_good (lines_of (lane_count before) script) ≡ true
   pub answered : HasAnswered book before now left (lines_of (lane_count before) script)
-
--- how a run ends whose lines are all answered, from where it then stands
-abbrev pub EndsAtSummary : ℕ → Stream → Stream → List Entry → Stop → Type 0
-EndsAtSummary opened before now rows Finished = WroteAll before now (summary_text (summary rows))
-EndsAtSummary opened before now rows stop = StopsAtSummary opened before now rows [] stop

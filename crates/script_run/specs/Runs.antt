@@ -11,10 +11,10 @@ use Rattle.store_runs.specs.declared.stop.Stop.{Stop}
 use Rattle.store_runs.specs.declared.stop.Stop.TheVariants.{Finished, BadLine, ReadFault, WriteFault, DiskFault, NoMemory, Spent}
 use Rattle.store_runs.specs.Books.{BookState}
 use Rattle.script_run.specs.declared.script.TheConstants.{MAX_READS}
-use Rattle.script_run.specs.Ends.{AreTold, StopsInScript, HasTranscript, EndsEarly}
-use Rattle.script_run.specs.Outside.{Call, lane_count}
-use Rattle.script_run.specs.Scripts.{ended_lines_of, lines_of, IsGoodSoFar, HasLine}
-use Rattle.script_run.specs.Transcript.{Event, AreEventsOf}
+use Rattle.script_session.specs.Ends.{AreTold, StopsInScript, HasTranscript, EndsEarly}
+use Rattle.script_session.specs.Outside.{Call, lane_count}
+use Rattle.script_events.specs.Scripts.{ended_lines_of, lines_of, IsGoodSoFar, HasLine}
+use Rattle.script_events.specs.Transcript.{Event, AreEventsOf}
 
 -- a run stops in its input: of the bytes that it took it judged all but less than a piece, and the
 -- line at which it stopped is that of the whole script

@@ -1,12 +1,12 @@
 ghost use Rattle.std.specs.Prelude.{◌≡◌, ◌≤◌, length};
 ghost use Rattle.hall_limits.specs.declared.TheConstants.{MAX_LANE};
-ghost use Rattle.script_run.specs.Scripts.{every_command};
+ghost use Rattle.script_events.specs.Scripts.{every_command};
 
-use crate::session::{ScriptEnd, Session};
 use book_store::Store;
 use disk_core::{Disk, Sink};
 use lane_worker::Lane;
 use script_lines::{Allowed, Feed, TooLong, split_line};
+use script_session::{ScriptEnd, Session};
 use std::alloc::Global;
 use store_runs::Stop;
 
@@ -36,10 +36,12 @@ impl<D: Disk> Run<D> {
     ghost use Rattle.text_streams.specs.Streams.{output_at};
     ghost use Rattle.store_runs.specs.Books.{BookState};
     ghost use Rattle.store_runs.specs.Runs.{Goes, RunGoes};
-    ghost use Rattle.script_run.specs.Books.{book_in, store_in, log_in, run_state, IsReady};
-    ghost use Rattle.script_run.specs.Ends.{StopsInScript};
-    ghost use Rattle.script_run.specs.Outside.{Outside, outside_at, nothing_told};
-    ghost use Rattle.script_run.specs.Reached.{Reached, Steps, IsWholeSoFar, EndsAtSummary};
+    ghost use Rattle.script_session.specs.Sessions.{book_in, store_in, log_in, IsReady};
+    ghost use Rattle.script_run.specs.Books.{run_state};
+    ghost use Rattle.script_session.specs.Ends.{StopsInScript};
+    ghost use Rattle.script_session.specs.Outside.{Outside, outside_at, nothing_told};
+    ghost use Rattle.script_session.specs.Ends.{EndsAtSummary};
+    ghost use Rattle.script_run.specs.Reached.{Reached, Steps, IsWholeSoFar};
 
     /// A run over a store that was given nothing, with room for all that it keeps but the entries
     /// of its book; or the store where there is no memory for it.

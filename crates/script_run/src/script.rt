@@ -5,16 +5,16 @@ ghost use Rattle.text_streams.specs.declared.reader.TheConstants.{PIECE};
 ghost use Rattle.hall_limits.specs.declared.TheConstants.{MAX_LANE};
 ghost use Rattle.store_runs.specs.Books.{BookState, stored_book};
 ghost use Rattle.store_runs.specs.Runs.{Goes, RunGoes};
-ghost use Rattle.script_run.specs.Books.{book_in, store_in, log_in, run_state, IsReady, HasRead, HasReadWhole, HasReadOn};
-ghost use Rattle.script_run.specs.Outside.{Devices, devices, call, outside_at, nothing_told};
+ghost use Rattle.script_session.specs.Sessions.{book_in, store_in, log_in, IsReady};
+ghost use Rattle.script_run.specs.Books.{run_state, HasRead, HasReadWhole, HasReadOn};
+ghost use Rattle.script_session.specs.Outside.{Devices, devices, call, call_between, outside_at, nothing_told};
 ghost use Rattle.script_run.specs.Runs.{Explains, ExplainsRun};
 
-use crate::lane_log::LaneLog;
 use crate::run::Run;
-use crate::session::ScriptEnd;
 use book_store::Store;
 use disk_core::{Disk, Sink, Source};
 use lane_worker::Lane;
+use script_session::{LaneLog, ScriptEnd};
 use std::alloc::Global;
 use store_runs::Stop;
 use text_streams::Reader;
@@ -167,10 +167,8 @@ pub fn run_script<S: Source, K: Sink, D: Disk, L: Lane>(
     requires opened { held_of store ≡ length (entries_of store) }
     requires sound { IsSound D.Disk store }
     ensures explained { ExplainsRun (stored_book store)
-        (call S.Source input.old input.new
-        (outside_at K.Sink L.Cell L.Gate output.old lanes.old nothing_told)
-        (outside_at K.Sink L.Cell L.Gate output.new lanes.new result.log.told)
-        (entries_of result.store)) result.stop }
+        (call_between S.Source K.Sink L.Cell L.Gate input.old input.new output.old output.new
+        lanes.old lanes.new result.log.told (entries_of result.store)) result.stop }
     ensures goes { RunGoes D.Disk result.stop store result.store }
 {
     match begin(alloc, store) {

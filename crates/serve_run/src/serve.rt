@@ -28,7 +28,7 @@ use book_store::{RestError, Store};
 use disk_core::{Disk, Door, Sink, Source};
 use lane_worker::{Lane, LaneEnd, LaneStop};
 use office_door::{DoorEnd, DoorStop};
-use script_run::LaneEnds;
+use script_events::LaneEnds;
 use session_jobs::{JobsEnd, Work, run_jobs};
 use std::alloc::{AllocError, Global};
 use std::sync::Wait;

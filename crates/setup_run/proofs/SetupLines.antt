@@ -9,10 +9,10 @@ use Rattle.script_lines.specs.Script.{is_good, all_good, asked, commands_of}
 use Rattle.script_lines.proofs.LineLists.{ended_with_part, rest_with_part, rest_with_line}
 use Rattle.store_runs.specs.declared.stop.Stop.{Stop}
 use Rattle.store_runs.specs.Books.{BookState}
-use Rattle.script_run.specs.Commands.{after_commands}
-use Rattle.script_run.specs.Scripts.{ended_lines_of}
-use Rattle.script_run.proofs.CommandsInTurn.{after-append, are_answered}
-use Rattle.script_run.proofs.ScriptLines.{ended_line, last_line_of, lines_after, lines_of-append, ended_of_line, all_good-push}
+use Rattle.script_events.specs.Commands.{after_commands}
+use Rattle.script_events.specs.Scripts.{ended_lines_of}
+use Rattle.script_events.proofs.CommandsInTurn.{after-append, are_answered}
+use Rattle.script_events.proofs.ScriptLines.{ended_line, last_line_of, lines_after, lines_of-append, ended_of_line, all_good-push}
 use Rattle.setup_run.specs.Setups.{setup_lines, after_lines, MayStopAtLine, StopsInSetup}
 
 -- ---- the lines of a text

@@ -7,10 +7,10 @@ use Rattle.script_lines.specs.Script.{all_good, commands_of}
 use Rattle.store_runs.specs.declared.stop.Stop.{Stop}
 use Rattle.store_runs.specs.declared.stop.Stop.TheVariants.{BadLine}
 use Rattle.store_runs.specs.Books.{BookState}
-use Rattle.script_run.specs.Asking.{exchange_at}
-use Rattle.script_run.specs.Commands.{after_commands, AreAnswered}
-use Rattle.script_run.specs.Scripts.{lines_of}
-use Rattle.script_run.specs.Unanswered.{MayStopAt}
+use Rattle.script_events.specs.Asking.{exchange_at}
+use Rattle.script_events.specs.Commands.{after_commands, AreAnswered}
+use Rattle.script_events.specs.Scripts.{lines_of}
+use Rattle.script_events.specs.Unanswered.{MayStopAt}
 
 -- what the lines of a setup say: it may have every command, and set no lane to work
 abbrev pub setup_lines : List ℕ → List Line

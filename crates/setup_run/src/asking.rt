@@ -3,14 +3,14 @@ ghost use Rattle.book_store.specs.Stores.{entries_of};
 ghost use Rattle.script_lines.specs.Script.{is_good, all_good};
 ghost use Rattle.store_runs.specs.Books.{stored_book};
 ghost use Rattle.store_runs.specs.Runs.{Goes};
-ghost use Rattle.script_run.specs.Scripts.{IsHandedIn};
+ghost use Rattle.script_events.specs.Scripts.{IsHandedIn};
 ghost use Rattle.setup_run.specs.Setups.{setup_lines, after_lines, MayStopAtLine, StopsInSetup};
 
 use crate::lines::{ended_line, last_line};
 use book_store::OneCaller;
 use disk_core::Disk;
 use script_lines::{Line, split_line};
-use script_run::ask_command;
+use script_events::ask_command;
 use store_runs::Stop;
 
 // Asks the command of a line, where it has one; its answer is passed over. No lane was handed in

@@ -1,6 +1,6 @@
 ghost use Rattle.std.specs.Prelude.{◌≡◌};
 ghost use Rattle.script_lines.specs.Script.{ended_says, last_says};
-ghost use Rattle.script_run.specs.Scripts.{every_command};
+ghost use Rattle.script_events.specs.Scripts.{every_command};
 
 use script_lines::{Allowed, Line, MAX_LINE, read_ended_line, read_last_line};
 

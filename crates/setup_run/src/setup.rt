@@ -7,7 +7,7 @@ ghost use Rattle.setup_run.specs.Setups.{IsSetUp, StopsInSetup};
 use crate::asking::ask_lines;
 use book_store::{OneCaller, Store};
 use disk_core::Disk;
-use script_run::SCRIPT;
+use script_events::SCRIPT;
 use store_runs::RunEnd;
 
 /// Runs the setup of a plan over a store: each of its commands is asked as a script asks it, one

@@ -16,10 +16,10 @@ use Rattle.book_store.specs.Stores.{entries_of, held_of}
 use Rattle.store_runs.specs.Books.{BookState, stored_book}
 use Rattle.store_runs.specs.Runs.{Goes, RunGoes}
 use Rattle.store_runs.proofs.StoreSteps.{goes_on}
-use Rattle.script_run.specs.Commands.{AreAnswered}
-use Rattle.script_run.specs.Reached.{EndsAtSummary}
-use Rattle.script_run.specs.Transcript.{texts}
-use Rattle.script_run.proofs.CommandsInTurn.{are_answered}
+use Rattle.script_events.specs.Commands.{AreAnswered}
+use Rattle.script_session.specs.Ends.{EndsAtSummary}
+use Rattle.script_events.specs.Transcript.{texts}
+use Rattle.script_events.proofs.CommandsInTurn.{are_answered}
 use Rattle.trial_run.specs.Steps.{StopsIn, Asks}
 use Rattle.trial_run.specs.Trials.{StopsEarly, EndsScript, ExplainsScript, ExplainsTrial}
 use Rattle.trial_run.specs.TrialScripts.{trial_commands}

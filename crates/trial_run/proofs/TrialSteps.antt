@@ -11,11 +11,11 @@ use Rattle.store_runs.specs.declared.stop.Stop.TheVariants.{NoMemory}
 use Rattle.store_runs.specs.Books.{BookState, stored_book}
 use Rattle.store_runs.specs.Runs.{Goes}
 use Rattle.store_runs.proofs.StoreSteps.{on_unfinished, goes_on, goes_with, goes_as, stays}
-use Rattle.script_run.specs.Asking.{exchange_at}
-use Rattle.script_run.specs.Commands.{after_commands}
-use Rattle.script_run.specs.Transcript.{after_command}
-use Rattle.script_run.specs.Unanswered.{MayStopAt}
-use Rattle.script_run.proofs.CommandsInTurn.{after-append}
+use Rattle.script_events.specs.Asking.{exchange_at}
+use Rattle.script_events.specs.Commands.{after_commands}
+use Rattle.script_events.specs.Transcript.{after_command}
+use Rattle.script_events.specs.Unanswered.{MayStopAt}
+use Rattle.script_events.proofs.CommandsInTurn.{after-append}
 use Rattle.trial_run.specs.Steps.{IsNext, StopsIn, Asks}
 use Rattle.trial_run.specs.TrialScripts.{draw_command, in_turn, sample_question}
 

@@ -9,9 +9,9 @@ use Rattle.book_store.specs.Stores.{entries_of}
 use Rattle.store_runs.specs.declared.stop.Stop.{Stop}
 use Rattle.store_runs.specs.Books.{BookState, stored_book}
 use Rattle.store_runs.specs.Runs.{Goes}
-use Rattle.script_run.specs.Asking.{exchange_at}
-use Rattle.script_run.specs.Commands.{after_commands}
-use Rattle.script_run.specs.Unanswered.{MayStopAt}
+use Rattle.script_events.specs.Asking.{exchange_at}
+use Rattle.script_events.specs.Commands.{after_commands}
+use Rattle.script_events.specs.Unanswered.{MayStopAt}
 use Rattle.trial_run.specs.TrialScripts.{draw_command, sample_question}
 
 -- the question which packs of a batch were drawn, right behind its draw

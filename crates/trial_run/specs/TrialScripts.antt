@@ -20,8 +20,8 @@ use Rattle.script_lines.specs.declared.command.Command.{Command}
 use Rattle.script_lines.specs.declared.command.Verb.{Verb}
 use Rattle.script_lines.specs.declared.command.Verb.TheVariants.{Day, Product, Tare, Open, Start, Weigh, Stop, End, Draw, Measure, Close, Sample}
 use Rattle.store_runs.specs.Books.{BookState}
-use Rattle.script_run.specs.Asking.{exchange_at}
-use Rattle.script_run.specs.Commands.{after_commands}
+use Rattle.script_events.specs.Asking.{exchange_at}
+use Rattle.script_events.specs.Commands.{after_commands}
 use Rattle.trial_run.specs.declared.commands.TheConstants.{TRIAL_DAY, TRIAL_NOMINAL, TRIAL_TARE, LEAST_GROSS, GROSSES, BATCH_PACKS, LANES}
 
 -- ---- commands in order

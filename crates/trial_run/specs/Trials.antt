@@ -9,8 +9,8 @@ use Rattle.store_runs.specs.declared.stop.Stop.{Stop}
 use Rattle.store_runs.specs.declared.stop.Stop.TheVariants.{Finished, WriteFault, DiskFault, NoMemory}
 use Rattle.store_runs.specs.Books.{BookState}
 use Rattle.store_runs.specs.Runs.{FailsToKeep}
-use Rattle.script_run.specs.Commands.{AreAnswered}
-use Rattle.script_run.specs.Transcript.{texts, transcript}
+use Rattle.script_events.specs.Commands.{AreAnswered}
+use Rattle.script_events.specs.Transcript.{texts, transcript}
 use Rattle.trial_run.specs.Steps.{StopsIn}
 use Rattle.trial_run.specs.TrialScripts.{trial_commands}
 

@@ -13,7 +13,8 @@ use crate::batches::ask_batches;
 use crate::commands::head_commands;
 use book_store::{OneCaller, Store};
 use disk_core::{Disk, Sink};
-use script_run::{SCRIPT, Session};
+use script_events::SCRIPT;
+use script_session::Session;
 use std::alloc::Global;
 use store_runs::{RunEnd, Stop};
 

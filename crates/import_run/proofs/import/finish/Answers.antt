@@ -3,7 +3,7 @@ use Rattle.book_store.specs.Stores.{entries_of, held_of}
 use Rattle.text_streams.specs.Streams.{output_at}
 use Rattle.store_runs.proofs.StoreSteps.{goes_on}
 use Rattle.import_table.specs.Imports.{import_in}
-use Rattle.script_run.specs.Books.{book_in, store_in}
+use Rattle.script_session.specs.Sessions.{book_in, store_in}
 use Rattle.import_run.proofs.ImportEnds.{ends_all}
 use Rattle.import_run.proofs.import.finish.Goals as goal
 

@@ -6,7 +6,7 @@ use Rattle.store_runs.specs.declared.stop.Stop.{Stop}
 use Rattle.store_runs.specs.Calls.{call}
 use Rattle.store_runs.specs.Runs.{RunGoes}
 use Rattle.import_table.specs.Imports.{import_in}
-use Rattle.script_run.specs.Books.{book_in, store_in}
+use Rattle.script_session.specs.Sessions.{book_in, store_in}
 use Rattle.import_run.specs.Ends.{EndsImport}
 use Rattle.import_run.specs.Runs.{ExplainsImport}
 use Rattle.import_run.proofs.ImportReading.{goes_unread}

@@ -1,6 +1,6 @@
 use Rattle.std.proofs.lemmas.Result.{err_from_is_err_and}
 use Rattle.book_store.specs.Stores.{entries_of}
-use Rattle.script_run.specs.Books.{book_in, store_in}
+use Rattle.script_session.specs.Sessions.{book_in, store_in}
 use Rattle.import_run.proofs.CommandsAnswered.{answered_alone, stops_alone}
 use Rattle.import_run.proofs.records.answer.Goals as goal
 

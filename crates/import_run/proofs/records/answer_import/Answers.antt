@@ -2,7 +2,7 @@ use Rattle.std.proofs.Common.{refl, sym, subst}
 use Rattle.book_store.specs.Stores.{entries_of}
 use Rattle.text_streams.specs.Streams.{output_at}
 use Rattle.import_table.specs.Imports.{import_in}
-use Rattle.script_run.specs.Books.{book_in, store_in}
+use Rattle.script_session.specs.Sessions.{book_in, store_in}
 use Rattle.import_run.specs.Ends.{EndsImport}
 use Rattle.import_run.proofs.CommandsAnswered.{answered_nothing, stops_reading}
 use Rattle.import_run.proofs.records.answer_import.Goals as goal

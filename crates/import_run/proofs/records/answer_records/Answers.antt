@@ -8,7 +8,7 @@ use Rattle.store_runs.specs.Runs.{Goes}
 use Rattle.store_runs.proofs.StoreSteps.{goes_on, goes_as, stays, on_unfinished}
 use Rattle.script_lines.specs.declared.command.Command.{Command}
 use Rattle.import_table.specs.Imports.{IsNext}
-use Rattle.script_run.specs.Books.{book_in, store_in}
+use Rattle.script_session.specs.Sessions.{book_in, store_in}
 use Rattle.import_run.specs.Ends.{EndsImport}
 use Rattle.import_run.proofs.CommandsAnswered.{answered_nothing, answered_next, stops_asking, stops_reading, goes_stopped}
 use Rattle.import_run.proofs.records.answer_records.Goals as goal

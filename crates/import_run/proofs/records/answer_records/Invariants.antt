@@ -2,7 +2,7 @@ use Rattle.std.proofs.Common.{length, Ok}
 use Rattle.std.specs.Bool.{⊤}
 use Rattle.text_streams.specs.Streams.{output_at}
 use Rattle.store_runs.specs.Runs.{Goes}
-use Rattle.script_run.specs.Books.{book_in, store_in, IsReady}
+use Rattle.script_session.specs.Sessions.{book_in, store_in, IsReady}
 use Rattle.import_run.specs.Answered.{HasAnsweredTo}
 use Rattle.import_run.proofs.records.answer_records.Given as goal
 

@@ -1,8 +1,9 @@
 use Rattle.std.proofs.Common.{rules, ◌≡◌, true, refl, ap, Ok, Err, ◌∙◌, subst, arith}
 use Rattle.std.proofs.lemmas.Result.{err_from_is_err_and}
 use Rattle.store_runs.proofs.StoreSteps.{on_unfinished, stays, goes_on, goes_with, goes_as}
-use Rattle.script_run.specs.Outside.{devices, outside_at}
-use Rattle.script_run.specs.Books.{book_in, store_in, log_in, run_state, HasReadOn}
+use Rattle.script_session.specs.Outside.{devices, outside_at}
+use Rattle.script_session.specs.Sessions.{book_in, store_in, log_in}
+use Rattle.script_run.specs.Books.{run_state, HasReadOn}
 use Rattle.text_streams.specs.Readers.{ReaderView}
 use Rattle.script_run.proofs.RunEnds.{begins, lines_few}
 use Rattle.script_run.proofs.script.read_all.Goals as goal

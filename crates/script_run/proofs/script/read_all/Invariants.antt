@@ -2,8 +2,9 @@ use Rattle.std.proofs.Common.{◌≡◌, ◌-◌, ◌≤◌, true, false, length
 use Rattle.std.specs.Bool.{⊤}
 use Rattle.store_runs.specs.Runs.{Goes}
 use Rattle.script_run.specs.declared.script.TheConstants.{MAX_READS}
-use Rattle.script_run.specs.Outside.{devices, outside_at}
-use Rattle.script_run.specs.Books.{book_in, store_in, log_in, run_state, IsReady, HasReadOn}
+use Rattle.script_session.specs.Outside.{devices, outside_at}
+use Rattle.script_session.specs.Sessions.{book_in, store_in, log_in, IsReady}
+use Rattle.script_run.specs.Books.{run_state, HasReadOn}
 use Rattle.script_run.proofs.script.read_all.Given as goal
 
 -- all was read, or there may be more to read, in fewer reads than may be made

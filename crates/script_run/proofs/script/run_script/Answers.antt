@@ -1,7 +1,8 @@
 use Rattle.std.proofs.Common.{Err, refl, sym, ap, subst}
 use Rattle.book_store.specs.declared.store.Store.{Store}
 use Rattle.book_store.specs.Stores.{entries_of}
-use Rattle.script_run.specs.Outside.{LogView, devices, outside_at, nothing_told}
+use Rattle.script_session.specs.Sessions.{log_in}
+use Rattle.script_session.specs.Outside.{LogView, devices, outside_at, nothing_told}
 use Rattle.store_runs.specs.declared.stop.Stop.TheVariants.{NoMemory}
 use Rattle.store_runs.specs.Books.{stored_book}
 use Rattle.store_runs.proofs.StoreSteps.{stays_same}
@@ -23,7 +24,7 @@ returns-in-Ok-clause-explained g c =
     (subst (λ (l : LogView). Explains (stored_book c.args.store) (call_from (before l) now rows)
     stop) c.in-Ok.ensures.log
     (subst (λ (s : Store _). Explains (stored_book s)
-    (call_from (before c.in-Ok.run'.session.log.told) now rows) stop) c.in-Ok.ensures.store
+    (call_from (before (log_in c.in-Ok.run'.session)) now rows) stop) c.in-Ok.ensures.store
     c.run_whole.ensures.explained))
 
 pub returns-in-Err-clause-explained : goal.returns-in-Err-clause-explained

@@ -2,9 +2,9 @@ use Rattle.std.proofs.Common.{Err, ◌∙◌}
 use Rattle.book_store.specs.Stores.{entries_of, held_of}
 use Rattle.store_runs.proofs.StoreSteps.{goes_on}
 use Rattle.text_streams.specs.Streams.{output_at}
-use Rattle.script_run.specs.Outside.{devices, outside_at}
-use Rattle.script_run.specs.Books.{book_in, store_in, log_in}
-use Rattle.script_run.proofs.AnsweredLines.{works_printed}
+use Rattle.script_session.specs.Outside.{devices, outside_at}
+use Rattle.script_session.specs.Sessions.{book_in, store_in, log_in}
+use Rattle.script_session.proofs.AnsweredLines.{works_printed}
 use Rattle.script_run.proofs.RunEnds.{explained_end}
 use Rattle.script_run.proofs.script.run_whole.Goals as goal
 

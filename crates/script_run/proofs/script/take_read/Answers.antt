@@ -3,8 +3,9 @@ use Rattle.std.proofs.Common.{rules, ◌≡◌, ◌<◌, List, ℕ, length, Ok, 
 use Rattle.std.specs.Bool.{⊤}
 use Rattle.std.proofs.lemmas.Result.{err_from_is_err_and}
 use Rattle.store_runs.proofs.StoreSteps.{goes_as}
-use Rattle.script_run.specs.Outside.{devices, outside_at}
-use Rattle.script_run.specs.Books.{book_in, store_in, log_in, run_state}
+use Rattle.script_session.specs.Outside.{devices, outside_at}
+use Rattle.script_session.specs.Sessions.{book_in, store_in, log_in}
+use Rattle.script_run.specs.Books.{run_state}
 use Rattle.script_run.specs.Reached.{Steps}
 use Rattle.script_run.proofs.RunEnds.{explained_after, explained_last, read_whole, explained_unread, goes_unread}
 use Rattle.script_run.proofs.script.take_read.Goals as goal

@@ -1,4 +1,4 @@
-use Rattle.script_run.proofs.Summaries.{is_summary}
+use Rattle.script_events.proofs.Summaries.{is_summary}
 use Rattle.serve_run.proofs.lines.compose.Goals as goal
 
 pub answer_text-requires : goal.answer_text-requires

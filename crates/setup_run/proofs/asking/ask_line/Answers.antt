@@ -1,6 +1,6 @@
 use Rattle.std.proofs.lemmas.Result.{err_from_is_err_and}
 use Rattle.store_runs.proofs.StoreSteps.{goes_as}
-use Rattle.script_run.specs.Unanswered.{stop_of}
+use Rattle.script_events.specs.Unanswered.{stop_of}
 use Rattle.setup_run.proofs.asking.ask_line.Goals as goal
 
 pub returns-in_err-ask_command-in-Asks-clause-goes :

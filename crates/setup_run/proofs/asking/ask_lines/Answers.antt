@@ -4,7 +4,7 @@ use Rattle.std.specs.Str.Lines.{strip_carriage_return}
 use Rattle.book_store.specs.Stores.{entries_of}
 use Rattle.store_runs.specs.Books.{BookState, stored_book}
 use Rattle.store_runs.proofs.StoreSteps.{goes_on}
-use Rattle.script_run.proofs.LanesHandedIn.{handed_in}
+use Rattle.script_events.proofs.LanesHandedIn.{handed_in}
 use Rattle.setup_run.proofs.SetupLines.{asked_next, stops_next, asked_all, stops_last}
 use Rattle.setup_run.proofs.asking.ask_lines.Goals as goal
 

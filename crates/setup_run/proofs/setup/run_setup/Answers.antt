@@ -6,7 +6,7 @@ use Rattle.book_store.specs.Stores.{entries_of}
 use Rattle.script_lines.specs.Script.{commands_of}
 use Rattle.store_runs.specs.Books.{BookState, stored_book}
 use Rattle.store_runs.specs.Runs.{Goes}
-use Rattle.script_run.proofs.CommandsInTurn.{are_answered}
+use Rattle.script_events.proofs.CommandsInTurn.{are_answered}
 use Rattle.setup_run.specs.Setups.{setup_lines, after_lines}
 use Rattle.setup_run.proofs.setup.run_setup.Goals as goal
 

@@ -1,5 +1,5 @@
 use Rattle.std.proofs.lemmas.Result.{err_from_is_err_and}
-use Rattle.script_run.specs.Unanswered.{stop_of}
+use Rattle.script_events.specs.Unanswered.{stop_of}
 use Rattle.trial_run.proofs.TrialSteps.{asked_one, stopped_one}
 use Rattle.trial_run.proofs.asking.ask_one.Goals as goal
 

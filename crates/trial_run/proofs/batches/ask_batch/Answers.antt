@@ -6,7 +6,7 @@ use Rattle.book_store.specs.declared.store.Store.{Store}
 use Rattle.book_store.specs.Stores.{book_of}
 use Rattle.script_lines.specs.declared.command.Command.{Command}
 use Rattle.store_runs.specs.Books.{BookState, book_state, stored_book}
-use Rattle.script_run.specs.Commands.{after_commands}
+use Rattle.script_events.specs.Commands.{after_commands}
 use Rattle.trial_run.specs.TrialScripts.{batch_name, batch_run, in_turn, measure_commands, drawn_packs, close_commands}
 use Rattle.trial_run.proofs.TrialNames.{packs_weighed, run_drawn, stop_commands}
 use Rattle.trial_run.proofs.TrialSteps.{asks_same, stopped_drawn, first_of_three, second_of_three, third_of_three, all_three}

@@ -6,7 +6,7 @@ use Rattle.text_streams.proofs.PrintedTexts.{wrote_nothing}
 use Rattle.store_runs.specs.declared.stop.Stop.TheVariants.{NoMemory}
 use Rattle.store_runs.specs.Runs.{RunGoes}
 use Rattle.store_runs.proofs.StoreSteps.{stays_same}
-use Rattle.script_run.specs.Books.{store_in}
+use Rattle.script_session.specs.Sessions.{store_in}
 use Rattle.trial_run.specs.Trials.{EndsScript}
 use Rattle.trial_run.proofs.TrialEnds.{ends_as_script}
 use Rattle.trial_run.proofs.trial.finish.Goals as goal

@@ -5,11 +5,12 @@ use Rattle.script_lines.specs.Lines.{rest_of}
 use Rattle.script_lines.specs.Feed.{FeedView}
 use Rattle.store_runs.specs.declared.stop.Stop.TheVariants.{BadLine}
 use Rattle.store_runs.proofs.StoreSteps.{on_unfinished, stays}
-use Rattle.script_run.specs.Books.{book_in, store_in, run_state}
-use Rattle.script_run.specs.Ends.{StopsAtLine}
-use Rattle.script_run.specs.Outside.{lane_count}
-use Rattle.script_run.proofs.ScriptLines.{line_too_long, line_too_long_last}
-use Rattle.script_run.proofs.AnsweredLines.{stops_at_bad}
+use Rattle.script_session.specs.Sessions.{book_in, store_in}
+use Rattle.script_run.specs.Books.{run_state}
+use Rattle.script_session.specs.Ends.{StopsAtLine}
+use Rattle.script_session.specs.Outside.{lane_count}
+use Rattle.script_events.proofs.ScriptLines.{line_too_long, line_too_long_last}
+use Rattle.script_session.proofs.AnsweredLines.{stops_at_bad}
 use Rattle.script_run.proofs.ByteSteps.{reached_part, stops_anyway}
 use Rattle.script_run.proofs.run.Run.begin_line.Goals as goal
 

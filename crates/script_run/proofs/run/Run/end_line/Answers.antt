@@ -3,12 +3,13 @@ use Rattle.std.proofs.lemmas.Result.{err_from_is_err_and}
 use Rattle.std.specs.Str.Lines.{strip_carriage_return}
 use Rattle.script_lines.specs.Feed.{FeedView}
 use Rattle.book_store.specs.Stores.{entries_of}
-use Rattle.script_run.specs.Books.{book_in, store_in, log_in, run_state}
-use Rattle.script_run.specs.Outside.{lane_count, outside_at}
-use Rattle.script_run.specs.Ends.{StopsAtLine}
-use Rattle.script_run.proofs.LanesHandedIn.{handed_in}
+use Rattle.script_session.specs.Sessions.{book_in, store_in, log_in}
+use Rattle.script_run.specs.Books.{run_state}
+use Rattle.script_session.specs.Outside.{lane_count, outside_at}
+use Rattle.script_session.specs.Ends.{StopsAtLine}
+use Rattle.script_events.proofs.LanesHandedIn.{handed_in}
 use Rattle.lane_runs.specs.LaneWorks.{lane_state}
-use Rattle.script_run.proofs.ScriptLines.{ended_line, said_with, line_ended, line_ended_last}
+use Rattle.script_events.proofs.ScriptLines.{ended_line, said_with, line_ended, line_ended_last}
 use Rattle.script_run.proofs.ByteSteps.{lanes_stay, reached_end, stops_anyway}
 use Rattle.script_run.proofs.run.Run.end_line.Goals as goal
 

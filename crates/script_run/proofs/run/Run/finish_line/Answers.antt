@@ -1,12 +1,13 @@
 use Rattle.std.proofs.Common.{ℕ, [], length, subst}
 use Rattle.std.proofs.lemmas.Result.{err_from_is_err_and}
 use Rattle.book_store.specs.Stores.{entries_of}
-use Rattle.script_run.specs.Books.{book_in, store_in, log_in, run_state}
-use Rattle.script_run.specs.Outside.{outside_at}
-use Rattle.script_run.specs.Ends.{StopsAtLine}
-use Rattle.script_run.proofs.LanesHandedIn.{handed_in}
+use Rattle.script_session.specs.Sessions.{book_in, store_in, log_in}
+use Rattle.script_run.specs.Books.{run_state}
+use Rattle.script_session.specs.Outside.{outside_at}
+use Rattle.script_session.specs.Ends.{StopsAtLine}
+use Rattle.script_events.proofs.LanesHandedIn.{handed_in}
 use Rattle.lane_runs.specs.LaneWorks.{lane_state}
-use Rattle.script_run.proofs.ScriptLines.{last_with}
+use Rattle.script_events.proofs.ScriptLines.{last_with}
 use Rattle.script_run.proofs.ScriptEnds.{whole_last, stops_last}
 use Rattle.script_run.proofs.run.Run.finish_line.Goals as goal
 

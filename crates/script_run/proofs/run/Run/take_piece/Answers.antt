@@ -1,9 +1,10 @@
 use Rattle.std.proofs.Common.{◌≡◌, ℕ, List, ◌++◌, ◌∷◌, [], length, Ok, Err, sym, ap, ◌∙◌, append_assoc, length-append, subst, arith}
 use Rattle.std.specs.Bool.{⊤}
 use Rattle.std.proofs.lemmas.Result.{err_from_is_err_and}
-use Rattle.script_run.specs.Books.{store_in, log_in, run_state}
-use Rattle.script_run.specs.declared.session.Session.{Session}
-use Rattle.script_run.specs.Outside.{LogView, outside_at}
+use Rattle.script_session.specs.Sessions.{store_in, log_in}
+use Rattle.script_run.specs.Books.{run_state}
+use Rattle.script_session.specs.declared.session.Session.{Session}
+use Rattle.script_session.specs.Outside.{LogView, outside_at}
 use Rattle.script_run.specs.Reached.{ReachedMore}
 use Rattle.store_runs.proofs.StoreSteps.{goes_on}
 use Rattle.script_run.proofs.ByteSteps.{steps_on, steps_stop, steps_last}

@@ -1,8 +1,9 @@
 use Rattle.std.proofs.Common.{◌≡◌, ◌+◌, ◌≤◌, length, Ok}
 use Rattle.std.specs.Bool.{⊤}
 use Rattle.store_runs.specs.Runs.{Goes}
-use Rattle.script_run.specs.Books.{store_in, log_in, run_state, IsReady}
-use Rattle.script_run.specs.Outside.{outside_at}
+use Rattle.script_session.specs.Sessions.{store_in, log_in, IsReady}
+use Rattle.script_run.specs.Books.{run_state}
+use Rattle.script_session.specs.Outside.{outside_at}
 use Rattle.script_run.proofs.ByteSteps.{GoneOver}
 use Rattle.script_run.proofs.run.Run.take_piece.Given as goal
 

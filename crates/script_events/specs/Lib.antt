@@ -1,0 +1,6 @@
+pub mod Acknowledged
+pub mod Asking
+pub mod Commands
+pub mod Scripts
+pub mod Transcript
+pub mod Unanswered

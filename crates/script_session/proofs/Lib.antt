@@ -1,0 +1,4 @@
+pub mod WorkedLanes
+pub mod AnsweredLines
+pub mod WorkedLines
+pub mod SummaryEnds
