@@ -1,7 +1,9 @@
 -- From the end of a session to what all its jobs come to.
 use Rattle.std.specs.Prelude.{⊤}
-use Rattle.std.proofs.Common.{zero, suc, ◌≡◌, ℕ, ◌+◌, ◌-◌, ◌^◌, ◌<◌, ◌≤◌, min, List, [], ◌∷◌, ◌++◌, length, map, drop, get_or, All, Contains, sum_by, Option, Some, IsSome}
+use Rattle.std.proofs.Common.{zero, suc, ◌≡◌, ℕ, ◌+◌, ◌-◌, ◌^◌, ◌<◌, ◌≤◌, min, List, [], ◌∷◌, ◌++◌, length, map, drop, get_or, All, Contains, sum_by, Option, Some, IsSome, true, false}
 use Rattle.std.proofs.Common.{refl, sym, ap, ◌∙◌, subst, arith, append-nil, length-append}
+use Rattle.std.specs.declared.alloc.Global.{Global}
+use Rattle.std.specs.declared.vec.Vec.{Vec}
 use Rattle.std.specs.List.{AllZip}
 use Rattle.std.proofs.lemmas.List.{length-map}
 use Rattle.std.proofs.lemmas.List.Elements.{All-cons, All-head, All-map, All-nil, All-tail, All-weaker}
@@ -11,25 +13,27 @@ use Rattle.device_facts.specs.Prefix.{IsPrefixOf}
 use Rattle.disk_core.specs.declared.disk.Disk as disk
 use Rattle.disk_core.specs.declared.source.Source as source
 use Rattle.disk_core.specs.Doors.{Connections}
+use Rattle.book_laws.proofs.MoveLaws.{balanced}
 use Rattle.book_words.specs.declared.act.Entry.{Entry}
 use Rattle.book_words.specs.Callers.{Known, FAULTS_END}
 use Rattle.book_store.specs.Callers.{own_rows}
 use Rattle.book_store.specs.declared.store.Store.{Store}
-use Rattle.book_store.specs.Stores.{disk_of, entries_of, limit_of, Hangs}
+use Rattle.book_store.specs.Stores.{disk_of, entries_of, limit_of, Hangs, IsSound}
 use Rattle.lane_worker.specs.declared.cell.Cell as cell
 use Rattle.lane_worker.specs.declared.gate.Gate as gate
 use Rattle.lane_worker.specs.Works as lanes
 use Rattle.office_door.specs.Doors as doors
 use Rattle.office_door.specs.Doors.{FailedSoOften}
-use Rattle.session_laws.specs.declared.session.Session as session
-use Rattle.session_laws.specs.Sessions.{Begins}
+use Rattle.shared_book.specs.Names.session
+use Rattle.shared_book.specs.Sessions.{Begins}
 use Rattle.shared_book.specs.Closing.{IsCalm, MakeRows}
 use Rattle.shared_book.specs.Locked.{IsNewSeat}
 use Rattle.shared_book.specs.Passes.{IsPassOf, entries_in, known_of, row_of}
 use Rattle.turn_pass.specs.History.{BookState, PassState, TurnState, opening, newcomer as new_pass}
+use Rattle.session_jobs.specs.declared.begin.JobsEnd.{JobsEnd}
 use Rattle.session_jobs.specs.declared.job.Job.{Job}
 use Rattle.session_jobs.specs.declared.work.Work.{Work}
-use Rattle.session_jobs.specs.Ends.{HasEnded}
+use Rattle.session_jobs.specs.Ends.{EndsSession, HasEnded}
 use Rattle.session_jobs.specs.Jobs.{IsReady, IsRun, new_job, with_passes}
 use Rattle.session_jobs.specs.Runs.{newcomer, IsDoneBeside, Run, HasRun, HaveRun, faults_answered}
 use Rattle.session_jobs.specs.Works.{number_of, lane_site, door_site}
@@ -366,4 +370,49 @@ module _ {N L O : Type 0} (session : session.Ghosts N) (weighs : cell.Ghosts L)
             (others_right works ended.ends jobs m rows ended.rows);
         faults = let all = counts faults_of FAULTS_END 0 ended.ends in
             omega (arith, ended.told, all, same);
+      }
+
+-- ---- what is told of a session without its names
+
+module _ {L O : Type 0} (weighs : cell.Ghosts L) (lifts : gate.Ghosts L) (reads : source.Ghosts O)
+    (connections : O → Option Connections) where
+  -- no job ran
+  pub unbegun_ends : {D : Type 0} (disk : disk.Ghosts D) (store : Store D)
+      (jobs : Vec (Work L O) Global) (end : JobsEnd D L O) → IsSound disk store → ¬ Hangs store
+      → end ≡ record { store = store; jobs = jobs; ran = false; faults = 0 }
+      → EndsSession disk (lane_site weighs lifts) (door_site reads connections) store jobs end
+  unbegun_ends disk store jobs end sound calm is =
+      subst (EndsSession disk (lane_site weighs lifts) (door_site reads connections) store jobs)
+      (sym is) (record {
+        ran = λ ran. absurd (let never : false ≡ true = ran in cc);
+        unbegun = λ unbegun. record { store_left = refl; jobs_left = refl; calm = refl };
+        faults = refl;
+        settled = λ none. calm;
+        sound = sound;
+        balanced = balanced (entries_of store);
+        limit = refl;
+        kept = λ rests held start run. run;
+      })
+
+  -- they ran
+  pub session_ends : {D N A B : Type 0} (session : session.Ghosts N) (disk : disk.Ghosts D)
+      (first last : Store D) → Begins disk session first → (seat : BookState Entry)
+      → seat.list ≡ [] → (jobs behind : Vec (Work L O) Global) (failed : ℕ)
+      → HasEnded {A = A} {B = B} disk session (lane_site weighs lifts)
+      (door_site reads connections) (map (new_job seat) jobs.items) last behind.items failed
+      → EndsSession disk (lane_site weighs lifts) (door_site reads connections) first jobs
+      (record { store = last; jobs = behind; ran = true; faults = failed })
+  session_ends {D} {N} {A} {B} session disk first last begins seat empty jobs behind failed ended =
+      record {
+        ran = λ ran. have_run session weighs lifts reads connections disk first last begins seat
+            empty jobs.items behind.items failed ended;
+        unbegun = λ unbegun. absurd (let never : true ≡ false = unbegun in cc);
+        faults = failed_right session weighs lifts reads connections disk first last begins
+            (map (new_job seat) jobs.items) behind.items failed ended;
+        settled = settled_right session weighs lifts reads connections disk first last begins
+            (map (new_job seat) jobs.items) behind.items failed ended;
+        sound = ended.kept.sound;
+        balanced = ended.kept.balanced;
+        limit = ended.kept.limit ∙ begins.limit;
+        kept = λ rests held start run. ended.goes_on held start first begins rests run;
       }

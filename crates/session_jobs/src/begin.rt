@@ -4,8 +4,9 @@ ghost use Rattle.book_words.specs.declared.act.Entry.{Entry as Entered};
 ghost use Rattle.book_words.specs.Balance.{IsBalanced};
 ghost use Rattle.book_store.specs.Stores.{disk_of, entries_of, limit_of, Hangs, IsSound};
 ghost use Rattle.office_door.specs.Doors.{FailedSoOften};
-ghost use Rattle.session_laws.specs.Sessions.{KeepsRun, RestsOnDisk};
+ghost use Rattle.shared_book.specs.Sessions.{KeepsRun, RestsOnDisk};
 ghost use Rattle.session_jobs.specs.declared.work.TheConstants.{MAX_JOBS};
+ghost use Rattle.session_jobs.specs.Ends.{EndsSession};
 ghost use Rattle.session_jobs.specs.Jobs.{IsEmptyCrew, HasRoomFor};
 ghost use Rattle.session_jobs.specs.Runs.{HaveRun, IsUnbegun};
 ghost use Rattle.session_jobs.specs.Works.{number_of, lane_site, door_site};
@@ -74,18 +75,8 @@ fn hold_session<
         × (rows.parts ≡ length jobs.items + 1) }
     requires faults { (faults.name ≡ B.name) × (faults.parts ≡ B.parts)
         × (faults.parts ≡ length jobs.items + 1) }
-    ensures ran { result.ran ≡ true → HaveRun (lane_site L.Cell L.Gate)
-        (door_site O.Source O.connections) (limit_of store) (entries_of store)
-        (entries_of result.store) result.faults jobs.items result.jobs.items }
-    ensures unbegun { result.ran ≡ false → IsUnbegun store jobs result }
-    ensures faults { FailedSoOften (D.faults (disk_of store)) (D.faults (disk_of result.store))
-        result.faults }
-    ensures settled { result.faults ≡ 0 → ¬ Hangs result.store }
-    ensures sound { IsSound D.Disk result.store }
-    ensures balanced { IsBalanced (entries_of result.store) }
-    ensures limit { limit_of result.store ≡ limit_of store }
-    ensures kept { RestsOnDisk D.Disk store → (held : List Entered) (start : D)
-        → KeepsRun D.Disk held start store → KeepsRun D.Disk held start result.store }
+    ensures ends { EndsSession D.Disk (lane_site L.Cell L.Gate) (door_site O.Source O.connections)
+        store jobs result }
 {
     let Ok(mut crew) = take_room(alloc, jobs.len()) else {
         return unbegun(store, jobs);

@@ -1,7 +1,7 @@
 //! A session that has begun: all its jobs at once, and its end.
 ghost use Rattle.std.specs.Prelude.{◌≡◌, ◌+◌, [], All, vec_len};
 ghost use Rattle.book_store.specs.Stores.{IsSound};
-ghost use Rattle.session_laws.specs.Sessions.{Begins};
+ghost use Rattle.shared_book.specs.Sessions.{Begins};
 ghost use Rattle.shared_book.specs.Locked.{IsNewSeat};
 ghost use Rattle.shared_book.specs.Passes.{IsTurnOf};
 ghost use Rattle.std.specs.List.{AllZip};
@@ -16,8 +16,7 @@ use book_store::Store;
 use book_words::Entry;
 use disk_core::{Disk, Door};
 use lane_worker::Lane;
-use session_laws::Session;
-use shared_book::{Closed, PassEnd, Shared};
+use shared_book::{Closed, PassEnd, Session, Shared};
 use std::alloc::Global;
 use std::sync::Wait;
 use std::sync::ledger::Ledger;

@@ -1,24 +1,28 @@
 use Rattle.std.proofs.Common.{◌≡◌, ◌+◌, [], List, All, length, map, refl, sym, ap, ◌∙◌, subst, arith}
 use Rattle.std.proofs.lemmas.List.{length-map}
-use Rattle.book_laws.proofs.MoveLaws.{balanced}
 use Rattle.book_words.specs.declared.act.Entry.{Entry}
-use Rattle.book_store.specs.Stores.{entries_of}
-use Rattle.session_laws.proofs.SessionLemmas.{begins_named}
-use Rattle.session_laws.specs.Sessions.{session_of}
+use Rattle.shared_book.proofs.SessionLemmas.{begins_named}
+use Rattle.shared_book.specs.Sessions.{session_of}
 use Rattle.turn_pass.specs.History.{BookState, opening}
 use Rattle.session_jobs.specs.declared.job.Job.{Job}
 use Rattle.session_jobs.specs.Ends.{HasEnded}
 use Rattle.session_jobs.specs.Jobs.{IsReady, new_job, with_passes}
 use Rattle.session_jobs.specs.Works.{number_of, lane_site, door_site}
-use Rattle.session_jobs.proofs.RunLemmas.{all_ready, new_seat, have_run, failed_right, settled_right}
+use Rattle.session_jobs.proofs.RunLemmas.{all_ready, new_seat, session_ends, unbegun_ends}
 use Rattle.session_jobs.proofs.begin.hold_session.Goals as goal
 
-pub returns-in_default-clause-balanced : goal.returns-in_default-clause-balanced
-returns-in_default-clause-balanced g c = balanced (entries_of c.unbegun.result.store)
+pub returns-in_default : goal.returns-in_default
+returns-in_default g c = record {
+  ends = unbegun_ends g.L.Cell g.L.Gate g.O.Source g.O.Door.connections g.D.Disk c.args.store
+      c.args.jobs c.unbegun.result c.requires.sound c.requires.calm c.unbegun.ensures;
+}
 
-pub returns-in_default-begin-clause-balanced : goal.returns-in_default-begin-clause-balanced
-returns-in_default-begin-clause-balanced g c =
-    balanced (entries_of c.unbegun-in_default-begin.result.store)
+pub returns-in_default-begin : goal.returns-in_default-begin
+returns-in_default-begin g c = record {
+  ends = unbegun_ends g.L.Cell g.L.Gate g.O.Source g.O.Door.connections g.D.Disk c.args.store
+      c.args.jobs c.unbegun-in_default-begin.result c.requires.sound c.requires.calm
+      c.unbegun-in_default-begin.ensures;
+}
 
 pub hold-store-requires-clause-begins : goal.hold-store-requires-clause-begins
 hold-store-requires-clause-begins g c =
@@ -55,46 +59,19 @@ hold-store-requires-clause-ready g c = λ κs _.
     (ap (λ (s : BookState Entry). s.history) book ∙ (c.in-Ok-begin.ensures.turn ∙ c.len-2.ensures))
     c.args.jobs.items)
 
-pub returns-clause-ran : goal.returns-clause-ran
-returns-clause-ran g c = λ ran.
+pub returns : goal.returns
+returns g c =
     let J : Type 0 = Job g.row.L.Denot g.row.O.Denot g.row.A.Denot g.row.B.Denot in
     let seat = c.in-Ok-begin.seat in
-    let first = c.args.store in
     let last = c.hold-store.result.0 in
-    let session = session_of g.D.Disk c.in-Ok-begin.turn.table first in
-    let begins = begins_named g.D.Disk c.in-Ok-begin.turn.table first c.requires.calm in
-    let ended = c.hold-store.ensures.ended in
-    have_run session g.L.Cell g.L.Gate g.O.Source g.O.Door.connections g.D.Disk
-    first last begins seat (ap (λ (s : BookState Entry). s.list) c.in-Ok-begin.ensures.book)
-    c.args.jobs.items c.hold-store.result.1.items c.hold-store.result.2
-    (subst (λ (js : List J). HasEnded g.D.Disk session (lane_site g.L.Cell g.L.Gate)
-    (door_site g.O.Source g.O.Door.connections) js last c.hold-store.result.1.items
-    c.hold-store.result.2) c.employ.ensures.jobs ended)
-
-pub returns-clause-faults : goal.returns-clause-faults
-returns-clause-faults g c =
-    let first = c.args.store in
-    let last = c.hold-store.result.0 in
-    let session = session_of g.D.Disk c.in-Ok-begin.turn.table first in
-    let begins = begins_named g.D.Disk c.in-Ok-begin.turn.table first c.requires.calm in
-    let ended = c.hold-store.ensures.ended in
-    failed_right session g.L.Cell g.L.Gate g.O.Source g.O.Door.connections g.D.Disk first last begins
-    c.employ.result.items c.hold-store.result.1.items c.hold-store.result.2 ended
-
-pub returns-clause-settled : goal.returns-clause-settled
-returns-clause-settled g c =
-    let first = c.args.store in
-    let last = c.hold-store.result.0 in
-    let session = session_of g.D.Disk c.in-Ok-begin.turn.table first in
-    let begins = begins_named g.D.Disk c.in-Ok-begin.turn.table first c.requires.calm in
-    let ended = c.hold-store.ensures.ended in
-    settled_right session g.L.Cell g.L.Gate g.O.Source g.O.Door.connections g.D.Disk first last begins
-    c.employ.result.items c.hold-store.result.1.items c.hold-store.result.2 ended
-
-pub returns-clause-limit : goal.returns-clause-limit
-returns-clause-limit g c = c.hold-store.ensures.ended.kept.limit
-
-pub returns-clause-kept : goal.returns-clause-kept
-returns-clause-kept g c = λ rests held start run.
-    c.hold-store.ensures.ended.goes_on held start c.args.store
-    (begins_named g.D.Disk c.in-Ok-begin.turn.table c.args.store c.requires.calm) rests run
+    let session = session_of g.D.Disk c.in-Ok-begin.turn.table c.args.store in
+    record {
+      ends = session_ends g.L.Cell g.L.Gate g.O.Source g.O.Door.connections session g.D.Disk
+          c.args.store last
+          (begins_named g.D.Disk c.in-Ok-begin.turn.table c.args.store c.requires.calm) seat
+          (ap (λ (s : BookState Entry). s.list) c.in-Ok-begin.ensures.book) c.args.jobs
+          c.hold-store.result.1 c.hold-store.result.2
+          (subst (λ (js : List J). HasEnded g.D.Disk session (lane_site g.L.Cell g.L.Gate)
+          (door_site g.O.Source g.O.Door.connections) js last c.hold-store.result.1.items
+          c.hold-store.result.2) c.employ.ensures.jobs c.hold-store.ensures.ended);
+    }
