@@ -93,8 +93,7 @@ impl<D: Disk> Session<D> {
     {
         let answer = ask_command(&mut self.caller, command)?;
         compose_answer(&answer, &mut self.text);
-        write_whole(output, &self.text)?;
-        Ok(())
+        write_whole(output, &self.text)
     }
 
     // Says the line of a lane; where it is cut, it isn't said again.
@@ -110,8 +109,7 @@ impl<D: Disk> Session<D> {
     {
         let written = write_whole(output, self.log.unsaid());
         self.log.clear();
-        written?;
-        Ok(())
+        written
     }
 
     /// Works the lane of a number for a batch, and writes its line before anything else is asked.
@@ -145,8 +143,7 @@ impl<D: Disk> Session<D> {
         let worked = work_lane(&mut self.caller, lane, number, batch);
         self.log.add(number, worked.end);
         worked.step?;
-        self.say_line(output)?;
-        Ok(())
+        self.say_line(output)
     }
 
     /// Does what the line of a number says: a command is answered, a lane is worked, and a bad line
@@ -174,14 +171,8 @@ impl<D: Disk> Session<D> {
     {
         match line {
             Line::Nothing => Ok(()),
-            Line::Asks(command) => {
-                self.answer(command, output, lanes)?;
-                Ok(())
-            }
-            Line::Works { lane, batch } => {
-                self.work(*lane, *batch, output, lanes)?;
-                Ok(())
-            }
+            Line::Asks(command) => self.answer(command, output, lanes),
+            Line::Works { lane, batch } => self.work(*lane, *batch, output, lanes),
             Line::Bad => Err(Stop::BadLine(number)),
         }
     }
@@ -239,6 +230,5 @@ fn summarize<D: Disk, K: Sink>(
 {
     keep_snapshot(store)?;
     compose_summary(store.book(), text);
-    write_whole(output, text)?;
-    Ok(())
+    write_whole(output, text)
 }
