@@ -2,33 +2,21 @@
 //! and the words of the command line.
 #![tactic(auto)]
 
-ghost use Rattle.std.specs.Prelude.{◌≡◌, ◌⊎◌, ◌↔◌, false, true, None, Some, ◌≤◌, [], length, IfOk};
+ghost use Rattle.std.specs.Prelude.{◌≡◌, ◌↔◌, ◌≤◌, false, None, length, IfOk};
 ghost use Rattle.std.specs.Process.{exit_status};
 ghost use Rattle.hall_limits.specs.declared.TheConstants.{MAX_LANE, MAX_DOOR};
-ghost use Rattle.command_line.specs.Words.{Wanted, bytes_of, wanted_of};
-ghost use Rattle.hall_top.specs.declared.ended.Ended.{Ended};
-ghost use Rattle.book_store.specs.declared.types.MountError.TheVariants as why;
-ghost use Rattle.text_streams.specs.Streams.{input_at, output_at};
-ghost use Rattle.script_run.specs.Outside.{call, outside_at, nothing_told, all_said};
-ghost use Rattle.session_jobs.specs.Works.{lane_site, door_site};
-ghost use Rattle.serve_run.specs.Jobs.{handed_in};
-ghost use Rattle.serve_run.specs.Serving.{moment};
-ghost use Rattle.hall_top.specs.declared.ending.Ending.TheVariants as ending;
-ghost use Rattle.hall_top.specs.Asked.{is_serve};
-ghost use Rattle.hall_top.specs.Endings.{SaysLast};
-ghost use Rattle.hall_top.specs.Calls.{EndsAs, IsUnopened, LeavesOutcome};
-ghost use Rattle.hall_top.specs.Serving.{IsServed};
+ghost use Rattle.command_line.specs.Words.{bytes_of, wanted_of};
+ghost use Rattle.text_streams.specs.Streams.{output_at};
+ghost use Rattle.hall_top.specs.Endings.{LacksMemory};
 
 use book_snapshot::ROW_BYTES;
-use book_store::MountError;
 use command_line::{Wants, WantsError, wants};
 use disk_core::{Disk, Door, QuietDisk, Sink, Source, StdSink, StdSource};
 use file_disk::{FileDisk, OpenError};
 use hall_limits::{MAX_DOOR, MAX_LANE, MAX_ROWS};
-use hall_top::{DoorEnds, Ending, hall, say_last};
+use hall_top::{DoorEnds, Ending, LaneEnds, MountError, hall, say_last};
 use lane_files::{FileLane, file_lanes};
 use lane_worker::Lane;
-use script_run::LaneEnds;
 use std::alloc::{AllocError, Global};
 use std::env;
 use std::fs::File;
@@ -57,8 +45,8 @@ fn words(rt: &(impl Env + AllocGlobal)) -> Vec<String> {
     kept.unwrap_or(Vec::new(rt.alloc()))
 }
 
-// Does what the words say over a disk, with these lanes and doors. The exit status is that of the
-// call, and what it says of the streams, the disk, the lanes and the doors is true for some rows.
+// Does what the words say over a disk, with these lanes and doors: the call of `hall`, whose contract
+// says what that does. The exit status is that of the call.
 fn run<
     S: Source,
     K: Sink,
@@ -79,26 +67,6 @@ fn run<
     requires few_doors { length doors.items ≤ MAX_DOOR }
     requires unended { S.ended input.old ≡ false }
     ensures words { (exit_status result ≡ 2) ↔ (wanted_of (bytes_of words.now) ≡ None) }
-    ensures ends { (wanted : Wanted) → wanted_of (bytes_of words.now) ≡ Some wanted →
-        is_serve wanted.command ≡ false →
-        (ended : Ended D L O) × (ended.status ≡ exit_status result)
-        × LeavesOutcome (EndsAs D.Disk wanted disk) ended
-        (call S.Source input.old input.new
-        (outside_at K.Sink L.Cell L.Gate output.old lanes.items nothing_told)
-        (outside_at K.Sink L.Cell L.Gate output.new ended.lanes.items (all_said ended.lane_ends))
-        ended.rows) }
-    ensures serves { (wanted : Wanted) → wanted_of (bytes_of words.now) ≡ Some wanted →
-        is_serve wanted.command ≡ true →
-        (ended : Ended D L O) × (ended.status ≡ exit_status result)
-        × (IsServed D.Disk (lane_site L.Cell L.Gate) (door_site O.Source O.connections)
-        wanted.limit disk (moment (input_at S.Source input.old) (output_at K.Sink output.old)
-        (D.faults disk) (handed_in lanes.items doors.items))
-        (input_at S.Source input.new) (output_at K.Sink output.new) ended
-        ⊎ (LeavesOutcome (IsUnopened D.Disk disk) ended
-        (call S.Source input.old input.new
-        (outside_at K.Sink L.Cell L.Gate output.old lanes.items nothing_told)
-        (outside_at K.Sink L.Cell L.Gate output.new ended.lanes.items (all_said ended.lane_ends))
-        ended.rows) × (ended.doors ≡ doors))) }
 {
     ExitCode::from(hall(rt, rt.alloc(), words, input, output, disk, lanes, doors).status)
 }
@@ -172,8 +140,8 @@ fn open_doors<R: AllocGlobal + Eprint + Net<Listener = TcpListener, Stream = Tcp
 
 // The end of a call for which there is no memory: its last line and its status.
 fn end_without_memory<K: Sink>(alloc: Global, output: &mut K) -> ExitCode
-    ensures { SaysLast (ending.Unopened why.NoMemory) nothing_told [] (output_at K.Sink output.old)
-        (output_at K.Sink output.new) (exit_status result) }
+    ensures { LacksMemory (output_at K.Sink output.old) (output_at K.Sink output.new)
+        (exit_status result) }
 {
     let ending = Ending::Unopened(MountError::NoMemory);
     let lanes = LaneEnds::new(Vec::new(alloc));

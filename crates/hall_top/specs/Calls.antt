@@ -3,6 +3,8 @@ use Rattle.std.specs.Prelude.{◌≡◌, ◌⊎◌, ℕ, ◌≤◌, List, [], le
 use Rattle.disk_core.specs.Disk.{WhereTold}
 use Rattle.disk_core.specs.Devices.{IsUnmoved}
 use Rattle.disk_core.specs.declared.disk.Disk as disk
+use Rattle.disk_core.specs.declared.sink.Sink as sink
+use Rattle.disk_core.specs.declared.source.Source as source
 use Rattle.book_words.specs.declared.act.Entry.{Entry}
 use Rattle.book_words.specs.declared.name.Name.{Name}
 use Rattle.book_words.specs.Answers.{IsLegal}
@@ -16,13 +18,15 @@ use Rattle.book_store.specs.Stores.{disk_of, entries_of}
 use Rattle.book_store.specs.Listing.{IsOpenedAs}
 use Rattle.book_store.specs.Mounting.{IsCauseOf, IsPassing}
 use Rattle.book_store.specs.Resting.{HoldsSnapshotOf}
+use Rattle.lane_worker.specs.declared.cell.Cell as cell
+use Rattle.lane_worker.specs.declared.gate.Gate as gate
 use Rattle.text_streams.specs.Streams.{Stream, WroteAll, IsCutIn, Devices as StreamDevices}
 use Rattle.store_runs.specs.declared.stop.Stop.{Stop}
 use Rattle.store_runs.specs.declared.stop.Stop.TheVariants.{Finished, WriteFault}
 use Rattle.store_runs.specs.Books.{BookState, stored_book}
 use Rattle.store_runs.specs.Runs.{HasGrown, CountsStop, SparesDisk, RunGoes}
 use Rattle.store_runs.specs.Stops.{stop_row}
-use Rattle.script_run.specs.Outside.{Outside, Devices, Call}
+use Rattle.script_run.specs.Outside.{LogView, Outside, Devices, Call, call, outside_at, nothing_told, all_said}
 use Rattle.script_run.specs.Runs.{ExplainsRun}
 use Rattle.book_migration.specs.Migration.{InputMoment, ExplainsMigration}
 use Rattle.store_runs.specs.Calls.{Call as StreamCall}
@@ -39,6 +43,14 @@ use Rattle.command_line.specs.Words.{Wanted}
 use Rattle.command_line.specs.declared.types.Command.{Command}
 use Rattle.command_line.specs.declared.types.Command.TheVariants.{Run, Serve, Report, Export, Check}
 use Rattle.command_line.specs.declared.types.Command.TheVariants.{Import, Trial, Migrate}
+
+-- a call that began with nothing told of lanes: its input, its output and its lanes before it and
+-- after it, what is then told of lanes, and the rows that it leaves
+abbrev pub call_between : {S K L : Type 0} → source.Ghosts S → sink.Ghosts K → cell.Ghosts L
+    → gate.Ghosts L → S → S → K → K → List L → List L → LogView → List Entry → Call S
+call_between reads writes weighs lifts input input_now output output_now lanes lanes_now log rows =
+    call reads input input_now (outside_at writes weighs lifts output lanes nothing_told)
+        (outside_at writes weighs lifts output_now lanes_now log) rows
 
 -- nothing was read or written, no lane was worked, and there are no rows
 pub record NothingDone {S : Type 0} (call : Call S) : Type 0 where
@@ -234,6 +246,14 @@ pub record LeavesOutcome {S D L O : Type 0} (Holds : Outcome D → Call S → Ty
     };
   })
   pub last : SaysLast outcome.ending outcome.log.told [] said call.now.outside.output ended.status
+
+-- The same of a call between these devices: its input, its output and its lanes before it and after
+-- it. Nothing was told of lanes before it, and all is said behind it.
+unfoldable pub Leaves : {S K D L O : Type 0} → source.Ghosts S → sink.Ghosts K → cell.Ghosts L
+    → gate.Ghosts L → S → S → K → K → List L → (Outcome D → Call S → Type 0) → Ended D L O → Type 0
+Leaves reads writes weighs lifts input input_now output output_now lanes Holds ended =
+    LeavesOutcome Holds ended (call_between reads writes weighs lifts input input_now output
+    output_now lanes ended.lanes.items (all_said ended.lane_ends) ended.rows)
 
 -- A command was done over a store: it stopped in one of its ways, and the disk and the rows are those
 -- of the store that it left.

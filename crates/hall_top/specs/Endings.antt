@@ -175,6 +175,11 @@ SaysLast ending log doors before now status =
     ⊎ (IsCutIn before now [] (last_text ending log doors)
     × (status ≡ min (last_status ending log doors) (status_of_stop WriteFault)))
 
+-- there was no memory for the call, and nothing was told of its lanes: its last line, and its status
+abbrev pub LacksMemory : Stream → Stream → ℕ → Type 0
+LacksMemory before now status =
+    SaysLast (Unopened mount.NoMemory) (record { ends = []; unsaid = [] }) [] before now status
+
 -- the statuses that the program may end with
 abbrev pub is_status : ℕ → Bool
 is_status status =

@@ -1,8 +1,13 @@
 -- What a call that serves does: its disk, its plan, its lanes and doors, its last line.
-use Rattle.std.specs.Prelude.{◌≡◌, ◌⊎◌, ℕ, ◌≤◌, List, length, take, All, None}
+use Rattle.std.specs.Prelude.{◌≡◌, ◌⊎◌, ℕ, ◌≤◌, List, length, take, All, Option, None}
+use Rattle.std.specs.declared.alloc.Global.{Global}
+use Rattle.std.specs.declared.vec.Vec.{Vec}
 use Rattle.device_facts.specs.Count.{Rose}
 use Rattle.disk_core.specs.Disk.{WhereTold}
+use Rattle.disk_core.specs.Doors.{Connections}
 use Rattle.disk_core.specs.declared.disk.Disk as disk
+use Rattle.disk_core.specs.declared.sink.Sink as sink
+use Rattle.disk_core.specs.declared.source.Source as source
 use Rattle.book_words.specs.declared.act.Entry.{Entry}
 use Rattle.book_words.specs.Answers.{IsLegal}
 use Rattle.book_words.specs.Callers.{Known}
@@ -12,6 +17,8 @@ use Rattle.book_store.specs.Images.{HoldsBook}
 use Rattle.book_store.specs.Listing.{IsOpenedAs}
 use Rattle.book_store.specs.Resting.{HoldsSnapshotOf}
 use Rattle.book_store.specs.Stores.{disk_of, entries_of}
+use Rattle.lane_worker.specs.declared.cell.Cell as cell
+use Rattle.lane_worker.specs.declared.gate.Gate as gate
 use Rattle.lane_worker.specs.declared.ending.LaneEnd.{LaneEnd}
 use Rattle.lane_worker.specs.declared.ending.LaneStop.TheVariants as lane
 use Rattle.lane_worker.specs.Works as lanes
@@ -19,7 +26,8 @@ use Rattle.office_door.specs.declared.ending.DoorEnd.{DoorEnd}
 use Rattle.office_door.specs.declared.ending.DoorStop.TheVariants as door
 use Rattle.office_door.specs.Doors as doors
 use Rattle.session_laws.specs.Sessions.{HoldsOrOneMore, LeavesFrom}
-use Rattle.text_streams.specs.Streams.{Stream}
+use Rattle.session_jobs.specs.Works.{lane_site, door_site}
+use Rattle.text_streams.specs.Streams.{Stream, input_at, output_at}
 use Rattle.store_runs.specs.Books.{BookState, stored_book}
 use Rattle.store_runs.specs.Runs.{HasGrown}
 use Rattle.store_runs.specs.Stops.{stop_row}
@@ -27,12 +35,12 @@ use Rattle.script_run.specs.Outside.{all_said}
 use Rattle.serve_run.specs.declared.stop.ServeStop.{ServeStop}
 use Rattle.serve_run.specs.declared.stop.ServeStop.TheVariants.{BadPlan, Early, Ran}
 use Rattle.serve_run.specs.declared.stop.JobsStop.TheVariants.{Finished}
-use Rattle.serve_run.specs.Jobs.{Handed}
+use Rattle.serve_run.specs.Jobs.{Handed, handed_in}
 use Rattle.serve_run.specs.Keeping.{ServeGoes}
 use Rattle.serve_run.specs.Serving.{Moment, moment, ExplainsServe, CountsServe}
 use Rattle.hall_top.specs.declared.ended.Ended.{Ended}
 use Rattle.hall_top.specs.declared.ending.Ending.TheVariants.{Served}
-use Rattle.hall_top.specs.Calls.{KeepsRows}
+use Rattle.hall_top.specs.Calls.{KeepsRows, IsUnopened, Leaves}
 use Rattle.hall_top.specs.Endings.{SaysLast}
 
 -- the lanes and doors that a call leaves, and how they ended
@@ -99,6 +107,20 @@ pub record IsServed {D L O : Type 0} (disk : disk.Ghosts D) (lane_at : Known →
       ended.status
   pub done : ended.status ≡ 0
       → (stop ≡ Ran Finished) × AllEndDone ended.lane_ends ended.door_ends
+
+-- A call of `serve` between these devices: it served over the book; or the disk wasn't opened as one,
+-- and the doors are as they were.
+unfoldable pub EndsServe : {S K D L O : Type 0} → source.Ghosts S → sink.Ghosts K → disk.Ghosts D
+    → cell.Ghosts L → gate.Ghosts L → source.Ghosts O → (O → Option Connections) → ℕ
+    → S → S → K → K → D → Vec L Global → Vec O Global → Ended D L O → Type 0
+EndsServe reads writes disk weighs lifts hears connections limit input input_now output output_now
+    before given_lanes given_doors ended =
+    IsServed disk (lane_site weighs lifts) (door_site hears connections) limit before
+    (moment (input_at reads input) (output_at writes output) (disk.faults before)
+    (handed_in given_lanes.items given_doors.items)) (input_at reads input_now) (output_at writes output_now)
+    ended
+    ⊎ (Leaves reads writes weighs lifts input input_now output output_now given_lanes.items
+    (IsUnopened disk before) ended × (ended.doors ≡ given_doors))
 
 -- A serve was done over a store: it stopped in one of its ways, the disk and the rows are those of
 -- the store that it left, and then came the last line.

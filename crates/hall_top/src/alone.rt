@@ -7,14 +7,14 @@ ghost use Rattle.book_store.specs.Stores.{entries_of, held_of, IsSound};
 ghost use Rattle.command_line.specs.Words.{Wanted, bytes_of};
 ghost use Rattle.command_line.specs.Taken.{IsInRange, seen};
 ghost use Rattle.store_runs.specs.Books.{stored_book};
-ghost use Rattle.script_run.specs.Outside.{call, outside_at, nothing_told, all_said};
+ghost use Rattle.script_run.specs.Outside.{nothing_told};
 ghost use Rattle.store_runs.specs.Runs.{RunGoes};
 ghost use Rattle.text_streams.specs.Streams.{output_at};
 ghost use Rattle.hall_top.specs.declared.ending.Ending.TheVariants as ending;
 ghost use Rattle.hall_top.specs.Asked.{begins_serve, is_serve, wanted_alone, refused_as, IsRead};
 ghost use Rattle.hall_top.specs.Requests.{RequestsOnce};
 ghost use Rattle.hall_top.specs.Endings.{is_status, SaysLast};
-ghost use Rattle.hall_top.specs.Calls.{ExplainsCommand, EndsAs, CommandDone, IsUsage, LeavesOutcome};
+ghost use Rattle.hall_top.specs.Calls.{call_between, ExplainsCommand, EndsAs, CommandDone, IsUsage, Leaves};
 
 use crate::ended::{Ended, Outcome};
 use crate::ending::{Ending, say_last};
@@ -64,10 +64,8 @@ fn run_command<S: Source, K: Sink, D: Disk, L: Lane>(
     requires range { IsInRange (seen wanted.now) }
     requires alone { is_serve wanted.now.command ≡ false }
     ensures explained { ExplainsCommand (seen wanted.now) (stored_book store)
-        (call S.Source input.old input.new
-        (outside_at K.Sink L.Cell L.Gate output.old lanes.old nothing_told)
-        (outside_at K.Sink L.Cell L.Gate output.new lanes.new result.log.told)
-        (entries_of result.store)) result.stop }
+        (call_between S.Source K.Sink L.Cell L.Gate input.old input.new output.old output.new
+        lanes.old lanes.new result.log.told (entries_of result.store)) result.stop }
     ensures goes { RunGoes D.Disk result.stop store result.store }
 {
     match wanted.command {
@@ -105,9 +103,8 @@ fn do_command<S: Source, K: Sink, D: Disk, L: Lane>(
     requires range { IsInRange (seen wanted.now) }
     requires alone { is_serve wanted.now.command ≡ false }
     ensures done { CommandDone D.Disk (ExplainsCommand (seen wanted.now)) store result
-        (call S.Source input.old input.new
-        (outside_at K.Sink L.Cell L.Gate output.old lanes.old nothing_told)
-        (outside_at K.Sink L.Cell L.Gate output.new lanes.new result.log.told) result.rows) }
+        (call_between S.Source K.Sink L.Cell L.Gate input.old input.new output.old output.new
+        lanes.old lanes.new result.log.told result.rows) }
     ensures sound { IsSoundBook result.rows }
 {
     let held = store.len();
@@ -162,9 +159,8 @@ fn do_wanted<S: Source, K: Sink, D: Disk, L: Lane>(
     requires range { IsInRange (seen wanted.now) }
     requires alone { is_serve wanted.now.command ≡ false }
     ensures ends { EndsAs D.Disk (seen wanted.now) disk result
-        (call S.Source input.old input.new
-        (outside_at K.Sink L.Cell L.Gate output.old lanes.old nothing_told)
-        (outside_at K.Sink L.Cell L.Gate output.new lanes.new result.log.told) result.rows) }
+        (call_between S.Source K.Sink L.Cell L.Gate input.old input.new output.old output.new
+        lanes.old lanes.new result.log.told result.rows) }
     ensures rows { IsSoundBook result.rows }
 {
     match Store::mount(alloc, disk, wanted.limit) {
@@ -199,14 +195,12 @@ fn do_answer<S: Source, K: Sink, D: Disk, L: Lane>(
     ensures words { (asked : Option Wanted) → IsRead asked answer →
         (result.ending ≡ ending.Usage) ↔ (asked ≡ None) }
     ensures usage { result.ending ≡ ending.Usage → IsUsage disk result
-        (call S.Source input.old input.new
-        (outside_at K.Sink L.Cell L.Gate output.old lanes.old nothing_told)
-        (outside_at K.Sink L.Cell L.Gate output.new lanes.new result.log.told) result.rows) }
+        (call_between S.Source K.Sink L.Cell L.Gate input.old input.new output.old output.new
+        lanes.old lanes.new result.log.told result.rows) }
     ensures ends { (asked : Option Wanted) (wanted : Wanted) → IsRead asked answer →
         asked ≡ Some wanted → EndsAs D.Disk wanted disk result
-        (call S.Source input.old input.new
-        (outside_at K.Sink L.Cell L.Gate output.old lanes.old nothing_told)
-        (outside_at K.Sink L.Cell L.Gate output.new lanes.new result.log.told) result.rows) }
+        (call_between S.Source K.Sink L.Cell L.Gate input.old input.new output.old output.new
+        lanes.old lanes.new result.log.told result.rows) }
     ensures rows { IsSoundBook result.rows }
 {
     match answer {
@@ -273,17 +267,11 @@ pub fn end_answer<S: Source, K: Sink, D: Disk, L: Lane, O>(
     requires range { IfOk answer (λ wanted. IsInRange (seen wanted)) }
     ensures words { (asked : Option Wanted) → IsRead asked answer →
         (result.status ≡ 2) ↔ (asked ≡ None) }
-    ensures usage { result.status ≡ 2 → LeavesOutcome (IsUsage disk) result
-        (call S.Source input.old input.new
-        (outside_at K.Sink L.Cell L.Gate output.old lanes.items nothing_told)
-        (outside_at K.Sink L.Cell L.Gate output.new result.lanes.items (all_said result.lane_ends))
-        result.rows) }
+    ensures usage { result.status ≡ 2 → Leaves S.Source K.Sink L.Cell L.Gate input.old input.new
+        output.old output.new lanes.items (IsUsage disk) result }
     ensures ends { (asked : Option Wanted) (wanted : Wanted) → IsRead asked answer →
-        asked ≡ Some wanted → LeavesOutcome (EndsAs D.Disk wanted disk) result
-        (call S.Source input.old input.new
-        (outside_at K.Sink L.Cell L.Gate output.old lanes.items nothing_told)
-        (outside_at K.Sink L.Cell L.Gate output.new result.lanes.items (all_said result.lane_ends))
-        result.rows) }
+        asked ≡ Some wanted → Leaves S.Source K.Sink L.Cell L.Gate input.old input.new
+        output.old output.new lanes.items (EndsAs D.Disk wanted disk) result }
     ensures doors { result.doors ≡ doors }
     ensures status { IsTrue (is_status result.status) }
     ensures rows { IsSoundBook result.rows }
@@ -347,17 +335,11 @@ pub fn hall_alone<S: Source, K: Sink, D: Disk, L: Lane, O>(
     requires few { length lanes.items ≤ MAX_LANE }
     requires unended { S.ended input.old ≡ false }
     ensures words { (result.status ≡ 2) ↔ (wanted_alone (bytes_of words.now) ≡ None) }
-    ensures usage { result.status ≡ 2 → LeavesOutcome (IsUsage disk) result
-        (call S.Source input.old input.new
-        (outside_at K.Sink L.Cell L.Gate output.old lanes.items nothing_told)
-        (outside_at K.Sink L.Cell L.Gate output.new result.lanes.items (all_said result.lane_ends))
-        result.rows) }
+    ensures usage { result.status ≡ 2 → Leaves S.Source K.Sink L.Cell L.Gate input.old input.new
+        output.old output.new lanes.items (IsUsage disk) result }
     ensures ends { (wanted : Wanted) → wanted_alone (bytes_of words.now) ≡ Some wanted →
-        LeavesOutcome (EndsAs D.Disk wanted disk) result
-        (call S.Source input.old input.new
-        (outside_at K.Sink L.Cell L.Gate output.old lanes.items nothing_told)
-        (outside_at K.Sink L.Cell L.Gate output.new result.lanes.items (all_said result.lane_ends))
-        result.rows) }
+        Leaves S.Source K.Sink L.Cell L.Gate input.old input.new output.old output.new
+        lanes.items (EndsAs D.Disk wanted disk) result }
     ensures doors { result.doors ≡ doors }
 
     // At every status.

@@ -12,8 +12,10 @@ mod top;
 mod whole;
 
 pub use alone::hall_alone;
+pub use book_store::MountError;
 pub use command_line::{Command, Text, Wants, WantsError, wants};
 pub use ended::Ended;
 pub use ending::{Ending, say_last};
+pub use script_run::LaneEnds;
 pub use serve_run::{DoorEnds, JobsStop, ServeStop};
 pub use top::hall;

@@ -1,16 +1,14 @@
 //! The command `serve`: a disk is opened as a book, and a plan's lanes and doors are at work on it.
-ghost use Rattle.std.specs.Prelude.{◌≡◌, ◌≢◌, ◌≤◌, ◌⊎◌, length, false, IsTrue};
+ghost use Rattle.std.specs.Prelude.{◌≡◌, ◌≢◌, ◌≤◌, length, false, IsTrue};
 ghost use Rattle.hall_limits.specs.declared.TheConstants.{MAX_LANE, MAX_DOOR, MAX_ROWS};
 ghost use Rattle.book_words.specs.Soundness.{IsSound as IsSoundBook};
 ghost use Rattle.book_store.specs.Stores.{disk_of, entries_of, held_of, Hangs, IsSound};
 ghost use Rattle.text_streams.specs.Streams.{input_at, output_at};
-ghost use Rattle.script_run.specs.Outside.{call, outside_at, nothing_told, all_said};
 ghost use Rattle.session_jobs.specs.Works.{lane_site, door_site};
 ghost use Rattle.serve_run.specs.Jobs.{handed_in};
 ghost use Rattle.serve_run.specs.Serving.{moment};
 ghost use Rattle.hall_top.specs.Endings.{is_status};
-ghost use Rattle.hall_top.specs.Calls.{IsUnopened, LeavesOutcome};
-ghost use Rattle.hall_top.specs.Serving.{IsServed, ServeDone};
+ghost use Rattle.hall_top.specs.Serving.{EndsServe, ServeDone};
 
 use crate::alone::{end_call, leave_unopened};
 use crate::ended::Ended;
@@ -105,15 +103,8 @@ pub fn serve<
     requires unended { S.ended input.old ≡ false }
     requires least { 1 ≤ limit }
     requires most { limit ≤ MAX_ROWS }
-    ensures serves { IsServed D.Disk (lane_site L.Cell L.Gate) (door_site O.Source O.connections)
-        limit disk (moment (input_at S.Source input.old) (output_at K.Sink output.old)
-        (D.faults disk) (handed_in lanes.items doors.items))
-        (input_at S.Source input.new) (output_at K.Sink output.new) result
-        ⊎ (LeavesOutcome (IsUnopened D.Disk disk) result
-        (call S.Source input.old input.new
-        (outside_at K.Sink L.Cell L.Gate output.old lanes.items nothing_told)
-        (outside_at K.Sink L.Cell L.Gate output.new result.lanes.items (all_said result.lane_ends))
-        result.rows) × (result.doors ≡ doors)) }
+    ensures serves { EndsServe S.Source K.Sink D.Disk L.Cell L.Gate O.Source O.connections limit
+        input.old input.new output.old output.new disk lanes doors result }
     ensures status { IsTrue (is_status result.status) × (result.status ≢ 2) }
     ensures rows { IsSoundBook result.rows }
 {

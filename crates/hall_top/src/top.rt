@@ -1,18 +1,13 @@
 //! The program as one function.
-ghost use Rattle.std.specs.Prelude.{◌≡◌, ◌≤◌, ◌⊎◌, ◌↔◌, length, false, true, IsTrue, None, Some};
+ghost use Rattle.std.specs.Prelude.{◌≡◌, ◌≤◌, ◌↔◌, length, false, true, IsTrue, None, Some};
 ghost use Rattle.hall_limits.specs.declared.TheConstants.{MAX_LANE, MAX_DOOR};
 ghost use Rattle.book_words.specs.Soundness.{IsSound as IsSoundBook};
 ghost use Rattle.command_line.specs.Words.{Wanted, bytes_of, wanted_of};
-ghost use Rattle.text_streams.specs.Streams.{input_at, output_at};
-ghost use Rattle.script_run.specs.Outside.{call, outside_at, nothing_told, all_said};
-ghost use Rattle.session_jobs.specs.Works.{lane_site, door_site};
-ghost use Rattle.serve_run.specs.Jobs.{handed_in};
-ghost use Rattle.serve_run.specs.Serving.{moment};
 ghost use Rattle.hall_top.specs.Asked.{is_serve};
 ghost use Rattle.hall_top.specs.Requests.{RequestsOnce};
 ghost use Rattle.hall_top.specs.Endings.{is_status};
-ghost use Rattle.hall_top.specs.Calls.{EndsAs, IsUnopened, IsUsage, LeavesOutcome};
-ghost use Rattle.hall_top.specs.Serving.{IsServed};
+ghost use Rattle.hall_top.specs.Calls.{EndsAs, IsUsage, Leaves};
+ghost use Rattle.hall_top.specs.Serving.{EndsServe};
 
 use crate::alone::{end_answer, is_serve};
 use crate::ended::Ended;
@@ -77,7 +72,6 @@ use std::thread::Threads;
 ///
 /// At each status the rows that the disk held stand first among the rows, and a crash at any moment
 /// leaves them. The end of the input wasn't given before, and nothing is read after it.
-#[tactic(auto, using(crate::proofs::RequestOrder::requests_once))]
 pub fn hall<
     S: Source,
     K: Sink,
@@ -99,34 +93,21 @@ pub fn hall<
     requires few_doors { length doors.items ≤ MAX_DOOR }
     requires unended { S.ended input.old ≡ false }
     ensures words { (result.status ≡ 2) ↔ (wanted_of (bytes_of words.now) ≡ None) }
-    ensures usage { result.status ≡ 2 → LeavesOutcome (IsUsage disk) result
-        (call S.Source input.old input.new
-        (outside_at K.Sink L.Cell L.Gate output.old lanes.items nothing_told)
-        (outside_at K.Sink L.Cell L.Gate output.new result.lanes.items (all_said result.lane_ends))
-        result.rows) }
+    ensures usage { result.status ≡ 2 → Leaves S.Source K.Sink L.Cell L.Gate input.old input.new
+        output.old output.new lanes.items (IsUsage disk) result }
 
     // Every command but `serve`.
     ensures ends { (wanted : Wanted) → wanted_of (bytes_of words.now) ≡ Some wanted →
-        is_serve wanted.command ≡ false → LeavesOutcome (EndsAs D.Disk wanted disk) result
-        (call S.Source input.old input.new
-        (outside_at K.Sink L.Cell L.Gate output.old lanes.items nothing_told)
-        (outside_at K.Sink L.Cell L.Gate output.new result.lanes.items (all_said result.lane_ends))
-        result.rows) }
+        is_serve wanted.command ≡ false → Leaves S.Source K.Sink L.Cell L.Gate input.old input.new
+        output.old output.new lanes.items (EndsAs D.Disk wanted disk) result }
     ensures doors { (wanted : Wanted) → wanted_of (bytes_of words.now) ≡ Some wanted →
         is_serve wanted.command ≡ false → result.doors ≡ doors }
 
     // The command `serve`: it served over the book, or the disk wasn't opened as one.
     ensures serves { (wanted : Wanted) → wanted_of (bytes_of words.now) ≡ Some wanted →
-        is_serve wanted.command ≡ true →
-        IsServed D.Disk (lane_site L.Cell L.Gate) (door_site O.Source O.connections) wanted.limit
-        disk (moment (input_at S.Source input.old) (output_at K.Sink output.old)
-        (D.faults disk) (handed_in lanes.items doors.items))
-        (input_at S.Source input.new) (output_at K.Sink output.new) result
-        ⊎ (LeavesOutcome (IsUnopened D.Disk disk) result
-        (call S.Source input.old input.new
-        (outside_at K.Sink L.Cell L.Gate output.old lanes.items nothing_told)
-        (outside_at K.Sink L.Cell L.Gate output.new result.lanes.items (all_said result.lane_ends))
-        result.rows) × (result.doors ≡ doors)) }
+        is_serve wanted.command ≡ true → EndsServe S.Source K.Sink D.Disk L.Cell L.Gate O.Source
+        O.connections wanted.limit input.old input.new output.old output.new disk lanes doors
+        result }
 
     // At every status.
     ensures status { IsTrue (is_status result.status) }

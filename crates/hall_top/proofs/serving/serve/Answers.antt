@@ -5,13 +5,15 @@ use Rattle.script_run.specs.Outside.{call, devices, outside_at, nothing_told, al
 use Rattle.serve_run.specs.Jobs.{handed_in}
 use Rattle.hall_top.specs.declared.ended.Ended.{Ended}
 use Rattle.hall_top.specs.declared.ending.Ending.TheVariants.{Served}
-use Rattle.hall_top.specs.Calls.{IsUnopened, LeavesOutcome}
+use Rattle.hall_top.specs.Calls.{IsUnopened, Leaves, LeavesOutcome}
+use Rattle.hall_top.specs.Serving.{EndsServe}
 use Rattle.hall_top.proofs.EndingLemmas.{status_named, serve_not_two}
 use Rattle.hall_top.proofs.OpenedBooks.{call_from, lanes_rest, is_unopened}
 use Rattle.hall_top.proofs.ServedBooks.{is_served}
 use Rattle.hall_top.proofs.serving.serve.Goals as goal
 
 pub returns-in-Ok-clause-serves : goal.returns-in-Ok-clause-serves
+unfolding EndsServe
 returns-in-Ok-clause-serves g c =
     let laws = g.met.D.Disk g.world.𝓛 g.world.𝓜 g.world.𝓡 ((λ s x. x), (λ x. x), (λ x. x), λ x. x) in
     inl (is_served g.D.Disk laws.counts_now (lane_site g.L.Cell g.L.Gate)
@@ -34,6 +36,7 @@ returns-in-Ok-clause-status g c =
     )
 
 pub returns-in-Err-clause-serves : goal.returns-in-Err-clause-serves
+unfolding EndsServe Leaves
 returns-in-Err-clause-serves g c =
     let outcome = c.leave_unopened-outcome.result in
     let l = c.leave_unopened-outcome.ensures in
