@@ -37,7 +37,7 @@ cat >"$bench/src/main.rt" <<'RATTLE'
 //! Frames one of three requests so many times.
 #![tactic(auto)]
 
-use office_wire::{Frame, OfficeAsk, frame};
+use office_wire::{Frame, OfficeAsk, Routes, frame_with};
 use std::alloc::Global;
 use std::env;
 use std::process::ExitCode;
@@ -58,10 +58,10 @@ fn is_told(told: &Frame) -> u64 {
     }
 }
 
-fn run(alloc: Global, bytes: &[u8], times: u64) -> u64 {
+fn run(routes: &Routes, alloc: Global, bytes: &[u8], times: u64) -> u64 {
     let mut told: u64 = 0;
     for _turn in 0..times {
-        told = told.wrapping_add(is_told(&frame(alloc, bytes, false)));
+        told = told.wrapping_add(is_told(&frame_with(routes, alloc, bytes, false)));
     }
     told
 }
@@ -77,7 +77,10 @@ fn main(rt: HostRuntime) -> ExitCode {
     let Some(bytes) = REQUESTS.get((which & 3) as usize) else {
         return ExitCode::from(2);
     };
-    if run(rt.alloc(), bytes, times) == times {
+    let Ok(routes) = Routes::new(rt.alloc()) else {
+        return ExitCode::from(7);
+    };
+    if run(&routes, rt.alloc(), bytes, times) == times {
         ExitCode::from(0)
     } else {
         ExitCode::from(1)

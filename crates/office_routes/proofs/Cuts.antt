@@ -33,23 +33,33 @@ pub cut : (p : List ℕ) → (has_slash p ≡ false) ⊎ Cut p
 cut [] = inl refl
 cut (b ∷ p) = by (b == slash) refl (cut p)
   where
-    by : (v : Bool) → (b == slash) ≡ v → (has_slash p ≡ false) ⊎ Cut p → (has_slash (b ∷ p) ≡ false) ⊎ Cut (b ∷ p)
+    by : (v : Bool) → (b == slash) ≡ v → (has_slash p ≡ false) ⊎ Cut p
+        → (has_slash (b ∷ p) ≡ false) ⊎ Cut (b ∷ p)
     by true e r =
         let s : b ≡ slash = grind (arith, nat_tests) in
         inr (record { word = []; rest = p; whole = ap (λ x. x ∷ p) s; free = refl })
     by false e (inl h) = inl (rw e h)
-    by false e (inr c) = inr (record { word = b ∷ c.word; rest = c.rest; whole = ap (λ l. b ∷ l) c.whole; free = rw e c.free })
+    by false e (inr c) =
+        inr (record {
+          word = b ∷ c.word;
+          rest = c.rest;
+          whole = ap (λ l. b ∷ l) c.whole;
+          free = rw e c.free;
+        })
 
 pub segments_one : (p : List ℕ) → has_slash p ≡ false → segments p ≡ p ∷ []
 segments_one [] h = refl
 segments_one (b ∷ p) h = rw (free_head b p h, segments_one p (free_tail b p h)) refl
 
-pub segments_more : (word rest : List ℕ) → has_slash word ≡ false → segments (word ++ slash ∷ rest) ≡ word ∷ segments rest
+pub segments_more : (word rest : List ℕ) → has_slash word ≡ false
+    → segments (word ++ slash ∷ rest) ≡ word ∷ segments rest
 segments_more [] rest h = refl
-segments_more (b ∷ word) rest h = rw (free_head b word h, segments_more word rest (free_tail b word h)) refl
+segments_more (b ∷ word) rest h =
+    rw (free_head b word h, segments_more word rest (free_tail b word h)) refl
 
 -- there is a segment
-pub segments_some : (p : List ℕ) → (first : List ℕ) × (others : List (List ℕ)) × (segments p ≡ first ∷ others)
+pub segments_some : (p : List ℕ)
+    → (first : List ℕ) × (others : List (List ℕ)) × (segments p ≡ first ∷ others)
 segments_some p = elim (cut p) [
   | inl h ↦ (p, [], segments_one p h)
   | inr c ↦ (c.word, segments c.rest, ap segments c.whole ∙ segments_more c.word c.rest c.free)
@@ -68,9 +78,11 @@ pub segment_free : (p : List ℕ) → has_slash p ≡ false → segment p ≡ p
 segment_free [] h = refl
 segment_free (b ∷ p) h = rw (free_head b p h) (ap (λ l. b ∷ l) (segment_free p (free_tail b p h)))
 
-pub segment_cut : (word rest : List ℕ) → has_slash word ≡ false → segment (word ++ slash ∷ rest) ≡ word ++ slash ∷ []
+pub segment_cut : (word rest : List ℕ) → has_slash word ≡ false
+    → segment (word ++ slash ∷ rest) ≡ word ++ slash ∷ []
 segment_cut [] rest h = refl
-segment_cut (b ∷ word) rest h = rw (free_head b word h) (ap (λ l. b ∷ l) (segment_cut word rest (free_tail b word h)))
+segment_cut (b ∷ word) rest h =
+    rw (free_head b word h) (ap (λ l. b ∷ l) (segment_cut word rest (free_tail b word h)))
 
 pub free_drop : (n : ℕ) (p : List ℕ) → has_slash p ≡ false → has_slash (drop n p) ≡ false
 free_drop zero p h = h
@@ -86,7 +98,9 @@ free_no_slash (b ∷ p) h =
 
 -- the suffix `/` cuts a segment that has a slash behind some bytes, and no other
 pub cuts_free : (p : List ℕ) → has_slash p ≡ false → cuts p (slash ∷ []) ≡ false
-cuts_free p h = rw (free_no_slash (drop (length p - 1) p) (free_drop (length p - 1) p h)) (by (ltb 1 (length p)))
+cuts_free p h =
+    rw (free_no_slash (drop (length p - 1) p) (free_drop (length p - 1) p h))
+    (by (ltb 1 (length p)))
   where
     by : (v : Bool) → (v && false) ≡ false
     by true = refl
@@ -96,7 +110,8 @@ pub cuts_part : (b : ℕ) (part : List ℕ) → cuts ((b ∷ part) ++ slash ∷ 
 cuts_part b part =
     let n : length (part ++ slash ∷ []) ≡ length part + 1 = search length-append in
     let l : ltb 1 (length ((b ∷ part) ++ slash ∷ [])) ≡ true = grind (arith, nat_tests) in
-    let d : drop (length ((b ∷ part) ++ slash ∷ []) - 1) ((b ∷ part) ++ slash ∷ []) ≡ slash ∷ [] = drop_at (b ∷ part) (slash ∷ []) _ (omega arith) in
+    let d : drop (length ((b ∷ part) ++ slash ∷ []) - 1) ((b ∷ part) ++ slash ∷ []) ≡ slash ∷ [] =
+    drop_at (b ∷ part) (slash ∷ []) _ (omega arith) in
     rw (l, d) refl
 
 -- bytes, none a slash
@@ -122,13 +137,18 @@ differs_end (b ∷ word) (x ∷ w) h e = (h.0, λ s. differs_end word w h.2 (by 
         let t : (b == x) ≡ true = grind (arith, nat_tests) in
         rw t at e
 
-pub differs_more : (word w t : List ℕ) → IsWord w → has_slash word ≡ false → bytes_eq word w ≡ false → Differs word (w ++ slash ∷ t)
+pub differs_more : (word w t : List ℕ) → IsWord w → has_slash word ≡ false
+    → bytes_eq word w ≡ false → Differs word (w ++ slash ∷ t)
 differs_more [] [] t h f e = absurd (true≢false e)
 differs_more [] (x ∷ w) t h f e = (h.0, h.1)
 differs_more (b ∷ word) [] t h f e =
-    let n : (b == slash) ≡ false = free_head b word f in
-    (lit< tt, λ s. absurd (let m : (slash == b) ≡ false = grind (arith, nat_tests) in true≢false (sym s ∙ m)))
-differs_more (b ∷ word) (x ∷ w) t h f e = (h.0, λ s. differs_more word w t h.2 (free_tail b word f) (by s e))
+    let n : (b == slash) ≡ false = free_head b word f in (
+      lit< tt,
+      λ s. absurd (let m : (slash == b) ≡ false = grind (arith, nat_tests) in
+          true≢false (sym s ∙ m)),
+    )
+differs_more (b ∷ word) (x ∷ w) t h f e =
+    (h.0, λ s. differs_more word w t h.2 (free_tail b word f) (by s e))
   where
     by : (x == b) ≡ true → bytes_eq (b ∷ word) (x ∷ w) ≡ false → bytes_eq word w ≡ false
     by s e =
@@ -141,7 +161,9 @@ utf8_before word rest u =
     let bs = word ++ slash ∷ rest in
     let g : get_or bs (length word) 0 ≡ 47 = get_or_at word slash rest 0 (length word) refl in
     let l : length bs ≡ length word + length (slash ∷ rest) = search length-append in
-    subst IsUtf8 (take_at word (slash ∷ rest) (length word) refl) (IsUtf8-take bs (length word) u (IsCharBoundary-before_ascii bs (length word) (omega arith) (omega arith)))
+    subst IsUtf8 (take_at word (slash ∷ rest) (length word) refl)
+    (IsUtf8-take bs (length word) u
+    (IsCharBoundary-before_ascii bs (length word) (omega arith) (omega arith)))
 
 pub utf8_behind : (word rest : List ℕ) → IsUtf8 (word ++ slash ∷ rest) → IsUtf8 rest
 utf8_behind word rest u =
@@ -149,4 +171,6 @@ utf8_behind word rest u =
     let g : get_or bs (length word) 0 ≡ 47 = get_or_at word slash rest 0 (length word) refl in
     let l : length bs ≡ length word + length (slash ∷ rest) = search length-append in
     let d : drop (length word + 1) bs ≡ rest = drop_behind word rest in
-    subst IsUtf8 d (IsUtf8-drop bs (length word + 1) u (IsCharBoundary-after_ascii bs (length word) u (omega arith) (omega arith)))
+    subst IsUtf8 d
+    (IsUtf8-drop bs (length word + 1) u
+    (IsCharBoundary-after_ascii bs (length word) u (omega arith) (omega arith)))

@@ -26,75 +26,96 @@ module _ {K : Type 0} where
   abbrev pub both : List ℕ → K → K → RowsOf K
   both w s k = (param_token ∷ slash ∷ w, s) ∷ (param_token ∷ [], k) ∷ []
 
-  pub step_alone : (k : K) (p : List ℕ) → has_slash p ≡ false → param_step (([], k) ∷ []) p ≡ (length p, ([], k) ∷ [])
+  pub step_alone : (k : K) (p : List ℕ) → has_slash p ≡ false
+      → param_step (([], k) ∷ []) p ≡ (length p, ([], k) ∷ [])
   unfolding param_step
   step_alone k p h = rw h refl
 
-  pub step_alone_slash : (k : K) (p : List ℕ) → has_slash p ≡ true → param_step (([], k) ∷ []) p ≡ (0, [])
+  pub step_alone_slash : (k : K) (p : List ℕ) → has_slash p ≡ true
+      → param_step (([], k) ∷ []) p ≡ (0, [])
   unfolding param_step
   step_alone_slash k p h = rw h refl
 
-  pub step_both : (w : List ℕ) (s k : K) (p : List ℕ) → has_slash p ≡ false → param_step ((slash ∷ w, s) ∷ ([], k) ∷ []) p ≡ (length p, (slash ∷ w, s) ∷ ([], k) ∷ [])
+  pub step_both : (w : List ℕ) (s k : K) (p : List ℕ) → has_slash p ≡ false
+      → param_step ((slash ∷ w, s) ∷ ([], k) ∷ []) p ≡ (length p, (slash ∷ w, s) ∷ ([], k) ∷ [])
   unfolding param_step
   step_both w s k p h = rw (segment_free p h, cuts_free p h, h) refl
 
-  pub step_both_empty : (w : List ℕ) (s k : K) (rest : List ℕ) → param_step ((slash ∷ w, s) ∷ ([], k) ∷ []) (slash ∷ rest) ≡ (0, [])
+  pub step_both_empty : (w : List ℕ) (s k : K) (rest : List ℕ)
+      → param_step ((slash ∷ w, s) ∷ ([], k) ∷ []) (slash ∷ rest) ≡ (0, [])
   unfolding param_step
   step_both_empty w s k rest = refl
 
-  pub step_both_cut : (w : List ℕ) (s k : K) (b : ℕ) (part rest : List ℕ) → has_slash (b ∷ part) ≡ false
-      → param_step ((slash ∷ w, s) ∷ ([], k) ∷ []) (b ∷ (part ++ slash ∷ rest)) ≡ (length (b ∷ part), (slash ∷ w, s) ∷ [])
+  pub step_both_cut : (w : List ℕ) (s k : K) (b : ℕ) (part rest : List ℕ)
+      → has_slash (b ∷ part) ≡ false
+      → param_step ((slash ∷ w, s) ∷ ([], k) ∷ []) (b ∷ (part ++ slash ∷ rest))
+      ≡ (length (b ∷ part), (slash ∷ w, s) ∷ [])
   unfolding param_step
   step_both_cut w s k b part rest h =
-      let n : length ((b ∷ part) ++ slash ∷ []) - 1 ≡ length (b ∷ part) = omega (arith, length-append (b ∷ part) (slash ∷ [])) in
+      let n : length ((b ∷ part) ++ slash ∷ []) - 1 ≡ length (b ∷ part) =
+      omega (arith, length-append (b ∷ part) (slash ∷ [])) in
       rw (segment_cut (b ∷ part) rest h, cuts_part b part, n) refl
 
   -- the rest of a path, behind what a parameter took
-  pub seek_rest : (r : RowsOf K) (part q : List ℕ) (n : ℕ) → n ≡ suc (length part) → seek (n - 1) r (part ++ q) ≡ first r q
+  pub seek_rest : (r : RowsOf K) (part q : List ℕ) (n : ℕ) → n ≡ suc (length part)
+      → seek (n - 1) r (part ++ q) ≡ first r q
   seek_rest r part q n e =
       let m : n - 1 ≡ length part = omega (arith, e) in
-      ap (λ i. seek i r (part ++ q)) m ∙ seek_drop (length part) r (part ++ q) ∙ ap (λ l. seek 0 r l) (drop_at part q (length part) refl)
+      ap (λ i. seek i r (part ++ q)) m ∙ seek_drop (length part) r (part ++ q)
+      ∙ ap (λ l. seek 0 r l) (drop_at part q (length part) refl)
 
   pub seek_all : (r : RowsOf K) (q : List ℕ) → seek (suc (length q) - 1) r q ≡ own r
   seek_all r q =
       let m : suc (length q) - 1 ≡ length q = omega arith in
-      ap (λ i. seek i r q) m ∙ seek_drop (length q) r q ∙ ap (λ l. seek 0 r l) (drop_all q) ∙ first_end r
+      ap (λ i. seek i r q) m ∙ seek_drop (length q) r q ∙ ap (λ l. seek 0 r l) (drop_all q)
+      ∙ first_end r
 
-  pub first_alone : (k : K) (b : ℕ) (q : List ℕ) → b < 256 → has_slash (b ∷ q) ≡ false → first (alone k) (b ∷ q) ≡ Some k
+  pub first_alone : (k : K) (b : ℕ) (q : List ℕ) → b < 256 → has_slash (b ∷ q) ≡ false
+      → first (alone k) (b ∷ q) ≡ Some k
   first_alone k b q l h =
       let n : (param_token == b) ≡ false = grind (arith, nat_tests) in
       seek_param (alone k) b q (rw n refl) refl
-      ∙ ap (λ (x : ℕ × RowsOf K). seek (x.0 - 1) x.1 q) (step_alone k (b ∷ q) h) ∙ seek_all (([], k) ∷ []) q
+      ∙ ap (λ (x : ℕ × RowsOf K). seek (x.0 - 1) x.1 q) (step_alone k (b ∷ q) h)
+      ∙ seek_all (([], k) ∷ []) q
 
-  pub first_alone_slash : (k : K) (p : List ℕ) → IsHeadByte p → has_slash p ≡ true → first (alone k) p ≡ None
+  pub first_alone_slash : (k : K) (p : List ℕ) → IsHeadByte p → has_slash p ≡ true
+      → first (alone k) p ≡ None
   first_alone_slash k [] l h = first_end (alone k)
   first_alone_slash k (b ∷ q) l h =
       let n : (param_token == b) ≡ false = grind (arith, nat_tests) in
       seek_param (alone k) b q (rw n refl) refl
-      ∙ ap (λ (x : ℕ × RowsOf K). seek (x.0 - 1) x.1 q) (step_alone_slash k (b ∷ q) h) ∙ seek_empty _ q
+      ∙ ap (λ (x : ℕ × RowsOf K). seek (x.0 - 1) x.1 q) (step_alone_slash k (b ∷ q) h)
+      ∙ seek_empty _ q
 
-  pub first_both : (w : List ℕ) (s k : K) (b : ℕ) (q : List ℕ) → b < 256 → has_slash (b ∷ q) ≡ false → first (both w s k) (b ∷ q) ≡ Some k
+  pub first_both : (w : List ℕ) (s k : K) (b : ℕ) (q : List ℕ) → b < 256
+      → has_slash (b ∷ q) ≡ false → first (both w s k) (b ∷ q) ≡ Some k
   first_both w s k b q l h =
       let n : (param_token == b) ≡ false = grind (arith, nat_tests) in
       seek_param (both w s k) b q (rw n refl) refl
-      ∙ ap (λ (x : ℕ × RowsOf K). seek (x.0 - 1) x.1 q) (step_both w s k (b ∷ q) h) ∙ seek_all ((slash ∷ w, s) ∷ ([], k) ∷ []) q
+      ∙ ap (λ (x : ℕ × RowsOf K). seek (x.0 - 1) x.1 q) (step_both w s k (b ∷ q) h)
+      ∙ seek_all ((slash ∷ w, s) ∷ ([], k) ∷ []) q
 
-  pub first_both_empty : (w : List ℕ) (s k : K) (rest : List ℕ) → first (both w s k) (slash ∷ rest) ≡ None
+  pub first_both_empty : (w : List ℕ) (s k : K) (rest : List ℕ)
+      → first (both w s k) (slash ∷ rest) ≡ None
   first_both_empty w s k rest =
       seek_param (both w s k) slash rest refl refl
-      ∙ ap (λ (x : ℕ × RowsOf K). seek (x.0 - 1) x.1 rest) (step_both_empty w s k rest) ∙ seek_empty _ rest
+      ∙ ap (λ (x : ℕ × RowsOf K). seek (x.0 - 1) x.1 rest) (step_both_empty w s k rest)
+      ∙ seek_empty _ rest
 
-  pub first_both_cut : (w : List ℕ) (s k : K) (b : ℕ) (part rest : List ℕ) → b < 256 → has_slash (b ∷ part) ≡ false → IsBytes w
+  pub first_both_cut : (w : List ℕ) (s k : K) (b : ℕ) (part rest : List ℕ) → b < 256
+      → has_slash (b ∷ part) ≡ false → IsBytes w
       → first (both w s k) (b ∷ (part ++ slash ∷ rest)) ≡ cond (bytes_eq rest w) (Some s) None
   first_both_cut w s k b part rest l h t =
       let n : (param_token == b) ≡ false = grind (arith, nat_tests) in
       seek_param (both w s k) b (part ++ slash ∷ rest) (rw n refl) refl
-      ∙ ap (λ (x : ℕ × RowsOf K). seek (x.0 - 1) x.1 (part ++ slash ∷ rest)) (step_both_cut w s k b part rest h)
+      ∙ ap (λ (x : ℕ × RowsOf K). seek (x.0 - 1) x.1 (part ++ slash ∷ rest))
+      (step_both_cut w s k b part rest h)
       ∙ seek_rest ((slash ∷ w, s) ∷ []) part (slash ∷ rest) (length (b ∷ part)) refl
       ∙ first_single (slash ∷ w) s (slash ∷ rest) (lit< tt, t)
 
 -- where the first parameter is, behind literal bytes of a path that goes on
-pub wild_from_literal : (w t : List ℕ) (len token at : ℕ) → IsBytes w → at + length w ≤ len → wild_from (w ++ param_token ∷ t) len token at ≡ (token + length w, at + length w)
+pub wild_from_literal : (w t : List ℕ) (len token at : ℕ) → IsBytes w → at + length w ≤ len
+    → wild_from (w ++ param_token ∷ t) len token at ≡ (token + length w, at + length w)
 wild_from_literal [] t len token at h l =
     let a : token + 0 ≡ token = omega arith in
     let b : at + 0 ≡ at = omega arith in
@@ -108,41 +129,67 @@ wild_from_literal (x ∷ w) t len token at h l =
     rw (c, d, a, b) (wild_from_literal w t len (token + 1) (at + 1) h.1 m)
 
 -- the part of a path between two places
-pub part_at : (w part rest : List ℕ) (i j : ℕ) → i ≡ length w → j ≡ length w + length part → part_of (w ++ (part ++ rest)) i j ≡ part
+pub part_at : (w part rest : List ℕ) (i j : ℕ) → i ≡ length w → j ≡ length w + length part
+    → part_of (w ++ (part ++ rest)) i j ≡ part
 part_at w part rest i j e f =
-    let n : length (w ++ (part ++ rest)) ≡ length w + (length part + length rest) = length-append w (part ++ rest) ∙ ap (λ x. length w + x) (length-append part rest) in
+    let n : length (w ++ (part ++ rest)) ≡ length w + (length part + length rest) =
+    length-append w (part ++ rest) ∙ ap (λ x. length w + x) (length-append part rest) in
     let a : leb i j ≡ true = grind (arith, nat_tests, e, f) in
     let b : leb j (length (w ++ (part ++ rest))) ≡ true = grind (arith, nat_tests, e, f, n) in
     let m : j - i ≡ length part = omega (arith, e, f) in
     rw (a, b, m, drop_at w (part ++ rest) i (sym e)) (take_at part rest (length part) refl)
 
 -- the one parameter of a route, at its end
-pub walk_last : (w text rest : List ℕ) (name : ℕ × ℕ) → IsBytes w → ((path : List ℕ) (at : ℕ) → wild_stop (w ++ param_token ∷ []) (length w) path at ≡ length path)
-    → walk (w ++ param_token ∷ []) text (w ++ rest) (name ∷ []) 0 0 ≡ (part_of text name.0 name.1, rest) ∷ []
+pub walk_last : (w text rest : List ℕ) (name : ℕ × ℕ) → IsBytes w
+    → ((path : List ℕ) (at : ℕ)
+    → wild_stop (w ++ param_token ∷ []) (length w) path at ≡ length path)
+    → walk (w ++ param_token ∷ []) text (w ++ rest) (name ∷ []) 0 0
+    ≡ (part_of text name.0 name.1, rest) ∷ []
 walk_last w text rest name h stop =
     let path = w ++ rest in
     let n : length path ≡ length w + length rest = length-append w rest in
     let a : 0 + length w ≡ length w = omega arith in
-    let e : wild_from (w ++ param_token ∷ []) (length path) 0 0 ≡ (0 + length w, 0 + length w) = wild_from_literal w [] (length path) 0 0 h (omega (arith, n)) in
-    let f : wild_from (w ++ param_token ∷ []) (length path) 0 0 ≡ (length w, length w) = rw a at e in
-    let g : part_of path (length w) (length path) ≡ rest = ap (λ l. part_of (w ++ l) (length w) (length path)) (sym (append-nil rest)) ∙ part_at w rest [] (length w) (length path) refl n in
-    ap (λ (x : ℕ × ℕ). (part_of text name.0 name.1, part_of path x.1 (wild_stop (w ++ param_token ∷ []) x.0 path x.1)) ∷ []) f
+    let e : wild_from (w ++ param_token ∷ []) (length path) 0 0 ≡ (0 + length w, 0 + length w) =
+    wild_from_literal w [] (length path) 0 0 h (omega (arith, n)) in
+    let f : wild_from (w ++ param_token ∷ []) (length path) 0 0 ≡ (length w, length w) =
+    rw a at e in
+    let g : part_of path (length w) (length path) ≡ rest =
+    ap (λ l. part_of (w ++ l) (length w) (length path)) (sym (append-nil rest))
+    ∙ part_at w rest [] (length w) (length path) refl n in
+    ap (λ (x : ℕ × ℕ). (
+      part_of text name.0 name.1,
+      part_of path x.1 (wild_stop (w ++ param_token ∷ []) x.0 path x.1),
+    ) ∷ []) f
     ∙ ap (λ j. (part_of text name.0 name.1, part_of path (length w) j) ∷ []) (stop path (length w))
     ∙ ap (λ l. (part_of text name.0 name.1, l) ∷ []) g
 
 -- the one parameter of a route, before a suffix that begins with a slash
 pub walk_before : (w t text part rest : List ℕ) (name : ℕ × ℕ) → IsBytes w → has_slash part ≡ false
-    → ((path : List ℕ) (at : ℕ) → wild_stop (w ++ param_token ∷ slash ∷ t) (length w) path at ≡ at + length (segment (drop at path)) - 1)
-    → walk (w ++ param_token ∷ slash ∷ t) text (w ++ (part ++ slash ∷ rest)) (name ∷ []) 0 0 ≡ (part_of text name.0 name.1, part) ∷ []
+    → ((path : List ℕ) (at : ℕ)
+    → wild_stop (w ++ param_token ∷ slash ∷ t) (length w) path at
+    ≡ at + length (segment (drop at path)) - 1)
+    → walk (w ++ param_token ∷ slash ∷ t) text (w ++ (part ++ slash ∷ rest)) (name ∷ []) 0 0
+    ≡ (part_of text name.0 name.1, part) ∷ []
 walk_before w t text part rest name h free stop =
     let path = w ++ (part ++ slash ∷ rest) in
-    let n : length path ≡ length w + length (part ++ slash ∷ rest) = length-append w (part ++ slash ∷ rest) in
+    let n : length path ≡ length w + length (part ++ slash ∷ rest) =
+    length-append w (part ++ slash ∷ rest) in
     let a : 0 + length w ≡ length w = omega arith in
-    let e : wild_from (w ++ param_token ∷ slash ∷ t) (length path) 0 0 ≡ (0 + length w, 0 + length w) = wild_from_literal w (slash ∷ t) (length path) 0 0 h (omega (arith, n)) in
-    let f : wild_from (w ++ param_token ∷ slash ∷ t) (length path) 0 0 ≡ (length w, length w) = rw a at e in
+    let e : wild_from (w ++ param_token ∷ slash ∷ t) (length path) 0 0
+    ≡ (0 + length w, 0 + length w) =
+    wild_from_literal w (slash ∷ t) (length path) 0 0 h (omega (arith, n)) in
+    let f : wild_from (w ++ param_token ∷ slash ∷ t) (length path) 0 0 ≡ (length w, length w) =
+    rw a at e in
     let s : length (segment (drop (length w) path)) ≡ length part + 1 =
-    ap (λ l. length (segment l)) (drop_at w (part ++ slash ∷ rest) (length w) refl) ∙ ap length (segment_cut part rest free) ∙ length-append part (slash ∷ []) in
-    let j : length w + length (segment (drop (length w) path)) - 1 ≡ length w + length part = omega (arith, s) in
-    ap (λ (x : ℕ × ℕ). (part_of text name.0 name.1, part_of path x.1 (wild_stop (w ++ param_token ∷ slash ∷ t) x.0 path x.1)) ∷ []) f
-    ∙ ap (λ j. (part_of text name.0 name.1, part_of path (length w) j) ∷ []) (stop path (length w) ∙ j)
-    ∙ ap (λ l. (part_of text name.0 name.1, l) ∷ []) (part_at w part (slash ∷ rest) (length w) (length w + length part) refl refl)
+    ap (λ l. length (segment l)) (drop_at w (part ++ slash ∷ rest) (length w) refl)
+    ∙ ap length (segment_cut part rest free) ∙ length-append part (slash ∷ []) in
+    let j : length w + length (segment (drop (length w) path)) - 1 ≡ length w + length part =
+    omega (arith, s) in
+    ap (λ (x : ℕ × ℕ). (
+      part_of text name.0 name.1,
+      part_of path x.1 (wild_stop (w ++ param_token ∷ slash ∷ t) x.0 path x.1),
+    ) ∷ []) f
+    ∙ ap (λ j. (part_of text name.0 name.1, part_of path (length w) j) ∷ [])
+    (stop path (length w) ∙ j)
+    ∙ ap (λ l. (part_of text name.0 name.1, l) ∷ [])
+    (part_at w part (slash ∷ rest) (length w) (length w + length part) refl refl)

@@ -30,8 +30,10 @@ no_sample = refl
 word_is : (word : List ℕ) → found_route (found_word word) ≡ word_route word
 word_is word = by (bytes_eq word (codes "acts")) (bytes_eq word (codes "summary")) where
   by : (acts summary : Bool)
-      → found_route (if acts then Some (Acts, []) else (if summary then Some (Summary, []) else None))
-      ≡ (if acts then spot_route Acts [] else (if summary then spot_route Summary [] else None))
+      → found_route (if acts then Some (Acts, [])
+      else (if summary then Some (Summary, []) else None))
+      ≡ (if acts then spot_route Acts []
+      else (if summary then spot_route Summary [] else None))
   by true summary = refl
   by false true = refl
   by false false = refl

@@ -192,7 +192,8 @@ fn wrong_fault(routes: &Routes, alloc: Global) -> Option<&'static [u8]> {
 // The first request of the table whose end of the connection isn't told so.
 fn wrong_last(routes: &Routes, alloc: Global) -> Option<&'static [u8]> {
     for (bytes, last) in &LASTS {
-        if frame_with(routes, alloc, bytes, false) != question(bytes.len(), Question::Summary, *last) {
+        let asked = question(bytes.len(), Question::Summary, *last);
+        if frame_with(routes, alloc, bytes, false) != asked {
             return Some(bytes);
         }
     }
