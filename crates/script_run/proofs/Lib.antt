@@ -1,3 +1,4 @@
+pub mod LastCalls
 pub mod ByteSteps
 pub mod ScriptEnds
 pub mod RunEnds

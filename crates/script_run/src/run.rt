@@ -106,8 +106,7 @@ impl<D: Disk> Run<D> {
             self.end_line(part, output, lanes)?;
             rest = after;
         }
-        self.begin_line(rest)?;
-        Ok(())
+        self.begin_line(rest)
     }
 
     // Takes the bytes up to an LF, and does what the line says that they end.
@@ -131,8 +130,7 @@ impl<D: Disk> Run<D> {
     {
         let number = self.feed.line_number();
         let line = self.feed.end_line(every_command(lanes), part);
-        self.session.handle_line(&line, number, output, lanes)?;
-        Ok(())
+        self.session.handle_line(&line, number, output, lanes)
     }
 
     // Takes more bytes of the line that has begun: one that is longer than any may be is bad at
@@ -179,7 +177,6 @@ impl<D: Disk> Run<D> {
     {
         let line = self.feed.read_last(every_command(lanes));
         let number = self.feed.line_number();
-        self.session.handle_line(&line, number, output, lanes)?;
-        Ok(())
+        self.session.handle_line(&line, number, output, lanes)
     }
 }

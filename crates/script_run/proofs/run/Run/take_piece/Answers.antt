@@ -1,12 +1,13 @@
 use Rattle.std.proofs.Common.{◌≡◌, ℕ, List, ◌++◌, ◌∷◌, [], length, Ok, Err, sym, ap, ◌∙◌, append_assoc, length-append, subst, arith}
 use Rattle.std.specs.Bool.{⊤}
 use Rattle.std.proofs.lemmas.Result.{err_from_is_err_and}
-use Rattle.script_session.specs.Sessions.{store_in, log_in}
+use Rattle.script_session.specs.Sessions.{store_in, log_in, IsReady}
 use Rattle.script_run.specs.Books.{run_state}
 use Rattle.script_session.specs.declared.session.Session.{Session}
 use Rattle.script_session.specs.Outside.{LogView, outside_at}
 use Rattle.script_run.specs.Reached.{ReachedMore}
 use Rattle.store_runs.proofs.StoreSteps.{goes_on}
+use Rattle.script_run.proofs.LastCalls.{on_ok}
 use Rattle.script_run.proofs.ByteSteps.{steps_on, steps_stop, steps_last}
 use Rattle.script_run.proofs.run.Run.take_piece.Goals as goal
 
@@ -69,28 +70,9 @@ returns-clause-steps g c =
     (outside_at g.K.Sink g.L.Cell g.L.Gate c.loop-part.output c.loop-part.lanes l)
     (run_state c.args.self.now) (run_state c.loop-part.self) over.first)
     (sym (ap (λ (s : Session _). log_in s) c.begin_line.ensures.session)) over.on in
-    rw over.parts (steps_on _ _ _ (run_state c.args.self.now) (run_state c.loop-part.self)
-    (run_state c.begin_line.new.self) over.first c.loop-part.rest.now on
-    (c.in_ok-begin_line.ensures.steps now))
-
-pub returns-in_err-begin_line-clause-steps : goal.returns-in_err-begin_line-clause-steps
-returns-in_err-begin_line-clause-steps g c =
-    let p = err_from_is_err_and c.from_residual-in_err-begin_line.result
-    c.from_residual-in_err-begin_line.ensures.1 in
-    let over = c.loop-part.invariant.over in
-    let now = outside_at g.K.Sink g.L.Cell g.L.Gate c.loop-part.output c.loop-part.lanes
-    (log_in c.begin_line.new.self.session) in
-    let on = subst (λ (l : LogView). ReachedMore
-    (outside_at g.K.Sink g.L.Cell g.L.Gate c.args.output.now c.args.lanes.now
-    (log_in c.args.self.now.session))
-    (outside_at g.K.Sink g.L.Cell g.L.Gate c.loop-part.output c.loop-part.lanes l)
-    (run_state c.args.self.now) (run_state c.loop-part.self) over.first)
-    (sym (ap (λ (s : Session _). log_in s) c.begin_line.ensures.session)) over.on in
-    let stop = c.in_err-begin_line.field-0.0 in
-    rw (p.1, p.2)
-    (rw over.parts (steps_last {T = ⊤} _ now now (run_state c.args.self.now)
+    rw over.parts (steps_last {T = ⊤} _ now now (run_state c.args.self.now)
     (run_state c.loop-part.self) (run_state c.begin_line.new.self) over.first
-    c.loop-part.rest.now (Err stop) on (c.in_err-begin_line.ensures.steps now)))
+    c.loop-part.rest.now c.begin_line.result on (c.begin_line.ensures.steps now))
 
 pub returns-in_err-end_line-clause-goes : goal.returns-in_err-end_line-clause-goes
 returns-in_err-end_line-clause-goes g c =
@@ -100,18 +82,14 @@ returns-in_err-end_line-clause-goes g c =
     (store_in c.end_line.new.self.session) c.loop-part.invariant.goes
     c.in_err-end_line.ensures.goes)
 
-pub returns-in_err-begin_line-clause-goes : goal.returns-in_err-begin_line-clause-goes
-returns-in_err-begin_line-clause-goes g c =
-    let p = err_from_is_err_and c.from_residual-in_err-begin_line.result
-    c.from_residual-in_err-begin_line.ensures.1 in
-    rw (p.1, p.2) (goes_on g.D.Disk tt (Err c.in_err-begin_line.field-0.0)
-    (store_in c.args.self.now.session) (store_in c.loop-part.self.session)
-    (store_in c.begin_line.new.self.session) c.loop-part.invariant.goes
-    c.in_err-begin_line.ensures.goes)
-
 pub returns-clause-goes : goal.returns-clause-goes
 returns-clause-goes g c =
-    goes_on g.D.Disk tt (Ok tt) (store_in c.args.self.now.session)
-    (store_in c.loop-part.self.session)
-    (store_in c.begin_line.new.self.session) c.loop-part.invariant.goes
-    c.in_ok-begin_line.ensures.goes
+    goes_on g.D.Disk tt c.begin_line.result
+    (store_in c.args.self.now.session) (store_in c.loop-part.self.session)
+    (store_in c.begin_line.new.self.session) c.loop-part.invariant.goes c.begin_line.ensures.goes
+
+pub returns-clause-ready : goal.returns-clause-ready
+returns-clause-ready g c =
+    on_ok c.begin_line.result
+    (subst (λ (s : Session _). IsReady s) (sym c.begin_line.ensures.session)
+    c.loop-part.invariant.ready)
