@@ -7,5 +7,6 @@ mod plans;
 mod types;
 
 pub use errors::{limits, tne};
+pub use hall_limits::MAX_POPULATION;
 pub use plans::plan;
 pub use types::{Limits, Mode, NominalRange, Plan, PlanRefusal};

@@ -18,10 +18,10 @@ use Rattle.book_words.specs.Acts.{newest_day, lane_batch, last_batch}
 use Rattle.book_words.specs.Readings.{net_of_gross}
 use Rattle.book_words.specs.Classes.{class_by_density, limits_of_batch, density_of_batch}
 use Rattle.book_words.specs.Signals.{judged_signal, recorded_signal}
-use Rattle.book_packs.specs.Densities.{limit_at, limits_at}
-use Rattle.book_packs.specs.declared.types.AtWeighing.{AtWeighing}
-use Rattle.book_packs.specs.Told.{met_at}
-use Rattle.book_packs.proofs.Below.{class_is}
+use Rattle.book_views.specs.Densities.{limit_at, limits_at}
+use Rattle.book_views.specs.AtWeighing.{AtWeighing}
+use Rattle.book_views.specs.Told.{met_at}
+use Rattle.book_views.proofs.Below.{class_is}
 use Rattle.book_words.proofs.AllowedActs.{IsAllowed, weigh_tells}
 use Rattle.book_words.proofs.SaidTogether.{started_for_it}
 

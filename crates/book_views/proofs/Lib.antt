@@ -3,3 +3,4 @@ pub mod PileLemmas
 pub mod BatchFacts
 pub mod ContentsLemmas
 pub mod ViewLemmas
+pub use Rattle.book_packs.proofs.Below

@@ -14,10 +14,10 @@ use Rattle.book_words.specs.Answers.{answer, added}
 use Rattle.book_words.specs.declared.reply.Refused.{Refused}
 use Rattle.book_words.specs.Callers.{Known, FAULTS_END, HasAnswer, MayFindNoMemory, IsAsked, row_added}
 use Rattle.book_words.specs.Desks.{Row}
-use Rattle.book_store.specs.Callers.{CallerView, own_rows, known_of, IsReachedBy}
-use Rattle.book_store.specs.CallerLaws.{is_reached}
-use Rattle.book_store.specs.Stores.{book_of, entries_of, limit_of}
-use Rattle.book_store.proofs.CallerSteps.{refused_adds}
+use Rattle.store_runs.specs.Callers.{CallerView, own_rows, known_of, IsReachedBy}
+use Rattle.store_runs.specs.CallerLaws.{is_reached}
+use Rattle.store_runs.specs.Stores.{book_of, entries_of, limit_of}
+use Rattle.store_runs.proofs.CallerSteps.{refused_adds}
 use Rattle.lane_worker.specs.declared.ending.Ending.{Ending}
 use Rattle.lane_worker.specs.declared.ending.Ending.TheVariants as ends
 use Rattle.lane_worker.specs.declared.ending.LaneStop.{LaneStop}

@@ -8,11 +8,10 @@ ghost use Rattle.store_runs.specs.Books.{stored_book};
 ghost use Rattle.store_runs.specs.Runs.{Goes};
 ghost use Rattle.lane_runs.specs.LaneWorks.{lane_state, step_behind, IsWorked};
 
-use book_store::OneCaller;
 use book_words::{Ask, Name};
 use disk_core::Disk;
 use lane_worker::{Lane, LaneEnd, LaneStop, run_lane};
-use store_runs::{Offer, Stop};
+use store_runs::{Offer, OneCaller, Stop};
 
 /// The end of a lane's work, and how the run that worked it goes on.
 #[derive(Clone, Copy)]

@@ -2,8 +2,7 @@ ghost use Rattle.std.specs.Prelude.{◌≡◌, ◌≤◌};
 ghost use Rattle.pack_judge.specs.Judge.{class_of, signal_of};
 
 use crate::types::{Cause, Class, Signal};
-use annex_tables::Limits;
-use hall_limits::MAX_POPULATION;
+use annex_tables::{Limits, MAX_POPULATION};
 
 /// The class of a net in mg (Annex I). Equality with a limit is not below it; a net may be
 /// negative.

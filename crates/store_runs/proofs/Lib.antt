@@ -1,2 +1,3 @@
 pub mod CallerGoes
 pub mod StoreSteps
+pub use Rattle.book_store.proofs.CallerSteps

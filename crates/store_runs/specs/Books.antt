@@ -1,7 +1,7 @@
 -- A book as the runs over it see it.
 use Rattle.std.specs.Prelude.{ℕ, List}
 use Rattle.book_words.specs.declared.act.Entry.{Entry}
-use Rattle.book_store.specs.declared.store.Store.{Store}
+pub use Rattle.book_store.specs.declared.store.Store.{Store}
 use Rattle.book_store.specs.Stores.{BookView, book_of}
 
 -- a book at one moment: the most rows that it may have, and its entries

@@ -2,3 +2,6 @@ pub mod Books
 pub mod Calls
 pub mod Runs
 pub mod Stops
+pub use Rattle.book_store.specs.CallerLaws
+pub use Rattle.book_store.specs.Callers
+pub use Rattle.book_store.specs.Stores

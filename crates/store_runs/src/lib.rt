@@ -5,6 +5,7 @@ mod end;
 mod snapshot;
 mod stop;
 
+pub use book_store::OneCaller;
 pub use end::RunEnd;
 pub use snapshot::keep_snapshot;
 pub use stop::{Offer, Stop};

@@ -2,8 +2,8 @@ use Rattle.std.proofs.Common.{◌≡◌, Some, ap, ◌∙◌, subst}
 use Rattle.book_words.specs.declared.act.Ask.{Ask as Asked}
 use Rattle.book_words.specs.declared.caller.AskError.{AskError}
 use Rattle.book_words.specs.declared.caller.AskError.TheVariants as error
-use Rattle.book_store.specs.declared.store.Store.{Store}
-use Rattle.book_store.specs.Callers.{CallerView, known_of, IsReachedBy}
+use Rattle.store_runs.specs.Books.{Store}
+use Rattle.store_runs.specs.Callers.{CallerView, known_of, IsReachedBy}
 use Rattle.lane_worker.specs.Endings.{stop_at}
 use Rattle.lane_worker.specs.Works.{IsWork}
 use Rattle.store_runs.specs.Books.{stored_book}
