@@ -6,12 +6,12 @@
 # and each call for memory that the C library makes for one.
 #
 # A run has to end with status 7, `no memory` behind a beginning of what a run with ample memory
-# says, and behind what lanes and doors say where these ran (2 and `usage` where the words can't be
-# stored); or whole, behind an answer 503 when the request comes again, or where the program asks for
-# less; or with 10, where a lane waits in vain for one that lacked memory. Its rows are those that were
-# answered, a beginning of the day's, and `check` finds them whole. The rest of the day over that book
-# then ends with the whole day's summary and rows. What the days say with ample memory was worked out
-# by hand. Status 1 where a run came out otherwise: each is named.
+# says, and behind what lanes and doors say where these ran; or whole, behind an answer 503 when the
+# request comes again, or where the program asks for less; or with 10, where a lane waits in vain for
+# one that lacked memory. Its rows are those that were answered, a beginning of the day's, and `check`
+# finds them whole. The rest of the day over that book then ends with the whole day's summary and rows.
+# What the days say with ample memory was worked out by hand. Status 1 where a run came out otherwise:
+# each is named.
 #
 # Room is made for 64 rows at first, and then for twice as many. So the corrected tare and the lanes
 # also come behind so many other rows that each of their acts in turn is the one for which there has

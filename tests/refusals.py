@@ -20,10 +20,8 @@ PROGRAM, LIBRARY, THREAD = range(3)
 LONGEST = 60
 
 NO_MEMORY = "no memory\n"
-USAGE = "usage: hall COMMAND [OPTIONS]\n"
 
 # How a run may end.
-UNREAD_WORDS = "usage (status 2)"
 UNOPENED = "a book that can't be opened (status 7)"
 ASKED_AGAIN = "whole, since the program asked again (status 0)"
 
@@ -175,9 +173,6 @@ class ScriptDay:
 
     def ended(self, place, status, said):
         """How many lines were answered, and how the run ended."""
-        if status == 2:
-            need(said == USAGE and not os.path.exists(place.book), f"status 2: {said}")
-            return 0, UNREAD_WORDS
         if place.is_unopened(status, said):
             return 0, UNOPENED
         if (status, said) == (0, self.day.answers() + self.day.summary):

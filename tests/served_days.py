@@ -7,8 +7,7 @@ import shutil
 
 from clients import FIRST_DOOR, Hall, free_ports, get, need, plan, post
 from meeting import Meeting
-from refusals import (ASKED_AGAIN, LONGEST, NO_MEMORY, PROGRAM, THREAD, UNOPENED, UNREAD_WORDS,
-                      USAGE, Place)
+from refusals import ASKED_AGAIN, LONGEST, NO_MEMORY, PROGRAM, THREAD, UNOPENED, Place
 from rows import Piles
 from worked_days import OPENING, SHEET, days, desk_row, many_packs, summary
 
@@ -139,9 +138,6 @@ class ServedDay:
 
     def unbegun(self, place, status, said):
         """How a hall ended of whose jobs none ran; none of others."""
-        if (status, said) == (2, USAGE):
-            need(self.book or not os.path.exists(place.book), "usage, and a book was made")
-            return UNREAD_WORDS
         if place.is_unopened(status, said):
             return UNOPENED
         return "no memory before the jobs (status 7)" if (status, said) == (7, NO_MEMORY) else None

@@ -1,5 +1,5 @@
 -- What `clap` answers to two words that have no names.
-use Rattle.std.proofs.Common.{if◌then◌else◌, ◌≡◌, refl, subst, Bool, true, false, List, [], ◌∷◌, Option, Some, None, codes}
+use Rattle.std.proofs.Common.{if◌then◌else◌, ◌≡◌, refl, subst, Bool, true, false, List, [], ◌∷◌, Some, None, codes}
 use Rattle.clap.specs.Simple.{App, is_simple, matches_of}
 use Rattle.clap.specs.Takes.{takes, walk_passes}
 use Rattle.clap.specs.Walk.{Text, walked}

@@ -11,8 +11,8 @@ use Rattle.clap.specs.Takes.{built_takes, default_passes, is_valid, settle_passe
 use Rattle.clap.specs.Walk.{Held, Row, Text, finished, first_of, nothing_held, walk_from}
 use Rattle.command_line.specs.declared.types.Command.{Command}
 use Rattle.command_line.specs.Options.{app_by, app_for}
-use Rattle.command_line.specs.Words.{Form, Item, Wanted, are_taken, form_of, items_in, options, places}
-use Rattle.command_line.specs.Words.{read_items, taken_items, value_of, wanted_by, wanted_values}
+use Rattle.command_line.specs.Words.{Form, Item, are_taken, form_of, items_in, options, places}
+use Rattle.command_line.specs.Words.{read_items, taken_items, value_of}
 use Rattle.command_line.specs.declared.types.Command.TheVariants.{Run, Serve, Report, Export, Check}
 use Rattle.command_line.specs.declared.types.Command.TheVariants.{Import, Trial, Migrate}
 use Rattle.command_line.proofs.ManyOptions.{defaults_pass, finished_as, shape_for, simple, valid}
@@ -87,44 +87,21 @@ by_known (places names) known =
 by_form : (command : Command) → FormReads (form_of command)
 by_form command = by_known (form_of command) (is_known command)
 
--- words that ask for something are items that ask for it
-record Asks (command : Command) (words : List Text) (wanted : Wanted) : Type 0 where
-  items : List Item
-  is : items_in (form_of command) words ≡ Some items
-  asks : wanted_values command (value_of items) ≡ Some wanted
-
-asks_by : (command : Command) (words : List Text) (wanted : Wanted) (left : Option (List Item))
-    → items_in (form_of command) words ≡ left
-    → option_and_then (λ items. wanted_values command (value_of items)) left ≡ Some wanted
-    → Asks command words wanted
-asks_by command words wanted None is asks = cc
-asks_by command words wanted (Some items) is asks = record { items = items; is = is; asks = asks }
-
-asks_for : (command : Command) (words : List Text) (wanted : Wanted)
-    → wanted_by command words ≡ Some wanted → Asks command words wanted
-asks_for command words wanted asks =
-    asks_by command words wanted (items_in (form_of command) words) refl asks
-
-clap_reads : (command : Command) (words : List Text) (wanted : Wanted)
-    (asks : Asks command words wanted) → ClapReads (app_for (form_of command)) words asks.items
-clap_reads command words wanted asks = by_form command words asks.items asks.is
-
--- the same over a command that was built as told, and the matches that a parse gave
-pub matches_ask : (command : Command) (words : List Text) (app : App) (matches : ArgMatches)
-    → app ≡ app_for (form_of command)
-    → HasMatchesOf app words matches → (wanted : Wanted) → wanted_by command words ≡ Some wanted
-    → wanted_values command (first_value (found_of matches)) ≡ Some wanted
-matches_ask command words app matches told has wanted asked =
-    let asks = asks_for command words wanted asked in
-    let reads = clap_reads command words wanted asks in
+-- a command that was built as told, and the matches that a parse gave: each name has the value that
+-- the items give it
+pub matches_give : (command : Command) (words : List Text) (app : App) (matches : ArgMatches)
+    → app ≡ app_for (form_of command) → HasMatchesOf app words matches
+    → (items : List Item) → items_in (form_of command) words ≡ Some items
+    → first_value (found_of matches) ≡ value_of items
+matches_give command words app matches told has items is =
+    let reads = by_form command words items is in
     let has_rows = (subst (λ (a : App). HasMatchesOf a words matches) told has reads.simple).0 in
-    let each : (name : Text) → first_value (found_of matches) name ≡ value_of asks.items name =
+    let each : (name : Text) → first_value (found_of matches) name ≡ value_of items name =
     λ name. first_value-rows (found_of matches) name ∙ ap (first_of name) (has_rows ∙ reads.rows)
-    ∙ first_given name asks.items in
-    (λ i. wanted_values command (λ name. each name i)) ∙ asks.asks
+    ∙ first_given name items in
+    (λ i. (λ (name : Text). each name i))
 
-pub takes_asked : (command : Command) (words : List Text) (app : App)
+pub takes_items : (command : Command) (words : List Text) (app : App)
     → app ≡ app_for (form_of command)
-    → (wanted : Wanted) → wanted_by command words ≡ Some wanted → takes app words ≡ true
-takes_asked command words app told wanted asked = rw told (clap_reads command words wanted
-    (asks_for command words wanted asked)).takes
+    → (items : List Item) → items_in (form_of command) words ≡ Some items → takes app words ≡ true
+takes_items command words app told items is = rw told (by_form command words items is).takes

@@ -1,5 +1,5 @@
 -- `clap` takes the words of the grammar, and keeps the values that the words give.
-use Rattle.std.proofs.Common.{◌≡◌, ◌⊎◌, ◌≤◌, ◌∙◌, ◌++◌, ◌&&◌, ◌||◌, ap, sym, subst, refl, inl, inr, ℕ, zero, suc, Bool, true, false, not, List, [], ◌∷◌, Option, Some, None, length, map, arith}
+use Rattle.std.proofs.Common.{◌≡◌, ◌⊎◌, ◌≤◌, ◌∙◌, ◌++◌, ◌&&◌, ◌||◌, ap, sym, subst, refl, inl, inr, ℕ, zero, suc, Bool, true, false, not, List, [], ◌∷◌, Some, None, length, arith}
 use Rattle.std.specs.List.{fold, list_all, list_any}
 use Rattle.std.specs.Str.{bytes_eq}
 use Rattle.std.proofs.lemmas.List.{append-nil, append_assoc, map-append}

@@ -1,9 +1,10 @@
 -- What items give to the options of a command, an item at a time.
-use Rattle.std.proofs.Common.{◌≡◌, ◌∙◌, ◌&&◌, ap, refl, sym, is_none, Bor, Bool, true, false, not, List, [], ◌∷◌, Option, Some, None, option_map, option_and_then, is_some, codes, ℕ, length, arith}
+use Rattle.std.proofs.Common.{if◌then◌else◌, ◌≡◌, ◌↔◌, ◌∙◌, ◌&&◌, ap, refl, sym, is_none, Bor, Bool, true, false, not, List, [], ◌∷◌, Option, Some, None, option_map, option_and_then, is_some, codes, ℕ, length, arith}
 use Rattle.std.specs.List.{list_any}
 use Rattle.std.specs.Option.{option_map_or}
 use Rattle.std.specs.Str.{bytes_eq}
 use Rattle.command_line.specs.declared.types.Command.{Command}
+use Rattle.command_line.specs.declared.types.WantsError.TheVariants.{NoMemory, Usage}
 use Rattle.command_line.specs.declared.values.Values.{Values}
 use Rattle.command_line.specs.Taken.{are_words_taken, bytes_in, is_read}
 use Rattle.command_line.specs.Words.{Form, Item, Wanted, are_taken, command_of, form_of, gives, is_among}
@@ -159,33 +160,46 @@ lacks_some : {A : Type 0} (found : Option A) → is_some found ≡ false → fou
 lacks_some None is = refl
 lacks_some (Some x) is = cc
 
--- words ask for nothing where those behind the command's ask for nothing of it
+-- words of options are items of these where all of them are taken
+pub taken_there : (names : List (List ℕ)) (left : Option (List Item))
+    → option_map_or (are_taken names) left false
+    ≡ is_some (option_and_then (taken_items names) left)
+taken_there names None = refl
+taken_there names (Some items) = each (are_taken names items)
+  where
+    each : (t : Bool) → t ≡ is_some (if t then Some items else None)
+    each true = refl
+    each false = refl
+
+-- words ask for nothing where those behind the command's aren't in its form
 pub none_asked : (words : List (List ℕ)) (word : List ℕ) (rest : List (List ℕ)) (command : Command)
     → words ≡ word ∷ rest → command_of word ≡ Some command
-    → is_some (wanted_by command rest) ≡ false → wanted_of words ≡ None
+    → is_some (items_in (form_of command) rest) ≡ false → wanted_of words ≡ None
 none_asked words word rest command begins named lacks =
     ap wanted_of begins ∙ ap (option_and_then (λ c. wanted_by c rest)) named
-    ∙ lacks_some (wanted_by command rest) lacks
+    ∙ ap (option_and_then (λ items. wanted_values command (value_of items)))
+    (lacks_some (items_in (form_of command) rest) lacks)
 
-none_wanted : (command : Command) (value : List ℕ → Option (List ℕ)) → values_of value ≡ None
-    → wanted_values command value ≡ None
-none_wanted command value none = rw none refl
+-- what a command asks for by items
+abbrev pub asked_by : Command → Option (List Item) → Option Wanted
+asked_by command left = option_and_then (λ items. wanted_values command (value_of items)) left
 
--- where a command asks for something, the values that it was given are read
-pub values_there : (command : Command) (asked : Option Wanted) (value : List ℕ → Option (List ℕ))
-    → is_some asked ≡ true
-    → ((wanted : Wanted) → asked ≡ Some wanted → wanted_values command value ≡ Some wanted)
-    → values_of value ≡ None → ⊥
-values_there command None value some tells none = cc
-values_there command (Some wanted) value some tells none =
-    let bad : None ≡ Some wanted = sym (none_wanted command value none) ∙ tells wanted refl in cc
+-- each name has the value that the items give it
+abbrev pub AreGiven : Option (List Item) → (List ℕ → Option (List ℕ)) → Type 0
+AreGiven left value = (items : List Item) → left ≡ Some items → value ≡ value_of items
+
+-- a command asks for nothing where a value that it was given can't be read
+pub values_none : (command : Command) (left : Option (List Item)) (value : List ℕ → Option (List ℕ))
+    → AreGiven left value → values_of value ≡ None → asked_by command left ≡ None
+values_none command None value given none = refl
+values_none command (Some items) value given none =
+    ap (wanted_values command) (sym (given items refl)) ∙ rw none refl
 
 -- what a command asks for is what was read of the values that it was given
-pub asks_read : (command : Command) (asked : Option Wanted) (value : List ℕ → Option (List ℕ))
-    (values : Values) (book cells : Option (List ℕ)) → is_some asked ≡ true
-    → ((wanted : Wanted) → asked ≡ Some wanted → wanted_values command value ≡ Some wanted)
+pub asks_read : (command : Command) (left : Option (List Item)) (value : List ℕ → Option (List ℕ))
+    (values : Values) (book cells : Option (List ℕ)) → is_some left ≡ true → AreGiven left value
     → values_of value ≡ Some values → book ≡ value (codes "book") → cells ≡ value (codes "cells")
-    → asked ≡ Some (record {
+    → asked_by command left ≡ Some (record {
       command = command;
       book = book;
       batch = values.batch;
@@ -198,6 +212,21 @@ pub asks_read : (command : Command) (asked : Option Wanted) (value : List ℕ �
       number = values.number;
       count = values.count;
     })
-asks_read command None value values book cells some tells read b c = cc
-asks_read command (Some wanted) value values book cells some tells read b c =
-    sym (tells wanted refl) ∙ rw (read, b, c) refl
+asks_read command None value values book cells some given read b c = cc
+asks_read command (Some items) value values book cells some given read b c =
+    ap (wanted_values command) (sym (given items refl)) ∙ rw (read, b, c) refl
+
+no_usage : (words asked : Option Wanted) (wanted : Wanted) → words ≡ asked
+    → asked ≡ Some wanted → (NoMemory ≡ Usage) ↔ (words ≡ None)
+no_usage words asked wanted same is =
+    (λ usage. absurd (cc), λ none. absurd (let bad : None ≡ Some wanted = sym none ∙ same ∙ is in cc))
+
+-- words are no faulty ones where the values that their command was given are read
+pub not_faulty : (words : Option Wanted) (command : Command) (left : Option (List Item))
+    (value : List ℕ → Option (List ℕ)) (values : Values) → words ≡ asked_by command left
+    → is_some left ≡ true → AreGiven left value → values_of value ≡ Some values
+    → (NoMemory ≡ Usage) ↔ (words ≡ None)
+not_faulty words command left value values same some given read =
+    no_usage words (asked_by command left) _ same
+    (asks_read command left value values (value (codes "book")) (value (codes "cells")) some given
+    read refl refl)

@@ -1,5 +1,5 @@
 -- What building makes of a command with any options.
-use Rattle.std.proofs.Common.{◌≡◌, ◌||◌, ℕ, ◌∙◌, ◌++◌, ap, refl, Bool, true, false, List, [], ◌∷◌, Option, Some, None, map, find, if◌then◌else◌}
+use Rattle.std.proofs.Common.{◌≡◌, ◌||◌, ℕ, ◌∙◌, ap, refl, Bool, true, false, List, [], ◌∷◌, Some, map, find, if◌then◌else◌}
 use Rattle.std.specs.Prelude.{is_some, not, ◌&&◌}
 use Rattle.std.specs.List.{list_all, list_any, fold}
 use Rattle.std.specs.Str.{bytes_eq}
@@ -7,7 +7,7 @@ use Rattle.std.proofs.lemmas.Slice.Eq.{bytes_eq-Decides}
 use Rattle.std.proofs.lemmas.List.{append-nil, append_assoc}
 use Rattle.clap.specs.Simple.{App, Shape, built, filled_from, is_simple, with_rule}
 use Rattle.clap.specs.Takes.{default_passes, is_valid}
-use Rattle.clap.specs.Walk.{Held, Row, Rule, Text, arg_by_id, arg_by_long, finished, has_long, has_row, is_early_multiple, settled, with_default}
+use Rattle.clap.specs.Walk.{Held, Row, Rule, Text, finished, has_long, has_row, is_early_multiple, settled, with_default}
 use Rattle.command_line.specs.Options.{app_by, rule_by, with_values}
 use Rattle.command_line.specs.Words.{is_among}
 use Rattle.command_line.proofs.OneWord.{Knows, built_rule}

@@ -1,5 +1,5 @@
 -- Words that stand in the places of names, one after another.
-use Rattle.std.proofs.Common.{◌≡◌, ℕ, zero, suc, ◌+◌, ◌<◌, List, [], ◌∷◌, Option, Some, None, Bor, length, drop, is_some, refl, ap, ◌∙◌, arith}
+use Rattle.std.proofs.Common.{◌≡◌, ℕ, zero, suc, ◌+◌, ◌<◌, List, [], ◌∷◌, Option, None, Bor, length, drop, is_some, refl, ap, ◌∙◌, arith}
 use Rattle.command_line.specs.Taken.{texts_of}
 use Rattle.command_line.specs.Words.{Item, placed_items, with_item}
 use Rattle.command_line.proofs.GivenValues.{with_item_some}

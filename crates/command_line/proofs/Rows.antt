@@ -1,6 +1,5 @@
 -- What `clap` keeps of the options that were given.
-use Rattle.std.proofs.Common.{◌≡◌, ◌∙◌, ◌++◌, ◌||◌, ap, refl, Bool, true, false, List, [], ◌∷◌, Option, Some, None, option_map, map}
-use Rattle.std.specs.Prelude.{find}
+use Rattle.std.proofs.Common.{◌≡◌, ◌∙◌, ◌++◌, ◌||◌, ap, refl, Bool, true, false, List, [], ◌∷◌, Some, None, map}
 use Rattle.std.specs.List.{list_any}
 use Rattle.std.specs.Str.{bytes_eq}
 use Rattle.std.proofs.lemmas.List.{append-nil}

@@ -2,10 +2,10 @@ ghost use Rattle.std.specs.Prelude.{◌≡◌, ◌↔◌, Some, None, is_some, t
 ghost use Rattle.std.specs.Prelude.{IfOk, IfErr, MatchOption};
 ghost use Rattle.command_line.specs.declared.types.WantsError.TheVariants.{Usage};
 ghost use Rattle.clap.specs.Words.{first_value, found_of};
-ghost use Rattle.command_line.specs.Words.{bytes_of, values_of, wanted_by, wanted_of};
+ghost use Rattle.command_line.specs.Words.{bytes_of, form_of, items_in, values_of, wanted_by, wanted_of};
 ghost use Rattle.command_line.specs.Taken.{IsInRange, bytes_in, seen};
 
-use crate::given::is_asked;
+use crate::given::{has_form, is_asked};
 use crate::parser::parse;
 use crate::table::find_command;
 use crate::text::Text;
@@ -25,9 +25,8 @@ pub fn wants(alloc: Global, words: &[String]) -> Result<Wants, WantsError>
     let Some((command, rest)) = read_words(words) else {
         return Err(WantsError::Usage);
     };
-    let matches = match parse(alloc, command, rest) {
-        Ok(matches) => matches,
-        Err(why) => return Err(why),
+    let Ok(matches) = parse(alloc, command, rest) else {
+        return Err(without_memory(command, rest));
     };
     let Some(values) = values_in(&matches) else {
         return Err(WantsError::Usage);
@@ -69,15 +68,27 @@ fn values_in(matches: &ArgMatches) -> Option<Values>
     })
 }
 
-// The command and the words after it, where all of them are in the grammar.
+// What is answered where there is no memory for words in the form of a command: `NoMemory`, where
+// their values can be read.
+fn without_memory(command: Command, words: &[String]) -> WantsError
+    ensures { (result ≡ Usage) ↔ (wanted_by command (bytes_of words.now) ≡ None) }
+{
+    if is_asked(command, words) {
+        WantsError::NoMemory
+    } else {
+        WantsError::Usage
+    }
+}
+
+// The command and the words after it, where they are in its form. `clap` takes more words than these.
 fn read_words<'a>(words: &'a [String]) -> Option<(Command, &'a [String])>
     ensures { MatchOption result (wanted_of (bytes_of words.now) ≡ None)
         (λ found. (wanted_of (bytes_of words.now) ≡ wanted_by found.0 (bytes_of found.1.now))
-        × (is_some (wanted_by found.0 (bytes_of found.1.now)) ≡ true)) }
+        × (is_some (items_in (form_of found.0) (bytes_of found.1.now)) ≡ true)) }
 {
     let (word, rest) = words.split_first()?;
     let command = find_command(word.as_str())?;
-    if !is_asked(command, rest) {
+    if !has_form(command, rest) {
         return None;
     }
     Some((command, rest))

@@ -1,10 +1,10 @@
-ghost use Rattle.std.specs.Prelude.{◌≡◌, Bool, Some, IfOk, MatchResult};
+ghost use Rattle.std.specs.Prelude.{◌≡◌, Bool, List, Some, IfOk, MatchResult};
 ghost use Rattle.clap.specs.Words.{app_of, first_value, found_of, kind_of};
 ghost use Rattle.command_line.specs.declared.types.WantsError.TheVariants.{NoMemory};
 ghost use Rattle.clap.specs.Simple.{with_rule};
 ghost use Rattle.command_line.specs.Options.{app_by, app_for, rule_by};
 ghost use Rattle.command_line.specs.Taken.{form_in, texts_of};
-ghost use Rattle.command_line.specs.Words.{bytes_of, Wanted, wanted_by, wanted_values};
+ghost use Rattle.command_line.specs.Words.{Item, bytes_of, form_of, items_in, value_of};
 
 use crate::table::{Form, form_of};
 use crate::types::{Command, WantsError};
@@ -12,16 +12,15 @@ use clap::error::ErrorKind;
 use clap::{Arg, ArgAction, ArgMatches};
 use std::alloc::{AllocError, Global};
 
-/// The values that words give, where they are in the grammar of a command: nothing but memory may
-/// then be refused.
+/// The values that words give, where they are in the form of a command: nothing but memory may then
+/// be refused.
 pub fn parse<'a>(
     alloc: Global,
     command: Command,
     words: &'a [String],
 ) -> Result<ArgMatches<'a>, WantsError>
-    ensures { (wanted : Wanted) → wanted_by command (bytes_of words.now) ≡ Some wanted
-        → MatchResult result
-        (λ matches. wanted_values command (first_value (found_of matches)) ≡ Some wanted)
+    ensures { (items : List Item) → items_in (form_of command) (bytes_of words.now) ≡ Some items
+        → MatchResult result (λ matches. first_value (found_of matches) ≡ value_of items)
         (λ why. why ≡ NoMemory) }
 {
     let Ok(told) = told_form(alloc, form_of(command)) else {

@@ -35,14 +35,14 @@ const BYTES_A_ROW: usize = 2 * ROW_BYTES;
 /// The rows more that its room is for: the header, the closed gates and the ends of the snapshot.
 const ROWS_MORE: usize = 4;
 
-// The words after the program's name. Where one isn't UTF-8, or there is no memory for them,
-// there are none: no command is without words.
-fn words(rt: &(impl Env + AllocGlobal)) -> Vec<String> {
-    let Ok(args) = env::args(rt) else {
-        return Vec::new(rt.alloc());
-    };
-    let kept: Result<Vec<String>, AllocError> = args.skip(1).collect(rt.alloc());
-    kept.unwrap_or(Vec::new(rt.alloc()))
+// The words after the program's name, where there is memory for them. Where one isn't UTF-8 there are
+// none: no command is without words.
+fn words(rt: &(impl Env + AllocGlobal)) -> Result<Vec<String>, AllocError> {
+    match env::args(rt) {
+        Ok(args) => args.skip(1).collect(rt.alloc()),
+        Err(error) if error.kind() == ErrorKind::OutOfMemory => Err(AllocError),
+        Err(_) => Ok(Vec::new(rt.alloc())),
+    }
 }
 
 // Does what the words say over a disk, with these lanes and doors: the call of `hall`, whose contract
@@ -185,9 +185,11 @@ fn over_book<
 
 fn main(rt: HostRuntime) -> ExitCode {
     let alloc = rt.alloc();
-    let words = words(&rt);
     let mut input = StdSource::new(rt.stdin());
     let mut output = StdSink::new(rt.stdout());
+    let Ok(words) = words(&rt) else {
+        return end_without_memory(alloc, &mut output);
+    };
     let wanted = match wants(alloc, &words) {
         Ok(wanted) => wanted,
         Err(WantsError::NoMemory) => return end_without_memory(alloc, &mut output),

@@ -37,7 +37,7 @@ const IMPORTS: [Step; 5] = [
     (&["import"], b"", "bad line 1\n", (3, 0, 0)),
     (
         &["import"],
-        b"desk,request,command\n101,1,day 2025-03-03\n0,1,product a 250\n101,2,product a 250\n",
+        b"desk,request,command\n101,1,day 2025-03-03\n,1,product a 250\n101,2,product a 250\n",
         "1 ok\nbad line 3\n",
         (3, 0, 1),
     ),

@@ -18,6 +18,10 @@ const ONE_ROW: &str = "1 ok\nrefused 10 NameShape at 1\nrows 1\nreadings 0 gross
 passed 0 gross 0.000\nrejected 0 gross 0.000\nsampled 0 gross 0.000\nvoided 0 gross 0.000\n\
 batches running 0 ended 0 drawn 0 closed 0\n";
 
+const HALL_ROW: &str = "1 ok\nrefused 1 DeskNumber at 1\nrows 1\nreadings 0 gross 0.000\n\
+passed 0 gross 0.000\nrejected 0 gross 0.000\nsampled 0 gross 0.000\nvoided 0 gross 0.000\n\
+batches running 0 ended 0 drawn 0 closed 0\n";
+
 const NO_ROWS: &str = "rows 0\nreadings 0 gross 0.000\n\
 passed 0 gross 0.000\nrejected 0 gross 0.000\nsampled 0 gross 0.000\nvoided 0 gross 0.000\n\
 batches running 0 ended 0 drawn 0 closed 0\n";
@@ -53,9 +57,10 @@ static IMPORTS: [(&[u8], Wanted); 12] = [
         b"desk,request,command\n101,1,day 2025-03-03\n101,2,work 1 A\n",
         ("1 ok\n", Ends::BadLine(3), 1),
     ),
+    // desk 0 is the hall itself, which has no requests
     (
-        b"desk,request,command\n0,0,day 2025-03-03\n",
-        ("", Ends::BadLine(2), 0),
+        b"desk,request,command\n0,0,day 2025-03-03\n0,1,product a 250\n",
+        (HALL_ROW, Ends::Finished, 1),
     ),
     (
         b"desk,request,command\n101,1,day 2025-03-03,\n",

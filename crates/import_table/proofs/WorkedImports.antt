@@ -19,7 +19,8 @@ question : import_in (codes "desk,request,command\n101,1,void 6\n101,2,summary\n
 unfolding import_in csv_on_literals
 question = refl
 
-no_desk : import_in (codes "desk,request,command\n0,0,void 6\n") ≡ stopped (Bad 2)
+no_desk : import_in (codes "desk,request,command\n0,0,void 6\n") ≡
+    record { commands = record void_six { desk = 0; request = 0 } ∷ []; error = None }
 unfolding import_in csv_on_literals
 no_desk = refl
 

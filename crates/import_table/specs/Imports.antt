@@ -1,7 +1,6 @@
 -- What an import says. Its records are those that the kit's `csv` reads with its defaults, where no
 -- record is set apart as a header and each may have any number of fields.
 use Rattle.std.specs.Prelude.{◌≡◌, ◌⊎◌, ℕ, Bool, false, ◌&&◌, ◌==◌, ◌+◌, nat_le, List, [], ◌∷◌, ◌++◌, length, codes, if◌then◌else◌, Option, Some, None, Result, Ok, Err}
-use Rattle.std.specs.Option.{option_and_then}
 use Rattle.std.specs.Str.{bytes_eq}
 use Rattle.csv.specs.Reading.{default_config, records_from, strip_bom}
 use Rattle.csv.specs.declared.parser.State.TheVariants.{StartRecord}
@@ -17,14 +16,9 @@ abbrev pub script_line : List ℕ → List ℕ → List ℕ → List ℕ
 script_line desk request command =
     codes "@" ++ desk ++ codes " " ++ request ++ codes " " ++ command
 
--- a command of a desk: 0 is none
-abbrev pub of_desk : Command → Option Command
-of_desk command = if command.desk == 0 then None else Some command
-
--- the command of a desk that a line asks; what has an LF is no line
+-- the command that a line asks; what has an LF is no line
 abbrev pub line_command : List ℕ → Option Command
-line_command line =
-    if has_end line then None else option_and_then of_desk (asked (last_says acts_alone line))
+line_command line = if has_end line then None else asked (last_says acts_alone line)
 
 -- the command that the fields of a record ask: of a desk, a request and a command
 abbrev pub command_in : List (List ℕ) → Option Command

@@ -1,14 +1,14 @@
 ghost use Rattle.std.specs.Prelude.{◌≡◌, IfOk, OnOk};
 ghost use Rattle.csv.specs.Records.{fields_of};
 ghost use Rattle.script_lines.specs.Lines.{has_end};
-ghost use Rattle.import_table.specs.Imports.{command_in, line_command, of_desk, script_line};
+ghost use Rattle.import_table.specs.Imports.{command_in, line_command, script_line};
 
 use crate::fields::three_fields;
 use crate::types::NoMemory;
 use csv::ByteRecord;
 use script_lines::{Allowed, Command, Line, MAX_LINE, read_last_line, split_line};
 
-/// What a desk may ask: acts alone.
+/// What a record may ask: acts alone, as a script may ask them of a desk.
 const ACTS_ALONE: Allowed = Allowed {
     questions: false,
     lanes: 0,
@@ -47,7 +47,7 @@ fn write_line(
     Ok(())
 }
 
-// The command of a desk that a line asks, where it asks one.
+// The command that a line asks, where it asks one.
 fn line_command(line: &[u8]) -> Option<Command>
     ensures { result ≡ line_command line.now }
 {
@@ -55,7 +55,7 @@ fn line_command(line: &[u8]) -> Option<Command>
         return None;
     }
     match read_last_line(ACTS_ALONE, line) {
-        Line::Asks(command) => of_desk(command),
+        Line::Asks(command) => Some(command),
         _ => None,
     }
 }
@@ -65,15 +65,4 @@ fn has_end(line: &[u8]) -> bool
     ensures { result ≡ has_end line.now }
 {
     split_line(line).is_some()
-}
-
-// A command of a desk: 0 is none.
-fn of_desk(command: Command) -> Option<Command>
-    ensures { result ≡ of_desk command }
-{
-    if command.desk == 0 {
-        None
-    } else {
-        Some(command)
-    }
 }

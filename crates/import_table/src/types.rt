@@ -16,8 +16,8 @@ pub type NoMemory = AllocError;
 /// Why an import is read no further.
 #[derive(Clone, Copy, Debug, PartialEq, Eq)]
 pub enum ImportError {
-    /// The record of this number isn't a command of a desk, or isn't the header where it is 1; 0
-    /// where the import has more than `MAX_IMPORT` bytes.
+    /// The record of this number isn't an act that a line of a script asks, or isn't the header where
+    /// it is 1; 0 where the import has more than `MAX_IMPORT` bytes.
     Bad { record: u32 },
     /// It has more than `MAX_RECORDS` records behind its header.
     TooMany,

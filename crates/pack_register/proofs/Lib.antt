@@ -1,5 +1,3 @@
-mod Escapes
-mod PlainFields
+mod Fields
 pub mod ReadBack
-mod RecordParts
 mod WorkedTexts

@@ -1,2 +1,2 @@
 pub mod Register
-pub mod Parts
+pub mod Writing

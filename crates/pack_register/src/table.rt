@@ -6,9 +6,8 @@ ghost use Rattle.book_words.specs.Ranges.{IsPackInRange};
 ghost use Rattle.pack_register.specs.Register.{column_names, columns, register_text};
 
 use crate::list::PackList;
-use crate::records::{HEADER_ROOM, RECORD_ROOM, push_header, push_record};
+use crate::writer::RegisterWriter;
 use book_words::PackView;
-use hall_units::make_room;
 use std::alloc::{AllocError, Global};
 
 /// Memory that was wanted could not be had.
@@ -31,11 +30,10 @@ fn write_register(alloc: Global, packs: &[PackView]) -> Result<Vec<u8>, NoMemory
     requires { All IsPackInRange packs.now }
     ensures { IfOk result (λ text. text.items ≡ register_text packs.now) }
 {
-    let mut text = Vec::with_capacity(alloc, HEADER_ROOM)?;
-    push_header(&mut text);
+    let mut register = RegisterWriter::new(alloc, packs.len())?;
     for pack in packs {
-        make_room(&mut text, RECORD_ROOM)?;
-        push_record(&mut text, pack);
+        register.push(pack)?;
     }
+    let text = register.finish()?;
     Ok(text)
 }

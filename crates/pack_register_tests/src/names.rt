@@ -1,6 +1,5 @@
-use crate::packs::pack_of;
+use crate::packs::{behind_header, pack_of, register_twice};
 use pack_judge::{Class, Pile, Signal};
-use pack_register::{RECORD_ROOM, push_record};
 use std::alloc::{AllocError, Global};
 
 // The name of a batch, and how it stands in the register.
@@ -20,33 +19,32 @@ static NAMES: [(&[u8], &[u8]); 9] = [
     ),
 ];
 
-// The record of a pack of the batch of this name.
-fn record_of(alloc: Global, name: &'static [u8]) -> Result<Vec<u8>, AllocError> {
-    let mut text = Vec::with_capacity(alloc, RECORD_ROOM)?;
-    let weighed = (1, name, b"p".as_slice(), 1, 0, 0, 0);
-    let found = (Class::Standard, Signal::Pass, Pile::Passed);
-    if let Some(pack) = pack_of(&weighed, found) {
-        push_record(&mut text, &pack);
-    }
-    Ok(text)
+// Whether a register has this name between the number and the product of its first record.
+fn has_name(text: &[u8], written: &[u8]) -> Option<bool> {
+    let record = behind_header(text)?.strip_prefix(b"1,".as_slice())?;
+    let rest = record.strip_prefix(written)?;
+    Some(rest.starts_with(b",p,1,1970-01-01,0.000,0.000,standard,pass,passed\n1,"))
 }
 
-// Whether a record has this name as it is written between the first comma and the product.
-fn has_name(record: &[u8], written: &[u8]) -> bool {
-    match record.strip_prefix(b"1,".as_slice()) {
-        Some(rest) => match rest.strip_prefix(written) {
-            Some(rest) => rest == b",p,1,1970-01-01,0.000,0.000,standard,pass,passed\n".as_slice(),
-            None => false,
-        },
-        None => false,
-    }
+// Whether the batch of this name is written so.
+fn is_written(
+    alloc: Global,
+    name: &'static [u8],
+    written: &'static [u8],
+) -> Result<bool, AllocError> {
+    let weighed = (1, name, b"p".as_slice(), 1, 0, 0, 0);
+    let found = (Class::Standard, Signal::Pass, Pile::Passed);
+    let Some(pack) = pack_of(&weighed, found) else {
+        return Ok(false);
+    };
+    let text = register_twice(alloc, &pack)?;
+    Ok(has_name(&text, written) == Some(true))
 }
 
 // The first name that is written otherwise.
 fn wrong_name(alloc: Global) -> Result<Option<&'static [u8]>, AllocError> {
     for (name, written) in &NAMES {
-        let record = record_of(alloc, *name)?;
-        if !has_name(&record, *written) {
+        if !is_written(alloc, *name, *written)? {
             return Ok(Some(*name));
         }
     }

@@ -4,6 +4,11 @@ ghost use Rattle.book_words.specs.Ranges.{IsPackInRange};
 use book_words::{Name, PackView};
 use hall_limits::{MAX_DAY, MAX_GROSS, MAX_TARE};
 use pack_judge::{Class, Pile, Signal};
+use pack_register::{PackList, register};
+use std::alloc::{AllocError, Global};
+
+/// The header of a register.
+pub const HEADER: &[u8] = b"pack,batch,product,lane,day,gross,net,class,signal,pile\n";
 
 /// What was weighed: the number, the names of batch and product, the lane, the day, the gross and
 /// the net in mg.
@@ -38,4 +43,17 @@ pub fn pack_of(weighed: &Weighed, found: Found) -> Option<PackView>
         signal,
         pile,
     })
+}
+
+/// The register of a pack that is listed twice.
+pub fn register_twice(alloc: Global, pack: &PackView) -> Result<Vec<u8>, AllocError>
+    requires { IsPackInRange pack.now }
+{
+    let packs = Vec::from_slice(alloc, &[*pack, *pack])?;
+    register(alloc, &PackList::from(packs))
+}
+
+/// What stands behind the header of a register, where it is there.
+pub fn behind_header(text: &[u8]) -> Option<&[u8]> {
+    text.strip_prefix(HEADER)
 }

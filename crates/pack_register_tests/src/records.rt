@@ -1,9 +1,6 @@
-ghost use Rattle.book_words.specs.Ranges.{IsPackInRange};
-
-use crate::packs::{Found, Weighed, pack_of};
-use book_words::PackView;
+use crate::packs::{Found, HEADER, Weighed, behind_header, pack_of, register_twice};
 use pack_judge::{Cause, Class, Pile, Signal};
-use pack_register::{HEADER_ROOM, PackList, RECORD_ROOM, push_header, push_record, register};
+use pack_register::{PackList, register};
 use std::alloc::{AllocError, Global};
 
 // A pack, and its record.
@@ -57,20 +54,27 @@ static ROWS: [Row; 6] = [
     ),
 ];
 
-// The first of the rows whose record is another. The text begins with room for one record.
+// Whether a register has this record twice.
+fn has_twice(text: &[u8], record: &[u8]) -> Option<bool> {
+    let second = behind_header(text)?.strip_prefix(record)?;
+    Some(second == record)
+}
+
+// Whether the record of a pack is this one.
+fn is_record_of(alloc: Global, row: &Row) -> Result<bool, AllocError> {
+    let (weighed, found, record) = row;
+    let Some(pack) = pack_of(weighed, *found) else {
+        return Ok(false);
+    };
+    let text = register_twice(alloc, &pack)?;
+    Ok(has_twice(&text, record.as_bytes()) == Some(true))
+}
+
+// The first of the rows whose record is another.
 fn wrong_record(alloc: Global) -> Result<Option<&'static str>, AllocError> {
-    let mut text = Vec::with_capacity(alloc, RECORD_ROOM)?;
-    for (weighed, found, record) in &ROWS {
-        text.clear();
-        let Some(pack) = pack_of(weighed, *found) else {
-            return Ok(Some(*record));
-        };
-        if text.capacity() < RECORD_ROOM {
-            return Ok(Some(*record));
-        }
-        push_record(&mut text, &pack);
-        if text.as_slice() != record.as_bytes() {
-            return Ok(Some(*record));
+    for row in &ROWS {
+        if !is_record_of(alloc, row)? {
+            return Ok(Some(row.2));
         }
     }
     Ok(None)
@@ -82,40 +86,11 @@ fn records_of_packs(rt: HostRuntime) -> Result<(), AllocError> {
     Ok(())
 }
 
-const HEADER: &[u8] = b"pack,batch,product,lane,day,gross,net,class,signal,pile\n";
-
 #[test]
 fn a_register_without_packs_is_its_header(rt: HostRuntime) -> Result<(), AllocError> {
     let alloc = rt.alloc();
     let packs = PackList::from(Vec::new(alloc));
     assert!(rt; packs.is_empty() && packs.len() == 0);
     assert!(rt; register(alloc, &packs)?.as_slice() == HEADER);
-    let mut text = Vec::with_capacity(alloc, HEADER_ROOM)?;
-    push_header(&mut text);
-    assert!(rt; text.as_slice() == HEADER);
-    Ok(())
-}
-
-// The register of a pack that is listed twice.
-fn register_of(alloc: Global, pack: &PackView) -> Result<Vec<u8>, AllocError>
-    requires { IsPackInRange pack.now }
-{
-    let packs = Vec::from_slice(alloc, &[*pack, *pack])?;
-    register(alloc, &PackList::from(packs))
-}
-
-const TWO_RECORDS: &[u8] = b"\
-pack,batch,product,lane,day,gross,net,class,signal,pile
-6,A,rice250,1,2025-03-03,243.000,231.000,inadequate,pass,voided
-6,A,rice250,1,2025-03-03,243.000,231.000,inadequate,pass,voided
-";
-
-#[test]
-fn a_register_of_two_records(rt: HostRuntime) -> Result<(), AllocError> {
-    let alloc = rt.alloc();
-    let (weighed, found, _) = &ROWS[0];
-    if let Some(pack) = pack_of(weighed, *found) {
-        assert!(rt; register_of(alloc, &pack)?.as_slice() == TWO_RECORDS);
-    }
     Ok(())
 }

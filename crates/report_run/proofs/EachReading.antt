@@ -1,5 +1,5 @@
 -- Each reading of a legal list has its pack in the register, under its number.
-use Rattle.std.proofs.Common.{◌≡◌, ℕ, ◌<◌, ◌≤◌, length, arith, Bool, true, List, [], ◌∷◌, map, get_or, Option, Some, None, option_map, is_some, refl, sym, ◌∙◌, ap}
+use Rattle.std.proofs.Common.{◌≡◌, ℕ, ◌<◌, ◌≤◌, length, arith, true, List, [], ◌∷◌, map, get_or, Option, Some, None, option_map, is_some, refl, ◌∙◌, ap}
 use Rattle.std.proofs.lemmas.List.Elements.{All-head, All-tail}
 use Rattle.std.proofs.lemmas.Option.{same_Some}
 use Rattle.std.specs.List.{All, filter_map, cons_option}

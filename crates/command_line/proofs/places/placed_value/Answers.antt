@@ -1,4 +1,4 @@
-use Rattle.std.proofs.Common.{◌≡◌, ◌∙◌, ap, sym, map, is_some, List, Option, Bool, true, false}
+use Rattle.std.proofs.Common.{◌≡◌, ◌∙◌, ap, sym, map, is_some, List, Option, true, false}
 use Rattle.std.specs.String.{string_bytes}
 use Rattle.command_line.specs.Words.{Item}
 use Rattle.command_line.proofs.PlacedWords.{none_placed}

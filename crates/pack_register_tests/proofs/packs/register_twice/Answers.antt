@@ -2,7 +2,7 @@ use Rattle.std.proofs.Common.{◌≡◌, ℕ, zero, suc, List, [], ◌∷◌, �
 use Rattle.std.specs.List.{All}
 use Rattle.book_words.specs.Ranges.{IsPackInRange}
 use Rattle.book_words.specs.declared.views.PackView.{PackView}
-use Rattle.pack_register_tests.proofs.records.register_of.Goals as goal
+use Rattle.pack_register_tests.proofs.packs.register_twice.Goals as goal
 
 -- a pack in range, listed twice
 both : (pack : PackView) → IsPackInRange pack → All IsPackInRange (pack ∷ pack ∷ [])
