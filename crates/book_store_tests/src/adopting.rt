@@ -1,7 +1,8 @@
 use crate::books::{ROWS, long_run, weighed};
-use crate::stores::{LOOK, Lines, Told, Way, act_on, calls_of, check_held, use_bytes};
+use crate::stores::{LOOK, Lines, Told, Way, act_on, calls_of, holds, use_bytes};
 use book_words::{Entry, Prior};
 use pack_judge::Signal;
+use std::alloc::Global;
 use std::test::Fail;
 
 // The limit of one row doesn't bind it: what is asked behind that row is refused, and adopted.
@@ -12,14 +13,10 @@ const ADOPTED: Way = Way {
     ..LOOK
 };
 
-#[test]
-fn a_list_is_adopted(rt: HostRuntime) -> Result<(), Fail> {
-    let alloc = rt.alloc();
-    let entries = long_run()?;
-    let used = use_bytes(alloc, Vec::new(alloc), &entries, ADOPTED);
-    assert!(rt; used.seen.right);
-    check_held(&rt, alloc, &used.disk, &entries, ROWS)?;
-    Ok(())
+// Whether the long run is adopted.
+fn is_adopted(alloc: Global, entries: &[Entry; 20]) -> bool {
+    let used = use_bytes(alloc, &[], entries, ADOPTED);
+    used.seen.right && holds(alloc, &used.disk, entries, ROWS)
 }
 
 // Behind five rows: a weighing that says what the gate did, where nothing passed; one with another
@@ -41,17 +38,11 @@ fn unlawful(entries: &[Entry; 20]) -> [Entry; 5] {
 
 const REFUSED: (Told, bool) = (Told::Refused, false);
 
-// Mounting makes four calls and each act four.
-#[test]
-fn what_is_not_lawful_touches_no_disk(rt: HostRuntime) -> Result<(), Fail> {
-    let alloc = rt.alloc();
-    let entries = long_run()?;
-    for entry in &unlawful(&entries) {
-        let (lines, disk) = act_on(alloc, &[], &entries, true, &[*entry; 3])?;
-        assert!(rt; lines == Some([REFUSED; 3]) && calls_of(&disk) == 24);
-        check_held(&rt, alloc, &disk, &entries, 5)?;
-    }
-    Ok(())
+// Whether an entry is refused three times, and the disk asked no more than for the rows before:
+// mounting makes four calls and each act four.
+fn is_refused(alloc: Global, entries: &[Entry; 20], entry: Entry) -> bool {
+    let (lines, disk) = act_on(alloc, &[], entries, true, &[entry; 3]);
+    lines == Some([REFUSED; 3]) && calls_of(&disk) == 24 && holds(alloc, &disk, entries, 5)
 }
 
 const ADDED: (Told, bool) = (Told::Row(6, None), false);
@@ -71,14 +62,21 @@ const ADOPTIONS: [(&[u32], Lines); 5] = [
     (&[28], [HANGS, ADDED, REFUSED]),
 ];
 
+// Whether adopting the sixth entry comes out so.
+fn is_told(alloc: Global, entries: &[Entry; 20], fails: &[u32], wanted: &Lines) -> bool {
+    let (lines, disk) = act_on(alloc, fails, entries, true, &[entries[5]; 3]);
+    lines == Some(*wanted) && holds(alloc, &disk, entries, 6)
+}
+
 #[test]
-fn an_entry_is_adopted_once(rt: HostRuntime) -> Result<(), Fail> {
-    let alloc = rt.alloc();
+fn a_list_is_adopted(rt: HostRuntime) -> Result<(), Fail> {
     let entries = long_run()?;
+    assert!(rt; is_adopted(rt.alloc(), &entries));
+    for entry in unlawful(&entries) {
+        assert!(rt; is_refused(rt.alloc(), &entries, entry));
+    }
     for (fails, wanted) in &ADOPTIONS {
-        let (lines, disk) = act_on(alloc, fails, &entries, true, &[entries[5]; 3])?;
-        assert!(rt; lines == Some(*wanted));
-        check_held(&rt, alloc, &disk, &entries, 6)?;
+        assert!(rt; is_told(rt.alloc(), &entries, fails, wanted));
     }
     Ok(())
 }

@@ -6,11 +6,15 @@ use book_store::{AdoptError, MountError, Store};
 use book_words::{Answered, Ask, AskError, Entry, Reply, Want};
 use disk_core::{Disk, Keep, MemoryDisk};
 use pack_judge::Signal;
-use std::alloc::{AllocError, Global};
-use std::process::Abort;
+use std::alloc::Global;
 
 /// What a crash may leave of the bytes that were written since the last sync.
 const KEEPS: [Keep; 4] = [Keep::Earlier, Keep::Written, Keep::Fill(1), Keep::Fill(0)];
+
+/// A copy of some items; of none where there is no memory, so that the test then fails.
+pub(crate) fn copy<T: Copy>(alloc: Global, items: &[T]) -> Vec<T> {
+    Vec::from_slice(alloc, items).unwrap_or(Vec::new(alloc))
+}
 
 /// What is told, where it can be copied.
 #[derive(Clone, Copy, PartialEq, Eq)]
@@ -90,8 +94,7 @@ pub(crate) struct Seen {
 /// What three acts are told behind five rows, and whether an entry hangs then.
 pub(crate) type Lines = [(Told, bool); 3];
 
-/// A book on a disk, and how often the disk failed.
-#[derive(Drop)]
+/// A book on a disk, and how often the disk failed. It is closed, and never let go.
 pub(crate) struct TestStore<D: Disk> {
     store: Store<D>,
     faults: u32,
@@ -246,7 +249,8 @@ pub(crate) struct Used<D: Disk> {
 fn go_and_close<D: Disk>(store: TestStore<D>, entries: &[Entry], way: Way) -> Used<D> {
     let mut store = store;
     let seen = store.go(entries, way);
-    let (disk, _) = store.store.close();
+    let TestStore { store, faults: _ } = store;
+    let (disk, _) = store.close();
     Used { seen, disk }
 }
 
@@ -282,11 +286,11 @@ pub(crate) fn use_disk(
 /// Mounts these bytes and takes their book so far.
 pub(crate) fn use_bytes(
     alloc: Global,
-    bytes: Vec<u8>,
+    bytes: &[u8],
     entries: &[Entry],
     way: Way,
 ) -> Used<MemoryDisk> {
-    let disk = MemoryDisk::new(alloc, bytes, Vec::new(alloc));
+    let disk = MemoryDisk::new(alloc, copy(alloc, bytes), Vec::new(alloc));
     use_disk(alloc, disk, entries, way)
 }
 
@@ -299,7 +303,8 @@ fn act_and_close<D: Disk>(
 ) -> (Lines, D) {
     let mut store = store;
     let lines = store.act_in_turn(entries, adopts, acts);
-    let (disk, _) = store.store.close();
+    let TestStore { store, faults: _ } = store;
+    let (disk, _) = store.close();
     (lines, disk)
 }
 
@@ -311,16 +316,16 @@ pub(crate) fn act_on(
     entries: &[Entry],
     adopts: bool,
     acts: &[Entry; 3],
-) -> Result<(Option<Lines>, MemoryDisk), AllocError> {
-    let disk = MemoryDisk::new(alloc, Vec::new(alloc), Vec::from_slice(alloc, fails)?);
+) -> (Option<Lines>, MemoryDisk) {
+    let disk = MemoryDisk::new(alloc, Vec::new(alloc), copy(alloc, fails));
     let limit = if adopts { 5 } else { 6 };
     match Store::mount(alloc, disk, limit) {
         Ok(store) => {
             let store = TestStore { store, faults: 0 };
             let (lines, disk) = act_and_close(store, entries, adopts, acts);
-            Ok((Some(lines), disk))
+            (Some(lines), disk)
         }
-        Err(refused) => Ok((None, refused.disk)),
+        Err(refused) => (None, refused.disk),
     }
 }
 
@@ -331,36 +336,31 @@ pub(crate) fn calls_of(disk: &MemoryDisk) -> u32
     disk.calls_made().min(u32::MAX as usize) as u32
 }
 
-/// Mounts what a crash leaves after so many calls, in each way of it: so many rows are there, or
-/// one of the rows up to these; and each act behind them is then answered with its row.
-pub(crate) fn check_crash(
-    rt: &impl Abort,
+/// Whether what a crash leaves after so many calls is mounted, in each way of it: so many rows are
+/// there, or one of the rows up to these; and each act behind them is then answered with its row.
+pub(crate) fn survives(
     alloc: Global,
     disk: &MemoryDisk,
     after: u32,
     entries: &[Entry],
     way: Way,
     rows: (u32, u32),
-) -> Result<(), AllocError> {
+) -> bool {
     let after = after.min(calls_of(disk));
     for keep in KEEPS {
-        let seen = use_bytes(alloc, disk.crash(after, keep)?, entries, way).seen;
-        assert!(rt; seen.right, "call {after}");
-        assert!(rt; rows.0 <= seen.held && seen.held <= rows.1, "call {after}");
+        let Ok(bytes) = disk.crash(after, keep) else {
+            return false;
+        };
+        let seen = use_bytes(alloc, &bytes, entries, way).seen;
+        if !seen.right || seen.held < rows.0 || rows.1 < seen.held {
+            return false;
+        }
     }
-    Ok(())
+    true
 }
 
-/// A disk holds so many of these entries, as it is read and whatever a crash leaves of it.
-pub(crate) fn check_held(
-    rt: &impl Abort,
-    alloc: Global,
-    disk: &MemoryDisk,
-    entries: &[Entry],
-    rows: u32,
-) -> Result<(), AllocError> {
-    let bytes = Vec::from_slice(alloc, disk.bytes())?;
-    let seen = use_bytes(alloc, bytes, entries, LOOK).seen;
-    assert!(rt; seen.right && seen.held == rows);
-    check_crash(rt, alloc, disk, u32::MAX, entries, LOOK, (rows, rows))
+/// Whether a disk holds so many of these entries, as it is read and whatever a crash leaves of it.
+pub(crate) fn holds(alloc: Global, disk: &MemoryDisk, entries: &[Entry], rows: u32) -> bool {
+    let seen = use_bytes(alloc, disk.bytes(), entries, LOOK).seen;
+    seen.right && seen.held == rows && survives(alloc, disk, u32::MAX, entries, LOOK, (rows, rows))
 }

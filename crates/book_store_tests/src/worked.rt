@@ -1,10 +1,9 @@
 use crate::books::{long_run, weighed};
-use crate::stores::{FIVE, LOOK, Lines, Told, Used, Way, act_on, calls_of, check_held, use_bytes};
+use crate::stores::{FIVE, LOOK, Lines, Told, Used, Way, act_on, calls_of, copy, holds, use_bytes};
 use book_words::{Entry, Prior};
 use disk_core::MemoryDisk;
 use pack_judge::Signal;
-use std::alloc::{AllocError, Global};
-use std::process::Abort;
+use std::alloc::Global;
 use std::test::Fail;
 
 const SIX: Way = Way { rows: 6, ..LOOK };
@@ -38,51 +37,59 @@ const HANGING: [(&[u32], Lines); 10] = [
     (&[28, 34], [HANGS, HANGS, PASSED]),
 ];
 
-// The disk then has the other act as row 6.
+// Whether the three acts come out so. The disk then has the other act as row 6.
+fn is_told(alloc: Global, entries: &[Entry; 20], fails: &[u32], wanted: &Lines) -> bool {
+    let other = weighed(255_000, Prior::Nothing, Signal::Pass);
+    let mut rows = *entries;
+    rows[5] = other;
+    let (lines, disk) = act_on(alloc, fails, entries, false, &[entries[5], other, other]);
+    lines == Some(*wanted) && holds(alloc, &disk, &rows, 6)
+}
+
 #[test]
 fn another_act_behind_one_that_hangs(rt: HostRuntime) -> Result<(), Fail> {
-    let alloc = rt.alloc();
     let entries = long_run()?;
-    let other = weighed(255_000, Prior::Nothing, Signal::Pass);
-    let mut rows = entries;
-    rows[5] = other;
     for (fails, wanted) in &HANGING {
-        let (lines, disk) = act_on(alloc, fails, &entries, false, &[entries[5], other, other])?;
-        assert!(rt; lines == Some(*wanted));
-        check_held(&rt, alloc, &disk, &rows, 6)?;
+        assert!(rt; is_told(rt.alloc(), &entries, fails, wanted));
     }
     Ok(())
 }
 
 // How many calls a disk of these bytes is asked, if all is right.
-fn calls_for(alloc: Global, bytes: &[u8], entries: &[Entry], way: Way) -> Result<u32, AllocError> {
-    let used = use_bytes(alloc, Vec::from_slice(alloc, bytes)?, entries, way);
-    Ok(if used.seen.right {
+fn calls_for(alloc: Global, bytes: &[u8], entries: &[Entry], way: Way) -> u32 {
+    let used = use_bytes(alloc, bytes, entries, way);
+    if used.seen.right {
         calls_of(&used.disk)
     } else {
         0
-    })
+    }
 }
 
 // The bytes of a disk that was empty.
-fn bytes_of(alloc: Global, entries: &[Entry], way: Way) -> Result<Vec<u8>, AllocError> {
-    let used = use_bytes(alloc, Vec::new(alloc), entries, way);
-    Vec::from_slice(alloc, used.disk.bytes())
+fn bytes_of(alloc: Global, entries: &[Entry], way: Way) -> Vec<u8> {
+    copy(alloc, use_bytes(alloc, &[], entries, way).disk.bytes())
 }
 
-// The mark says that the disk ends with a snapshot, which a weighing behind it makes untrue.
+// How many calls a weighing behind five rows makes over its snapshot more than opening that. The
+// mark says that the disk ends with a snapshot, which the weighing makes untrue.
+fn calls_behind(alloc: Global, entries: &[Entry]) -> Option<u32> {
+    let kept = bytes_of(alloc, entries, FIVE_KEPT);
+    let mounted = calls_for(alloc, &kept, entries, LOOK);
+    let used = use_bytes(alloc, &kept, entries, SIX);
+    let marks = (kept.get(8).copied(), used.disk.bytes().get(8).copied());
+    if kept.len() == 1_056 && used.seen.right && marks == (Some(1), Some(0)) {
+        calls_of(&used.disk).checked_sub(mounted)
+    } else {
+        None
+    }
+}
+
 #[test]
 fn a_weighing_and_its_calls(rt: HostRuntime) -> Result<(), Fail> {
-    let alloc = rt.alloc();
     let entries = long_run()?;
-    assert!(rt; calls_for(alloc, &[], &entries, FIVE)? == 24);
-    assert!(rt; calls_for(alloc, &[], &entries, SIX)? == 28);
-    let kept = bytes_of(alloc, &entries, FIVE_KEPT)?;
-    assert!(rt; kept.len() == 1_056 && kept.get(8).copied() == Some(1));
-    let mounted = calls_for(alloc, &kept, &entries, LOOK)?;
-    assert!(rt; calls_for(alloc, &kept, &entries, SIX)? == mounted.saturating_add(6));
-    let used = use_bytes(alloc, kept, &entries, SIX);
-    assert!(rt; used.disk.bytes().get(8).copied() == Some(0));
+    assert!(rt; calls_for(rt.alloc(), &[], &entries, FIVE) == 24);
+    assert!(rt; calls_for(rt.alloc(), &[], &entries, SIX) == 28);
+    assert!(rt; calls_behind(rt.alloc(), &entries) == Some(6));
     Ok(())
 }
 
@@ -102,26 +109,24 @@ const MANY_RESERVED: Way = Way {
 
 // Five rows and 658 weighings, whose content has 171 bytes, 14 of the first weighing, which has
 // nothing to say of the gate, and 16 of each other one: 10 697.
-fn many_entries(alloc: Global, entries: &[Entry]) -> Result<Vec<Entry>, AllocError> {
-    let mut all = Vec::from_slice(alloc, entries)?;
+fn many_entries(alloc: Global, entries: &[Entry]) -> Vec<Entry> {
+    let mut all = copy(alloc, entries);
     all.truncate(5);
-    all.push(weighed(255_000, Prior::Nothing, Signal::Pass))?;
+    let _ = all.push(weighed(255_000, Prior::Nothing, Signal::Pass));
     for _turn in 0..657u32 {
-        all.push(weighed(255_000, Prior::Opened, Signal::Pass))?;
+        let _ = all.push(weighed(255_000, Prior::Opened, Signal::Pass));
     }
-    Ok(all)
+    all
 }
 
 // A book that is taken so far, as its disk is mounted.
-fn mount_many(
-    rt: &impl Abort,
-    alloc: Global,
-    entries: &[Entry],
-    way: Way,
-) -> Result<Used<MemoryDisk>, AllocError> {
-    let used = use_bytes(alloc, bytes_of(alloc, entries, way)?, entries, LOOK);
-    assert!(rt; used.seen.right && used.seen.held == 663);
-    Ok(used)
+fn mount_many(alloc: Global, entries: &[Entry], way: Way) -> Used<MemoryDisk> {
+    use_bytes(alloc, &bytes_of(alloc, entries, way), entries, LOOK)
+}
+
+// Whether all rows are there.
+fn are_many(used: &Used<MemoryDisk>) -> bool {
+    used.seen.right && used.seen.held == 663
 }
 
 // 4 096 bytes, and as many for each of the three calls that the content takes, are 16 384; 663
@@ -129,13 +134,12 @@ fn mount_many(
 #[test]
 fn many_rows_are_mounted_by_few_calls(rt: HostRuntime) -> Result<(), Fail> {
     let alloc = rt.alloc();
-    let entries = many_entries(alloc, &long_run()?)?;
-    let by_snapshot = mount_many(&rt, alloc, &entries, MANY_KEPT)?;
-    assert!(rt; calls_of(&by_snapshot.disk) <= 23);
+    let entries = many_entries(alloc, &long_run()?);
+    let by_snapshot = mount_many(alloc, &entries, MANY_KEPT);
+    assert!(rt; are_many(&by_snapshot) && calls_of(&by_snapshot.disk) <= 23);
     assert!(rt; by_snapshot.disk.asked_bytes() <= 16_384);
-    let by_slots = mount_many(&rt, alloc, &entries, MANY)?;
-    assert!(rt; 63_648 <= by_slots.disk.asked_bytes());
-    let reserved = use_bytes(alloc, Vec::new(alloc), &entries, MANY_RESERVED);
-    assert!(rt; reserved.seen.right && calls_of(&reserved.disk) == 4 + 4 * 663);
+    let by_slots = mount_many(alloc, &entries, MANY);
+    assert!(rt; are_many(&by_slots) && 63_648 <= by_slots.disk.asked_bytes());
+    assert!(rt; calls_for(alloc, &[], &entries, MANY_RESERVED) == 4 + 4 * 663);
     Ok(())
 }

@@ -1,20 +1,16 @@
-//! Tests of the program at its edges, by its public call alone: wrong words, inputs, outputs and
-//! disks that fail, disks that are opened again or are damaged, old journals, and a book in a file.
+//! Tests of a disk that fails: twice, in a run and in the one behind it; while a lane weighs and a
+//! door answers; and while a journal is carried.
 #![tactic(auto)]
 
 #[cfg(test)]
-mod books;
+mod carried;
 #[cfg(test)]
-mod disk_faults;
+mod halls;
 #[cfg(test)]
-mod faults;
+mod offered;
 #[cfg(test)]
-mod files;
+mod replies;
 #[cfg(test)]
-mod migrations;
+mod run_faults;
 #[cfg(test)]
-mod reads;
-#[cfg(test)]
-mod runs;
-#[cfg(test)]
-mod words;
+mod serve_faults;

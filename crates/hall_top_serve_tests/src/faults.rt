@@ -1,8 +1,6 @@
-use crate::halls::{CALM, Case, ONE_LANE, SUMMARY, check_cases, empty_disk, play, word};
-use disk_core::MemorySink;
+use crate::halls::{CALM, Case, ONE_LANE, SUMMARY, ends_so, output_of, play};
 use lane_worker::CellNext::{Bad, Gross, Spent};
-use std::alloc::{AllocError, Global};
-use std::process::Abort;
+use std::alloc::Global;
 use std::sync::Wait;
 use std::test::Fail;
 use std::thread::Threads;
@@ -139,51 +137,20 @@ batches running 0 ended 0 drawn 0 closed 0
     },
 ];
 
-#[test]
-fn faults(rt: HostRuntime) -> Result<(), Fail> {
-    check_cases(&rt, rt.alloc(), &FAULTS)?;
-    Ok(())
-}
-
-// A day of one lane.
-const DAY: Case = Case {
-    plan: ONE_LANE,
-    cells: &[&[Gross(260_000), Gross(260_000)]],
-    ..CALM
-};
-
-// More calls than that day asks of its disk.
-const CALLS: u32 = 200;
-
-// The status of that day, where this call of the disk fails; where it is that of a disk that
-// failed, the last line says so.
-fn failing_at<R: Abort + Threads + Wait + Sync>(
-    rt: &R,
-    alloc: Global,
-    call: u32,
-) -> Result<u8, AllocError> {
-    let mut output = MemorySink::new(alloc, Vec::new(alloc));
-    let words = word(alloc, "serve")?;
-    let disk = empty_disk(alloc, &[call])?;
-    let ended = play(rt, alloc, &words, &DAY, disk, &mut output)?;
-    let said = output.bytes().ends_with(b"disk fault\n");
-    assert_eq!(rt; said, ended.status == 6);
-    Ok(ended.status)
-}
-
-// Each call of the disk fails once, from mounting on to the snapshot behind the jobs.
-#[test]
-fn each_call_of_the_disk(rt: HostRuntime) -> Result<(), Fail> {
-    let mut failed: u32 = 0;
-    for call in 1..CALLS {
-        match failing_at(&rt, rt.alloc(), call)? {
-            6 => failed = call,
-            status => {
-                assert_eq!(rt; status, 0);
-                break;
-            }
+// The place of the first case that comes out otherwise.
+fn wrong_case<R: Threads + Wait + Sync>(rt: &R, alloc: Global, cases: &[Case]) -> Option<usize> {
+    for (place, case) in cases.iter().enumerate() {
+        let mut output = output_of(alloc, case);
+        let ended = play(rt, alloc, "serve", case, &mut output);
+        if !ends_so(&ended, output.bytes(), case) {
+            return Some(place);
         }
     }
-    assert!(rt; failed > 32 && failed < CALLS - 1);
+    None
+}
+
+#[test]
+fn faults(rt: HostRuntime) -> Result<(), Fail> {
+    assert_eq!(rt; wrong_case(&rt, rt.alloc(), &FAULTS), None);
     Ok(())
 }

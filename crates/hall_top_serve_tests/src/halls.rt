@@ -2,8 +2,7 @@ use disk_core::{ListDoor, MemoryDisk, MemorySink, QuietSource};
 use hall_limits::{MAX_DOOR, MAX_LANE};
 use hall_top::{Ended, hall};
 use lane_worker::{CellNext, ListCell, ListGate, PairLane};
-use std::alloc::{AllocError, Global};
-use std::process::Abort;
+use std::alloc::Global;
 use std::sync::Wait;
 use std::thread::Threads;
 
@@ -68,97 +67,77 @@ pub const CALM: Case = Case {
     rows: 0,
 };
 
-/// An empty disk in memory, of which these calls fail.
-pub fn empty_disk(alloc: Global, fails: &[u32]) -> Result<MemoryDisk, AllocError> {
-    let fails = Vec::from_slice(alloc, fails)?;
-    Ok(MemoryDisk::new(alloc, Vec::new(alloc), fails))
-}
-
-// The lanes of a case.
-fn lanes_of(alloc: Global, case: &Case) -> Result<Vec<MemoryLane>, AllocError> {
-    let mut lanes = Vec::new(alloc);
-    for items in case.cells {
-        let fails = Vec::from_slice(alloc, case.cell_fails)?;
-        let cell = ListCell::new(Vec::from_slice(alloc, items)?, fails);
-        let gate = ListGate::new(alloc, Vec::from_slice(alloc, case.gate_fails)?);
-        lanes.push(PairLane::new(cell, gate))?;
-    }
-    Ok(lanes)
-}
-
-// A door to connections that send these bytes, of which these calls fail.
-fn door_to(alloc: Global, sent: &[&[u8]], fails: &[u32]) -> Result<ListDoor, AllocError> {
-    let mut connections = Vec::new(alloc);
-    for bytes in sent {
-        connections.push(Vec::from_slice(alloc, bytes)?)?;
-    }
-    Ok(ListDoor::new(alloc, connections, Vec::from_slice(alloc, fails)?))
-}
-
-// The doors of a case.
-fn doors_of(alloc: Global, case: &Case) -> Result<Vec<ListDoor>, AllocError> {
-    let mut doors = Vec::new(alloc);
-    for sent in case.doors {
-        doors.push(door_to(alloc, sent, case.door_fails)?)?;
-    }
-    Ok(doors)
+/// A copy of some items; of none where there is no memory, so that the test then fails.
+pub fn copy<T: Copy>(alloc: Global, items: &[T]) -> Vec<T> {
+    Vec::from_slice(alloc, items).unwrap_or(Vec::new(alloc))
 }
 
 /// One word, as those of a call.
-pub fn word(alloc: Global, word: &str) -> Result<Vec<String>, AllocError> {
+pub fn word(alloc: Global, word: &str) -> Vec<String> {
     let mut words = Vec::new(alloc);
-    words.push(String::from_str(alloc, word)?)?;
-    Ok(words)
+    if let Ok(word) = String::from_str(alloc, word) {
+        let _ = words.push(word);
+    }
+    words
 }
 
-/// Does what a word says, with the plan, the lanes and the doors of a case, over a disk.
+// The lanes of a case.
+fn lanes_of(alloc: Global, case: &Case) -> Vec<MemoryLane> {
+    let mut lanes = Vec::new(alloc);
+    for items in case.cells {
+        let cell = ListCell::new(copy(alloc, items), copy(alloc, case.cell_fails));
+        let gate = ListGate::new(alloc, copy(alloc, case.gate_fails));
+        let _ = lanes.push(PairLane::new(cell, gate));
+    }
+    lanes
+}
+
+// A door to connections that send these bytes, of which these calls fail.
+fn door_to(alloc: Global, sent: &[&[u8]], fails: &[u32]) -> ListDoor {
+    let mut connections = Vec::new(alloc);
+    for bytes in sent {
+        let _ = connections.push(copy(alloc, bytes));
+    }
+    ListDoor::new(alloc, connections, copy(alloc, fails))
+}
+
+// The doors of a case.
+fn doors_of(alloc: Global, case: &Case) -> Vec<ListDoor> {
+    let mut doors = Vec::new(alloc);
+    for sent in case.doors {
+        let _ = doors.push(door_to(alloc, sent, case.door_fails));
+    }
+    doors
+}
+
+/// Does what a word says over an empty disk, with the plan, the lanes and the doors of a case.
 pub fn play<R: Threads + Wait + Sync>(
     rt: &R,
     alloc: Global,
-    words: &[String],
+    asked: &str,
     case: &Case,
-    disk: MemoryDisk,
     output: &mut MemorySink,
-) -> Result<MemoryEnd, AllocError> {
-    let mut input = QuietSource::new(Vec::from_slice(alloc, case.plan.as_bytes())?);
-    let mut lanes = lanes_of(alloc, case)?;
+) -> MemoryEnd {
+    let words = word(alloc, asked);
+    let mut input = QuietSource::new(copy(alloc, case.plan.as_bytes()));
+    let disk = MemoryDisk::new(alloc, Vec::new(alloc), Vec::new(alloc));
+    let mut lanes = lanes_of(alloc, case);
     lanes.truncate(usize::from(MAX_LANE));
-    let mut doors = doors_of(alloc, case)?;
+    let mut doors = doors_of(alloc, case);
     doors.truncate(usize::from(MAX_DOOR));
-    Ok(hall(rt, alloc, words, &mut input, output, disk, lanes, doors))
+    hall(rt, alloc, &words, &mut input, output, disk, lanes, doors)
 }
 
-/// Serves a case over a disk, compares what it prints and how it ends, and gives what is left.
-pub fn check_case<R: Abort + Threads + Wait + Sync>(
-    rt: &R,
-    alloc: Global,
-    case: &Case,
-    disk: MemoryDisk,
-) -> Result<MemoryEnd, AllocError> {
-    let mut output = MemorySink::new(alloc, Vec::from_slice(alloc, case.output_fails)?);
-    let words = word(alloc, "serve")?;
-    let ended = play(rt, alloc, &words, case, disk, &mut output)?;
-    let printed = String::from_utf8_lossy(alloc, output.bytes())?;
-    assert_eq!(rt; printed.as_str(), case.printed);
-    let rows = ended.rows.as_slice().len();
-    assert!(rt;
-        (ended.status, rows) == (case.status, case.rows),
-        "{}",
-        case.printed
-    );
-    assert_eq!(rt; ended.lanes.len(), case.cells.len());
-    assert_eq!(rt; ended.doors.len(), case.doors.len());
-    Ok(ended)
+/// An output, of which the calls of a case fail.
+pub fn output_of(alloc: Global, case: &Case) -> MemorySink {
+    MemorySink::new(alloc, copy(alloc, case.output_fails))
 }
 
-/// Serves cases, each over an empty disk.
-pub fn check_cases<R: Abort + Threads + Wait + Sync>(
-    rt: &R,
-    alloc: Global,
-    cases: &[Case],
-) -> Result<(), AllocError> {
-    for case in cases {
-        check_case(rt, alloc, case, empty_disk(alloc, &[])?)?;
-    }
-    Ok(())
+/// Whether a case ended so, with what was printed, and its lanes and doors were handed back.
+pub fn ends_so(ended: &MemoryEnd, printed: &[u8], case: &Case) -> bool {
+    printed == case.printed.as_bytes()
+        && ended.status == case.status
+        && ended.rows.as_slice().len() == case.rows
+        && ended.lanes.len() == case.cells.len()
+        && ended.doors.len() == case.doors.len()
 }

@@ -1,16 +1,22 @@
-//! Tests of the program with `serve` by its one function: plans, lanes and doors in memory, what is
-//! printed and which status comes, and that lanes and doors are at work at once.
+//! Tests of `serve` by the one function: a lane and a door at work, faults of cells, gates, doors and
+//! the output; and callers that begin at the same time, each held against its own record.
 #![tactic(auto)]
 
 #[cfg(test)]
-mod at_once;
+mod acts;
+#[cfg(test)]
+mod callers;
+#[cfg(test)]
+mod devices;
 #[cfg(test)]
 mod faults;
 #[cfg(test)]
 mod halls;
 #[cfg(test)]
-mod other_words;
+mod many;
 #[cfg(test)]
-mod plans;
+mod same;
 #[cfg(test)]
-mod waiting;
+mod texts;
+#[cfg(test)]
+mod work;

@@ -1,114 +1,410 @@
-use crate::days::Day;
+use crate::halls::{MemoryEnd, MemoryLane, copy, ends_so, run};
+use disk_core::{MemoryDisk, MemorySink, QuietSource};
+use lane_worker::CellNext::{Bad, Gross, Spent};
+use lane_worker::{CellNext, LaneStop, ListCell, ListGate, PairLane};
+use std::alloc::Global;
+use std::test::Fail;
 
-/// After the setup.
-pub const LANES: [Day; 3] = [
-    // two lanes in turn on one batch
-    (
-        13,
-        "\
-start 2 A => 6 ok
-weigh 1 251.000 => 7 pass
-weigh 2 250.999 => 8 pass
-weigh 1 250.999 => 9 reject allowance
-weigh 2 251.000 => 10 pass
-stop 1 => 11 ok
-weigh 2 241.999 => 12 reject inadequate
-stop 2 => 13 ok
-= 13 5 1245.997 3 752.999 2 492.998 0 0.000 0 0.000 1 0 0 0
+// How a work ended, told in plain numbers.
+#[derive(Clone, Copy, PartialEq, Eq)]
+enum Stopped {
+    Done,
+    Cell,
+    Gate,
+    // The line that isn't a weight.
+    Bad(u32),
+    // The number of the refusal, and how many rows there were.
+    Refused(u8, u32),
+    Disk,
+    Memory,
+    Turns,
+}
+
+// How a work ended.
+fn told(stop: &LaneStop) -> Stopped {
+    match stop {
+        LaneStop::Done => Stopped::Done,
+        LaneStop::Cell => Stopped::Cell,
+        LaneStop::Gate => Stopped::Gate,
+        LaneStop::Bad { line } => Stopped::Bad(*line),
+        LaneStop::Refused(refused) => Stopped::Refused(refused.refusal.number(), refused.at),
+        LaneStop::DiskFault => Stopped::Disk,
+        LaneStop::NoMemory => Stopped::Memory,
+        LaneStop::Turns => Stopped::Turns,
+    }
+}
+
+// A run with lanes: what is handed in, and what comes of it.
+#[derive(Clone, Copy)]
+struct Case {
+    // What the cell of each lane gives.
+    cells: &'static [&'static [CellNext]],
+    // The calls of each cell that fail.
+    cell_fails: &'static [u32],
+    // The calls of each gate that fail.
+    gate_fails: &'static [u32],
+    // The calls of the disk that fail, those of the opening rows among them.
+    disk_fails: &'static [u32],
+    // The calls of the output that fail.
+    output_fails: &'static [u32],
+    script: &'static str,
+    // What is printed.
+    printed: &'static str,
+    status: u8,
+    // How many rows are left.
+    rows: usize,
+    // The packs for which the gate of each lane opened.
+    opened: &'static [&'static [u32]],
+    // How often the gate opened in each work, and how that ended.
+    ends: &'static [(u32, Stopped)],
+}
+
+// A case in which nothing fails, to be filled.
+const CALM: Case = Case {
+    cells: &[],
+    cell_fails: &[],
+    gate_fails: &[],
+    disk_fails: &[],
+    output_fails: &[],
+    script: "",
+    printed: "",
+    status: 0,
+    rows: 0,
+    opened: &[],
+    ends: &[],
+};
+
+// A day with a pack that was weighed on lane 1 and may have left.
+const BEFORE: Case = Case {
+    script: "\
+day 2025-03-03
+product rice250 250
+tare rice250 2025-03-03 10
+open A rice250
+start 1 A
+weigh 1 251.000
 ",
-    ),
-    // a lane stopped and started for another batch, whose limits of the gross are 505.000 g and
-    // 490.000 g
-    (
-        20,
-        "\
-weigh 1 250.999 => 6 pass
-weigh 1 250.999 => 7 reject allowance
-stop 1 => 8 ok
-weigh 1 251.000 => refused 18 LaneIdle at 8
-stop 1 => refused 18 LaneIdle at 8
-product oats 500 => 9 ok
-tare oats 2025-03-03 20 => 10 ok
-open B oats => 11 ok
-start 1 B => 12 ok
-start 1 A => refused 17 LaneBusy B at 12
-weigh 1 490.000 => 13 pass
-weigh 1 489.999 => 14 reject inadequate
-weigh 1 504.999 => 15 reject allowance
-weigh 1 505.000 => 16 pass
-stop 1 => 17 ok
-start 1 A => 18 ok
-weigh 1 250.999 => 19 reject allowance
-weigh 1 251.000 => 20 pass
-= 20 8 2993.995 4 1496.999 4 1496.996 0 0.000 0 0.000 2 0 0 0
+    printed: "\
+1 ok
+2 ok
+3 ok
+4 ok
+5 ok
+6 pass
+rows 6
+readings 1 gross 251.000
+passed 1 gross 251.000
+rejected 0 gross 0.000
+sampled 0 gross 0.000
+voided 0 gross 0.000
+batches running 1 ended 0 drawn 0 closed 0
 ",
-    ),
-    // lanes are numbered from 1 to 16
-    (
-        23,
-        "\
-start 0 A => refused 16 LaneNumber at 5
-start 2 A => 6 ok
-start 3 A => 7 ok
-start 4 A => 8 ok
-start 5 A => 9 ok
-start 6 A => 10 ok
-start 7 A => 11 ok
-start 8 A => 12 ok
-start 9 A => 13 ok
-start 10 A => 14 ok
-start 11 A => 15 ok
-start 12 A => 16 ok
-start 13 A => 17 ok
-start 14 A => 18 ok
-start 15 A => 19 ok
-start 16 A => 20 ok
-start 17 A => refused 16 LaneNumber at 20
-start 255 A => refused 16 LaneNumber at 20
-weigh 16 251.000 => 21 pass
-weigh 17 251.000 => refused 16 LaneNumber at 21
-stop 16 => 22 ok
-stop 0 => refused 16 LaneNumber at 22
-start 16 A => 23 ok
-= 23 1 251.000 1 251.000 0 0.000 0 0.000 0 0.000 1 0 0 0
+    rows: 6,
+    ..CALM
+};
+
+// Lane 1 is worked over that day. The pack that was found is unknown, so it is voided.
+const BEHIND: [Case; 3] = [
+    Case {
+        cells: &[&[Gross(260_000)]],
+        script: "work 1 A\n",
+        printed: "\
+lane 1 opened 1 done
+rows 10
+readings 2 gross 511.000
+passed 1 gross 260.000
+rejected 0 gross 0.000
+sampled 0 gross 0.000
+voided 1 gross 251.000
+batches running 1 ended 0 drawn 0 closed 0
 ",
-    ),
+        rows: 10,
+        opened: &[&[9]],
+        ends: &[(1, Stopped::Done)],
+        ..CALM
+    },
+    // the gate stays shut, and the pack is rejected
+    Case {
+        cells: &[&[Gross(260_000)]],
+        gate_fails: &[1],
+        script: "work 1 A\npack 9\n",
+        printed: "\
+lane 1 opened 0 gate
+pack 9 batch A lane 1 gross 260.000 net 250.000 standard pass rejected
+rows 10
+readings 2 gross 511.000
+passed 0 gross 0.000
+rejected 1 gross 260.000
+sampled 0 gross 0.000
+voided 1 gross 251.000
+batches running 1 ended 0 drawn 0 closed 0
+",
+        status: 10,
+        rows: 10,
+        opened: &[&[]],
+        ends: &[(0, Stopped::Gate)],
+        ..CALM
+    },
+    // the cell has reached its bound
+    Case {
+        cells: &[&[Gross(260_000), Spent]],
+        script: "work 1 A\n",
+        printed: "\
+lane 1 opened 1 turns
+rows 10
+readings 2 gross 511.000
+passed 1 gross 260.000
+rejected 0 gross 0.000
+sampled 0 gross 0.000
+voided 1 gross 251.000
+batches running 1 ended 0 drawn 0 closed 0
+",
+        status: 12,
+        rows: 10,
+        opened: &[&[9]],
+        ends: &[(1, Stopped::Turns)],
+        ..CALM
+    },
 ];
 
-/// What a line says of the gate: the pack before is passed, rejected or voided by it.
-pub const SAID: [Day; 2] = [
-    (
-        12,
-        "\
-weigh 1 251.000 opened => refused 21 PriorWrong unwanted at 5
-weigh 1 260.000 none => 6 pass
-weigh 1 260.000 none => refused 21 PriorWrong wanted at 6
-weigh 1 261.000 stayed => 7 pass
-pack 6 => pack 6 batch A lane 1 gross 260.000 net 250.000 standard pass rejected
-weigh 1 262.000 unknown => 8 pass
-pack 7 => pack 7 batch A lane 1 gross 261.000 net 251.000 standard pass voided
-weigh 1 263.000 opened => 9 pass
-pack 8 => pack 8 batch A lane 1 gross 262.000 net 252.000 standard pass passed
-stop 1 none => refused 21 PriorWrong wanted at 9
-# the number of the lane, and an idle one, come first
-stop 17 none => refused 16 LaneNumber at 9
-stop 2 opened => refused 18 LaneIdle at 9
-stop 1 stayed => 10 ok
-start 1 A => 11 ok
-stop 1 unknown => refused 21 PriorWrong unwanted at 11
-stop 1 none => 12 ok
-= 12 4 1046.000 1 262.000 2 523.000 0 0.000 1 261.000 1 0 0 0
+// Runs in which lanes end early, and the run goes on; and those that a lane stops.
+const EARLY: [Case; 8] = [
+    // refused, and then a line that isn't a weight: the least status of both
+    Case {
+        cells: &[&[Bad { line: 3 }]],
+        script: "\
+day 2025-03-03
+work 1 A
+product rice250 250
+tare rice250 2025-03-03 10
+open A rice250
+work 1 A
+lane 1
 ",
-    ),
-    (
-        9,
-        "\
-# what the gate did counts before the signal: the batch is no longer held
-weigh 1 243.000 => 6 pass
-tare rice250 2025-03-03 12 => 7 ok
-weigh 1 260.000 stayed => 8 pass
-weigh 1 252.999 => 9 pass
-= 9 3 755.999 2 512.999 1 243.000 0 0.000 0 0.000 1 0 0 0
+        printed: "\
+1 ok
+lane 1 opened 0 refused 14 at 1
+2 ok
+3 ok
+4 ok
+lane 1 opened 0 bad 3
+lane 1 idle
+rows 6
+readings 0 gross 0.000
+passed 0 gross 0.000
+rejected 0 gross 0.000
+sampled 0 gross 0.000
+voided 0 gross 0.000
+batches running 1 ended 0 drawn 0 closed 0
 ",
-    ),
+        status: 10,
+        rows: 6,
+        opened: &[&[]],
+        ends: &[(0, Stopped::Refused(14, 1)), (0, Stopped::Bad(3))],
+        ..CALM
+    },
+    // two lanes, one after the other; the first cell fails at its second call
+    Case {
+        cells: &[&[Gross(260_000), Gross(261_000)], &[Gross(262_000)]],
+        cell_fails: &[2],
+        script: "\
+day 2025-03-03
+product rice250 250
+tare rice250 2025-03-03 10
+open A rice250
+work 1 A
+work 2 A
+work 1 A
+",
+        printed: "\
+1 ok
+2 ok
+3 ok
+4 ok
+lane 1 opened 1 cell
+lane 2 opened 1 cell
+lane 1 opened 1 done
+rows 13
+readings 3 gross 783.000
+passed 3 gross 783.000
+rejected 0 gross 0.000
+sampled 0 gross 0.000
+voided 0 gross 0.000
+batches running 1 ended 0 drawn 0 closed 0
+",
+        status: 10,
+        rows: 13,
+        opened: &[&[6, 12], &[9]],
+        ends: &[(1, Stopped::Cell), (1, Stopped::Cell), (1, Stopped::Done)],
+        ..CALM
+    },
+    // a lane that wasn't handed in: a fault of the script comes before a lane's
+    Case {
+        cells: &[&[]],
+        script: "work 1 A\nwork 2 A\nsummary\n",
+        printed: "lane 1 opened 0 refused 6 at 0\nbad line 2\n",
+        status: 3,
+        opened: &[&[]],
+        ends: &[(0, Stopped::Refused(6, 0))],
+        ..CALM
+    },
+    Case {
+        script: "work 1 A\n",
+        printed: "bad line 1\n",
+        status: 3,
+        ..CALM
+    },
+    // the disk fails at the lane's first weighing, its last call: the line comes, and then the fault
+    Case {
+        cells: &[&[Gross(260_000), Gross(261_000)]],
+        disk_fails: &[28],
+        script: "\
+day 2025-03-03
+product rice250 250
+tare rice250 2025-03-03 10
+open A rice250
+work 1 A
+summary
+",
+        printed: "1 ok\n2 ok\n3 ok\n4 ok\nlane 1 opened 0 disk\ndisk fault\n",
+        status: 6,
+        rows: 5,
+        opened: &[&[]],
+        ends: &[(0, Stopped::Disk)],
+        ..CALM
+    },
+    // the same, and the output fails at the lane's line
+    Case {
+        cells: &[&[Gross(260_000), Gross(261_000)]],
+        disk_fails: &[28],
+        output_fails: &[5],
+        script: "\
+day 2025-03-03
+product rice250 250
+tare rice250 2025-03-03 10
+open A rice250
+work 1 A
+summary
+",
+        printed: "1 ok\n2 ok\n3 ok\n4 ok\n",
+        status: 5,
+        rows: 5,
+        opened: &[&[]],
+        ends: &[(0, Stopped::Disk)],
+        ..CALM
+    },
+    // the output fails at the line of a lane that is done
+    Case {
+        cells: &[&[Gross(260_000)]],
+        output_fails: &[5],
+        script: "\
+day 2025-03-03
+product rice250 250
+tare rice250 2025-03-03 10
+open A rice250
+work 1 A
+summary
+",
+        printed: "1 ok\n2 ok\n3 ok\n4 ok\n",
+        status: 5,
+        rows: 7,
+        opened: &[&[6]],
+        ends: &[(1, Stopped::Done)],
+        ..CALM
+    },
+    // an empty cell
+    Case {
+        cells: &[&[], &[]],
+        script: "\
+day 2025-03-03
+product rice250 250
+tare rice250 2025-03-03 10
+open A rice250
+work 2 A
+",
+        printed: "\
+1 ok
+2 ok
+3 ok
+4 ok
+lane 2 opened 0 done
+rows 6
+readings 0 gross 0.000
+passed 0 gross 0.000
+rejected 0 gross 0.000
+sampled 0 gross 0.000
+voided 0 gross 0.000
+batches running 1 ended 0 drawn 0 closed 0
+",
+        rows: 6,
+        opened: &[&[], &[]],
+        ends: &[(0, Stopped::Done)],
+        ..CALM
+    },
 ];
+
+// The lanes of a case.
+fn lanes_of(alloc: Global, case: &Case) -> Vec<MemoryLane> {
+    let mut lanes = Vec::new(alloc);
+    for items in case.cells {
+        let cell = ListCell::new(copy(alloc, items), copy(alloc, case.cell_fails));
+        let gate = ListGate::new(alloc, copy(alloc, case.gate_fails));
+        let _ = lanes.push(PairLane::new(cell, gate));
+    }
+    lanes
+}
+
+// Whether the gates of the lanes of a run opened for these packs.
+fn are_opened(ended: &MemoryEnd, opened: &[&[u32]]) -> bool {
+    for (lane, packs) in ended.lanes.iter().zip(opened) {
+        if lane.gate.opened() != *packs {
+            return false;
+        }
+    }
+    true
+}
+
+// Whether the works of a run ended so.
+fn have_ended(ended: &MemoryEnd, ends: &[(u32, Stopped)]) -> bool {
+    let found = ended.lane_ends.as_slice();
+    for (end, wanted) in found.iter().zip(ends) {
+        if (end.opened, told(&end.stop)) != *wanted {
+            return false;
+        }
+    }
+    found.len() == ends.len()
+}
+
+// Whether a case over a disk of these bytes comes out so; and the bytes that the disk then has.
+fn play(alloc: Global, bytes: Vec<u8>, case: &Case) -> (bool, Vec<u8>) {
+    let mut input = QuietSource::new(copy(alloc, case.script.as_bytes()));
+    let mut output = MemorySink::new(alloc, copy(alloc, case.output_fails));
+    let disk = MemoryDisk::new(alloc, bytes, copy(alloc, case.disk_fails));
+    let lanes = lanes_of(alloc, case);
+    let ended = run(alloc, &["run"], &mut input, &mut output, disk, lanes);
+    let right = ends_so(&ended, case.status, case.rows)
+        && are_opened(&ended, case.opened)
+        && have_ended(&ended, case.ends)
+        && output.bytes() == case.printed.as_bytes();
+    (right, copy(alloc, ended.disk.bytes()))
+}
+
+// The place of the first case that comes out otherwise over a disk of these bytes.
+fn wrong_work(alloc: Global, bytes: &[u8], cases: &[Case]) -> Option<usize> {
+    for (place, case) in cases.iter().enumerate() {
+        if !play(alloc, copy(alloc, bytes), case).0 {
+            return Some(place);
+        }
+    }
+    None
+}
+
+#[test]
+fn lanes_at_work(rt: HostRuntime) -> Result<(), Fail> {
+    let alloc = rt.alloc();
+    let (right, before) = play(alloc, Vec::new(alloc), &BEFORE);
+    assert!(rt; right);
+    assert_eq!(rt; wrong_work(alloc, &before, &BEHIND), None);
+    assert_eq!(rt; wrong_work(alloc, &[], &EARLY), None);
+    Ok(())
+}

@@ -1,27 +1,14 @@
-//! Tests of the program in memory, by its public call alone: what a packer's script prints over an
-//! empty book, which status it ends with, and how many rows it leaves. Days are tables of text;
-//! `days.rt` says how they are read.
+//! Tests of the program in memory, by the function of all commands but `serve`: each command once,
+//! streams and disks that fail in mid-run, lanes at work, and reads that are spent.
 #![tactic(auto)]
 
 #[cfg(test)]
-mod days;
-#[cfg(test)]
-mod desks;
-#[cfg(test)]
-mod gates;
+mod halls;
 #[cfg(test)]
 mod lanes;
 #[cfg(test)]
-mod limits;
+mod reads;
 #[cfg(test)]
-mod lines;
+mod streams;
 #[cfg(test)]
-mod refusals;
-#[cfg(test)]
-mod samples;
-#[cfg(test)]
-mod small;
-#[cfg(test)]
-mod tares;
-#[cfg(test)]
-mod worked;
+mod texts;

@@ -2,7 +2,7 @@ use book_store::{OneCaller, Store};
 use book_words::{Act, Ask, Caller, Name, Prior, Unit, Want};
 use disk_core::MemoryDisk;
 use lane_worker::{Cell, CellNext, LaneEnd, ListCell, ListGate, PairLane, run_lane};
-use std::alloc::{AllocError, Global};
+use std::alloc::Global;
 
 // The day 2025-03-03, counted from 1970-01-01.
 const MARCH_3: i32 = 20_150;
@@ -52,6 +52,11 @@ pub(crate) struct Seen {
     pub(crate) next: Option<CellNext>,
 }
 
+/// A copy of some items; of none where there is no memory, so that the test then fails.
+pub(crate) fn copy<T: Copy>(alloc: Global, items: &[T]) -> Vec<T> {
+    Vec::from_slice(alloc, items).unwrap_or(Vec::new(alloc))
+}
+
 // The opening acts. A gross of 251 g or more is a good pack of 250 g in a package of 10 g, and one
 // of less than 242 g is inadequate.
 fn opening_acts() -> Option<[Act; 5]> {
@@ -92,8 +97,8 @@ fn open_batch(hall: &mut Hall) -> Option<()> {
 }
 
 /// A hall over a disk of which these calls fail, with the opening rows. The worker of lane 1 speaks.
-pub(crate) fn open_hall(alloc: Global, fails: Vec<u32>) -> Option<Hall> {
-    let disk = MemoryDisk::new(alloc, Vec::new(alloc), fails);
+pub(crate) fn open_hall(alloc: Global, fails: &[u32]) -> Option<Hall> {
+    let disk = MemoryDisk::new(alloc, Vec::new(alloc), copy(alloc, fails));
     let Ok(store) = Store::mount(alloc, disk, 1_000_000) else {
         return None;
     };
@@ -104,11 +109,10 @@ pub(crate) fn open_hall(alloc: Global, fails: Vec<u32>) -> Option<Hall> {
 }
 
 // The lane that a worker is given.
-fn lane_of(alloc: Global, given: &Given) -> Result<TestLane, AllocError> {
-    let items = Vec::from_slice(alloc, given.items)?;
-    let cell = ListCell::new(items, Vec::from_slice(alloc, given.cell_fails)?);
-    let gate = ListGate::new(alloc, Vec::from_slice(alloc, given.gate_fails)?);
-    Ok(PairLane::new(cell, gate))
+fn lane_of(alloc: Global, given: &Given) -> TestLane {
+    let cell = ListCell::new(copy(alloc, given.items), copy(alloc, given.cell_fails));
+    let gate = ListGate::new(alloc, copy(alloc, given.gate_fails));
+    PairLane::new(cell, gate)
 }
 
 // What the row of a number says of the gate.
@@ -142,11 +146,10 @@ pub(crate) fn work_twice(
     given: &Given,
     opened: &[u32],
 ) -> Option<[Seen; 2]> {
-    let fails = Vec::from_slice(alloc, fails).ok()?;
-    let mut lane = lane_of(alloc, given).ok()?;
-    let mut empty = lane_of(alloc, &NONE).ok()?;
     let batch = Name::new(given.batch)?;
     let mut hall = open_hall(alloc, fails)?;
+    let mut lane = lane_of(alloc, given);
+    let mut empty = lane_of(alloc, &NONE);
     let seen = [
         look(&mut hall, &mut lane, given.number, batch, opened),
         look(&mut hall, &mut empty, 1, batch, &[]),

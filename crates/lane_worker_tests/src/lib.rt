@@ -10,5 +10,3 @@ mod halls;
 mod lines;
 #[cfg(test)]
 mod stops;
-#[cfg(test)]
-mod streams;

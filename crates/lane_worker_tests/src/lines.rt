@@ -1,9 +1,9 @@
-use crate::halls::open_hall;
+use crate::halls::{copy, open_hall};
 use CellNext::{Bad, End, Gross};
 use book_words::Name;
 use disk_core::{Failed, MemorySink, MemorySource, Source};
 use lane_worker::{Cell, CellNext, LaneEnd, LaneStop, LineCell, LineGate, PairLane, run_lane};
-use std::alloc::{AllocError, Global};
+use std::alloc::Global;
 use std::test::Fail;
 
 // A lane of lines in memory.
@@ -132,18 +132,18 @@ const CASES: [Case; 3] = [
 ];
 
 // A lane of lines, of which these reads and writes fail.
-fn lane_of(alloc: Global, case: &Case) -> Result<TestLane, AllocError> {
-    let text = Vec::from_slice(alloc, b"260\n240\n261.5\n262")?;
-    let source = MemorySource::new(text, Vec::from_slice(alloc, case.0)?);
-    let sink = MemorySink::new(alloc, Vec::from_slice(alloc, case.1)?);
-    Ok(PairLane::new(LineCell::new(source), LineGate::new(sink)))
+fn lane_of(alloc: Global, case: &Case) -> TestLane {
+    let text = copy(alloc, b"260\n240\n261.5\n262");
+    let source = MemorySource::new(text, copy(alloc, case.0));
+    let sink = MemorySink::new(alloc, copy(alloc, case.1));
+    PairLane::new(LineCell::new(source), LineGate::new(sink))
 }
 
 // Whether a case comes out so.
 fn is_right(alloc: Global, case: &Case) -> Option<bool> {
-    let mut lane = lane_of(alloc, case).ok()?;
     let batch = Name::new(b"A".as_slice())?;
-    let mut hall = open_hall(alloc, Vec::new(alloc))?;
+    let mut hall = open_hall(alloc, &[])?;
+    let mut lane = lane_of(alloc, case);
     let end = run_lane(&mut hall, &mut lane, 1, batch);
     let _ = hall.back().close();
     let wanted = LaneEnd {

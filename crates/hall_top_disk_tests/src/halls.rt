@@ -1,0 +1,142 @@
+ghost use Rattle.std.specs.Prelude.{◌≤◌, length};
+
+use disk_core::{Keep, ListDoor, MemoryDisk, MemorySink, QuietSource};
+use hall_limits::{MAX_DOOR, MAX_LANE};
+use hall_top::{Ended, hall, hall_alone};
+use lane_worker::{CellNext, ListCell, ListGate, PairLane};
+use std::alloc::Global;
+use std::sync::Wait;
+use std::thread::Threads;
+
+/// A lane in memory.
+pub type MemoryLane = PairLane<ListCell, ListGate>;
+
+/// What a call leaves of a hall in memory.
+pub type MemoryEnd = Ended<MemoryDisk, MemoryLane, ListDoor>;
+
+/// How many rows the disk of the setup has.
+pub const SETUP_ROWS: usize = 5;
+
+/// How many calls mounting that disk makes, by its snapshot.
+pub const MOUNT_CALLS: u32 = 8;
+
+// The script of these rows.
+const SETUP: &[u8] = b"day 2025-03-03\nproduct rice250 250\ntare rice250 2025-03-03 10\n\
+open A rice250\nstart 1 A\n";
+
+// The plan of the hall: a row, and then the work of a lane.
+const PLAN: &[u8] = b"setup = \"day 2025-03-04\\n\"\n[[lane]]\nnumber = 1\nbatch = \"A\"\n";
+
+// The acts of the desk.
+const ACTS: [&[u8]; 3] = [
+    b"POST /acts HTTP/1.1\r\nContent-Length: 68\r\n\r\n\
+{\"act\":\"product\",\"desk\":101,\"request\":1,\"name\":\"b\",\"nominal\":250000}",
+    b"POST /acts HTTP/1.1\r\nContent-Length: 68\r\n\r\n\
+{\"act\":\"product\",\"desk\":101,\"request\":2,\"name\":\"c\",\"nominal\":250000}",
+    b"POST /acts HTTP/1.1\r\nContent-Length: 68\r\n\r\n\
+{\"act\":\"product\",\"desk\":101,\"request\":3,\"name\":\"d\",\"nominal\":250000}",
+];
+
+/// A copy of some items; of none where there is no memory, so that the test then fails.
+pub fn copy<T: Copy>(alloc: Global, items: &[T]) -> Vec<T> {
+    Vec::from_slice(alloc, items).unwrap_or(Vec::new(alloc))
+}
+
+/// A disk of these bytes, of which these calls fail.
+pub fn disk_of(alloc: Global, bytes: &[u8], fails: &[u32]) -> MemoryDisk {
+    MemoryDisk::new(alloc, copy(alloc, bytes), copy(alloc, fails))
+}
+
+// One word, as those of a call.
+fn word(alloc: Global, word: &str) -> Vec<String> {
+    let mut words = Vec::new(alloc);
+    if let Ok(word) = String::from_str(alloc, word) {
+        let _ = words.push(word);
+    }
+    words
+}
+
+// A lane whose cell gives one weight.
+fn lanes(alloc: Global) -> Vec<MemoryLane> {
+    let cell = ListCell::new(copy(alloc, &[CellNext::Gross(260_000)]), Vec::new(alloc));
+    let mut lanes = Vec::new(alloc);
+    let _ = lanes.push(PairLane::new(cell, ListGate::new(alloc, Vec::new(alloc))));
+    lanes
+}
+
+// A door to one connection, on which the desk asks each act twice.
+fn doors(alloc: Global) -> Vec<ListDoor> {
+    let mut sent = Vec::new(alloc);
+    for act in &ACTS {
+        let _ = sent.extend_from_slice(act);
+        let _ = sent.extend_from_slice(act);
+    }
+    let mut connections = Vec::new(alloc);
+    let _ = connections.push(sent);
+    let mut doors = Vec::new(alloc);
+    let _ = doors.push(ListDoor::new(alloc, connections, Vec::new(alloc)));
+    doors
+}
+
+/// Serves the plan over a disk, with the lane and the door.
+pub fn serve<R: Threads + Wait + Sync>(rt: &R, alloc: Global, disk: MemoryDisk) -> MemoryEnd {
+    let words = word(alloc, "serve");
+    let mut input = QuietSource::new(copy(alloc, PLAN));
+    let mut output = MemorySink::new(alloc, Vec::new(alloc));
+    let mut lanes = lanes(alloc);
+    lanes.truncate(usize::from(MAX_LANE));
+    let mut doors = doors(alloc);
+    doors.truncate(usize::from(MAX_DOOR));
+    hall(
+        rt,
+        alloc,
+        &words,
+        &mut input,
+        &mut output,
+        disk,
+        lanes,
+        doors,
+    )
+}
+
+/// Does a command over a disk, and tells what is left and what is printed.
+pub fn ask(
+    alloc: Global,
+    command: &str,
+    script: &[u8],
+    disk: MemoryDisk,
+) -> (MemoryEnd, MemorySink) {
+    let words = word(alloc, command);
+    let mut input = QuietSource::new(copy(alloc, script));
+    let mut output = MemorySink::new(alloc, Vec::new(alloc));
+    let lanes: Vec<MemoryLane> = Vec::new(alloc);
+    let doors: Vec<ListDoor> = Vec::new(alloc);
+    let ended = hall_alone(alloc, &words, &mut input, &mut output, disk, lanes, doors);
+    (ended, output)
+}
+
+/// The disk of the setup; an empty one where it came out otherwise.
+pub fn set_up(alloc: Global) -> Vec<u8> {
+    let (ended, _) = ask(alloc, "run", SETUP, disk_of(alloc, &[], &[]));
+    if ended.status == 0 && ended.rows.as_slice().len() == SETUP_ROWS {
+        copy(alloc, ended.disk.bytes())
+    } else {
+        Vec::new(alloc)
+    }
+}
+
+/// How many calls a disk was asked.
+pub fn calls_of(disk: &MemoryDisk) -> u32
+    ensures { result ≤ length disk.now.calls }
+{
+    disk.calls_made().min(u32::MAX as usize) as u32
+}
+
+/// What a crash behind its last call leaves of a disk, where there is memory for it.
+pub fn crashed(disk: &MemoryDisk, keep: Keep) -> Option<Vec<u8>> {
+    disk.crash(calls_of(disk), keep).ok()
+}
+
+/// What a crash may leave of the bytes that were written since the last sync; ways that often leave
+/// the same stand side by side. The disk reads as what was written.
+pub const KEEPS: [Keep; 4] = [Keep::Earlier, Keep::Fill(0), Keep::Written, Keep::Fill(1)];

@@ -1,0 +1,80 @@
+use crate::halls::{CALM, Case, ONE_LANE, SUMMARY, ends_so, output_of, play};
+use lane_worker::CellNext::Gross;
+use std::alloc::Global;
+use std::sync::Wait;
+use std::test::Fail;
+use std::thread::Threads;
+
+// One lane and one door.
+const BOTH: Case = Case {
+    plan: ONE_LANE,
+    cells: &[&[Gross(251_000), Gross(250_999)]],
+    doors: &[&[SUMMARY]],
+    printed: "\
+lane 1 opened 2 done
+door 1 served 1 links 0 done
+rows 8
+readings 2 gross 501.999
+passed 2 gross 501.999
+rejected 0 gross 0.000
+sampled 0 gross 0.000
+voided 0 gross 0.000
+batches running 1 ended 0 drawn 0 closed 0
+",
+    rows: 8,
+    ..CALM
+};
+
+// The responses that the door may have written, by the row that they name.
+const RESPONSES: [&str; 5] = [
+    "HTTP/1.1 200 OK\r\nContent-Type: text/plain\r\nContent-Length: 160\r\nBook-Row: 4\r\n\r\n\
+rows 4\nreadings 0 gross 0.000\npassed 0 gross 0.000\nrejected 0 gross 0.000\n\
+sampled 0 gross 0.000\nvoided 0 gross 0.000\nbatches running 1 ended 0 drawn 0 closed 0\n",
+    "HTTP/1.1 200 OK\r\nContent-Type: text/plain\r\nContent-Length: 160\r\nBook-Row: 5\r\n\r\n\
+rows 5\nreadings 0 gross 0.000\npassed 0 gross 0.000\nrejected 0 gross 0.000\n\
+sampled 0 gross 0.000\nvoided 0 gross 0.000\nbatches running 1 ended 0 drawn 0 closed 0\n",
+    "HTTP/1.1 200 OK\r\nContent-Type: text/plain\r\nContent-Length: 164\r\nBook-Row: 6\r\n\r\n\
+rows 6\nreadings 1 gross 251.000\npassed 1 gross 251.000\nrejected 0 gross 0.000\n\
+sampled 0 gross 0.000\nvoided 0 gross 0.000\nbatches running 1 ended 0 drawn 0 closed 0\n",
+    "HTTP/1.1 200 OK\r\nContent-Type: text/plain\r\nContent-Length: 164\r\nBook-Row: 7\r\n\r\n\
+rows 7\nreadings 2 gross 501.999\npassed 2 gross 501.999\nrejected 0 gross 0.000\n\
+sampled 0 gross 0.000\nvoided 0 gross 0.000\nbatches running 1 ended 0 drawn 0 closed 0\n",
+    "HTTP/1.1 200 OK\r\nContent-Type: text/plain\r\nContent-Length: 164\r\nBook-Row: 8\r\n\r\n\
+rows 8\nreadings 2 gross 501.999\npassed 2 gross 501.999\nrejected 0 gross 0.000\n\
+sampled 0 gross 0.000\nvoided 0 gross 0.000\nbatches running 1 ended 0 drawn 0 closed 0\n",
+];
+
+// Whether a lane and a door come out so. The door's response names a row that was there as it asked.
+fn is_right<R: Threads + Wait + Sync>(rt: &R, alloc: Global) -> bool {
+    let mut output = output_of(alloc, &BOTH);
+    let ended = play(rt, alloc, "serve", &BOTH, &mut output);
+    let ([lane], [door]) = (ended.lanes.as_slice(), ended.doors.as_slice()) else {
+        return false;
+    };
+    let written = door.written(0).unwrap_or(b"");
+    ends_so(&ended, output.bytes(), &BOTH)
+        && lane.gate.opened() == [6, 7].as_slice()
+        && RESPONSES.iter().any(|text| text.as_bytes() == written)
+}
+
+#[test]
+fn a_lane_and_a_door(rt: HostRuntime) -> Result<(), Fail> {
+    assert!(rt; is_right(&rt, rt.alloc()));
+    Ok(())
+}
+
+// Another command is done as by itself, and leaves the doors alone.
+const CHECK: Case = Case {
+    doors: &[&[SUMMARY]],
+    printed: "rows 0 whole\n",
+    ..CALM
+};
+
+#[test]
+fn another_command(rt: HostRuntime) -> Result<(), Fail> {
+    let mut output = output_of(rt.alloc(), &CHECK);
+    let ended = play(&rt, rt.alloc(), "check", &CHECK, &mut output);
+    assert!(rt; ends_so(&ended, output.bytes(), &CHECK));
+    assert!(rt; ended.door_ends.as_slice().is_empty());
+    Ok(())
+}

@@ -1,0 +1,80 @@
+ghost use Rattle.std.specs.Prelude.{◌≡◌, false};
+
+use disk_core::{MemoryDisk, MemorySink, QuietSource, Sink, Source};
+use hall_limits::MAX_LANE;
+use hall_top::{Ended, hall_alone};
+use lane_worker::{ListCell, ListGate, PairLane};
+use std::alloc::Global;
+
+/// A lane in memory.
+pub type MemoryLane = PairLane<ListCell, ListGate>;
+
+/// A door; none is handed in.
+pub type NoDoor = u8;
+
+/// What a run leaves.
+pub type MemoryEnd = Ended<MemoryDisk, MemoryLane, NoDoor>;
+
+/// A copy of some items; of none where there is no memory, so that the test then fails.
+pub fn copy<T: Copy>(alloc: Global, items: &[T]) -> Vec<T> {
+    Vec::from_slice(alloc, items).unwrap_or(Vec::new(alloc))
+}
+
+/// The call that fails, counted from 1; none at 0.
+pub fn only(alloc: Global, call: u32) -> Vec<u32> {
+    copy(alloc, &[call])
+}
+
+// The words of a run.
+fn words_of(alloc: Global, words: &[&str]) -> Vec<String> {
+    let mut all = Vec::new(alloc);
+    for word in words {
+        if let Ok(word) = String::from_str(alloc, word) {
+            let _ = all.push(word);
+        }
+    }
+    all
+}
+
+/// Does what the words say over a disk, with these lanes.
+pub fn run<S: Source, K: Sink>(
+    alloc: Global,
+    words: &[&str],
+    input: &mut S,
+    output: &mut K,
+    disk: MemoryDisk,
+    lanes: Vec<MemoryLane>,
+) -> MemoryEnd
+    requires { S.ended input.old ≡ false }
+{
+    let words = words_of(alloc, words);
+    let mut lanes = lanes;
+    lanes.truncate(usize::from(MAX_LANE));
+    let doors: Vec<NoDoor> = Vec::new(alloc);
+    hall_alone(alloc, &words, input, output, disk, lanes, doors)
+}
+
+/// The disk that scripts leave of an empty one, run one after another.
+pub fn book_of(alloc: Global, scripts: &[&[u8]]) -> Vec<u8> {
+    let mut bytes = Vec::new(alloc);
+    for script in scripts {
+        let mut input = QuietSource::new(copy(alloc, script));
+        let mut output = MemorySink::new(alloc, Vec::new(alloc));
+        let disk = MemoryDisk::new(alloc, bytes, Vec::new(alloc));
+        let ended = run(
+            alloc,
+            &["run"],
+            &mut input,
+            &mut output,
+            disk,
+            Vec::new(alloc),
+        );
+        bytes = copy(alloc, ended.disk.bytes());
+    }
+    bytes
+}
+
+/// Whether a run ended with this status and left so many rows.
+pub fn ends_so(ended: &MemoryEnd, status: u8, rows: usize) -> bool {
+    ended.status == status && ended.rows.as_slice().len() == rows
+}

@@ -1,0 +1,292 @@
+#!/usr/bin/env python3
+"""Runs worked days, and tables of words, lines, books, journals, imports, reports, trials and
+plans, through the program: what it prints, its status, the rows of its book and the bytes of its
+file. All of it was worked out by hand from docs/RULES.md and docs/FORMATS.md, the masses of the
+trials by another program.
+
+usage: tests/worked.py      (HALL names another program than the one that `./hall` builds)
+"""
+
+import os
+import shutil
+import signal
+import subprocess
+import sys
+import tempfile
+
+from day_texts import read_days
+from rows import rows_behind
+from worked_tables import (
+    BOOK, BOOK_PLACES, DAMAGED, FIVE_ROWS, FOREIGN, GATE_PRIORS, GATES, IMPORTS, JOURNAL, JOURNALS,
+    LANES, LINES, NEXT_DAY, PATHS, PIPED, PLANS, PRINTED, RIGHT_WORDS, SIXTH_ROW, Step, TRIALS,
+    USAGE, WRONG_WORDS)
+
+HERE = os.path.dirname(os.path.realpath(__file__))
+SECONDS = 120
+wrong = []
+compared = 0
+
+
+def compare(what, found, wanted):
+    """Takes down what differs."""
+    global compared
+    compared += 1
+    if found != wanted:
+        wrong.append(what)
+        print(f"{what}:\n  found  {found!r}\n  wanted {wanted!r}", flush=True)
+
+
+class Hall:
+    """The program over a book in a folder."""
+
+    def __init__(self, program, folder):
+        self.program = program
+        self.folder = folder
+        self.book = f"{folder}/book"
+
+    def ask(self, words, given=b"", book=True):
+        """What a run says, and its status."""
+        told = subprocess.run(
+            [self.program, *words, *([f"--book={self.book}"] if book else [])], input=given,
+            stdout=subprocess.PIPE, stderr=subprocess.PIPE, timeout=SECONDS, cwd=self.folder,
+            check=False)
+        return told.stdout.decode(), told.returncode
+
+    def do(self, step):
+        """One step: what it prints, how it ends, and how many rows there are then."""
+        what = f"{' '.join(step.words)}, {step.given[:60]!r}"
+        compare(what, self.ask(step.words, step.given), (step.printed, step.status))
+        if step.rows is not None:
+            compare(f"{what}, then check", self.ask(["check"]), (f"rows {step.rows} whole\n", 0))
+
+    def bytes(self):
+        with open(self.book, "rb") as book:
+            return book.read()
+
+    def put(self, content):
+        with open(self.book, "wb") as book:
+            book.write(content)
+
+    def anew(self):
+        """Takes the book away."""
+        if os.path.exists(self.book):
+            os.remove(self.book)
+
+
+def changed(content, changes, length):
+    """The front of some bytes, of which some are changed."""
+    found = bytearray(content)
+    for place, value in changes:
+        found[place] = value
+    return bytes(found[:length])
+
+
+def days(hall):
+    for day in read_days(f"{HERE}/days"):
+        compare(day.title, hall.ask(day.words, day.script.encode(), book=False), (day.printed, 0))
+
+
+def words(hall):
+    """At wrong words one line goes out, and nothing is opened."""
+    for words in WRONG_WORDS:
+        compare(f"words {words}", hall.ask(words, NEXT_DAY.given, book=False), (USAGE, 2))
+    for words in RIGHT_WORDS:
+        hall.anew()
+        two = NEXT_DAY.given + NEXT_DAY.given
+        said, status = hall.ask(words, two, book=False)
+        compare(f"words {words}", (said.split("rows")[0], status),
+                ("1 ok\nrefused 5 BookFull 1 at 1\n", 0))
+
+
+def lines(hall):
+    for step in LINES:
+        hall.anew()
+        hall.do(step)
+
+
+def gates(hall):
+    """What the rows say of the gate where the lines say nothing: it opened where the lane's last
+    pack was passed since its last stop, whatever came on the other lane in between."""
+    hall.anew()
+    hall.do(GATES)
+    told = {row.number: row for row in rows_behind(hall.book, 0)}
+    for number, prior in GATE_PRIORS.items():
+        compare(f"the gate in row {number}", told[number].act["prior"], prior)
+
+
+def books(hall):
+    """A book that is opened again; and its disk with bytes changed."""
+    hall.anew()
+    for step, places in zip(BOOK, BOOK_PLACES):
+        hall.do(step._replace(rows=None))
+        content = hall.bytes()
+        for place, piece in places:
+            compare(f"byte {place}", content[place : place + len(piece)], piece)
+    six = hall.bytes()
+    compare("bytes", len(six), 1152)
+    for before, step, after in DAMAGED:
+        hall.put(changed(six, *before))
+        hall.do(step)
+        compare(f"bytes behind {step.printed}", hall.bytes(), changed(six, *after))
+
+
+def held(hall):
+    """While a hall has the file, others fail and write nothing."""
+    hall.anew()
+    hall.do(FIVE_ROWS)
+    five = hall.bytes()
+    first = subprocess.Popen([hall.program, "run", f"--book={hall.book}"], stdin=subprocess.PIPE,
+                             stdout=subprocess.PIPE)
+    first.stdin.write(SIXTH_ROW.given)
+    first.stdin.flush()
+    compare("the first hall", first.stdout.readline(), b"6 pass\n")
+    written = hall.bytes()
+    for command in ("run", "check", "migrate", "serve", "report", "export", "import"):
+        compare(f"{command} of a held book", hall.ask([command], SIXTH_ROW.given),
+                ("disk fault\n", 6))
+    compare("a held book", hall.bytes(), written)
+    first.stdin.close()
+    compare("the first hall", first.wait(SECONDS), 0)
+    first.stdout.close()
+    hall.put(five)
+    hall.do(SIXTH_ROW)
+
+
+def paths(hall):
+    """What is no file."""
+    os.mkdir(f"{hall.folder}/folder")
+    for path, why in PATHS:
+        told = subprocess.run([hall.program, "run", "--book", path], input=b"", check=False,
+                              capture_output=True, timeout=SECONDS, cwd=hall.folder)
+        compare(f"the book {path!r}", (told.stdout, told.returncode, told.stderr.decode()),
+                (b"disk fault\n", 6, f"hall: can't open {path}: {why}\n"))
+
+
+def journals(hall):
+    """A journal of version 1 is carried, as the script of its rows leaves a book; carried again it
+    is the same, and a longer book stays as it is."""
+    hall.anew()
+    hall.do(FIVE_ROWS)
+    five = hall.bytes()
+    hall.anew()
+    carried = Step(["migrate"], JOURNAL, "rows 5 whole\n", 0, 5)
+    for _ in range(2):
+        hall.do(carried)
+        compare("the journal's book", hall.bytes(), five)
+    hall.do(SIXTH_ROW)
+    six = hall.bytes()
+    hall.do(carried._replace(printed="rows 6 whole\n", rows=6))
+    compare("the longer book", hall.bytes(), six)
+    for changes, length, step in JOURNALS:
+        hall.anew()
+        hall.do(step._replace(words=["migrate"], given=changed(JOURNAL, changes, length)))
+    hall.anew()
+    hall.do(NEXT_DAY)
+    hall.do(carried._replace(printed="bad line 1\n", status=3, rows=1))
+    hall.put(JOURNAL)
+    compare("a journal as a book", hall.ask(["run"]), ("not a journal at 7\n", 8))
+    compare("the journal", hall.bytes(), JOURNAL)
+
+
+def printed(hall):
+    """Reports and registers, which leave the book as it was to the last byte."""
+    for steps, questions in PRINTED:
+        hall.anew()
+        for step in steps:
+            hall.do(step)
+        before = hall.bytes() if steps else None
+        for step in questions:
+            hall.do(step)
+            if steps:
+                compare(f"the book behind {step.words}", hall.bytes(), before)
+
+
+def imports(hall):
+    for steps in IMPORTS:
+        hall.anew()
+        for step in steps:
+            hall.do(step)
+
+
+def trials(hall):
+    """A trial has a book of its own, in memory."""
+    for step in TRIALS:
+        compare(f"{step.words}", hall.ask(step.words, book=False), (step.printed, step.status))
+
+
+def foreign(hall):
+    """A file that is no book is left as it was."""
+    for step in FOREIGN:
+        content = bytes([0] * 3 + [ord("X")] + [0] * 125)
+        hall.put(content)
+        hall.do(step)
+        compare(f"the file behind {step.words}", hall.bytes(), content)
+
+
+def lanes(hall):
+    """Lanes over files: the second pack is rejected; a gate writes behind what its file has; the
+    second lane has no file for its cell."""
+    hall.anew()
+    hall.do(FIVE_ROWS)
+    for cell, step, gate in LANES:
+        if cell is not None:
+            with open(f"{hall.folder}/cell-1.txt", "wb") as lines:
+                lines.write(cell)
+        hall.do(step._replace(words=[*step.words, f"--cells={hall.folder}"]))
+        with open(f"{hall.folder}/gate-1.txt", "rb") as lines:
+            compare(f"the gate behind {cell}", lines.read(), gate)
+
+
+def pipes(hall):
+    """A weight counts as soon as its line is there, though the pipe stays open; after a bad line
+    nothing more is read."""
+    hall.anew()
+    hall.do(FIVE_ROWS)
+    cell, gate = f"{hall.folder}/cell-1.txt", f"{hall.folder}/gate-1.txt"
+    for path in (cell, gate):
+        os.remove(path)
+        os.mkfifo(path)
+    told = subprocess.Popen([hall.program, "run", f"--book={hall.book}", "--lanes=1",
+                             f"--cells={hall.folder}"], stdin=subprocess.PIPE,
+                            stdout=subprocess.PIPE)
+    told.stdin.write(b"work 1 A\n")
+    told.stdin.close()
+    opened = None
+    with open(cell, "wb", buffering=0) as scale:
+        for text, line in PIPED:
+            for place in range(len(text)):
+                scale.write(text[place : place + 1])
+            # The hall opens its gate at the first pack that passes.
+            opened = opened or open(gate, "rb", buffering=0)
+            if line:
+                compare(f"the gate behind {text}", opened.readline(), line)
+        compare("the lane", told.stdout.readline(), b"lane 1 opened 3 bad 4\n")
+    told.stdout.read()
+    compare("its status", told.wait(SECONDS), 10)
+    told.stdout.close()
+    opened.close()
+
+
+def plans(hall):
+    for words, step in PLANS:
+        hall.anew()
+        hall.do(step._replace(words=[*step.words, *words]))
+
+
+def main():
+    program = os.environ.get("HALL") or f"{HERE}/../crates/hall_cli/out/hall_cli"
+    if "HALL" not in os.environ:
+        subprocess.run([f"{HERE}/../hall", "run"], input=b"", stdout=subprocess.DEVNULL, check=True)
+    folder = tempfile.mkdtemp(prefix="hall_worked.")
+    signal.alarm(5 * SECONDS)
+    hall = Hall(os.path.realpath(program), folder)
+    for table in (days, words, lines, gates, books, held, paths, journals, printed, imports, trials,
+                  foreign, lanes, pipes, plans):
+        table(hall)
+    shutil.rmtree(folder)
+    print(f"worked: {compared} comparisons, {len(wrong)} came out otherwise")
+    return 1 if wrong else 0
+
+
+if __name__ == "__main__":
+    sys.exit(main())
