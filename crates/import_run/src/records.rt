@@ -51,8 +51,7 @@ fn answer<K: Sink, D: Disk>(
     ensures ready { OnOk result (IsReady session.new) }
 {
     let lanes: [NoLane; 0] = [];
-    session.answer(command, output, &lanes)?;
-    Ok(())
+    session.answer(command, output, &lanes)
 }
 
 // Asks and answers the commands that an import has left, one after the other.
@@ -98,10 +97,7 @@ pub fn answer_import<K: Sink, D: Disk>(
     ensures ready { OnOk result (IsReady session.new) }
 {
     match ImportReader::new(alloc, bytes) {
-        Ok(mut import) => {
-            answer_records(session, &mut import, output)?;
-            Ok(())
-        }
+        Ok(mut import) => answer_records(session, &mut import, output),
         Err(error) => Err(stop_of(error)),
     }
 }

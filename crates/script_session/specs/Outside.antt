@@ -78,4 +78,4 @@ abbrev pub call_between : {S K L : Type 0} → source.Ghosts S → sink.Ghosts K
     → gate.Ghosts L → S → S → K → K → List L → List L → LogView → List Entry → Call S
 call_between reads writes weighs lifts input input_now output output_now lanes lanes_now log rows =
     call reads input input_now (outside_at writes weighs lifts output lanes nothing_told)
-        (outside_at writes weighs lifts output_now lanes_now log) rows
+    (outside_at writes weighs lifts output_now lanes_now log) rows

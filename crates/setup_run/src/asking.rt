@@ -9,8 +9,8 @@ ghost use Rattle.setup_run.specs.Setups.{setup_lines, after_lines, MayStopAtLine
 use crate::lines::{ended_line, last_line};
 use book_store::OneCaller;
 use disk_core::Disk;
-use script_lines::{Line, split_line};
 use script_events::ask_command;
+use script_lines::{Line, split_line};
 use store_runs::Stop;
 
 // Asks the command of a line, where it has one; its answer is passed over. No lane was handed in

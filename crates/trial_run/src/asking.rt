@@ -3,8 +3,8 @@ ghost use Rattle.trial_run.specs.Steps.{Asks};
 
 use book_store::OneCaller;
 use disk_core::Disk;
-use script_lines::Command;
 use script_events::ask_command;
+use script_lines::Command;
 use store_runs::Stop;
 
 /// Asks a command as a script does; whatever the book answers, a trial goes on. Where the disk

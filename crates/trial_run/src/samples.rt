@@ -49,10 +49,7 @@ fn measure_pack<D: Disk>(caller: &mut OneCaller<D>, pack: u64) -> Result<(), Sto
         (measure_commands (stored_book caller.old.store) pack) }
 {
     match measure_at(caller.store().book(), pack) {
-        Some(command) => {
-            ask_one(caller, &command)?;
-            Ok(())
-        }
+        Some(command) => ask_one(caller, &command),
         None => Ok(()),
     }
 }

@@ -31,8 +31,7 @@ fn ask_trial<D: Disk>(
         (trial_commands number count (stored_book caller.old.store)) }
 {
     ask_all(caller, &head_commands())?;
-    ask_batches(alloc, caller, number, count)?;
-    Ok(())
+    ask_batches(alloc, caller, number, count)
 }
 
 // Ends a trial whose script was answered: where rows were added, a snapshot of the book is kept

@@ -1,6 +1,5 @@
-use Rattle.std.proofs.Common.{[], Option, Ok, Err, sym, ap, ◌∙◌}
+use Rattle.std.proofs.Common.{[], Option, Ok, sym, ap, ◌∙◌}
 use Rattle.std.specs.List.{cons_option}
-use Rattle.std.proofs.lemmas.Result.{err_from_is_err_and}
 use Rattle.script_lines.specs.declared.command.Command.{Command}
 use Rattle.book_core.specs.View.{BookView}
 use Rattle.book_store.specs.declared.store.Store.{Store}
@@ -10,30 +9,15 @@ use Rattle.trial_run.specs.TrialScripts.{measure_at, measure_commands}
 use Rattle.trial_run.proofs.TrialSteps.{asks_nothing, asks_same}
 use Rattle.trial_run.proofs.samples.measure_pack.Goals as goal
 
-pub returns-in_err-ask_one-in-Some : goal.returns-in_err-ask_one-in-Some
-returns-in_err-ask_one-in-Some g c =
-    let p = err_from_is_err_and c.from_residual.result c.from_residual.ensures.1 in
+pub returns-in-Some : goal.returns-in-Some
+returns-in-Some g c =
     let book = c.book.ensures ∙ ap (λ (s : Store _). book_of s) c.store.ensures.store in
     let is = sym (c.measure_at.ensures
     ∙ ap (λ (b : BookView). measure_at b.entries c.args.pack) book) ∙ c.in-Some.is in
     record {
-      asks = rw (p.1, p.2) (asks_same g.D.Disk (Err c.in_err-ask_one-in-Some.field-0.0)
-          c.args.caller.now c.ask_one.new.caller _
+      asks = asks_same g.D.Disk c.ask_one.result c.args.caller.now c.ask_one.new.caller _
           (measure_commands (stored_book c.args.caller.now.store) c.args.pack)
-          (ap (λ (o : Option Command). cons_option o []) (sym is))
-          c.in_err-ask_one-in-Some.ensures.asks);
-    }
-
-pub returns-in_ok-ask_one-in-Some : goal.returns-in_ok-ask_one-in-Some
-returns-in_ok-ask_one-in-Some g c =
-    let book = c.book.ensures ∙ ap (λ (s : Store _). book_of s) c.store.ensures.store in
-    let is = sym (c.measure_at.ensures
-    ∙ ap (λ (b : BookView). measure_at b.entries c.args.pack) book) ∙ c.in-Some.is in
-    record {
-      asks = asks_same g.D.Disk (Ok tt) c.args.caller.now c.ask_one.new.caller _
-          (measure_commands (stored_book c.args.caller.now.store) c.args.pack)
-          (ap (λ (o : Option Command). cons_option o []) (sym is))
-          c.in_ok-ask_one-in-Some.ensures.asks;
+          (ap (λ (o : Option Command). cons_option o []) (sym is)) c.ask_one.ensures.asks;
     }
 
 pub returns-in-None : goal.returns-in-None

@@ -20,35 +20,18 @@ returns-in_err-ask_all g c =
           c.in_err-ask_all.ensures.asks));
     }
 
-pub returns-in_err-ask_batches : goal.returns-in_err-ask_batches
-returns-in_err-ask_batches g c =
-    let p = err_from_is_err_and c.from_residual-in_err-ask_batches.result
-    c.from_residual-in_err-ask_batches.ensures.1 in
-    let stop = c.in_err-ask_batches.field-0.0 in
-    let old = c.args.caller.now in
-    let one = c.ask_all.new.caller in
-    let new = c.ask_batches.new.caller in
-    let before = asks_same g.D.Disk (Ok tt) old one _ head_commands c.head_commands.ensures
-    c.in_ok-ask_all.ensures.asks in
-    record {
-      asks = rw (p.1, p.2) (asks_on g.D.Disk tt (Err stop) old one new head_commands _ before
-          (asks_same g.D.Disk (Err stop) one new _ _
-          (ap (λ (b : BookState). in_turn (batch_commands c.args.number c.args.count) b
-          (batch_places c.args.count)) before.answered)
-          c.in_err-ask_batches.ensures.asks));
-    }
-
 pub returns : goal.returns
 returns g c =
     let old = c.args.caller.now in
     let one = c.ask_all.new.caller in
     let new = c.ask_batches.new.caller in
+    let result = c.ask_batches.result in
     let before = asks_same g.D.Disk (Ok tt) old one _ head_commands c.head_commands.ensures
     c.in_ok-ask_all.ensures.asks in
     record {
-      asks = asks_on g.D.Disk tt (Ok tt) old one new head_commands _ before
-          (asks_same g.D.Disk (Ok tt) one new _ _
+      asks = asks_on g.D.Disk tt result old one new head_commands _ before
+          (asks_same g.D.Disk result one new _ _
           (ap (λ (b : BookState). in_turn (batch_commands c.args.number c.args.count) b
           (batch_places c.args.count)) before.answered)
-          c.in_ok-ask_batches.ensures.asks);
+          c.ask_batches.ensures.asks);
     }
