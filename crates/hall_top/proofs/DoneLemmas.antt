@@ -18,10 +18,9 @@ use Rattle.office_door.specs.declared.ending.DoorStop.TheVariants as door
 use Rattle.office_door.specs.Doors as doors
 use Rattle.script_lines.specs.declared.command.Line.{Line}
 use Rattle.script_lines.specs.declared.command.Line.TheVariants as line
-use Rattle.session_history.specs.Deeds.{Deed, DidSo, HasDone, Served as served, Share, Worked, faults_of}
-use Rattle.session_jobs.specs.declared.work.Work.{Work}
-use Rattle.session_jobs.specs.declared.work.Work.TheVariants.{Lane, Door}
-use Rattle.setup_run.specs.Setups.{MayStopAtLine, after_lines}
+use Rattle.serve_run.specs.Deeds.{Deed, DidSo, HasDone, Served as served, Share, Worked, faults_of}
+use Rattle.serve_run.specs.Works.{Work, Lane, Door}
+use Rattle.serve_run.specs.Setups.{MayStopAtLine, after_lines}
 use Rattle.store_runs.specs.Books.{BookState}
 use Rattle.store_runs.specs.declared.stop.Stop.TheVariants as stops
 use Rattle.text_streams.specs.Streams.{Stream}

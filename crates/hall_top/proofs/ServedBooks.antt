@@ -18,7 +18,7 @@ use Rattle.book_store.specs.Resting.{HoldsSnapshotOf}
 use Rattle.book_store.proofs.KeptLemmas.{kept_mounted}
 use Rattle.lane_worker.specs.Works as lanes
 use Rattle.office_door.specs.Doors as doors
-use Rattle.session_laws.specs.Sessions.{HoldsOrOneMore, KeepsRun, LeavesFrom}
+use Rattle.serve_run.specs.Sessions.{HoldsOrOneMore, KeepsRun, LeavesFrom}
 use Rattle.store_runs.specs.Books.{BookState, stored_book}
 use Rattle.store_runs.specs.Runs.{HasGrown}
 use Rattle.store_runs.specs.Stops.{stop_row}

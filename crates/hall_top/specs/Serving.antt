@@ -25,8 +25,8 @@ use Rattle.lane_worker.specs.Works as lanes
 use Rattle.office_door.specs.declared.ending.DoorEnd.{DoorEnd}
 use Rattle.office_door.specs.declared.ending.DoorStop.TheVariants as door
 use Rattle.office_door.specs.Doors as doors
-use Rattle.session_laws.specs.Sessions.{HoldsOrOneMore, LeavesFrom}
-use Rattle.session_jobs.specs.Works.{lane_site, door_site}
+use Rattle.serve_run.specs.Sessions.{HoldsOrOneMore, LeavesFrom}
+use Rattle.serve_run.specs.Works.{lane_site, door_site}
 use Rattle.text_streams.specs.Streams.{Stream, input_at, output_at}
 use Rattle.store_runs.specs.Books.{BookState, stored_book}
 use Rattle.store_runs.specs.Runs.{HasGrown}

@@ -4,7 +4,7 @@ ghost use Rattle.hall_limits.specs.declared.TheConstants.{MAX_LANE, MAX_DOOR, MA
 ghost use Rattle.book_words.specs.Soundness.{IsSound as IsSoundBook};
 ghost use Rattle.book_store.specs.Stores.{disk_of, entries_of, held_of, Hangs, IsSound};
 ghost use Rattle.text_streams.specs.Streams.{input_at, output_at};
-ghost use Rattle.session_jobs.specs.Works.{lane_site, door_site};
+ghost use Rattle.serve_run.specs.Works.{lane_site, door_site};
 ghost use Rattle.serve_run.specs.Jobs.{handed_in};
 ghost use Rattle.serve_run.specs.Serving.{moment};
 ghost use Rattle.hall_top.specs.Endings.{is_status};

@@ -15,7 +15,7 @@ use Rattle.book_store.specs.declared.types.RestError.{RestError}
 use Rattle.book_store.specs.Resting.{HasNothingToKeep, HoldsOwnSnapshot}
 use Rattle.store_runs.specs.Runs.{Goes, HasGrown}
 use Rattle.store_runs.proofs.StoreSteps.{on_unfinished}
-use Rattle.session_laws.specs.Sessions.{HoldsOrOneMore, LeavesFrom, KeepsRun, RestsOnDisk}
+use Rattle.session_jobs.specs.Sessions.{HoldsOrOneMore, LeavesFrom, KeepsRun, RestsOnDisk}
 
 -- a crash that leaves the first so many rows leaves no more than there are
 leaves : (held rows : List Entry) → length held ≤ length rows → (c : List ℕ)

@@ -16,7 +16,7 @@ use Rattle.office_door.specs.Doors.{FailedSoOften}
 use Rattle.session_history.specs.Histories.{OneHistory}
 use Rattle.session_jobs.specs.declared.begin.JobsEnd.{JobsEnd}
 use Rattle.session_jobs.specs.Runs.{HaveRun}
-use Rattle.session_laws.specs.Sessions.{KeepsRun, RestsOnDisk}
+use Rattle.session_jobs.specs.Sessions.{KeepsRun, RestsOnDisk}
 use Rattle.setup_run.specs.declared.planning.NoPlan.{NoPlan}
 use Rattle.setup_run.specs.declared.planning.NoPlan.TheVariants as no_plan
 use Rattle.setup_run.specs.PlanReading.{ReadsNoPlan, ReadsPlan}

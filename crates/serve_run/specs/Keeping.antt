@@ -7,7 +7,7 @@ use Rattle.book_store.specs.declared.store.Store.{Store}
 use Rattle.book_store.specs.Kept.{HasKept}
 use Rattle.book_store.specs.Resting.{HoldsOwnSnapshot}
 use Rattle.book_store.specs.Stores.{disk_of, entries_of, held_of, limit_of}
-use Rattle.session_laws.specs.Sessions.{KeepsRun}
+use Rattle.session_jobs.specs.Sessions.{KeepsRun}
 use Rattle.store_runs.specs.Runs.{HasGrown, RunGoes}
 use Rattle.serve_run.specs.declared.stop.JobsStop.{JobsStop}
 use Rattle.serve_run.specs.declared.stop.JobsStop.TheVariants.{Finished}

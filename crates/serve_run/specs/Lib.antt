@@ -4,3 +4,7 @@ pub mod Plans
 pub mod Preparing
 pub mod Rooms
 pub mod Serving
+pub mod Works
+pub use Rattle.session_history.specs.Deeds
+pub use Rattle.session_jobs.specs.Sessions
+pub use Rattle.setup_run.specs.Setups

@@ -12,7 +12,7 @@ use Rattle.book_store.specs.Stores.{disk_of, entries_of, limit_of, Hangs, IsSoun
 use Rattle.hall_plan.specs.declared.types.PlannedLane.{PlannedLane}
 use Rattle.lane_worker.specs.Works as lanes
 use Rattle.office_door.specs.Doors as doors
-use Rattle.session_laws.specs.Sessions.{KeepsRun}
+use Rattle.session_jobs.specs.Sessions.{KeepsRun}
 use Rattle.session_history.specs.Histories.{OneHistory}
 use Rattle.session_jobs.specs.declared.begin.JobsEnd.{JobsEnd}
 use Rattle.session_jobs.specs.declared.work.Work.{Work}

@@ -1,5 +1,5 @@
 //! The begin of a session, and the whole of it.
-ghost use Rattle.std.specs.Prelude.{◌≡◌, ◌≢◌, ◌+◌, ◌≤◌, AllPairs, IfOk, List, length, true, false};
+ghost use Rattle.std.specs.Prelude.{◌≡◌, ◌≢◌, ◌+◌, ◌<◌, ◌≤◌, [], AllPairs, IfOk, List, length, map, true, false, vec_len};
 ghost use Rattle.book_words.specs.declared.act.Entry.{Entry as Entered};
 ghost use Rattle.book_words.specs.Balance.{IsBalanced};
 ghost use Rattle.book_store.specs.Stores.{disk_of, entries_of, limit_of, Hangs, IsSound};
@@ -7,7 +7,7 @@ ghost use Rattle.office_door.specs.Doors.{FailedSoOften};
 ghost use Rattle.shared_book.specs.Sessions.{KeepsRun, RestsOnDisk};
 ghost use Rattle.session_jobs.specs.declared.work.TheConstants.{MAX_JOBS};
 ghost use Rattle.session_jobs.specs.Ends.{EndsSession};
-ghost use Rattle.session_jobs.specs.Jobs.{IsEmptyCrew, HasRoomFor};
+ghost use Rattle.session_jobs.specs.Jobs.{IsEmptyCrew, HasRoomFor, new_job, with_passes};
 ghost use Rattle.session_jobs.specs.Runs.{HaveRun, IsUnbegun};
 ghost use Rattle.session_jobs.specs.Works.{number_of, lane_site, door_site};
 
@@ -23,7 +23,7 @@ use std::marker::Brand;
 use std::sync::Wait;
 use std::sync::ledger::{Blank, Ledger};
 use std::thread::Threads;
-use turn_pass::Turn;
+use turn_pass::{BookSeat, Turn};
 
 /// What the jobs of a session leave.
 pub struct JobsEnd<D: Disk, L, O> {
@@ -52,6 +52,34 @@ fn take_room<L: Drop, O: Drop, A: Ledger, B: Ledger>(
     })
 }
 
+// The jobs of these works, each with a new pass of its number, in the room that was taken for them.
+fn fill<L, O, A: Ledger, B: Ledger>(
+    works: Vec<Work<L, O>>,
+    turn: &Turn<Entry, A, B>,
+    seat: &mut BookSeat<Entry, A, B>,
+    room: Crew<L, O, A, B>,
+) -> Crew<L, O, A, B>
+    requires turn { seat.old.table ≡ turn.now.table }
+    requires unused { seat.old.bys ≡ [] }
+    requires apart { AllPairs (λ v w. number_of v ≢ number_of w) works.items }
+    requires row_parts { vec_len works < seat.old.row_parts }
+    requires fault_parts { vec_len works < seat.old.fault_parts }
+    requires empty { IsEmptyCrew room }
+    requires room { HasRoomFor (vec_len works) room }
+    ensures jobs { result.jobs.items ≡ map (new_job seat.old) works.items }
+    ensures seat { seat.new ≡ with_passes seat.old (map number_of works.items) }
+    ensures count { vec_len result.jobs ≡ length works.items }
+    ensures empty { (result.works.items ≡ []) × (result.ends.items ≡ []) }
+    ensures room { HasRoomFor (vec_len result.jobs) result }
+{
+    let Crew { jobs, works: done, ends } = room;
+    Crew {
+        jobs: employ(works, turn, seat, jobs),
+        works: done,
+        ends,
+    }
+}
+
 // A session of these ledgers, from its Turn to its end.
 fn hold_session<
     L: Lane + Send + Drop,
@@ -78,13 +106,13 @@ fn hold_session<
     ensures ends { EndsSession D.Disk (lane_site L.Cell L.Gate) (door_site O.Source O.connections)
         store jobs result }
 {
-    let Ok(mut crew) = take_room(alloc, jobs.len()) else {
+    let Ok(room) = take_room(alloc, jobs.len()) else {
         return unbegun(store, jobs);
     };
     let Ok((turn, mut seat)) = Turn::<Entry, A, B>::begin(alloc, store.len(), rows, faults) else {
         return unbegun(store, jobs);
     };
-    crew.jobs = employ(jobs, &turn, &mut seat, crew.jobs);
+    let crew = fill(jobs, &turn, &mut seat, room);
     let (store, jobs, faults) = hold::<L, O, D, A, B, Brand, R>(rt, alloc, store, turn, seat, crew);
     JobsEnd {
         store,

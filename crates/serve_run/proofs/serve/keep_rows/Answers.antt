@@ -1,6 +1,6 @@
 use Rattle.std.proofs.Common.{rules, ◌≡◌, ap, inr, arith}
 use Rattle.book_core.specs.View.{BookView}
-use Rattle.session_laws.proofs.SessionLemmas.{run_rested}
+use Rattle.session_jobs.proofs.SessionLemmas.{run_rested}
 use Rattle.serve_run.proofs.RunLemmas.{keeps_own}
 use Rattle.serve_run.proofs.serve.keep_rows.Goals as goal
 

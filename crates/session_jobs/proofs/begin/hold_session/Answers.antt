@@ -39,9 +39,9 @@ hold-store-requires-clause-seat g c = λ κs _.
     let session = session_of g.D.Disk c.in-Ok-begin.turn.table c.args.store in
     let seat = c.in-Ok-begin.seat in
     let many = length-map c.args.jobs.items number_of in
-    new_seat session g.L.Cell g.L.Gate g.O.Source g.O.Door.connections c.employ.new.seat
+    new_seat session g.L.Cell g.L.Gate g.O.Source g.O.Door.connections c.fill-crew.new.seat
     c.in-Ok-begin.turn c.args.rows.parts c.args.faults.parts (map number_of c.args.jobs.items)
-    (c.employ.ensures.seat ∙ ap (λ (s : BookState Entry).
+    (c.fill-crew.ensures.seat ∙ ap (λ (s : BookState Entry).
     with_passes s (map number_of c.args.jobs.items)) c.in-Ok-begin.ensures.book)
     refl (c.in-Ok-begin.ensures.turn ∙ c.len-2.ensures)
     (let r = c.requires.rows.2 in omega (arith, r, many))
@@ -53,7 +53,7 @@ hold-store-requires-clause-ready g c = λ κs _.
     let session = session_of g.D.Disk c.in-Ok-begin.turn.table c.args.store in
     let seat = c.in-Ok-begin.seat in
     let book = c.in-Ok-begin.ensures.book in
-    subst (λ (js : List J). All (IsReady session) js) (sym c.employ.ensures.jobs)
+    subst (λ (js : List J). All (IsReady session) js) (sym c.fill-crew.ensures.jobs)
     (all_ready session g.L.Cell g.L.Gate g.O.Source g.O.Door.connections seat
     (ap (λ (s : BookState Entry). s.table) book)
     (ap (λ (s : BookState Entry). s.history) book ∙ (c.in-Ok-begin.ensures.turn ∙ c.len-2.ensures))
@@ -73,5 +73,5 @@ returns g c =
           c.hold-store.result.1 c.hold-store.result.2
           (subst (λ (js : List J). HasEnded g.D.Disk session (lane_site g.L.Cell g.L.Gate)
           (door_site g.O.Source g.O.Door.connections) js last c.hold-store.result.1.items
-          c.hold-store.result.2) c.employ.ensures.jobs c.hold-store.ensures.ended);
+          c.hold-store.result.2) c.fill-crew.ensures.jobs c.hold-store.ensures.ended);
     }
