@@ -77,7 +77,7 @@ fn run_whole<S: Source, K: Sink, D: Disk>(
 /// is written: why a run stopped is said by its stop alone. An import that comes again is answered
 /// again, and what it added before stands once.
 ///
-/// `BadLine` names the record that is no command of a desk, where the header is 1; it names 0 where
+/// `BadLine` names the record that asks no act, where the header is 1; it names 0 where
 /// the import has more than 16 777 216 bytes. `Spent` says that it has more than 1 000 000 records.
 /// At both the commands of the records before are answered. Memory is taken for the import as its
 /// bytes come, for its longest record and for the book's entries; `NoMemory` may come at any of

@@ -1,4 +1,4 @@
-//! Imports: a table of CSV whose records are commands of desks, read one after the other.
+//! Imports: a table of CSV whose records are acts, as a script asks them, read one after the other.
 #![tactic(auto)]
 
 mod fields;
