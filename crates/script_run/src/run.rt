@@ -6,7 +6,7 @@ use book_store::Store;
 use disk_core::{Disk, Sink};
 use lane_worker::Lane;
 use script_lines::{Allowed, Feed, TooLong, split_line};
-use script_session::{ScriptEnd, Session};
+use script_session::Session;
 use std::alloc::Global;
 use store_runs::Stop;
 
@@ -32,15 +32,13 @@ impl<D: Disk> Run<D> {
     ghost use Rattle.std.specs.Prelude.{◌≡◌, ◌+◌, ◌<◌, ◌≤◌, ℕ, List, [], ◌∷◌, ◌++◌, length, false, OnOk, IfOk, IfErr};
     ghost use Rattle.script_lines.specs.Lines.{has_end};
     ghost use Rattle.script_lines.specs.Feed.{feed_after};
-    ghost use Rattle.book_store.specs.Stores.{entries_of, held_of, IsSound};
-    ghost use Rattle.text_streams.specs.Streams.{output_at};
+    ghost use Rattle.book_store.specs.Stores.{entries_of, IsSound};
     ghost use Rattle.store_runs.specs.Books.{BookState};
-    ghost use Rattle.store_runs.specs.Runs.{Goes, RunGoes};
+    ghost use Rattle.store_runs.specs.Runs.{Goes};
     ghost use Rattle.script_session.specs.Sessions.{book_in, store_in, log_in, IsReady};
     ghost use Rattle.script_run.specs.Books.{run_state};
     ghost use Rattle.script_session.specs.Ends.{StopsInScript};
     ghost use Rattle.script_session.specs.Outside.{Outside, outside_at, nothing_told};
-    ghost use Rattle.script_session.specs.Ends.{EndsAtSummary};
     ghost use Rattle.script_run.specs.Reached.{Reached, Steps, IsWholeSoFar};
 
     /// A run over a store that was given nothing, with room for all that it keeps but the entries
@@ -60,28 +58,6 @@ impl<D: Disk> Run<D> {
             Ok(session) => Ok(Run { session, feed }),
             Err(store) => Err(store),
         }
-    }
-
-    /// The end of a run that stopped so.
-    pub fn stop(self, stop: Stop) -> ScriptEnd<D>
-        ensures stop { result.stop ≡ stop }
-        ensures store { result.store ≡ store_in self.session }
-        ensures log { result.log.told ≡ log_in self.session }
-    {
-        self.session.stop(stop)
-    }
-
-    /// Ends the run of a script that was read and answered to its end.
-    pub fn finish<K: Sink>(self, output: &mut K) -> ScriptEnd<D>
-        requires ready { IsReady self.session }
-        ensures ends { EndsAtSummary (held_of (store_in self.session))
-            (output_at K.Sink output.old) (output_at K.Sink output.new)
-            (entries_of (store_in self.session)) result.stop }
-        ensures same { entries_of result.store ≡ entries_of (store_in self.session) }
-        ensures log { result.log.told ≡ log_in self.session }
-        ensures goes { RunGoes D.Disk result.stop (store_in self.session) result.store }
-    {
-        self.session.finish(output)
     }
 
     /// Takes a piece of the script: each line that ends in it is answered before the next.

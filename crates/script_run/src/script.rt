@@ -141,8 +141,8 @@ fn run_whole<S: Source, K: Sink, D: Disk, L: Lane>(
     ensures goes { RunGoes D.Disk result.stop (store_in run.session) result.store }
 {
     match read_all(&mut run, &mut reader, input, output, lanes) {
-        Ok(()) => run.finish(output),
-        Err(stop) => run.stop(stop),
+        Ok(()) => run.session.finish(output),
+        Err(stop) => run.session.stop(stop),
     }
 }
 
