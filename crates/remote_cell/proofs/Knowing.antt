@@ -1,0 +1,719 @@
+-- What a cell knows, behind each step that a call makes on a door that tells its connections.
+use Rattle.std.proofs.Common.{◌≡◌, ◌⊎◌, ℕ, zero, suc, ◌+◌, ◌-◌, ◌^◌, ◌<◌, ◌≤◌, ◌&&◌, nat_eq, min, Bool, true, false, true≢false, cond, List, [], ◌∷◌, ◌++◌, length, take, drop, Option, Some, None, option_map, is_some, IfSome, Result, Ok, Err, is_ok, refl, sym, ◌∙◌, ap, subst, inl, inr, arith, append_assoc, append-nil, length-append}
+use Rattle.std.specs.Prelude.{All, flat_map, filter_map, option_to_list}
+use Rattle.std.specs.List.{cons_option}
+use Rattle.std.specs.Bool.{⊤}
+use Rattle.std.proofs.lemmas.Bool.Decides.{nat_tests}
+use Rattle.std.proofs.lemmas.List.{take-append-drop}
+use Rattle.std.proofs.lemmas.List.Elements.{All-push, All-same, filter_map-append}
+use Rattle.device_facts.specs.Prefix.{IsPrefixOf}
+use Rattle.disk_core.specs.Doors.{Connection, Connections, served, new_connection, next_connections, left_now, taken_from, written_to, with_taken, with_written}
+use Rattle.lane_worker.specs.declared.types.CellNext.{CellNext}
+use Rattle.lane_worker.specs.declared.types.CellNext.TheVariants as cell
+use Rattle.lane_worker.specs.CellLines.{next_line}
+use Rattle.remote_cell.specs.declared.items.Item.{Item}
+use Rattle.remote_cell.specs.declared.items.Item.TheVariants.{Gross, End}
+use Rattle.remote_cell.specs.declared.receiver.Heard as hears
+use Rattle.remote_cell.specs.declared.receiver.Heard.TheVariants.{Take, Again, Ahead}
+use Rattle.remote_cell.specs.declared.hearing.Hearing.{Hearing}
+use Rattle.remote_cell.specs.declared.wire_lines.TheConstants.{MAX_LINE}
+use Rattle.remote_cell.specs.Exchanges.{Line, heard, taken_of, taken_behind, acknowledgements}
+use Rattle.remote_cell.specs.Lines.{has_end, whole_lines, part_of}
+use Rattle.remote_cell.specs.WireLines.{line_said, acknowledgement}
+use Rattle.remote_cell.specs.Told.{IsGood, IsGoodLine, texts_on, lines_on, given_on, acknowledged_behind, acknowledged_on, AreAnswered, is_done, undone, those_left, left_undone, silent, numbered, owed, IsPresent, Knows}
+use Rattle.remote_cell.specs.Heard.{HasTaken, EndsWith, LastSays, LastSaysNothing, Tells, items_of}
+use Rattle.remote_cell.specs.Steps.{IsSent, bad_behind, spoilt, given_as, with_given, heard_line, item_given, heard_text, item_heard}
+use Rattle.remote_cell.proofs.ExchangeLaw.{is_take}
+use Rattle.remote_cell.proofs.WholeLines.{lines_plain, part_plain, lines_ended, part_ended}
+use Rattle.remote_cell.proofs.TakenItems.{one_given, one_acknowledged, given_more, texts_more, answered_more, undone_more}
+
+-- the connections of a door, by their parts
+abbrev all_of : List Connection → Option Connection → List (List ℕ) → Connections
+all_of p present w = record { past = p; present = present; waiting = w }
+
+-- how many items were taken on the connections before the present one
+abbrev before : List Connection → ℕ
+before p = length (given_on p)
+
+never : {P : Type 0} (b : Bool) → b ≡ true → b ≡ false → P
+never b yes_is no_is = absurd (true≢false (sym yes_is ∙ no_is))
+
+abbrev one_unless : Bool → ℕ
+one_unless b = cond b 0 1
+
+one_most : (b : Bool) → one_unless b ≤ 1
+one_most true = omega arith
+one_most false = omega arith
+
+-- ---- what was taken, with whole lines more on the present connection
+
+lines_more : (c d : Connection) (texts : List (List ℕ))
+    → whole_lines d.taken ≡ whole_lines c.taken ++ texts
+    → lines_on d ≡ lines_on c ++ filter_map line_said texts
+lines_more c d texts is =
+    ap (filter_map line_said) is ∙ filter_map-append line_said (whole_lines c.taken) texts
+
+given_step : (p : List Connection) (c d : Connection) (given : List Item)
+    → taken_behind (before p) (lines_on d) ≡ taken_behind (before p) (lines_on c) ++ given
+    → given_on (p ++ d ∷ []) ≡ given_on (p ++ c ∷ []) ++ given
+given_step p c d given is =
+    given_more p d
+    ∙ ap (λ (l : List Item). given_on p ++ l) is
+    ∙ sym (append_assoc (given_on p) (taken_behind (before p) (lines_on c)) given)
+    ∙ ap (λ (l : List Item). l ++ given) (sym (given_more p c))
+
+texts_step : (p : List Connection) (c d : Connection) (texts : List (List ℕ))
+    → whole_lines d.taken ≡ whole_lines c.taken ++ texts
+    → texts_on (p ++ d ∷ []) ≡ texts_on (p ++ c ∷ []) ++ texts
+texts_step p c d texts is =
+    texts_more p d
+    ∙ ap (λ (l : List (List ℕ)). texts_on p ++ l) is
+    ∙ sym (append_assoc (texts_on p) (whole_lines c.taken) texts)
+    ∙ ap (λ (l : List (List ℕ)). l ++ texts) (sym (texts_more p c))
+
+taken_step : (now : Bool) (p : List Connection) (c d : Connection) (w : List (List ℕ))
+    (given : List Item) (texts : List (List ℕ)) (turns faults : ℕ) → turns ≡ length texts
+    → whole_lines d.taken ≡ whole_lines c.taken ++ texts
+    → taken_behind (before p) (lines_on d) ≡ taken_behind (before p) (lines_on c) ++ given
+    → left_undone now (all_of p (Some d) w) ≤ undone 0 p + faults
+    → length p + faults ≤ length (those_left now (all_of p (Some d) w))
+    → HasTaken true now given turns faults (all_of p (Some c) w) (all_of p (Some d) w)
+taken_step now p c d w given texts turns faults many more same few leave = record {
+  given_is = given_step p c d given same;
+  turns_are = omega (
+    arith,
+    many,
+    ap length (texts_step p c d texts more),
+    length-append (texts_on (p ++ c ∷ [])) texts,
+    length-append p (c ∷ []),
+    length-append p (d ∷ []),
+  );
+  undone_few = few;
+  faults_leave = leave;
+}
+
+-- the same whole lines
+same_lines : (c d : Connection) → whole_lines d.taken ≡ whole_lines c.taken
+    → lines_on d ≡ lines_on c
+same_lines c d same = ap (filter_map line_said) same
+
+same_step : (now : Bool) (p : List Connection) (c d : Connection) (w : List (List ℕ)) (faults : ℕ)
+    → whole_lines d.taken ≡ whole_lines c.taken
+    → left_undone now (all_of p (Some d) w) ≤ undone 0 p + faults
+    → length p + faults ≤ length (those_left now (all_of p (Some d) w))
+    → HasTaken true now [] 0 faults (all_of p (Some c) w) (all_of p (Some d) w)
+same_step now p c d w faults same few leave =
+    taken_step now p c d w [] [] 0 faults refl (same ∙ sym (append-nil (whole_lines c.taken)))
+    (ap (taken_behind (before p)) (same_lines c d same)
+    ∙ sym (append-nil (taken_behind (before p) (lines_on c)))) few leave
+
+-- the connection that was present was left undone, or will be
+left_one : (p : List Connection) (d : Connection) (w : List (List ℕ))
+    → left_undone false (all_of p (Some d) w) ≤ undone 0 p + 1
+left_one p d w = omega (arith, undone_more p d, one_most (is_done (before p) d))
+
+kept_one : (p : List Connection) (d : Connection) (w : List (List ℕ)) (faults : ℕ)
+    → left_undone true (all_of p (Some d) w) ≤ undone 0 p + faults
+kept_one p d w faults = omega arith
+
+kept_none : (p : List Connection) (d : Connection) (w : List (List ℕ))
+    → length p + 0 ≤ length (those_left true (all_of p (Some d) w))
+kept_none p d w = omega arith
+
+left_more : (p : List Connection) (d : Connection) (w : List (List ℕ)) (faults : ℕ) → faults ≤ 1
+    → length p + faults ≤ length (those_left false (all_of p (Some d) w))
+left_more p d w faults few = omega (arith, few, length-append p (d ∷ []))
+
+-- a cell knows the same of a connection with the same whole lines
+knows_same : (h k : Hearing) (p : List Connection) (c d : Connection) (w : List (List ℕ))
+    → whole_lines d.taken ≡ whole_lines c.taken → k.receiver ≡ h.receiver
+    → (k.over ≡ None → (k.lines ≡ h.lines) × (h.over ≡ None))
+    → Knows h (all_of p (Some c) w) → IsPresent k (before p) d → Knows k (all_of p (Some d) w)
+knows_same h k p c d w same taken on knows present =
+    let step = same_step true p c d w 0 same (kept_one p d w 0) (kept_none p d w) in
+    let given : given_on (p ++ d ∷ []) ≡ given_on (p ++ c ∷ []) =
+    step.given_is ∙ append-nil (given_on (p ++ c ∷ [])) in
+    let texts : texts_on (p ++ d ∷ []) ≡ texts_on (p ++ c ∷ []) =
+    texts_step p c d [] (same ∙ sym (append-nil (whole_lines c.taken)))
+    ∙ append-nil (texts_on (p ++ c ∷ [])) in
+    record {
+      taken_is = taken ∙ knows.taken_is ∙ ap length (sym given);
+      lines_are = λ is. (on is).0 ∙ knows.lines_are (on is).1
+          ∙ ap (λ (l : List (List ℕ)). numbered (length l)) (sym texts);
+      answered = knows.answered;
+      good = λ is. knows.good (on is).1;
+      present = present;
+    }
+
+-- ---- an acknowledgement is written
+
+-- a cell behind an acknowledgement
+abbrev pub paid : Hearing → Bool → Hearing
+paid h connected = record h { owes = false; connected = connected }
+
+-- how many writes failed
+abbrev pub failed : {E : Type 0} → Result ⊤ E → ℕ
+failed (Ok sent) = 0
+failed (Err error) = 1
+
+written_good : (bytes : List ℕ) (c : Connection) → IsGood c → IsGood (written_to bytes c)
+written_good bytes c good = record { lines = good.lines; part = good.part }
+
+whole_written : (h : Hearing) (taken : ℕ) (c : Connection) → h.owes ≡ true → h.connected ≡ true
+    → IsPresent h taken c → c.written ++ acknowledgement h.receiver ≡ acknowledged_on taken c
+whole_written h taken c owes connected on =
+    ap (λ (b : Bool). c.written ++ cond b (acknowledgement h.receiver) []) (sym owes)
+    ∙ on.answered connected
+
+part_begins : (written part text whole : List ℕ) (n : ℕ) → written ++ text ≡ whole
+    → part ≡ take n text → IsPrefixOf (written ++ part) whole
+part_begins written part text whole n is of = (
+  drop n text,
+  sym is
+      ∙ ap (λ (l : List ℕ). written ++ l) (sym (take-append-drop n text)
+      ∙ ap (λ (l : List ℕ). l ++ drop n text) (sym of))
+      ∙ sym (append_assoc written part (drop n text)),
+)
+
+pub writes : {E : Type 0} (h : Hearing) (p : List Connection) (present : Option Connection)
+    (w : List (List ℕ)) (bytes : List ℕ) (result : Result ⊤ E) → h.owes ≡ true
+    → h.connected ≡ true → IsSent (acknowledgement h.receiver) bytes result
+    → Knows h (all_of p present w)
+    → Knows (paid h (is_ok result)) (with_written bytes (all_of p present w))
+    × HasTaken true (is_ok result) [] 0 (failed result) (all_of p present w)
+    (with_written bytes (all_of p present w))
+writes h p None w bytes result owes connected sent knows =
+    never h.connected connected knows.present
+writes h p (Some c) w bytes (Ok done) owes connected sent knows =
+    let on : IsPresent h (before p) c = knows.present in
+    let d : Connection = written_to bytes c in
+    let whole : c.written ++ bytes ≡ acknowledged_on (before p) c =
+    ap (λ (l : List ℕ). c.written ++ l) sent ∙ whole_written h (before p) c owes connected on in (
+      knows_same h (paid h true) p c d w refl refl (λ is. (refl, is)) knows (record {
+        begins = ([], sym whole ∙ sym (append-nil (c.written ++ bytes)));
+        answered = λ is. append-nil (c.written ++ bytes) ∙ whole;
+        good = λ is. written_good bytes c (on.good is);
+        at_line = λ over is. on.at_line over connected;
+      }),
+      same_step true p c d w 0 refl (kept_one p d w 0) (kept_none p d w),
+    )
+writes h p (Some c) w bytes (Err error) owes connected sent knows =
+    let on : IsPresent h (before p) c = knows.present in
+    let d : Connection = written_to bytes c in
+    let whole = whole_written h (before p) c owes connected on in (
+      knows_same h (paid h false) p c d w refl refl (λ is. (refl, is)) knows (record {
+        begins = part_begins c.written bytes (acknowledgement h.receiver)
+            (acknowledged_on (before p) c) sent.0 whole sent.2;
+        answered = λ is. absurd (true≢false (sym is));
+        good = λ is. written_good bytes c (on.good is);
+        at_line = λ over is. absurd (true≢false (sym is));
+      }),
+      same_step false p c d w 1 refl (left_one p d w) (left_more p d w 1 (omega arith)),
+    )
+
+-- what is written leaves what the last line says
+pub still_says : (line : Line) (bytes : List ℕ) (p : List Connection)
+    (present : Option Connection) (w : List (List ℕ)) → LastSays line (all_of p present w)
+    → LastSays line (with_written bytes (all_of p present w))
+still_says line bytes p None w last = last
+still_says line bytes p (Some c) w last = record {
+  text = last.text;
+  ends = record {
+    before = last.ends.before;
+    lines = last.ends.lines;
+    part = last.ends.part;
+  };
+  says = last.says;
+}
+
+-- ---- a part of a line is read
+
+-- a cell that leaves its connection
+abbrev pub leaving : Hearing → Hearing
+leaving h = record h { connected = false }
+
+unpaid : (h : Hearing) (taken : ℕ) (c : Connection) → h.owes ≡ false → h.connected ≡ true
+    → IsPresent h taken c → c.written ≡ acknowledged_on taken c
+unpaid h taken c owes connected on =
+    sym (append-nil c.written)
+    ∙ ap (λ (b : Bool). c.written ++ cond b (acknowledgement h.receiver) []) (sym owes)
+    ∙ on.answered connected
+
+part_good : (c : Connection) (line : List ℕ) → has_end line ≡ false → length line ≤ MAX_LINE
+    → part_of c.taken ≡ [] → IsGood c → IsGood (taken_from line c)
+part_good c line plain few at good =
+    let part : part_of (c.taken ++ line) ≡ line =
+    part_plain c.taken line plain ∙ ap (λ (l : List ℕ). l ++ line) at in
+    record {
+      lines = All-same IsGoodLine (whole_lines (c.taken ++ line)) (whole_lines c.taken)
+          (lines_plain c.taken line plain) good.lines;
+      part = omega (arith, ap length part, few);
+    }
+
+-- an acknowledged connection is acknowledged still
+same_answered : (taken : ℕ) (c d : Connection) → whole_lines d.taken ≡ whole_lines c.taken
+    → acknowledged_on taken d ≡ acknowledged_on taken c
+same_answered taken c d same = ap (acknowledged_behind taken) (same_lines c d same)
+
+present_same : (h k : Hearing) (taken : ℕ) (c d : Connection)
+    → whole_lines d.taken ≡ whole_lines c.taken → d.written ≡ c.written → owed k ≡ owed h
+    → (k.connected ≡ true → h.connected ≡ true) → (k.over ≡ None → IsGood d)
+    → (k.over ≡ None → k.connected ≡ true → part_of d.taken ≡ []) → IsPresent h taken c
+    → IsPresent k taken d
+present_same h k taken c d same written owes connected good at on =
+    let all = same_answered taken c d same in
+    record {
+      begins = (
+        on.begins.0,
+        all ∙ on.begins.1 ∙ ap (λ (l : List ℕ). l ++ on.begins.0) (sym written),
+      );
+      answered = λ is. ap (λ (l : List ℕ). l ++ owed k) written
+          ∙ ap (λ (l : List ℕ). c.written ++ l) owes ∙ on.answered (connected is) ∙ sym all;
+      good = good;
+      at_line = at;
+    }
+
+done_is : (n : ℕ) (d : Connection) → length d.left ≡ 0
+    → length d.written ≡ length (acknowledged_on n d) → is_done n d ≡ true
+done_is n d left written = grind (arith, nat_tests, left, written)
+
+-- so many reads failed where a line was cut
+abbrev pub Cuts : Connections → ℕ → Type 0
+Cuts all faults = ((left_now all ≡ []) × (faults ≡ 0)) ⊎ (faults ≡ 1)
+
+cut_few : (p : List Connection) (d : Connection) (w : List (List ℕ)) (faults : ℕ)
+    → d.written ≡ acknowledged_on (before p) d → Cuts (all_of p (Some d) w) faults
+    → left_undone false (all_of p (Some d) w) ≤ undone 0 p + faults
+cut_few p d w faults written (inl ended) =
+    let is = done_is (before p) d (ap length ended.0) (ap length written) in
+    omega (arith, undone_more p d, ap one_unless is)
+cut_few p d w faults written (inr one) =
+    omega (arith, undone_more p d, one_most (is_done (before p) d), one)
+
+cut_one : (all : Connections) (faults : ℕ) → Cuts all faults → faults ≤ 1
+cut_one all faults (inl ended) = omega (arith, ended.1)
+cut_one all faults (inr one) = omega (arith, one)
+
+pub cuts : (h : Hearing) (p : List Connection) (present : Option Connection) (w : List (List ℕ))
+    (line : List ℕ) (faults : ℕ) → h.over ≡ None → h.owes ≡ false → h.connected ≡ true
+    → has_end line ≡ false → length line ≤ MAX_LINE → Knows h (all_of p present w)
+    → Cuts (with_taken line (all_of p present w)) faults
+    → Knows (leaving h) (with_taken line (all_of p present w))
+    × HasTaken true false [] 0 faults (all_of p present w)
+    (with_taken line (all_of p present w))
+cuts h p None w line faults over owes connected plain few knows cut =
+    never h.connected connected knows.present
+cuts h p (Some c) w line faults over owes connected plain few knows cut =
+    let on : IsPresent h (before p) c = knows.present in
+    let d : Connection = taken_from line c in
+    let same = lines_plain c.taken line plain in
+    let written = unpaid h (before p) c owes connected on
+    ∙ sym (same_answered (before p) c d same) in (
+      knows_same h (leaving h) p c d w same refl (λ is. (refl, is)) knows
+          (present_same h (leaving h) (before p) c d same refl refl
+          (λ is. absurd (true≢false (sym is)))
+          (λ is. part_good c line plain few (on.at_line over connected) (on.good over))
+          (λ is yes_is. absurd (true≢false (sym yes_is))) on),
+      same_step false p c d w faults same (cut_few p d w faults written cut)
+          (left_more p d w faults (cut_one (all_of p (Some d) w) faults cut)),
+    )
+
+-- a line is too long
+over_none : {P : Type 0} (item : CellNext) → Some item ≡ None → P
+over_none item is = absurd (cc)
+
+pub too_long : (h : Hearing) (p : List Connection) (present : Option Connection)
+    (w : List (List ℕ)) (line : List ℕ) → h.over ≡ None → h.connected ≡ true
+    → has_end line ≡ false → length line ≡ MAX_LINE + 1 → Knows h (all_of p present w)
+    → Knows (spoilt h) (with_taken line (all_of p present w))
+    × Tells h.receiver (bad_behind h) (with_taken line (all_of p present w))
+    × HasTaken true true [] 0 0 (all_of p present w) (with_taken line (all_of p present w))
+too_long h p None w line over connected plain long knows =
+    never h.connected connected knows.present
+too_long h p (Some c) w line over connected plain long knows =
+    let on : IsPresent h (before p) c = knows.present in
+    let d : Connection = taken_from line c in
+    let same = lines_plain c.taken line plain in
+    let part : part_of (c.taken ++ line) ≡ line =
+    part_plain c.taken line plain ∙ ap (λ (l : List ℕ). l ++ line) (on.at_line over connected) in
+    let texts : texts_on (p ++ d ∷ []) ≡ texts_on (p ++ c ∷ []) =
+    texts_step p c d [] (same ∙ sym (append-nil (whole_lines c.taken)))
+    ∙ append-nil (texts_on (p ++ c ∷ [])) in
+    let number : next_line h.lines ≡ numbered (length (texts_on (p ++ d ∷ [])) + 1) =
+    omega (arith, knows.lines_are over, ap length texts) in (
+      knows_same h (spoilt h) p c d w same refl (λ is. over_none (bad_behind h) is) knows
+          (present_same h (spoilt h) (before p) c d same refl refl (λ is. is)
+          (λ is. over_none (bad_behind h) is) (λ is yes_is. over_none (bad_behind h) is) on),
+      inr (inl (ap length part ∙ long, number)),
+      same_step true p c d w 0 same (kept_one p d w 0) (kept_none p d w),
+    )
+
+-- ---- a whole line is read
+
+-- what ends a call, if something does
+abbrev pub MayTell : ℕ → Option CellNext → Connections → Type 0
+MayTell taken None all = Unit {0}
+MayTell taken (Some item) all = Tells taken item all
+
+abbrev pub may_items : Option CellNext → List Item
+may_items None = []
+may_items (Some item) = items_of item
+
+-- what is known behind a line that was heard so
+record HeardLine (h : Hearing) (how : hears.Heard) (item : Item) : Type 0 where
+  taken : (heard_line h how item).receiver ≡ h.receiver + length (taken_of how item)
+  lines : (heard_line h how item).lines ≡ next_line h.lines
+  connected : (heard_line h how item).connected ≡ h.connected
+  owes : owed (heard_line h how item)
+      ≡ flat_map acknowledgement (acknowledgements how (h.receiver + length (taken_of how item)))
+  gives : may_items (item_given how item) ≡ taken_of how item
+
+owes_one : (n m : ℕ) → n ≡ m → acknowledgement n ≡ acknowledgement m ++ []
+owes_one n m is = sym (append-nil (acknowledgement n))
+    ∙ ap (λ (k : ℕ). acknowledgement k ++ []) is
+
+heard_as : (h : Hearing) (how : hears.Heard) (item : Item) → h.owes ≡ false
+    → HeardLine h how item
+heard_as h Take (Gross gross) owes = record {
+  taken = refl;
+  lines = refl;
+  connected = refl;
+  owes = owes_one (h.receiver + 1) (h.receiver + 1) refl;
+  gives = refl;
+}
+heard_as h Take End owes = record {
+  taken = refl;
+  lines = refl;
+  connected = refl;
+  owes = owes_one (h.receiver + 1) (h.receiver + 1) refl;
+  gives = refl;
+}
+heard_as h Again item owes = record {
+  taken = omega arith;
+  lines = refl;
+  connected = refl;
+  owes = owes_one h.receiver (h.receiver + 0) (omega arith);
+  gives = refl;
+}
+heard_as h Ahead item owes = record {
+  taken = omega arith;
+  lines = refl;
+  connected = refl;
+  owes = ap (λ (b : Bool). cond b (acknowledgement h.receiver) []) owes;
+  gives = refl;
+}
+
+tells_line : (h : Hearing) (number : ℕ) (item : Item) (how : hears.Heard) (text : List ℕ)
+    (all : Connections) → heard h.receiver number ≡ how → EndsWith text all
+    → line_said text ≡ Some (number, item)
+    → MayTell (heard_line h how item).receiver (item_given how item) all
+tells_line h number (Gross gross) Take text all how ends is = record {
+  text = text;
+  ends = ends;
+  says = is ∙ ap (λ (n : ℕ). Some (n, Gross gross)) (is_take h.receiver number how);
+}
+tells_line h number End Take text all how ends is = record {
+  text = text;
+  ends = ends;
+  says = is ∙ ap (λ (n : ℕ). Some (n, End)) (is_take h.receiver number how);
+}
+tells_line h number item Again text all how ends is = tt
+tells_line h number item Ahead text all how ends is = tt
+
+line_good : (c : Connection) (text : List ℕ) → part_of c.taken ≡ [] → has_end text ≡ false
+    → length text ≤ MAX_LINE → is_some (line_said text) ≡ true → IsGood c
+    → IsGood (taken_from (text ++ 10 ∷ []) c)
+line_good c text at plain few says good = record {
+  lines = All-same IsGoodLine (whole_lines (c.taken ++ (text ++ 10 ∷ [])))
+      (whole_lines c.taken ++ text ∷ []) (lines_ended c.taken text at plain)
+      (All-push IsGoodLine (whole_lines c.taken) text good.lines (few, says));
+  part = omega (arith, ap length (part_ended c.taken text));
+}
+
+-- what was heard of a line of one of the two forms
+says_line : (h : Hearing) (p : List Connection) (c : Connection) (w : List (List ℕ))
+    (text : List ℕ) (number : ℕ) (item : Item) → line_said text ≡ Some (number, item)
+    → h.over ≡ None → h.owes ≡ false → h.connected ≡ true → has_end text ≡ false
+    → length text ≤ MAX_LINE → Knows h (all_of p (Some c) w)
+    → (k : Hearing) → k ≡ heard_line h (heard h.receiver number) item
+    → Knows k (all_of p (Some (taken_from (text ++ 10 ∷ []) c)) w)
+    × HasTaken true true (taken_of (heard h.receiver number) item) 1 0 (all_of p (Some c) w)
+    (all_of p (Some (taken_from (text ++ 10 ∷ []) c)) w)
+says_line h p c w text number item said over owes connected plain few knows k is =
+    let on : IsPresent h (before p) c = knows.present in
+    let d : Connection = taken_from (text ++ 10 ∷ []) c in
+    let how : hears.Heard = heard h.receiver number in
+    let line : Line = (number, item) in
+    let known : HeardLine h how item = heard_as h how item owes in
+    let texts : whole_lines d.taken ≡ whole_lines c.taken ++ text ∷ [] =
+    lines_ended c.taken text (on.at_line over connected) plain in
+    let lines : lines_on d ≡ lines_on c ++ line ∷ [] =
+    lines_more c d (text ∷ []) texts
+    ∙ ap (λ (o : Option Line). lines_on c ++ cons_option o []) said in
+    let taken : h.receiver ≡ before p + length (taken_behind (before p) (lines_on c)) =
+    knows.taken_is ∙ ap length (given_more p c)
+    ∙ length-append (given_on p) (taken_behind (before p) (lines_on c)) in
+    let given : taken_behind (before p) (lines_on d)
+    ≡ taken_behind (before p) (lines_on c) ++ taken_of how item =
+    ap (taken_behind (before p)) lines
+    ∙ one_given (before p) h.receiver (lines_on c) line taken in
+    let answers : acknowledged_on (before p) d ≡ acknowledged_on (before p) c
+    ++ flat_map acknowledgement (acknowledgements how (h.receiver + length (taken_of how item))) =
+    ap (acknowledged_behind (before p)) lines
+    ∙ one_acknowledged (before p) h.receiver (lines_on c) line taken in
+    let step : HasTaken true true (taken_of how item) 1 0 (all_of p (Some c) w)
+    (all_of p (Some d) w) = taken_step true p c d w (taken_of how item) (text ∷ []) 1 0 refl texts
+    given (kept_one p d w 0) (kept_none p d w) in
+    let behind : owed k ≡ flat_map acknowledgement (acknowledgements how
+    (h.receiver + length (taken_of how item))) = ap owed is ∙ known.owes in
+    let whole : c.written ++ owed k ≡ acknowledged_on (before p) d =
+    ap (λ (l : List ℕ). l ++ owed k) (unpaid h (before p) c owes connected on)
+    ∙ ap (λ (l : List ℕ). acknowledged_on (before p) c ++ l) behind ∙ sym answers in (
+      record {
+        taken_is = ap (λ (x : Hearing). x.receiver) is ∙ known.taken
+            ∙ ap (λ (n : ℕ). n + length (taken_of how item)) knows.taken_is
+            ∙ sym (length-append (given_on (p ++ c ∷ [])) (taken_of how item))
+            ∙ ap length (sym step.given_is);
+        lines_are = λ still. omega (
+          arith,
+          ap (λ (x : Hearing). x.lines) is,
+          known.lines,
+          knows.lines_are over,
+          ap length (texts_step p c d (text ∷ []) texts),
+          length-append (texts_on (p ++ c ∷ [])) (text ∷ []),
+        );
+        answered = knows.answered;
+        good = λ still. knows.good over;
+        present = record {
+          begins = (owed k, sym whole);
+          answered = λ still. whole;
+          good = λ still. line_good c text (on.at_line over connected) plain few
+              (ap is_some said) (on.good over);
+          at_line = λ still yes_is. part_ended c.taken text;
+        };
+      },
+      step,
+    )
+
+-- what was heard of a line of neither form
+says_nothing : (h : Hearing) (p : List Connection) (c : Connection) (w : List (List ℕ))
+    (text : List ℕ) → line_said text ≡ None → h.over ≡ None → h.connected ≡ true
+    → has_end text ≡ false → Knows h (all_of p (Some c) w)
+    → Knows (spoilt h) (all_of p (Some (taken_from (text ++ 10 ∷ []) c)) w)
+    × Tells h.receiver (bad_behind h) (all_of p (Some (taken_from (text ++ 10 ∷ []) c)) w)
+    × HasTaken true true [] 1 0 (all_of p (Some c) w)
+    (all_of p (Some (taken_from (text ++ 10 ∷ []) c)) w)
+says_nothing h p c w text said over connected plain knows =
+    let on : IsPresent h (before p) c = knows.present in
+    let d : Connection = taken_from (text ++ 10 ∷ []) c in
+    let texts : whole_lines d.taken ≡ whole_lines c.taken ++ text ∷ [] =
+    lines_ended c.taken text (on.at_line over connected) plain in
+    let lines : lines_on d ≡ lines_on c =
+    lines_more c d (text ∷ []) texts
+    ∙ ap (λ (o : Option Line). lines_on c ++ cons_option o []) said
+    ∙ append-nil (lines_on c) in
+    let given : taken_behind (before p) (lines_on d)
+    ≡ taken_behind (before p) (lines_on c) ++ [] =
+    ap (taken_behind (before p)) lines
+    ∙ sym (append-nil (taken_behind (before p) (lines_on c))) in
+    let answers : acknowledged_on (before p) d ≡ acknowledged_on (before p) c =
+    ap (acknowledged_behind (before p)) lines in
+    let step : HasTaken true true [] 1 0 (all_of p (Some c) w) (all_of p (Some d) w) =
+    taken_step true p c d w [] (text ∷ []) 1 0 refl texts given (kept_one p d w 0) (kept_none p d w) in (
+      record {
+        taken_is = knows.taken_is
+            ∙ ap length (sym (step.given_is ∙ append-nil (given_on (p ++ c ∷ []))));
+        lines_are = λ is. over_none (bad_behind h) is;
+        answered = knows.answered;
+        good = λ is. over_none (bad_behind h) is;
+        present = record {
+          begins = (on.begins.0, answers ∙ on.begins.1);
+          answered = λ is. on.answered is ∙ sym answers;
+          good = λ is. over_none (bad_behind h) is;
+          at_line = λ is yes_is. over_none (bad_behind h) is;
+        };
+      },
+      inl (
+        record {
+          text = text;
+          ends = record {
+            before = whole_lines c.taken;
+            lines = texts;
+            part = part_ended c.taken text;
+          };
+          says = said;
+        },
+        omega (
+          arith,
+          knows.lines_are over,
+          ap length (texts_step p c d (text ∷ []) texts),
+          length-append (texts_on (p ++ c ∷ [])) (text ∷ []),
+        ),
+      ),
+      step,
+    )
+
+pub hears_text : (h : Hearing) (p : List Connection) (present : Option Connection)
+    (w : List (List ℕ)) (text : List ℕ) (said : Option Line) → line_said text ≡ said
+    → h.over ≡ None → h.owes ≡ false → h.connected ≡ true → has_end text ≡ false
+    → length text ≤ MAX_LINE → Knows h (all_of p present w)
+    → Knows (heard_text h said) (with_taken (text ++ 10 ∷ []) (all_of p present w))
+    × MayTell (heard_text h said).receiver (item_heard h said)
+    (with_taken (text ++ 10 ∷ []) (all_of p present w))
+    × HasTaken true true (may_items (item_heard h said)) 1 0 (all_of p present w)
+    (with_taken (text ++ 10 ∷ []) (all_of p present w))
+hears_text h p None w text said is over owes connected plain few knows =
+    never h.connected connected knows.present
+hears_text h p (Some c) w text None is over owes connected plain few knows =
+    says_nothing h p c w text is over connected plain knows
+hears_text h p (Some c) w text (Some line) is over owes connected plain few knows =
+    let on : IsPresent h (before p) c = knows.present in
+    let d : Connection = taken_from (text ++ 10 ∷ []) c in
+    let how : hears.Heard = heard h.receiver line.0 in
+    let known : HeardLine h how line.1 = heard_as h how line.1 owes in
+    let both = says_line h p c w text line.0 line.1 is over owes connected plain few knows
+    (heard_line h how line.1) refl in
+    let ends : EndsWith text (all_of p (Some d) w) = record {
+      before = whole_lines c.taken;
+      lines = lines_ended c.taken text (on.at_line over connected) plain;
+      part = part_ended c.taken text;
+    } in (
+      both.0,
+      tells_line h line.0 line.1 how text (all_of p (Some d) w) refl ends is,
+      subst (λ (l : List Item). HasTaken true true l 1 0 (all_of p (Some c) w)
+          (all_of p (Some d) w)) (sym known.gives) both.1,
+    )
+
+-- ---- the next connection
+
+-- what is known of all connections that were served
+all_answered : (h : Hearing) (p : List Connection) (present : Option Connection)
+    (w : List (List ℕ)) → Knows h (all_of p present w)
+    → AreAnswered 0 (p ++ option_to_list present)
+all_answered h p None w knows = subst (AreAnswered 0) (sym (append-nil p)) knows.answered
+all_answered h p (Some c) w knows =
+    let on : IsPresent h (before p) c = knows.present in
+    answered_more p c knows.answered on.begins
+
+all_good : (h : Hearing) (p : List Connection) (present : Option Connection)
+    (w : List (List ℕ)) → h.over ≡ None → Knows h (all_of p present w)
+    → All IsGood (p ++ option_to_list present)
+all_good h p None w over knows =
+    All-same IsGood (p ++ []) p (append-nil p) (knows.good over)
+all_good h p (Some c) w over knows =
+    let on : IsPresent h (before p) c = knows.present in
+    All-push IsGood p c (knows.good over) (on.good over)
+
+-- a cell with its next connection
+abbrev pub joining : Hearing → Hearing
+joining h = record h { connected = true }
+
+-- where one waits
+pub joins : (h : Hearing) (all : Connections) (bytes : List ℕ) (others : List (List ℕ))
+    → all.waiting ≡ bytes ∷ others → h.over ≡ None → h.owes ≡ false → Knows h all
+    → (next : Connections) → next ≡ next_connections all
+    → Knows (joining h) next × HasTaken false true [] 1 0 all next
+joins h all bytes others waits over owes knows next is =
+    let s : List Connection = served all in
+    let new : Connection = new_connection bytes in
+    let same : next ≡ all_of s (Some new) others =
+    is ∙ ap (λ (ws : List (List ℕ)).
+    next_connections (record { past = all.past; present = all.present; waiting = ws })) waits in
+    let given : given_on (s ++ new ∷ []) ≡ given_on s ++ [] = given_more s new in
+    let texts : texts_on (s ++ new ∷ []) ≡ texts_on s ++ [] = texts_more s new in
+    let nothing : owed (joining h) ≡ [] =
+    ap (λ (b : Bool). cond b (acknowledgement h.receiver) []) owes in
+    subst (λ (x : Connections). Knows (joining h) x × HasTaken false true [] 1 0 all x)
+    (sym same) (
+      record {
+        taken_is = knows.taken_is
+            ∙ ap length (sym (given ∙ append-nil (given_on s)));
+        lines_are = λ still. knows.lines_are still
+            ∙ ap (λ (l : List (List ℕ)). numbered (length l))
+            (sym (texts ∙ append-nil (texts_on s)));
+        answered = all_answered h all.past all.present all.waiting knows;
+        good = λ still. all_good h all.past all.present all.waiting over knows;
+        present = record {
+          begins = ([], refl);
+          answered = λ still. nothing;
+          good = λ still. record { lines = λ k x within. absurd (omega (arith, within)); part = omega arith };
+          at_line = λ still yes_is. refl;
+        };
+      },
+      record {
+        given_is = given;
+        turns_are = omega (
+          arith,
+          ap length (texts ∙ append-nil (texts_on s)),
+          length-append s (new ∷ []),
+        );
+        undone_few = omega arith;
+        faults_leave = omega arith;
+      },
+    )
+
+-- where none waits
+pub ends : (h : Hearing) (all : Connections) → all.waiting ≡ [] → h.connected ≡ false
+    → h.over ≡ None → Knows h all
+    → (next : Connections) → next ≡ next_connections all
+    → Knows (spoilt h) next × Tells h.receiver (bad_behind h) next
+    × HasTaken false false [] 0 0 all next
+ends h all waits connected over knows next is =
+    let s : List Connection = served all in
+    let same : next ≡ all_of s None [] =
+    is ∙ ap (λ (ws : List (List ℕ)).
+    next_connections (record { past = all.past; present = all.present; waiting = ws })) waits in
+    let still : s ++ [] ≡ s = append-nil s in
+    subst (λ (x : Connections). Knows (spoilt h) x × Tells h.receiver (bad_behind h) x
+    × HasTaken false false [] 0 0 all x) (sym same) (
+      record {
+        taken_is = knows.taken_is ∙ ap (λ (l : List Connection). length (given_on l)) (sym still);
+        lines_are = λ none. over_none (bad_behind h) none;
+        answered = all_answered h all.past all.present all.waiting knows;
+        good = λ none. over_none (bad_behind h) none;
+        present = connected;
+      },
+      inr (inr (
+        refl,
+        omega (
+          arith,
+          knows.lines_are over,
+          ap (λ (l : List Connection). length (texts_on l)) still,
+        ),
+      )),
+      record {
+        given_is = ap given_on still ∙ sym (append-nil (given_on s));
+        turns_are = omega (
+          arith,
+          ap (λ (l : List Connection). length (texts_on l)) still,
+          ap length still,
+        );
+        undone_few = omega (arith, ap (undone 0) still);
+        faults_leave = omega (arith, ap length still);
+      },
+    )
+
+-- nothing changed
+pub none_taken : (connected : Bool) (all : Connections)
+    → HasTaken connected connected [] 0 0 all all
+none_taken connected all = record {
+  given_is = sym (append-nil (given_on (served all)));
+  turns_are = omega arith;
+  undone_few = omega arith;
+  faults_leave = omega arith;
+}
+
+-- a cell that begins
+pub knows_none : (all : Connections) → served all ≡ [] → Knows silent all
+knows_none all none = by all.past all.present all.waiting none where
+  by : (p : List Connection) (present : Option Connection) (w : List (List ℕ))
+      → p ++ option_to_list present ≡ [] → Knows silent (all_of p present w)
+  by [] None w is = record {
+    taken_is = refl;
+    lines_are = λ still. refl;
+    answered = tt;
+    good = λ still k x within. absurd (omega (arith, within));
+    present = refl;
+  }
+  by [] (Some c) w is = absurd (cc)
+  by (x ∷ p) present w is = absurd (cc)

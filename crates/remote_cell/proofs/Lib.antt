@@ -1,0 +1,6 @@
+mod DoorBytes
+mod ExchangeLaw
+mod Knowing
+mod TakenItems
+mod Turning
+mod WholeLines

@@ -1,0 +1,142 @@
+-- What the connections of a door tell of a scale, and what a cell over the door knows of it.
+use Rattle.std.specs.Prelude.{◌≡◌, ℕ, zero, suc, ◌+◌, ◌-◌, ◌^◌, ◌≤◌, ◌&&◌, nat_eq, min, Bool, true, false, cond, List, [], ◌∷◌, ◌++◌, length, flat_map, filter_map, All, if◌then◌else◌, Option, Some, None, IfSome, IsSome}
+use Rattle.device_facts.specs.Prefix.{IsPrefixOf}
+use Rattle.disk_core.specs.declared.source.Source as source
+use Rattle.disk_core.specs.Doors.{Connection, Connections, served}
+use Rattle.lane_worker.specs.declared.types.CellNext.{CellNext}
+use Rattle.remote_cell.specs.declared.items.Item.{Item}
+use Rattle.remote_cell.specs.declared.hearing.Hearing.{Hearing}
+use Rattle.remote_cell.specs.declared.wire_lines.TheConstants.{MAX_LINE}
+use Rattle.remote_cell.specs.Exchanges.{Line, heard, taken_of, taken_behind, taken, acknowledgements}
+use Rattle.remote_cell.specs.Lines.{whole_lines, part_of}
+use Rattle.remote_cell.specs.WireLines.{line_said, acknowledgement}
+
+-- ---- what was heard on connections
+
+-- the whole lines of some connections, one after another
+abbrev pub texts_on : List Connection → List (List ℕ)
+texts_on connections = flat_map (λ (c : Connection). whole_lines c.taken) connections
+
+-- what the whole lines of a connection say
+abbrev pub lines_on : Connection → List Line
+lines_on c = filter_map line_said (whole_lines c.taken)
+
+-- the items taken of some connections, one after another
+abbrev pub given_on : List Connection → List Item
+given_on connections = taken (flat_map lines_on connections)
+
+-- a line is of one of the two forms, and isn't too long
+abbrev pub IsGoodLine : List ℕ → Type 0
+IsGoodLine text = (length text ≤ MAX_LINE) × IsSome (line_said text)
+
+-- nothing bad came on a connection
+pub record IsGood (c : Connection) : Type 0 where
+  pub lines : All IsGoodLine (whole_lines c.taken)
+  pub part : length (part_of c.taken) ≤ MAX_LINE
+
+-- ---- what is written to them
+
+-- the acknowledgements of lines, in order, by who has taken so many items before them: of all items
+-- taken by then, but none for a line that is passed over
+abbrev pub acknowledged_behind : ℕ → List Line → List ℕ
+acknowledged_behind taken [] = []
+acknowledged_behind taken (line ∷ lines) =
+    flat_map acknowledgement (acknowledgements (heard taken line.0)
+    (taken + length (taken_of (heard taken line.0) line.1)))
+    ++ acknowledged_behind (taken + length (taken_of (heard taken line.0) line.1)) lines
+
+abbrev pub acknowledged_on : ℕ → Connection → List ℕ
+acknowledged_on taken c = acknowledged_behind taken (lines_on c)
+
+-- to each of some connections its acknowledgements were written, or the first of these bytes
+abbrev pub AreAnswered : ℕ → List Connection → Type 0
+AreAnswered taken [] = Unit {0}
+AreAnswered taken (c ∷ connections) =
+    IsPrefixOf c.written (acknowledged_on taken c)
+    × AreAnswered (taken + length (taken_behind taken (lines_on c))) connections
+
+-- a connection is done: its bytes were taken to their end, and its acknowledgements were written
+abbrev pub is_done : ℕ → Connection → Bool
+is_done taken c =
+    nat_eq (length c.left) 0 && nat_eq (length c.written) (length (acknowledged_on taken c))
+
+-- how many of some connections aren't done
+abbrev pub undone : ℕ → List Connection → ℕ
+undone taken [] = 0
+undone taken (c ∷ connections) =
+    cond (is_done taken c) 0 1
+    + undone (taken + length (taken_behind taken (lines_on c))) connections
+
+-- the connections that were left, or are to be left: all but one that goes on
+abbrev pub those_left : Bool → Connections → List Connection
+those_left connected all = if connected then all.past else served all
+
+-- how many of them weren't done
+abbrev pub left_undone : Bool → Connections → ℕ
+left_undone connected all = undone 0 (those_left connected all)
+
+-- ---- a door and a cell
+
+-- a door at one moment: its connections, where it tells them, whether the end of the present one
+-- was given, and how often it failed
+pub record Port : Type 0 where
+  pub connections : Option Connections
+  pub ended : Bool
+  pub faults : ℕ
+
+abbrev pub port : {O : Type 0} → source.Ghosts O → (O → Option Connections) → O → Port
+port reads connections o =
+    record { connections = connections o; ended = reads.ended o; faults = reads.faults o }
+
+-- a cell over a door: the door, what it knows of its scale, the faults counted
+pub record RemoteState (O : Type 0) : Type 0 where
+  pub door : O
+  pub hearing : Hearing
+  pub faults : ℕ
+
+-- a door and what a cell over it knows of its scale, at one moment
+pub record Site : Type 0 where
+  pub door : Port
+  pub hearing : Hearing
+
+abbrev pub site : Port → Hearing → Site
+site door hearing = record { door = door; hearing = hearing }
+
+-- nothing was heard yet
+abbrev pub silent : Hearing
+silent = record { receiver = 0; lines = 0; over = None; connected = false; owes = false }
+
+-- a count of lines: it stands still at the greatest number of 32 bits
+abbrev pub numbered : ℕ → ℕ
+numbered lines = min lines (2 ^ 32 - 1)
+
+-- the acknowledgement that isn't written yet
+abbrev pub owed : Hearing → List ℕ
+owed h = if h.owes then acknowledgement h.receiver else []
+
+-- what is known of the present connection: what was written to it is what its lines ask for, but
+-- for what is owed, and only a whole number of lines was taken
+pub record IsPresent (h : Hearing) (taken : ℕ) (c : Connection) : Type 0 where
+  pub begins : IsPrefixOf c.written (acknowledged_on taken c)
+  pub answered : h.connected ≡ true → c.written ++ owed h ≡ acknowledged_on taken c
+  pub good : h.over ≡ None → IsGood c
+  pub at_line : h.over ≡ None → h.connected ≡ true → part_of c.taken ≡ []
+
+abbrev pub KnowsPresent : Hearing → ℕ → Option Connection → Type 0
+KnowsPresent h taken None = h.connected ≡ false
+KnowsPresent h taken (Some c) = IsPresent h taken c
+
+-- what a cell knows is what its door tells
+pub record Knows (h : Hearing) (all : Connections) : Type 0 where
+  pub taken_is : h.receiver ≡ length (given_on (served all))
+  pub lines_are : h.over ≡ None → h.lines ≡ numbered (length (texts_on (served all)))
+  pub answered : AreAnswered 0 all.past
+  pub good : h.over ≡ None → All IsGood all.past
+  pub present : KnowsPresent h (length (given_on all.past)) all.present
+
+-- so it is where the door tells its connections; a connection that isn't to be left goes on, and
+-- only such a one may be owed an acknowledgement
+pub record IsSound (door : Port) (h : Hearing) : Type 0 where
+  pub unended : h.connected ≡ true → door.ended ≡ false
+  pub owing : h.owes ≡ true → h.connected ≡ true
+  pub told : IfSome door.connections (Knows h)
