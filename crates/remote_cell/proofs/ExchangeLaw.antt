@@ -1,5 +1,5 @@
 -- The law of an exchange: what holds before an event holds behind it.
-use Rattle.std.proofs.Common.{◌≡◌, ℕ, zero, suc, ◌+◌, ◌<◌, ◌≤◌, ◌==◌, nat_le, Bool, true, false, List, [], ◌∷◌, ◌++◌, length, Option, Some, None, refl, sym, ◌∙◌, ap, subst, arith, inl, inr, append_assoc, append-nil, length-append}
+use Rattle.std.proofs.Common.{◌≡◌, ℕ, zero, suc, ◌+◌, ◌<◌, ◌≤◌, ◌==◌, nat_le, List, [], ◌∷◌, ◌++◌, length, Option, Some, None, refl, sym, ◌∙◌, ap, subst, arith, inl, inr, append_assoc, append-nil, length-append}
 use Rattle.std.specs.Prelude.{All, slice_get}
 use Rattle.std.proofs.lemmas.List.Elements.{All-nil, All-head, All-tail, All-push, All-weaker}
 use Rattle.std.proofs.lemmas.Bool.{cases_Bool}
@@ -8,7 +8,7 @@ use Rattle.device_facts.specs.Prefix.{IsPrefixOf}
 use Rattle.remote_cell.specs.declared.items.Item.{Item}
 use Rattle.remote_cell.specs.declared.receiver.Heard.{Heard}
 use Rattle.remote_cell.specs.declared.receiver.Heard.TheVariants.{Take, Again, Ahead}
-use Rattle.remote_cell.specs.Exchanges.{Line, heard, taken_of, acknowledgements, Sending, said_by, is_said, acknowledged_by, Event, Says, LineArrives, AcknowledgementArrives, Exchange, begun, with_said, with_heard, with_line, with_acknowledgement, with_event, exchanged_from, exchanged, IsFaithful}
+use Rattle.remote_cell.specs.Exchanges.{Line, heard, taken_of, acknowledgements, said_by, is_said, Event, Says, LineArrives, AcknowledgementArrives, Exchange, begun, with_said, with_line, with_acknowledgement, with_event, exchanged_from, exchanged, IsFaithful}
 
 -- ---- lists
 

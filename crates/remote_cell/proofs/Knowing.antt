@@ -1,5 +1,5 @@
 -- What a cell knows, behind each step that a call makes on a door that tells its connections.
-use Rattle.std.proofs.Common.{◌≡◌, ◌⊎◌, ℕ, zero, suc, ◌+◌, ◌-◌, ◌^◌, ◌<◌, ◌≤◌, ◌&&◌, nat_eq, min, Bool, true, false, true≢false, cond, List, [], ◌∷◌, ◌++◌, length, take, drop, Option, Some, None, option_map, is_some, IfSome, Result, Ok, Err, is_ok, refl, sym, ◌∙◌, ap, subst, inl, inr, arith, append_assoc, append-nil, length-append}
+use Rattle.std.proofs.Common.{◌≡◌, ◌⊎◌, ℕ, ◌+◌, ◌≤◌, Bool, true, false, true≢false, cond, List, [], ◌∷◌, ◌++◌, length, take, drop, Option, Some, None, is_some, Result, Ok, Err, is_ok, refl, sym, ◌∙◌, ap, subst, inl, inr, arith, append_assoc, append-nil, length-append}
 use Rattle.std.specs.Prelude.{All, flat_map, filter_map, option_to_list}
 use Rattle.std.specs.List.{cons_option}
 use Rattle.std.specs.Bool.{⊤}
@@ -9,7 +9,6 @@ use Rattle.std.proofs.lemmas.List.Elements.{All-push, All-same, filter_map-appen
 use Rattle.device_facts.specs.Prefix.{IsPrefixOf}
 use Rattle.disk_core.specs.Doors.{Connection, Connections, served, new_connection, next_connections, left_now, taken_from, written_to, with_taken, with_written}
 use Rattle.lane_worker.specs.declared.types.CellNext.{CellNext}
-use Rattle.lane_worker.specs.declared.types.CellNext.TheVariants as cell
 use Rattle.lane_worker.specs.CellLines.{next_line}
 use Rattle.remote_cell.specs.declared.items.Item.{Item}
 use Rattle.remote_cell.specs.declared.items.Item.TheVariants.{Gross, End}
@@ -21,8 +20,8 @@ use Rattle.remote_cell.specs.Exchanges.{Line, heard, taken_of, taken_behind, ack
 use Rattle.remote_cell.specs.Lines.{has_end, whole_lines, part_of}
 use Rattle.remote_cell.specs.WireLines.{line_said, acknowledgement}
 use Rattle.remote_cell.specs.Told.{IsGood, IsGoodLine, texts_on, lines_on, given_on, acknowledged_behind, acknowledged_on, AreAnswered, is_done, undone, those_left, left_undone, silent, numbered, owed, IsPresent, Knows}
-use Rattle.remote_cell.specs.Heard.{HasTaken, EndsWith, LastSays, LastSaysNothing, Tells, items_of}
-use Rattle.remote_cell.specs.Steps.{IsSent, bad_behind, spoilt, given_as, with_given, heard_line, item_given, heard_text, item_heard}
+use Rattle.remote_cell.specs.Heard.{HasTaken, EndsWith, LastSays, Tells, items_of}
+use Rattle.remote_cell.specs.Steps.{IsSent, bad_behind, spoilt, heard_line, item_given, heard_text, item_heard}
 use Rattle.remote_cell.proofs.ExchangeLaw.{is_take}
 use Rattle.remote_cell.proofs.WholeLines.{lines_plain, part_plain, lines_ended, part_ended}
 use Rattle.remote_cell.proofs.TakenItems.{one_given, one_acknowledged, given_more, texts_more, answered_more, undone_more}

@@ -1,5 +1,5 @@
 -- What a call comes to, step by step, over any door.
-use Rattle.std.proofs.Common.{◌≡◌, ◌⊎◌, ℕ, zero, suc, ◌+◌, ◌-◌, ◌^◌, ◌≤◌, min, Bool, true, false, true≢false, List, [], ◌∷◌, ◌++◌, length, Option, Some, None, option_map, is_some, IfSome, Result, Ok, Err, is_ok, refl, sym, ◌∙◌, ap, subst, inl, inr, arith, append_assoc, append-nil}
+use Rattle.std.proofs.Common.{◌≡◌, ℕ, zero, suc, ◌+◌, ◌≤◌, Bool, true, false, true≢false, List, [], ◌∷◌, ◌++◌, Option, Some, None, option_map, is_some, IfSome, Result, Ok, Err, is_ok, refl, sym, ◌∙◌, ap, subst, inl, inr, arith, append_assoc}
 use Rattle.std.specs.Bool.{⊤}
 use Rattle.device_facts.specs.Count.{Counted}
 use Rattle.disk_core.specs.declared.types.Failed.{Failed}
@@ -14,13 +14,12 @@ use Rattle.remote_cell.specs.declared.hearing.Hearing.{Hearing}
 use Rattle.std.proofs.lemmas.Bool.{cases_Bool}
 use Rattle.remote_cell.specs.declared.reading.LineEnd.{LineEnd}
 use Rattle.remote_cell.specs.declared.reading.LineEnd.TheVariants.{Whole, TooLong, Cut}
-use Rattle.remote_cell.specs.declared.wire_lines.TheConstants.{MAX_LINE}
 use Rattle.remote_cell.specs.declared.turns.TheConstants.{MAX_TURNS}
 use Rattle.remote_cell.specs.Exchanges.{Line, heard}
 use Rattle.remote_cell.specs.WireLines.{line_said, acknowledgement}
 use Rattle.remote_cell.specs.Told.{Port, Site, site, IsSound, Knows, given_on, silent}
-use Rattle.remote_cell.specs.Heard.{FailedSoOften, HasTaken, IfBoth, Goes, items_of, over_behind, LastSays, Tells, result_items, result_over, refusals, ResultTells, HasHeard}
-use Rattle.remote_cell.specs.Steps.{IsRead, IsSent, Sends, ReadsLine, bad_behind, spoilt, heard_line, item_given, heard_text, item_heard, Acknowledged, is_answered, AnsweredIf, IsReady, Gives, TurnsTo}
+use Rattle.remote_cell.specs.Heard.{FailedSoOften, HasTaken, IfBoth, Goes, items_of, over_behind, LastSays, Tells, ResultTells, HasHeard}
+use Rattle.remote_cell.specs.Steps.{Sends, ReadsLine, bad_behind, spoilt, heard_line, item_given, heard_text, item_heard, Acknowledged, is_answered, AnsweredIf, IsReady, Gives, TurnsTo}
 use Rattle.remote_cell.proofs.Knowing.{paid, failed, writes, still_says, leaving, Cuts, cuts, too_long, MayTell, may_items, hears_text, joining, joins, ends, none_taken, knows_none}
 
 -- ---- told or not
@@ -373,19 +372,19 @@ admitted door mid h ready left is found begins calm =
       faults_are = calm;
     }
   where
-  by : (all : Connections) (waiting : List (List ℕ)) → all.waiting ≡ waiting → Knows h all
-      → true ≡ is_some (next_connections all).present
-      → Knows (joining h) (next_connections all) × ⊤
-      × HasTaken false true [] 1 0 all (next_connections all)
-  by all [] waits knows q =
-      let none : is_some (next_connections all).present ≡ false =
-      ap (λ (ws : List (List ℕ)). is_some (next_connections
-      (record { past = all.past; present = all.present; waiting = ws })).present) waits in
-      absurd (true≢false (q ∙ none))
-  by all (bytes ∷ others) waits knows q =
-      let done = joins h all bytes others waits ready.goes_on ready.paid knows
-      (next_connections all) refl in
-      (done.0, tt, done.1)
+    by : (all : Connections) (waiting : List (List ℕ)) → all.waiting ≡ waiting → Knows h all
+        → true ≡ is_some (next_connections all).present
+        → Knows (joining h) (next_connections all) × ⊤
+        × HasTaken false true [] 1 0 all (next_connections all)
+    by all [] waits knows q =
+        let none : is_some (next_connections all).present ≡ false =
+        ap (λ (ws : List (List ℕ)). is_some (next_connections
+        (record { past = all.past; present = all.present; waiting = ws })).present) waits in
+        absurd (true≢false (q ∙ none))
+    by all (bytes ∷ others) waits knows q =
+        let done = joins h all bytes others waits ready.goes_on ready.paid knows
+        (next_connections all) refl in
+        (done.0, tt, done.1)
 
 pub turns_admitted : (door mid : Port) (h : Hearing) → IsReady (site door h)
     → h.connected ≡ false
@@ -429,17 +428,17 @@ turns_ended door mid h ready left is found calm =
       tells = told.1;
     }
   where
-  by : (all : Connections) (waiting : List (List ℕ)) → all.waiting ≡ waiting → Knows h all
-      → false ≡ is_some (next_connections all).present
-      → Knows (spoilt h) (next_connections all)
-      × Tells h.receiver (bad_behind h) (next_connections all)
-      × HasTaken false false [] 0 0 all (next_connections all)
-  by all [] waits knows q = ends h all waits left ready.goes_on knows (next_connections all) refl
-  by all (bytes ∷ others) waits knows q =
-      let some : is_some (next_connections all).present ≡ true =
-      ap (λ (ws : List (List ℕ)). is_some (next_connections
-      (record { past = all.past; present = all.present; waiting = ws })).present) waits in
-      absurd (true≢false (sym some ∙ sym q))
+    by : (all : Connections) (waiting : List (List ℕ)) → all.waiting ≡ waiting → Knows h all
+        → false ≡ is_some (next_connections all).present
+        → Knows (spoilt h) (next_connections all)
+        × Tells h.receiver (bad_behind h) (next_connections all)
+        × HasTaken false false [] 0 0 all (next_connections all)
+    by all [] waits knows q = ends h all waits left ready.goes_on knows (next_connections all) refl
+    by all (bytes ∷ others) waits knows q =
+        let some : is_some (next_connections all).present ≡ true =
+        ap (λ (ws : List (List ℕ)). is_some (next_connections
+        (record { past = all.past; present = all.present; waiting = ws })).present) waits in
+        absurd (true≢false (sym some ∙ sym q))
 
 kept_told : (was now : Option Connections) (h : Hearing) (R : Connections → Connections → Type 0)
     → now ≡ was → IfSome was (Knows h) → ((a : Connections) → R a a)

@@ -1,5 +1,5 @@
 -- The whole lines of bytes, when more bytes are read behind them.
-use Rattle.std.proofs.Common.{◌≡◌, ℕ, Bool, true, false, List, [], ◌∷◌, ◌++◌, eqb, refl, sym, ◌∙◌, ap, inl, inr, append_assoc, append-nil}
+use Rattle.std.proofs.Common.{◌≡◌, ℕ, false, List, [], ◌∷◌, ◌++◌, eqb, refl, sym, ◌∙◌, ap, inl, inr, append_assoc, append-nil}
 use Rattle.std.proofs.lemmas.Bool.{cases_Bool}
 use Rattle.remote_cell.specs.Lines.{has_end, lines_behind, part_behind, whole_lines, part_of}
 

@@ -7,7 +7,6 @@ use Rattle.lane_worker.specs.declared.types.CellNext.{CellNext}
 use Rattle.lane_worker.specs.declared.types.CellNext.TheVariants as cell
 use Rattle.remote_cell.specs.declared.items.Item.{Item}
 use Rattle.remote_cell.specs.declared.items.Item.TheVariants.{Gross, End}
-use Rattle.remote_cell.specs.declared.hearing.Hearing.{Hearing}
 use Rattle.remote_cell.specs.declared.wire_lines.TheConstants.{MAX_LINE}
 use Rattle.remote_cell.specs.declared.turns.TheConstants.{MAX_TURNS}
 use Rattle.remote_cell.specs.Exchanges.{Line}

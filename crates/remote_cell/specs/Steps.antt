@@ -14,7 +14,7 @@ use Rattle.remote_cell.specs.declared.hearing.Hearing.{Hearing}
 use Rattle.remote_cell.specs.declared.reading.LineEnd.{LineEnd}
 use Rattle.remote_cell.specs.declared.reading.LineEnd.TheVariants.{Whole, TooLong, Cut}
 use Rattle.remote_cell.specs.declared.wire_lines.TheConstants.{MAX_LINE}
-use Rattle.remote_cell.specs.Exchanges.{Line, heard, taken_of}
+use Rattle.remote_cell.specs.Exchanges.{Line, heard}
 use Rattle.remote_cell.specs.Lines.{has_end}
 use Rattle.remote_cell.specs.Told.{Port, Site, IsSound}
 use Rattle.remote_cell.specs.Heard.{items_of, over_behind, owes_behind, LastSays, Tells, Goes}

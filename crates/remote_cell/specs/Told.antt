@@ -1,9 +1,8 @@
 -- What the connections of a door tell of a scale, and what a cell over the door knows of it.
-use Rattle.std.specs.Prelude.{◌≡◌, ℕ, zero, suc, ◌+◌, ◌-◌, ◌^◌, ◌≤◌, ◌&&◌, nat_eq, min, Bool, true, false, cond, List, [], ◌∷◌, ◌++◌, length, flat_map, filter_map, All, if◌then◌else◌, Option, Some, None, IfSome, IsSome}
+use Rattle.std.specs.Prelude.{◌≡◌, ℕ, ◌+◌, ◌-◌, ◌^◌, ◌≤◌, ◌&&◌, nat_eq, min, Bool, true, false, cond, List, [], ◌∷◌, ◌++◌, length, flat_map, filter_map, All, if◌then◌else◌, Option, Some, None, IfSome, IsSome}
 use Rattle.device_facts.specs.Prefix.{IsPrefixOf}
 use Rattle.disk_core.specs.declared.source.Source as source
 use Rattle.disk_core.specs.Doors.{Connection, Connections, served}
-use Rattle.lane_worker.specs.declared.types.CellNext.{CellNext}
 use Rattle.remote_cell.specs.declared.items.Item.{Item}
 use Rattle.remote_cell.specs.declared.hearing.Hearing.{Hearing}
 use Rattle.remote_cell.specs.declared.wire_lines.TheConstants.{MAX_LINE}

@@ -9,5 +9,4 @@ ghost use Rattle.remote_cell.specs.Exchanges.{Event, Exchange, IsFaithful, excha
 pub fn exchange_law()
     ensures { (items : List Item) (events : List Event)
         → IsFaithful items (exchanged items events) }
-{
-}
+{}

@@ -1,5 +1,3 @@
-use Rattle.std.proofs.Common.{◌≤◌}
-use Rattle.remote_cell.specs.declared.turns.TheConstants.{MAX_TURNS}
 use Rattle.remote_cell.specs.Told.{port, site}
 use Rattle.remote_cell.proofs.Turning.{Going}
 use Rattle.remote_cell.proofs.turns.next_item.Given as goal

@@ -1,4 +1,4 @@
-use Rattle.std.proofs.Common.{◌≡◌, true, ap}
+use Rattle.std.proofs.Common.{ap}
 use Rattle.remote_cell.specs.declared.reading.LineEnd.TheVariants.{Whole, TooLong}
 use Rattle.remote_cell.specs.Told.{port, site}
 use Rattle.remote_cell.proofs.Knowing.{leaving}
