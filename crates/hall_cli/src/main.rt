@@ -45,8 +45,8 @@ fn words(rt: &(impl Env + AllocGlobal)) -> Vec<String> {
     kept.unwrap_or(Vec::new(rt.alloc()))
 }
 
-// Does what the words say over a disk, with these lanes and doors: the call of `hall`, whose contract
-// says what that does. The exit status is that of the call.
+// Does what the words say over a disk, with these lanes and doors: the call of `hall`, whose
+// contract says what that does. The exit status is that of the call.
 fn run<
     S: Source,
     K: Sink,
