@@ -2,12 +2,12 @@
 //! and the words of the command line.
 #![tactic(auto)]
 
-ghost use Rattle.std.specs.Prelude.{◌≡◌, ◌↔◌, ◌≤◌, false, None, length, IfOk};
+ghost use Rattle.std.specs.Prelude.{◌≡◌, ◌↔◌, ◌≤◌, [], false, None, length, IfOk};
 ghost use Rattle.std.specs.Process.{exit_status};
 ghost use Rattle.hall_limits.specs.declared.TheConstants.{MAX_LANE, MAX_DOOR};
 ghost use Rattle.command_line.specs.Words.{bytes_of, wanted_of};
 ghost use Rattle.text_streams.specs.Streams.{output_at};
-ghost use Rattle.hall_top.specs.Endings.{LacksMemory};
+ghost use Rattle.hall_top.specs.Endings.{LacksMemory, SaysLast};
 
 use book_snapshot::ROW_BYTES;
 use command_line::{Wants, WantsError, wants};
@@ -45,8 +45,8 @@ fn words(rt: &(impl Env + AllocGlobal)) -> Result<Vec<String>, AllocError> {
     }
 }
 
-// Does what the words say over a disk, with these lanes and doors: the call of `hall`, whose contract
-// says what that does. The exit status is that of the call.
+// Does what the words say over a disk, with these lanes and doors: the call of `hall`, whose
+// contract says what that does. The exit status is that of the call.
 fn run<
     S: Source,
     K: Sink,
@@ -138,15 +138,22 @@ fn open_doors<R: AllocGlobal + Eprint + Net<Listener = TcpListener, Stream = Tcp
     Ok(doors)
 }
 
-// The end of a call for which there is no memory: its last line and its status.
+// The end of a call that opens no book, no lane and no door: its last line and its status.
+fn end_unopened<K: Sink>(alloc: Global, ending: Ending, output: &mut K) -> ExitCode
+    ensures { SaysLast ending (record { ends = []; unsaid = [] }) [] (output_at K.Sink output.old)
+        (output_at K.Sink output.new) (exit_status result) }
+{
+    let lanes = LaneEnds::new(Vec::new(alloc));
+    let doors = DoorEnds::new(Vec::new(alloc));
+    ExitCode::from(say_last(ending, b"", lanes.as_slice(), doors.as_slice(), output))
+}
+
+// The end of a call for which there is no memory.
 fn end_without_memory<K: Sink>(alloc: Global, output: &mut K) -> ExitCode
     ensures { LacksMemory (output_at K.Sink output.old) (output_at K.Sink output.new)
         (exit_status result) }
 {
-    let ending = Ending::Unopened(MountError::NoMemory);
-    let lanes = LaneEnds::new(Vec::new(alloc));
-    let doors = DoorEnds::new(Vec::new(alloc));
-    ExitCode::from(say_last(ending, b"", lanes.as_slice(), doors.as_slice(), output))
+    end_unopened(alloc, Ending::Unopened(MountError::NoMemory), output)
 }
 
 // Does what the words ask for, over the file of the book or one in memory, with these lanes and
@@ -193,12 +200,7 @@ fn main(rt: HostRuntime) -> ExitCode {
     let wanted = match wants(alloc, &words) {
         Ok(wanted) => wanted,
         Err(WantsError::NoMemory) => return end_without_memory(alloc, &mut output),
-        Err(WantsError::Usage) => {
-            let disk = QuietDisk::new(Vec::new(alloc));
-            let lanes: Vec<FileLane<HostRuntime>> = Vec::new(alloc);
-            let doors: Vec<TcpDoor> = Vec::new(alloc);
-            return run(&rt, &words, &mut input, &mut output, disk, lanes, doors);
-        }
+        Err(WantsError::Usage) => return end_unopened(alloc, Ending::Usage, &mut output),
     };
     let Ok(lanes) = open_lanes(&rt, &wanted) else {
         return end_without_memory(alloc, &mut output);

@@ -50,7 +50,7 @@ abbrev pub call_between : {S K L : Type 0} → source.Ghosts S → sink.Ghosts K
     → gate.Ghosts L → S → S → K → K → List L → List L → LogView → List Entry → Call S
 call_between reads writes weighs lifts input input_now output output_now lanes lanes_now log rows =
     call reads input input_now (outside_at writes weighs lifts output lanes nothing_told)
-        (outside_at writes weighs lifts output_now lanes_now log) rows
+    (outside_at writes weighs lifts output_now lanes_now log) rows
 
 -- nothing was read or written, no lane was worked, and there are no rows
 pub record NothingDone {S : Type 0} (call : Call S) : Type 0 where

@@ -175,7 +175,7 @@ SaysLast ending log doors before now status =
     ⊎ (IsCutIn before now [] (last_text ending log doors)
     × (status ≡ min (last_status ending log doors) (status_of_stop WriteFault)))
 
--- there was no memory for the call, and nothing was told of its lanes: its last line, and its status
+-- there was no memory for the call, and nothing was told of its lanes: its last line and its status
 abbrev pub LacksMemory : Stream → Stream → ℕ → Type 0
 LacksMemory before now status =
     SaysLast (Unopened mount.NoMemory) (record { ends = []; unsaid = [] }) [] before now status

@@ -108,8 +108,8 @@ pub record IsServed {D L O : Type 0} (disk : disk.Ghosts D) (lane_at : Known →
   pub done : ended.status ≡ 0
       → (stop ≡ Ran Finished) × AllEndDone ended.lane_ends ended.door_ends
 
--- A call of `serve` between these devices: it served over the book; or the disk wasn't opened as one,
--- and the doors are as they were.
+-- A call of `serve` between these devices: it served over the book; or the disk wasn't opened as
+-- one, and the doors are as they were.
 unfoldable pub EndsServe : {S K D L O : Type 0} → source.Ghosts S → sink.Ghosts K → disk.Ghosts D
     → cell.Ghosts L → gate.Ghosts L → source.Ghosts O → (O → Option Connections) → ℕ
     → S → S → K → K → D → Vec L Global → Vec O Global → Ended D L O → Type 0
@@ -117,8 +117,8 @@ EndsServe reads writes disk weighs lifts hears connections limit input input_now
     before given_lanes given_doors ended =
     IsServed disk (lane_site weighs lifts) (door_site hears connections) limit before
     (moment (input_at reads input) (output_at writes output) (disk.faults before)
-    (handed_in given_lanes.items given_doors.items)) (input_at reads input_now) (output_at writes output_now)
-    ended
+    (handed_in given_lanes.items given_doors.items)) (input_at reads input_now)
+    (output_at writes output_now) ended
     ⊎ (Leaves reads writes weighs lifts input input_now output output_now given_lanes.items
     (IsUnopened disk before) ended × (ended.doors ≡ given_doors))
 

@@ -45,8 +45,8 @@ pub record HasEnded {D N L O A B : Type 0} (disk : disk.Ghosts D) (session : ses
     pub goes_on : (held : List Entry) (start : D) (first : Store D) → Begins disk session first
         → RestsOnDisk disk first → KeepsRun disk held start first → KeepsRun disk held start store
 
--- The same as it is told without those names: what the jobs come to where they ran, and what is kept
--- whether they ran or not.
+-- The same as it is told without those names: what the jobs come to where they ran, and what is
+-- kept whether they ran or not.
 pub record EndsSession {D L O : Type 0} (disk : disk.Ghosts D) (lane_at : Known → L → lanes.Site)
     (door_at : Known → O → doors.Site) (store : Store D) (jobs : Vec (Work L O) Global)
     (end : JobsEnd D L O) : Type 0 where

@@ -72,7 +72,11 @@ fn fill<L, O, A: Ledger, B: Ledger>(
     ensures empty { (result.works.items ≡ []) × (result.ends.items ≡ []) }
     ensures room { HasRoomFor (vec_len result.jobs) result }
 {
-    let Crew { jobs, works: done, ends } = room;
+    let Crew {
+        jobs,
+        works: done,
+        ends,
+    } = room;
     Crew {
         jobs: employ(works, turn, seat, jobs),
         works: done,
