@@ -1,5 +1,7 @@
 use book_words::{Act, Ask, Name, Question, Unit, Want};
-use office_wire::{Bad, Frame, Framed, MAX_HEAD, MAX_HEADERS, OfficeAsk, Routes, frame, frame_with};
+use office_wire::{
+    Bad, Frame, Framed, MAX_HEAD, MAX_HEADERS, OfficeAsk, Routes, frame, frame_with,
+};
 use std::alloc::{AllocError, Global};
 use std::fmt;
 use std::test::Fail;

@@ -122,8 +122,10 @@ fn wrong_method(routes: &Routes, alloc: Global) -> Result<Option<&'static [u8]>,
 fn is_not_taken(routes: &Routes, alloc: Global, method: &[u8]) -> Result<bool, AllocError> {
     let act = asked(routes, alloc, method, b"/acts")?;
     let question = asked(routes, alloc, method, b"/summary")?;
-    Ok(act == Some(OfficeAsk::Bad(Bad::Method { post: true }))
-        && question == Some(OfficeAsk::Bad(Bad::Method { post: false })))
+    Ok(
+        act == Some(OfficeAsk::Bad(Bad::Method { post: true }))
+            && question == Some(OfficeAsk::Bad(Bad::Method { post: false })),
+    )
 }
 
 #[test]

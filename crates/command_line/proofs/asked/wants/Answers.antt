@@ -7,11 +7,12 @@ use Rattle.command_line.proofs.GivenValues.{asks_read, not_faulty, values_none}
 use Rattle.command_line.proofs.asked.wants.Goals as goal
 
 pub returns-in_default-values_in-clause-err : goal.returns-in_default-values_in-clause-err
-returns-in_default-values_in-clause-err c =
-    (λ usage. c.in-Some.ensures.0 ∙ values_none c.in-Some.command
-    (items_in (form_of c.in-Some.command) (map string_bytes c.in-Some.rest.now))
-    (first_value (found_of c.in-Ok.matches)) c.in-Ok.ensures (sym c.in_default-values_in.ensures),
-    λ none. refl)
+returns-in_default-values_in-clause-err c = (
+  λ usage. c.in-Some.ensures.0 ∙ values_none c.in-Some.command
+      (items_in (form_of c.in-Some.command) (map string_bytes c.in-Some.rest.now))
+      (first_value (found_of c.in-Ok.matches)) c.in-Ok.ensures (sym c.in_default-values_in.ensures),
+  λ none. refl,
+)
 
 pub returns-in_default-copied-clause-err : goal.returns-in_default-copied-clause-err
 returns-in_default-copied-clause-err c = not_faulty _ c.in-Some.command
