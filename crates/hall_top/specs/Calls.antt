@@ -26,7 +26,8 @@ use Rattle.store_runs.specs.declared.stop.Stop.TheVariants.{Finished, WriteFault
 use Rattle.store_runs.specs.Books.{BookState, stored_book}
 use Rattle.store_runs.specs.Runs.{HasGrown, CountsStop, SparesDisk, RunGoes}
 use Rattle.store_runs.specs.Stops.{stop_row}
-use Rattle.script_run.specs.Outside.{LogView, Outside, Devices, Call, call, outside_at, nothing_told, all_said}
+use Rattle.script_run.specs.Outside.{Outside, Devices, Call, call, all_said}
+pub use Rattle.script_run.specs.Outside.{call_between}
 use Rattle.script_run.specs.Runs.{ExplainsRun}
 use Rattle.book_migration.specs.Migration.{InputMoment, ExplainsMigration}
 use Rattle.store_runs.specs.Calls.{Call as StreamCall}
@@ -43,14 +44,6 @@ use Rattle.command_line.specs.Words.{Wanted}
 use Rattle.command_line.specs.declared.types.Command.{Command}
 use Rattle.command_line.specs.declared.types.Command.TheVariants.{Run, Serve, Report, Export, Check}
 use Rattle.command_line.specs.declared.types.Command.TheVariants.{Import, Trial, Migrate}
-
--- a call that began with nothing told of lanes: its input, its output and its lanes before it and
--- after it, what is then told of lanes, and the rows that it leaves
-abbrev pub call_between : {S K L : Type 0} → source.Ghosts S → sink.Ghosts K → cell.Ghosts L
-    → gate.Ghosts L → S → S → K → K → List L → List L → LogView → List Entry → Call S
-call_between reads writes weighs lifts input input_now output output_now lanes lanes_now log rows =
-    call reads input input_now (outside_at writes weighs lifts output lanes nothing_told)
-    (outside_at writes weighs lifts output_now lanes_now log) rows
 
 -- nothing was read or written, no lane was worked, and there are no rows
 pub record NothingDone {S : Type 0} (call : Call S) : Type 0 where
