@@ -1,0 +1,41 @@
+use disk_core::ListDoor;
+use lane_worker::{Cell, CellNext};
+use remote_cell::RemoteCell;
+use std::alloc::{AllocError, Global};
+
+/// A cell over a door in memory.
+pub(crate) type TestCell = RemoteCell<ListDoor>;
+
+/// A cell to whose door connections with these bytes come, of which these calls fail.
+pub(crate) fn cell_of(
+    alloc: Global,
+    connections: &[&[u8]],
+    fails: &[u32],
+) -> Result<TestCell, AllocError> {
+    let mut all = Vec::new(alloc);
+    for bytes in connections {
+        all.push(Vec::from_slice(alloc, bytes)?)?;
+    }
+    let fails = Vec::from_slice(alloc, fails)?;
+    Ok(RemoteCell::new(ListDoor::new(alloc, all, fails)))
+}
+
+/// Whether a cell gives these items next, one after another.
+pub(crate) fn gives(cell: &mut TestCell, items: &[CellNext]) -> bool {
+    for item in items {
+        if cell.next() != Ok(*item) {
+            return false;
+        }
+    }
+    true
+}
+
+/// Whether these bytes were written to the connections that a door served, one after another.
+pub(crate) fn was_written(door: &ListDoor, written: &[&[u8]]) -> bool {
+    for (place, bytes) in written.iter().enumerate() {
+        if door.written(place) != Some(*bytes) {
+            return false;
+        }
+    }
+    door.written(written.len()).is_none()
+}

@@ -1,0 +1,76 @@
+use crate::cells::{TestCell, cell_of, gives};
+use disk_core::Failed;
+use lane_worker::{Cell, CellNext};
+use std::alloc::Global;
+use std::test::Fail;
+
+// What a scale says in a session, and what it sends.
+const SESSION: &[u8] = b"1 251\n2 260.5\n3 end\n";
+const SENT: [CellNext; 3] = [
+    CellNext::Gross(251_000),
+    CellNext::Gross(260_500),
+    CellNext::End,
+];
+
+// The calls of the door in one whole session: it is admitted, each byte is read, and each of its
+// lines is acknowledged.
+const CALLS: u32 = 1 + 20 + 3;
+
+// The first place at which a session doesn't give all that was sent where its first connection is
+// cut there, and the scale begins again.
+fn first_wrong_cut(alloc: Global) -> Option<usize> {
+    for cut in 0..SESSION.len() {
+        let (begun, _) = SESSION.split_at(cut);
+        let Ok(mut cell) = cell_of(alloc, &[begun, SESSION], &[]) else {
+            return Some(cut);
+        };
+        if !gives(&mut cell, &SENT) {
+            return Some(cut);
+        }
+    }
+    None
+}
+
+// How often a cell fails before it gives all that was sent, if it does.
+fn fails_before(cell: &mut TestCell) -> Option<u32> {
+    let mut failed: u32 = 0;
+    for item in &SENT {
+        let mut given = cell.next();
+        if given == Err(Failed) {
+            failed = failed.saturating_add(1);
+            given = cell.next();
+        }
+        if given != Ok(*item) {
+            return None;
+        }
+    }
+    Some(failed)
+}
+
+// The first call of the door that doesn't come out right where it fails, over a session of which
+// its scale begins anew: only where the first connection can't be admitted does the cell fail.
+fn first_wrong_call(alloc: Global) -> Option<u32> {
+    for call in 1..CALLS + 1 {
+        let Ok(mut cell) = cell_of(alloc, &[SESSION, SESSION], &[call]) else {
+            return Some(call);
+        };
+        if fails_before(&mut cell) != Some(u32::from(call == 1)) {
+            return Some(call);
+        }
+    }
+    None
+}
+
+// Whether a second connection that can't be admitted is admitted at the next call.
+fn is_admitted_again(alloc: Global) -> Option<bool> {
+    let mut cell = cell_of(alloc, &[b"1 25", SESSION], &[7]).ok()?;
+    Some(cell.next() == Err(Failed) && gives(&mut cell, &SENT))
+}
+
+#[test]
+fn sessions_go_on(rt: HostRuntime) -> Result<(), Fail> {
+    assert_eq!(rt; first_wrong_cut(rt.alloc()), None);
+    assert_eq!(rt; first_wrong_call(rt.alloc()), None);
+    assert!(rt; is_admitted_again(rt.alloc()) == Some(true));
+    Ok(())
+}
