@@ -174,3 +174,26 @@ TellsFrameOf text rest ended told =
 -- what bytes begin with, as it may be told
 abbrev pub TellsFrame : List ℕ → Bool → Frame → Type 0
 TellsFrame bytes ended told = (frame : Frame) × IsFrame bytes ended frame × MayFrame frame told
+
+-- ---- want of memory for the routes
+
+-- what is asked may be told so with routes or without: without them, that there was no memory
+abbrev pub MayTellBy : Bool → OfficeAsk → OfficeAsk → Type 0
+MayTellBy routed meant told = MayTell meant told ⊎ ((routed ≡ false) × (told ≡ asked.NoMemory))
+
+-- a frame may be told so with routes or without
+abbrev pub MayFrameBy : Bool → Frame → Frame → Type 0
+MayFrameBy routed (Whole framed) told =
+    (what : OfficeAsk) × MayTellBy routed framed.what what
+    × (told ≡ Whole (record framed { what = what }))
+MayFrameBy routed frame told = told ≡ frame
+
+-- a head text and the bytes behind it, as they may be told with routes or without
+abbrev pub TellsFrameOfBy : Bool → List ℕ → List ℕ → Bool → Frame → Type 0
+TellsFrameOfBy routed text rest ended told =
+    (frame : Frame) × IsFrameOf text rest ended frame × MayFrameBy routed frame told
+
+-- what bytes begin with, as it may be told with routes or without
+abbrev pub TellsFrameBy : Bool → List ℕ → Bool → Frame → Type 0
+TellsFrameBy routed bytes ended told =
+    (frame : Frame) × IsFrame bytes ended frame × MayFrameBy routed frame told

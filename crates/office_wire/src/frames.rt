@@ -1,7 +1,8 @@
-ghost use Rattle.std.specs.Prelude.{◌≡◌, ◌≤◌, IfOk, length, take};
+ghost use Rattle.std.specs.Prelude.{◌≡◌, ◌≤◌, false, is_some, length, take};
 ghost use Rattle.httparse.specs.Grammar.{RequestHead};
-ghost use Rattle.office_wire.specs.Frames.{frame_at_end, frame_by_size, frame_without_head, last_fault, part_of_body, whole_request, MayFrame, TellsFrame, TellsFrameOf};
+ghost use Rattle.office_wire.specs.Frames.{frame_at_end, frame_by_size, frame_without_head, last_fault, part_of_body, whole_request, ask_at, MayTellBy, MayFrameBy, TellsFrame, TellsFrameBy, TellsFrameOfBy};
 ghost use Rattle.office_wire.specs.HeadParts.{Says};
+ghost use Rattle.office_wire.specs.Routes.{route_of};
 
 use crate::asks::ask_at;
 use crate::head_size::{are_newlines, head_size};
@@ -10,21 +11,31 @@ use crate::request_heads::{Said, read_head};
 use crate::routes::route_of;
 use crate::types::{Bad, Frame, Framed, OfficeAsk};
 use office_routes::Routes;
-use std::alloc::{AllocError, Global};
-
-/// What `frame_with` tells, by routes of its own. The error is want of memory for them.
-pub fn frame(alloc: Global, buffer: &[u8], ended: bool) -> Result<Frame, AllocError>
-    ensures { IfOk result (TellsFrame buffer.now ended) }
-{
-    let routes = Routes::new(alloc)?;
-    Ok(frame_with(&routes, alloc, buffer, ended))
-}
+use std::alloc::Global;
 
 /// What the bytes of a connection begin with that weren't taken yet: a request and what it asks, or
-/// its first fault of form. `ended` says that the input has no more bytes. It takes memory for the
-/// body of an act, and for a method of more than 15 bytes, which needn't be there.
+/// its first fault of form. `ended` says that the input has no more bytes. It makes the routes of
+/// the office, which take memory; where there is none, this is what is told in place of an ask.
+pub fn frame(alloc: Global, buffer: &[u8], ended: bool) -> Frame
+    ensures { TellsFrameBy false buffer.now ended result }
+{
+    match Routes::new(alloc) {
+        Ok(routes) => frame_by(Some(&routes), alloc, buffer, ended),
+        Err(_) => frame_by(None, alloc, buffer, ended),
+    }
+}
+
+/// The same with routes that are there. It takes memory for the body of an act, and for a method of
+/// more than 15 bytes, which needn't be there.
 pub fn frame_with(routes: &Routes, alloc: Global, buffer: &[u8], ended: bool) -> Frame
     ensures { TellsFrame buffer.now ended result }
+{
+    frame_by(Some(routes), alloc, buffer, ended)
+}
+
+// What bytes begin with, by the routes of the office, where there was memory for them.
+fn frame_by(routes: Option<&Routes>, alloc: Global, buffer: &[u8], ended: bool) -> Frame
+    ensures { TellsFrameBy (is_some routes.entry) buffer.now ended result }
 {
     match head_size(first_bytes(buffer)) {
         Some(size) => {
@@ -81,9 +92,9 @@ fn last_fault(taken: usize, fault: Bad) -> Frame
 }
 
 // What a head text and the bytes behind it are.
-fn frame_of(routes: &Routes, alloc: Global, text: &[u8], rest: &[u8], ended: bool) -> Frame
+fn frame_of(routes: Option<&Routes>, alloc: Global, text: &[u8], rest: &[u8], ended: bool) -> Frame
     requires { length text.now ≤ MAX_HEAD }
-    ensures { TellsFrameOf text.now rest.now ended result }
+    ensures { TellsFrameOfBy (is_some routes.entry) text.now rest.now ended result }
 {
     match read_head(text) {
         Some(said) => frame_by_size(routes, alloc, &said, text.len(), rest, ended),
@@ -93,7 +104,7 @@ fn frame_of(routes: &Routes, alloc: Global, text: &[u8], rest: &[u8], ended: boo
 
 // What a head of so many bytes and the bytes behind it are.
 fn frame_by_size(
-    routes: &Routes,
+    routes: Option<&Routes>,
     alloc: Global,
     said: &Said,
     size: usize,
@@ -102,7 +113,7 @@ fn frame_by_size(
 ) -> Frame
     requires { size ≤ MAX_HEAD }
     ensures { (head : RequestHead) → Says said.now head
-        → MayFrame (frame_by_size said.now.size head size rest.now ended) result }
+        → MayFrameBy (is_some routes.entry) (frame_by_size said.now.size head size rest.now ended) result }
 {
     match said.size {
         Err(fault) => last_fault(size, fault),
@@ -116,7 +127,7 @@ fn frame_by_size(
 
 // The request of a head of so many bytes and of its body.
 fn whole_request(
-    routes: &Routes,
+    routes: Option<&Routes>,
     alloc: Global,
     said: &Said,
     size: usize,
@@ -125,19 +136,33 @@ fn whole_request(
 ) -> Frame
     requires { size ≤ MAX_HEAD }
     ensures { (head : RequestHead) → Says said.now head
-        → MayFrame (whole_request head size given body.now) result }
+        → MayFrameBy (is_some routes.entry) (whole_request head size given body.now) result }
 {
     Frame::Whole(Framed {
         taken: size + body.len(),
-        what: ask_at(
-            alloc,
-            route_of(routes, said.target),
-            said.method,
-            given,
-            body,
-        ),
+        what: asked(routes, alloc, said, given, body),
         last: said.last,
     })
+}
+
+// What a request asks, by its head and its body.
+fn asked(
+    routes: Option<&Routes>,
+    alloc: Global,
+    said: &Said,
+    given: Option<usize>,
+    body: &[u8],
+) -> OfficeAsk
+    ensures { MayTellBy (is_some routes.entry)
+        (ask_at (route_of said.now.target.now) said.now.method.now given body.now) result }
+{
+    match routes {
+        Some(routes) => {
+            let route = route_of(routes, said.target);
+            ask_at(alloc, route, said.method, given, body)
+        }
+        None => OfficeAsk::NoMemory,
+    }
 }
 
 // A head of so many bytes, and behind it a part of its body.

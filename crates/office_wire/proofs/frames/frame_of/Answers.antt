@@ -3,5 +3,5 @@ use Rattle.office_wire.proofs.frames.frame_of.Goals as goal
 
 pub returns-in-Some : goal.returns-in-Some
 returns-in-Some c =
-    tells_head c.args.text.now c.args.rest.now c.args.ended c.frame_by_size.result c.in-Some.said
+    tells_head _ c.args.text.now c.args.rest.now c.args.ended c.frame_by_size.result c.in-Some.said
     c.in-Some.ensures.said c.frame_by_size.ensures
