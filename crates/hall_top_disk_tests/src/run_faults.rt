@@ -247,14 +247,19 @@ fn is_told_again(alloc: Global, disk: &MemoryDisk, keep: Keep, held: u32) -> boo
     output.bytes() == ACT_TOLD && (end.status, end.held) == (0, held)
 }
 
+// Whether the act fails, and is asked again over what a crash leaves: its row or not.
+fn fails_and_acts(alloc: Global) -> bool {
+    let (end, output) = ask(alloc, "run", DAY_AND_ACT, disk_of(alloc, &[], &[12]));
+    end.status == 6
+        && output.bytes() == b"1 ok\ndisk fault\n".as_slice()
+        && is_told_again(alloc, &end.disk, Keep::Earlier, 1)
+        && is_told_again(alloc, &end.disk, Keep::Written, 2)
+}
+
 // Mounting an empty disk makes four calls, the day four, and the act a write, a sync, a write and
-// the sync that fails. A crash then leaves the act's row or not.
+// the sync that fails.
 #[test]
 fn an_act_that_failed_is_asked_again(rt: HostRuntime) -> Result<(), Fail> {
-    let alloc = rt.alloc();
-    let (end, output) = ask(alloc, "run", DAY_AND_ACT, disk_of(alloc, &[], &[12]));
-    assert!(rt; end.status == 6 && output.bytes() == b"1 ok\ndisk fault\n".as_slice());
-    assert!(rt; is_told_again(alloc, &end.disk, Keep::Earlier, 1));
-    assert!(rt; is_told_again(alloc, &end.disk, Keep::Written, 2));
+    assert!(rt; fails_and_acts(rt.alloc()));
     Ok(())
 }

@@ -81,8 +81,12 @@ fn count_made(fails: &[u32], calls: u32) -> usize {
 fn faults_seen(offered: &Offered, rows: &[Entry], ended: &MemoryEnd) -> Option<usize> {
     let lane = ended.lanes.first()?;
     let weighed = number_of(rows, &offered.lane[2]);
-    let opened = lane.gate.opened();
-    if opened.len() > 1 || opened.first().map(|pack| *pack as usize) != weighed {
+    let opened = match lane.gate.opened() {
+        [] => None,
+        [pack] => Some(*pack as usize),
+        _ => return None,
+    };
+    if opened != weighed {
         return None;
     }
     let written = str::from_utf8(ended.doors.first()?.written(0)?).ok()?;

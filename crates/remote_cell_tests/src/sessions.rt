@@ -6,6 +6,7 @@ use std::test::Fail;
 
 // What a scale says in a session, and what it sends.
 const SESSION: &[u8] = b"1 251\n2 260.5\n3 end\n";
+
 const SENT: [CellNext; 3] = [
     CellNext::Gross(251_000),
     CellNext::Gross(260_500),

@@ -71,8 +71,10 @@ const ROWS: &[Row] = &[
     },
     // 64 bytes are a line that says nothing, and 65 are none; 20 digits are a number.
     Row {
-        connections: &[b"00000000000000000001 251\n\
-            1234567890123456789012345678901234567890123456789012345678901234\n"],
+        connections: &[
+            b"00000000000000000001 251\n\
+            1234567890123456789012345678901234567890123456789012345678901234\n",
+        ],
         items: &[CellNext::Gross(251_000), CellNext::Bad { line: 2 }],
         written: &[b"ack 1\n"],
     },
