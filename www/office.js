@@ -1,0 +1,153 @@
+// Asks the office its questions, and reads the texts that it answers.
+
+import { readMass } from "./grams.js";
+
+// Milliseconds that an answer is waited for: longer than the front itself waits for a door.
+export const PATIENCE = 20_000;
+// Questions of this page that are under way at once, so that it never takes all doors.
+const AT_ONCE = 2;
+const PACK_UNKNOWN = 24;
+
+// No answer came, or one that isn't the office's: what was asked may be asked again.
+export class Missing extends Error {}
+
+let free = AT_ONCE;
+const waiting = [];
+
+async function enter() {
+  if (free > 0) free -= 1;
+  else await new Promise((go) => waiting.push(go));
+}
+
+function leave() {
+  const next = waiting.shift();
+  if (next) next();
+  else free += 1;
+}
+
+export async function reach(path, options = {}) {
+  const limits = { cache: "no-store", redirect: "error", signal: AbortSignal.timeout(PATIENCE) };
+  try {
+    // without the name and password that the address of the page may have
+    const address = new URL(path, location.origin + location.pathname);
+    const response = await fetch(address, { ...limits, ...options });
+    const text = await response.text();
+    return { status: response.status, row: Number(response.headers.get("Book-Row")), text };
+  } catch (fault) {
+    throw new Missing(fault.name);
+  }
+}
+
+// The answer to a question: `text`, or `refused` with its number, name and what is kept.
+export async function ask(path) {
+  await enter();
+  try {
+    const answer = await reach(`hall/${path}`);
+    if (answer.status === 409) return { ...answer, ...JSON.parse(answer.text) };
+    if (answer.status !== 200) throw new Missing(String(answer.status));
+    return answer;
+  } finally {
+    leave();
+  }
+}
+
+const linesOf = (text) => text.split("\n").filter((line) => line);
+
+export async function summary() {
+  const answer = await ask("summary");
+  const told = { rows: answer.row, piles: [], states: [] };
+  for (const line of linesOf(answer.text)) {
+    const [word, ...rest] = line.split(" ");
+    if (word === "batches") {
+      for (let at = 0; at < rest.length; at += 2) told.states.push([rest[at], Number(rest[at + 1])]);
+    } else if (word !== "rows") {
+      told.piles.push({ word, count: Number(rest[0]), gross: readMass(rest[2]) });
+    }
+  }
+  return told;
+}
+
+export async function lane(number) {
+  const { refused, text } = await ask(`lanes/${number}`);
+  const words = refused ? [] : text.trim().split(" ");
+  return { number, batch: words[2] === "batch" ? words[3] : null, unsettled: words[5] ?? null };
+}
+
+// A pack, or null where the row of this number is none.
+export async function pack(number) {
+  const answer = await ask(`packs/${number}`);
+  if (answer.refused === PACK_UNKNOWN) return null;
+  const words = answer.text.trim().split(" ");
+  return {
+    number, batch: words[3], lane: Number(words[5]), gross: readMass(words[7]),
+    net: readMass(words[9]), class: words[10], signal: words.slice(11, -1).join(" "),
+    pile: words.at(-1), text: answer.text.trim(),
+  };
+}
+
+// The drawn packs in drawing order; none where nothing was drawn.
+export async function sample(batch) {
+  const answer = await ask(`batches/${batch}/sample`);
+  if (answer.refused) return { first: [], second: [] };
+  const words = answer.text.trim().split(" ").slice(3);
+  const cut = words.indexOf("second");
+  const numbers = (list) => list.map(Number);
+  if (cut < 0) return { first: numbers(words), second: [] };
+  return { first: numbers(words.slice(0, cut)), second: numbers(words.slice(cut + 1)) };
+}
+
+// The first line of a sheet. Limits are masses: those of goods by volume are taken at the density.
+function readGoods(words, told) {
+  told.product = words[3];
+  const unit = words[6] === "ml" ? 1 : 0;
+  const density = unit ? readMass(words[11]) / 1_000_000 : 1;
+  told.spelled = words.slice(4).join(" ");
+  told.nominal = readMass(words[5]) * density;
+  told.error = readMass(words[7 + unit]) * density;
+}
+
+function readTest(words, told) {
+  const at = words.indexOf("first") < 0 ? words.indexOf("second") : words.indexOf("first");
+  const [count, measured, defective] = [at + 1, at + 3, at + 5].map((place) => Number(words[place]));
+  if (words[0] === "test") told.mode = words[1];
+  told[words[at]] = { count, measured, defective };
+}
+
+// The sheet of a batch, or the refusal where there is no such batch.
+export async function sheet(batch) {
+  const answer = await ask(`batches/${batch}`);
+  if (answer.refused) return answer;
+  const told = { batch, rows: answer.row, text: answer.text, piles: {}, verdict: null };
+  for (const line of linesOf(answer.text)) {
+    const words = line.split(" ");
+    if (words[0] === "batch") readGoods(words, told);
+    else if (words[0] === "state") told.state = words[1];
+    else if (words[0] === "held") told.held = words[1] === "yes";
+    else if (words[0] === "test" || words[0] === "second") readTest(words, told);
+    else if (words[0] === "verdict") told.verdict = words.slice(1).join(" ");
+    else if (words[0] === "population") readPopulation(words, told);
+    else told.piles[words[0]] = Number(words[1]);
+  }
+  return told;
+}
+
+function readPopulation(words, told) {
+  told.population = Number(words[1]);
+  told.net = readMass(words[3]);
+  told.nonstandard = Number(words[5]);
+  told.inadequate = Number(words[7]);
+}
+
+// The newest day, products and batches of a text of `hall list`, where the front serves one.
+export async function list() {
+  const told = { day: null, products: [], batches: [], text: "" };
+  const answer = await reach("list.txt").catch(() => null);
+  if (answer?.status !== 200) return told;
+  told.text = answer.text;
+  for (const [word, name] of linesOf(answer.text).map((line) => line.split(" "))) {
+    if (word === "day") told.day = name;
+    if (word === "product") told.products.push(name);
+    if (word === "batch") told.batches.push(name);
+  }
+  return told;
+}
