@@ -11,6 +11,7 @@ import socket
 import subprocess
 import threading
 import time
+from urllib.parse import quote
 
 from selenium import webdriver
 from selenium.webdriver.chrome.service import Service
@@ -91,7 +92,7 @@ class Browser:
         environment = os.environ | {"LANGUAGE": language}
         self.driver = webdriver.Chrome(service=Service("/usr/bin/chromedriver", env=environment),
                                        options=options)
-        self.driver.get(f"https://{person}:{password}@{NAME}/icon.svg")
+        self.driver.get(f"https://{person}:{quote(password)}@{NAME}/icon.svg")
         self.open("board")
 
     def open(self, page):
@@ -116,7 +117,7 @@ class Browser:
     def wait_text(self, selector, part, seconds=PATIENCE):
         """Waits until an element has a text, and says all of its text."""
         wait_until(lambda: part in self.text(selector),
-                   f"{part!r} in {selector}, which has {self.text(selector)!r}", seconds)
+                   lambda: f"{part!r} in {selector}, which has {self.text(selector)!r}", seconds)
         return self.text(selector)
 
     def choose_desk(self, desk):
@@ -125,16 +126,19 @@ class Browser:
         choice.send_keys(str(desk))
         need(choice.get_attribute("value") == str(desk), f"desk {desk} isn't chosen by its keys")
 
-    def act(self, name, twice=False, **values):
+    def act(self, kind, twice=False, **values):
         """Fills the form of an act and enters it; says what is told."""
-        form = f"#act-{name}"
+        form = f"#act-{kind}"
+        wait_until(lambda: self.run("return document.querySelector(arguments[0])", form),
+                   f"the form {form}")
         if not self.run("return document.querySelector(arguments[0]).parentElement.open", form):
             self.run("for (const one of document.querySelectorAll('details')) one.open = false")
-            self.driver.find_element(By.XPATH, f"//form[@id='act-{name}']/../summary").click()
+            self.driver.find_element(By.XPATH, f"//form[@id='act-{kind}']/../summary").click()
         for field, value in values.items():
             self.fill(f"{form} [name={field}]", value)
         self.run("document.querySelector(arguments[0]).textContent = ''", f"{form} output")
-        last = self.find(f"{form} [name={field}]")
+        # in a choice Enter would open its list
+        last = self.find(f"{form} input[name={[name for name in values if name != 'mode'][-1]}]")
         last.send_keys(Keys.ENTER)
         if twice:
             self.wait_text(f"{form} output", "again")
@@ -170,7 +174,7 @@ class Browser:
 
     def complaints(self):
         """What the browser holds against the page, apart from answers that didn't come."""
-        expected = ("status of 4", "status of 5", "net::ERR", "favicon")
+        expected = ("status of 4", "status of 5", "net::ERR", "chrome://")
         return [entry["message"] for entry in self.driver.get_log("browser")
                 if not any(part in entry["message"] for part in expected)]
 

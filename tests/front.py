@@ -299,7 +299,7 @@ def main():
     check_ports(front)
     rows = Person(front, "wall").send("GET", "/hall/summary").fields["book-row"]
     check_stopped_hall(front, hall)
-    again = make_hall(program, f"{folder}/hall", SETUP, [], book)
+    again = make_hall(program, f"{folder}/hall", "", [], book)
     wait_until(lambda: Person(front, "wall").send("GET", "/hall/summary").status == 200, "again")
     front.stop()
     again.kill()

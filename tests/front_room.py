@@ -12,7 +12,7 @@ import shutil
 import subprocess
 import time
 
-from clients import Hall, need, plan
+from clients import Hall, Wrong, plan
 
 TOP = os.path.dirname(os.path.dirname(os.path.abspath(__file__)))
 NAME = "hall.example"
@@ -27,10 +27,11 @@ def run(*words, **options):
 
 
 def wait_until(holds, said, seconds=20):
-    """Waits until something holds, and says what didn't where it doesn't in time."""
+    """Waits until something holds. What is said of it, where it doesn't in time, may be a function."""
     end = time.monotonic() + seconds
     while not (found := holds()):
-        need(time.monotonic() < end, f"not within {seconds} s: {said}")
+        if time.monotonic() > end:
+            raise Wrong(f"not within {seconds} s: {said() if callable(said) else said}")
         time.sleep(0.05)
     return found
 

@@ -133,7 +133,7 @@ def check_lane(program, room):
             os.remove(device)
             os.close(line)
             os.close(scale)
-        need(not hall.ended(), "the lane outlives its scale")
+        need(not hall.ended(), f"the lane outlives its scale: {hall.said()}")
     finally:
         for process in (lane, gate):
             os.killpg(process.pid, 15)

@@ -34,10 +34,13 @@ class Day:
         self.front = Front(PEOPLE)
         self.front.start()
         self.lanes = []
+        self.browsers = []
         self.hall = make_hall(program, f"{room}/hall", "", [], self.book)
 
     def browser(self, person, **options):
-        return Browser(self.room, person, self.front.passwords[person], **options)
+        browser = Browser(self.room, person, self.front.passwords[person], **options)
+        self.browsers.append(browser)
+        return browser
 
     def rows(self):
         return rows_behind(self.book, 0)
@@ -51,12 +54,13 @@ class Day:
             lane.start()
 
 
-def slowly(grosses, seconds, until):
-    """Packs one by one. Before the last the lane waits until an event."""
-    for gross in grosses[:-1]:
-        yield [gross]
-        time.sleep(seconds)
-    until.wait(300)
+def slowly(grosses, at_once, until=None):
+    """Twenty pieces a second of so many packs. Before the last pack the lane waits for an event."""
+    for place in range(0, len(grosses) - 1, at_once):
+        yield grosses[place:min(place + at_once, len(grosses) - 1)]
+        time.sleep(0.05)
+    if until:
+        until.wait(300)
     yield grosses[-1:]
 
 
@@ -154,7 +158,6 @@ def another_machine(day):
          "a page on another machine took the next number")
     other.told(other.act("open", batch="NOON", product="rice250"), "Eine Charge heißt schon so")
     other.told(other.act("open", batch="X", product="none"), "Keine Ware heißt so")
-    return other
 
 
 def not_theirs(day, ben):
@@ -168,13 +171,12 @@ def not_theirs(day, ben):
 
 
 def grosses(draw, count):
-    """Packs of 250 g in bags of 10 g; some lack something, and one is inadequate."""
-    packs = [round(draw.gauss(262_000, 1_700)) for _ in range(count)]
+    """Packs of 250 g in bags of 10 g. Three lack something, the second of them too soon behind the
+    first for the allowance; one is inadequate."""
+    packs = [max(round(draw.gauss(262_000, 1_700)), 256_000) for _ in range(count)]
+    packs[10] = packs[15] = packs[70] = 250_400
     packs[20] = 241_900
-    for place in (50, 95):
-        packs[place] = 250_400
-    packs[70] = 250_300
-    return [max(pack, 250_000) if place != 20 else pack for place, pack in enumerate(packs)]
+    return packs
 
 
 def weigh(day, anna, wall):
@@ -182,10 +184,9 @@ def weigh(day, anna, wall):
     last = threading.Event()
     morning = grosses(day.draw, 110)
     noon = [round(day.draw.gauss(261_500, 2_500)) for _ in range(1_000)]
-    day.weigh(["MORNING", "NOON"], [slowly(morning, 0.05, last),
-                                    [noon[at:at + 100] for at in range(0, 1_000, 100)]])
+    day.weigh(["MORNING", "NOON"], [slowly(morning, 1, last), slowly(noon, 10)])
     wall.open("board")
-    wall.wait_text("#board", "reject inadequate", 60)
+    wall.wait_text("#board", "✗ reject inadequate")
     wait_until(lambda: weighed(day.rows(), 1) == 109 and weighed(day.rows(), 2) == 1_000,
                "109 and 1 000 packs", 120)
     form = anna.act("end", batch="MORNING", twice=True)
@@ -343,7 +344,7 @@ def compare_report(day, shown, batch):
         "Packs that count": str(population), "Mean net": f"{grams(net / population)} g",
         "Above nominal, in all": f"{grams(above)} g",
         "Above nominal, a pack": f"{grams(above / population)} g",
-        "Non-standard, of allowed (1 in 40)": f"{told['population'][5]} of {population // 40}",
+        "Non-standard, of allowed": f"{told['population'][5]} of {population // 40}",
         "inadequate": told["population"][7], "State": told["state"][1],
     }
     for name, value in expected.items():
@@ -378,7 +379,7 @@ def compare_book(day, browsers):
     print(f"screen: {told} acts that pages were told are rows of the book", flush=True)
 
 
-def end_day(day, anna, browsers):
+def end_day(day, anna):
     """The hall ends; its book is whole, and says what the pages say."""
     shown = {batch: numbers_of_page(anna, batch) for batch in ("MORNING", "NOON")}
     day.hall.kill()
@@ -386,8 +387,8 @@ def end_day(day, anna, browsers):
     need(said == f"rows {len(day.rows())} whole\n", said)
     for batch, numbers in shown.items():
         compare_report(day, numbers, batch)
-    compare_book(day, browsers)
-    for browser in browsers:
+    compare_book(day, day.browsers)
+    for browser in day.browsers:
         complaints = browser.complaints()
         need(not complaints, f"the browser complains: {complaints}")
         browser.close()
@@ -395,16 +396,32 @@ def end_day(day, anna, browsers):
     print(f"screen: the report and the pages say the same; {said.strip()}", flush=True)
 
 
+def show_fault(day):
+    """What the browsers show and say where something isn't as it has to be."""
+    print(f"{len(day.rows())} rows; the hall said {day.hall.said()}", file=sys.stderr)
+    for place, browser in enumerate(day.browsers):
+        browser.picture(f"{day.pictures}/fault_{place}.png")
+        print(f"browser {place}: {browser.text('#age')}; {browser.complaints()}", file=sys.stderr)
+
+
 def main():
     mount_room()
     day = Day(*sys.argv[1:])
+    try:
+        work(day)
+    except Exception:
+        show_fault(day)
+        raise
+
+
+def work(day):
     anna = day.browser("anna")
     check_sizes(anna)
     check_labels(anna)
     prepare(anna)
     lose_an_answer(day, anna)
     lose_a_request(day, anna)
-    other = another_machine(day)
+    another_machine(day)
     ben, wall = day.browser("ben"), day.browser("wall", size="1920,1080")
     not_theirs(day, ben)
     anna.choose_desk(101)
@@ -415,7 +432,7 @@ def main():
     second_and_verdict(day, anna)
     look_at_charts(day, anna)
     look_at_sheet(day, anna)
-    end_day(day, anna, [anna, ben, wall, other])
+    end_day(day, anna)
 
 
 main()

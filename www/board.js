@@ -8,7 +8,7 @@ import { say, signal, word } from "./words.js";
 import { spellGrams } from "./grams.js";
 
 const FIRST_ROWS = 60;
-const MOST_ROWS = 200;
+const MOST_ROWS = 1_000;
 const LAST_PACKS = 6;
 const MOST_BATCHES = 8;
 const MINUTE = 60_000;
@@ -33,6 +33,7 @@ function takePacks(packs, isFirst) {
     const lane = lanes.get(pack.lane) ?? { batch: pack.batch, packs: [], times: [] };
     lanes.set(pack.lane, lane);
     lane.packs = [pack, ...lane.packs].slice(0, LAST_PACKS);
+    if (pack.signal !== "pass") lane.rejected = pack;
     if (!isFirst) lane.times.push(Date.now());
     touched.add(pack.batch);
   }
@@ -87,13 +88,18 @@ async function takeRows(rows) {
   seen = rows;
 }
 
+function lastReject(pack) {
+  const told = pack && { pack: pack.number, net: spellGrams(pack.net), signal: signal(pack.signal) };
+  return make("p", { className: "reject" }, pack ? say("lastReject", told) : "");
+}
+
 function laneCard([number, lane]) {
   lane.times = lane.times.filter((moment) => Date.now() - moment < MINUTE);
   const rows = lane.packs.map((pack) => [pack.number, spellGrams(pack.net), signal(pack.signal)]);
   const minute = say("aMinute", { count: lane.times.length });
   return make("article", { className: "lane" },
     make("h3", {}, `${say("lane", { lane: number })}: ${lane.batch ?? say("idle")}`),
-    make("p", {}, minute),
+    make("p", {}, minute), lastReject(lane.rejected),
     table(say("packs"), [say("pack"), say("net"), say("signal")], rows));
 }
 

@@ -176,6 +176,16 @@ function clear(form) {
   }
 }
 
+// What an act said, with its masses in grams.
+function spellAct({ act, members }) {
+  const spelled = members.split(",").slice(1).map((member) => {
+    const [, name, value] = /^"(\w+)":"?([^"]*)"?$/.exec(member);
+    const isMass = ["gross", "empty", "tare", "nominal"].includes(name);
+    return isMass ? `${grams.spellGrams(value)} g` : value;
+  });
+  return `${say(`act.${act}`)}: ${spelled.join(", ")}. `;
+}
+
 // What became of an act, as a sentence.
 function inWords({ found }) {
   if (found.done) {
@@ -318,6 +328,5 @@ function showPending(changed) {
   put(place.pending, head ? say(state, { request: head.request, tries }) : "");
   const lines = desk ? told(desk).slice(0, SHOWN) : [];
   place.told.replaceChildren(...lines.map((entry) => make("li", {},
-    make("strong", {}, `${entry.request} ${say(`act.${entry.act}`)} `),
-    `${entry.members.replaceAll('"', "").split(",").slice(1).join(" ")}: ${inWords(entry)}`)));
+    `${entry.request} ${spellAct(entry)}`, make("strong", {}, inWords(entry)))));
 }

@@ -101,7 +101,7 @@ function readGoods(words, told) {
   told.product = words[3];
   const unit = words[6] === "ml" ? 1 : 0;
   const density = unit ? readMass(words[11]) / 1_000_000 : 1;
-  told.spelled = words.slice(4).join(" ");
+  told.spelled = `${words[5]} ${unit ? "ml" : "g"}`;
   told.nominal = readMass(words[5]) * density;
   told.error = readMass(words[7 + unit]) * density;
 }

@@ -8,7 +8,8 @@
 set -u
 here=$(dirname "$0")
 device=$1 dialect=$2 cell=$3
-trap '' PIPE
+# a scale that is pulled out hangs up
+trap '' PIPE HUP
 while :; do
     exec 3>"$cell" || exit 1
     while [ -e "$device" ] || sleep 1; do
