@@ -293,6 +293,7 @@ def second_and_verdict(day, anna):
 def look_at_charts(day, anna):
     anna.open("chart/MORNING")
     anna.wait_text("#chart [role=status]", "110 packs")
+    anna.wait_text("#chart svg title", "MORNING")
     anna.picture(f"{day.pictures}/chart.png")
     shapes = anna.run("return [...document.querySelectorAll('#chart svg.chart path')]"
                       ".map((one) => one.getAttribute('class'))")
@@ -301,6 +302,7 @@ def look_at_charts(day, anna):
         need(shape in shapes, f"the chart has no {shape}")
     anna.open("chart/NOON")
     anna.wait_text("#chart [role=status]", "1000 packs")
+    anna.wait_text("#chart svg title", "NOON")
     took = float(anna.run("return document.querySelector('#chart svg.chart').dataset.took"))
     need(took <= PROMPT_CHART, f"a chart of 1 000 packs took {took} ms")
     anna.picture(f"{day.pictures}/chart_1000.png")

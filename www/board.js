@@ -2,7 +2,7 @@
 // are new, and for lanes and batches that these may have changed.
 
 import * as office from "./office.js";
-import { LANES, addNames, atRows, packsFrom } from "./follow.js";
+import { LANES, addNames, atRows, packAt, packs, packsFrom } from "./follow.js";
 import { heldMark, make, sheetFacts, table, verdictMark } from "./page.js";
 import { say, signal, word } from "./words.js";
 import { spellGrams } from "./grams.js";
@@ -27,13 +27,13 @@ export function build(section) {
 }
 
 // Takes the packs of new rows to their lanes. Says which batches they are of.
-function takePacks(packs, isFirst) {
+function takePacks(found, isFirst) {
   const touched = new Set();
-  for (const pack of packs) {
+  for (const pack of found) {
     const lane = lanes.get(pack.lane) ?? { batch: pack.batch, packs: [], times: [] };
     lanes.set(pack.lane, lane);
-    lane.packs = [pack, ...lane.packs].slice(0, LAST_PACKS);
-    if (pack.signal !== "pass") lane.rejected = pack;
+    lane.packs = [pack.number, ...lane.packs].slice(0, LAST_PACKS);
+    if (pack.signal !== "pass") lane.rejected = pack.number;
     if (!isFirst) lane.times.push(Date.now());
     touched.add(pack.batch);
   }
@@ -46,6 +46,12 @@ async function askLanes() {
     const lane = lanes.get(number) ?? { packs: [], times: [] };
     if (batch || lanes.has(number)) lanes.set(number, { ...lane, batch });
   }
+}
+
+// A tare may have changed the nets of the packs that are shown.
+async function askShownPacks() {
+  const shown = [...lanes.values()].flatMap((lane) => [...lane.packs, lane.rejected ?? []].flat());
+  await Promise.all(shown.map((number) => packAt(number, true)));
 }
 
 async function askSheets(batches) {
@@ -79,7 +85,7 @@ async function takeRows(rows) {
   const touched = takePacks(found.filter((pack) => pack), isFirst);
   const others = found.some((pack) => !pack) || first > seen + 1;
   if (others) {
-    await askLanes();
+    await Promise.all([askLanes(), askShownPacks()]);
     const known = [...lanes.values()].map((lane) => lane.batch).filter((batch) => batch);
     for (const batch of [...known, ...sheets.keys()]) touched.add(batch);
     addNames("batches", known);
@@ -88,14 +94,16 @@ async function takeRows(rows) {
   seen = rows;
 }
 
-function lastReject(pack) {
+function lastReject(number) {
+  const pack = packs.get(number);
   const told = pack && { pack: pack.number, net: spellGrams(pack.net), signal: signal(pack.signal) };
   return make("p", { className: "reject" }, pack ? say("lastReject", told) : "");
 }
 
 function laneCard([number, lane]) {
   lane.times = lane.times.filter((moment) => Date.now() - moment < MINUTE);
-  const rows = lane.packs.map((pack) => [pack.number, spellGrams(pack.net), signal(pack.signal)]);
+  const shown = lane.packs.map((pack) => packs.get(pack));
+  const rows = shown.map((pack) => [pack.number, spellGrams(pack.net), signal(pack.signal)]);
   const minute = say("aMinute", { count: lane.times.length });
   return make("article", { className: "lane" },
     make("h3", {}, `${say("lane", { lane: number })}: ${lane.batch ?? say("idle")}`),

@@ -156,6 +156,7 @@ function tell(said, kind, text) {
 
 async function sendForm(form, said, act, then) {
   form.busy = true;
+  tell(said, "", say("underWay"));
   const entry = await outcome(desk, await give(desk, act));
   form.busy = false;
   tell(said, entry.found.done ? "done" : "refused", inWords(entry));
@@ -233,6 +234,8 @@ async function nextPack() {
   put(place.recorded, say("recorded", { gross: grams.spellGrams(known.gross) }));
   const { elements } = place.task;
   elements.pack.value = next;
+  elements.gross.value = "";
+  elements.empty.value = "";
   elements.empty.parentElement.hidden = task.mode !== "destroy";
   elements.gross.focus();
 }

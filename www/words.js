@@ -88,7 +88,7 @@ const WORDS = {
   chooseDesk: ["Choose your desk first.", "Zuerst den Platz wählen."],
   noRoom: ["This browser keeps nothing for the page, or the link isn't https: acts can't be sent.",
     "Der Browser behält nichts für die Seite, oder es ist kein https: nichts kann gesendet werden."],
-  underWay: ["Under way", "Unterwegs"],
+  underWay: ["Under way ..", "Unterwegs .."],
   asksAgain: ["Request {request}: no answer yet, asked again ({tries}).",
     "Auftrag {request}: noch keine Antwort, wird wieder gefragt ({tries})."],
   asked: ["Request {request} is asked.", "Auftrag {request} wird gefragt."],
