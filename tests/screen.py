@@ -2,16 +2,18 @@
 
 import json
 import random
+import re
 import subprocess
 import sys
 import threading
 import time
 
+from selenium import webdriver
 from selenium.webdriver.common.keys import Keys
 
 from browser import Browser, cut_between
 from clients import Lane, need
-from front_room import Front, make_hall, mount_room, run, wait_until
+from front_room import TOP, Front, make_hall, mount_room, run, wait_until
 from rows import rows_behind
 
 PEOPLE = {"anna": [101], "ben": [102], "wall": []}
@@ -93,6 +95,55 @@ def check_labels(anna):
         need(odd == 0, f"{odd} places of {page} are out of the order of Tab")
 
 
+def check_keyboard(anna):
+    """The key Tab comes by everything that can be used."""
+    anna.open("desk")
+    anna.find("#my-desk")
+    anna.run("document.querySelector('summary').parentElement.open = true; document.activeElement.blur()")
+    visited = set()
+    for _ in range(60):
+        webdriver.ActionChains(anna.driver).send_keys(Keys.TAB).perform()
+        visited.add(anna.run("return document.activeElement.outerHTML"))
+    left = anna.run("""return [...document.querySelectorAll("a, input, select, button, summary")]
+        .filter((one) => one.checkVisibility()).map((one) => one.outerHTML)""")
+    need(set(left) <= visited, f"Tab doesn't come by {set(left) - visited}")
+
+
+def check_refusals(browser, language):
+    """Each refusal of the rules has its sentence, with its number and its name."""
+    with open(f"{TOP}/docs/RULES.md", encoding="utf-8") as rules:
+        names = dict(re.findall(r"^\| (\d+) \| `(\w+)` \|", rules.read(), re.MULTILINE))
+    said = browser.driver.execute_async_script("""
+        const tell = arguments[0];
+        import("./words.js").then(({ refusal }) => tell(
+            Array.from({ length: 35 }, (_, at) => refusal(at + 1, "KEPT"))))""")
+    need(len(names) == 35 and len(set(said)) == 35, f"{len(names)} refusals, {len(set(said))} texts")
+    for number, sentence in enumerate(said, 1):
+        need(sentence.endswith(f" ({number} {names[str(number)]})") and len(sentence) > 40
+             and "{" not in sentence and "undefined" not in sentence, f"{language}: {sentence}")
+
+
+def two_tabs(day, anna):
+    """An act that one tab took down is sent by another of the browser, once."""
+    before = len(day.rows())
+    day.front.stop()
+    anna.relay.cut()
+    first = anna.driver.current_window_handle
+    anna.driver.switch_to.new_window("tab")
+    second = anna.driver.current_window_handle
+    anna.driver.switch_to.window(first)
+    anna.act("open", batch="TABS", product="rice250")
+    anna.wait_text("#desk .pending", "asked again")
+    day.front.start()
+    anna.driver.switch_to.window(second)
+    anna.open("desk")
+    anna.wait_text("#desk .told", "TABS, rice250. Done")
+    need(len(day.rows()) == before + 1, "an act of two tabs acted once")
+    anna.driver.close()
+    anna.driver.switch_to.window(first)
+    anna.told("#act-open", "Done")
+
+
 def prepare(anna):
     """The day, a product, its tare and two batches by the keyboard."""
     anna.open("desk")
@@ -158,6 +209,8 @@ def another_machine(day):
          "a page on another machine took the next number")
     other.told(other.act("open", batch="NOON", product="rice250"), "Eine Charge heißt schon so")
     other.told(other.act("open", batch="X", product="none"), "Keine Ware heißt so")
+    other.picture(f"{day.pictures}/desk_de.png")
+    check_refusals(other, "de")
 
 
 def not_theirs(day, ben):
@@ -292,7 +345,7 @@ def second_and_verdict(day, anna):
 
 def look_at_charts(day, anna):
     anna.open("chart/MORNING")
-    anna.wait_text("#chart [role=status]", "110 packs")
+    anna.wait_text("#chart > p", "110 packs")
     anna.wait_text("#chart svg title", "MORNING")
     anna.picture(f"{day.pictures}/chart.png")
     shapes = anna.run("return [...document.querySelectorAll('#chart svg.chart path')]"
@@ -301,7 +354,7 @@ def look_at_charts(day, anna):
                   "mark voided", "mark sampled", "mark passed"):
         need(shape in shapes, f"the chart has no {shape}")
     anna.open("chart/NOON")
-    anna.wait_text("#chart [role=status]", "1000 packs")
+    anna.wait_text("#chart > p", "1000 packs")
     anna.wait_text("#chart svg title", "NOON")
     took = float(anna.run("return document.querySelector('#chart svg.chart').dataset.took"))
     need(took <= PROMPT_CHART, f"a chart of 1 000 packs took {took} ms")
@@ -420,9 +473,12 @@ def work(day):
     anna = day.browser("anna")
     check_sizes(anna)
     check_labels(anna)
+    check_keyboard(anna)
+    check_refusals(anna, "en")
     prepare(anna)
     lose_an_answer(day, anna)
     lose_a_request(day, anna)
+    two_tabs(day, anna)
     another_machine(day)
     ben, wall = day.browser("ben"), day.browser("wall", size="1920,1080")
     not_theirs(day, ben)

@@ -16,7 +16,7 @@ class BatchPage {
   build(section) {
     const id = `${this.name}-batch`;
     this.field = make("input", { id, required: true, list: "batches", autocomplete: "off" });
-    this.said = make("p", { role: "status" });
+    this.said = make("p");
     this.stopper = make("button", { type: "button", hidden: true }, say("stop"));
     this.stopper.addEventListener("click", () => { this.stopped = true; });
     this.place = make("div", { className: "result" });
@@ -87,7 +87,7 @@ function samplePart(key, told, packs) {
   if (!told) return [];
   const lines = packs.map((pack) => make("li", {}, `${pack.number}: ${spellGrams(pack.gross)}`));
   return [make("h3", {}, `${say(key)}: ${say("measured", told)}`),
-    make("p", {}, `${say("pack")}: ${say("gross")}`), make("ol", { className: "packs" }, lines)];
+    make("p", {}, say("asWeighed")), make("ol", { className: "packs" }, lines)];
 }
 
 function pileTable(sheet) {

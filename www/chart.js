@@ -57,13 +57,15 @@ function scales(packs, range) {
   };
 }
 
+const isCounted = (pack) => pack.pile === "passed" || pack.pile === "sampled";
+
 // The means of the last 30 packs that count, at each of these.
 export function lastMeans(packs) {
   const means = [];
   const last = [];
   let sum = 0;
   packs.forEach((pack, place) => {
-    if (pack.pile !== "passed" && pack.pile !== "sampled") return;
+    if (!isCounted(pack)) return;
     last.push(pack.net);
     sum += pack.net;
     if (last.length > MEAN_OF) sum -= last.shift();
@@ -118,12 +120,12 @@ function histogram(packs, range, scale) {
   const counts = Array(STEPS).fill(0);
   const step = (range.high - range.low) / STEPS;
   for (const pack of packs) {
-    const counts_it = pack.pile === "passed" || pack.pile === "sampled";
     const place = Math.floor((pack.net - range.low) / step);
-    if (counts_it) counts[Math.max(0, Math.min(STEPS - 1, place))] += 1;
+    if (isCounted(pack)) counts[Math.max(0, Math.min(STEPS - 1, place))] += 1;
   }
   const most = Math.max(1, ...counts);
   const bars = counts.map((count, place) => {
+    if (count === 0) return "";
     const [low, high] = [range.low + place * step, range.low + (place + 1) * step].map(scale.up);
     const width = round(count / most * (BARS.right - BARS.left));
     return `M${BARS.left} ${low - 1}h${width}V${high}h-${width}z`;

@@ -161,7 +161,10 @@ async function sendForm(form, said, act, then) {
   form.busy = false;
   tell(said, entry.found.done ? "done" : "refused", inWords(entry));
   if (entry.found.done) {
-    if (entry.found.done.verdict) said.replaceChildren(verdictMark(entry.found.done.verdict));
+    if (entry.found.done.verdict) {
+      tell(said, "", "");
+      said.append(verdictMark(entry.found.done.verdict));
+    }
     addNames("batches", [act.batch]);
     addNames("products", [act.product, act.act === "product" && act.name]);
     showNames();
@@ -262,7 +265,7 @@ function buildMeasuring() {
   place.task = makeForm("measure", ACTS.measure, "task", tookPack);
   place.task.hidden = true;
   place.task.elements.pack.parentElement.hidden = true;
-  return make("section", {}, make("h2", {}, say("measure")), form, place.next, place.recorded,
+  return make("section", { className: "measuring" }, make("h2", {}, say("measure")), form, place.next, place.recorded,
     place.task);
 }
 

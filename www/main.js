@@ -1,7 +1,8 @@
 // Shows the page that the address names, keeps it fresh, and says how old it is.
 
 import { LANGUAGE, say, time } from "./words.js";
-import { following, state } from "./follow.js";
+import { following } from "./follow.js";
+import { link } from "./office.js";
 import { fillTexts, put } from "./page.js";
 
 // What is loaded when a page is first shown.
@@ -13,7 +14,7 @@ const PAGES = {
 };
 const built = new Map();
 const EVERY = 2_000;
-const LATE = 6_000;
+const LATE = 8_000;
 
 // The page and the batch of an address as `#chart/MORNING`.
 function asked() {
@@ -44,14 +45,14 @@ async function show() {
 }
 
 function showAge() {
-  const age = document.getElementById("age");
-  const gone = state.missing ? Date.now() - state.missing : 0;
-  const stale = gone > LATE || (gone > 0 && !state.at);
-  const values = { time: time(state.at), seconds: Math.round(gone / 1000) };
-  const fresh = () => (state.at ? say("fresh", values) : say("never"));
-  age.className = stale ? "stale" : "";
-  if (state.why === "401") put(age, say("login"));
-  else put(age, stale && state.at ? say("stale", values) : fresh());
+  const [age, alarm] = ["age", "alarm"].map((id) => document.getElementById(id));
+  const gone = Date.now() - link.at;
+  const key = link.at === 0 ? "never" : gone > LATE ? "stale" : "fresh";
+  const values = { time: time(link.at), seconds: Math.round(gone / 1000) };
+  age.className = key;
+  put(age, say(link.why === "401" ? "login" : key, values));
+  // said once to a screen reader, and not at each second
+  put(alarm, key === "stale" ? say("staleSince", values) : "");
 }
 
 // Asks what is new for the page that is shown, again and again.

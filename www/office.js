@@ -11,6 +11,9 @@ const PACK_UNKNOWN = 24;
 // No answer came, or one that isn't the office's: what was asked may be asked again.
 export class Missing extends Error {}
 
+// When a question was last answered, and why the newest wasn't: a status, or the name of a fault.
+export const link = { at: 0, why: "" };
+
 let free = AT_ONCE;
 const waiting = [];
 
@@ -43,9 +46,12 @@ export async function ask(path) {
   await enter();
   try {
     const answer = await reach(`hall/${path}`);
-    if (answer.status === 409) return { ...answer, ...JSON.parse(answer.text) };
-    if (answer.status !== 200) throw new Missing(String(answer.status));
-    return answer;
+    if (![200, 409].includes(answer.status)) throw new Missing(String(answer.status));
+    Object.assign(link, { at: Date.now(), why: "" });
+    return answer.status === 200 ? answer : { ...answer, ...JSON.parse(answer.text) };
+  } catch (fault) {
+    link.why = fault.message;
+    throw fault;
   } finally {
     leave();
   }
