@@ -25,13 +25,15 @@ PATIENCE = 30
 
 
 class Relay(threading.Thread):
-    """Hands bytes on between a browser and the front. While `holds` no answer comes through."""
+    """Hands bytes on between a browser and the front. While `slow` an answer is under way long."""
+
+    UNDER_WAY = 0.5
 
     def __init__(self):
         super().__init__(daemon=True)
         self.listener = socket.create_server(("127.0.0.1", 0))
         self.port = self.listener.getsockname()[1]
-        self.holds = False
+        self.slow = False
         self.links = []
         self.start()
 
@@ -49,13 +51,12 @@ class Relay(threading.Thread):
     def hand_on(self, near, far):
         try:
             while True:
-                ends = [near] if self.holds else [near, far]
-                for end in select.select(ends, [], [], 0.02)[0]:
-                    if end is far and self.holds:
-                        continue
+                for end in select.select([near, far], [], [])[0]:
                     got = end.recv(65536)
                     if not got:
                         return
+                    if end is far and self.slow:
+                        time.sleep(self.UNDER_WAY)
                     (far if end is near else near).sendall(got)
         except (OSError, ValueError):
             pass
@@ -64,7 +65,7 @@ class Relay(threading.Thread):
             far.close()
 
     def cut(self):
-        """Ends all links. What was held back never comes."""
+        """Ends all links. What is under way never comes."""
         for link in self.links:
             for end in link:
                 try:
@@ -72,7 +73,7 @@ class Relay(threading.Thread):
                 except OSError:
                     pass
         self.links = []
-        self.holds = False
+        self.slow = False
 
 
 class Browser:
@@ -210,9 +211,7 @@ def write(path, coded):
 def cut_between(browser, book, enter):
     """Enters an act whose answer is lost: the link is cut as soon as the book has its row."""
     before = os.path.getsize(book)
-    browser.relay.holds = True
-    time.sleep(0.1)
+    browser.relay.slow = True
     enter()
     wait_until(lambda: os.path.getsize(book) > before, "the row of the act whose answer is lost")
-    time.sleep(0.2)
     browser.relay.cut()

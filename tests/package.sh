@@ -42,7 +42,8 @@ inside sh -c 'command -v rt rustc cargo clang' && fail "the Debian has a toolcha
 
 # README's first day, with the examples of the package, says what README says
 awk '/^\$ / { on = /examples\/first_day.txt/; next } /^```/ { on = 0 } on' README.md >"$room/said"
-inside sh -c 'hall run --book /var/lib/hall/day.book </usr/share/doc/hall/examples/first_day.txt' |
+as_hall() { inside setpriv --reuid=hall --regid=hall --init-groups sh -c "$1"; }
+as_hall 'hall run --book /var/lib/hall/day.book </usr/share/doc/hall/examples/first_day.txt' |
     grep -E 'reject |refused' >"$room/says"
 [ -s "$room/said" ] || fail "README has no first day"
 diff "$room/said" "$room/says" || fail "the day there isn't README's"
@@ -58,13 +59,12 @@ awk -v level="$exposed" 'BEGIN { exit !(level != "" && level <= 2.0) }' ||
     fail "the service is exposed at $exposed"
 
 # what the service runs: it looks the book over, makes the pipes, and hands the status on
-inside sh -c 'mkdir /cells; chown hall /cells; LANES=2 RUN=/cells DOORS=0 timeout 5 \
-    setpriv --reuid=hall --regid=hall --init-groups sh -c "
-        echo no plan >/tmp/plan; /usr/lib/hall/start day </tmp/plan"' >"$room/log" 2>&1 && status=0 ||
-    status=$?
+as_hall 'mkdir /tmp/cells && echo no plan >/tmp/plan &&
+    LANES=2 DOORS=0 RUN=/tmp/cells timeout 5 /usr/lib/hall/start day </tmp/plan' \
+    >"$room/log" 2>&1 && status=0 || status=$?
 [ "$status" = 3 ] || { cat "$room/log" >&2; fail "a plan that is none has status $status"; }
 grep -q '^rows 17 whole$' "$room/log" || { cat "$room/log" >&2; fail "the book isn't looked over"; }
-[ -p "$debian/cells/gate-2.txt" ] || fail "there are no pipes for the lanes"
+[ -p "$debian/tmp/cells/gate-2.txt" ] || fail "there are no pipes for the lanes"
 
 # ---- people, and the end
 word=$(inside hall-person anna 101 102)

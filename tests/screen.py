@@ -124,7 +124,7 @@ def check_refusals(browser, language):
 
 
 def two_tabs(day, anna):
-    """An act that one tab took down is sent by another of the browser, once."""
+    """One tab of a browser has a desk. What it left when it was closed another sends, once."""
     before = len(day.rows())
     day.front.stop()
     anna.relay.cut()
@@ -137,11 +137,17 @@ def two_tabs(day, anna):
     day.front.start()
     anna.driver.switch_to.window(second)
     anna.open("desk")
-    anna.wait_text("#desk .told", "TABS, rice250. Done")
-    need(len(day.rows()) == before + 1, "an act of two tabs acted once")
-    anna.driver.close()
+    anna.wait_text("#desk", "Another page of this browser has this desk")
+    anna.act("open", batch="TWICE", product="rice250")
+    anna.wait_text("#act-open output", "Another page")
     anna.driver.switch_to.window(first)
     anna.told("#act-open", "Done")
+    anna.driver.close()
+    anna.driver.switch_to.window(second)
+    anna.wait_text("#desk .told", "TABS, rice250. Done")
+    wait_until(lambda: "Another page" not in anna.text("#desk .line"), "the desk is free")
+    need(len(day.rows()) == before + 1, "an act of two tabs acted once")
+    anna.told(anna.act("open", batch="SECOND", product="rice250"), "Done")
 
 
 def prepare(anna):
@@ -172,6 +178,8 @@ def lose_an_answer(day, anna):
     form = []
     cut_between(anna, day.book, lambda: form.append(
         anna.act("open", batch="NOON", product="rice250")))
+    [lost] = json.loads(anna.run("return localStorage['hall.acts.101']"))
+    need(lost["tries"] == 1, f"the answer came before the link was cut: {lost}")
     said = anna.told(form[0], "Done")
     rows = day.rows()
     need(len(rows) == before + 1 and f"row {before + 1}." in said,
@@ -287,6 +295,10 @@ def begin_measuring(browser):
     browser.wait_text(".next", "of 30")
 
 
+def is_far_off(browser):
+    return "250.500 g was typed" in browser.text("#task output")
+
+
 def measure_on(browser, light):
     """Measures by the keyboard alone until no pack is left; says how many were asked."""
     asked = 0
@@ -296,6 +308,9 @@ def measure_on(browser, light):
         field = browser.driver.switch_to.active_element
         need(field.get_attribute("name") == "gross", f"at {shown} the field has no focus")
         field.send_keys("250.5" if pack in light else "262.12 g", Keys.ENTER)
+        wait_until(lambda: browser.text(".next") != shown or is_far_off(browser), shown, 20)
+        if browser.text(".next") == shown:
+            field.send_keys(Keys.ENTER)
         wait_until(lambda: browser.text(".next") != shown, f"behind {shown} comes another", 20)
         asked += 1
     return asked

@@ -1,7 +1,8 @@
 // The chart of a batch, and its sheet for the file, of one page of paper.
 
 import * as office from "./office.js";
-import { addNames, atRows, following, names, packAt, settledPacks } from "./follow.js";
+import { atRows, packAt, settledPacks } from "./follow.js";
+import { addNames, names } from "./names.js";
 import { chart, inWords, legend } from "./chart.js";
 import { facts, heldMark, make, put, sheetFacts, table, verdictMark } from "./page.js";
 import { say, time, word } from "./words.js";
@@ -33,7 +34,7 @@ class BatchPage {
     const chosen = batch || this.batch || (names().batches[0] ?? "");
     if (chosen !== this.batch) Object.assign(this, { batch: chosen, rows: 0, stopped: false });
     this.field.value = chosen;
-    if (chosen) following(() => this.refresh());
+    if (chosen) office.following(() => this.refresh());
   }
 
   // Draws the batch anew where the book has more rows than what is drawn.

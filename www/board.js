@@ -2,7 +2,8 @@
 // are new, and for lanes and batches that these may have changed.
 
 import * as office from "./office.js";
-import { LANES, addNames, atRows, packAt, packs, packsFrom } from "./follow.js";
+import { LANES, atRows, packAt, packs, packsFrom } from "./follow.js";
+import { addNames } from "./names.js";
 import { heldMark, make, sheetFacts, table, verdictMark } from "./page.js";
 import { say, signal, word } from "./words.js";
 import { spellGrams } from "./grams.js";

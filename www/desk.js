@@ -2,8 +2,8 @@
 
 import * as office from "./office.js";
 import * as grams from "./grams.js";
-import { addListed, addNames, following, names } from "./follow.js";
-import { canKeep, give, onChange, outcome, pending, send, told, why } from "./requests.js";
+import { addListed, addNames, names } from "./names.js";
+import { canKeep, give, isMine, onChange, outcome, pending, take, told, why } from "./requests.js";
 import { fillTexts, make, put, verdictMark } from "./page.js";
 import { refusal, say, word } from "./words.js";
 
@@ -43,7 +43,9 @@ let place;
 
 // ---- what is looked at first: a text, after which the same has to be sent a second time
 
-function lookAtDay({ day }) {
+const UNSEEN = say("unseen");
+
+async function lookAtDay({ day }) {
   const days = Math.round(grams.daysAway(day));
   return days > FAR_DAYS ? say("farDay", { day, days }) : null;
 }
@@ -134,17 +136,24 @@ function makeForm(name, { fields, look }, prefix, then) {
     const values = !form.busy && readAll(form, fields);
     if (!values || !isReady(said)) return;
     const typed = Object.values(values).join();
-    const first = look && agreed !== typed ? await following(() => look(values)) : null;
-    agreed = typed;
-    if (first) return tell(said, "look", `${first} ${say("again")}`);
+    const first = look && agreed !== typed ? await lookFirst(look, values) : null;
+    agreed = first === UNSEEN ? "" : typed;
+    if (first) return tell(said, "look", first);
     agreed = "";
     await sendForm(form, said, { act: name, ...values }, then);
   });
   return form;
 }
 
+// What is to be seen before an act is sent; without an answer nothing is sent.
+async function lookFirst(look, values) {
+  const seen = await look(values).catch(() => UNSEEN);
+  return seen && seen !== UNSEEN ? `${seen} ${say("again")}` : seen;
+}
+
 function isReady(said) {
-  const lacks = canKeep() ? !desk && "chooseDesk" : "noRoom";
+  const taken = desk ? !isMine(desk) && "otherPage" : "chooseDesk";
+  const lacks = canKeep() ? taken : "noRoom";
   if (lacks) tell(said, "refused", say(lacks));
   return !lacks;
 }
@@ -157,7 +166,7 @@ function tell(said, kind, text) {
 async function sendForm(form, said, act, then) {
   form.busy = true;
   tell(said, "", say("underWay"));
-  const entry = await outcome(desk, await give(desk, act));
+  const entry = await outcome(desk, give(desk, act));
   form.busy = false;
   tell(said, entry.found.done ? "done" : "refused", inWords(entry));
   if (entry.found.done) {
@@ -247,7 +256,7 @@ function tookPack(entry) {
   const number = Number(/"pack":(\d+)/.exec(entry.members)[1]);
   if (!entry.found.done && entry.found.refused !== MEASURED_ALREADY) return;
   measured.add(number);
-  following(nextPack);
+  office.following(nextPack);
 }
 
 function buildMeasuring() {
@@ -258,7 +267,7 @@ function buildMeasuring() {
   form.addEventListener("submit", (event) => {
     event.preventDefault();
     measured.clear();
-    following(() => beginTask(field.value.trim()));
+    office.following(() => beginTask(field.value.trim()));
   });
   place.next = make("p", { className: "next", role: "status" });
   place.recorded = make("p");
@@ -281,17 +290,21 @@ function buildChoice() {
     choose(Number(choice.value));
   });
   choice.value = sessionStorage.getItem("hall.desk") ?? localStorage.getItem("hall.desk") ?? "0";
-  return make("p", { className: "line" }, make("label", { for: "my-desk" }, say("myDesk")), choice);
+  return make("p", { className: "line" }, make("label", { for: "my-desk" }, say("myDesk")), choice,
+    place.other);
 }
 
 function choose(number) {
   desk = number;
+  put(place.other, "");
   showPending(desk);
-  if (desk && canKeep()) send(desk);
+  const waits = () => put(place.other, say("otherPage"));
+  if (desk && canKeep()) take(desk, waits, () => put(place.other, ""));
 }
 
 export function build(section) {
   place = { pending: make("p", { className: "pending", role: "status" }),
+    other: make("strong", { className: "bad", role: "status" }),
     told: make("ol", { className: "told" }), listed: make("pre"),
     batches: make("datalist", { id: "batches" }), products: make("datalist", { id: "products" }) };
   const choice = buildChoice();

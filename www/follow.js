@@ -8,16 +8,6 @@ export const LANES = 16;
 export const packs = new Map();
 const state = { rows: 0 };
 
-// Does what asks the office. Where an answer is missing nothing more is done: the page says so.
-export async function following(work) {
-  try {
-    return await work();
-  } catch (fault) {
-    if (!(fault instanceof office.Missing)) console.error(fault);
-    return null;
-  }
-}
-
 // A book of fewer rows than were seen is another book: nothing that is kept is of it.
 export function atRows(rows) {
   if (rows < state.rows) packs.clear();
@@ -67,27 +57,4 @@ export async function settledPacks(sheet, progress) {
     found = found.map((pack) => packs.get(pack.number));
   }
   return found;
-}
-
-// Names that fields propose, from this browser's acts, the lanes, and the list where there is one.
-const KEPT = "hall.names";
-const MOST = 50;
-
-export function names() {
-  return { batches: [], products: [], ...JSON.parse(localStorage.getItem(KEPT) ?? "{}") };
-}
-
-export function addNames(kind, added) {
-  const kept = names();
-  const fresh = added.filter((name) => name && !kept[kind].includes(name));
-  if (fresh.length === 0) return;
-  kept[kind] = [...fresh, ...kept[kind]].slice(0, MOST);
-  localStorage.setItem(KEPT, JSON.stringify(kept));
-}
-
-export async function addListed() {
-  const listed = await office.list();
-  addNames("batches", listed.batches);
-  addNames("products", listed.products);
-  return listed;
 }

@@ -1,8 +1,7 @@
 // Shows the page that the address names, keeps it fresh, and says how old it is.
 
 import { LANGUAGE, say, time } from "./words.js";
-import { following } from "./follow.js";
-import { link } from "./office.js";
+import { following, link } from "./office.js";
 import { fillTexts, put } from "./page.js";
 
 // What is loaded when a page is first shown.

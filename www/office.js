@@ -57,6 +57,16 @@ export async function ask(path) {
   }
 }
 
+// Does what asks the office. Where an answer is missing nothing more is done: the page says so.
+export async function following(work) {
+  try {
+    return await work();
+  } catch (fault) {
+    if (!(fault instanceof Missing)) console.error(fault);
+    return null;
+  }
+}
+
 const linesOf = (text) => text.split("\n").filter((line) => line);
 
 export async function summary() {

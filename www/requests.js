@@ -1,15 +1,20 @@
 // The acts of a desk: numbered, kept in this browser before they are sent, and asked again in order
-// until they are answered. All pages of a browser share what is kept here, and send one at a time.
+// until they are answered. One page of a browser at a time acts as a desk, since what one page keeps
+// another may see a moment later; when it is closed, the next goes on with what it left.
 
 import { Missing, reach } from "./office.js";
 
 const FIRST_PAUSE = 500;
 const LONGEST_PAUSE = 5_000;
+// Until what a page kept that was closed is seen by every other.
+const SEEN = 1_000;
 // How many outcomes are kept of a desk.
 const TOLD = 100;
 const OLD = 2;
 const REUSED = 3;
 const GAP = 4;
+// A request of number 0 is never an act: it is refused as old, with the desk's last number.
+const ASK_LAST = { request: 0, members: '"act":"day","day":"1970-01-01"' };
 
 const key = (desk, what) => `hall.${what}.${desk}`;
 
@@ -26,10 +31,10 @@ export const told = (desk) => read(desk, "told", []);
 // Why the first act of a desk has no answer yet: a status, or the name of a fault.
 export const why = new Map();
 
-const listeners = [];
+const listeners = new Set();
 
 export function onChange(listener) {
-  listeners.push(listener);
+  listeners.add(listener);
 }
 
 function changed(desk) {
@@ -50,9 +55,42 @@ export function canKeep() {
   }
 }
 
-// Changes what is kept of a desk, while no other page does.
-function alone(desk, change) {
-  return navigator.locks.request(`hall.numbers.${desk}`, change);
+const pause = (time) => new Promise((go) => setTimeout(go, time));
+
+// The desk that this page has, and what it sends for it.
+let mine = 0;
+let sending = null;
+let giveBack = () => {};
+
+export const isMine = (desk) => desk === mine;
+
+// Takes a desk for this page, in the place of the one that it has. Where another page of the browser
+// has it, `waits` is called, and the desk is taken when that page gives it back or is closed.
+export async function take(desk, waits, taken) {
+  giveBack();
+  let isWanted = true;
+  const back = new Promise((go) => {
+    giveBack = () => {
+      isWanted = false;
+      mine = 0;
+      Promise.resolve(sending).then(go);
+    };
+  });
+  const have = async () => {
+    if (!isWanted) return;
+    mine = desk;
+    taken();
+    send(desk);
+    await back;
+  };
+  const name = `hall.desk.${desk}`;
+  const isFree = await navigator.locks.request(name, { ifAvailable: true }, async (lock) => {
+    if (lock) await have();
+    return Boolean(lock);
+  });
+  if (isFree || !isWanted) return;
+  waits();
+  await navigator.locks.request(name, () => pause(SEEN).then(have));
 }
 
 // The members of an act as JSON; a word of 64 bits is more than a number of this language holds.
@@ -62,14 +100,11 @@ function spell(act) {
 }
 
 // Takes an act down under the next number, and sends it. Says by which mark its outcome is told.
-export async function give(desk, act) {
+export function give(desk, act) {
   const mark = crypto.randomUUID();
-  await alone(desk, () => {
-    const acts = pending(desk);
-    const request = (acts.at(-1)?.request ?? read(desk, "last", 0)) + 1;
-    acts.push({ mark, request, act: act.act, members: spell(act), tries: 0 });
-    keep(desk, "acts", acts);
-  });
+  const acts = pending(desk);
+  const request = (acts.at(-1)?.request ?? read(desk, "last", 0)) + 1;
+  keep(desk, "acts", [...acts, { mark, request, act: act.act, members: spell(act), tries: 0 }]);
   changed(desk);
   send(desk);
   return mark;
@@ -80,40 +115,48 @@ export function outcome(desk, mark) {
   return new Promise((tell) => {
     const look = () => {
       const found = told(desk).find((entry) => entry.mark === mark);
-      if (found) tell(found);
+      if (!found) return;
+      listeners.delete(look);
+      tell(found);
     };
     onChange(look);
     look();
   });
 }
 
-const sending = new Set();
-
-// Sends what is pending, one act at a time.
-export async function send(desk) {
-  if (sending.has(desk)) return;
-  sending.add(desk);
-  await navigator.locks.request(`hall.sending.${desk}`, () => sendAll(desk));
-  sending.delete(desk);
-  if (pending(desk).length > 0) send(desk);
+// Sends what is pending, one act at a time, as long as this page has the desk.
+function send(desk) {
+  sending ??= sendAll(desk).finally(() => {
+    sending = null;
+    if (mine && pending(mine).length > 0) send(mine);
+  });
 }
 
 async function sendAll(desk) {
-  let pause = FIRST_PAUSE;
-  for (let head = pending(desk)[0]; head; head = pending(desk)[0]) {
-    await alone(desk, () => countTry(desk));
-    changed(desk);
-    const found = judge(head, await post(desk, head));
+  let wait = FIRST_PAUSE;
+  while (isMine(desk) && pending(desk).length > 0) {
+    const found = await sendFirst(desk);
     if (!found.again) {
-      await alone(desk, () => settle(desk, head, found));
-      pause = FIRST_PAUSE;
+      settle(desk, pending(desk)[0], found);
+      wait = FIRST_PAUSE;
     } else {
       why.set(desk, found.again);
       changed(desk);
-      await new Promise((go) => setTimeout(go, pause));
-      pause = Math.min(2 * pause, LONGEST_PAUSE);
+      await pause(wait);
+      wait = Math.min(2 * wait, LONGEST_PAUSE);
     }
   }
+}
+
+// Sends the first act, behind what the book says of the desk's last number where it is new.
+async function sendFirst(desk) {
+  const isNew = pending(desk)[0].tries === 0;
+  const found = isNew ? judge(isNew, await post(desk, ASK_LAST)) : null;
+  if (found && found.last === undefined) return found;
+  if (found) number(desk, pending(desk), found.last);
+  countTry(desk);
+  changed(desk);
+  return judge(isNew, await post(desk, pending(desk)[0]));
 }
 
 function countTry(desk) {
@@ -133,36 +176,43 @@ async function post(desk, head) {
   }
 }
 
-// What an answer says of an act that was tried before or not:
+// What an answer says of an act that is new, or was tried before:
 // `again` it has to be asked, it is `done`, was `refused`, or takes the number behind `last`.
-function judge(head, answer) {
-  if (answer.status === 200) return { done: JSON.parse(answer.text) };
-  if (answer.status === 409) return judgeRefusal(head, JSON.parse(answer.text));
-  if (answer.status === 403) return head.tries ? { doubt: "?" } : { foreign: true };
-  if ([400, 404, 405, 411, 413].includes(answer.status)) return { broken: answer.text };
+function judge(isNew, answer) {
+  if (answer.status === 200 && isObject(answer.text)) return { done: JSON.parse(answer.text) };
+  if (answer.status === 409 && isObject(answer.text)) {
+    return judgeRefusal(isNew, JSON.parse(answer.text));
+  }
+  if (answer.status === 403) return isNew ? { foreign: true } : { doubt: "?" };
+  if ([400, 404, 405, 411, 413].includes(answer.status)) return { broken: answer.status };
   return { again: String(answer.status || answer.text) };
 }
 
-function judgeRefusal(head, told) {
-  // the number is another act's, or is past: this one has acted under no number
-  if (told.refused === REUSED) return { last: head.request };
-  if (told.refused === GAP) return { last: Number(told.kept) };
-  if (told.refused !== OLD) return { refused: told.refused, kept: told.kept };
+const isObject = (text) => text.startsWith("{") && text.endsWith("}");
+
+function judgeRefusal(isNew, { refused, kept }) {
+  // the number is another act's, or leaves a gap: this one has acted under no number
+  if (refused === REUSED) return { last: "this" };
+  if (refused === GAP) return { last: Number(kept) };
+  if (refused !== OLD) return { refused, kept };
   // an earlier try may have acted before another page went on
-  return head.tries ? { doubt: told.kept, last: Number(told.kept) } : { last: Number(told.kept) };
+  return isNew ? { last: Number(kept) } : { doubt: kept };
 }
 
-// Takes down what became of the first act, and numbers those behind it anew: none was sent yet.
-function settle(desk, head, found) {
-  const [first, ...rest] = pending(desk);
-  const renumbered = found.last !== undefined && found.doubt === undefined;
-  const last = found.last ?? (found.done ? head.request : head.request - 1);
-  const acts = renumbered ? [{ ...first, tries: 0 }, ...rest] : rest;
+// Numbers acts that haven't been sent under a number that counts, from the one behind `last`.
+function number(desk, acts, last) {
   keep(desk, "last", last);
-  keep(desk, "acts", acts.map((act, place) => ({ ...act, request: last + 1 + place })));
-  if (!renumbered) {
+  keep(desk, "acts", acts.map((act, place) => ({ ...act, request: last + 1 + place, tries: 0 })));
+}
+
+// Takes down what became of the first act. Those behind it weren't sent yet.
+function settle(desk, head, found) {
+  if (found.last !== undefined) {
+    number(desk, pending(desk), found.last === "this" ? head.request : found.last);
+  } else {
     const { mark, request, act, members } = head;
     keep(desk, "told", [{ mark, request, act, members, found }, ...told(desk)].slice(0, TOLD));
+    number(desk, pending(desk).slice(1), found.done ? request : request - 1);
   }
   why.delete(desk);
   changed(desk);
