@@ -1,6 +1,7 @@
 """A day of a hall by clicks and keys. Run by tests/screen.sh."""
 
 import json
+import os
 import random
 import re
 import subprocess
@@ -219,6 +220,25 @@ def another_machine(day):
     other.told(other.act("open", batch="X", product="none"), "Keine Ware heißt so")
     other.picture(f"{day.pictures}/desk_de.png")
     check_refusals(other, "de")
+    check_list(other)
+    other.driver.set_window_size(500, 900)
+    other.picture(f"{day.pictures}/desk_narrow.png")
+    other.open("board")
+    other.wait_text("#board", "Bilanz der Halle")
+    other.picture(f"{day.pictures}/board_narrow.png")
+
+
+def check_list(browser):
+    """Where the front serves a list, the desk shows it and its fields propose its names."""
+    os.makedirs("/run/hall")
+    with open("/run/hall/list.txt", "w", encoding="ascii") as said:
+        said.write(f"day {DAY}\nproduct lentils500 nominal 500.000\nbatch LATE product lentils500\n")
+    browser.reload()
+    browser.wait_text("#desk pre", "product lentils500")
+    proposed = browser.run("return [...document.querySelectorAll('datalist option')]"
+                           ".map((one) => one.value)")
+    need({"lentils500", "LATE", "beans500"} <= set(proposed), f"proposed are {proposed}")
+    os.remove("/run/hall/list.txt")
 
 
 def not_theirs(day, ben):
@@ -362,19 +382,26 @@ def look_at_charts(day, anna):
     anna.open("chart/MORNING")
     anna.wait_text("#chart > p", "110 packs")
     anna.wait_text("#chart svg title", "MORNING")
+    anna.open("chart/NOBATCH")
+    anna.wait_text("#chart > p", "No batch has this name")
+    anna.open("chart/MORNING")
+    anna.wait_text("#chart svg title", "MORNING")
     anna.picture(f"{day.pictures}/chart.png")
     shapes = anna.run("return [...document.querySelectorAll('#chart svg.chart path')]"
                       ".map((one) => one.getAttribute('class'))")
     for shape in ("limit nominal", "limit t1", "limit t2", "means", "bars", "mark rejected",
                   "mark voided", "mark sampled", "mark passed"):
         need(shape in shapes, f"the chart has no {shape}")
+    began = time.monotonic()
     anna.open("chart/NOON")
     anna.wait_text("#chart > p", "1000 packs")
     anna.wait_text("#chart svg title", "NOON")
+    loaded = time.monotonic() - began
     took = float(anna.run("return document.querySelector('#chart svg.chart').dataset.took"))
     need(took <= PROMPT_CHART, f"a chart of 1 000 packs took {took} ms")
     anna.picture(f"{day.pictures}/chart_1000.png")
-    print(f"screen: a chart of 1 000 packs is made in {took} ms", flush=True)
+    print(f"screen: a chart of 1 000 packs is made in {took} ms, {loaded:.1f} s behind the click",
+          flush=True)
 
 
 def look_at_sheet(day, anna):

@@ -5,7 +5,7 @@ import { atRows, packAt, settledPacks } from "./follow.js";
 import { addNames, names } from "./names.js";
 import { chart, inWords, legend } from "./chart.js";
 import { facts, heldMark, make, put, sheetFacts, table, verdictMark } from "./page.js";
-import { say, time, word } from "./words.js";
+import { refusal, say, time, word } from "./words.js";
 import { spellGrams } from "./grams.js";
 
 // A page about a batch: a field for its name, and below it what `draw` makes of its packs.
@@ -56,7 +56,7 @@ class BatchPage {
     const sheet = await office.sheet(batch);
     this.rows = rows;
     if (sheet.refused) {
-      put(this.said, say("batch") + ` ${batch}: ${word("empty")} (${sheet.name})`);
+      put(this.said, refusal(sheet.refused, sheet.kept));
       this.place.replaceChildren();
       return;
     }

@@ -58,7 +58,8 @@ async function lookAtBatch(act) {
 
 async function lookAtPack(act) {
   const found = await office.pack(act.pack);
-  return found && found.text;
+  const [gross, net] = found ? [found.gross, found.net].map(grams.spellGrams) : [];
+  return found && say("aboutPack", { ...found, gross, net, pile: word(found.pile) });
 }
 
 async function lookAtGross(act) {

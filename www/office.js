@@ -97,7 +97,7 @@ export async function pack(number) {
   return {
     number, batch: words[3], lane: Number(words[5]), gross: readMass(words[7]),
     net: readMass(words[9]), class: words[10], signal: words.slice(11, -1).join(" "),
-    pile: words.at(-1), text: answer.text.trim(),
+    pile: words.at(-1),
   };
 }
 

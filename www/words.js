@@ -125,6 +125,8 @@ const WORDS = {
     "Im Buch steht {gross} g für diese Packung, getippt ist {typed} g."],
   farDay: ["{day} is {days} days from today. A day can't be taken back.",
     "{day} liegt {days} Tage von heute. Ein Tag kann nicht zurückgenommen werden."],
+  aboutPack: ["Pack {number} of {batch}, lane {lane}: {gross} g gross, {net} g net, {pile}.",
+    "Packung {number} aus {batch}, Linie {lane}: brutto {gross} g, netto {net} g, {pile}."],
   aboutBatch: ["{batch}: {state}, {population} packs that count.",
     "{batch}: {state}, {population} Packungen, die zählen."],
   "act.day": ["Set the day", "Tag setzen"],
