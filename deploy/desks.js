@@ -13,9 +13,11 @@ const BODY = new RegExp('^' + BLANK + '\\{' + BLANK + MEMBER +
     '(?:' + BLANK + ',' + BLANK + MEMBER + ')*' + BLANK + '\\}' + BLANK + '$');
 const DESK = new RegExp('"desk"' + BLANK + ':' + BLANK + '([0-9]{1,5})[^0-9]', 'g');
 
-// How often a door is asked for, and how many milliseconds apart, while all are busy.
-const TURNS = 300;
-const APART = 10;
+// Milliseconds for which a free door is waited for, and between two looks for one: at first, and at
+// most, so that many who wait don't look all the time.
+const PATIENCE = 10000;
+const FIRST_PAUSE = 5;
+const LONGEST_PAUSE = 150;
 
 // The desk of an act, or nothing where it can't be read.
 function deskOf(body) {
@@ -28,8 +30,8 @@ function isTheirs(r) {
     return desk !== null && r.variables.desks.split(' ').indexOf(desk) >= 0;
 }
 
-function pause() {
-    return new Promise((go) => setTimeout(go, APART));
+function pause(time) {
+    return new Promise((go) => setTimeout(go, time * (0.5 + Math.random())));
 }
 
 // Whether no door was free, so that nothing was sent to one.
@@ -39,10 +41,12 @@ function isBusy(reply) {
 
 async function handOn(r) {
     const options = r.method === 'POST' ? { method: 'POST', body: r.requestText } : {};
-    let reply = await r.subrequest('/door' + r.uri.slice('/hall'.length), options);
-    for (let turn = 0; turn < TURNS && isBusy(reply); turn++) {
-        await pause();
-        reply = await r.subrequest('/door' + r.uri.slice('/hall'.length), options);
+    const path = '/door' + r.uri.slice('/hall'.length);
+    const end = Date.now() + PATIENCE;
+    let reply = await r.subrequest(path, options);
+    for (let wait = FIRST_PAUSE; isBusy(reply) && Date.now() < end; wait *= 2) {
+        await pause(Math.min(wait, LONGEST_PAUSE));
+        reply = await r.subrequest(path, options);
     }
     return reply;
 }

@@ -378,7 +378,7 @@ def second_and_verdict(day, anna):
     anna.told(anna.act("tare", product="rice250", day=DAY, tare="11"), "Closed batch MORNING")
 
 
-def look_at_charts(day, anna):
+def look_at_charts(day, anna, ben):
     anna.open("chart/MORNING")
     anna.wait_text("#chart > p", "110 packs")
     anna.wait_text("#chart svg title", "MORNING")
@@ -393,14 +393,14 @@ def look_at_charts(day, anna):
                   "mark voided", "mark sampled", "mark passed"):
         need(shape in shapes, f"the chart has no {shape}")
     began = time.monotonic()
-    anna.open("chart/NOON")
-    anna.wait_text("#chart > p", "1000 packs")
-    anna.wait_text("#chart svg title", "NOON")
+    ben.open("chart/NOON")
+    ben.wait_text("#chart > p", "1000 packs")
+    ben.wait_text("#chart svg title", "NOON")
     loaded = time.monotonic() - began
-    took = float(anna.run("return document.querySelector('#chart svg.chart').dataset.took"))
+    took = float(ben.run("return document.querySelector('#chart svg.chart').dataset.took"))
     need(took <= PROMPT_CHART, f"a chart of 1 000 packs took {took} ms")
-    anna.picture(f"{day.pictures}/chart_1000.png")
-    print(f"screen: a chart of 1 000 packs is made in {took} ms, {loaded:.1f} s behind the click",
+    ben.picture(f"{day.pictures}/chart_1000.png")
+    print(f"screen: a chart of 1 000 packs is read in {loaded:.1f} s and made in {took} ms",
           flush=True)
 
 
@@ -530,7 +530,7 @@ def work(day):
     end_and_draw(anna)
     measure_together(day, anna, ben)
     second_and_verdict(day, anna)
-    look_at_charts(day, anna)
+    look_at_charts(day, anna, ben)
     look_at_sheet(day, anna)
     end_day(day, anna)
 

@@ -97,8 +97,9 @@ async function takeRows(rows) {
 
 function lastReject(number) {
   const pack = packs.get(number);
-  const told = pack && { pack: pack.number, net: spellGrams(pack.net), signal: signal(pack.signal) };
-  return make("p", { className: "reject" }, pack ? say("lastReject", told) : "");
+  const told = () => say("lastReject", { pack: number, net: spellGrams(pack.net),
+    signal: signal(pack.signal) });
+  return make("p", { className: "reject" }, pack ? told() : "");
 }
 
 function laneCard([number, lane]) {

@@ -10,12 +10,11 @@ const PLOT = { left: 58, right: 742, top: 14, bottom: 356 };
 const BARS = { left: 812, right: 990 };
 const MEAN_OF = 30;
 const STEPS = 24;
-const RADIUS = 3.5;
 
 // The mark of a pack at a place, by the pile in which it lies.
 const MARKS = {
   passed: (x, y) => `M${x - 2} ${y}a2 2 0 1 0 4 0a2 2 0 1 0 -4 0`,
-  sampled: (x, y) => `M${x} ${y - RADIUS}l${RADIUS} ${RADIUS}l-${RADIUS} ${RADIUS}l-${RADIUS} -${RADIUS}z`,
+  sampled: (x, y) => `M${x} ${y - 3.5}l3.5 3.5l-3.5 3.5l-3.5 -3.5z`,
   rejected: (x, y) => `M${x - 4} ${y - 4}l8 8m0 -8l-8 8`,
   voided: (x, y) => `M${x - 4} ${y - 4}h8v8h-8zm0 8l8 -8`,
   beyond: (x, y) => `M${x - 5} ${y - 4}h10l-5 8z`,
@@ -35,7 +34,8 @@ const round = (number) => Math.round(number * 10) / 10;
 // that one impossible weight doesn't press all others into a line.
 function rangeOf(sheet, packs) {
   const far = 3 * sheet.error;
-  const within = packs.map((pack) => pack.net - sheet.nominal).filter((off) => Math.abs(off) <= far);
+  const within = packs.map((pack) => pack.net - sheet.nominal)
+    .filter((off) => Math.abs(off) <= far);
   const low = Math.min(-2.3 * sheet.error, ...bounds(within));
   const high = Math.max(0.8 * sheet.error, ...bounds(within));
   return { low: sheet.nominal + 1.04 * low, high: sheet.nominal + 1.04 * high };
@@ -139,12 +139,9 @@ function histogram(packs, range, scale) {
 }
 
 function captions() {
-  const below = HEIGHT - 6;
-  const centre = (from, to) => (from + to) / 2;
-  return [
-    element("text", { class: "number", x: centre(PLOT.left, PLOT.right), y: below }, say("number")),
-    element("text", { class: "number", x: centre(BARS.left, BARS.right), y: below }, say("histogram")),
-  ];
+  const below = (part, text) => element("text", { class: "number", y: HEIGHT - 6,
+    x: (part.left + part.right) / 2 }, text);
+  return [below(PLOT, say("number")), below(BARS, say("histogram"))];
 }
 
 // What the chart shows, in words.
@@ -169,8 +166,8 @@ export function chart(sheet, packs) {
 
 // The marks and lines of the chart, each with its word.
 export function legend() {
-  const keys = KINDS.map((kind) => [element("path", { class: `mark ${kind}`, d: MARKS[kind](12, 8) }),
-    word(kind)]);
+  const mark = (kind) => element("path", { class: `mark ${kind}`, d: MARKS[kind](12, 8) });
+  const keys = KINDS.map((kind) => [mark(kind), word(kind)]);
   const means = element("path", { class: "means", d: "M0 8H24" });
   const list = document.createElement("ul");
   list.className = "legend";

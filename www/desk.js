@@ -65,7 +65,8 @@ async function lookAtPack(act) {
 async function lookAtGross(act) {
   const found = await office.pack(act.pack);
   if (!found || Math.abs(found.gross - act.gross) <= FAR_PART * found.gross) return null;
-  return say("farOff", { gross: grams.spellGrams(found.gross), typed: grams.spellGrams(act.gross) });
+  const [told, typed] = [found.gross, act.gross].map(grams.spellGrams);
+  return say("farOff", { gross: told, typed });
 }
 
 // ---- fields
@@ -275,8 +276,8 @@ function buildMeasuring() {
   place.task = makeForm("measure", ACTS.measure, "task", tookPack);
   place.task.hidden = true;
   place.task.elements.pack.parentElement.hidden = true;
-  return make("section", { className: "measuring" }, make("h2", {}, say("measure")), form, place.next, place.recorded,
-    place.task);
+  return make("section", { className: "measuring" }, make("h2", {}, say("measure")), form,
+    place.next, place.recorded, place.task);
 }
 
 // ---- the page
@@ -335,7 +336,8 @@ function showNames() {
 // What the front serves of `hall list`: what is in force stands below the forms.
 function showListed({ day, text }) {
   put(place.listed, text);
-  for (const input of document.querySelectorAll("#desk input[type=date]")) input.value ||= day ?? "";
+  const days = document.querySelectorAll("#desk input[type=date]");
+  for (const input of days) input.value ||= day ?? "";
   showNames();
 }
 

@@ -63,5 +63,6 @@ async function keepFresh() {
 document.documentElement.lang = LANGUAGE ? "de" : "en";
 fillTexts(document);
 addEventListener("hashchange", show);
+showAge();
 setInterval(showAge, 500);
 show().then(keepFresh);

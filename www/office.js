@@ -4,8 +4,8 @@ import { readMass } from "./grams.js";
 
 // Milliseconds that an answer is waited for: longer than the front itself waits for a door.
 export const PATIENCE = 20_000;
-// Questions of this page that are under way at once, so that it never takes all doors.
-const AT_ONCE = 2;
+// Questions of this page that are under way at once, so that others come in between.
+const AT_ONCE = 4;
 const PACK_UNKNOWN = 24;
 
 // No answer came, or one that isn't the office's: what was asked may be asked again.
@@ -75,7 +75,8 @@ export async function summary() {
   for (const line of linesOf(answer.text)) {
     const [word, ...rest] = line.split(" ");
     if (word === "batches") {
-      for (let at = 0; at < rest.length; at += 2) told.states.push([rest[at], Number(rest[at + 1])]);
+      const states = rest.filter((_, at) => at % 2 === 0);
+      told.states = states.map((state, at) => [state, Number(rest[2 * at + 1])]);
     } else if (word !== "rows") {
       told.piles.push({ word, count: Number(rest[0]), gross: readMass(rest[2]) });
     }
@@ -124,7 +125,7 @@ function readGoods(words, told) {
 
 function readTest(words, told) {
   const at = words.indexOf("first") < 0 ? words.indexOf("second") : words.indexOf("first");
-  const [count, measured, defective] = [at + 1, at + 3, at + 5].map((place) => Number(words[place]));
+  const [count, measured, defective] = [1, 3, 5].map((place) => Number(words[at + place]));
   if (words[0] === "test") told.mode = words[1];
   told[words[at]] = { count, measured, defective };
 }

@@ -67,7 +67,8 @@ export function verdictMark(verdict) {
 
 // Fills every element that names its text.
 export function fillTexts(root) {
-  for (const place of root.querySelectorAll("[data-text]")) place.textContent = say(place.dataset.text);
+  const named = root.querySelectorAll("[data-text]");
+  for (const place of named) place.textContent = say(place.dataset.text);
   for (const place of root.querySelectorAll("[data-label]")) {
     place.setAttribute("aria-label", say(place.dataset.label));
   }

@@ -1,6 +1,6 @@
-// The acts of a desk: numbered, kept in this browser before they are sent, and asked again in order
-// until they are answered. One page of a browser at a time acts as a desk, since what one page keeps
-// another may see a moment later; when it is closed, the next goes on with what it left.
+// The acts of a desk: numbered, kept in this browser before they are sent, and asked again in
+// order until they are answered. One page of a browser at a time acts as a desk, since what one
+// page keeps another may see a moment later; when it is closed, the next goes on with what it left.
 
 import { Missing, reach } from "./office.js";
 
@@ -64,8 +64,8 @@ let giveBack = () => {};
 
 export const isMine = (desk) => desk === mine;
 
-// Takes a desk for this page, in the place of the one that it has. Where another page of the browser
-// has it, `waits` is called, and the desk is taken when that page gives it back or is closed.
+// Takes a desk for this page, in the place of the one that it has. Where another page of the
+// browser has it, `waits` is called, and it is taken when that page gives it back or is closed.
 export async function take(desk, waits, taken) {
   giveBack();
   let isWanted = true;
