@@ -1,0 +1,66 @@
+// What the front hands on to the office: a question of its form, and an act of a desk that is among
+// those of the person who asks. Run by nginx (njs 0.7).
+
+const QUESTION = new RegExp('^/hall/(summary|lanes/[0-9]{1,3}|packs/[0-9]{1,20}' +
+    '|batches/[A-Za-z0-9._-]{1,32}(/sample)?)$');
+const ACTS = '/hall/acts';
+
+// The body of an act, as far as the front reads it: one flat object, whose texts have no escapes.
+// Anything that the office might read otherwise than this is refused.
+const BLANK = '[ \\t\\r\\n]*';
+const MEMBER = '"[a-z]+"' + BLANK + ':' + BLANK + '(?:"[^"\\\\]*"|[0-9]+)';
+const BODY = new RegExp('^' + BLANK + '\\{' + BLANK + MEMBER +
+    '(?:' + BLANK + ',' + BLANK + MEMBER + ')*' + BLANK + '\\}' + BLANK + '$');
+const DESK = new RegExp('"desk"' + BLANK + ':' + BLANK + '([0-9]{1,5})[^0-9]', 'g');
+
+// Milliseconds for which a free door is waited for, and between two looks for one: at first, and at
+// most, so that many who wait don't look all the time.
+const PATIENCE = 10000;
+const FIRST_PAUSE = 5;
+const LONGEST_PAUSE = 150;
+
+// The desk of an act, or nothing where it can't be read.
+function deskOf(body) {
+    const found = BODY.test(body) ? body.match(DESK) : null;
+    return found && found.length === 1 ? found[0].replace(/[^0-9]/g, '') : null;
+}
+
+function isTheirs(r) {
+    const desk = deskOf(r.requestText || '');
+    return desk !== null && r.variables.desks.split(' ').indexOf(desk) >= 0;
+}
+
+function pause(time) {
+    return new Promise((go) => setTimeout(go, time * (0.5 + Math.random())));
+}
+
+// Whether no door was free, so that nothing was sent to one.
+function isBusy(reply) {
+    return reply.status === 502 && reply.variables.upstream_addr === 'doors';
+}
+
+async function handOn(r) {
+    const options = r.method === 'POST' ? { method: 'POST', body: r.requestText } : {};
+    const path = '/door' + r.uri.slice('/hall'.length);
+    const end = Date.now() + PATIENCE;
+    let reply = await r.subrequest(path, options);
+    for (let wait = FIRST_PAUSE; isBusy(reply) && Date.now() < end; wait *= 2) {
+        await pause(Math.min(wait, LONGEST_PAUSE));
+        reply = await r.subrequest(path, options);
+    }
+    return reply;
+}
+
+async function pass(r) {
+    const isAct = r.uri === ACTS;
+    if (!isAct && !QUESTION.test(r.uri)) return r.return(404);
+    if (r.method !== (isAct ? 'POST' : 'GET')) return r.return(405);
+    if (isAct && !isTheirs(r)) return r.return(403);
+    const reply = await handOn(r);
+    r.headersOut['Cache-Control'] = 'no-store';
+    r.headersOut['Content-Type'] = reply.headersOut['Content-Type'];
+    if (reply.headersOut['Book-Row']) r.headersOut['Book-Row'] = reply.headersOut['Book-Row'];
+    r.return(reply.status, reply.responseText);
+}
+
+export default { pass };

@@ -1,0 +1,311 @@
+"""What the front lets through, and what it keeps from the doors. Run by tests/front.sh."""
+
+import base64
+import json
+import socket
+import ssl
+import subprocess
+import sys
+import threading
+import time
+
+from clients import need
+from front_room import FIRST_PORT, NAME, TOP, Front, make_hall, mount_room, run, wait_until
+
+SETUP = "day 2025-03-03\nproduct rice250 250\ntare rice250 2025-03-03 10\nopen A rice250\n"
+PEOPLE = {"anna": [101, 102], "ben": [103], "wall": []}
+# Seconds within which the others are answered, whatever the rest does.
+PROMPT = 2.0
+CONTEXT = ssl.create_default_context()
+CONTEXT.check_hostname = False
+CONTEXT.verify_mode = ssl.CERT_NONE
+
+
+class Reply:
+    """What came back over a link: its status, its fields and its body."""
+
+    def __init__(self, link):
+        held = b""
+        while b"\r\n\r\n" not in held:
+            held += take(link)
+        head, self.body = held.split(b"\r\n\r\n", 1)
+        first, *lines = head.decode("ascii").split("\r\n")
+        self.status = int(first.split(" ")[1])
+        self.fields = dict(line.lower().split(": ", 1) for line in lines)
+        while len(self.body) < int(self.fields.get("content-length", 0)):
+            self.body += take(link)
+
+
+def take(link):
+    got = link.recv(65536)
+    need(got, "the front left the connection")
+    return got
+
+
+def connect(source="127.0.0.1", name=NAME):
+    """A TLS connection to the front, from an address of this machine."""
+    raw = socket.create_connection(("127.0.0.1", 443), timeout=30, source_address=(source, 0))
+    return CONTEXT.wrap_socket(raw, server_hostname=name)
+
+
+class Person:
+    """Somebody at the front, with a password, who asks from an address of this machine."""
+
+    def __init__(self, front, name, source="127.0.0.1"):
+        self.front = front
+        self.source = source
+        word = base64.b64encode(f"{name}:{front.passwords.get(name, 'x')}".encode()).decode()
+        self.sign = f"Authorization: Basic {word}\r\n" if name else ""
+        self.requests = {}
+
+    def head(self, method, path, more=""):
+        return f"{method} {path} HTTP/1.1\r\nHost: {NAME}\r\n{self.sign}{more}\r\n".encode()
+
+    def send(self, method, path, body=b"", more=""):
+        """Asks over a connection of its own, which ends behind the answer."""
+        if body:
+            more += f"Content-Length: {len(body)}\r\n"
+        with connect(self.source) as link:
+            link.sendall(self.head(method, path, more + "Connection: close\r\n") + body)
+            return Reply(link)
+
+    def chunked(self, body):
+        """Posts an act in chunks of 16 bytes."""
+        parts = [body[at:at + 16] for at in range(0, len(body), 16)]
+        coded = b"".join(b"%x\r\n%s\r\n" % (len(part), part) for part in parts) + b"0\r\n\r\n"
+        with connect(self.source) as link:
+            head = self.head("POST", "/hall/acts", "Transfer-Encoding: chunked\r\n")
+            link.sendall(head + coded)
+            return Reply(link)
+
+    def act(self, desk, **members):
+        """An act of a desk; its number counts up where it is accepted."""
+        request = self.requests.get(desk, 0) + 1
+        body = json.dumps({"desk": desk, "request": request} | members).encode()
+        reply = self.send("POST", "/hall/acts", body)
+        if reply.status == 200:
+            self.requests[desk] = request
+        return reply
+
+
+def expect(reply, status, about):
+    need(reply.status == status, f"{about}: {reply.status} for {status}, {reply.body[:200]}")
+
+
+def check_passwords(front):
+    for name in ("", "anne"):
+        stranger = Person(front, name)
+        for path in ("/", "/main.js", "/hall/summary", "/list.txt"):
+            expect(stranger.send("GET", path), 401, f"{name or 'nobody'} at {path}")
+        expect(stranger.act(101, act="end", batch="A"), 401, "an act without a password")
+    wall = Person(front, "wall")
+    page = wall.send("GET", "/")
+    expect(page, 200, "the page")
+    policy = page.fields["content-security-policy"]
+    need("default-src 'none'" in policy and "unsafe" not in policy, f"policy {policy}")
+    expect(wall.send("GET", "/hall/summary"), 200, "the wall asks")
+    expect(wall.send("GET", "/list.txt"), 404, "a list that nobody writes")
+    expect(wall.act(101, act="end", batch="A"), 403, "the wall acts")
+    try:
+        connect(name="other.example").close()
+        need(False, "another name was answered")
+    except ssl.SSLError:
+        pass
+
+
+def check_origins(front):
+    anna = Person(front, "anna")
+    for more, status in (
+            ("Origin: https://elsewhere.example\r\n", 403), ("Origin: null\r\n", 403),
+            (f"Origin: http://{NAME}\r\n", 403), (f"Origin: https://{NAME}\r\n", 200),
+            ("Sec-Fetch-Site: cross-site\r\n", 403), ("Sec-Fetch-Site: same-site\r\n", 403),
+            ("Sec-Fetch-Site: same-origin\r\n", 200), ("Sec-Fetch-Site: none\r\n", 200),
+            (f"Origin: https://{NAME}\r\nSec-Fetch-Site: cross-site\r\n", 403)):
+        expect(anna.send("GET", "/hall/summary", more=more), status, more.strip())
+    body = b'{"act":"day","desk":101,"request":1,"day":"2025-03-04"}'
+    foreign = anna.send("POST", "/hall/acts", body, "Origin: https://elsewhere.example\r\n")
+    expect(foreign, 403, "an act from a page elsewhere")
+
+
+def check_paths(front):
+    anna = Person(front, "anna")
+    for method, path, status in (
+            ("GET", "/hall/acts", 405), ("POST", "/hall/summary", 405), ("PUT", "/hall/acts", 405),
+            ("GET", "/hall/nothing", 404), ("GET", "/door/summary", 404), ("GET", "/hall/", 404),
+            ("GET", "/hall/packs/x", 404), ("GET", "/hall/batches/A/sample/x", 404),
+            ("GET", "/hall/lanes/1", 200), ("GET", "/hall/batches/A", 200),
+            ("GET", "/hall/batches/A/sample", 409), ("GET", "/hall/packs/1", 409),
+            ("GET", "/hall/%2e%2e/etc/passwd", 404), ("POST", "/index.html", 403)):
+        expect(anna.send(method, path), status, f"{method} {path}")
+
+
+UNREADABLE = [
+    b'', b'{}', b'[]', b'{"desk":101', b'{"act":"end","batch":"A","request":1}',
+    b'{"act":"end","desk":103,"request":1,"batch":"A"}',
+    b'{"act":"end","desk":101,"desk":103,"request":1,"batch":"A"}',
+    b'{"act":"end","desk":103,"desk":101,"request":1,"batch":"A"}',
+    b'{"act":"end","desk":101,"\\u0064esk":103,"request":1,"batch":"A"}',
+    b'{"act":"end","\\u0064esk":101,"request":1,"batch":"A"}',
+    b'{"act":"end","desk":"101","request":1,"batch":"A"}',
+    b'{"act":"end","desk":101.0,"request":1,"batch":"A"}',
+    b'{"act":"end","desk":0101,"request":1,"batch":"A"}',
+    b'{"act":"end","desk":[101],"request":1,"batch":"A"}',
+    b'{"act":"end","batch":"\\"desk\\":101","desk":103,"request":1}',
+    b'{"act":"end","desk":101,"request":1,"batch":"A"}{"desk":103}',
+]
+
+
+def check_desks(front):
+    """Each speaks as their own desks alone, and what can't be read reaches no door."""
+    anna, ben = Person(front, "anna"), Person(front, "ben")
+    rows = anna.send("GET", "/hall/summary").fields["book-row"]
+    for body in UNREADABLE:
+        expect(anna.send("POST", "/hall/acts", body), 403, body)
+    expect(ben.act(101, act="end", batch="A"), 403, "ben as 101")
+    need(anna.send("GET", "/hall/summary").fields["book-row"] == rows, "a refused body acted")
+    for person, desk, name in ((anna, 101, "rice100"), (anna, 102, "rice101"), (ben, 103, "rice103")):
+        reply = person.act(desk, act="product", name=name, nominal=100000)
+        expect(reply, 200, f"desk {desk}")
+        need(reply.fields["book-row"] == str(json.loads(reply.body)["row"]), "Book-Row is handed on")
+
+
+def check_bodies(front):
+    ben = Person(front, "ben")
+    ben.requests[103] = 1
+    good = b'{"act":"product","desk":103,"request":2,"name":"chunked","nominal":100000}'
+    long = good[:-1] + b' ' * 5000 + b'}'
+    expect(ben.send("POST", "/hall/acts", long), 413, "a body of 5 000 bytes")
+    expect(ben.chunked(long), 413, "a chunked body of 5 000 bytes")
+    expect(ben.chunked(good), 200, "a chunked act")
+    full = b'{"act":"product","desk":103,"request":3,"name":"full","nominal":100000'
+    expect(ben.send("POST", "/hall/acts", full.ljust(4095) + b"}"), 200, "a body of 4 096 bytes")
+
+
+def asked_meanwhile(front, seconds):
+    """The longest that anna waits for an answer, who asks and acts for so many seconds."""
+    anna = Person(front, "anna")
+    longest, end, count = 0.0, time.monotonic() + seconds, 0
+    while time.monotonic() < end:
+        began = time.monotonic()
+        expect(anna.send("GET", "/hall/summary"), 200, "anna asks meanwhile")
+        longest = max(longest, time.monotonic() - began)
+        count += 1
+        time.sleep(0.02)
+    need(longest < PROMPT, f"anna waited for {longest:.2f} s")
+    return longest, count
+
+
+def check_slow(front):
+    """Bodies and heads that don't come to their end hold no door, and are left."""
+    ben = Person(front, "ben", "127.0.0.3")
+    links = [connect(ben.source) for _ in range(40)]
+    for place, link in enumerate(links):
+        head = ben.head("POST", "/hall/acts", "Content-Length: 60\r\n")
+        link.sendall(head + b'{"act":' if place % 2 else head[:20])
+    longest, count = asked_meanwhile(front, 12)
+    left = sum(1 for link in links if is_left(link))
+    need(left == len(links), f"{left} of {len(links)} slow connections are left behind 12 s")
+    print(f"front: 40 slow requests held no door: {count} questions, the longest {longest:.3f} s")
+
+
+def is_left(link):
+    """Whether the front left a connection, with an answer or without."""
+    link.settimeout(0.5)
+    try:
+        while link.recv(65536):
+            pass
+        return True
+    except TimeoutError:
+        return False
+    except OSError:
+        return True
+
+
+def links_to_doors():
+    """How many connections are held to the doors."""
+    said = run("ss", "-Htn", "state", "established", f"dport >= {FIRST_PORT}", "and",
+               f"dport < {FIRST_PORT + 2}")
+    return len(said.splitlines())
+
+
+def check_many(front):
+    """200 connections at once, of which each asks ten times; the doors go on serving anna."""
+    answers, held = [], []
+    ready = threading.Barrier(201)
+
+    def ask_ten(number):
+        ben = Person(front, "ben", f"127.0.0.{10 + number % 4}")
+        with connect(ben.source) as link:
+            ready.wait()
+            for _ in range(10):
+                link.sendall(ben.head("GET", "/hall/summary"))
+                answers.append(Reply(link).status)
+
+    askers = [threading.Thread(target=ask_ten, args=(number,), daemon=True) for number in range(200)]
+    for asker in askers:
+        asker.start()
+    ready.wait()
+    counter = threading.Timer(0.5, lambda: held.append(links_to_doors()))
+    counter.start()
+    longest, count = asked_meanwhile(front, 3)
+    for asker in askers:
+        asker.join(60)
+    told = {status: answers.count(status) for status in set(answers)}
+    need(len(answers) == 2000 and set(told) <= {200, 429}, f"200 connections were told {told}")
+    need(held[0] <= 2, f"{held[0]} connections are held to two doors")
+    print(f"front: 200 connections were told {told}; meanwhile {count} questions, "
+          f"the longest {longest:.3f} s; {held[0]} connections to the doors")
+
+
+def reaches_door(user):
+    """Whether a user of this machine reaches a door past the front."""
+    asked = ["setpriv", f"--reuid={user}", "--clear-groups", "python3", "-c",
+             f"import socket; socket.create_connection(('127.0.0.1', {FIRST_PORT}), 5)"]
+    return subprocess.run(asked, capture_output=True).returncode == 0
+
+
+def check_ports(front):
+    """With the rules loaded the doors are the front's alone."""
+    front.stop()
+    need(reaches_door("nobody") and reaches_door("root"), "without rules the doors are reached")
+    run("nft", "-f", f"{TOP}/deploy/hall.nft")
+    run("nft", "-f", f"{TOP}/deploy/hall.nft")
+    for user in ("nobody", "root"):
+        need(not reaches_door(user), f"{user} reaches a door past the front")
+    need(reaches_door("www-data"), "the front's user reaches the doors")
+    front.start()
+    expect(Person(front, "anna").send("GET", "/hall/summary"), 200, "behind the rules")
+
+
+def check_stopped_hall(front, hall):
+    """Without its hall the front says so, soon, and goes on when the hall is there again."""
+    hall.kill()
+    began = time.monotonic()
+    expect(Person(front, "anna").send("GET", "/hall/summary"), 502, "no hall")
+    need(time.monotonic() - began < 10, "the front waits too long for a hall that isn't there")
+
+
+def main():
+    program, folder = sys.argv[1:]
+    mount_room()
+    book = f"{folder}/front.book"
+    hall = make_hall(program, f"{folder}/hall", SETUP, [], book)
+    front = Front(PEOPLE)
+    front.start()
+    for check in (check_passwords, check_origins, check_paths, check_desks, check_bodies,
+                  check_slow, check_many):
+        check(front)
+        print(f"front: {check.__name__} holds", flush=True)
+    check_ports(front)
+    rows = Person(front, "wall").send("GET", "/hall/summary").fields["book-row"]
+    check_stopped_hall(front, hall)
+    again = make_hall(program, f"{folder}/hall", "", [], book)
+    wait_until(lambda: Person(front, "wall").send("GET", "/hall/summary").status == 200, "again")
+    front.stop()
+    again.kill()
+    said = run(program, "check", "--book", book)
+    need(said == f"rows {rows} whole\n", f"the book has {said} for {rows} rows")
+    print(f"front: as docs/OPERATING.md says; the book has {rows} rows, those that were answered")
+
+
+main()

@@ -1,0 +1,18 @@
+#!/bin/sh
+# The front as it is shipped (deploy/nginx.conf, desks.js, hall.nft) before a running `hall serve`:
+# who is let in, what is handed on, and that slow and many clients take no door from the others.
+#
+# usage: tests/front.sh          HALL names the program
+# needs: root, and of Debian: nginx libnginx-mod-http-js nftables iproute2 openssl util-linux; what
+#        is missing is installed. Done in a minute, at most 5; in mounts and a network of its own.
+set -eu
+cd "$(dirname "$0")/.."
+. tests/need.sh
+need nginx libnginx-mod-http-js nftables iproute2 openssl util-linux python3
+if [ -z "${HALL:-}" ]; then tools/build; fi
+hall=$(realpath "${HALL:-crates/hall_cli/out/hall_cli}")
+room=$(mktemp -d)
+trap 'rm -rf "$room"' EXIT
+chmod 755 "$room"
+unshare --mount --net --pid --fork --kill-child --mount-proc \
+    timeout 300 python3 tests/front.py "$hall" "$room"
