@@ -74,7 +74,16 @@ pub fn book_of(alloc: Global, scripts: &[&[u8]]) -> Vec<u8> {
     bytes
 }
 
-/// Whether a run ended with this status and left so many rows.
-pub fn ends_so(ended: &MemoryEnd, status: u8, rows: usize) -> bool {
-    ended.status == status && ended.rows.as_slice().len() == rows
+/// Does what the words say over a disk, without lanes: its status, and how many rows it leaves.
+pub fn ends_of<S: Source, K: Sink>(
+    alloc: Global,
+    words: &[&str],
+    input: &mut S,
+    output: &mut K,
+    disk: MemoryDisk,
+) -> (u8, usize)
+    requires { S.ended input.old ≡ false }
+{
+    let ended = run(alloc, words, input, output, disk, Vec::new(alloc));
+    (ended.status, ended.rows.as_slice().len())
 }

@@ -1,4 +1,4 @@
-use crate::halls::{MemoryEnd, MemoryLane, copy, ends_so, run};
+use crate::halls::{MemoryEnd, MemoryLane, book_of, copy, run};
 use disk_core::{MemoryDisk, MemorySink, QuietSource};
 use lane_worker::CellNext::{Bad, Gross, Spent};
 use lane_worker::{CellNext, LaneStop, ListCell, ListGate, PairLane};
@@ -75,33 +75,8 @@ const CALM: Case = Case {
 };
 
 // A day with a pack that was weighed on lane 1 and may have left.
-const BEFORE: Case = Case {
-    script: "\
-day 2025-03-03
-product rice250 250
-tare rice250 2025-03-03 10
-open A rice250
-start 1 A
-weigh 1 251.000
-",
-    printed: "\
-1 ok
-2 ok
-3 ok
-4 ok
-5 ok
-6 pass
-rows 6
-readings 1 gross 251.000
-passed 1 gross 251.000
-rejected 0 gross 0.000
-sampled 0 gross 0.000
-voided 0 gross 0.000
-batches running 1 ended 0 drawn 0 closed 0
-",
-    rows: 6,
-    ..CALM
-};
+const BEFORE: &[u8] = b"day 2025-03-03\nproduct rice250 250\ntare rice250 2025-03-03 10\n\
+open A rice250\nstart 1 A\nweigh 1 251.000\n";
 
 // Lane 1 is worked over that day. The pack that was found is unknown, so it is voided.
 const BEHIND: [Case; 3] = [
@@ -375,24 +350,29 @@ fn have_ended(ended: &MemoryEnd, ends: &[(u32, Stopped)]) -> bool {
     found.len() == ends.len()
 }
 
-// Whether a case over a disk of these bytes comes out so; and the bytes that the disk then has.
-fn play(alloc: Global, bytes: Vec<u8>, case: &Case) -> (bool, Vec<u8>) {
+// Whether a run of a case ended so, with what was printed.
+fn ends_so(ended: &MemoryEnd, printed: &[u8], case: &Case) -> bool {
+    ended.status == case.status
+        && ended.rows.as_slice().len() == case.rows
+        && are_opened(ended, case.opened)
+        && have_ended(ended, case.ends)
+        && printed == case.printed.as_bytes()
+}
+
+// Whether a case over a disk of these bytes comes out so.
+fn is_right(alloc: Global, bytes: &[u8], case: &Case) -> bool {
     let mut input = QuietSource::new(copy(alloc, case.script.as_bytes()));
     let mut output = MemorySink::new(alloc, copy(alloc, case.output_fails));
-    let disk = MemoryDisk::new(alloc, bytes, copy(alloc, case.disk_fails));
+    let disk = MemoryDisk::new(alloc, copy(alloc, bytes), copy(alloc, case.disk_fails));
     let lanes = lanes_of(alloc, case);
     let ended = run(alloc, &["run"], &mut input, &mut output, disk, lanes);
-    let right = ends_so(&ended, case.status, case.rows)
-        && are_opened(&ended, case.opened)
-        && have_ended(&ended, case.ends)
-        && output.bytes() == case.printed.as_bytes();
-    (right, copy(alloc, ended.disk.bytes()))
+    ends_so(&ended, output.bytes(), case)
 }
 
 // The place of the first case that comes out otherwise over a disk of these bytes.
 fn wrong_work(alloc: Global, bytes: &[u8], cases: &[Case]) -> Option<usize> {
     for (place, case) in cases.iter().enumerate() {
-        if !play(alloc, copy(alloc, bytes), case).0 {
+        if !is_right(alloc, bytes, case) {
             return Some(place);
         }
     }
@@ -401,10 +381,8 @@ fn wrong_work(alloc: Global, bytes: &[u8], cases: &[Case]) -> Option<usize> {
 
 #[test]
 fn lanes_at_work(rt: HostRuntime) -> Result<(), Fail> {
-    let alloc = rt.alloc();
-    let (right, before) = play(alloc, Vec::new(alloc), &BEFORE);
-    assert!(rt; right);
-    assert_eq!(rt; wrong_work(alloc, &before, &BEHIND), None);
-    assert_eq!(rt; wrong_work(alloc, &[], &EARLY), None);
+    let before = book_of(rt.alloc(), &[BEFORE]);
+    assert_eq!(rt; wrong_work(rt.alloc(), &before, &BEHIND), None);
+    assert_eq!(rt; wrong_work(rt.alloc(), &[], &EARLY), None);
     Ok(())
 }

@@ -1,4 +1,4 @@
-use crate::halls::{ends_so, run};
+use crate::halls::ends_of;
 use disk_core::{Failed, MemoryDisk, MemorySink, Source};
 use std::alloc::Global;
 use std::test::Fail;
@@ -87,15 +87,8 @@ fn is_right(alloc: Global, input: &Input, ends: (u8, usize)) -> bool {
     };
     let mut output = MemorySink::new(alloc, Vec::new(alloc));
     let disk = MemoryDisk::new(alloc, Vec::new(alloc), Vec::new(alloc));
-    let ended = run(
-        alloc,
-        &[command],
-        &mut input,
-        &mut output,
-        disk,
-        Vec::new(alloc),
-    );
-    ends_so(&ended, ends.0, 0) && output.bytes().len() == ends.1 && input.room >= 65_536
+    let (status, rows) = ends_of(alloc, &[command], &mut input, &mut output, disk);
+    (status, rows) == (ends.0, 0) && output.bytes().len() == ends.1 && input.room >= 65_536
 }
 
 // Reads that each give a byte are spent at 100 000 000, those of a migration at 200 000 000; larger

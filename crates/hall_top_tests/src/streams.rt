@@ -1,4 +1,4 @@
-use crate::halls::{book_of, copy, ends_so, only, run};
+use crate::halls::{book_of, copy, ends_of, only};
 use crate::texts::{
     FIVE_ROWS, OLD_JOURNAL, REGISTER, SHEET, THREE_ANSWERED, THREE_PACKS, TWO, TWO_ACTS,
     TWO_ANSWERED, TWO_TRIED,
@@ -119,8 +119,8 @@ fn is_right(alloc: Global, bytes: &[u8], case: &Run) -> bool {
     let mut input = MemorySource::new(copy(alloc, input), only(alloc, read));
     let mut output = MemorySink::new(alloc, only(alloc, write));
     let disk = MemoryDisk::new(alloc, copy(alloc, bytes), only(alloc, call));
-    let ended = run(alloc, words, &mut input, &mut output, disk, Vec::new(alloc));
-    ends_so(&ended, status, rows) && output.bytes() == printed.as_bytes()
+    let ends = ends_of(alloc, words, &mut input, &mut output, disk);
+    ends == (status, rows) && output.bytes() == printed.as_bytes()
 }
 
 // The place of the first run that comes out otherwise.
@@ -196,8 +196,8 @@ fn is_cut(alloc: Global, bytes: &[u8], case: &Cut) -> bool {
     };
     let mut output = QuietSink::new(buffer);
     let disk = MemoryDisk::new(alloc, copy(alloc, bytes), Vec::new(alloc));
-    let ended = run(alloc, words, &mut input, &mut output, disk, Vec::new(alloc));
-    ends_so(&ended, status, rows) && output.bytes() == printed.as_bytes()
+    let ends = ends_of(alloc, words, &mut input, &mut output, disk);
+    ends == (status, rows) && output.bytes() == printed.as_bytes()
 }
 
 // The place of the first run that goes out otherwise.
