@@ -226,7 +226,7 @@ def another_machine(day):
     other.driver.set_window_size(500, 900)
     other.picture(f"{day.pictures}/desk_narrow.png")
     other.open("board")
-    other.wait_text("#board", "Bilanz der Halle")
+    other.wait_text("#board", "Zeilen")
     other.picture(f"{day.pictures}/board_narrow.png")
 
 
