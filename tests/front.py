@@ -11,6 +11,7 @@ import time
 
 from clients import need
 from front_room import FIRST_PORT, NAME, TOP, Front, make_hall, mount_room, run, wait_until
+from rows import rows_behind
 
 SETUP = "day 2025-03-03\nproduct rice250 250\ntare rice250 2025-03-03 10\nopen A rice250\n"
 PEOPLE = {"anna": [101, 102], "ben": [103], "wall": []}
@@ -85,7 +86,17 @@ class Person:
         reply = self.send("POST", "/hall/acts", body)
         if reply.status == 200:
             self.requests[desk] = request
+            self.front.told[json.loads(reply.body)["row"]] = (desk, request, members)
         return reply
+
+
+def compare_book(front, book, setup):
+    """The rows behind the setup are the acts that were told, those that were sent bare among them."""
+    for row in rows_behind(book, setup):
+        desk, request, members = front.told.pop(row.number)
+        need((row.desk, row.request) == (desk, request) and members.items() <= row.act.items(),
+             f"{row} for {members} of {desk}")
+    need(not front.told, f"told and not in the book: {front.told}")
 
 
 def expect(reply, status, about):
@@ -173,12 +184,17 @@ def check_bodies(front):
     ben = Person(front, "ben")
     ben.requests[103] = 1
     good = b'{"act":"product","desk":103,"request":2,"name":"chunked","nominal":100000}'
+    members = {"act": "product", "nominal": 100000}
     long = good[:-1] + b' ' * 5000 + b'}'
     expect(ben.send("POST", "/hall/acts", long), 413, "a body of 5 000 bytes")
     expect(ben.chunked(long), 413, "a chunked body of 5 000 bytes")
-    expect(ben.chunked(good), 200, "a chunked act")
+    reply = ben.chunked(good)
+    expect(reply, 200, "a chunked act")
+    front.told[json.loads(reply.body)["row"]] = (103, 2, members | {"name": "chunked"})
     full = b'{"act":"product","desk":103,"request":3,"name":"full","nominal":100000'
-    expect(ben.send("POST", "/hall/acts", full.ljust(4095) + b"}"), 200, "a body of 4 096 bytes")
+    reply = ben.send("POST", "/hall/acts", full.ljust(4095) + b"}")
+    expect(reply, 200, "a body of 4 096 bytes")
+    front.told[json.loads(reply.body)["row"]] = (103, 3, members | {"name": "full"})
 
 
 def asked_meanwhile(front, seconds):
@@ -291,6 +307,8 @@ def main():
     book = f"{folder}/front.book"
     hall = make_hall(program, f"{folder}/hall", SETUP, [], book)
     front = Front(PEOPLE)
+    # by row: the desk, the request and the act that was told it
+    front.told = {}
     front.start()
     for check in (check_passwords, check_origins, check_paths, check_desks, check_bodies,
                   check_slow, check_many):
@@ -305,6 +323,7 @@ def main():
     again.kill()
     said = run(program, "check", "--book", book)
     need(said == f"rows {rows} whole\n", f"the book has {said} for {rows} rows")
+    compare_book(front, book, len(SETUP.splitlines()))
     print(f"front: as docs/OPERATING.md says; the book has {rows} rows, those that were answered")
 
 

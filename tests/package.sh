@@ -75,6 +75,6 @@ salt=$(echo "$hash" | cut -d '$' -f 4)
     fail "anna's password isn't the one that was said"
 sum=$(sha256sum <"$debian/var/lib/hall/day.book")
 inside dpkg --purge hall >"$room/log" 2>&1 || { cat "$room/log" >&2; fail "isn't purged"; }
-[ ! -e "$debian/usr/bin/hall" ] && [ ! -e "$debian/etc/hall" ] || fail "something is left behind"
+if [ -e "$debian/usr/bin/hall" ] || [ -e "$debian/etc/hall" ]; then fail "something is left"; fi
 [ "$sum" = "$(sha256sum <"$debian/var/lib/hall/day.book")" ] || fail "the book is gone"
 echo "package: installed, README's day, service exposed at $exposed, purged, the book stays"

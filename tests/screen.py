@@ -22,6 +22,8 @@ DAY = "2025-03-03"
 SEED = 45
 # Milliseconds in which a chart of a thousand packs has to be drawn.
 PROMPT_CHART = 100
+# How far the parts of a page may be moved while it is looked at, in parts of it.
+CALM = 0.05
 # Bytes that a page may load in all.
 PAGE_BYTES = 60_000
 WRONG_TARE, TARE = 19_000, 10_000
@@ -224,7 +226,7 @@ def another_machine(day):
     other.driver.set_window_size(500, 900)
     other.picture(f"{day.pictures}/desk_narrow.png")
     other.open("board")
-    other.wait_text("#board", "Bilanz der Halle")
+    other.wait_text("#board", "Zeilen")
     other.picture(f"{day.pictures}/board_narrow.png")
 
 
@@ -268,6 +270,7 @@ def weigh(day, anna, wall):
     day.weigh(["MORNING", "NOON"], [slowly(morning, 1, last), slowly(noon, 10)])
     wall.open("board")
     wall.wait_text("#board", "✗ reject inadequate")
+    since = wall.run("return performance.now()")
     wait_until(lambda: weighed(day.rows(), 1) == 109 and weighed(day.rows(), 2) == 1_000,
                "109 and 1 000 packs", 120)
     form = anna.act("end", batch="MORNING", twice=True)
@@ -284,7 +287,20 @@ def weigh(day, anna, wall):
     wait_until(lambda: wall.text("#board").count("250.") > 0, "the board")
     time.sleep(3)
     wall.picture(f"{day.pictures}/board.png")
+    jumps = shifts(wall, since)
+    need(jumps <= CALM, f"the board jumps, by {jumps:.3f} of it")
     print("screen: the board shows a reject, a held batch and that it is free again", flush=True)
+
+
+def shifts(browser, since):
+    """How far parts of a page were moved by others since a moment, as the browser measures it."""
+    return browser.driver.execute_async_script("""
+        const [since, tell] = arguments;
+        const found = [];
+        new PerformanceObserver((list) => found.push(...list.getEntries()))
+            .observe({ type: "layout-shift", buffered: true });
+        setTimeout(() => tell(found.filter((one) => one.startTime > since)
+            .reduce((sum, one) => sum + one.value, 0)), 500)""", since)
 
 
 def weighed(rows, lane):
