@@ -34,6 +34,7 @@ class Relay(threading.Thread):
         self.listener = socket.create_server(("127.0.0.1", 0))
         self.port = self.listener.getsockname()[1]
         self.slow = False
+        self.down = False
         self.links = []
         self.start()
 
@@ -41,6 +42,8 @@ class Relay(threading.Thread):
         while True:
             near, _ = self.listener.accept()
             try:
+                if self.down:
+                    raise ConnectionError
                 far = socket.create_connection(("127.0.0.1", 443), timeout=5)
             except OSError:
                 near.close()
@@ -208,10 +211,12 @@ def write(path, coded):
         file.write(base64.b64decode(coded))
 
 
-def cut_between(browser, book, enter):
-    """Enters an act whose answer is lost: the link is cut as soon as the book has its row."""
+def cut_between(browser, book, enter, down=False):
+    """Enters an act whose answer is lost: the link is cut as soon as the book has its row, and may
+    stay down."""
     before = os.path.getsize(book)
     browser.relay.slow = True
     enter()
     wait_until(lambda: os.path.getsize(book) > before, "the row of the act whose answer is lost")
+    browser.relay.down = down
     browser.relay.cut()

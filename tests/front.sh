@@ -12,7 +12,7 @@ need nginx libnginx-mod-http-js nftables iproute2 openssl util-linux python3
 if [ -z "${HALL:-}" ]; then tools/build; fi
 hall=$(realpath "${HALL:-crates/hall_cli/out/hall_cli}")
 room=$(mktemp -d)
-trap 'rm -rf "$room"' EXIT
+trap 'rm -rf "$room"; rmdir /etc/hall /usr/share/hall 2>/dev/null || true' EXIT
 chmod 755 "$room"
 unshare --mount --net --pid --fork --kill-child --mount-proc \
     timeout 300 python3 tests/front.py "$hall" "$room"

@@ -4,7 +4,7 @@ running `hall serve`, in mounts and a network of its own.
 Entered by `unshare --mount --net --pid --fork --kill-child --mount-proc`, so that nothing reaches
 another machine, no file of this one is changed, and everything ends with the script. The paths of
 the configuration are mounted over: /etc/hall, /usr/share/hall, /run, /var/log/nginx and the file
-/etc/nginx/nginx.conf.
+/etc/nginx/nginx.conf. Folders that weren't there are made, and removed by the script.
 """
 
 import os

@@ -34,7 +34,10 @@ class Day:
 
     def __init__(self, program, room, pictures):
         self.program, self.room, self.pictures = program, room, pictures
-        self.book = f"{room}/day.book"
+        self.disk = f"{room}/disk"
+        os.mkdir(self.disk)
+        run("mount", "-t", "tmpfs", "-o", "size=4m", "tmpfs", self.disk)
+        self.book = f"{self.disk}/day.book"
         self.draw = random.Random(SEED)
         self.front = Front(PEOPLE)
         self.front.start()
@@ -209,6 +212,53 @@ def lose_a_request(day, anna):
     print("screen: an act without a front was done when it was there again", flush=True)
 
 
+def stay_in_doubt(day, anna, other):
+    """Where another machine went on as the same desk before a lost answer was asked for again, the
+    page says that it can't know, and asks nothing again."""
+    before = len(day.rows())
+    other.choose_desk(101)
+    cut_between(anna, day.book, lambda: anna.act("open", batch="DOUBT", product="rice250"),
+                down=True)
+    other.told(other.act("open", batch="MEANWHILE", product="rice250"), "Getan")
+    anna.relay.down = False
+    anna.told("#act-open", "Whether this act was done isn't known")
+    need(len(day.rows()) == before + 2, "an act in doubt was asked again")
+    anna.told(anna.act("open", batch="AFTER", product="rice250"), f"row {before + 3}.")
+    print("screen: an act that can't be known is told so, and not done twice", flush=True)
+
+
+def fill(path):
+    """A file that takes what is left of its disk."""
+    with open(path, "wb", buffering=0) as file:
+        try:
+            while file.write(bytes(512)):
+                pass
+        except OSError:
+            pass
+
+
+def full_disk(day, anna):
+    """While the book's disk is full the page says so; with room again the act is done, once."""
+    before = len(day.rows())
+    filler = f"{day.disk}/filler"
+    fill(filler)
+    tried = 0
+    form = anna.act("product", name="rye500", nominal="500")
+    while not anna.run("return document.querySelector('.pending.diskFailed')"):
+        # the last page of the file may have room for some rows
+        tried += 1
+        need(tried < 100, "the disk isn't full")
+        anna.told(form, "Done")
+        form = anna.act("product", name=f"rye{tried}", nominal="500")
+        time.sleep(0.2)
+    anna.wait_text("#desk .pending", "disk failed")
+    anna.picture(f"{day.pictures}/disk_failed.png")
+    os.remove(filler)
+    anna.told(form, "Done")
+    need(len(day.rows()) == before + tried + 1, "an act on a full disk acted once")
+    print("screen: a full disk is told, and its act was done with room again", flush=True)
+
+
 def another_machine(day):
     """A page on another machine learns the last number from the refusal, and acts once."""
     before = len(day.rows())
@@ -228,6 +278,8 @@ def another_machine(day):
     other.open("board")
     other.wait_text("#board", "Zeilen")
     other.picture(f"{day.pictures}/board_narrow.png")
+    other.driver.set_window_size(1400, 1000)
+    return other
 
 
 def check_list(browser):
@@ -537,7 +589,9 @@ def work(day):
     lose_an_answer(day, anna)
     lose_a_request(day, anna)
     two_tabs(day, anna)
-    another_machine(day)
+    other = another_machine(day)
+    stay_in_doubt(day, anna, other)
+    full_disk(day, anna)
     ben, wall = day.browser("ben"), day.browser("wall", size="1920,1080")
     not_theirs(day, ben)
     anna.choose_desk(101)

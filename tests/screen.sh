@@ -14,7 +14,7 @@ need nginx libnginx-mod-http-js chromium chromium-driver python3-selenium popple
 if [ -z "${HALL:-}" ]; then tools/build; fi
 hall=$(realpath "${HALL:-crates/hall_cli/out/hall_cli}")
 room=$(mktemp -d)
-trap 'rm -rf "$room"' EXIT
+trap 'rm -rf "$room"; rmdir /etc/hall /usr/share/hall 2>/dev/null || true' EXIT
 pictures=$(realpath "${1:-$room}")
 mkdir -p "$pictures"
 chmod 755 "$room"

@@ -46,7 +46,7 @@ const WORDS = {
   rejected: ["rejected", "ausgeschleust"],
   sampled: ["sampled", "gezogen"],
   voided: ["voided", "gestrichen"],
-  running: ["running", "läuft"],
+  running: ["running", "laufend"],
   ended: ["ended", "beendet"],
   drawn: ["drawn", "Probe gezogen"],
   closed: ["closed", "abgeschlossen"],
