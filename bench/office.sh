@@ -6,11 +6,10 @@
 # adds a row). Best of three runs of 4 seconds, in turn. Printed are requests a second and the ratios
 # to nginx.
 #
-# usage: bench/office.sh     (behind `.ci/run`, which builds both programs; packages nginx-light, wrk)
+# usage: bench/office.sh     (HALL names another program than that of `.ci/run`; packages nginx-light, wrk)
 set -eu
 cd "$(dirname "$0")/.."
 hall=${HALL:-$PWD/crates/hall_cli/out/hall_cli}
-office=${OFFICE:-$PWD/crates/office_trial/out/office_trial}
 room=$(mktemp -d)
 trap 'rm -rf "$room"; kill $(jobs -p) 2>/dev/null || true' EXIT
 port=$((20000 + $$ % 20000))
@@ -60,7 +59,7 @@ rate() {
 
 best() { sort -n | tail -1; }
 
-"$office" "$room/day.book" $port 1000000 &
+"$hall" serve --book "$room/day.book" --doors 1 --port $port --connections 999999 </dev/null >/dev/null &
 sleep 2
 : >"$room/door"; : >"$room/nginx"; : >"$room/acts"
 for _ in 1 2 3; do
@@ -68,7 +67,7 @@ for _ in 1 2 3; do
     rate http://127.0.0.1:$((port + 1))/sheet >>"$room/nginx"
 done
 for run in 1 2 3; do
-    "$office" - $((port + 1 + run)) 1000000 &
+    "$hall" serve --doors 1 --port $((port + 1 + run)) --connections 999999 </dev/null >/dev/null &
     sleep 1
     rate -s "$room/acts.lua" http://127.0.0.1:$((port + 1 + run)) >>"$room/acts"
 done

@@ -6,11 +6,10 @@
 # desk voids a pack and loses the answer, asks again, ends the batch, draws it, measures what was
 # drawn, closes it and reads its sheet. Each request is a connection of its own.
 #
-# usage: tests/office.sh     (behind `.ci/run`, which builds both programs)
+# usage: tests/office.sh     (HALL names another program than the one that `./hall` builds)
 set -eu
 cd "$(dirname "$0")/.."
 hall=${HALL:-$PWD/crates/hall_cli/out/hall_cli}
-office=${OFFICE:-$PWD/crates/office_trial/out/office_trial}
 room=$(mktemp -d)
 trap 'rm -rf "$room"; kill $(jobs -p) 2>/dev/null || true' EXIT
 port=$((20000 + $$ % 20000))
@@ -19,7 +18,8 @@ PACKS=101 VOIDED=30 DRAWN=30
 
 # serves so many connections over the book of the office
 serve() {
-    timeout 120 "$office" "$room/office.book" $port "$1" >>"$room/doors" &
+    timeout 120 "$hall" serve --book "$room/office.book" --doors 1 --port $port \
+        --connections "$1" </dev/null >>"$room/doors" &
 }
 
 # sends an act of desk 101, and says the answer as a script's is said
@@ -98,4 +98,4 @@ weighings | run >/dev/null
 
 diff "$room/script" "$room/http"
 grep -c . "$room/http" | sed 's/^/office: the same day by curl and by script, lines: /'
-cat "$room/doors"
+grep ^door "$room/doors"
