@@ -29,6 +29,7 @@ echo sheet B10 | "$hall" run --book "$room/day.book" | head -9 >"$room/sheet"
 cat >"$room/nginx.conf" <<CONF
 worker_processes 1;
 daemon off;
+user root;
 pid $room/pid;
 error_log $room/errors;
 events { worker_connections 64; }
