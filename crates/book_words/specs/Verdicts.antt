@@ -1,5 +1,5 @@
 -- The checks of Annex II, the packers' part, and the verdict.
-use Rattle.std.specs.Prelude.{ℕ, pos, ◌*◌, ◌*ℤ◌, Bool, true, false, not, ◌&&◌, ◌||◌, ◌==◌, nat_le, nat_lt, int_le, if◌then◌else◌, List, [], take, length, Option, Some}
+use Rattle.std.specs.Prelude.{ℕ, ℤ, pos, ◌*◌, ◌*ℤ◌, Bool, true, false, not, ◌&&◌, ◌||◌, ◌==◌, nat_le, nat_lt, int_le, if◌then◌else◌, List, [], take, length, Option, Some}
 use Rattle.std.specs.Option.{option_map_or, unwrap_or}
 use Rattle.annex_tables.specs.declared.types.Plan.{Plan}
 use Rattle.reference_test.specs.declared.types.Contents.{Contents}
@@ -40,11 +40,16 @@ abbrev pub is_accepted : Contents → Bool
 is_accepted Accept = true
 is_accepted _ = false
 
--- the contents check of a batch: the second sample counts only where the first leaves it open
+-- the contents check, by how many packs of each sample are defective: the second sample counts only
+-- where the first leaves it open
+abbrev pub contents_accepts : Plan → ℕ → ℕ → Bool
+contents_accepts plan d1 d2 = is_accepted (contents_of plan d1 (Some d2))
+
+-- the contents check of a batch
 abbrev pub contents_check_accepts : List Entry → Name → Sample → Bool
 contents_check_accepts entries batch sample =
-    is_accepted (contents_of sample.plan (first_defective entries batch sample)
-    (Some (second_defective entries batch sample)))
+    contents_accepts sample.plan (first_defective entries batch sample)
+    (second_defective entries batch sample)
 
 -- the mean check: over the first packs of the first sample, in drawing order
 abbrev pub mean_check_accepts : List Entry → Name → Sample → Bool
@@ -52,34 +57,55 @@ mean_check_accepts entries batch sample =
     mean_accepts (contents_among entries sample.mode (take sample.plan.mean_n sample.first))
     (nominal_of_batch entries batch) (density_of_batch entries batch) sample.plan.k1000
 
--- the packers' part, average: the packs of a batch weigh together at least what the nominal
--- quantity asks for
+-- the packers' part, average, by numbers: packs of this nominal quantity and density weigh together
+-- at least what it asks for
+abbrev pub average_by : ℕ → ℕ → ℤ → ℤ → Bool
+average_by number density nominal sum =
+    int_le (pos number *ℤ pos density *ℤ nominal) (pos UNIT_DENSITY *ℤ sum)
+
+-- the packers' part, allowance, by numbers: at most one in forty packs isn't standard
+abbrev pub allowance_by : ℕ → ℕ → Bool
+allowance_by number nonstandard = nat_le (40 * nonstandard) number
+
+-- the packers' part, inadequate, by numbers: no pack is inadequate
+abbrev pub none_inadequate : ℕ → Bool
+none_inadequate inadequate = inadequate == 0
+
+-- the parts that fail, by whether each is met
+abbrev pub fails_by : Bool → Bool → Bool → Bool → Bool → Fails
+fails_by contents mean average allowance inadequate =
+    record {
+      contents = not contents;
+      mean = not mean;
+      average = not average;
+      allowance = not allowance;
+      inadequate = not inadequate;
+    }
+
+-- the average of some packs of a batch
 abbrev pub average_accepts : List Entry → Name → List Reading → Bool
 average_accepts entries batch some =
-    int_le
-    (pos (length some) *ℤ pos (density_of_batch entries batch) *ℤ nominal_of_batch entries batch)
-    (pos UNIT_DENSITY *ℤ net_sum entries some)
+    average_by (length some) (density_of_batch entries batch) (nominal_of_batch entries batch)
+    (net_sum entries some)
 
--- the packers' part, allowance: at most one in forty packs isn't standard
+-- the allowance of some packs of a batch
 abbrev pub allowance_accepts : List Entry → Name → List Reading → Bool
 allowance_accepts entries batch some =
-    nat_le (40 * nonstandard_count entries batch some) (length some)
+    allowance_by (length some) (nonstandard_count entries batch some)
 
--- the packers' part, inadequate: no pack is inadequate
+-- no pack of some of a batch is inadequate
 abbrev pub no_inadequate : List Entry → Name → List Reading → Bool
-no_inadequate entries batch some = inadequate_count entries batch some == 0
+no_inadequate entries batch some = none_inadequate (inadequate_count entries batch some)
 
 -- the parts that fail of a batch with some packs and perhaps a sample; without a sample neither
 -- check accepts
 abbrev pub fails_of : List Entry → Name → List Reading → Option Sample → Fails
 fails_of entries batch some sample =
-    record {
-      contents = not (option_map_or (contents_check_accepts entries batch) sample false);
-      mean = not (option_map_or (mean_check_accepts entries batch) sample false);
-      average = not (average_accepts entries batch some);
-      allowance = not (allowance_accepts entries batch some);
-      inadequate = not (no_inadequate entries batch some);
-    }
+    fails_by (option_map_or (contents_check_accepts entries batch) sample false)
+    (option_map_or (mean_check_accepts entries batch) sample false)
+    (average_accepts entries batch some)
+    (allowance_accepts entries batch some)
+    (no_inadequate entries batch some)
 
 -- whether a part fails
 abbrev pub any_fails : Fails → Bool
