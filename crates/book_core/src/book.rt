@@ -352,6 +352,21 @@ impl Book {
         view_pack(&self.state, number)
     }
 
+    /// All entries, in the order of their rows, to be read.
+    pub fn entries(&self) -> &[Entry]
+        ensures value { result.now ≡ self.now.entries }
+        ensures legal { IsLegal self.now.entries }
+    {
+        self.state.entries()
+    }
+
+    /// The list with what is kept beside it, to look things up in.
+    pub fn state(&self) -> &State
+        ensures { result.now.entries ≡ self.now.entries }
+    {
+        &self.state
+    }
+
     /// The entry of a number; `None` exactly where the number isn't 1 to the number of rows.
     pub fn entry(&self, number: u32) -> Option<Entry>
         ensures { result ≡ entry_numbered self.now.entries number }
