@@ -15,10 +15,10 @@ use Rattle.hall_units.specs.Days.{YearMonthDay, IsDay, is_day, is_date_form, dat
 use Rattle.hall_units.proofs.Numerals.{bounded_number-is, bounded_number-from, bounded_number-within}
 use Rattle.hall_units.proofs.Calendar.{IsReal, number, natural_day, number_natural, number_within, date_after-real, date_after-number}
 
-digit_is : (k : ℕ) → k < 10 → is_ascii_digit (48 + k) ≡ true
+pub digit_is : (k : ℕ) → k < 10 → is_ascii_digit (48 + k) ≡ true
 digit_is k small = grind (arith, nat_tests)
 
-digit_value_is : (k : ℕ) → k < 10 → digit_value (48 + k) ≡ k
+pub digit_value_is : (k : ℕ) → k < 10 → digit_value (48 + k) ≡ k
 digit_value_is k small = grind (arith, nat_tests)
 
 two_numeral : (a b : ℕ) → a < 10 → b < 10 → is_numeral 2 ((48 + a) ∷ (48 + b) ∷ []) ≡ true

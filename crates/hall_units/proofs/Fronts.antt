@@ -28,7 +28,7 @@ digits_len-append ds t all = prefix_len-append is_ascii_digit ds t
     ∙ rw (eq-eqb (digits_len ds) (length ds) all) refl
 
 -- digits, and then what begins with none
-grams-append : (ds t : List ℕ) → digits_len ds ≡ length ds → digits_len t ≡ 0
+pub grams-append : (ds t : List ℕ) → digits_len ds ≡ length ds → digits_len t ≡ 0
     → milligrams_of (ds ++ t) ≡ mass_of (numeral_of 8 ds) (places_of t)
 grams-append ds t all none =
     let count : length ds ≡ digits_len (ds ++ t) = sym (digits_len-append ds t all ∙ omega arith) in
@@ -50,7 +50,7 @@ digits_len-take (suc i) (x ∷ xs) = elim (cases_Bool (is_ascii_digit x)) [
   | inr h ↦ rw h (omega arith)
 ]
 
-digits_from_all : (ds : List ℕ) → list_all is_ascii_digit ds ≡ true → digits_len ds ≡ length ds
+pub digits_from_all : (ds : List ℕ) → list_all is_ascii_digit ds ≡ true → digits_len ds ≡ length ds
 digits_from_all [] h = refl
 digits_from_all (d ∷ ds) h =
     let parts = and_parts (is_ascii_digit d) (list_all is_ascii_digit ds) h in

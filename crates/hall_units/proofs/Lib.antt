@@ -4,3 +4,4 @@ pub mod DayTexts
 pub mod Fronts
 pub mod Numerals
 pub mod Digits
+pub mod ReadBack

@@ -1,4 +1,5 @@
-ghost use Rattle.std.specs.Prelude.{decimal};
+ghost use Rattle.std.specs.Prelude.{◌≡◌, Some, decimal};
+ghost use Rattle.hall_units.specs.Number.{bounded_number};
 ghost use Rattle.hall_units.specs.Printing.{Prints};
 
 use crate::push::push_bytes;
@@ -27,7 +28,8 @@ pub fn push_decimal(to: &mut Vec<u8>, number: u128) -> Result<(), NoMemory>
 /// Appends the decimal digits of a count. With room for `MAX_COUNT` bytes it takes no memory; a
 /// refusal leaves the bytes as they were.
 pub fn push_count(to: &mut Vec<u8>, count: u32) -> Result<(), NoMemory>
-    ensures { Prints to.old to.new result (decimal count) MAX_COUNT }
+    ensures prints { Prints to.old to.new result (decimal count) MAX_COUNT }
+    ensures read_back { bounded_number MAX_COUNT u32.MAX (decimal count) ≡ Some count }
 {
     let mut buffer = Buffer::new();
     push_bytes(to, buffer.format(count).as_bytes())?;
@@ -37,7 +39,8 @@ pub fn push_count(to: &mut Vec<u8>, count: u32) -> Result<(), NoMemory>
 /// Appends the decimal digits of a number of 64 bits. With room for `MAX_NUMBER` bytes it takes no
 /// memory; a refusal leaves the bytes as they were.
 pub fn push_number(to: &mut Vec<u8>, value: u64) -> Result<(), NoMemory>
-    ensures { Prints to.old to.new result (decimal value) MAX_NUMBER }
+    ensures prints { Prints to.old to.new result (decimal value) MAX_NUMBER }
+    ensures read_back { bounded_number MAX_NUMBER u64.MAX (decimal value) ≡ Some value }
 {
     let mut buffer = Buffer::new();
     push_bytes(to, buffer.format(value).as_bytes())?;

@@ -111,7 +111,8 @@ fn spelled_length(text: &[u8], whole: usize) -> usize
 #[tactic(auto, unfolding(crate::specs::Grams::gram_text))]
 pub fn print_grams(mg: i64, to: &mut Vec<u8>) -> Result<(), NoMemory>
     requires { unsigned_abs mg ≤ 10 ^ 15 }
-    ensures { Prints to.old to.new result (gram_text mg) MAX_GRAM_TEXT }
+    ensures prints { Prints to.old to.new result (gram_text mg) MAX_GRAM_TEXT }
+    ensures read_back { IsReadMass mg → milligrams_of (gram_text mg) ≡ Some mg }
 {
     make_room(to, MAX_GRAM_TEXT)?;
     push_sign(mg, to)?;
