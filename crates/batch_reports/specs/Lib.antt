@@ -1,2 +1,2 @@
 pub mod Texts
-pub mod Appending
+pub use Rattle.book_texts.specs.Appending

@@ -2,25 +2,13 @@
 use Rattle.std.specs.Prelude.{ℕ, ℤ, pos, Bool, List, [], ◌∷◌, ◌++◌, ◌==◌, true, false, if◌then◌else◌, codes, decimal, Option, Some, None, Result, Ok, Err}
 use Rattle.hall_units.specs.Grams.{gram_text}
 use Rattle.hall_units.specs.Days.{day_text}
-use Rattle.annex_tables.specs.declared.types.Mode.{Mode}
-use Rattle.annex_tables.specs.declared.types.Mode.TheVariants.{Keep, Destroy}
-use Rattle.pack_judge.specs.declared.types.Class.{Class}
-use Rattle.pack_judge.specs.declared.types.Class.TheVariants as classes
 use Rattle.pack_judge.specs.declared.types.Signal.{Signal}
-use Rattle.pack_judge.specs.declared.types.Signal.TheVariants.{Pass, Reject}
-use Rattle.pack_judge.specs.declared.types.Cause.{Cause}
-use Rattle.pack_judge.specs.declared.types.Cause.TheVariants.{Held, Full, Inadequate, Allowance}
-use Rattle.pack_judge.specs.declared.types.Pile.{Pile}
-use Rattle.pack_judge.specs.declared.types.Pile.TheVariants.{Passed, Rejected, Sampled, Voided}
 use Rattle.pack_judge.specs.declared.types.Tally.{Tally}
 use Rattle.book_words.specs.declared.name.Name.{Name}
 use Rattle.book_words.specs.declared.act.Unit as units
 use Rattle.book_words.specs.declared.act.Unit.TheVariants.{Mass, Volume}
 use Rattle.book_words.specs.declared.act.BatchState as states
-use Rattle.book_words.specs.declared.act.BatchState.TheVariants.{Running, Ended, Drawn, Closed}
-use Rattle.book_words.specs.declared.views.Fails.{Fails}
 use Rattle.book_words.specs.declared.views.Verdict.{Verdict}
-use Rattle.book_words.specs.declared.views.Verdict.TheVariants.{Empty, Released, Withheld}
 use Rattle.book_words.specs.declared.views.TestView.{TestView}
 use Rattle.book_words.specs.declared.views.Sheet.{Sheet}
 use Rattle.book_words.specs.declared.views.PackView.{PackView}
@@ -35,43 +23,7 @@ use Rattle.book_words.specs.declared.refusal.Refusal.{Refusal}
 use Rattle.book_words.specs.declared.refusal.Refusal.TheVariants as why
 use Rattle.book_words.specs.Names.{bytes_of}
 use Rattle.book_words.specs.Numbers.{refusal_number, refusal_name}
-
--- the word for a cause
-abbrev pub cause_text : Cause → List ℕ
-cause_text Held = codes "held"
-cause_text Full = codes "full"
-cause_text Inadequate = codes "inadequate"
-cause_text Allowance = codes "allowance"
-
--- the words for a signal
-abbrev pub signal_text : Signal → List ℕ
-signal_text Pass = codes "pass"
-signal_text (Reject cause) = codes "reject " ++ cause_text cause
-
--- the word for a class
-abbrev pub class_text : Class → List ℕ
-class_text classes.Standard = codes "standard"
-class_text classes.NonStandard = codes "nonstandard"
-class_text classes.Inadequate = codes "inadequate"
-
--- the word for a pile
-abbrev pub pile_text : Pile → List ℕ
-pile_text Passed = codes "passed"
-pile_text Rejected = codes "rejected"
-pile_text Sampled = codes "sampled"
-pile_text Voided = codes "voided"
-
--- the word for a state
-abbrev pub state_text : states.BatchState → List ℕ
-state_text Running = codes "running"
-state_text Ended = codes "ended"
-state_text Drawn = codes "drawn"
-state_text Closed = codes "closed"
-
--- the word for a mode
-abbrev pub mode_text : Mode → List ℕ
-mode_text Keep = codes "keep"
-mode_text Destroy = codes "destroy"
+pub use Rattle.book_texts.specs.Words.{class_text, mode_text, pile_text, signal_text, state_text, unit_text, verdict_text}
 
 -- the row of an accepted act
 abbrev pub done_line : ℕ → List ℕ
@@ -80,23 +32,6 @@ done_line row = decimal row ++ codes " ok\n"
 -- the row of an accepted weighing, and its signal
 abbrev pub judged_line : ℕ → Signal → List ℕ
 judged_line row signal = decimal row ++ codes " " ++ signal_text signal ++ codes "\n"
-
--- some words, where a part of the test fails
-abbrev pub part_text : Bool → List ℕ → List ℕ
-part_text fails words = if fails then words else []
-
--- the words for the parts that fail, each behind a blank
-abbrev pub fails_text : Fails → List ℕ
-fails_text fails =
-    part_text fails.contents (codes " contents") ++ part_text fails.mean (codes " mean")
-    ++ part_text fails.average (codes " average") ++ part_text fails.allowance (codes " allowance")
-    ++ part_text fails.inadequate (codes " inadequate")
-
--- the words for a verdict
-abbrev pub verdict_text : Verdict → List ℕ
-verdict_text Empty = codes "empty"
-verdict_text Released = codes "released"
-verdict_text (Withheld fails) = codes "withheld" ++ fails_text fails
 
 -- the row of an accepted closing, and the verdict
 abbrev pub closed_line : ℕ → Verdict → List ℕ
@@ -127,11 +62,6 @@ summary_text view =
     codes "rows " ++ decimal view.rows ++ codes "\n"
     ++ tally_lines view.readings view.passed view.rejected view.sampled view.voided
     ++ batches_line view
-
--- what stands behind a quantity: nothing by mass, in grams, and `ml` by volume, in millilitres
-abbrev pub unit_text : units.Unit → List ℕ
-unit_text Mass = []
-unit_text Volume = codes " ml"
 
 -- a quantity of goods with its unit
 abbrev pub quantity_text : ℤ → units.Unit → List ℕ

@@ -1,17 +1,15 @@
 ghost use Rattle.book_words.specs.Ranges.{IsReplyInRange};
 ghost use Rattle.book_words.specs.Soundness.{IsAnswer};
 ghost use Rattle.hall_units.specs.Printing.{Prints};
-ghost use Rattle.batch_reports.specs.Appending.{HasRoom, Appended};
+ghost use Rattle.book_texts.specs.Appending.{HasRoom, Appended};
 ghost use Rattle.batch_reports.specs.Texts.{answer_text, reply_text, done_line, judged_line, closed_line};
 
 use crate::lanes::push_lane;
 use crate::packs::push_pack;
-use crate::pieces::{append, append_count, append_word};
 use crate::samples::push_sample;
 use crate::sheets::push_sheet;
 use crate::summaries::push_summary;
-use crate::verdicts::push_verdict;
-use crate::words::signal_words;
+use book_texts::{append, append_count, append_word, push_verdict, signal_words};
 use book_words::{Answered, Reply, Verdict};
 use hall_units::{NoMemory, make_room};
 use pack_judge::Signal;

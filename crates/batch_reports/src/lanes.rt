@@ -1,8 +1,8 @@
 ghost use Rattle.std.specs.Prelude.{Some};
-ghost use Rattle.batch_reports.specs.Appending.{HasRoom, Appended};
+ghost use Rattle.book_texts.specs.Appending.{HasRoom, Appended};
 ghost use Rattle.batch_reports.specs.Texts.{unsettled_text, use_text, lane_text};
 
-use crate::pieces::{MAX_NAMED, MAX_NUMBERED, append, append_named, append_numbered};
+use book_texts::{MAX_NAMED, MAX_NUMBERED, append, append_named, append_numbered};
 use book_words::{LaneView, Name};
 
 /// The most bytes of what a lane weighs: a name and a number.

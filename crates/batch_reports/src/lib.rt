@@ -5,17 +5,15 @@
 mod answers;
 mod lanes;
 mod packs;
-mod pieces;
 mod refusals;
 mod samples;
 mod sheets;
 mod summaries;
 mod tallies;
-mod verdicts;
-mod words;
 
 pub use answers::{TEXT_ROOM, answer_text};
-pub use pieces::{append, append_count, append_day, append_grams, append_number};
-pub use refusals::{MAX_KEPT, MAX_LEAD, push_kept, refusal_text};
-pub use verdicts::{MAX_VERDICT, push_verdict};
-pub use words::{class_word, pile_word, signal_words};
+pub use book_texts::{
+    MAX_VERDICT, append, append_count, append_day, append_grams, append_number, class_word,
+    pile_word, push_verdict, signal_words,
+};
+pub use refusals::{MAX_KEPT, MAX_LEAD, push_kept, push_refused, refusal_text};

@@ -1,12 +1,11 @@
 ghost use Rattle.book_words.specs.Ranges.{IsPackInRange};
-ghost use Rattle.batch_reports.specs.Appending.{HasRoom, Appended};
+ghost use Rattle.book_texts.specs.Appending.{HasRoom, Appended};
 ghost use Rattle.batch_reports.specs.Texts.{masses_text, found_text, pack_text};
 
-use crate::pieces::{
+use book_texts::{
     MAX_NAMED, MAX_NUMBERED, MAX_WEIGHED, MAX_WORD, append, append_named, append_numbered,
-    append_weighed, append_word,
+    append_weighed, append_word, class_word, pile_word, signal_words,
 };
-use crate::words::{class_word, pile_word, signal_words};
 use book_words::PackView;
 
 /// The most bytes of what a pack weighs: two numbers, a name and two masses.

@@ -5,12 +5,13 @@ ghost use Rattle.hall_units.specs.Printing.{Prints};
 ghost use Rattle.book_words.specs.Names.{bytes_of};
 ghost use Rattle.book_words.specs.Ranges.{IsBetween, IsRefusalInRange};
 ghost use Rattle.book_words.specs.Soundness.{IsRefusal};
-ghost use Rattle.batch_reports.specs.Appending.{HasRoom, Appended};
+ghost use Rattle.book_texts.specs.Appending.{HasRoom, Appended};
 ghost use Rattle.batch_reports.specs.Texts.{refusal_text, kept_text, wanted_text};
 
 use crate::answers::TEXT_ROOM;
-use crate::pieces::{append, append_count, append_day, append_grams};
-use crate::words::{MAX_WORDS, pile_word, state_word};
+use book_texts::{
+    MAX_WORDS, append, append_count, append_day, append_grams, pile_word, state_word,
+};
 use book_words::{Name, Refusal, Refused};
 use hall_limits::MAX_GROSS;
 use hall_units::{MAX_GRAM_TEXT, NoMemory, make_room};
@@ -35,9 +36,10 @@ pub fn refusal_text(refused: &Refused, to: &mut Vec<u8>) -> Result<(), NoMemory>
     Ok(())
 }
 
-// Appends a refusal.
+/// Appends the text of a refusal, whoever told it: of any that keeps what is in range, also one that
+/// no ask was answered with.
 #[tactic(auto, unfolding(crate::specs::Texts::refusal_text))]
-fn push_refused(to: &mut Vec<u8>, refused: &Refused)
+pub fn push_refused(to: &mut Vec<u8>, refused: &Refused)
     requires room { HasRoom to.old TEXT_ROOM }
     requires range { IsRefusalInRange refused.now.refusal }
     ensures { Appended to.old to.new (refusal_text refused.now) TEXT_ROOM }

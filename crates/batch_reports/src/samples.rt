@@ -1,9 +1,9 @@
 ghost use Rattle.std.specs.Prelude.{◌+◌, ◌*◌, length};
 ghost use Rattle.book_words.specs.Ranges.{IsSampleInRange};
-ghost use Rattle.batch_reports.specs.Appending.{HasRoom, Appended};
+ghost use Rattle.book_texts.specs.Appending.{HasRoom, Appended};
 ghost use Rattle.batch_reports.specs.Texts.{packs_text, second_text, sample_text};
 
-use crate::pieces::{MAX_NAMED, append, append_named, append_number};
+use book_texts::{MAX_NAMED, append, append_named, append_number};
 use book_words::{MAX_DRAWN, SampleView};
 use hall_units::MAX_NUMBER;
 

@@ -1,15 +1,13 @@
 ghost use Rattle.std.specs.Prelude.{Some, ◌≤◌, ◌^◌, ◌++◌, length, unsigned_abs};
 ghost use Rattle.book_words.specs.Ranges.{IsSheetInRange};
-ghost use Rattle.batch_reports.specs.Appending.{HasRoom, Appended};
+ghost use Rattle.book_texts.specs.Appending.{HasRoom, Appended};
 ghost use Rattle.batch_reports.specs.Texts.{quantity_text, density_text, goods_line, state_line, population_line, held_line, counts_line, first_line, second_line, test_lines, verdict_line, sheet_text};
 
-use crate::pieces::{
-    MAX_LABEL, MAX_NAMED, MAX_NUMBERED, MAX_WEIGHED, append, append_named, append_numbered,
-    append_weighed,
-};
 use crate::tallies::{MAX_TALLIES, push_tallies};
-use crate::verdicts::{MAX_VERDICT, push_verdict};
-use crate::words::{MAX_WORDS, mode_word, state_word, unit_word};
+use book_texts::{
+    MAX_LABEL, MAX_NAMED, MAX_NUMBERED, MAX_VERDICT, MAX_WEIGHED, MAX_WORDS, append, append_named,
+    append_numbered, append_weighed, mode_word, push_verdict, state_word, unit_word,
+};
 use book_words::{BatchState, Sheet, TestView, Unit, Verdict};
 
 /// The most bytes of a quantity with its label and its unit.

@@ -1,9 +1,9 @@
 ghost use Rattle.book_words.specs.Ranges.{IsSummaryInRange};
-ghost use Rattle.batch_reports.specs.Appending.{HasRoom, Appended};
+ghost use Rattle.book_texts.specs.Appending.{HasRoom, Appended};
 ghost use Rattle.batch_reports.specs.Texts.{batches_line, summary_text};
 
-use crate::pieces::{MAX_NUMBERED, append, append_numbered};
 use crate::tallies::{MAX_TALLIES, push_tallies};
+use book_texts::{MAX_NUMBERED, append, append_numbered};
 use book_words::SummaryView;
 
 /// The most bytes of the line of the batches: four labels and numbers, and the LF.

@@ -1,11 +1,9 @@
 ghost use Rattle.std.specs.Prelude.{◌≤◌, length};
 ghost use Rattle.book_words.specs.Ranges.{IsGrossInRange};
-ghost use Rattle.batch_reports.specs.Appending.{HasRoom, Appended};
+ghost use Rattle.book_texts.specs.Appending.{HasRoom, Appended};
 ghost use Rattle.batch_reports.specs.Texts.{tally_line, tally_lines};
 
-use crate::pieces::{
-    MAX_LABEL, MAX_NUMBERED, MAX_WEIGHED, append, append_numbered, append_weighed,
-};
+use book_texts::{MAX_LABEL, MAX_NUMBERED, MAX_WEIGHED, append, append_numbered, append_weighed};
 use pack_judge::Tally;
 
 /// The most bytes of the line of a tally: a label and a number, a label and a mass, and the LF.

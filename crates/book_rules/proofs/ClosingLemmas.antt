@@ -146,8 +146,9 @@ module _ (entries : List Entry) (entry : Entry) (name : Name) (is : entry.act �
   net_still reading = ap (λ (t : Option ℤ). reading.gross -ℤ unwrap_or t (pos 0))
       (tare_still reading.batch reading.day)
 
-  agrees : (batch : Name) → Agree (entries ++ entry ∷ []) entries batch
-  agrees batch =
+  -- with a closing the list agrees with the one before
+  pub close_agrees : (batch : Name) → Agree (entries ++ entry ∷ []) entries batch
+  close_agrees batch =
       record {
         packs = ap (counted_readings batch) readings_still;
         sample = sample_still batch;
@@ -163,4 +164,4 @@ module _ (entries : List Entry) (entry : Entry) (name : Name) (is : entry.act �
 
   -- the verdict of any batch stays with a closing
   pub close_keeps : (batch : Name) → verdict_of (entries ++ entry ∷ []) batch ≡ verdict_of entries batch
-  close_keeps batch = same_verdict (entries ++ entry ∷ []) entries batch (agrees batch)
+  close_keeps batch = same_verdict (entries ++ entry ∷ []) entries batch (close_agrees batch)

@@ -1,6 +1,6 @@
 ghost use Rattle.std.specs.Prelude.{◌≤◌, ◌++◌, codes, length};
-ghost use Rattle.batch_reports.specs.Appending.{HasRoom, Appended};
-ghost use Rattle.batch_reports.specs.Texts.{part_text, fails_text, verdict_text};
+ghost use Rattle.book_texts.specs.Appending.{HasRoom, Appended};
+ghost use Rattle.book_texts.specs.Words.{part_text, fails_text, verdict_text};
 
 use crate::pieces::append;
 use book_words::{Fails, Verdict};

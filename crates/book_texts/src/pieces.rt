@@ -2,7 +2,7 @@ ghost use Rattle.std.specs.Prelude.{◌≤◌, ◌++◌, ◌^◌, codes, decimal
 ghost use Rattle.hall_units.specs.Days.{IsDay, day_text};
 ghost use Rattle.hall_units.specs.Grams.{gram_text};
 ghost use Rattle.book_words.specs.Names.{bytes_of};
-ghost use Rattle.batch_reports.specs.Appending.{HasRoom, Appended};
+ghost use Rattle.book_texts.specs.Appending.{HasRoom, Appended};
 
 use book_words::Name;
 use hall_limits::NAME_BYTES;

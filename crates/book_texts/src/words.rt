@@ -1,5 +1,5 @@
 ghost use Rattle.std.specs.Prelude.{◌≡◌, ◌≤◌, length};
-ghost use Rattle.batch_reports.specs.Texts.{signal_text, class_text, pile_text, state_text, mode_text, unit_text};
+ghost use Rattle.book_texts.specs.Words.{signal_text, class_text, pile_text, state_text, mode_text, unit_text};
 
 use annex_tables::Mode;
 use book_words::{BatchState, Unit};
