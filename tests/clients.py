@@ -122,7 +122,7 @@ class Hall:
     def visit_until_end(self, port):
         """At a door that has served its connections these wait a second each, in vain."""
         while not self.ended():
-            visit(port)
+            visit(port, b"\n")
 
     def said(self):
         with open(f"{self.folder}/said", encoding="utf-8") as said:
@@ -142,10 +142,12 @@ def make_pipes(folder, lanes):
                 os.mkfifo(path)
 
 
-def visit(port):
-    """Makes a connection without a request, and says whether it came about."""
+def visit(port, sent=b""):
+    """Makes a connection without a request, and says whether it came about. Where nothing is sent it
+    is none of the door's connections."""
     try:
-        socket.create_connection(("127.0.0.1", port), timeout=1).close()
+        with socket.create_connection(("127.0.0.1", port), timeout=1) as link:
+            link.sendall(sent)
         return True
     except OSError:
         return False

@@ -128,7 +128,7 @@ def full_at_the_snapshot():
 def start(batch):
     """A hall with a lane that weighs and a door, and a connection to it."""
     hall = Hall(program, f"{work}/lanes", plan(f"open {batch} P\n", [batch]), book=book.path, lanes=1,
-                doors=1, port=free_ports(), connections=2)
+                doors=1, port=free_ports())
     lane = Lane(hall, 1, ([drawn_gross(draw) for _ in range(20)] for _ in range(400)))
     lane.start()
     hall.wait_for_door(hall.ports[0])

@@ -21,12 +21,11 @@ use std::alloc::{AllocError, Global};
 use std::env;
 use std::fs::File;
 use std::io::{Eprint, ErrorKind};
-use std::net::{Net, TcpListener, TcpStream};
 use std::process::ExitCode;
 use std::rt::{Env, Files};
 use std::sync::Wait;
 use std::thread::Threads;
-use tcp_door::TcpDoor;
+use tcp_door::{Manners, TcpDoor};
 
 /// The bytes that a book in memory has room for with each row: the row itself, and as many again
 /// for its snapshot.
@@ -110,12 +109,8 @@ fn open_lanes<'a>(
 
 // A door at a port, for so many connections. Where it can't listen, standard error says why; it
 // then fails as it awaits its first connection.
-fn open_door<R: Eprint + Net<Listener = TcpListener, Stream = TcpStream>>(
-    rt: &R,
-    port: u16,
-    connections: u32,
-) -> TcpDoor {
-    let door = TcpDoor::listen(rt, port, connections);
+fn open_door(rt: HostRuntime, port: u16, connections: u32) -> TcpDoor<HostRuntime> {
+    let door = TcpDoor::listen(rt.alloc(), rt, port, connections, Manners::OFFICE);
     if let Some(error) = door.listen_error() {
         let _ = eprintln!(rt; "hall: can't listen at port {port}: {error}");
     }
@@ -123,10 +118,7 @@ fn open_door<R: Eprint + Net<Listener = TcpListener, Stream = TcpStream>>(
 }
 
 // The doors that the words ask for, at ports that rise from that of the first.
-fn open_doors<R: AllocGlobal + Eprint + Net<Listener = TcpListener, Stream = TcpStream>>(
-    rt: &R,
-    wanted: &Wants,
-) -> Result<Vec<TcpDoor>, AllocError>
+fn open_doors(rt: HostRuntime, wanted: &Wants) -> Result<Vec<TcpDoor<HostRuntime>>, AllocError>
     ensures { IfOk result (λ doors. length doors.items ≤ MAX_DOOR) }
 {
     let count = wanted.doors.min(MAX_DOOR);
@@ -205,7 +197,7 @@ fn main(rt: HostRuntime) -> ExitCode {
     let Ok(lanes) = open_lanes(&rt, &wanted) else {
         return end_without_memory(alloc, &mut output);
     };
-    let Ok(doors) = open_doors(&rt, &wanted) else {
+    let Ok(doors) = open_doors(rt, &wanted) else {
         return end_without_memory(alloc, &mut output);
     };
     over_book(&rt, &words, &wanted, &mut input, &mut output, lanes, doors)

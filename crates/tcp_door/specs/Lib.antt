@@ -1,1 +1,2 @@
 pub mod OpenDoors
+pub mod Silences

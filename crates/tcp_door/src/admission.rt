@@ -1,53 +1,32 @@
-ghost use Rattle.std.specs.Prelude.{◌≡◌, ◌↔◌, ◌<◌, IsNone, IsSome, IsOk, IsErr, IfOk};
+ghost use Rattle.std.specs.Prelude.{◌≡◌, ◌↔◌, ◌<◌, is_ok, false, true, IsSome, IsOk, IsErr, IfOk};
 
+use crate::entrance::{Entrance, Visit};
 use disk_core::Failed;
 use std::io;
-use std::io::ErrorKind;
-use std::net::{TcpListener, TcpStream};
-use std::time::Duration;
+use std::io::Eprint;
+use std::time::Clock;
 
-/// Waits for the next connection, where one is still awaited. A read or a write on it waits no
-/// longer than the quiet time, and small writes go out at once.
-pub(crate) fn admit(
-    listener: Option<&TcpListener>,
+/// Leaves a connection, if there is one, and waits for the next, where one is still awaited.
+pub(crate) fn admit<R: Clock + Eprint + Drop>(
+    entrance: &mut io::Result<Entrance<R>>,
+    left: Option<Visit>,
     awaited: u32,
-    quiet: Duration,
-) -> Result<Option<TcpStream>, Failed>
-    ensures closed { IsNone listener.entry → IsErr result }
-    ensures ends { IsSome listener.entry → awaited ≡ 0 → IsOk result }
-    ensures awaited { IfOk result (λ link. IsSome link ↔ (0 < awaited)) }
+) -> Result<Option<Visit>, Failed>
+    ensures closed { is_ok entrance.old ≡ false → IsErr result }
+    ensures ends { is_ok entrance.old ≡ true → awaited ≡ 0 → IsOk result }
+    ensures awaited { IfOk result (λ visit. IsSome visit ↔ (0 < awaited)) }
+    ensures kept { is_ok entrance.new ≡ is_ok entrance.old }
 {
-    let Some(listener) = listener else {
-        return Err(Failed)
+    let Ok(entrance) = entrance else {
+        return Err(Failed);
     };
+    if let Some(visit) = left {
+        entrance.leave(visit);
+    }
     if awaited == 0 {
+        entrance.close();
         return Ok(None);
     }
-    let link = accept_from(listener)?;
-    if prepare(&link, quiet).is_err() {
-        return Err(Failed);
-    }
-    Ok(Some(link))
-}
-
-// Accepts a connection. One that its client gave up before it was accepted is passed over.
-fn accept_from(listener: &TcpListener) -> Result<TcpStream, Failed> {
-    for link in listener.incoming() {
-        match link {
-            Ok(link) => return Ok(link),
-            Err(error) if is_passing(error.kind()) => {}
-            Err(_) => break,
-        }
-    }
-    Err(Failed)
-}
-
-fn is_passing(kind: ErrorKind) -> bool {
-    matches!(kind, ErrorKind::Interrupted | ErrorKind::ConnectionAborted)
-}
-
-fn prepare(link: &TcpStream, quiet: Duration) -> io::Result<()> {
-    link.set_nodelay(true)?;
-    link.set_read_timeout(Some(quiet))?;
-    link.set_write_timeout(Some(quiet))
+    let visit = entrance.admit()?;
+    Ok(Some(visit))
 }

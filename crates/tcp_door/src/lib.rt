@@ -2,16 +2,23 @@
 //!
 //! Promised: each call that fails counts one fault; a door that doesn't listen fails at each call;
 //! it serves as many connections as were asked for and no more; where no connection is present a
-//! read gives nothing and a write fails; a client that goes quiet has ended where none of its bytes
-//! were read since the last write, and is lost where some were.
+//! read gives nothing and a write fails; and what becomes of a client that is silent for so long
+//! (`Manners::patience`).
 //!
-//! Trusted: the system's calls, that they listen, accept, read, write and wait as they say. A link
-//! tells no bytes, so no clause speaks of what was said there.
+//! Trusted: the system's calls, that they listen, accept, read, write, wait and tell the time as
+//! they say; and that the door asks its manners of the time that has passed. A link tells no bytes,
+//! so no clause speaks of what was said there.
 #![tactic(auto)]
 
+mod accepting;
 mod admission;
-mod leaving;
-mod receiving;
+mod entrance;
+mod guests;
+mod leavers;
+mod links;
+mod manners;
+mod moments;
 mod tcp_door;
 
-pub use tcp_door::{QUIET_SECONDS, TcpDoor};
+pub use manners::{Manners, Patience};
+pub use tcp_door::TcpDoor;

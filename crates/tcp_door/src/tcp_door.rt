@@ -1,60 +1,57 @@
 use crate::admission::admit;
-use crate::leaving::leave;
-use crate::receiving::receive_from;
+use crate::entrance::{Entrance, Visit, open_entrance};
+use crate::manners::Manners;
 use device_facts::counted_once_more;
-use disk_core::{Door, Failed, Sink, Source, StdSink};
+use disk_core::{Door, Failed, Sink, Source};
+use std::alloc::Global;
 use std::io;
+use std::io::Eprint;
 use std::marker::Model;
-use std::net::{Ipv4Addr, Net, TcpListener, TcpStream};
-use std::time::Duration;
-
-/// For how many seconds a client may be quiet, unless the door is told another time.
-pub const QUIET_SECONDS: u64 = 60;
+use std::net::{Net, TcpListener, TcpStream};
+use std::time::Clock;
 
 /// A door over TCP, which listens on 127.0.0.1. It tells no bytes, only its faults: what the
 /// system's calls do is trusted. A door that doesn't listen fails at each call.
 ///
-/// A client that sends nothing for the quiet time has ended its connection, where none of its bytes
-/// were read since the last write; where some were it is within a request, and the read fails. A
-/// write for which the client makes no room in that time fails too.
+/// A connection is served from its first byte on, in the order in which these come; one that is
+/// closed before is none. How long its client is waited for its manners say. Between requests a
+/// client that is silent for too long has ended its connection. From the first byte read since the
+/// last write on it is within a request: where that takes too long, or the response isn't taken, the
+/// call fails.
 #[derive(Drop)]
-pub struct TcpDoor {
-    listener: io::Result<TcpListener>,
-    link: Option<TcpStream>,
+pub struct TcpDoor<R: Clock + Eprint + Drop> {
+    entrance: io::Result<Entrance<R>>,
+    visit: Option<Visit>,
     awaited: u32,
-    quiet: Duration,
     in_request: bool,
     ended: bool,
     faults: u64,
 }
 
-impl Model for TcpDoor {
+impl<R: Clock + Eprint + Drop> Model for TcpDoor<R> {
     ghost use Rattle.std.specs.Prelude.{is_ok, is_some};
     ghost use Rattle.tcp_door.specs.OpenDoors.{OpenDoor};
 
     ghost Value = { OpenDoor };
 
     ghost view = { λ d. record {
-      listens = is_ok d.listener;
+      listens = is_ok d.entrance;
       awaited = d.awaited;
-      is_present = is_some d.link;
+      is_present = is_some d.visit;
       in_request = d.in_request;
       ended = d.ended;
       faults = d.faults;
     } };
 }
 
-impl TcpDoor {
-    ghost use Rattle.std.specs.Prelude.{◌≡◌, ◌↔◌, ◌<◌, ◌≤◌, true, false, length, IsNone, IsErr, IfOk, Ok};
+impl<R: Clock + Eprint + Net<Listener = TcpListener, Stream = TcpStream> + Drop> TcpDoor<R> {
+    ghost use Rattle.std.specs.Prelude.{◌≡◌, false};
     ghost use Rattle.tcp_door.specs.OpenDoors.{OpenDoor};
 
-    /// Listens at this port for so many connections, which are served one after another. At port 0
-    /// the system picks a port. Where the port can't be had the door doesn't listen.
-    pub fn listen<R: Net<Listener = TcpListener, Stream = TcpStream>>(
-        net: &R,
-        port: u16,
-        connections: u32,
-    ) -> Self
+    /// Listens at this port for so many connections, which are served one after another, with these
+    /// manners. At port 0 the system picks a port. Where the port can't be had the door doesn't
+    /// listen. It takes no memory yet.
+    pub fn listen(alloc: Global, rt: R, port: u16, connections: u32, manners: Manners) -> Self
         ensures { result ≡ record {
           listens = result.listens;
           awaited = connections;
@@ -65,36 +62,31 @@ impl TcpDoor {
         } }
     {
         TcpDoor {
-            listener: TcpListener::bind(net, (Ipv4Addr::LOCALHOST, port)),
-            link: None,
+            entrance: open_entrance(alloc, rt, port, manners),
+            visit: None,
             awaited: connections,
-            quiet: Duration::from_secs(QUIET_SECONDS),
             in_request: false,
             ended: false,
             faults: 0,
         }
     }
+}
 
-    /// Sets the time, above 0, for which the clients of the connections to come may be quiet.
-    pub fn set_quiet_time(&mut self, quiet: Duration)
-        ensures { self.new ≡ self.old }
-    {
-        self.quiet = quiet;
-    }
+impl<R: Clock + Eprint + Drop> TcpDoor<R> {
+    ghost use Rattle.std.specs.Prelude.{◌≡◌, ◌↔◌, ◌<◌, ◌≤◌, true, false, length, IsNone, IsErr, IfOk, Ok};
 
     /// Why the door doesn't listen; none where it does.
     pub fn listen_error(&self) -> Option<&io::Error>
         ensures { IsNone result ↔ (self.now.listens ≡ true) }
     {
-        self.listener.as_ref().err()
+        self.entrance.as_ref().err()
     }
 
     /// The port at which it listens, where it does and the system tells it.
     pub fn port(&self) -> Option<u16>
         ensures { self.now.listens ≡ false → IsNone result }
     {
-        let address = self.listener.as_ref().ok()?.local_addr().ok()?;
-        Some(address.port())
+        self.entrance.as_ref().ok()?.port()
     }
 
     /// Whether the end of the present connection was given.
@@ -105,40 +97,42 @@ impl TcpDoor {
     }
 
     // Reads from the present connection; where none is present there is nothing to read.
-    fn receive(&self, into: &mut [u8]) -> Result<usize, Failed>
-        ensures closed { self.now.listens ≡ false → IsErr result }
-        ensures absent { self.now.listens ≡ true → self.now.is_present ≡ false → result ≡ Ok 0 }
+    fn receive(&mut self, into: &mut [u8]) -> Result<usize, Failed>
+        ensures closed { self.old.listens ≡ false → IsErr result }
+        ensures absent { self.old.listens ≡ true → self.old.is_present ≡ false → result ≡ Ok 0 }
         ensures bound { IfOk result (λ count. count ≤ length into.new) }
+        ensures kept { self.new ≡ self.old }
     {
-        if self.listener.is_err() {
+        let Ok(entrance) = &mut self.entrance else {
             return Err(Failed);
-        }
-        let Some(mut link) = self.link.as_ref() else {
+        };
+        let Some(visit) = &mut self.visit else {
             return Ok(0);
         };
-        let count = receive_from(&mut link, self.in_request, into)?;
+        let count = entrance.receive(visit, self.in_request, into)?;
         Ok(count)
     }
 
     // Writes to the present connection; where none is present nothing can be written.
-    fn send(&self, bytes: &[u8]) -> Result<usize, Failed>
-        ensures closed { self.now.listens ≡ false → IsErr result }
-        ensures absent { self.now.is_present ≡ false → 0 < length bytes.now → IsErr result }
+    fn send(&mut self, bytes: &[u8]) -> Result<usize, Failed>
+        ensures closed { self.old.listens ≡ false → IsErr result }
+        ensures absent { self.old.is_present ≡ false → 0 < length bytes.now → IsErr result }
         ensures bound { IfOk result (λ count. count ≤ length bytes.now) }
         ensures some { IfOk result (λ count. 0 < length bytes.now → 0 < count) }
+        ensures kept { self.new ≡ self.old }
     {
-        if self.listener.is_err() {
+        let Ok(entrance) = &mut self.entrance else {
             return Err(Failed);
-        }
-        let Some(link) = self.link.as_ref() else {
+        };
+        let Some(visit) = &mut self.visit else {
             return if bytes.is_empty() { Ok(0) } else { Err(Failed) };
         };
-        let count = StdSink::new(link).write(bytes)?;
+        let count = entrance.send(visit, bytes)?;
         Ok(count)
     }
 }
 
-impl Source for TcpDoor {
+impl<R: Clock + Eprint + Drop> Source for TcpDoor<R> {
     ghost use Rattle.std.specs.Prelude.{◌≡◌, ◌≤◌, ◌||◌, true, false, length, None, IfOk, IsErr, Ok};
     ghost use Rattle.device_facts.specs.Count.{CountsFault};
     ghost use Rattle.device_facts.specs.Frame.{NothingElse, nothing_else};
@@ -179,7 +173,7 @@ impl Source for TcpDoor {
     }
 }
 
-impl Sink for TcpDoor {
+impl<R: Clock + Eprint + Drop> Sink for TcpDoor<R> {
     ghost use Rattle.std.specs.Prelude.{◌≡◌, ◌<◌, ◌≤◌, ◌&&◌, not, false, length, None, IfOk, IsErr, refl};
     ghost use Rattle.std.proofs.Common.{◌∙◌};
     ghost use Rattle.device_facts.specs.Count.{CountsFault};
@@ -214,7 +208,7 @@ impl Sink for TcpDoor {
     }
 }
 
-impl Door for TcpDoor {
+impl<R: Clock + Eprint + Drop> Door for TcpDoor<R> {
     ghost use Rattle.std.specs.Prelude.{◌≡◌, ◌+◌, ◌<◌, ◌↔◌, true, false, None, IfOk, IsOk, IsErr, IsTrue, OnOk, OnErr, refl};
     ghost use Rattle.device_facts.specs.Count.{CountsFault};
     ghost use Rattle.tcp_door.specs.OpenDoors.{one_if};
@@ -246,14 +240,14 @@ impl Door for TcpDoor {
         ensures listens { self.new.listens ≡ self.old.listens }
         ensures cause { CountsFault self.old.faults self.new.faults result }
     {
-        leave(self.link.take(), self.ended);
-        let Ok(link) = admit(self.listener.as_ref().ok(), self.awaited, self.quiet) else {
+        let visit = self.visit.take();
+        let Ok(visit) = admit(&mut self.entrance, visit, self.awaited) else {
             self.faults = counted_once_more(self.faults);
             return Err(Failed);
         };
-        let found = link.is_some();
+        let found = visit.is_some();
         self.awaited -= u32::from(found);
-        self.link = link;
+        self.visit = visit;
         self.in_request = false;
         self.ended = false;
         Ok(found)

@@ -2,14 +2,22 @@ use disk_core::{Door, Failed, ListDoor, Sink, Source, write_all};
 use std::io::{Read, Write};
 use std::net::{Ipv4Addr, Net, Shutdown, TcpListener, TcpStream};
 use std::test::Fail;
-use std::time::Duration;
-use tcp_door::TcpDoor;
+use std::thread::sleep;
+use std::time::{Duration, Instant};
+use tcp_door::{Manners, TcpDoor};
 
-// For how long the clients of the tests may be quiet.
-const QUIET_MILLISECONDS: u64 = 200;
+type Host = TcpDoor<HostRuntime>;
+
+// Those of an office, whose times a test can wait for.
+const QUICK: Manners = Manners {
+    yields: 100,
+    silence: Some(600),
+    request: 300,
+    response: 300,
+};
 
 // Reads on, but not past the end.
-fn read(door: &mut TcpDoor, into: &mut [u8]) -> Result<usize, Failed> {
+fn read(door: &mut Host, into: &mut [u8]) -> Result<usize, Failed> {
     if door.has_ended() {
         return Err(Failed);
     }
@@ -18,7 +26,7 @@ fn read(door: &mut TcpDoor, into: &mut [u8]) -> Result<usize, Failed> {
 
 fn connect<R: Net<Listener = TcpListener, Stream = TcpStream>>(
     net: &R,
-    door: &TcpDoor,
+    door: &Host,
 ) -> Result<TcpStream, Fail> {
     let port = door.port().unwrap_or(0);
     Ok(TcpStream::connect(net, (Ipv4Addr::LOCALHOST, port))?)
@@ -33,7 +41,7 @@ fn heard(client: &mut TcpStream) -> Result<[u8; 4], Fail> {
 
 // Serves a client that asks, sends no more and hears the answer.
 fn serve(
-    door: &mut TcpDoor,
+    door: &mut Host,
     client: &mut TcpStream,
     asked: &[u8; 2],
     answer: &[u8; 4],
@@ -49,7 +57,7 @@ fn serve(
 
 #[test]
 fn serves_its_connections_one_after_another(rt: HostRuntime) -> Result<(), Fail> {
-    let mut door = TcpDoor::listen(&rt, 0, 2);
+    let mut door = TcpDoor::listen(rt.alloc(), rt, 0, 2, Manners::OFFICE);
     assert!(rt; door.listen_error().is_none());
     assert!(rt; read(&mut door, &mut [0; 4]) == Ok(0));
     let mut first = connect(&rt, &door)?;
@@ -63,11 +71,10 @@ fn serves_its_connections_one_after_another(rt: HostRuntime) -> Result<(), Fail>
 }
 
 #[test]
-fn a_quiet_client_is_lost_within_a_request_and_has_ended_behind_a_response(
+fn a_silent_client_is_lost_within_a_request_and_has_ended_behind_a_response(
     rt: HostRuntime,
 ) -> Result<(), Fail> {
-    let mut door = TcpDoor::listen(&rt, 0, 1);
-    door.set_quiet_time(Duration::from_millis(QUIET_MILLISECONDS));
+    let mut door = TcpDoor::listen(rt.alloc(), rt, 0, 1, QUICK);
     let mut client = connect(&rt, &door)?;
     client.write_all(b"ab")?;
     let mut into = *b"....";
@@ -76,9 +83,113 @@ fn a_quiet_client_is_lost_within_a_request_and_has_ended_behind_a_response(
     assert!(rt; read(&mut door, &mut into) == Err(Failed));
     assert!(rt; write_all(&mut door, b"xyz") == Ok(()));
     assert!(rt; !door.has_ended());
+    let began = Instant::now(&rt)?;
     assert!(rt; read(&mut door, &mut into) == Ok(0));
+    assert!(rt; began.elapsed(&rt)? >= Duration::from_millis(500));
     assert!(rt; door.has_ended());
     assert!(rt; heard(&mut client)? == *b"xyz.");
+    Ok(())
+}
+
+#[test]
+fn a_request_that_drips_has_its_time(rt: HostRuntime) -> Result<(), Fail> {
+    let mut door = TcpDoor::listen(rt.alloc(), rt, 0, 1, QUICK);
+    let mut client = connect(&rt, &door)?;
+    client.write_all(b"a")?;
+    let mut into = *b"....";
+    assert!(rt; door.next() == Ok(true));
+    assert!(rt; read(&mut door, &mut into) == Ok(1));
+    sleep(&rt, Duration::from_millis(200));
+    client.write_all(b"b")?;
+    assert!(rt; read(&mut door, &mut into) == Ok(1));
+    sleep(&rt, Duration::from_millis(200));
+    client.write_all(b"c")?;
+    assert!(rt; read(&mut door, &mut into) == Err(Failed));
+    Ok(())
+}
+
+#[test]
+fn a_silent_client_is_left_for_one_that_asks_and_not_for_one_that_is_silent(
+    rt: HostRuntime,
+) -> Result<(), Fail> {
+    let mut door = TcpDoor::listen(rt.alloc(), rt, 0, 2, QUICK);
+    let silent = connect(&rt, &door)?;
+    let mut first = connect(&rt, &door)?;
+    first.write_all(b"ab")?;
+    let mut into = *b"....";
+    assert!(rt; door.next() == Ok(true));
+    assert!(rt; read(&mut door, &mut into) == Ok(2));
+    assert!(rt; write_all(&mut door, b"xyz") == Ok(()));
+    let mut second = connect(&rt, &door)?;
+    second.write_all(b"cde")?;
+    let began = Instant::now(&rt)?;
+    assert!(rt; read(&mut door, &mut into) == Ok(0));
+    let waited = began.elapsed(&rt)?;
+    assert!(rt; waited >= Duration::from_millis(80) && waited < Duration::from_millis(400));
+    assert!(rt; door.has_ended());
+    assert!(rt; door.next() == Ok(true));
+    assert!(rt; read(&mut door, &mut into) == Ok(3));
+    assert!(rt; heard(&mut first)? == *b"xyz.");
+    drop(silent);
+    Ok(())
+}
+
+#[test]
+fn a_connection_without_a_byte_is_none(rt: HostRuntime) -> Result<(), Fail> {
+    let mut door = TcpDoor::listen(rt.alloc(), rt, 0, 1, Manners::OFFICE);
+    for _probe in 0..30 {
+        drop(connect(&rt, &door)?);
+    }
+    let hushed = connect(&rt, &door)?;
+    hushed.shutdown(Shutdown::Write)?;
+    let mut client = connect(&rt, &door)?;
+    assert!(rt; serve(&mut door, &mut client, b"ab", b"wxyz")?);
+    assert!(rt; door.next() == Ok(false));
+    Ok(())
+}
+
+#[test]
+fn a_scale_may_be_silent_until_another_speaks(rt: HostRuntime) -> Result<(), Fail> {
+    let manners = Manners {
+        silence: Manners::SCALE.silence,
+        ..QUICK
+    };
+    let mut door = TcpDoor::listen(rt.alloc(), rt, 0, 2, manners);
+    let mut scale = connect(&rt, &door)?;
+    scale.write_all(b"1 2\n")?;
+    let mut into = *b"....";
+    assert!(rt; door.next() == Ok(true));
+    assert!(rt; read(&mut door, &mut into) == Ok(4));
+    assert!(rt; write_all(&mut door, b"ack\n") == Ok(()));
+    sleep(&rt, Duration::from_millis(900));
+    scale.write_all(b"2 3\n")?;
+    assert!(rt; read(&mut door, &mut into) == Ok(4));
+    assert!(rt; write_all(&mut door, b"ack\n") == Ok(()));
+    let mut again = connect(&rt, &door)?;
+    again.write_all(b"3 4")?;
+    assert!(rt; read(&mut door, &mut into) == Ok(0));
+    assert!(rt; door.next() == Ok(true));
+    assert!(rt; read(&mut door, &mut into) == Ok(3));
+    Ok(())
+}
+
+#[test]
+fn a_response_that_is_not_taken_has_its_time(rt: HostRuntime) -> Result<(), Fail> {
+    let mut door = TcpDoor::listen(rt.alloc(), rt, 0, 1, QUICK);
+    let mut client = connect(&rt, &door)?;
+    client.write_all(b"ab")?;
+    assert!(rt; door.next() == Ok(true));
+    assert!(rt; read(&mut door, &mut [0; 4]) == Ok(2));
+    let began = Instant::now(&rt)?;
+    let piece = [b'x'; 4096];
+    let mut written = Ok(());
+    for _piece in 0..10_000 {
+        if written.is_ok() {
+            written = write_all(&mut door, &piece);
+        }
+    }
+    assert!(rt; written.is_err());
+    assert!(rt; began.elapsed(&rt)? < Duration::from_secs(5));
     Ok(())
 }
 
@@ -89,15 +200,15 @@ fn may_move<O: Door + Send>(_door: &O) -> bool {
 
 #[test]
 fn a_port_that_is_taken_fails_at_each_call(rt: HostRuntime) -> Result<(), Fail> {
-    let first = TcpDoor::listen(&rt, 0, 1);
+    let alloc = rt.alloc();
+    let first = TcpDoor::listen(alloc, rt, 0, 1, Manners::OFFICE);
     let port = first.port().unwrap_or(0);
-    let mut second = TcpDoor::listen(&rt, port, 1);
+    let mut second = TcpDoor::listen(alloc, rt, port, 1, Manners::OFFICE);
     assert!(rt; second.listen_error().is_some());
     assert!(rt; second.port().is_none());
     assert!(rt; second.next() == Err(Failed));
     assert!(rt; read(&mut second, &mut [0; 4]) == Err(Failed));
     assert!(rt; second.write(b"x") == Err(Failed));
-    let alloc = rt.alloc();
     let listed = ListDoor::new(alloc, Vec::new(alloc), Vec::new(alloc));
     assert!(rt; may_move(&second) && may_move(&listed));
     Ok(())
@@ -105,7 +216,7 @@ fn a_port_that_is_taken_fails_at_each_call(rt: HostRuntime) -> Result<(), Fail> 
 
 #[test]
 fn a_client_that_is_left_gets_its_last_response(rt: HostRuntime) -> Result<(), Fail> {
-    let mut door = TcpDoor::listen(&rt, 0, 1);
+    let mut door = TcpDoor::listen(rt.alloc(), rt, 0, 1, Manners::OFFICE);
     let mut client = connect(&rt, &door)?;
     client.write_all(b"read, and passed over")?;
     assert!(rt; door.next() == Ok(true));

@@ -1,0 +1,270 @@
+ghost use Rattle.std.specs.Prelude.{◌≡◌, ◌<◌, ◌≤◌, length, IfOk};
+
+use crate::accepting::{Accepted, accept_from};
+use crate::guests::{Guests, MAX_GUESTS};
+use crate::leavers::Leavers;
+use crate::links::{LOOK, receive_from, send_to};
+use crate::manners::{Manners, Patience};
+use crate::moments::moment;
+use disk_core::Failed;
+use std::alloc::Global;
+use std::io;
+use std::io::Eprint;
+use std::net::{Ipv4Addr, Net, TcpListener, TcpStream};
+use std::thread::sleep;
+use std::time::{Clock, Duration};
+
+/// A connection that is served.
+#[derive(Drop)]
+pub(crate) struct Visit {
+    link: TcpStream,
+    /// Since when its client is waited for: since the first byte of its request, or else since it
+    /// was admitted or answered.
+    since: u64,
+    /// Since when a response waits to be taken, of which it has taken a part.
+    answering: Option<u64>,
+    /// Whether it closed its link, or cut it.
+    is_over: bool,
+}
+
+/// A port at which connections come, and those that don't have their turn yet or have had it.
+#[derive(Drop)]
+pub(crate) struct Entrance<R: Clock + Eprint + Drop> {
+    rt: R,
+    listener: TcpListener,
+    manners: Manners,
+    guests: Guests,
+    leavers: Leavers,
+    /// Whether nobody could be accepted at the last try.
+    is_stuck: bool,
+    /// Whether that was told.
+    is_told: bool,
+}
+
+/// Listens at a port of 127.0.0.1.
+pub(crate) fn open_entrance<
+    R: Clock + Eprint + Net<Listener = TcpListener, Stream = TcpStream> + Drop,
+>(alloc: Global, rt: R, port: u16, manners: Manners) -> io::Result<Entrance<R>> {
+    let listener = TcpListener::bind(&rt, (Ipv4Addr::LOCALHOST, port))?;
+    listener.set_nonblocking(true)?;
+    Ok(Entrance {
+        rt,
+        listener,
+        manners,
+        guests: Guests::new(alloc),
+        leavers: Leavers::new(alloc),
+        is_stuck: false,
+        is_told: false,
+    })
+}
+
+impl<R: Clock + Eprint + Drop> Entrance<R> {
+    /// The port, where the system tells it.
+    pub fn port(&self) -> Option<u16> {
+        let address = self.listener.local_addr().ok()?;
+        Some(address.port())
+    }
+
+    // Tells once why nobody can be accepted.
+    fn tell(&mut self, error: &io::Error) {
+        if !self.is_told {
+            self.is_told = true;
+            let port = self.port().unwrap_or(0);
+            let _ = eprintln!(self.rt;
+                "hall: port {port} waits, it can't take a connection: {error}"
+            );
+        }
+    }
+
+    // Does what is to be done with who came, or didn't. Says whether another may be there.
+    fn take_in(&mut self, accepted: Accepted, now: u64) -> bool {
+        self.is_stuck = false;
+        match accepted {
+            Accepted::Link(link) => self.guests.seat(link, now),
+            Accepted::Nobody => return false,
+            Accepted::Passed => {}
+            Accepted::Later(error) => {
+                self.is_stuck = true;
+                self.tell(&error);
+                return false;
+            }
+        }
+        true
+    }
+
+    // Accepts who waits at the port, as far as there is room.
+    fn accept_all(&mut self, now: u64) -> Result<(), Failed> {
+        for _guest in 0..MAX_GUESTS {
+            if !self.guests.has_room() {
+                break;
+            }
+            let accepted = accept_from(&self.listener)?;
+            if !self.take_in(accepted, now) {
+                break;
+            }
+        }
+        Ok(())
+    }
+
+    // Looks at who is there: accepts, lets go, reads on.
+    fn look(&mut self) -> Result<(), Failed> {
+        let now = moment(&self.rt)?;
+        self.accept_all(now)?;
+        let is_full = self.is_stuck || !self.guests.has_room();
+        self.guests.look(&self.manners, now, is_full);
+        self.leavers.read_on(now);
+        Ok(())
+    }
+
+    // Waits for a moment for somebody to do something; where nobody is there, until somebody comes.
+    fn wait(&mut self) -> Result<(), Failed> {
+        if self.is_stuck {
+            sleep(&self.rt, Duration::from_millis(LOOK));
+        } else if !self.guests.is_empty() {
+            self.guests.wait();
+        } else if !self.leavers.is_empty() {
+            self.leavers.wait();
+        } else {
+            self.await_one()?;
+        }
+        Ok(())
+    }
+
+    // Waits until a connection comes.
+    fn await_one(&mut self) -> Result<(), Failed> {
+        if self.listener.set_nonblocking(false).is_err() {
+            return Err(Failed);
+        }
+        let accepted = accept_from(&self.listener);
+        if self.listener.set_nonblocking(true).is_err() {
+            return Err(Failed);
+        }
+        let accepted = accepted?;
+        let now = moment(&self.rt)?;
+        self.take_in(accepted, now);
+        Ok(())
+    }
+
+    /// Waits for the next connection: the first of those there that has sent a byte.
+    pub fn admit(&mut self) -> Result<Visit, Failed> {
+        for _turn in 0..u64::MAX {
+            self.look()?;
+            if let Some(link) = self.guests.next() {
+                return Ok(Visit {
+                    link,
+                    since: moment(&self.rt)?,
+                    answering: None,
+                    is_over: false,
+                });
+            }
+            self.wait()?;
+        }
+        Err(Failed)
+    }
+
+    /// Leaves a connection. What its client still sends is read on, unless it has ended it.
+    pub fn leave(&mut self, visit: Visit) {
+        if visit.is_over {
+            return;
+        }
+        if let Ok(now) = moment(&self.rt) {
+            self.leavers.leave(visit.link, now);
+        }
+    }
+
+    /// Lets all go: nobody is served any more. Those that were left are read on for as long as ever.
+    pub fn close(&mut self) {
+        self.guests.clear();
+        for _turn in 0..u64::MAX {
+            let Ok(now) = moment(&self.rt) else { return };
+            self.leavers.read_on(now);
+            if self.leavers.is_empty() {
+                return;
+            }
+            self.leavers.wait();
+        }
+    }
+
+    // Whether a client that has sent nothing for so long is waited for on; else it has ended, where
+    // its link isn't lost.
+    fn waits(&mut self, in_request: bool, waited: u64) -> Result<bool, Failed> {
+        let another_asks = !in_request
+            && self.manners.yields <= waited
+            && self.look().is_ok()
+            && self.guests.ask();
+        match self.manners.patience(in_request, waited, another_asks) {
+            Patience::Waits => Ok(true),
+            Patience::Ended => Ok(false),
+            Patience::Lost => Err(Failed),
+        }
+    }
+
+    // Takes so many bytes of a client that came at this moment. A request that they don't make whole
+    // in time is lost.
+    fn hear(
+        &self,
+        visit: &mut Visit,
+        in_request: bool,
+        now: u64,
+        count: usize,
+    ) -> Result<usize, Failed>
+        ensures { IfOk result (λ heard. heard ≡ count) }
+    {
+        if !in_request {
+            visit.since = now;
+        } else if self.manners.request <= now.saturating_sub(visit.since) {
+            return Err(Failed);
+        }
+        visit.is_over = count == 0;
+        Ok(count)
+    }
+
+    /// Reads the next bytes of a client, and tells how many they are; none at its end, which comes
+    /// also where it is silent for too long between requests. It fails where the link is lost, and
+    /// where a request takes too long.
+    pub fn receive(
+        &mut self,
+        visit: &mut Visit,
+        in_request: bool,
+        into: &mut [u8],
+    ) -> Result<usize, Failed>
+        ensures bound { IfOk result (λ count. count ≤ length into.new) }
+    {
+        for _turn in 0..u64::MAX {
+            let tried = receive_from(&mut &visit.link, in_request, into)?;
+            let now = moment(&self.rt)?;
+            self.leavers.read_on(now);
+            let waited = now.saturating_sub(visit.since);
+            match tried {
+                Some(count) => return self.hear(visit, in_request, now, count),
+                None if self.waits(in_request, waited)? => {}
+                None => return Ok(0),
+            }
+        }
+        Err(Failed)
+    }
+
+    /// Writes the beginning of a response, at least a byte. It fails where the link is lost, and where
+    /// the client doesn't take the response for too long.
+    pub fn send(&mut self, visit: &mut Visit, bytes: &[u8]) -> Result<usize, Failed>
+        ensures bound { IfOk result (λ count. count ≤ length bytes.now) }
+        ensures some { IfOk result (λ count. 0 < length bytes.now → 0 < count) }
+    {
+        for _turn in 0..u64::MAX {
+            let now = moment(&self.rt)?;
+            let since = visit.answering.unwrap_or(now);
+            visit.answering = Some(since);
+            if self.manners.response <= now.saturating_sub(since) {
+                break;
+            }
+            if let Some(count) = send_to(&visit.link, bytes)? {
+                visit.since = now;
+                if count == bytes.len() {
+                    visit.answering = None;
+                }
+                return Ok(count);
+            }
+        }
+        Err(Failed)
+    }
+}
