@@ -1,7 +1,7 @@
 ghost use Rattle.std.specs.Prelude.{◌≡◌, ◌<◌, ◌≤◌, length, IfOk};
 
 use crate::accepting::{Accepted, accept_from};
-use crate::guests::{Guests, MAX_GUESTS};
+use crate::guests::{Guests, MAX_GUESTS, Turn};
 use crate::leavers::Leavers;
 use crate::links::{LOOK, receive_from, send_to};
 use crate::manners::{Manners, Patience};
@@ -14,10 +14,18 @@ use std::net::{Ipv4Addr, Net, TcpListener, TcpStream};
 use std::thread::sleep;
 use std::time::{Clock, Duration};
 
+// No bytes.
+const NOTHING: &[u8] = &[];
+
 /// A connection that is served.
 #[derive(Drop)]
 pub(crate) struct Visit {
     link: TcpStream,
+    /// What was read of it before it had its turn, and how many bytes of that were taken.
+    heard: Vec<u8>,
+    taken: usize,
+    /// Whether it had its time to ask then, and hasn't.
+    is_late: bool,
     /// Since when its client is waited for: since the first byte of its request, or else since it
     /// was admitted or answered.
     since: u64,
@@ -25,6 +33,37 @@ pub(crate) struct Visit {
     answering: Option<u64>,
     /// Whether it closed its link, or cut it.
     is_over: bool,
+}
+
+impl Visit {
+    // A connection whose turn comes at this moment.
+    fn begin(turn: Turn, now: u64) -> Visit {
+        let Turn {
+            link,
+            heard,
+            is_late,
+        } = turn;
+        Visit {
+            link,
+            heard,
+            taken: 0,
+            is_late,
+            since: now,
+            answering: None,
+            is_over: false,
+        }
+    }
+
+    // Takes the next of the bytes that were read before, and tells how many they are.
+    fn take(&mut self, into: &mut [u8]) -> usize
+        ensures bound { result ≤ length into.new }
+    {
+        let left = self.heard.get(self.taken..).unwrap_or(NOTHING);
+        let count = left.len().min(into.len());
+        into[..count].copy_from_slice(&left[..count]);
+        self.taken = self.taken.saturating_add(count);
+        count
+    }
 }
 
 /// A port at which connections come, and those that don't have their turn yet or have had it.
@@ -145,17 +184,12 @@ impl<R: Clock + Eprint + Drop> Entrance<R> {
         Ok(())
     }
 
-    /// Waits for the next connection: the first of those there that has sent a byte.
+    /// Waits for the next connection: the first of those there that has asked.
     pub fn admit(&mut self) -> Result<Visit, Failed> {
         for _turn in 0..u64::MAX {
             self.look()?;
-            if let Some(link) = self.guests.next() {
-                return Ok(Visit {
-                    link,
-                    since: moment(&self.rt)?,
-                    answering: None,
-                    is_over: false,
-                });
+            if let Some(turn) = self.guests.next() {
+                return Ok(Visit::begin(turn, moment(&self.rt)?));
             }
             self.wait()?;
         }
@@ -230,6 +264,13 @@ impl<R: Clock + Eprint + Drop> Entrance<R> {
     ) -> Result<usize, Failed>
         ensures bound { IfOk result (λ count. count ≤ length into.new) }
     {
+        if visit.is_late {
+            return Err(Failed);
+        }
+        let early = visit.take(into);
+        if early > 0 {
+            return self.hear(visit, in_request, moment(&self.rt)?, early);
+        }
         for _turn in 0..u64::MAX {
             let tried = receive_from(&mut &visit.link, in_request, into)?;
             let now = moment(&self.rt)?;

@@ -18,7 +18,9 @@ mod leavers;
 mod links;
 mod manners;
 mod moments;
+mod openings;
 mod tcp_door;
 
 pub use manners::{Manners, Patience};
+pub use openings::Opening;
 pub use tcp_door::TcpDoor;

@@ -2,6 +2,8 @@ ghost use Rattle.std.specs.Prelude.{◌≡◌, ◌↔◌, ◌≤◌, true, false
 ghost use Rattle.tcp_door.specs.declared.manners.Patience.TheVariants.{Ended, Lost};
 ghost use Rattle.tcp_door.specs.Silences.{is_unwanted};
 
+use crate::openings::Opening;
+
 /// How long a client that has asked nothing keeps the door from another that asks, in ms: one that
 /// works on has asked by then, and who waits isn't kept for longer than one notices.
 const YIELDS: u64 = 1_000;
@@ -20,6 +22,8 @@ const RESPONSE: u64 = 10_000;
 /// For how long a door waits for its clients, in ms.
 #[derive(Clone, Copy, Debug, PartialEq, Eq)]
 pub struct Manners {
+    /// A client has its turn once it has sent so much.
+    pub opening: Opening,
     /// A client that has asked nothing for so long is left as soon as another asks.
     pub yields: u64,
     /// It is left after so long in any case; where there is none, in no other.
@@ -44,6 +48,7 @@ pub enum Patience {
 impl Manners {
     /// Those of an office, whose clients ask and are answered.
     pub const OFFICE: Manners = Manners {
+        opening: Opening::Head,
         yields: YIELDS,
         silence: Some(SILENCE),
         request: REQUEST,
@@ -53,6 +58,7 @@ impl Manners {
     /// Those of a line to a scale, which may be silent between two packs for as long as it likes. One
     /// that has gone without a word is left when it speaks on another connection.
     pub const SCALE: Manners = Manners {
+        opening: Opening::Line,
         yields: YIELDS,
         silence: None,
         request: REQUEST,

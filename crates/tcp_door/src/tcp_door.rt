@@ -13,11 +13,11 @@ use std::time::Clock;
 /// A door over TCP, which listens on 127.0.0.1. It tells no bytes, only its faults: what the
 /// system's calls do is trusted. A door that doesn't listen fails at each call.
 ///
-/// A connection is served from its first byte on, in the order in which these come; one that is
-/// closed before is none. How long its client is waited for its manners say. Between requests a
-/// client that is silent for too long has ended its connection. From the first byte read since the
-/// last write on it is within a request: where that takes too long, or the response isn't taken, the
-/// call fails.
+/// A connection has its turn once it has asked, as its manners say, or sends no more, in the order of
+/// coming among those; one that is closed before its first byte is none. The manners also say for how
+/// long a client is waited for. Between requests one that is silent for too long has ended its
+/// connection. From the first byte read since the last write on it is within a request: where that
+/// takes too long, or the response isn't taken, the call fails.
 #[derive(Drop)]
 pub struct TcpDoor<R: Clock + Eprint + Drop> {
     entrance: io::Result<Entrance<R>>,

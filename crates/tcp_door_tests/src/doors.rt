@@ -4,12 +4,13 @@ use std::net::{Ipv4Addr, Net, Shutdown, TcpListener, TcpStream};
 use std::test::Fail;
 use std::thread::sleep;
 use std::time::{Duration, Instant};
-use tcp_door::{Manners, TcpDoor};
+use tcp_door::{Manners, Opening, TcpDoor};
 
 type Host = TcpDoor<HostRuntime>;
 
-// Those of an office, whose times a test can wait for.
+// Manners whose times a test can wait for.
 const QUICK: Manners = Manners {
+    opening: Opening::Line,
     yields: 100,
     silence: Some(600),
     request: 300,
@@ -70,21 +71,27 @@ fn serves_its_connections_one_after_another(rt: HostRuntime) -> Result<(), Fail>
     Ok(())
 }
 
+// Admits a client that asks, and answers it.
+fn answer(door: &mut Host, client: &mut TcpStream) -> Result<bool, Fail> {
+    client.write_all(b"a\n")?;
+    let is_read = door.next() == Ok(true) && read(door, &mut [0; 4]) == Ok(2);
+    Ok(is_read && write_all(door, b"xyz") == Ok(()) && heard(client)? == *b"xyz.")
+}
+
 #[test]
 fn a_silent_client_is_lost_within_a_request_and_has_ended_behind_a_response(
     rt: HostRuntime,
 ) -> Result<(), Fail> {
     let mut door = TcpDoor::listen(rt.alloc(), rt, 0, 1, QUICK);
     let mut client = connect(&rt, &door)?;
-    client.write_all(b"ab")?;
-    let mut into = *b"....";
-    assert!(rt; door.next() == Ok(true));
-    assert!(rt; read(&mut door, &mut into) == Ok(2));
-    assert!(rt; read(&mut door, &mut into) == Err(Failed));
+    assert!(rt; answer(&mut door, &mut client)?);
+    client.write_all(b"b")?;
+    assert!(rt; read(&mut door, &mut [0; 4]) == Ok(1));
+    assert!(rt; read(&mut door, &mut [0; 4]) == Err(Failed));
     assert!(rt; write_all(&mut door, b"xyz") == Ok(()));
-    assert!(rt; !door.has_ended());
     let began = Instant::now(&rt)?;
-    assert!(rt; read(&mut door, &mut into) == Ok(0));
+    assert!(rt; !door.has_ended());
+    assert!(rt; read(&mut door, &mut [0; 4]) == Ok(0));
     assert!(rt; began.elapsed(&rt)? >= Duration::from_millis(500));
     assert!(rt; door.has_ended());
     assert!(rt; heard(&mut client)? == *b"xyz.");
@@ -95,16 +102,38 @@ fn a_silent_client_is_lost_within_a_request_and_has_ended_behind_a_response(
 fn a_request_that_drips_has_its_time(rt: HostRuntime) -> Result<(), Fail> {
     let mut door = TcpDoor::listen(rt.alloc(), rt, 0, 1, QUICK);
     let mut client = connect(&rt, &door)?;
-    client.write_all(b"a")?;
-    let mut into = *b"....";
-    assert!(rt; door.next() == Ok(true));
-    assert!(rt; read(&mut door, &mut into) == Ok(1));
-    sleep(&rt, Duration::from_millis(200));
+    assert!(rt; answer(&mut door, &mut client)?);
     client.write_all(b"b")?;
-    assert!(rt; read(&mut door, &mut into) == Ok(1));
+    assert!(rt; read(&mut door, &mut [0; 4]) == Ok(1));
     sleep(&rt, Duration::from_millis(200));
     client.write_all(b"c")?;
+    assert!(rt; read(&mut door, &mut [0; 4]) == Ok(1));
+    sleep(&rt, Duration::from_millis(200));
+    client.write_all(b"d")?;
+    assert!(rt; read(&mut door, &mut [0; 4]) == Err(Failed));
+    Ok(())
+}
+
+#[test]
+fn a_client_has_its_turn_once_it_has_asked(rt: HostRuntime) -> Result<(), Fail> {
+    let mut door = TcpDoor::listen(rt.alloc(), rt, 0, 3, QUICK);
+    let mut slow = connect(&rt, &door)?;
+    slow.write_all(b"a")?;
+    let mut first = connect(&rt, &door)?;
+    assert!(rt; answer(&mut door, &mut first)?);
+    drop(first);
+    let mut cut = connect(&rt, &door)?;
+    cut.write_all(b"bc")?;
+    cut.shutdown(Shutdown::Write)?;
+    let mut into = *b"....";
+    assert!(rt; door.next() == Ok(true));
+    assert!(rt; read(&mut door, &mut into) == Ok(2) && into == *b"bc..");
+    assert!(rt; read(&mut door, &mut into) == Ok(0));
+    let began = Instant::now(&rt)?;
+    assert!(rt; door.next() == Ok(true));
+    assert!(rt; began.elapsed(&rt)? < Duration::from_secs(5));
     assert!(rt; read(&mut door, &mut into) == Err(Failed));
+    assert!(rt; door.next() == Ok(false));
     Ok(())
 }
 
@@ -115,21 +144,16 @@ fn a_silent_client_is_left_for_one_that_asks_and_not_for_one_that_is_silent(
     let mut door = TcpDoor::listen(rt.alloc(), rt, 0, 2, QUICK);
     let silent = connect(&rt, &door)?;
     let mut first = connect(&rt, &door)?;
-    first.write_all(b"ab")?;
-    let mut into = *b"....";
-    assert!(rt; door.next() == Ok(true));
-    assert!(rt; read(&mut door, &mut into) == Ok(2));
-    assert!(rt; write_all(&mut door, b"xyz") == Ok(()));
+    assert!(rt; answer(&mut door, &mut first)?);
     let mut second = connect(&rt, &door)?;
-    second.write_all(b"cde")?;
+    second.write_all(b"cd\n")?;
     let began = Instant::now(&rt)?;
-    assert!(rt; read(&mut door, &mut into) == Ok(0));
+    assert!(rt; read(&mut door, &mut [0; 4]) == Ok(0));
     let waited = began.elapsed(&rt)?;
-    assert!(rt; waited >= Duration::from_millis(80) && waited < Duration::from_millis(400));
+    assert!(rt; waited >= Duration::from_millis(80) && waited < Duration::from_millis(500));
     assert!(rt; door.has_ended());
     assert!(rt; door.next() == Ok(true));
-    assert!(rt; read(&mut door, &mut into) == Ok(3));
-    assert!(rt; heard(&mut first)? == *b"xyz.");
+    assert!(rt; read(&mut door, &mut [0; 4]) == Ok(3));
     drop(silent);
     Ok(())
 }
@@ -156,20 +180,26 @@ fn a_scale_may_be_silent_until_another_speaks(rt: HostRuntime) -> Result<(), Fai
     };
     let mut door = TcpDoor::listen(rt.alloc(), rt, 0, 2, manners);
     let mut scale = connect(&rt, &door)?;
-    scale.write_all(b"1 2\n")?;
-    let mut into = *b"....";
-    assert!(rt; door.next() == Ok(true));
-    assert!(rt; read(&mut door, &mut into) == Ok(4));
-    assert!(rt; write_all(&mut door, b"ack\n") == Ok(()));
+    assert!(rt; answer(&mut door, &mut scale)?);
     sleep(&rt, Duration::from_millis(900));
     scale.write_all(b"2 3\n")?;
-    assert!(rt; read(&mut door, &mut into) == Ok(4));
+    assert!(rt; read(&mut door, &mut [0; 4]) == Ok(4));
     assert!(rt; write_all(&mut door, b"ack\n") == Ok(()));
     let mut again = connect(&rt, &door)?;
-    again.write_all(b"3 4")?;
-    assert!(rt; read(&mut door, &mut into) == Ok(0));
+    again.write_all(b"3\n")?;
+    assert!(rt; read(&mut door, &mut [0; 4]) == Ok(0));
     assert!(rt; door.next() == Ok(true));
-    assert!(rt; read(&mut door, &mut into) == Ok(3));
+    assert!(rt; read(&mut door, &mut [0; 4]) == Ok(2));
+    Ok(())
+}
+
+// Writes until a piece isn't taken.
+fn write_on(door: &mut Host) -> Result<(), Failed> {
+    for _piece in 0..10_000 {
+        if write_all(door, &[b'x'; 4096]).is_err() {
+            return Err(Failed);
+        }
+    }
     Ok(())
 }
 
@@ -177,19 +207,10 @@ fn a_scale_may_be_silent_until_another_speaks(rt: HostRuntime) -> Result<(), Fai
 fn a_response_that_is_not_taken_has_its_time(rt: HostRuntime) -> Result<(), Fail> {
     let mut door = TcpDoor::listen(rt.alloc(), rt, 0, 1, QUICK);
     let mut client = connect(&rt, &door)?;
-    client.write_all(b"ab")?;
-    assert!(rt; door.next() == Ok(true));
-    assert!(rt; read(&mut door, &mut [0; 4]) == Ok(2));
+    assert!(rt; answer(&mut door, &mut client)?);
     let began = Instant::now(&rt)?;
-    let piece = [b'x'; 4096];
-    let mut written = Ok(());
-    for _piece in 0..10_000 {
-        if written.is_ok() {
-            written = write_all(&mut door, &piece);
-        }
-    }
-    assert!(rt; written.is_err());
-    assert!(rt; began.elapsed(&rt)? < Duration::from_secs(5));
+    assert!(rt; write_on(&mut door) == Err(Failed));
+    assert!(rt; began.elapsed(&rt)? < Duration::from_secs(20));
     Ok(())
 }
 
@@ -218,7 +239,7 @@ fn a_port_that_is_taken_fails_at_each_call(rt: HostRuntime) -> Result<(), Fail> 
 fn a_client_that_is_left_gets_its_last_response(rt: HostRuntime) -> Result<(), Fail> {
     let mut door = TcpDoor::listen(rt.alloc(), rt, 0, 1, Manners::OFFICE);
     let mut client = connect(&rt, &door)?;
-    client.write_all(b"read, and passed over")?;
+    client.write_all(b"read, and passed over\n\n")?;
     assert!(rt; door.next() == Ok(true));
     assert!(rt; read(&mut door, &mut [0; 4]) == Ok(4));
     assert!(rt; write_all(&mut door, b"xyz") == Ok(()));
