@@ -9,6 +9,7 @@ use Rattle.book_words.specs.declared.caller.AskError.TheVariants as error
 use Rattle.book_words.specs.Answers.{answer, added, ask_of}
 use Rattle.book_words.specs.Callers.{MayFindNoMemory}
 use Rattle.book_words.specs.Desks.{Row}
+use Rattle.lane_worker.specs.declared.types.CellNext.{CellNext}
 use Rattle.lane_worker.specs.declared.types.CellNext.TheVariants.{Gross}
 use Rattle.lane_worker.specs.declared.ending.Ending.{Ending}
 use Rattle.lane_worker.specs.declared.ending.LaneStop.{LaneStop}
@@ -16,7 +17,7 @@ use Rattle.lane_worker.specs.declared.ending.LaneEnd.{LaneEnd}
 use Rattle.lane_worker.specs.declared.cell.Cell as cell
 use Rattle.lane_worker.specs.declared.gate.Gate as gate
 use Rattle.lane_worker.specs.Asks.{passed_packs}
-use Rattle.lane_worker.specs.Cells.{Remaining, Gave}
+use Rattle.lane_worker.specs.Cells.{Gave}
 use Rattle.lane_worker.specs.Gates.{with_packs}
 use Rattle.lane_worker.specs.Endings.{stop_by, stop_at, last_items, cell_failed, gate_failed, FailsIf}
 use Rattle.lane_worker.specs.Works.{Work, AreOpened, asks_of_work}
@@ -28,7 +29,7 @@ use Rattle.store_runs.specs.Books.{BookState}
 -- the devices of a lane at one moment: what the cell has left and for which packs the gate opened,
 -- where they tell, and how often each failed
 pub record LaneState : Type 0 where
-  pub left : Option Remaining
+  pub left : Option (List CellNext)
   pub cell_faults : ℕ
   pub opened : Option (List ℕ)
   pub gate_faults : ℕ

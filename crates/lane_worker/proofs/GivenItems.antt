@@ -6,7 +6,7 @@ use Rattle.lane_worker.specs.declared.types.CellNext.{CellNext}
 use Rattle.lane_worker.specs.declared.types.CellNext.TheVariants.{Gross}
 use Rattle.lane_worker.specs.declared.ending.Ending.{Ending}
 use Rattle.lane_worker.specs.declared.ending.Ending.TheVariants.{CellFailed, GateFailed}
-use Rattle.lane_worker.specs.Cells.{Remaining, items_behind, IsNext, Gave}
+use Rattle.lane_worker.specs.Cells.{items_behind, IsNext, Gave}
 use Rattle.lane_worker.specs.Endings.{last_items, cell_failed}
 use Rattle.lane_worker.specs.Works.{Site, HasGiven}
 use Rattle.lane_worker.specs.Steps.{TakesItem}
@@ -14,8 +14,8 @@ use Rattle.lane_worker.specs.Steps.{TakesItem}
 abbrev gross_items : List ℤ → List CellNext
 gross_items grosses = map (λ gross. Gross gross) grosses
 
-gave_more : (was : Option Remaining) (items : List CellNext) (now : Option Remaining) (item : CellNext) → Gave was items now → IsNext now item → Gave was (items ++ item ∷ []) (option_map items_behind now)
-gave_more was [] now item gave next = (subst (λ (o : Option Remaining). IsNext o item) gave next, ap (λ (o : Option Remaining). option_map items_behind o) gave)
+gave_more : (was : Option (List CellNext)) (items : List CellNext) (now : Option (List CellNext)) (item : CellNext) → Gave was items now → IsNext now item → Gave was (items ++ item ∷ []) (option_map items_behind now)
+gave_more was [] now item gave next = (subst (λ (o : Option (List CellNext)). IsNext o item) gave next, ap (λ (o : Option (List CellNext)). option_map items_behind o) gave)
 gave_more was (first ∷ items) now item gave next = (gave.0, gave_more (option_map items_behind was) items now item gave.1 next)
 
 -- what was given, so far as no item ended it
@@ -24,7 +24,7 @@ gave_grosses was now grosses given = subst (λ (items : List CellNext). Gave was
 
 gave_next : (was mid now : Site) (grosses : List ℤ) (item : CellNext) → HasGiven was mid grosses None → TakesItem mid now item → Gave was.left (gross_items grosses ++ item ∷ []) now.left
 gave_next was mid now grosses item given takes =
-    subst (λ (left : Option Remaining). Gave was.left (gross_items grosses ++ item ∷ []) left) (sym takes.left)
+    subst (λ (left : Option (List CellNext)). Gave was.left (gross_items grosses ++ item ∷ []) left) (sym takes.left)
     (gave_more was.left (gross_items grosses) mid.left item (gave_grosses was mid grosses given) takes.next)
 
 -- a gross more
@@ -48,20 +48,20 @@ given_last was mid now grosses item ending last calm given takes = record {
 -- a cell that failed gave nothing
 pub given_none : (was mid now : Site) (grosses : List ℤ) → HasGiven was mid grosses None → now.left ≡ mid.left → Counted mid.cell_faults now.cell_faults 1 → HasGiven was now grosses (Some CellFailed)
 given_none was mid now grosses given left failed = record {
-  items = subst (λ (o : Option Remaining). Gave was.left (gross_items grosses ++ []) o) (sym left) given.items;
+  items = subst (λ (o : Option (List CellNext)). Gave was.left (gross_items grosses ++ []) o) (sym left) given.items;
   faults = subst (λ (n : ℕ). Counted n now.cell_faults 1) given.faults failed;
 }
 
 -- nor did one that wasn't asked
 pub given_same : (was mid now : Site) (grosses : List ℤ) → HasGiven was mid grosses None → now.left ≡ mid.left → now.cell_faults ≡ mid.cell_faults → HasGiven was now grosses None
 given_same was mid now grosses given left faults = record {
-  items = subst (λ (o : Option Remaining). Gave was.left (gross_items grosses ++ []) o) (sym left) given.items;
+  items = subst (λ (o : Option (List CellNext)). Gave was.left (gross_items grosses ++ []) o) (sym left) given.items;
   faults = faults ∙ given.faults;
 }
 
 -- and where the gate failed
 pub given_to_gate : (was mid now : Site) (grosses : List ℤ) → HasGiven was mid grosses None → now.left ≡ mid.left → now.cell_faults ≡ mid.cell_faults → HasGiven was now grosses (Some GateFailed)
 given_to_gate was mid now grosses given left faults = record {
-  items = subst (λ (o : Option Remaining). Gave was.left (gross_items grosses ++ []) o) (sym left) given.items;
+  items = subst (λ (o : Option (List CellNext)). Gave was.left (gross_items grosses ++ []) o) (sym left) given.items;
   faults = faults ∙ given.faults;
 }

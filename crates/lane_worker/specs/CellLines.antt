@@ -1,13 +1,12 @@
 -- What the lines of a cell say, and what a cell over bytes has left.
-use Rattle.std.specs.Prelude.{ℕ, ℤ, ◌+◌, ◌-◌, ◌^◌, ◌==◌, nat_le, nat_lt, min, Bool, ◌||◌, List, [], ◌∷◌, length, if◌then◌else◌, Option, Some, None, option_map}
+use Rattle.std.specs.Prelude.{ℕ, ℤ, ◌+◌, ◌-◌, ◌^◌, ◌==◌, nat_le, nat_lt, min, Bool, true, false, ◌||◌, List, [], ◌∷◌, length, if◌then◌else◌, Option, Some, None, option_map}
 use Rattle.std.specs.List.{list_any, slice_split}
 use Rattle.std.specs.Io.KnownBytes.{prepend_known}
 use Rattle.std.specs.Str.Lines.{strip_carriage_return}
 use Rattle.hall_units.specs.Grams.{milligrams_of}
 use Rattle.lane_worker.specs.declared.cell_lines.TheConstants.{MAX_CELL_LINE}
 use Rattle.lane_worker.specs.declared.types.CellNext.{CellNext}
-use Rattle.lane_worker.specs.declared.types.CellNext.TheVariants.{Gross, End, Bad}
-use Rattle.lane_worker.specs.Cells.{Remaining, again}
+use Rattle.lane_worker.specs.declared.types.CellNext.TheVariants.{Gross, Bad}
 
 -- ---- one line
 
@@ -39,65 +38,63 @@ next_line lines = min (lines + 1) (2 ^ 32 - 1)
 
 -- ---- all lines
 
--- an item and then what follows it; behind a bad line there is nothing but that line, at each call
-abbrev pub and_then : CellNext → Remaining → Remaining
-and_then (Bad line) others = again (Bad line)
-and_then item others = record others { items = item ∷ others.items }
-
--- what stands behind the last LF is a last line, where it isn't empty; then comes the end
-abbrev pub last_gives : ℕ → List ℕ → Remaining
-last_gives lines [] = again End
-last_gives lines line = and_then (last_says line (next_line lines)) (again End)
+-- what stands behind the last LF is a last line, where it isn't empty
+abbrev pub last_gives : ℕ → List ℕ → List CellNext
+last_gives lines [] = []
+last_gives lines line = last_says line (next_line lines) ∷ []
 
 -- what the parts of a text between its LFs give, behind so many lines
-abbrev pub parts_give : ℕ → List (List ℕ) → Remaining
-parts_give lines [] = again End
+abbrev pub parts_give : ℕ → List (List ℕ) → List CellNext
+parts_give lines [] = []
 parts_give lines (last ∷ []) = last_gives lines last
 parts_give lines (line ∷ part ∷ parts) =
-    and_then (ended_says line (next_line lines)) (parts_give (next_line lines) (part ∷ parts))
+    ended_says line (next_line lines) ∷ parts_give (next_line lines) (part ∷ parts)
 
--- what bytes give, behind so many lines: an item a line, up to the first that is bad
-abbrev pub bytes_give : ℕ → List ℕ → Remaining
+-- what bytes give, behind so many lines: an item a line
+abbrev pub bytes_give : ℕ → List ℕ → List CellNext
 bytes_give lines bytes = parts_give lines (slice_split (λ byte. byte == 10) bytes)
 
 -- ---- a cell
 
--- the bytes that were read and of which no item was made yet, and how many lines became items
+-- the bytes that were read and of which no item was made yet, how many lines became items, and
+-- whether the last of them was too long, so that the rest of it is still to be passed over
 pub record Held : Type 0 where
   pub bytes : List ℕ
   pub lines : ℕ
+  pub passing : Bool
 
 -- nothing was read yet
 abbrev pub none_held : Held
-none_held = record { bytes = []; lines = 0 }
+none_held = record { bytes = []; lines = 0; passing = false }
 
 -- the first item of held bytes is known, whatever follows: a line is whole, or too long
 abbrev pub is_known : List ℕ → Bool
 is_known bytes = nat_lt MAX_CELL_LINE (length bytes) || list_any (λ byte. byte == 10) bytes
 
--- the line of an item that is bad
-abbrev pub bad_line : CellNext → Option ℕ
-bad_line (Bad line) = Some line
-bad_line item = None
+-- what stands behind the first LF
+abbrev pub behind_end : List ℕ → List ℕ
+behind_end [] = []
+behind_end (byte ∷ bytes) = if byte == 10 then bytes else behind_end bytes
 
--- what bytes give behind so many lines, of which one may have been bad
-abbrev pub behind_lines : Option ℕ → ℕ → List ℕ → Remaining
-behind_lines (Some line) lines bytes = again (Bad line)
-behind_lines None lines bytes = bytes_give lines bytes
+-- what bytes give behind so many lines, where the rest of a line may be to be passed over
+abbrev pub rest_gives : Bool → ℕ → List ℕ → List CellNext
+rest_gives true lines bytes = bytes_give lines (behind_end bytes)
+rest_gives false lines bytes = bytes_give lines bytes
 
 -- what is left where these bytes are held and a source has these left, if it tells them
-abbrev pub held_left : Option ℕ → Held → Option (List ℕ) → Option Remaining
-held_left bad held left = option_map (behind_lines bad held.lines) (prepend_known held.bytes left)
+abbrev pub held_left : Held → Option (List ℕ) → Option (List CellNext)
+held_left held left =
+    option_map (rest_gives held.passing held.lines) (prepend_known held.bytes left)
 
--- a cell over a source: the source, what is held of its bytes, whether its end was given, the line
--- that was bad, the faults counted
+-- a cell over a source: the source, what is held of its bytes, whether its end was given, the faults
+-- counted
 pub record LineState (S : Type 0) : Type 0 where
   pub reader : S
   pub held : Held
   pub ended : Bool
-  pub bad : Option ℕ
   pub faults : ℕ
 
 -- what it has left, where its source tells its bytes
-abbrev pub cell_left : {S : Type 0} → (S → Option (List ℕ)) → LineState S → Option Remaining
-cell_left left cell = held_left cell.bad cell.held (left cell.reader)
+abbrev pub cell_left : {S : Type 0} → (S → Option (List ℕ)) → LineState S
+    → Option (List CellNext)
+cell_left left cell = held_left cell.held (left cell.reader)

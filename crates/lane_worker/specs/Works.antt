@@ -10,6 +10,7 @@ use Rattle.book_words.specs.Answers.{ask_of, IsLegal}
 use Rattle.book_words.specs.Callers.{Known, FAULTS_END, IsAsked}
 use Rattle.book_words.specs.Desks.{Row}
 use Rattle.book_words.specs.Views.{lane_view}
+use Rattle.lane_worker.specs.declared.types.CellNext.{CellNext}
 use Rattle.lane_worker.specs.declared.types.CellNext.TheVariants.{Gross}
 use Rattle.lane_worker.specs.declared.ending.Ending.{Ending}
 use Rattle.lane_worker.specs.declared.ending.Ending.TheVariants.{End}
@@ -19,7 +20,7 @@ use Rattle.lane_worker.specs.declared.ending.LaneEnd.{LaneEnd}
 use Rattle.lane_worker.specs.declared.cell.Cell as cell
 use Rattle.lane_worker.specs.declared.gate.Gate as gate
 use Rattle.lane_worker.specs.Asks.{work_asks, passed_packs}
-use Rattle.lane_worker.specs.Cells.{Remaining, Gave}
+use Rattle.lane_worker.specs.Cells.{Gave}
 use Rattle.lane_worker.specs.Gates.{with_packs}
 use Rattle.lane_worker.specs.Endings.{stop_by, stop_at, faults_at, last_items, cell_failed, gate_failed, FailsIf}
 
@@ -27,7 +28,7 @@ use Rattle.lane_worker.specs.Endings.{stop_by, stop_at, faults_at, last_items, c
 -- the gate opened, where they tell, and how often each failed
 pub record Site : Type 0 where
   pub caller : Known
-  pub left : Option Remaining
+  pub left : Option (List CellNext)
   pub cell_faults : ℕ
   pub opened : Option (List ℕ)
   pub gate_faults : ℕ

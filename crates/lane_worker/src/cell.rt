@@ -1,14 +1,15 @@
-ghost use Rattle.std.specs.Prelude.{ℕ, Option};
+ghost use Rattle.std.specs.Prelude.{ℕ, List, Option};
 ghost use Rattle.device_facts.specs.Count.{CountsFault};
-ghost use Rattle.lane_worker.specs.Cells.{Remaining, GivesNext};
+ghost use Rattle.lane_worker.specs.declared.types.CellNext.{CellNext};
+ghost use Rattle.lane_worker.specs.Cells.{GivesNext};
 
 use crate::types::CellNext;
 use disk_core::Failed;
 
 /// A scale: it gives the weights of packs, one after another.
 pub trait Cell {
-    /// What it has left, where it tells: some items, and behind them the same at each call.
-    ghost left: { Self → Option Remaining };
+    /// The items that it has left, where it tells them; behind them comes `End`, at each call.
+    ghost left: { Self → Option (List CellNext) };
 
     /// How often it failed, up to the greatest number of 64 bits.
     ghost faults: { Self → ℕ };
@@ -17,8 +18,9 @@ pub trait Cell {
     /// it failed.
     ghost keeps_rest: { Self → Self → Type 0 };
 
-    /// Gives the next item, and behind the last one the same at each call: `End`, or what isn't a
-    /// weight and ended it. `Failed` takes none and raises the count of faults by one.
+    /// Gives the next item; behind those that it tells to have left it gives `End` at each call. What
+    /// isn't a weight is an item like another. `Failed` takes none and raises the count of faults by
+    /// one.
     fn next(&mut self) -> Result<CellNext, Failed>
         ensures item { GivesNext (left self.old) (left self.new) result }
         ensures cause { CountsFault (faults self.old) (faults self.new) result }

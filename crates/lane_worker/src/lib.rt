@@ -5,6 +5,7 @@
 mod asking;
 mod cell;
 mod cell_lines;
+mod either_cell;
 mod ending;
 mod gate;
 mod gate_lines;
@@ -23,6 +24,7 @@ mod worker;
 
 pub use cell::Cell;
 pub use cell_lines::MAX_CELL_LINE;
+pub use either_cell::EitherCell;
 pub use ending::{Ending, LaneEnd, LaneStop};
 pub use gate::Gate;
 pub use lane::Lane;

@@ -1,6 +1,3 @@
-ghost use Rattle.std.specs.Prelude.{◌≡◌};
-ghost use Rattle.lane_worker.specs.CellLines.{bad_line};
-
 use crate::cell::Cell;
 use crate::held_lines::HeldLines;
 use crate::types::CellNext;
@@ -10,8 +7,8 @@ use std::marker::Model;
 
 /// A cell over a source of lines: a text of grams in each. One CR before an LF is passed over, and
 /// the last line may lack its LF. A line that says anything else, or is longer than `MAX_CELL_LINE`
-/// bytes, is `Bad`; from then on nothing more is read, and each call gives it again. Lines are
-/// counted up to the greatest `u32`.
+/// bytes, is `Bad`; the next call goes on behind its LF, and passes over what follows of a line that
+/// was too long. Lines are counted up to the greatest `u32`.
 ///
 /// It reads what is there and waits for no more than a line, so a scale may be heard as it speaks.
 /// Where the source tells its bytes, the cell tells the items that these give.
@@ -20,7 +17,6 @@ pub struct LineCell<S: Source> {
     source: S,
     held: HeldLines,
     ended: bool,
-    bad: Option<u32>,
     faults: u64,
 }
 
@@ -35,7 +31,6 @@ impl<S: Source> Model for LineCell<S> {
       reader = c.source;
       held = c.held;
       ended = c.ended;
-      bad = c.bad;
       faults = c.faults;
     } };
 
@@ -44,7 +39,7 @@ impl<S: Source> Model for LineCell<S> {
 }
 
 impl<S: Source> LineCell<S> {
-    ghost use Rattle.std.specs.Prelude.{◌≡◌, false, None, option_map};
+    ghost use Rattle.std.specs.Prelude.{◌≡◌, false, option_map};
     ghost use Rattle.lane_worker.specs.Cells.{GivesNext};
     ghost use Rattle.lane_worker.specs.CellLines.{LineState, none_held, bytes_give, cell_left};
 
@@ -56,7 +51,6 @@ impl<S: Source> LineCell<S> {
           reader = source;
           held = none_held;
           ended = false;
-          bad = None;
           faults = 0;
         } }
         ensures left { cell_left S.left result ≡ option_map (bytes_give 0) (S.left source) }
@@ -65,7 +59,6 @@ impl<S: Source> LineCell<S> {
             source,
             held: HeldLines::new(),
             ended: false,
-            bad: None,
             faults: 0,
         }
     }
@@ -82,25 +75,14 @@ impl<S: Source> LineCell<S> {
         ensures item { GivesNext (cell_left S.left self.old) (cell_left S.left self.new) result }
         ensures faults { self.new.faults ≡ self.old.faults }
     {
-        if let Some(line) = self.bad {
-            return Ok(CellNext::Bad { line });
-        }
-        'reading: while !self.ended && !self.held.has_item() {
+        for _read in 0..u64::MAX {
+            self.held.pass_over();
+            if self.ended || self.held.has_item() {
+                return Ok(self.held.take_item());
+            }
             self.ended = self.held.read_from(&mut self.source)?;
         }
-        let item = self.held.take_item();
-        self.bad = bad_line(item);
-        Ok(item)
-    }
-}
-
-// The line of an item that is bad, and nothing for any other.
-fn bad_line(item: CellNext) -> Option<u32>
-    ensures { result ≡ bad_line item }
-{
-    match item {
-        CellNext::Bad { line } => Some(line),
-        _ => None,
+        Err(Failed)
     }
 }
 

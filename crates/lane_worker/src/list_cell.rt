@@ -33,7 +33,7 @@ impl Model for ListCell {
 
 impl ListCell {
     ghost use Rattle.std.specs.Prelude.{◌≡◌, drop};
-    ghost use Rattle.lane_worker.specs.Cells.{CellState, next_item, then_end};
+    ghost use Rattle.lane_worker.specs.Cells.{CellState, next_item};
 
     /// A cell that has these items left and has failed nowhere yet; its calls with these numbers
     /// will fail. The number of a call stands still at the greatest `u32`.
@@ -52,7 +52,7 @@ impl ListCell {
 
     // Takes the next item.
     fn take_item(&mut self) -> CellNext
-        ensures item { result ≡ next_item (then_end self.old.left) }
+        ensures item { result ≡ next_item self.old.left }
         ensures rest { self.new ≡ record self.old { left = drop 1 self.old.left } }
     {
         match self.items.get(self.place) {
@@ -71,17 +71,16 @@ impl Cell for ListCell {
     ghost use Rattle.device_facts.specs.Count.{CountsFault};
     ghost use Rattle.disk_core.specs.Streams.{next_call};
     ghost use Rattle.device_facts.specs.Frame.{NothingElse};
-    ghost use Rattle.lane_worker.specs.Cells.{GivesNext, then_end};
+    ghost use Rattle.lane_worker.specs.Cells.{GivesNext};
 
-    ghost left = { λ c. Some (then_end c.left) };
+    ghost left = { λ c. Some c.left };
 
     ghost faults = { λ c. c.faults };
 
     ghost keeps_rest = { NothingElse };
 
     fn next(&mut self) -> Result<CellNext, Failed>
-        ensures item { GivesNext (Some (then_end self.old.left)) (Some (then_end self.new.left))
-            result }
+        ensures item { GivesNext (Some self.old.left) (Some self.new.left) result }
         ensures cause { CountsFault self.old.faults self.new.faults result }
         ensures listed { IsErr result ↔ Contains self.old.fails (next_call self.old.calls) }
         ensures calls { self.new.calls ≡ next_call self.old.calls }

@@ -2,7 +2,9 @@ use crate::halls::{copy, open_hall};
 use CellNext::{Bad, End, Gross};
 use book_words::Name;
 use disk_core::{Failed, MemorySink, MemorySource, Source};
-use lane_worker::{Cell, CellNext, LaneEnd, LaneStop, LineCell, LineGate, PairLane, run_lane};
+use lane_worker::{
+    Cell, CellNext, EitherCell, LaneEnd, LaneStop, LineCell, LineGate, ListCell, PairLane, run_lane,
+};
 use std::alloc::Global;
 use std::test::Fail;
 
@@ -53,10 +55,20 @@ fn cell_of(bytes: &'static [u8], piece: usize) -> LineCell<Pieces> {
     })
 }
 
+// 65 bytes, and so more than a line has.
 const OVER: &[u8] = b"00000000000000000000000000000000000000000000000000000000000000001";
 
+// A line of 72 bytes, and two more.
+const OVER_LINE: &[u8] =
+    b"00000000000000000000000000000000000000000000000000000000000000001\r99.000\n252\nx";
+
+// A line of 195 bytes, and one more.
+const LONG_LINE: &[u8] = b"00000000000000000000000000000000000000000000000000000000000000001\
+00000000000000000000000000000000000000000000000000000000000000001\
+00000000000000000000000000000000000000000000000000000000000000001\n253\r\n";
+
 // The bytes of a cell, and what it gives, call by call.
-const LINES: [(&[u8], [CellNext; 4]); 7] = [
+const LINES: [(&[u8], [CellNext; 4]); 10] = [
     (b"", [End, End, End, End]),
     (b"251\n0.5\n", [Gross(251_000), Gross(500), End, End]),
     // a CR before the LF, and a last line without one
@@ -64,21 +76,26 @@ const LINES: [(&[u8], [CellNext; 4]); 7] = [
         b"251.000\r\n30000",
         [Gross(251_000), Gross(30_000_000), End, End],
     ),
-    // after a bad line nothing more is read
+    // it goes on behind a bad line
     (
         b"251\n\n252\n",
-        [
-            Gross(251_000),
-            Bad { line: 2 },
-            Bad { line: 2 },
-            Bad { line: 2 },
-        ],
+        [Gross(251_000), Bad { line: 2 }, Gross(252_000), End],
     ),
-    (b"-1\n", [Bad { line: 1 }; 4]),
+    (b"-1\n", [Bad { line: 1 }, End, End, End]),
     // a CR at the end of a last line without an LF
-    (b"251\r", [Bad { line: 1 }; 4]),
-    // 65 bytes without an LF
-    (OVER, [Bad { line: 1 }; 4]),
+    (b"251\r", [Bad { line: 1 }, End, End, End]),
+    // 65 bytes without an LF, and what follows them
+    (OVER, [Bad { line: 1 }, End, End, End]),
+    (
+        OVER_LINE,
+        [Bad { line: 1 }, Gross(252_000), Bad { line: 3 }, End],
+    ),
+    (LONG_LINE, [Bad { line: 1 }, Gross(253_000), End, End]),
+    // two bad lines, one behind the other
+    (
+        b"251 \n+1\n1",
+        [Bad { line: 1 }, Bad { line: 2 }, Gross(1_000), End],
+    ),
 ];
 
 // Whether a cell gives these items.
@@ -109,14 +126,15 @@ fn the_lines_of_a_cell(rt: HostRuntime) -> Result<(), Fail> {
     Ok(())
 }
 
-// What a cell that gets a byte a read has read when it gives its first item: that line, and of a
-// long one no more than shows that it is too long.
+// What a cell that gets a byte a read has read when it gives an item: its line, and of a long one no
+// more than shows that it is too long; the rest of that is read when the next item is asked for.
 #[test]
 fn no_more_is_read_than_a_line(rt: HostRuntime) -> Result<(), Fail> {
     let mut cell = cell_of(b"251\n252\n", 1);
     assert!(rt; cell.next() == Ok(Gross(251_000)) && cell.source().given == 4);
-    let mut cell = cell_of(OVER, 1);
+    let mut cell = cell_of(OVER_LINE, 1);
     assert!(rt; cell.next() == Ok(Bad { line: 1 }) && cell.source().given == 65);
+    assert!(rt; cell.next() == Ok(Gross(252_000)) && cell.source().given == 77);
     Ok(())
 }
 
@@ -158,5 +176,51 @@ fn a_lane_of_lines(rt: HostRuntime) -> Result<(), Fail> {
     for case in &CASES {
         assert!(rt; is_right(rt.alloc(), case) == Some(true));
     }
+    Ok(())
+}
+
+// How the lane ends that weighs these lines, and again behind what isn't a weight.
+fn ends_of(alloc: Global, lines: &[u8]) -> Option<[LaneEnd; 2]> {
+    let batch = Name::new(b"A".as_slice())?;
+    let mut hall = open_hall(alloc, &[])?;
+    let source = MemorySource::new(copy(alloc, lines), copy(alloc, &[]));
+    let cell: EitherCell<ListCell, LineCell<MemorySource>> = EitherCell::Other(LineCell::new(
+        source,
+    ));
+    let sink = MemorySink::new(alloc, copy(alloc, &[]));
+    let mut lane = PairLane::new(cell, LineGate::new(sink));
+    let first = run_lane(&mut hall, &mut lane, 1, batch);
+    let second = run_lane(&mut hall, &mut lane, 1, batch);
+    let _ = hall.back().close();
+    Some([first, second])
+}
+
+#[test]
+fn a_lane_goes_on_behind_a_bad_line(rt: HostRuntime) -> Result<(), Fail> {
+    let ends = [
+        LaneEnd {
+            opened: 1,
+            stop: LaneStop::Bad { line: 2 },
+        },
+        LaneEnd {
+            opened: 2,
+            stop: LaneStop::Done,
+        },
+    ];
+    assert_eq!(rt; ends_of(rt.alloc(), b"260\nERR\n261\n262\n"), Some(ends));
+    Ok(())
+}
+
+#[test]
+fn a_cell_of_either_kind(rt: HostRuntime) -> Result<(), Fail> {
+    let items = copy(rt.alloc(), &[Gross(1_000), Bad { line: 7 }]);
+    let mut cell: EitherCell<ListCell, LineCell<Pieces>> = EitherCell::One(ListCell::new(
+        items,
+        copy(rt.alloc(), &[2]),
+    ));
+    assert!(rt; cell.next() == Ok(Gross(1_000)));
+    assert!(rt; cell.next() == Err(Failed));
+    assert!(rt; cell.next() == Ok(Bad { line: 7 }));
+    assert!(rt; cell.next() == Ok(End));
     Ok(())
 }

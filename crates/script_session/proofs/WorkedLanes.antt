@@ -6,7 +6,7 @@ use Rattle.std.proofs.lemmas.Grind.{flat_map-append}
 use Rattle.std.proofs.lemmas.List.Elements.{filter-append}
 use Rattle.device_facts.specs.Count.{Counted}
 use Rattle.lane_worker.specs.declared.types.CellNext.{CellNext}
-use Rattle.lane_worker.specs.Cells.{Remaining, items_behind, Gave}
+use Rattle.lane_worker.specs.Cells.{items_behind, Gave}
 use Rattle.lane_worker.specs.Gates.{with_packs}
 use Rattle.lane_worker.specs.Endings.{cell_failed, gate_failed, FailsIf}
 use Rattle.lane_worker.specs.Works.{Work}
@@ -18,11 +18,11 @@ use Rattle.script_events.specs.Transcript.{Event, Worked, Job, ends_in, ends_of,
 -- ---- one device
 
 -- items, and then more
-gave_on : (was : Option Remaining) (items : List CellNext) (mid : Option Remaining)
-    (more : List CellNext) (now : Option Remaining) → Gave was items mid
+gave_on : (was : Option (List CellNext)) (items : List CellNext) (mid : Option (List CellNext))
+    (more : List CellNext) (now : Option (List CellNext)) → Gave was items mid
     → Gave mid more now → Gave was (items ++ more) now
 gave_on was [] mid more now first second =
-    subst (λ (left : Option Remaining). Gave left more now) first second
+    subst (λ (left : Option (List CellNext)). Gave left more now) first second
 gave_on was (item ∷ items) mid more now first second =
     (first.0, gave_on (option_map items_behind was) items mid more now first.1 second)
 

@@ -1,7 +1,7 @@
 use Rattle.std.proofs.Common.{rules, ◌+◌, ◌-◌, ◌≤◌, length, take, drop, ap, ◌∙◌}
 use Rattle.lane_worker.specs.CellLines.{Held}
 use Rattle.lane_worker.proofs.HeldBytes.{moved_front}
-use Rattle.lane_worker.proofs.held_lines.HeldLines.take_line.Goals as goal
+use Rattle.lane_worker.proofs.held_lines.HeldLines.drop_line.Goals as goal
 
 pub returns-clause-bytes : goal.returns-clause-bytes
 returns-clause-bytes c =
