@@ -10,11 +10,10 @@ use std::net::TcpStream;
 /// that leave have fewer than the 1 024 descriptors that a program usually may.
 pub(crate) const MAX_GUESTS: usize = 20;
 
-/// As many bytes as a request may have: who has sent more has its turn, whatever they are.
-const MAX_HEARD: usize = 12_288;
-
-/// How many bytes are read at once.
+/// How many bytes are read at once, and how often: together a head and more.
 const PIECE: usize = 4_096;
+
+const PIECES: u32 = 3;
 
 /// What a connection has done that isn't served yet.
 #[derive(Clone, Copy, Debug, PartialEq, Eq)]
@@ -80,7 +79,6 @@ impl Guest {
         }
         self.standing = match self.heard.extend_from_slice(piece) {
             Err(_) => Standing::Gone,
-            Ok(()) if MAX_HEARD <= self.heard.len() => Standing::Asking,
             Ok(()) if opening.is_whole(&self.heard) => Standing::Asking,
             Ok(()) => Standing::Speaking,
         };
@@ -89,7 +87,7 @@ impl Guest {
     // Hears what it has sent, until it has asked.
     fn hear(&mut self, opening: Opening, now: u64) {
         let mut piece = [0; PIECE];
-        for _piece in 0..MAX_HEARD / PIECE {
+        for _piece in 0..PIECES {
             if self.standing == Standing::Asking || self.standing == Standing::Gone {
                 return;
             }

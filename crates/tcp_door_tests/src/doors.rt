@@ -137,6 +137,28 @@ fn a_client_has_its_turn_once_it_has_asked(rt: HostRuntime) -> Result<(), Fail> 
     Ok(())
 }
 
+// Sends these bytes, and tells whether the door gives them a turn before the sender has had its time.
+fn has_turn(rt: HostRuntime, opening: Opening, sent: &[u8]) -> Result<bool, Fail> {
+    let manners = Manners { opening, ..QUICK };
+    let mut door = TcpDoor::listen(rt.alloc(), rt, 0, 1, manners);
+    let mut client = connect(&rt, &door)?;
+    client.write_all(sent)?;
+    Ok(door.next() == Ok(true) && read(&mut door, &mut [0; 4]).is_ok())
+}
+
+#[test]
+fn what_a_client_has_to_send_is_said_by_its_manners(rt: HostRuntime) -> Result<(), Fail> {
+    assert!(rt; has_turn(rt, Opening::Line, b"1\n")?);
+    assert!(rt; has_turn(rt, Opening::Line, &[b'1'; 65])?);
+    assert!(rt; !has_turn(rt, Opening::Line, &[b'1'; 64])?);
+    assert!(rt; has_turn(rt, Opening::Head, b"GET / HTTP/1.1\r\n\r\n")?);
+    assert!(rt; has_turn(rt, Opening::Head, b"GET / HTTP/1.1\n\n")?);
+    assert!(rt; has_turn(rt, Opening::Head, &[b'a'; 8192])?);
+    assert!(rt; !has_turn(rt, Opening::Head, &[b'a'; 8191])?);
+    assert!(rt; !has_turn(rt, Opening::Head, b"GET / HTTP/1.1\r\nHost: a\r\n")?);
+    Ok(())
+}
+
 #[test]
 fn a_silent_client_is_left_for_one_that_asks_and_not_for_one_that_is_silent(
     rt: HostRuntime,
