@@ -18,8 +18,8 @@ from day_texts import read_days
 from rows import rows_behind
 from worked_tables import (
     BOOK, BOOK_PLACES, DAMAGED, FIVE_ROWS, FOREIGN, GATE_PRIORS, GATES, IMPORTS, JOURNAL, JOURNALS,
-    LANES, LINES, NEXT_DAY, PATHS, PIPED, PLANS, PRINTED, RIGHT_WORDS, SIXTH_ROW, Step, TRIALS,
-    USAGE, WRONG_WORDS)
+    LANES, LINES, NEXT_DAY, PATHS, PIPED, PLANS, PRINTED, RIGHT_WORDS, SETUPS, SIXTH_ROW, Step,
+    TRIALS, USAGE, WRONG_WORDS)
 
 HERE = os.path.dirname(os.path.realpath(__file__))
 SECONDS = 120
@@ -273,6 +273,14 @@ def plans(hall):
         hall.do(step._replace(words=[*step.words, *words]))
 
 
+def setups(hall):
+    """What is said of acts of a setup that have no desk."""
+    for word, given, why in SETUPS:
+        told = subprocess.run([hall.program, word], input=given, check=False, capture_output=True,
+                              timeout=SECONDS, cwd=hall.folder)
+        compare(f"standard error of {given!r}", told.stderr.decode(), why)
+
+
 def main():
     program = os.environ.get("HALL") or f"{HERE}/../crates/hall_cli/out/hall_cli"
     if "HALL" not in os.environ:
@@ -281,7 +289,7 @@ def main():
     signal.alarm(5 * SECONDS)
     hall = Hall(os.path.realpath(program), folder)
     for table in (days, words, lines, gates, books, held, paths, journals, printed, imports, trials,
-                  foreign, lanes, pipes, plans):
+                  foreign, lanes, pipes, plans, setups):
         table(hall)
     shutil.rmtree(folder)
     print(f"worked: {compared} comparisons, {len(wrong)} came out otherwise")

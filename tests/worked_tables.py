@@ -331,3 +331,12 @@ PLANS = [
                             b'batch = "A"\n', "bad line 2\n", 3, 1)),
     # a refused command of the setup is passed over
     ([], planned(b'setup = "day 2025-03-03\\nstart 17 A\\nproduct a 250\\n"\n', totals(2), 0, 2))]
+
+# Inputs of a command, and what standard error says of the setup.
+SETUPS = [
+    ("serve", b'setup = """\n# none\n@164 1 day 2025-03-03\n\nsummary\n\tday 2025-03-04\nopen A a\n"""\n',
+     "hall: line 5 of the setup has no desk, and acts at each start (@164 1 ..)\n"),
+    ("serve", b"reserve = 1\nsetup = '''\ntare a 2025-03-03 1\n'''\n",
+     "hall: line 1 of the setup has no desk, and acts at each start (@164 1 ..)\n"),
+    ("serve", b'setup = """\n@164 1 day 2025-03-03\n@164 2 product a 250\n"""\n# """\nday\n', ""),
+    ("run", b'setup = """\nday 2025-03-03\n"""\n', "")]

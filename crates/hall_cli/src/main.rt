@@ -10,13 +10,14 @@ ghost use Rattle.text_streams.specs.Streams.{output_at};
 ghost use Rattle.hall_top.specs.Endings.{LacksMemory, SaysLast};
 
 use book_snapshot::ROW_BYTES;
-use command_line::{Wants, WantsError, wants};
+use command_line::{Command, Wants, WantsError, wants};
 use disk_core::{Disk, Door, QuietDisk, Sink, Source, StdSink, StdSource};
 use file_disk::{FileDisk, OpenError};
 use hall_limits::{MAX_DOOR, MAX_LANE, MAX_ROWS};
 use hall_top::{DoorEnds, Ending, LaneEnds, MountError, hall, say_last};
 use lane_files::{FileLane, file_lanes};
 use lane_worker::Lane;
+use setup_watch::WatchedPlan;
 use std::alloc::{AllocError, Global};
 use std::env;
 use std::fs::File;
@@ -184,7 +185,6 @@ fn over_book<
 
 fn main(rt: HostRuntime) -> ExitCode {
     let alloc = rt.alloc();
-    let mut input = StdSource::new(rt.stdin());
     let mut output = StdSink::new(rt.stdout());
     let Ok(words) = words(&rt) else {
         return end_without_memory(alloc, &mut output);
@@ -194,6 +194,8 @@ fn main(rt: HostRuntime) -> ExitCode {
         Err(WantsError::NoMemory) => return end_without_memory(alloc, &mut output),
         Err(WantsError::Usage) => return end_unopened(alloc, Ending::Usage, &mut output),
     };
+    let is_plan = matches!(wanted.command, Command::Serve);
+    let mut input = StdSource::new(WatchedPlan::new(rt.stdin(), rt, is_plan));
     let Ok(lanes) = open_lanes(&rt, &wanted) else {
         return end_without_memory(alloc, &mut output);
     };
