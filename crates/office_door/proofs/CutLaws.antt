@@ -9,7 +9,6 @@ use Rattle.std.proofs.lemmas.List.Concat.{flat_map-append}
 use Rattle.std.proofs.lemmas.List.Elements.{All-nil, All-cons, All-head, All-tail}
 use Rattle.device_facts.specs.Prefix.{IsPrefixOf}
 use Rattle.disk_core.specs.Doors.{Connection, Connections, first_connection, behind_first}
-use Rattle.book_words.specs.declared.act.Ask as asks
 use Rattle.office_wire.specs.declared.types.Framed.{Framed}
 use Rattle.office_wire.specs.declared.types.OfficeAsk.{OfficeAsk}
 use Rattle.office_wire.specs.declared.types.Frame.TheVariants.{Whole, Nothing}
@@ -20,11 +19,10 @@ use Rattle.office_wire.proofs.FrameLaws.{frame_unique}
 use Rattle.office_wire.proofs.RequestLaws.{begin_more, begin_same}
 use Rattle.office_door.specs.declared.leaving.Leaving.{Leaving}
 use Rattle.office_door.specs.declared.leaving.Leaving.TheVariants.{End, Last, ReadFailed, WriteFailed}
-use Rattle.office_door.specs.declared.ending.DoorEnd.{DoorEnd}
 use Rattle.office_door.specs.declared.limits.TheConstants.{MAX_REQUESTS}
 use Rattle.office_door.specs.Exchanges.{Exchange, ask_of, asks_of, response_to, response_of, responses}
 use Rattle.office_door.specs.Served.{Visit, GoesOn, EndsRight, IsLeft, IsServed, exchanges_of, requests_of}
-use Rattle.office_door.specs.Doors.{Site, TakesFrom, AreVisited, visited, links_of, ServesDoor}
+use Rattle.office_door.specs.Doors.{TakesFrom, AreVisited, visited, links_of}
 use Rattle.office_door.specs.Cuts.{IsAnsweredAlike, AreAnsweredAlike, SaysFirst, TalksAlike, VisitsAlike}
 use Rattle.office_door.proofs.Prefixes.{prefix_on, prefix_itself, prefix_both, prefix_within, prefix_behind, prefix_onto}
 
@@ -453,7 +451,9 @@ waiting_alike (bytes ∷ waiting) here there one other takes_here takes_there al
     cuts_alike (record { left = bytes; taken = []; written = [] }) here there one other takes_here
     takes_there alike
 
-visits_alike : (all others : Connections) (now till : Option Connections)
+-- the visits of two doors at which the same connections wait talk alike, where they are answered
+-- alike
+pub visits_alike : (all others : Connections) (now till : Option Connections)
     (heres theres : List Visit) → all.waiting ≡ others.waiting
     → All IsServed heres → All IsServed theres
     → AreVisited (Some all) heres now → AreVisited (Some others) theres till
@@ -468,18 +468,3 @@ visits_alike all others now till (here ∷ heres) (there ∷ theres) same one ot
     (visits_alike (visited here all) (visited there others) now till heres theres
     (ap behind_first same) (All-tail IsServed here heres one)
     (All-tail IsServed there theres other) first.1 second.1)
-
--- the visits of two doors at which the same connections wait talk alike, where they are answered
--- alike
-pub doors_alike : (One Two : List asks.Ask → Type 0) (was now from till : Site)
-    (end close : DoorEnd) (all others : Connections)
-    → (here : ServesDoor One was now end) → (there : ServesDoor Two from till close)
-    → was.door.connections ≡ Some all → from.door.connections ≡ Some others
-    → all.waiting ≡ others.waiting → VisitsAlike here.visits there.visits
-doors_alike One Two was now from till end close all others here there is other same =
-    visits_alike all others here.connections there.connections here.visits there.visits same
-    here.has.each there.has.each
-    (subst (λ (o : Option Connections). AreVisited o here.visits here.connections) is
-    here.has.visits_are)
-    (subst (λ (o : Option Connections). AreVisited o there.visits there.connections) other
-    there.has.visits_are)

@@ -8,6 +8,7 @@ mod doors;
 mod ending;
 mod finding;
 mod held;
+mod laws;
 mod leaving;
 mod limits;
 mod requests;
@@ -17,5 +18,6 @@ mod tally;
 
 pub use doors::serve_door;
 pub use ending::{DoorEnd, DoorStop};
+pub use laws::{cut_law, request_law};
 pub use leaving::Leaving;
 pub use limits::{MAX_CONNECTIONS, MAX_REQUESTS};
