@@ -1,0 +1,10 @@
+pub mod PiecesBetween
+pub mod Listed
+pub mod ReadingOn
+pub mod Lookups
+pub mod TareFaults
+pub mod Found
+pub mod MeanLemmas
+pub mod Prefixes
+pub mod GoodsRange
+pub mod SameVerdicts

@@ -1,0 +1,29 @@
+use Rattle.std.proofs.Common.{◌∙◌, ap, subst, sym, Some}
+use Rattle.std.specs.List.Sorted.{IsNonDecreasing}
+use Rattle.paper_check.specs.declared.types.Pack as packs
+use Rattle.paper_check.specs.Drafts.{data_of}
+use Rattle.paper_check.specs.Ranges.{numbers_of}
+use Rattle.paper_check.specs.Judging.{pack_with}
+use Rattle.paper_check.proofs.Lookups.{rises_on}
+use Rattle.paper_check.proofs.Found.{found_pack, no_pack}
+use Rattle.paper_check.proofs.finding.find_pack.Goals as goal
+
+pub place_of-requires : goal.place_of-requires
+place_of-requires c = record {
+  ascending = subst IsNonDecreasing (sym (c.deref.ensures.value ∙ c.requires.keys.numbers))
+      (rises_on (numbers_of (data_of c.args.paper.now).packs) c.requires.listed.packs.ascend);
+}
+
+pub returns-in-Some-clause-value : goal.returns-in-Some-clause-value
+returns-in-Some-clause-value c =
+    ap (λ (p : packs.Pack). Some p) c.index.ensures
+    ∙ found_pack (data_of c.args.paper.now) c.deref.result.now c.in-Some.place c.from.result
+    c.index.result.now c.requires.listed (c.deref.ensures.value ∙ c.requires.keys.numbers)
+    c.in-Some.ensures.0 c.in-Some.ensures.1
+    ∙ ap (pack_with (data_of c.args.paper.now).packs) c.from.ensures
+
+pub returns-in-None-clause-value : goal.returns-in-None-clause-value
+returns-in-None-clause-value c =
+    no_pack (data_of c.args.paper.now) c.deref.result.now c.from.result
+    (c.deref.ensures.value ∙ c.requires.keys.numbers) c.in-None.ensures
+    ∙ ap (pack_with (data_of c.args.paper.now).packs) c.from.ensures
