@@ -1,0 +1,11 @@
+pub mod DayOrder
+pub mod TareLines
+pub mod PaperNets
+pub mod ClosedBatches
+pub mod PaperJudged
+pub mod PackWalks
+pub mod PaperRanges
+pub mod PaperLines
+pub mod PaperForm
+pub mod StockPacks
+pub mod PaperSamples
