@@ -16,7 +16,7 @@ from clients import (OPENING, PATIENCE, Client, Hall, Lane, Link, free_ports, ge
 
 # The seconds in which an honest client is answered, and those beside one that holds its door for as
 # long as a request or a response may take.
-SOON, HELD = 2, 12.5
+SOON, HELD = 2, 15
 
 # For how many seconds each kind is at work alone.
 ALONE = 26

@@ -3,7 +3,7 @@
 # kind, and an honest client at the same door, which has to be answered within 2 seconds all the
 # while. Kinds: one that is silent, sends half a head, drips a head, keeps its connection and asks
 # nothing, or is left and doesn't go. Beside one that sends half a request behind an answer, drips a
-# body or takes no answer it is answered within 12.5 seconds, since these have 10 of their own.
+# body or takes no answer it is answered within 15 seconds, since these have 10 of their own.
 #
 # Then 300 connections that say nothing, of which none is one of `--connections` and none a fault of
 # the link; a door without a descriptor, which is told once and serves again; and 300 hostile clients

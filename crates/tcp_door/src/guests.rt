@@ -84,15 +84,26 @@ impl Guest {
         };
     }
 
+    // Reads the next of what it has sent. Where there is no memory for that it is read in its turn.
+    fn read_on(&mut self, opening: Opening, now: u64) {
+        let mut piece = [0; PIECE];
+        if self.heard.reserve(PIECE).is_err() {
+            self.standing = Standing::Asking;
+            return;
+        }
+        if let Ok(count) = self.link.read(&mut piece) {
+            self.take_in(&piece[..count], opening, now);
+        }
+    }
+
     // Hears what it has sent, until it has asked.
     fn hear(&mut self, opening: Opening, now: u64) {
-        let mut piece = [0; PIECE];
         for _piece in 0..PIECES {
             if self.standing == Standing::Asking || self.standing == Standing::Gone {
                 return;
             }
-            match self.link.read(&mut piece) {
-                Ok(count) if count > 0 => self.take_in(&piece[..count], opening, now),
+            match self.link.peek(&mut [0]) {
+                Ok(count) if count > 0 => self.read_on(opening, now),
                 Err(error) if error.kind() == ErrorKind::WouldBlock => return,
                 _ => self.standing = self.at_end(),
             }
@@ -146,10 +157,13 @@ pub(crate) struct Guests {
 }
 
 impl Guests {
-    /// Nobody. It takes no memory.
+    /// Nobody. It takes its room, or else as they come.
     pub fn new(alloc: Global) -> Self {
         Guests {
-            all: Vec::new(alloc),
+            all: match Vec::with_capacity(alloc, MAX_GUESTS) {
+                Ok(all) => all,
+                Err(_) => Vec::new(alloc),
+            },
             alloc,
         }
     }

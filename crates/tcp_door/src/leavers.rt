@@ -53,9 +53,12 @@ impl Leaver {
 pub(crate) struct Leavers(Vec<Leaver>);
 
 impl Leavers {
-    /// Nobody. It takes no memory.
+    /// Nobody. It takes its room, or else as they come.
     pub fn new(alloc: Global) -> Self {
-        Leavers(Vec::new(alloc))
+        Leavers(match Vec::with_capacity(alloc, MAX_LEAVERS) {
+            Ok(all) => all,
+            Err(_) => Vec::new(alloc),
+        })
     }
 
     /// Whether nobody is leaving.

@@ -50,7 +50,7 @@ impl<R: Clock + Eprint + Net<Listener = TcpListener, Stream = TcpStream> + Drop>
 
     /// Listens at this port for so many connections, which are served one after another, with these
     /// manners. At port 0 the system picks a port. Where the port can't be had the door doesn't
-    /// listen. It takes no memory yet.
+    /// listen. It takes room for those who wait, and where there is none takes it as they come.
     pub fn listen(alloc: Global, rt: R, port: u16, connections: u32, manners: Manners) -> Self
         ensures { result ≡ record {
           listens = result.listens;
