@@ -131,10 +131,15 @@ fn paper_of_a_trial(rt: HostRuntime) -> fmt::Result {
     let product = Name::new(b"trial".as_slice()).ok_or(fmt::Error)?;
     let batch = Name::new(b"T1".as_slice()).ok_or(fmt::Error)?;
     let mut acts = Vec::from_slice(rt.alloc(), &begun(product, batch)).map_err(|_| fmt::Error)?;
-    acts.extend_from_slice(&weighed(batch)).map_err(|_| fmt::Error)?;
+    acts.extend_from_slice(&weighed(batch))
+        .map_err(|_| fmt::Error)?;
     assert!(rt; says(rt.alloc(), &acts, &batch, TRIAL) == Ok(true));
-    assert!(rt; says(rt.alloc(), &acts[..16], &batch, TRIAL)
-        == Err(PaperError::NotClosed { state: BatchState::Drawn }));
+    assert!(rt;
+        says(rt.alloc(), &acts[..16], &batch, TRIAL)
+            == Err(PaperError::NotClosed {
+                state: BatchState::Drawn
+            })
+    );
     assert!(rt; says(rt.alloc(), &acts, &product, TRIAL) == Err(PaperError::Unknown));
     Ok(())
 }
