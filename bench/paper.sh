@@ -1,0 +1,50 @@
+#!/bin/bash
+# How long a program takes to check papers, and how much memory: one of 10 000 packs, and one of
+# 16 777 216 bytes that has as many tares and packs of a sample as fit and no fault of form.
+#
+# usage: bench/paper.sh [PROGRAM [WORD..]]    without a program ./prove
+top=$(dirname "$(dirname "$(readlink -f "$0")")")
+[ $# -gt 0 ] || set -- "$top/prove"
+papers=$(mktemp -d)
+trap 'rm -rf "$papers"' EXIT
+python3 - "$top/tests" "$papers" <<'PYTHON'
+import datetime
+import sys
+
+sys.path.insert(0, sys.argv[1])
+import paper_page as page
+
+HEAD = "paper 1\nbatch B product p nominal 250 unit g density 1000 row 20000\n"
+
+
+def write(name, text):
+    with open(f"{sys.argv[2]}/{name}", "w", encoding="ascii") as file:
+        file.write(text)
+
+
+def large():
+    packs = range(1, 10_001)
+    picks = page.draw(7, packs, 80)
+    lines = [f"pack {pack} 2025-03-03 261.000" for pack in packs] + ["mode keep word 7"]
+    lines += [f"first {pick} gross 261.000 empty 0.000" for pick in picks]
+    return "\n".join([HEAD + "tare 2025-03-03 10.000", *lines, "verdict released", ""])
+
+
+def slow():
+    first = datetime.date(1970, 1, 1)
+    tares = "".join(f"tare {first + datetime.timedelta(at)} 1\n" for at in range(500_000))
+    rest = "pack 1 1970-01-01 9\nmode keep word 7\n", "verdict released\n"
+    line = "first 1 gross 9 empty 0\n"
+    room = 16_777_216 - len(HEAD + tares + "".join(rest))
+    return HEAD + tares + rest[0] + line * (room // len(line)) + rest[1]
+
+
+write("large", large())
+write("slow", slow())
+PYTHON
+for paper in large slow; do
+    echo "$paper: $(stat -c %s "$papers/$paper") bytes, $(wc -l <"$papers/$paper") lines"
+    for turn in 1 2 3; do
+        /usr/bin/time -f '  %e s, %M kB' "$@" <"$papers/$paper" 2>&1
+    done
+done
