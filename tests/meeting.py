@@ -96,7 +96,9 @@ class Meeting:
                 time.sleep(0.001)
 
     def hush(self):
+        """Sends no more. The empty line has the connection be one, also where nothing was asked."""
         try:
+            self.link.send(b"\n")
             self.link.hush()
         except OSError:
             self.leave()

@@ -11,6 +11,9 @@ from refusals import ASKED_AGAIN, LONGEST, NO_MEMORY, PROGRAM, THREAD, UNOPENED,
 from rows import Piles
 from worked_days import OPENING, SHEET, days, desk_row, many_packs, summary
 
+# What standard error says of a setup whose acts have no desk.
+WITHOUT_DESK = "hall: line 1 of the setup has no desk, and acts at each start (@164 1 ..)\n"
+
 DONE = "done (status 0)"
 LATE = "a job began behind another, and they waited in vain (status 10)"
 
@@ -124,7 +127,8 @@ class ServedDay:
         """Compares what a hall said, answered and left; tells how it ended, where that is right."""
         said = "".join(f"{line}\n" for line in meeting.hall.said())
         unbegun = self.unbegun(place, status, said)
-        need(unbegun == UNOPENED or not place.errors, f"standard error says {place.errors}")
+        need(unbegun == UNOPENED or place.errors in ("", WITHOUT_DESK),
+             f"standard error says {place.errors}")
         for at, answer in enumerate(meeting.answers):
             need(self.answer_is_right(at, answer), f"request {at + 1} is answered {answer}")
         rows = self.rows_of(place)
