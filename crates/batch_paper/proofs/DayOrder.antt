@@ -29,12 +29,12 @@ RiseWithin least most [] = least ≤ℤ most
 RiseWithin least most (reading ∷ some) =
     (least ≤ℤ day_on reading) × RiseWithin (day_on reading) most some
 
-span : (least most : ℤ) (some : List Reading) → RiseWithin least most some → least ≤ℤ most
+pub span : (least most : ℤ) (some : List Reading) → RiseWithin least most some → least ≤ℤ most
 span least most [] h = h
 span least most (reading ∷ some) h =
     let rest = span (day_on reading) most some h.1 in grind (arith, ints, h.0, rest)
 
-lower : (least below most : ℤ) (some : List Reading) → below ≤ℤ least → RiseWithin least most some
+pub lower : (least below most : ℤ) (some : List Reading) → below ≤ℤ least → RiseWithin least most some
     → RiseWithin below most some
 lower least below most [] low h = grind (arith, ints, low, h)
 lower least below most (reading ∷ some) low h = (grind (arith, ints, low, h.0), h.1)
@@ -70,11 +70,11 @@ rise-append least mid most (reading ∷ some) more h k =
     (h.0, rise-append (day_on reading) mid most some more h.1 k)
 
 -- the newest day, or that of no day
-abbrev last_day : List Entry → ℤ
+abbrev pub last_day : List Entry → ℤ
 last_day entries = unwrap_or (newest_day entries) (pos 0)
 
 -- the readings of a list up to its newest day
-abbrev DaysRise : List Entry → Type 0
+abbrev pub DaysRise : List Entry → Type 0
 DaysRise entries = (pos 0 ≤ℤ last_day entries) × RiseWithin (pos 0) (last_day entries) (readings entries)
 
 later_day : (entries : List Entry) (act : Act) → IsAllowed entries act → (pos 0 ≤ℤ last_day entries)

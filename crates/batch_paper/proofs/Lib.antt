@@ -9,3 +9,4 @@ pub mod PaperLines
 pub mod PaperForm
 pub mod StockPacks
 pub mod PaperSamples
+pub mod PaperWhole

@@ -19,7 +19,7 @@ use Rattle.book_words.specs.declared.act.Reading.{Reading}
 use Rattle.book_words.specs.declared.views.Fails.{Fails}
 use Rattle.book_words.specs.declared.views.Verdict.{Verdict}
 use Rattle.book_words.specs.declared.views.Verdict.TheVariants.{Empty}
-use Rattle.book_words.specs.Acts.{last_said, product_of, state_of}
+use Rattle.book_words.specs.Acts.{last_said, state_of}
 use Rattle.book_words.specs.Readings.{net_of_reading}
 use Rattle.book_words.specs.Classes.{is_below, nominal_of_batch, density_of_batch, limits_of_batch}
 use Rattle.book_words.specs.Population.{population, net_sum, nonstandard_count, inadequate_count}
@@ -34,8 +34,7 @@ use Rattle.book_laws.proofs.PopulationLaws.{drawn_from_all, drawn_or_empty}
 use Rattle.paper_check.specs.declared.types.Pack as packs
 use Rattle.paper_check.specs.declared.types.Draw as draws
 use Rattle.paper_check.specs.declared.types.Pick.{Pick}
-use Rattle.paper_check.specs.Papers.{PaperData, paper_text}
-use Rattle.batch_paper.specs.Outcomes.{IsPaperOf}
+use Rattle.paper_check.specs.Papers.{PaperData}
 use Rattle.paper_check.specs.Judging.{nets_of, contents_of_picks, below_count, defective_picks, sample_in, contents_check_in, mean_check_in, fails_in_nets, judged}
 use Rattle.paper_check.specs.Faults.{has_tare_of, tare_fault, strays_at, stray_line, needs_second, unmeasured_line, given_second_fault, second_fault, samples_fault, draw_fault, after_first, second_line, first_line, draw_line, verdict_line, earlier_line, packs_line, tares_line}
 use Rattle.batch_paper.specs.Written.{pack_of, packs_of, tares_of, weighed_of, pick_of, first_picks, second_picks, draw_by, paper_by}
@@ -50,7 +49,7 @@ take_mapped f zero some = refl
 take_mapped f (suc n) [] = refl
 take_mapped f (suc n) (x ∷ some) = ap (λ ys. f x ∷ ys) (take_mapped f n some)
 
-twice_mapped : (some : List Reading)
+pub twice_mapped : (some : List Reading)
     → map (λ (pack : packs.Pack). pack.number) (map pack_of some) ≡ numbers_of some
 twice_mapped [] = refl
 twice_mapped (r ∷ rs) = ap (λ ns. r.number ∷ ns) (twice_mapped rs)
@@ -412,19 +411,3 @@ draws_as_book entries batch product legal closed = each (drawing_of entries batc
         let paper : PaperData = paper_by entries batch product in
         ap (λ (o : Option Drawing). option_and_then (λ (d : draws.Draw). samples_fault paper d
         (plan_of (length paper.packs) d.mode)) (option_map draw_by o)) is
-
--- the text of what the list says of a closed batch is its paper
-pub paper_right : (entries : List Entry) (batch product : Name) (bytes : List ℕ) → IsLegal entries
-    → state_of entries batch ≡ Some Closed → product_of entries batch ≡ Some product
-    → bytes ≡ paper_text (paper_by entries batch product) → IsPaperOf entries batch bytes
-paper_right entries batch product bytes legal closed known text =
-    record {
-      closed = closed;
-      paper = paper_by entries batch product;
-      written = ap (option_map (paper_by entries batch)) known;
-      text = text;
-      tares = tares_right entries batch product;
-      draws = draws_as_book entries batch product legal closed;
-      given = judged_as_book entries batch product legal closed;
-      said = refl;
-    }

@@ -73,7 +73,7 @@ abbrev HasLine : List Entry → Name → List DatedTare → Reading → Type 0
 HasLine entries batch tares reading =
     tare_on tares ((pack_of reading).day) ≡ Some ((tare_for entries batch ((pack_of reading).day)).tare)
 
-of_mapped : {A B : Type 0} (P : B → Type 0) (f : A → B) (some : List A) → All P (map f some)
+pub of_mapped : {A B : Type 0} (P : B → Type 0) (f : A → B) (some : List A) → All P (map f some)
     → All (λ x. P (f x)) some
 of_mapped P f [] all = All-nil (λ x. P (f x))
 of_mapped P f (x ∷ some) all =
@@ -102,7 +102,7 @@ all_there f g h (x ∷ some) all =
     ap (λ o. cons_option o (filter_map f (map g some))) first
     ∙ ap (λ ys. h x ∷ ys) (all_there f g h some (All-tail (λ y. f (g y) ≡ Some (h y)) x some all))
 
-both : {A : Type 0} (P Q : A → Type 0) (some : List A) → All P some → All Q some
+pub both : {A : Type 0} (P Q : A → Type 0) (some : List A) → All P some → All Q some
     → All (λ x. P x × Q x) some
 both P Q some p q k d less = (p k d less, q k d less)
 
@@ -179,7 +179,7 @@ find_mapped pack (r ∷ rs) = each (r.number == pack) (find_mapped pack rs)
     each false h = h
 
 -- its line is found by its number
-pack_found : (entries : List Entry) (batch : Name) (pack : ℕ) (is : IsCounted entries batch pack)
+pub pack_found : (entries : List Entry) (batch : Name) (pack : ℕ) (is : IsCounted entries batch pack)
     → find (λ (r : Reading). r.number == pack) (population entries batch) ≡ Some is.reading
 pack_found entries batch pack is =
     found_still (λ (r : Reading). r.number == pack)

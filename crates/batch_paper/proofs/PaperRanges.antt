@@ -58,7 +58,7 @@ nominal_right entries batch product legal known =
 
 -- ---- the packs
 
-each_fit : (entries : List Entry) (batch : Name) → IsLegal entries → All IsFit (population entries batch)
+pub each_fit : (entries : List Entry) (batch : Name) → IsLegal entries → All IsFit (population entries batch)
 each_fit entries batch legal =
     All-filter (λ (r : Reading). is_of_batch batch r && is_counted r) IsFit (readings entries)
     (each_fits entries legal)
@@ -102,7 +102,7 @@ tares_fit entries batch legal =
 
 -- ---- what was measured
 
-pick_right : (entries : List Entry) (mode : Mode) (pack : ℕ) → IsLegal entries
+pub pick_right : (entries : List Entry) (mode : Mode) (pack : ℕ) → IsLegal entries
     → is_pick_weighed (pick_of entries mode pack) ≡ true
 pick_right entries mode pack legal = each mode (measured_of entries pack) (measured_within entries pack legal)
   where

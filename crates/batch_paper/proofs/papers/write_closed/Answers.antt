@@ -1,7 +1,7 @@
 use Rattle.std.proofs.Common.{◌≡◌, false, true, None, is_some, sym, ◌∙◌, ap}
 use Rattle.book_words.specs.Acts.{product_of}
 use Rattle.book_laws.proofs.BatchLaws.{orderly}
-use Rattle.batch_paper.proofs.PaperJudged.{paper_right}
+use Rattle.batch_paper.proofs.PaperWhole.{paper_right}
 use Rattle.batch_paper.proofs.papers.write_closed.Goals as goal
 
 pub unreachable-requires : goal.unreachable-requires
