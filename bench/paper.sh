@@ -45,6 +45,6 @@ PYTHON
 for paper in large slow; do
     echo "$paper: $(stat -c %s "$papers/$paper") bytes, $(wc -l <"$papers/$paper") lines"
     for turn in 1 2 3; do
-        /usr/bin/time -f '  %e s, %M kB' "$@" <"$papers/$paper" 2>&1
+        /usr/bin/time -q -f '  %e s, %M kB' "$@" <"$papers/$paper" 2>&1
     done
 done
