@@ -10,8 +10,8 @@ use std::test::Fail;
 // The day 2025-03-03, counted from 1970-01-01.
 const MARCH_3: i32 = 20_150;
 
-// A caller of a book over a disk in memory.
-type Hall = OneCaller<MemoryDisk>;
+/// A caller of a book over a disk in memory.
+pub(crate) type Hall = OneCaller<MemoryDisk>;
 
 // The bad line at which a lane ends over a cell to which these connections come, if it isn't done,
 // how often its gate opens, and how many rows the book then has.
@@ -80,8 +80,8 @@ fn open_batch(hall: &mut Hall, batch: Name) -> Option<()> {
     Some(())
 }
 
-// A hall with the opening rows. The worker of lane 1 speaks.
-fn open_hall(alloc: Global, batch: Name) -> Option<Hall> {
+/// A hall with the opening rows. The worker of lane 1 speaks.
+pub(crate) fn open_hall(alloc: Global, batch: Name) -> Option<Hall> {
     let disk = MemoryDisk::new(alloc, Vec::new(alloc), Vec::new(alloc));
     let Ok(store) = Store::mount(alloc, disk, 1_000) else {
         return None;
