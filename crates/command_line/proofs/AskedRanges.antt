@@ -1,5 +1,5 @@
 -- The ranges of the numbers that words ask for.
-use Rattle.std.proofs.Common.{◌≡◌, ℕ, ◌≤◌, ◌&&◌, ◌^◌, ◌-◌, nat_le, Bool, true, false, List, [], ◌∷◌, codes, if◌then◌else◌, Option, Some, None, option_map, option_and_then, refl, subst, arith}
+use Rattle.std.proofs.Common.{◌≡◌, ℕ, ◌≤◌, ◌&&◌, ◌^◌, ◌-◌, nat_le, Bool, true, false, List, [], ◌∷◌, codes, if◌then◌else◌, Option, Some, None, IfSome, option_map, option_and_then, refl, subst, arith}
 use Rattle.std.specs.Prelude.{⊤}
 use Rattle.std.proofs.lemmas.Bool.Decides.{nat_tests}
 use Rattle.hall_limits.specs.declared.TheConstants.{MAX_DOOR, MAX_LANE, MAX_ROWS, MAX_TRIAL}
@@ -7,11 +7,11 @@ use Rattle.hall_units.specs.Number.{bounded_number}
 use Rattle.command_line.specs.declared.types.Command.{Command}
 use Rattle.command_line.specs.declared.types.Command.TheVariants.{Trial}
 use Rattle.command_line.specs.declared.table.NumberForm.{NumberForm}
-use Rattle.command_line.specs.declared.table.TheConstants.{CONNECTIONS, COUNT, DOORS, LANES, LIMIT}
+use Rattle.command_line.specs.declared.table.TheConstants.{AFTER, CONNECTIONS, COUNT, DOORS, LANES, LIMIT}
 use Rattle.command_line.specs.declared.table.TheConstants.{MAX_DOOR_CONNECTIONS, MAX_PORT, NUMBER, PORT}
 use Rattle.command_line.specs.declared.values.Values.{Values}
 use Rattle.command_line.specs.Taken.{IsInRange}
-use Rattle.command_line.specs.Words.{Item, Wanted, batch_in, command_of, form_of, in_range, items_in}
+use Rattle.command_line.specs.Words.{Item, Wanted, batch_in, command_of, form_of, given_number, in_range, items_in}
 use Rattle.command_line.specs.Words.{number_in, placed_items, stands_alone, value_of, values_in}
 use Rattle.command_line.specs.Words.{values_of, wanted_by, wanted_of, wanted_values, with_item}
 
@@ -73,6 +73,16 @@ count_within (Some text) count is =
     let within = given_within COUNT text count is in
     record { from = omega arith; to = within.to }
 
+-- the port of a lane's cell, where one is given
+abbrev PortWithin : Option ℕ → Type 0
+PortWithin port = IfSome port (λ p. (1 ≤ p) × (p ≤ MAX_PORT))
+
+remote_within : (given : Option (List ℕ)) (remote : Option ℕ) → given_number PORT given ≡ Some remote
+    → PortWithin remote
+remote_within None remote is = subst PortWithin (some_same None remote is) tt
+remote_within (Some text) remote is = map_gives PortWithin _ (number_in PORT (Some text)) remote is
+    (λ port port_is. let within = given_within PORT text port port_is in (within.from, within.to))
+
 -- ---- the values of a command
 
 -- the least number of packs by what is given
@@ -93,12 +103,15 @@ record AreWithin (given : Option (List ℕ)) (values : Values) : Type 0 where
   connections : IsWithin 1 MAX_DOOR_CONNECTIONS values.connections
   count : IsWithin 0 MAX_TRIAL values.count
   some : LeastPacks given values.count
+  remote : PortWithin values.remote
+  after : IsWithin 0 MAX_ROWS values.after
 
-values_within : (batch limit lanes doors port connections number count : Option (List ℕ))
+values_within :
+    (batch limit lanes doors port connections number count remote after : Option (List ℕ))
     (values : Values)
-    → values_in batch limit lanes doors port connections number count ≡ Some values
+    → values_in batch limit lanes doors port connections number count remote after ≡ Some values
     → AreWithin count values
-values_within batch limit lanes doors port connections number count values is =
+values_within batch limit lanes doors port connections number count remote after values is =
     then_gives (AreWithin count values) _ (batch_in batch) values is (λ b batch_is one.
     then_gives (AreWithin count values) _ (number_in LIMIT limit) values one (λ l limit_is two.
     then_gives (AreWithin count values) _ (number_in LANES lanes) values two (λ n lanes_is three.
@@ -108,7 +121,10 @@ values_within batch limit lanes doors port connections number count values is =
     (λ s connections_are six.
     then_gives (AreWithin count values) _ (number_in NUMBER number) values six
     (λ u number_is seven.
-    map_gives (AreWithin count) _ (number_in COUNT count) values seven (λ c count_is. record {
+    then_gives (AreWithin count values) _ (number_in COUNT count) values seven (λ c count_is eight.
+    then_gives (AreWithin count values) _ (given_number PORT remote) values eight
+    (λ r remote_is nine.
+    map_gives (AreWithin count) _ (number_in AFTER after) values nine (λ a after_is. record {
       limit = number_within LIMIT limit l (omega arith) (omega arith) limit_is;
       lanes = number_within LANES lanes n (omega arith) (omega arith) lanes_is;
       doors = number_within DOORS doors d (omega arith) (omega arith) doors_is;
@@ -117,7 +133,9 @@ values_within batch limit lanes doors port connections number count values is =
           number_within CONNECTIONS connections s (omega arith) (omega arith) connections_are;
       count = count_within count c count_is;
       some = least_packs count c count_is;
-    }))))))))
+      remote = remote_within remote r remote_is;
+      after = number_within AFTER after a (omega arith) (omega arith) after_is;
+    }))))))))))
 
 -- the two words of a trial say how many packs it has
 count_placed : (words : List (List ℕ)) (items : List Item)
@@ -156,7 +174,8 @@ by_values command items wanted given is =
     let within = values_within (value_of items (codes "batch")) (value_of items (codes "limit"))
     (value_of items (codes "lanes")) (value_of items (codes "doors"))
     (value_of items (codes "port")) (value_of items (codes "connections"))
-    (value_of items (codes "number")) (value_of items (codes "count")) values values_are in
+    (value_of items (codes "number")) (value_of items (codes "count"))
+    (value_of items (codes "remote")) (value_of items (codes "after")) values values_are in
     record {
       least = within.limit.from;
       most = within.limit.to;
@@ -166,6 +185,8 @@ by_values command items wanted given is =
       port_most = within.port.to;
       connections_least = within.connections.from;
       connections_most = within.connections.to;
+      remote = within.remote;
+      after = within.after.to;
       packs = within.count.to;
       some = λ trial.
           let text = given trial in

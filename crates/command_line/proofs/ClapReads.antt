@@ -11,8 +11,8 @@ use Rattle.clap.specs.Takes.{built_takes, default_passes, is_valid, settle_passe
 use Rattle.clap.specs.Walk.{Held, Row, Text, finished, first_of, nothing_held, walk_from}
 use Rattle.command_line.specs.declared.types.Command.{Command}
 use Rattle.command_line.specs.Options.{app_by, app_for}
-use Rattle.command_line.specs.Words.{Form, Item, are_taken, form_of, items_in, options, places}
-use Rattle.command_line.specs.Words.{read_items, taken_items, value_of}
+use Rattle.command_line.specs.Words.{Form, Item, are_given, are_taken, form_of, items_in, options, needed, places}
+use Rattle.command_line.specs.Words.{given_items, read_items, taken_items, value_of}
 use Rattle.command_line.specs.declared.types.Command.TheVariants.{Run, Serve, Report, Export, Check}
 use Rattle.command_line.specs.declared.types.Command.TheVariants.{Import, Trial, Migrate}
 use Rattle.command_line.proofs.ManyOptions.{defaults_pass, finished_as, shape_for, simple, valid}
@@ -64,9 +64,28 @@ by_taken names words items (Some found) reads is = go (are_taken names found) re
 by_options : (names : List Text) → FormReads (options names)
 by_options names = λ words items is. by_taken names words items (read_items None words) refl is
 
+-- what is left of items behind a test is these items
+by_given : (names words : List Text) (items : List Item) (left : Option (List Item))
+    → option_and_then (taken_items names) (read_items None words) ≡ left
+    → option_and_then (given_items names) left ≡ Some items
+    → ClapReads (app_by true names) words items
+by_given names words items None taken is = cc
+by_given names words items (Some found) taken is = go (are_given names found) is
+  where
+    go : (t : Bool) → (if t then Some found else None) ≡ Some items
+        → ClapReads (app_by true names) words items
+    go false here = cc
+    go true here =
+        by_options names words items (taken ∙ ap (λ (list : List Item). Some list) cc)
+
+by_needed : (names : List Text) → FormReads (needed names)
+by_needed names = λ words items is.
+    by_given names words items (option_and_then (taken_items names) (read_items None words)) refl is
+
 -- options have any names; the words of a form without options are two
 abbrev IsKnown : Form → Type 0
 IsKnown (options names) = ⊤
+IsKnown (needed names) = ⊤
 IsKnown (places names) = names ≡ two
 
 is_known : (command : Command) → IsKnown (form_of command)
@@ -81,6 +100,7 @@ is_known Migrate = tt
 
 by_known : (form : Form) → IsKnown form → FormReads form
 by_known (options names) known = by_options names
+by_known (needed names) known = by_needed names
 by_known (places names) known =
     subst (λ (list : List Text). FormReads (places list)) (sym known) two_placed
 

@@ -1,13 +1,14 @@
 -- What items give to the options of a command, an item at a time.
-use Rattle.std.proofs.Common.{if◌then◌else◌, ◌≡◌, ◌↔◌, ◌∙◌, ◌&&◌, ap, refl, sym, is_none, Bor, Bool, true, false, not, List, [], ◌∷◌, Option, Some, None, option_map, option_and_then, is_some, codes, ℕ, length, arith}
+use Rattle.std.proofs.Common.{if◌then◌else◌, ◌≡◌, ◌↔◌, ◌∙◌, ◌&&◌, ap, refl, sym, is_none, Bor, Bool, true, false, not, List, [], ◌∷◌, Option, Some, None, option_map, option_and_then, is_some, codes, ℕ, suc, ◌+◌, ◌<◌, length, drop, get_or, arith}
 use Rattle.std.specs.List.{list_any}
+use Rattle.std.proofs.Math.Seq.{drop-cons}
 use Rattle.std.specs.Option.{option_map_or}
 use Rattle.std.specs.Str.{bytes_eq}
 use Rattle.command_line.specs.declared.types.Command.{Command}
 use Rattle.command_line.specs.declared.types.WantsError.TheVariants.{NoMemory, Usage}
 use Rattle.command_line.specs.declared.values.Values.{Values}
-use Rattle.command_line.specs.Taken.{are_words_taken, bytes_in, is_read}
-use Rattle.command_line.specs.Words.{Form, Item, Wanted, are_taken, command_of, form_of, gives, is_among}
+use Rattle.command_line.specs.Taken.{are_words_taken, bytes_in, is_read, texts_of}
+use Rattle.command_line.specs.Words.{Form, Item, Wanted, are_given, are_taken, command_of, form_of, gives, is_among}
 use Rattle.command_line.specs.Words.{items_in, read_items, taken_items, value_of, values_in, values_of}
 use Rattle.command_line.specs.Words.{wanted_by, wanted_of, wanted_values, with_item}
 
@@ -83,6 +84,49 @@ pub value_passed : (name other value : List ℕ) (left : Option (List Item)) →
 value_passed name other value None differs = refl
 value_passed name other value (Some items) differs = rw differs refl
 
+-- an option with a value is given by an item
+pub some_found : (name : List ℕ) (items : List Item) (found : Option (Bor (List ℕ)))
+    → bytes_in found ≡ value_of items name
+    → is_some found ≡ list_any (gives name) items
+some_found name items found is =
+    has_text found ∙ ap (λ (text : Option (List ℕ)). is_some text) is ∙ value_some name items
+  where
+    has_text : (found : Option (Bor (List ℕ))) → is_some found ≡ is_some (bytes_in found)
+    has_text None = refl
+    has_text (Some text) = refl
+
+-- all names from a place on are given where this one and those behind it are
+given_from : (names : List (Bor (List ℕ))) (place : ℕ) (other : Bor (List ℕ))
+    (items : List Item) → place < length names
+    → are_given (texts_of (drop place names)) items
+    ≡ (list_any (gives (get_or names place other).now) items
+    && are_given (texts_of (drop (place + 1) names)) items)
+given_from names place other items low =
+    let one_on : suc place ≡ place + 1 = omega arith in
+    ap (λ (left : List (Bor (List ℕ))). are_given (texts_of left) items)
+    (drop-cons names place other low)
+    ∙ ap (λ (next : ℕ). list_any (gives (get_or names place other).now) items
+    && are_given (texts_of (drop next names)) items) one_on
+
+pub not_given : (names : List (Bor (List ℕ))) (place : ℕ) (other : Bor (List ℕ))
+    (items : List Item) (found : Option (Bor (List ℕ))) → place < length names
+    → bytes_in found ≡ value_of items (get_or names place other).now → is_some found ≡ false
+    → are_given (texts_of (drop place names)) items ≡ false
+not_given names place other items found low is lacks =
+    given_from names place other items low
+    ∙ ap (λ (t : Bool). t && are_given (texts_of (drop (place + 1) names)) items)
+    (sym (some_found (get_or names place other).now items found is) ∙ lacks)
+
+pub also_given : (names : List (Bor (List ℕ))) (place : ℕ) (other : Bor (List ℕ))
+    (items : List Item) (found : Option (Bor (List ℕ))) → place < length names
+    → bytes_in found ≡ value_of items (get_or names place other).now → is_some found ≡ true
+    → are_given (texts_of (drop place names)) items
+    ≡ are_given (texts_of (drop (place + 1) names)) items
+also_given names place other items found low is some =
+    given_from names place other items low
+    ∙ ap (λ (t : Bool). t && are_given (texts_of (drop (place + 1) names)) items)
+    (sym (some_found (get_or names place other).now items found is) ∙ some)
+
 -- ---- whether the words of a form are read
 
 -- a name is given this text
@@ -95,29 +139,34 @@ read_of = option_and_then (λ items. values_of (value_of items))
 
 -- texts that are the values of their names say what these say
 pub texts_read : (value : List ℕ → Option (List ℕ))
-    (batch limit lanes doors port connections number count : Option (List ℕ))
+    (batch limit lanes doors port connections number count remote after : Option (List ℕ))
     → batch ≡ value (codes "batch") → limit ≡ value (codes "limit")
     → lanes ≡ value (codes "lanes") → doors ≡ value (codes "doors") → port ≡ value (codes "port")
     → connections ≡ value (codes "connections") → number ≡ value (codes "number")
-    → count ≡ value (codes "count")
-    → values_in batch limit lanes doors port connections number count ≡ values_of value
-texts_read value batch limit lanes doors port connections number count b l n d p s u c =
-    rw (b, l, n, d, p, s, u, c) refl
+    → count ≡ value (codes "count") → remote ≡ value (codes "remote")
+    → after ≡ value (codes "after")
+    → values_in batch limit lanes doors port connections number count remote after
+    ≡ values_of value
+texts_read value batch limit lanes doors port connections number count remote after
+    b l n d p s u c r a = rw (b, l, n, d, p, s, u, c, r, a) refl
 
 pub items_read : (left : Option (List Item))
-    (batch limit lanes doors port connections number count : Option (List ℕ))
+    (batch limit lanes doors port connections number count remote after : Option (List ℕ))
     → is_some left ≡ true → Gives left (codes "batch") batch → Gives left (codes "limit") limit
     → Gives left (codes "lanes") lanes → Gives left (codes "doors") doors
     → Gives left (codes "port") port → Gives left (codes "connections") connections
     → Gives left (codes "number") number → Gives left (codes "count") count
-    → is_some (values_in batch limit lanes doors port connections number count)
+    → Gives left (codes "remote") remote → Gives left (codes "after") after
+    → is_some (values_in batch limit lanes doors port connections number count remote after)
     ≡ is_some (read_of left)
-items_read None batch limit lanes doors port connections number count is b l n d p s u c = cc
-items_read (Some items) batch limit lanes doors port connections number count is b l n d p s u c =
+items_read None batch limit lanes doors port connections number count remote after is
+    b l n d p s u c r a = cc
+items_read (Some items) batch limit lanes doors port connections number count remote after is
+    b l n d p s u c r a =
     ap (λ (values : Option Values). is_some values)
-    (texts_read (value_of items) batch limit lanes doors port connections number count
+    (texts_read (value_of items) batch limit lanes doors port connections number count remote after
     (b items refl) (l items refl) (n items refl) (d items refl) (p items refl) (s items refl)
-    (u items refl) (c items refl))
+    (u items refl) (c items refl) (r items refl) (a items refl))
 
 pub none_read : (left : Option (List Item)) → is_some left ≡ false
     → is_some (read_of left) ≡ false
@@ -211,6 +260,8 @@ pub asks_read : (command : Command) (left : Option (List Item)) (value : List �
       connections = values.connections;
       number = values.number;
       count = values.count;
+      remote = values.remote;
+      after = values.after;
     })
 asks_read command None value values book cells some given read b c = cc
 asks_read command (Some items) value values book cells some given read b c =

@@ -4,7 +4,7 @@ use Rattle.clap.specs.Simple.{App, new_app, new_rule, on_top}
 use Rattle.clap.specs.Walk.{Rule}
 use Rattle.clap.specs.declared.builder.action.ArgAction.TheVariants.{Set}
 use Rattle.command_line.specs.Words.{Form}
-use Rattle.command_line.specs.Words.{options, places}
+use Rattle.command_line.specs.Words.{options, needed, places}
 
 -- one value, whose name is spelled before it or not
 abbrev pub rule_by : Bool → List ℕ → Rule
@@ -27,4 +27,5 @@ app_by spelled names = with_values spelled bare_app names
 
 abbrev pub app_for : Form → App
 app_for (options names) = app_by true names
+app_for (needed names) = app_by true names
 app_for (places names) = app_by false names

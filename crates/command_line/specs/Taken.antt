@@ -1,5 +1,5 @@
 -- What the words after a command ask for, and what is answered.
-use Rattle.std.specs.Prelude.{◌≡◌, ◌≤◌, ℕ, Bool, false, List, map, Option, None, option_map, is_some}
+use Rattle.std.specs.Prelude.{◌≡◌, ◌≤◌, ℕ, Bool, false, List, map, Option, None, option_map, is_some, IfSome}
 use Rattle.std.specs.Option.{option_and_then, option_map_or}
 use Rattle.std.specs.Borrow.{Bor}
 use Rattle.hall_limits.specs.declared.TheConstants.{MAX_DOOR, MAX_LANE, MAX_ROWS, MAX_TRIAL}
@@ -10,7 +10,7 @@ use Rattle.command_line.specs.declared.types.Command.TheVariants.{Trial}
 use Rattle.command_line.specs.declared.types.Wants.{Wants}
 use Rattle.command_line.specs.Words.{Form, Wanted, are_taken, items_in, read_items, value_of}
 use Rattle.command_line.specs.Words.{values_of}
-use Rattle.command_line.specs.Words.{options, places}
+use Rattle.command_line.specs.Words.{options, needed, places}
 
 -- the bytes of a text that may be there
 abbrev pub bytes_in : Option (Bor (List ℕ)) → Option (List ℕ)
@@ -23,6 +23,7 @@ texts_of texts = map (λ text. text.now) texts
 -- what a form is
 abbrev pub form_in : Told → Form
 form_in (told.Options names) = options (texts_of names.now)
+form_in (told.Needed names) = needed (texts_of names.now)
 form_in (told.Places names) = places (texts_of names.now)
 
 -- the words are items of these names, and none comes twice
@@ -48,10 +49,13 @@ seen wants = record {
   connections = wants.connections;
   number = wants.number;
   count = wants.count;
+  remote = wants.remote;
+  after = wants.after;
 }
 
 -- the numbers that are asked for are in their ranges: a book has room for a row at least, each door
--- has a port and a connection at least, and a trial has a pack at least
+-- has a port and a connection at least, each cell of a lane a port where they listen, and a trial
+-- has a pack at least
 pub record IsInRange (wanted : Wanted) : Type 0 where
   pub least : 1 ≤ wanted.limit
   pub most : wanted.limit ≤ MAX_ROWS
@@ -61,5 +65,7 @@ pub record IsInRange (wanted : Wanted) : Type 0 where
   pub port_most : wanted.port ≤ MAX_PORT
   pub connections_least : 1 ≤ wanted.connections
   pub connections_most : wanted.connections ≤ MAX_DOOR_CONNECTIONS
+  pub remote : IfSome wanted.remote (λ port. (1 ≤ port) × (port ≤ MAX_PORT))
+  pub after : wanted.after ≤ MAX_ROWS
   pub packs : wanted.count ≤ MAX_TRIAL
   pub some : wanted.command ≡ Trial → 1 ≤ wanted.count

@@ -4,7 +4,7 @@ use Rattle.std.specs.Prelude.{List, [], ◌∷◌, length, map, find, codes, Str
 use Rattle.std.specs.declared.alloc.Global.{Global}
 use Rattle.std.specs.String.{string_bytes}
 use Rattle.std.specs.Prelude.{Option, Some, None, option_map, if◌then◌else◌}
-use Rattle.std.specs.List.{list_any}
+use Rattle.std.specs.List.{list_all, list_any}
 use Rattle.std.specs.Option.{option_and_then}
 use Rattle.std.specs.Str.{bytes_eq}
 use Rattle.clap.specs.Lexer.{long_of}
@@ -17,7 +17,7 @@ use Rattle.command_line.specs.declared.types.Command.TheVariants.{Import, Trial,
 use Rattle.command_line.specs.declared.values.Values.{Values}
 use Rattle.command_line.specs.declared.table.NumberForm.{NumberForm}
 use Rattle.command_line.specs.declared.table.TheConstants.{LIMIT, LANES, DOORS, PORT, CONNECTIONS}
-use Rattle.command_line.specs.declared.table.TheConstants.{NUMBER, COUNT}
+use Rattle.command_line.specs.declared.table.TheConstants.{NUMBER, COUNT, AFTER}
 
 -- a name, and the value given to it
 pub record Item : Type 0 where
@@ -26,7 +26,8 @@ pub record Item : Type 0 where
 
 -- what is asked for: a command, the path of the book and a batch where they are named, the most
 -- rows, how many lanes and doors, the folder of the lanes' files where one is named, the port of
--- the first door, the connections of each, and the numbers of a trial
+-- the first door, the connections of each, the numbers of a trial, the port of the first lane's cell
+-- where one is named, and how many rows a shipment passes over
 pub record Wanted : Type 0 where
   pub command : Command
   pub book : Option (List ℕ)
@@ -39,6 +40,8 @@ pub record Wanted : Type 0 where
   pub connections : ℕ
   pub number : ℕ
   pub count : ℕ
+  pub remote : Option ℕ
+  pub after : ℕ
 
 -- the bytes of each word
 abbrev pub bytes_of : List (String Global) → List (List ℕ)
@@ -56,17 +59,19 @@ commands = (codes "run", Run) ∷ (codes "serve", Serve) ∷ (codes "report", Re
 abbrev pub command_of : List ℕ → Option Command
 command_of word = option_map (λ row. row.1) (find (λ row. bytes_eq word row.0) commands)
 
--- what stands behind a command: options of these names, each at most once and in any order, or a
--- value for each of these names, in this order
+-- what stands behind a command: options of these names, each at most once and in any order; options
+-- of these names, each exactly once; or a value for each of these names, in this order
 pub data Form : Type 0 where
   options : List (List ℕ) → Form
+  needed : List (List ℕ) → Form
   places : List (List ℕ) → Form
 
 -- what stands behind each command
 abbrev pub form_of : Command → Form
-form_of Run = options (codes "book" ∷ codes "limit" ∷ codes "lanes" ∷ codes "cells" ∷ [])
+form_of Run = options (codes "book" ∷ codes "limit" ∷ codes "lanes" ∷ codes "cells"
+    ∷ codes "remote" ∷ [])
 form_of Serve = options (codes "book" ∷ codes "limit" ∷ codes "lanes" ∷ codes "cells"
-    ∷ codes "doors" ∷ codes "port" ∷ codes "connections" ∷ [])
+    ∷ codes "remote" ∷ codes "doors" ∷ codes "port" ∷ codes "connections" ∷ [])
 form_of Report = options (codes "book" ∷ codes "batch" ∷ [])
 form_of Export = options (codes "book" ∷ [])
 form_of Check = options (codes "book" ∷ [])
@@ -134,9 +139,19 @@ placed_items (name ∷ names) (word ∷ words) =
 abbrev pub taken_items : List (List ℕ) → List Item → Option (List Item)
 taken_items names items = if are_taken names items then Some items else None
 
+-- each of these names is given a value
+abbrev pub are_given : List (List ℕ) → List Item → Bool
+are_given names items = list_all (λ name. list_any (gives name) items) names
+
+-- the items, where each of these names is given a value
+abbrev pub given_items : List (List ℕ) → List Item → Option (List Item)
+given_items names items = if are_given names items then Some items else None
+
 -- the items that the words of a form are
 abbrev pub items_in : Form → List (List ℕ) → Option (List Item)
 items_in (options names) words = option_and_then (taken_items names) (read_items None words)
+items_in (needed names) words = option_and_then (given_items names)
+    (option_and_then (taken_items names) (read_items None words))
 items_in (places names) words = placed_items names words
 
 -- ---- what the items ask for
@@ -157,18 +172,24 @@ number_in form None = Some form.absent
 number_in form (Some text) =
     option_and_then (in_range form) (bounded_number 20 (2 ^ 64 - 1) text)
 
+-- the number that is given, where one is
+abbrev pub given_number : NumberForm → Option (List ℕ) → Option (Option ℕ)
+given_number form None = Some None
+given_number form (Some text) = option_map (λ number. Some number) (number_in form (Some text))
+
 -- the batch that is named, where one is: a text of 1 to 32 bytes
 abbrev pub batch_in : Option (List ℕ) → Option (Option Name)
 batch_in None = Some None
 batch_in (Some text) = option_map (λ name. Some name) (name_of text)
 
 -- what is read of these texts, where each is in its range
-abbrev pub values_in : (batch limit lanes doors port connections number count : Option (List ℕ))
+abbrev pub values_in :
+    (batch limit lanes doors port connections number count remote after : Option (List ℕ))
     → Option Values
-values_in batch limit lanes doors port connections number count = option_and_then (λ batch.
+values_in batch limit lanes doors port connections number count remote after = option_and_then (λ batch.
     option_and_then (λ limit. option_and_then (λ lanes. option_and_then (λ doors.
     option_and_then (λ port. option_and_then (λ connections. option_and_then (λ number.
-    option_map (λ count. record {
+    option_and_then (λ count. option_and_then (λ remote. option_map (λ after. record {
       batch = batch;
       limit = limit;
       lanes = lanes;
@@ -177,7 +198,9 @@ values_in batch limit lanes doors port connections number count = option_and_the
       connections = connections;
       number = number;
       count = count;
-    }) (number_in COUNT count)) (number_in NUMBER number)) (number_in CONNECTIONS connections))
+      remote = remote;
+      after = after;
+    }) (number_in AFTER after)) (given_number PORT remote)) (number_in COUNT count)) (number_in NUMBER number)) (number_in CONNECTIONS connections))
     (number_in PORT port)) (number_in DOORS doors)) (number_in LANES lanes))
     (number_in LIMIT limit)) (batch_in batch)
 
@@ -185,7 +208,8 @@ values_in batch limit lanes doors port connections number count = option_and_the
 abbrev pub values_of : (List ℕ → Option (List ℕ)) → Option Values
 values_of value = values_in (value (codes "batch")) (value (codes "limit")) (value (codes "lanes"))
     (value (codes "doors")) (value (codes "port")) (value (codes "connections"))
-    (value (codes "number")) (value (codes "count"))
+    (value (codes "number")) (value (codes "count")) (value (codes "remote"))
+    (value (codes "after"))
 
 -- what a command asks for by the values of its names
 abbrev pub wanted_values : Command → (List ℕ → Option (List ℕ)) → Option Wanted
@@ -201,6 +225,8 @@ wanted_values command value = option_map (λ values. record {
   connections = values.connections;
   number = values.number;
   count = values.count;
+  remote = values.remote;
+  after = values.after;
 }) (values_of value)
 
 -- what a command asks for by the words after it

@@ -49,6 +49,8 @@ pub fn wants(alloc: Global, words: &[String]) -> Result<Wants, WantsError>
         connections: values.connections,
         number: values.number,
         count: values.count,
+        remote: values.remote,
+        after: values.after,
     })
 }
 
@@ -65,6 +67,8 @@ fn values_in(matches: &ArgMatches) -> Option<Values>
         connections: matches.get_str("connections"),
         number: matches.get_str("number"),
         count: matches.get_str("count"),
+        remote: matches.get_str("remote"),
+        after: matches.get_str("after"),
     })
 }
 

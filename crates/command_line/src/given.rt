@@ -2,7 +2,7 @@ ghost use Rattle.std.specs.Prelude.{◌≡◌, ◌&&◌, List, Some, None, not, 
 ghost use Rattle.std.specs.List.{list_any};
 ghost use Rattle.command_line.specs.Words.{bytes_of, gives, is_among, Item as Given};
 ghost use Rattle.command_line.specs.Words.{form_of, items_in, read_items, value_of, wanted_by};
-ghost use Rattle.command_line.specs.Words.{options, places};
+ghost use Rattle.command_line.specs.Words.{options, needed, places, are_given};
 ghost use Rattle.command_line.specs.Taken.{are_words_taken, bytes_in, form_in, is_read, texts_of};
 
 use crate::items::{Item, first_item};
@@ -25,6 +25,7 @@ fn are_items(form: Form, words: &[String]) -> bool
 {
     match form {
         Form::Options(names) => are_taken(names, words),
+        Form::Needed(names) => are_needed(names, words),
         Form::Places(names) => are_placed(names, words),
     }
 }
@@ -36,6 +37,7 @@ pub fn is_asked(command: Command, words: &[String]) -> bool
 {
     match form_of(command) {
         Form::Options(names) => are_options_read(names, words),
+        Form::Needed(names) => are_needed_read(names, words),
         Form::Places(names) => are_places_read(names, words),
     }
 }
@@ -57,6 +59,8 @@ fn are_options_read(names: &[&str], words: &[String]) -> bool
         connections: find_value("connections", words),
         number: find_value("number", words),
         count: find_value("count", words),
+        remote: find_value("remote", words),
+        after: find_value("after", words),
     };
     read_values(&texts).is_some()
 }
@@ -78,8 +82,37 @@ fn are_places_read(names: &[&str], words: &[String]) -> bool
         connections: placed_value(names, "connections", words),
         number: placed_value(names, "number", words),
         count: placed_value(names, "count", words),
+        remote: placed_value(names, "remote", words),
+        after: placed_value(names, "after", words),
     };
     read_values(&texts).is_some()
+}
+
+// Whether the words are items of these options, each once, and their values can be read.
+fn are_needed_read(names: &[&str], words: &[String]) -> bool
+    ensures { result ≡ is_read (needed (texts_of names.now)) (bytes_of words.now) }
+{
+    are_needed(names, words) && are_options_read(names, words)
+}
+
+// Whether the words are items of these options, of which each comes once.
+fn are_needed(names: &[&str], words: &[String]) -> bool
+    ensures { result ≡ is_some (items_in (needed (texts_of names.now)) (bytes_of words.now)) }
+{
+    are_taken(names, words) && are_given(names, words)
+}
+
+// Whether the words, where they are items, give a value to each of these options.
+fn are_given(names: &[&str], words: &[String]) -> bool
+    ensures { (items : List Given) → read_items None (bytes_of words.now) ≡ Some items
+        → result ≡ are_given (texts_of names.now) items }
+{
+    for name in names {
+        if find_value(name, words).is_none() {
+            return false;
+        }
+    }
+    true
 }
 
 // Whether the words are items of these options, of which none comes twice.

@@ -37,7 +37,7 @@ fn told_form<'a>(alloc: Global, form: Form) -> Result<clap::Command<'a>, AllocEr
     ensures { IfOk result (λ told. app_of told ≡ app_for (form_in form)) }
 {
     match form {
-        Form::Options(names) => told_names(alloc, names, true),
+        Form::Options(names) | Form::Needed(names) => told_names(alloc, names, true),
         Form::Places(names) => told_names(alloc, names, false),
     }
 }

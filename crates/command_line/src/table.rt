@@ -41,6 +41,8 @@ pub fn find_command(word: &str) -> Option<Command>
 pub enum Form {
     /// Options of these names, each at most once, in any order.
     Options(&'static [&'static str]),
+    /// Options of these names, each exactly once, in any order.
+    Needed(&'static [&'static str]),
     /// A value for each of these names, in this order.
     Places(&'static [&'static str]),
 }
@@ -50,12 +52,13 @@ pub fn form_of(command: Command) -> Form
     ensures { form_in result ≡ form_of command }
 {
     match command {
-        Command::Run => Form::Options(&["book", "limit", "lanes", "cells"]),
+        Command::Run => Form::Options(&["book", "limit", "lanes", "cells", "remote"]),
         Command::Serve => Form::Options(&[
             "book",
             "limit",
             "lanes",
             "cells",
+            "remote",
             "doors",
             "port",
             "connections",
@@ -91,7 +94,8 @@ pub const LANES: NumberForm = NumberForm {
     absent: 0,
 };
 
-/// The greatest port of door 1: as many ports stand above it as there may be doors besides.
+/// The greatest port of door 1, and of the cell of lane 1: as many ports stand above it as there may
+/// be doors besides, and no fewer than there may be lanes.
 pub const MAX_PORT: u16 = u16::MAX - (MAX_DOOR as u16 - 1);
 
 /// The most connections of a door: one fewer than a door of the office serves at most, so that it
@@ -105,7 +109,7 @@ pub const DOORS: NumberForm = NumberForm {
     absent: 0,
 };
 
-/// The port of door 1.
+/// The port of door 1; the range is that of the port of lane 1's cell, too.
 pub const PORT: NumberForm = NumberForm {
     least: 1,
     most: MAX_PORT as u64,
@@ -130,5 +134,12 @@ pub const NUMBER: NumberForm = NumberForm {
 pub const COUNT: NumberForm = NumberForm {
     least: 1,
     most: MAX_TRIAL as u64,
+    absent: 0,
+};
+
+/// How many rows a shipment passes over.
+pub const AFTER: NumberForm = NumberForm {
+    least: 0,
+    most: MAX_ROWS as u64,
     absent: 0,
 };

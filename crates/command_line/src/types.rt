@@ -5,11 +5,11 @@ use std::fmt;
 /// What the program is to do.
 #[derive(Clone, Copy, Debug, PartialEq, Eq)]
 pub enum Command {
-    /// Reads a script: `run [--book PATH] [--limit N] [--lanes N] [--cells DIR]`
+    /// Reads a script: `run [--book PATH] [--limit N] [--lanes N] [--cells DIR] [--remote P]`
     Run,
     /// Reads a plan, and has its lanes and the doors of the office at work at once:
-    /// `serve [--book PATH] [--limit N] [--lanes N] [--cells DIR] [--doors N] [--port P]
-    /// [--connections C]`
+    /// `serve [--book PATH] [--limit N] [--lanes N] [--cells DIR] [--remote P] [--doors N]
+    /// [--port P] [--connections C]`
     Serve,
     /// Prints the sheets of all batches, or that of one: `report [--book PATH] [--batch NAME]`
     Report,
@@ -51,6 +51,11 @@ pub struct Wants {
     pub number: u64,
     /// How many packs a trial weighs, 1 to `MAX_TRIAL`; 0 for other commands.
     pub count: u32,
+    /// The port on 127.0.0.1 at which the cell of lane 1 listens, 1 to `MAX_PORT`; that of lane I is
+    /// I - 1 above it. Without one the cells are files.
+    pub remote: Option<u16>,
+    /// How many rows a shipment passes over, 0 to `MAX_ROWS`; 0 for other commands.
+    pub after: u32,
 }
 
 /// Why the words give nothing.

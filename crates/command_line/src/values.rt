@@ -1,8 +1,9 @@
 ghost use Rattle.std.specs.Prelude.{◌≡◌, ◌≤◌, IfSome};
-ghost use Rattle.command_line.specs.Words.{batch_in, number_in, values_in};
+ghost use Rattle.command_line.specs.Words.{batch_in, given_number, number_in, values_in};
 ghost use Rattle.command_line.specs.Taken.{bytes_in};
+ghost use Rattle.command_line.specs.declared.table.TheConstants.{PORT};
 
-use crate::table::{CONNECTIONS, COUNT, DOORS, LANES, LIMIT, NUMBER, NumberForm, PORT};
+use crate::table::{AFTER, CONNECTIONS, COUNT, DOORS, LANES, LIMIT, NUMBER, NumberForm, PORT};
 use book_words::Name;
 use hall_units::read_number;
 
@@ -17,6 +18,8 @@ pub struct Texts<'a> {
     pub connections: Option<&'a str>,
     pub number: Option<&'a str>,
     pub count: Option<&'a str>,
+    pub remote: Option<&'a str>,
+    pub after: Option<&'a str>,
 }
 
 /// The values that were read.
@@ -30,13 +33,16 @@ pub struct Values {
     pub connections: u32,
     pub number: u64,
     pub count: u32,
+    pub remote: Option<u16>,
+    pub after: u32,
 }
 
 /// What the texts of values say, where each is in its range.
 pub fn read_values(texts: &Texts) -> Option<Values>
     ensures { result ≡ values_in (bytes_in texts.now.batch) (bytes_in texts.now.limit)
         (bytes_in texts.now.lanes) (bytes_in texts.now.doors) (bytes_in texts.now.port)
-        (bytes_in texts.now.connections) (bytes_in texts.now.number) (bytes_in texts.now.count) }
+        (bytes_in texts.now.connections) (bytes_in texts.now.number) (bytes_in texts.now.count)
+        (bytes_in texts.now.remote) (bytes_in texts.now.after) }
 {
     let batch = read_batch(texts.batch)?;
     let limit = read_within(&LIMIT, texts.limit)?;
@@ -46,6 +52,8 @@ pub fn read_values(texts: &Texts) -> Option<Values>
     let connections = read_within(&CONNECTIONS, texts.connections)?;
     let number = read_within(&NUMBER, texts.number)?;
     let count = read_within(&COUNT, texts.count)?;
+    let remote = read_port(texts.remote)?;
+    let after = read_within(&AFTER, texts.after)?;
     Some(Values {
         batch,
         limit: limit as u32,
@@ -55,6 +63,8 @@ pub fn read_values(texts: &Texts) -> Option<Values>
         connections: connections as u32,
         number,
         count: count as u32,
+        remote,
+        after: after as u32,
     })
 }
 
@@ -66,6 +76,17 @@ fn read_batch(given: Option<&str>) -> Option<Option<Name>>
         return Some(None);
     };
     Some(Some(Name::new(text.as_bytes())?))
+}
+
+// The port that a text gives, if one is given: `None` where it isn't a port.
+fn read_port(given: Option<&str>) -> Option<Option<u16>>
+    ensures { result ≡ given_number PORT (bytes_in given.entry) }
+{
+    let Some(text) = given else {
+        return Some(None);
+    };
+    let port = read_within(&PORT, Some(text))?;
+    Some(Some(port as u16))
 }
 
 // The number that a value is: what its text says, where that is in its range, or what it is where

@@ -21,6 +21,8 @@ struct Asked {
     connections: u32,
     number: u64,
     count: u32,
+    remote: Option<u16>,
+    after: u32,
 }
 
 const RUN: Asked = Asked {
@@ -35,6 +37,8 @@ const RUN: Asked = Asked {
     connections: 1,
     number: 0,
     count: 0,
+    remote: None,
+    after: 0,
 };
 
 const SERVE: Asked = Asked {
@@ -76,7 +80,7 @@ const TRIAL: Asked = Asked {
 const BOOK: Option<&str> = Some("b.hall");
 
 // Words and what they ask for, written by hand from the grammar, as what follows.
-static ASKED: [(Words, Asked); 45] = [
+static ASKED: [(Words, Asked); 49] = [
     (&["run"], RUN),
     (&["check"], CHECK),
     (&["migrate"], MIGRATE),
@@ -170,7 +174,38 @@ static ASKED: [(Words, Asked); 45] = [
             ..RUN
         },
     ),
+    (
+        &["run", "--remote", "1"],
+        Asked {
+            remote: Some(1),
+            ..RUN
+        },
+    ),
+    (
+        &["run", "--remote=09000", "--lanes=2"],
+        Asked {
+            lanes: 2,
+            remote: Some(9_000),
+            ..RUN
+        },
+    ),
     (&["serve"], SERVE),
+    (
+        &["serve", "--remote=65520"],
+        Asked {
+            remote: Some(65_520),
+            ..SERVE
+        },
+    ),
+    (
+        &["serve", "--port=9000", "--remote", "8080", "--cells=c"],
+        Asked {
+            cells: Some("c"),
+            port: 9_000,
+            remote: Some(8_080),
+            ..SERVE
+        },
+    ),
     (
         &[
             "serve",
@@ -307,7 +342,7 @@ static ASKED: [(Words, Asked); 45] = [
     ),
 ];
 
-static REFUSED: [Words; 84] = [
+static REFUSED: [Words; 95] = [
     &[],
     &["runs"],
     &["run", "run"],
@@ -330,6 +365,17 @@ static REFUSED: [Words; 84] = [
     &["run", "--cells=a", "--lanes=1", "--cells=b"],
     &["check", "--lanes", "1"],
     &["migrate", "--cells=c"],
+    &["run", "--remote", "0"],
+    &["run", "--remote=65521"],
+    &["run", "--remote="],
+    &["run", "--remote"],
+    &["run", "--remote=+1"],
+    &["run", "--remote=1", "--remote=1"],
+    &["serve", "--remote=0"],
+    &["serve", "--remote", "70000"],
+    &["import", "--remote=1"],
+    &["check", "--remote", "1"],
+    &["run", "--after=1"],
     &["run", "--help"],
     &["run", "--boo", "b"],
     &["run", "--=b"],
@@ -433,6 +479,8 @@ fn is_found(found: &Wants, asked: &Asked) -> bool {
         && found.connections == asked.connections
         && found.number == asked.number
         && found.count == asked.count
+        && found.remote == asked.remote
+        && found.after == asked.after
 }
 
 // Whether words ask for this.

@@ -1,13 +1,14 @@
 -- Lemmas on what words ask for, and how that was read.
-use Rattle.std.proofs.Common.{◌≡◌, ◌↔◌, ℕ, Bool, true, false, cond, List, [], ◌∷◌, codes, Option, Some, None, Result, Ok, Err, IfOk, IfErr, option_map, bytes_eq, inl, inr, refl, sym, ap, ◌∙◌, subst}
+use Rattle.std.proofs.Common.{◌≡◌, ◌↔◌, ◌&&◌, ◌||◌, ℕ, Bool, true, false, not, cond, find, List, [], ◌∷◌, codes, Option, Some, None, Result, Ok, Err, IfOk, IfErr, option_map, bytes_eq, inl, inr, refl, sym, ap, ◌∙◌, subst}
+use Rattle.std.specs.List.{list_all}
+use Rattle.std.proofs.lemmas.Bool.{and_parts}
 use Rattle.std.specs.Option.{option_and_then}
+use Rattle.std.proofs.lemmas.Slice.Eq.{bytes_eq-Decides}
 use Rattle.command_line.specs.declared.types.Command.{Command}
-use Rattle.command_line.specs.declared.types.Command.TheVariants.{Run, Serve, Report, Export, Check, Import, Trial, Migrate}
 use Rattle.command_line.specs.declared.types.Wants.{Wants}
 use Rattle.command_line.specs.declared.types.WantsError.{WantsError}
 use Rattle.command_line.specs.declared.types.WantsError.TheVariants.{Usage, NoMemory}
-use Rattle.command_line.specs.declared.values.Values.{Values}
-use Rattle.command_line.specs.Words.{Item, Wanted, command_of, items_in, form_of, value_of, values_of, wanted_values, wanted_by, wanted_of}
+use Rattle.command_line.specs.Words.{Item, Wanted, command_of, commands, items_in, form_of, value_of, values_of, wanted_values, wanted_by, wanted_of}
 use Rattle.command_line.specs.Taken.{seen}
 use Rattle.disk_core.specs.declared.disk.Disk as disk
 use Rattle.book_journal.proofs.Moments.{unmoved_none}
@@ -22,54 +23,65 @@ use Rattle.hall_top.proofs.OpenedBooks.{is_unopened}
 
 -- ---- the command that words ask for
 
--- the command that is found among the rows by these tests is `serve` only by its own test
-serve_found : (run serve report export check import_ trial migrate : Bool)
-    → option_map (λ (row : List ℕ × Command). row.1) (cond run (Some (codes "run", Run))
-    (cond serve (Some (codes "serve", Serve)) (cond report (Some (codes "report", Report))
-    (cond export (Some (codes "export", Export)) (cond check (Some (codes "check", Check))
-    (cond import_ (Some (codes "import", Import)) (cond trial (Some (codes "trial", Trial))
-    (cond migrate (Some (codes "migrate", Migrate)) None)))))))) ≡ Some Serve
-    → serve ≡ true
-serve_found true serve report export check import_ trial migrate same = absurd (cc)
-serve_found false true report export check import_ trial migrate same = refl
-serve_found false false true export check import_ trial migrate same = absurd (cc)
-serve_found false false false true check import_ trial migrate same = absurd (cc)
-serve_found false false false false true import_ trial migrate same = absurd (cc)
-serve_found false false false false false true trial migrate same = absurd (cc)
-serve_found false false false false false false true migrate same = absurd (cc)
-serve_found false false false false false false false true same = absurd (cc)
-serve_found false false false false false false false false same = absurd (cc)
+-- the command of a row serves only where the row is that of the word `serve`
+abbrev is_named : List ℕ × Command → Bool
+is_named row = not (is_serve row.1) || bytes_eq row.0 (codes "serve")
+
+-- a word finds a command that serves in a table of such rows only where it is the word `serve`
+serve_found : (word : List ℕ) (rows : List (List ℕ × Command)) (command : Command)
+    → list_all is_named rows ≡ true
+    → option_map (λ (row : List ℕ × Command). row.1) (find (λ row. bytes_eq word row.0) rows)
+    ≡ Some command
+    → is_serve command ≡ true → bytes_eq word (codes "serve") ≡ true
+serve_found word [] command named found serves = absurd (cc)
+serve_found word (row ∷ rows) command named found serves =
+    go (bytes_eq word row.0) refl (and_parts (is_named row) (list_all is_named rows) named) found
+    (λ all here. serve_found word rows command all here serves)
+  where
+    same_command : (a b : Command) → Some a ≡ Some b → a ≡ b
+    same_command a b is = cc
+
+    by_word : (serving named : Bool) → (not serving || named) ≡ true → serving ≡ true → named ≡ true
+    by_word true true holds here = refl
+    by_word true false holds here = absurd (cc)
+    by_word false named holds here = absurd (cc)
+
+    Behind : Type 0
+    Behind = list_all is_named rows ≡ true
+        → option_map (λ (row : List ℕ × Command). row.1) (find (λ row. bytes_eq word row.0) rows)
+        ≡ Some command → bytes_eq word (codes "serve") ≡ true
+
+    go : (t : Bool) → bytes_eq word row.0 ≡ t
+        → (is_named row ≡ true) × (list_all is_named rows ≡ true)
+        → option_map (λ (row : List ℕ × Command). row.1)
+        (cond t (Some row) (find (λ row. bytes_eq word row.0) rows)) ≡ Some command
+        → Behind → bytes_eq word (codes "serve") ≡ true
+    go true is each here behind =
+        ap (λ (text : List ℕ). bytes_eq text (codes "serve")) ((bytes_eq-Decides word row.0).0 is)
+        ∙ by_word (is_serve row.1) (bytes_eq row.0 (codes "serve")) each.0
+        (ap is_serve (same_command row.1 command here) ∙ serves)
+    go false is each here behind = behind each.1 here
+
+-- what is made of a found value has what is made of each
+map_has : {A B : Type 0} (P : B → Type 0) (f : A → B) (first : Option A) (found : B)
+    → ((x : A) → P (f x)) → option_map f first ≡ Some found → P found
+map_has P f None found each is = absurd (cc)
+map_has P f (Some x) found each is = subst P (some_same (f x) found is) (each x)
+  where
+    some_same : {C : Type 0} (a b : C) → Some a ≡ Some b → a ≡ b
+    some_same a b same = cc
 
 -- what a command asks for is that command
 wanted_command : (command : Command) (words : List (List ℕ)) (wanted : Wanted)
     → wanted_by command words ≡ Some wanted → wanted.command ≡ command
 wanted_command command words wanted = by_items (items_in (form_of command) words)
   where
-    by_values : (value : List ℕ → Option (List ℕ)) (values : Option Values)
-        → option_map (λ (vs : Values). record {
-          command = command;
-          book = value (codes "book");
-          batch = vs.batch;
-          limit = vs.limit;
-          lanes = vs.lanes;
-          doors = vs.doors;
-          cells = value (codes "cells");
-          port = vs.port;
-          connections = vs.connections;
-          number = vs.number;
-          count = vs.count;
-        }) values ≡ Some wanted → wanted.command ≡ command
-    by_values value None same = absurd (cc)
-    by_values value (Some vs) same = ap (λ (w : Wanted). w.command) (sym (some_same _ _ same))
-      where
-        some_same : (a b : Wanted) → Some a ≡ Some b → a ≡ b
-        some_same a b is = cc
-
     by_items : (items : Option (List Item))
         → option_and_then (λ is. wanted_values command (value_of is)) items ≡ Some wanted
         → wanted.command ≡ command
     by_items None same = absurd (cc)
-    by_items (Some is) same = by_values (value_of is) (values_of (value_of is)) same
+    by_items (Some is) same = map_has (λ (w : Wanted). w.command ≡ command) _
+        (values_of (value_of is)) wanted (λ values. refl) same
 
 -- words whose first isn't `serve` don't ask for it
 pub asks_alone : (words : List (List ℕ)) (wanted : Wanted) → begins_serve words ≡ false
@@ -78,19 +90,12 @@ asks_alone [] wanted other asks = absurd (cc)
 asks_alone (word ∷ words) wanted other asks = by_command (command_of word) refl asks
   where
     not_serve : (command : Command) → command_of word ≡ Some command → is_serve command ≡ false
-    not_serve Run is = refl
-    not_serve Serve is = absurd (let yes_serve = serve_found (bytes_eq word (codes "run"))
-        (bytes_eq word (codes "serve")) (bytes_eq word (codes "report"))
-        (bytes_eq word (codes "export")) (bytes_eq word (codes "check"))
-        (bytes_eq word (codes "import")) (bytes_eq word (codes "trial"))
-        (bytes_eq word (codes "migrate")) is in let clash : true ≡ false = sym yes_serve ∙ other in
-        cc)
-    not_serve Report is = refl
-    not_serve Export is = refl
-    not_serve Check is = refl
-    not_serve Import is = refl
-    not_serve Trial is = refl
-    not_serve Migrate is = refl
+    not_serve command is = go (is_serve command) refl
+      where
+        go : (t : Bool) → is_serve command ≡ t → is_serve command ≡ false
+        go true serves = absurd (let clash : true ≡ false =
+            sym (serve_found word commands command refl is serves) ∙ other in cc)
+        go false serves = serves
 
     by_command : (found : Option Command) → command_of word ≡ found
         → option_and_then (λ command. wanted_by command words) found ≡ Some wanted

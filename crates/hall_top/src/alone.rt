@@ -308,16 +308,7 @@ fn read_alone(alloc: Global, words: &[String]) -> Result<Wants, WantsError>
 pub fn is_serve(command: Command) -> bool
     ensures { result ≡ is_serve command }
 {
-    match command {
-        Command::Serve => true,
-        Command::Run
-        | Command::Report
-        | Command::Export
-        | Command::Check
-        | Command::Import
-        | Command::Trial
-        | Command::Migrate => false,
-    }
+    matches!(command, Command::Serve)
 }
 
 /// Does what the words say, as `hall` does, but for `serve`: words whose first is `serve` are wrong
