@@ -11,11 +11,11 @@ _hall() {
     case $before in
         --book) mapfile -t COMPREPLY < <(compgen -f -- "$word"); return ;;
         --cells) mapfile -t COMPREPLY < <(compgen -d -- "$word"); return ;;
-        --limit | --lanes | --doors | --port | --connections | --batch) return ;;
+        --limit | --lanes | --remote | --doors | --port | --connections | --batch) return ;;
     esac
     case ${COMP_WORDS[1]} in
-        run) options="--book --limit --lanes --cells" ;;
-        serve) options="--book --limit --lanes --cells --doors --port --connections" ;;
+        run) options="--book --limit --lanes --cells --remote" ;;
+        serve) options="--book --limit --lanes --cells --remote --doors --port --connections" ;;
         report) options="--book --batch" ;;
         export | check | migrate) options="--book" ;;
         import) options="--book --limit" ;;

@@ -2,6 +2,8 @@
 //! and the words of the command line.
 #![tactic(auto)]
 
+mod lanes;
+
 ghost use Rattle.std.specs.Prelude.{◌≡◌, ◌↔◌, ◌≤◌, [], false, None, length, IfOk};
 ghost use Rattle.std.specs.Process.{exit_status};
 ghost use Rattle.hall_limits.specs.declared.TheConstants.{MAX_LANE, MAX_DOOR};
@@ -9,13 +11,13 @@ ghost use Rattle.command_line.specs.Words.{bytes_of, wanted_of};
 ghost use Rattle.text_streams.specs.Streams.{output_at};
 ghost use Rattle.hall_top.specs.Endings.{LacksMemory, SaysLast};
 
+use crate::lanes::open_lanes;
 use book_snapshot::ROW_BYTES;
 use command_line::{Command, Wants, WantsError, wants};
 use disk_core::{Disk, Door, QuietDisk, Sink, Source, StdSink, StdSource};
 use file_disk::{FileDisk, OpenError};
-use hall_limits::{MAX_DOOR, MAX_LANE, MAX_ROWS};
+use hall_limits::{MAX_DOOR, MAX_ROWS};
 use hall_top::{DoorEnds, Ending, LaneEnds, MountError, hall, say_last};
-use lane_files::{FileLane, file_lanes};
 use lane_worker::Lane;
 use setup_watch::WatchedPlan;
 use std::alloc::{AllocError, Global};
@@ -94,24 +96,15 @@ fn lacks_memory(disk: &FileDisk) -> bool {
     }
 }
 
-// The lanes that the words ask for, over the files of their folder.
-fn open_lanes<'a>(
-    rt: &'a HostRuntime,
-    wanted: &Wants,
-) -> Result<Vec<FileLane<'a, HostRuntime>>, AllocError>
-    ensures { IfOk result (λ lanes. length lanes.items ≤ MAX_LANE) }
-{
-    let folder = match &wanted.cells {
-        Some(path) => path.as_str(),
-        None => ".",
-    };
-    file_lanes(rt.alloc(), rt, folder, wanted.lanes.min(MAX_LANE))
-}
-
 // A door at a port, for so many connections. Where it can't listen, standard error says why; it
 // then fails as it awaits its first connection.
-fn open_door(rt: HostRuntime, port: u16, connections: u32) -> TcpDoor<HostRuntime> {
-    let door = TcpDoor::listen(rt.alloc(), rt, port, connections, Manners::OFFICE);
+fn open_door(
+    rt: HostRuntime,
+    port: u16,
+    connections: u32,
+    manners: Manners,
+) -> TcpDoor<HostRuntime> {
+    let door = TcpDoor::listen(rt.alloc(), rt, port, connections, manners);
     if let Some(error) = door.listen_error() {
         let _ = eprintln!(rt; "hall: can't listen at port {port}: {error}");
     }
@@ -126,7 +119,7 @@ fn open_doors(rt: HostRuntime, wanted: &Wants) -> Result<Vec<TcpDoor<HostRuntime
     let mut doors = Vec::with_capacity(rt.alloc(), usize::from(count))?;
     for number in 0..count {
         let port = wanted.port.saturating_add(u16::from(number));
-        doors.push(open_door(rt, port, wanted.connections))?;
+        doors.push(open_door(rt, port, wanted.connections, Manners::OFFICE))?;
     }
     Ok(doors)
 }

@@ -1,5 +1,5 @@
-//! The lanes of a hall over files: lane N reads the weights of its scale from `cell-N.txt`, and
-//! opens its gate by a line in `gate-N.txt`. Either may be a named pipe, or a device of the system
+//! The cells and gates of a hall over files: lane N reads the weights of its scale from `cell-N.txt`,
+//! and opens its gate by a line in `gate-N.txt`. Either may be a named pipe, or a device of the system
 //! as a serial line.
 //!
 //! Promised: a file that can't be opened fails at each call, and each call that fails counts one
@@ -14,6 +14,6 @@ mod lanes;
 mod late_file;
 mod types;
 
-pub use lanes::{file_lane, file_lanes};
+pub use lanes::{file_cell, file_gate};
 pub use late_file::LateFile;
-pub use types::{FileCell, FileGate, FileLane};
+pub use types::{FileCell, FileGate};

@@ -1,0 +1,58 @@
+ghost use Rattle.std.specs.Prelude.{◌≤◌, length, IfOk};
+ghost use Rattle.hall_limits.specs.declared.TheConstants.{MAX_LANE};
+
+use crate::open_door;
+use command_line::Wants;
+use hall_limits::MAX_LANE;
+use lane_files::{FileCell, FileGate, file_cell, file_gate};
+use lane_worker::{EitherCell, PairLane};
+use remote_cell::RemoteCell;
+use std::alloc::AllocError;
+use tcp_door::{Manners, TcpDoor};
+
+/// How many connections the cell of a lane takes from its scale.
+const MAX_CELL_CONNECTIONS: u32 = 1_000;
+
+/// A cell that reads a file, or that hears its scale at a port.
+type HallCell<'a> = EitherCell<FileCell<'a, HostRuntime>, RemoteCell<TcpDoor<HostRuntime>>>;
+
+/// A lane of the program. Its gate is a file.
+pub(crate) type HallLane<'a> = PairLane<HallCell<'a>, FileGate<'a, HostRuntime>>;
+
+// The cell of a lane: it hears its scale at a port that rises from that of the first, where the words
+// have one, and else it reads a file of the folder.
+fn open_cell<'a>(
+    rt: &'a HostRuntime,
+    wanted: &Wants,
+    folder: &str,
+    place: u8,
+) -> Result<HallCell<'a>, AllocError> {
+    let Some(first) = wanted.remote else {
+        return Ok(EitherCell::One(file_cell(rt.alloc(), rt, folder, place + 1)?));
+    };
+    let port = first.saturating_add(u16::from(place));
+    let door = open_door(*rt, port, MAX_CELL_CONNECTIONS, Manners::SCALE);
+    Ok(EitherCell::Other(RemoteCell::new(door)))
+}
+
+/// The lanes that the words ask for: their gates are files of the folder, and so are their cells,
+/// unless the words have a port for them.
+pub(crate) fn open_lanes<'a>(
+    rt: &'a HostRuntime,
+    wanted: &Wants,
+) -> Result<Vec<HallLane<'a>>, AllocError>
+    ensures { IfOk result (λ lanes. length lanes.items ≤ MAX_LANE) }
+{
+    let folder = match &wanted.cells {
+        Some(path) => path.as_str(),
+        None => ".",
+    };
+    let count = wanted.lanes.min(MAX_LANE);
+    let mut lanes = Vec::with_capacity(rt.alloc(), usize::from(count))?;
+    for place in 0..count {
+        let cell = open_cell(rt, wanted, folder, place)?;
+        let gate = file_gate(rt.alloc(), rt, folder, place + 1)?;
+        lanes.push(PairLane::new(cell, gate))?;
+    }
+    Ok(lanes)
+}
