@@ -9,9 +9,11 @@
 #
 # On a book in a file of the folder: a lane over two named pipes gets 5 000 weights one by one, the
 # next when the line of the gate has come. Printed are the median and the 99th of 100 of the time
-# from writing a weight to having its line, beside those of a bare loop in Python that makes the same
-# two writes and two data syncs a row in the same folder (95 bytes and then their first one, as the
-# journal does). Three rounds, in turn; the round with the least median is told of each.
+# from writing a weight to having its line, beside those of a lane whose scale sends the same weights
+# over TCP (`--remote`), each when its gate's line and the acknowledgement of the one before have
+# come, and of a bare loop in Python that makes the same two writes and two data syncs a row in the
+# same folder (95 bytes and then their first one, as the journal does). Three rounds, in turn; the
+# round with the least median is told of each. Aim: over TCP at most 1.5 times as long as over a pipe.
 #
 # usage: bench/lanes.sh FOLDER [WEIGHTS [SENT]]
 set -eu
@@ -24,7 +26,7 @@ if [ -z "${HALL:-}" ]; then "$here/hall" run </dev/null >/dev/null; fi
 program=${HALL:-$here/crates/hall_cli/out/hall_cli}
 
 cat >"$work/lanes.py" <<'PYTHON'
-import os, subprocess, sys, time
+import os, socket, subprocess, sys, time
 
 program, work = sys.argv[1:3]
 weights, sent = [int(word) for word in sys.argv[3:5]]
@@ -103,36 +105,81 @@ def late(times):
     return sorted(times)[len(times) * 99 // 100]
 
 
-# seconds from each weight to the line of its gate
-def by_pipes(turn):
-    folder = f"{work}/pipes{turn}"
+# a hall with a lane in a folder, and the gate of that lane
+def open_lane(folder, more):
     os.mkdir(folder)
     os.mkfifo(folder + "/cell-1.txt")
     os.mkfifo(folder + "/gate-1.txt")
     with open(folder + "/script", "w") as script:
         script.write(OPENING + "open B P\nwork 1 B\n")
-    words = ["--book", folder + "/book", "--lanes", "1", "--cells", folder]
+    words = ["--book", folder + "/book", "--lanes", "1", "--cells", folder] + more
     with open(folder + "/script") as source, open(folder + "/said", "w") as said:
         hall = subprocess.Popen([program, "run"] + words, stdin=source, stdout=said)
-    cell = os.open(folder + "/cell-1.txt", os.O_WRONLY)
     # for writing too, so that this doesn't wait for the gate
-    gate = os.open(folder + "/gate-1.txt", os.O_RDWR)
-    times = []
-    for number, gross in enumerate(grosses(sent), FIRST):
-        weight = f"{gross}\n".encode()
-        began = time.perf_counter()
-        os.write(cell, weight)
-        line = os.read(gate, 64)
-        times.append(time.perf_counter() - began)
-        if line != f"open {number}\n".encode():
-            sys.exit(f"the gate wrote {line} for the pack {number}")
-    os.close(cell)
+    return hall, os.open(folder + "/gate-1.txt", os.O_RDWR)
+
+
+def end_lane(folder, hall, gate):
     if hall.wait() != 0:
-        sys.exit(f"hall over pipes ended with the status {hall.returncode}")
+        sys.exit(f"hall in {folder} ended with the status {hall.returncode}")
     os.close(gate)
     with open(folder + "/said") as said:
         if f"lane 1 opened {sent} done\n" not in said.readlines():
-            sys.exit("hall over pipes told no end of the lane")
+            sys.exit(f"hall in {folder} told no end of the lane")
+
+
+# seconds from a weight to the line of its gate
+def pass_time(number, weight, send, gate):
+    began = time.perf_counter()
+    send(weight)
+    line = os.read(gate, 64)
+    seconds = time.perf_counter() - began
+    if line != f"open {number}\n".encode():
+        sys.exit(f"the gate wrote {line} for the pack {number}")
+    return seconds
+
+
+# the same from each weight on, over pipes
+def by_pipes(turn):
+    folder = f"{work}/pipes{turn}"
+    hall, gate = open_lane(folder, [])
+    cell = os.open(folder + "/cell-1.txt", os.O_WRONLY)
+    times = [pass_time(number, f"{gross}\n".encode(), lambda weight: os.write(cell, weight), gate)
+             for number, gross in enumerate(grosses(sent), FIRST)]
+    os.close(cell)
+    end_lane(folder, hall, gate)
+    return times
+
+
+# a port that nobody listens at
+def free_port():
+    with socket.create_server(("127.0.0.1", 0)) as door:
+        return door.getsockname()[1]
+
+
+# a connection to a port at which a hall will listen
+def connect(port):
+    while True:
+        try:
+            link = socket.create_connection(("127.0.0.1", port))
+            link.setsockopt(socket.IPPROTO_TCP, socket.TCP_NODELAY, 1)
+            return link
+        except ConnectionRefusedError:
+            time.sleep(0.01)
+
+
+# the same over TCP
+def by_tcp(turn):
+    folder, port = f"{work}/tcp{turn}", free_port()
+    hall, gate = open_lane(folder, ["--remote", str(port)])
+    times = []
+    with connect(port) as link, link.makefile("r") as heard:
+        for item, gross in enumerate(grosses(sent), 1):
+            times.append(pass_time(FIRST + item - 1, f"{item} {gross}\n".encode(), link.sendall, gate))
+            if heard.readline() != f"ack {item}\n":
+                sys.exit(f"the weight {item} wasn't acknowledged")
+        link.sendall(f"{sent + 1} end\n".encode())
+        end_lane(folder, hall, gate)
     return times
 
 
@@ -155,13 +202,14 @@ def by_loop(turn):
 def on_a_file():
     best = {}
     for turn in range(3):
-        for name, way in (("lane", by_pipes), ("loop", by_loop)):
+        for name, way in (("lane", by_pipes), ("lane over TCP", by_tcp), ("loop", by_loop)):
             times = way(turn)
             if name not in best or median(times) < median(best[name]):
                 best[name] = times
     for name, times in best.items():
         print(f"{name}: median {1e6 * median(times):.0f} us, 99th of 100 {1e6 * late(times):.0f} us")
-    print(f"medians of lane to loop {median(best['lane']) / median(best['loop']):.2f}")
+    print(f"medians of lane to loop {median(best['lane']) / median(best['loop']):.2f},"
+          f" over TCP to over a pipe {median(best['lane over TCP']) / median(best['lane']):.2f}")
 
 
 in_memory(1)

@@ -64,13 +64,15 @@ class Hall:
     running = []
 
     def __init__(self, program, folder, plan_text, book=None, lanes=0, doors=0, port=8080,
-                 connections=1, pipes=True, limit=1_000_000, env=None):
+                 connections=1, pipes=True, limit=1_000_000, env=None, remote=None):
         self.folder = folder
         self.ports = range(port, port + doors)
         words = {"lanes": lanes, "cells": folder, "doors": doors, "port": port,
                  "connections": connections, "limit": limit}
         if book:
             words["book"] = book
+        if remote:
+            words["remote"] = remote
         if pipes:
             make_pipes(folder, lanes)
         with open(f"{folder}/plan", "w", encoding="ascii") as text:

@@ -10,15 +10,17 @@ usage: tests/worked.py      (HALL names another program than the one that `./hal
 import os
 import shutil
 import signal
+import socket
 import subprocess
 import sys
 import tempfile
+import time
 
 from day_texts import read_days
 from rows import rows_behind
 from worked_tables import (
     BOOK, BOOK_PLACES, DAMAGED, FIVE_ROWS, FOREIGN, GATE_PRIORS, GATES, IMPORTS, JOURNAL, JOURNALS,
-    LANES, LINES, NEXT_DAY, PATHS, PIPED, PLANS, PRINTED, RIGHT_WORDS, SETUPS, SIXTH_ROW, Step,
+    LANES, LINES, NEXT_DAY, PATHS, PIPED, PLANS, PORTS, PRINTED, RIGHT_WORDS, SETUPS, SIXTH_ROW, Step,
     TRIALS, USAGE, WRONG_WORDS)
 
 HERE = os.path.dirname(os.path.realpath(__file__))
@@ -238,8 +240,8 @@ def lanes(hall):
 
 
 def pipes(hall):
-    """A weight counts as soon as its line is there, though the pipe stays open; after a bad line
-    nothing more is read."""
+    """A weight counts as soon as its line is there, though the pipe stays open; a bad line ends the
+    work, and the next one goes on behind it."""
     hall.anew()
     hall.do(FIVE_ROWS)
     cell, gate = f"{hall.folder}/cell-1.txt", f"{hall.folder}/gate-1.txt"
@@ -249,7 +251,7 @@ def pipes(hall):
     told = subprocess.Popen([hall.program, "run", f"--book={hall.book}", "--lanes=1",
                              f"--cells={hall.folder}"], stdin=subprocess.PIPE,
                             stdout=subprocess.PIPE)
-    told.stdin.write(b"work 1 A\n")
+    told.stdin.write(b"work 1 A\nwork 1 A\n")
     told.stdin.close()
     opened = None
     with open(cell, "wb", buffering=0) as scale:
@@ -261,10 +263,51 @@ def pipes(hall):
             if line:
                 compare(f"the gate behind {text}", opened.readline(), line)
         compare("the lane", told.stdout.readline(), b"lane 1 opened 3 bad 4\n")
+        compare("the gate behind a bad line", opened.readline(), b"open 13\n")
+    compare("the lane again", told.stdout.readline(), b"lane 1 opened 1 done\n")
     told.stdout.read()
     compare("its status", told.wait(SECONDS), 10)
     told.stdout.close()
     opened.close()
+
+
+def said_at(port, text):
+    """What a hall writes to a scale that says this at a port and sends no more."""
+    for _ in range(100 * SECONDS):
+        try:
+            link = socket.create_connection(("127.0.0.1", port), timeout=SECONDS)
+            break
+        except ConnectionRefusedError:
+            time.sleep(0.01)
+    with link:
+        link.sendall(text)
+        link.shutdown(socket.SHUT_WR)
+        return b"".join(iter(lambda: link.recv(4096), b""))
+
+
+def ports(hall):
+    """Lanes whose scale sends over a port, connection by connection."""
+    gate = f"{hall.folder}/gate-1.txt"
+    for links, line, status, opened in PORTS:
+        hall.anew()
+        hall.do(FIVE_ROWS)
+        if os.path.exists(gate):
+            os.remove(gate)
+        with socket.create_server(("127.0.0.1", 0)) as door:
+            port = door.getsockname()[1]
+        told = subprocess.Popen([hall.program, "run", f"--book={hall.book}", "--lanes=1",
+                                 f"--remote={port}", f"--cells={hall.folder}"],
+                                stdin=subprocess.PIPE, stdout=subprocess.PIPE)
+        told.stdin.write(b"work 1 A\n")
+        told.stdin.close()
+        for text, heard in links:
+            compare(f"what {text} is answered", said_at(port, text), heard)
+        compare(f"the lane behind {links}", told.stdout.readline(), line)
+        told.stdout.read()
+        compare("its status", told.wait(SECONDS), status)
+        told.stdout.close()
+        with open(gate, "rb") as lines:
+            compare(f"the gate behind {links}", lines.read(), opened)
 
 
 def plans(hall):
@@ -289,7 +332,7 @@ def main():
     signal.alarm(5 * SECONDS)
     hall = Hall(os.path.realpath(program), folder)
     for table in (days, words, lines, gates, books, held, paths, journals, printed, imports, trials,
-                  foreign, lanes, pipes, plans, setups):
+                  foreign, lanes, pipes, ports, plans, setups):
         table(hall)
     shutil.rmtree(folder)
     print(f"worked: {compared} comparisons, {len(wrong)} came out otherwise")

@@ -308,6 +308,17 @@ LANES = [
 PIPED = [(b"251.5\n2", b"open 8\n"), (b"52\r\n253", b"open 9\n"), (b".25\n", b"open 10\n"),
          (b"251 g\n", b""), (b"254\n", b"")]
 
+# What a scale says over a port, connection by connection, and what each is answered; the line of the
+# lane, the status, and the lines of the gate.
+PORTS = [
+    # the first is cut behind `2 26`; a line comes twice, and one is ahead
+    ([(b"1 251\n2 26", b"ack 1\n"),
+      (b"1 251\n2 260\n2 260\n4 255\n3 end\n", b"ack 1\nack 2\nack 2\nack 3\n")],
+     b"lane 1 opened 2 done\n", 0, b"open 8\nopen 9\n"),
+    # what isn't a line has no answer, and the weight before it has one
+    ([(b"1 251\n2 x\n", b"ack 1\n")], b"lane 1 opened 1 bad 2\n", 10, b"open 8\n"),
+]
+
 
 def planned(text, printed, status=0, rows=0):
     return Step(["serve"], text, printed, status, rows)

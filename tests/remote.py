@@ -1,0 +1,495 @@
+"""Lanes whose scales send over lines that lose, repeat, cut and hold back. Run by tests/remote.sh."""
+
+import csv
+import os
+import random
+import re
+import socket
+import subprocess
+import sys
+import threading
+import time
+
+from clients import OPENING, Hall, free_ports, need, plan
+
+HERE = os.path.dirname(os.path.abspath(__file__))
+SENDER = os.path.join(os.path.dirname(HERE), "examples", "scale_sender.py")
+LANES = 2
+# How long a scale waits for an acknowledgement, in seconds: less than the line holds one back never.
+SECONDS = 0.25
+# How long a hall is left to itself between two kills, in seconds.
+SHORTEST, LONGEST = 0.2, 8.0
+# The least weight of the scales, in mg. All are good packs of 250 g, and no two of a lane are alike.
+LEAST = 262_000
+
+# How long the scale is silent that makes a pause, in seconds.
+PAUSE = 65
+
+# How often in a thousand lines, or acknowledgements, the line does each of these.
+DROPS, REPEATS, CUTS, DELAYS, PIECES, OLDS = 8, 20, 4, 30, 50, 10
+# How many old lines a new connection brings first, at most, and how long a delay is, in seconds.
+MOST_OLD = 3
+LONGEST_DELAY = 0.01
+
+
+def grams(weight):
+    return f"{weight // 1000}.{weight % 1000:03d}"
+
+
+# ---- the line
+
+
+class Cut(Exception):
+    """The line is cut."""
+
+
+class Line:
+    """A line to a hall's port, which is open while the hall is there.
+
+    Of the lines of a scale, and of what acknowledges them, some are dropped, given again, held back
+    for a moment, handed on a byte at a time or cut at a drawn byte, and then both ends are closed.
+    Lines that were said before come again, on the same connection and on later ones, whether they
+    came before or not; but none comes to the next hall.
+    """
+
+    def __init__(self, port, draw):
+        self.target = port
+        self.draw = draw
+        self.port = None
+        self.door = None
+        self.links = set()
+        self.said = []
+        self.counts = dict.fromkeys(("connections", "dropped", "repeated", "cut", "old"), 0)
+        self.lock = threading.Lock()
+
+    def open(self):
+        """Takes connections, at the same port each time."""
+        self.said = []
+        self.door = socket.create_server(("127.0.0.1", self.port or 0))
+        self.port = self.door.getsockname()[1]
+        threading.Thread(target=self.take_all, args=(self.door,), daemon=True).start()
+
+    def close(self):
+        """Cuts all connections and takes no more."""
+        self.door.shutdown(socket.SHUT_RDWR)
+        self.door.close()
+        with self.lock:
+            links, self.links = self.links, set()
+        for link in links:
+            end(link)
+
+    def take_all(self, door):
+        while True:
+            try:
+                scale = door.accept()[0]
+            except OSError:
+                return
+            try:
+                hall = socket.create_connection(("127.0.0.1", self.target), timeout=5)
+            except OSError:
+                end(scale)
+                continue
+            for link in (scale, hall):
+                link.settimeout(None)
+                link.setsockopt(socket.IPPROTO_TCP, socket.TCP_NODELAY, 1)
+            with self.lock:
+                self.links |= {scale, hall}
+                self.counts["connections"] += 1
+            # the draws of a connection follow from the seed and its number
+            draw = random.Random(self.draw.random())
+            threading.Thread(target=self.say, args=(scale, hall, draw), daemon=True).start()
+            threading.Thread(target=self.acknowledge, args=(hall, scale, random.Random(draw.random())),
+                             daemon=True).start()
+
+    def say(self, scale, hall, draw):
+        """Hands on the lines of a scale, and old ones."""
+        try:
+            for _ in range(draw.randint(0, MOST_OLD)):
+                self.say_old(hall, draw)
+            for line in lines(scale):
+                self.said.append(line)
+                if draw.random() * 1000 < OLDS:
+                    self.say_old(hall, draw)
+                self.hand_on(line, hall, draw)
+        except (OSError, Cut):
+            pass
+        end(scale)
+        end(hall)
+
+    def say_old(self, hall, draw):
+        if self.said:
+            self.counts["old"] += 1
+            hall.sendall(draw.choice(self.said))
+
+    def acknowledge(self, hall, scale, draw):
+        """Hands on what a hall writes."""
+        try:
+            for line in lines(hall):
+                self.hand_on(line, scale, draw)
+        except (OSError, Cut):
+            pass
+        end(scale)
+        end(hall)
+
+    def hand_on(self, line, link, draw):
+        chance = draw.random() * 1000
+        if chance < DROPS:
+            self.counts["dropped"] += 1
+            return
+        chance -= DROPS
+        if chance < CUTS:
+            self.counts["cut"] += 1
+            link.sendall(line[:draw.randrange(len(line))])
+            raise Cut
+        chance -= CUTS
+        if chance < DELAYS:
+            time.sleep(draw.uniform(0, LONGEST_DELAY))
+        elif chance < DELAYS + PIECES:
+            for byte in line:
+                link.sendall(bytes([byte]))
+            return
+        elif chance < DELAYS + PIECES + REPEATS:
+            self.counts["repeated"] += 1
+            line *= draw.randint(2, 3)
+        link.sendall(line)
+
+
+def lines(link):
+    """The whole lines that come on a link, until its end."""
+    held = b""
+    while came := link.recv(4096):
+        *whole, held = (held + came).split(b"\n")
+        for line in whole:
+            yield line + b"\n"
+
+
+def end(link):
+    try:
+        link.shutdown(socket.SHUT_RDWR)
+    except OSError:
+        pass
+    link.close()
+
+
+# ---- the lanes
+
+
+class Scale:
+    """A scale: the program of examples/ over a line, and what it was acknowledged."""
+
+    def __init__(self, folder, lane, weights, line):
+        self.path = f"{folder}/acknowledged-{lane}"
+        self.weights = weights
+        with open(f"{folder}/weights-{lane}", "w", encoding="ascii") as text:
+            text.writelines(f"{grams(weight)}\n" for weight in weights)
+        with open(f"{folder}/weights-{lane}", "rb") as given, open(self.path, "wb") as told:
+            self.process = subprocess.Popen(
+                [sys.executable, SENDER, str(line.port), f"--seconds={SECONDS}"], stdin=given,
+                stdout=told)
+
+    def ended(self):
+        return self.process.poll() is not None
+
+    def told(self):
+        """How many weights were acknowledged by each hall that acknowledged one, in order."""
+        counts, heard = [], []
+        with open(self.path, encoding="ascii") as told:
+            # the last line may be there in part
+            for line in told.read().split("\n")[:-1]:
+                number, what = line.split()
+                if number == "1":
+                    counts.append(0)
+                if what != "end":
+                    counts[-1] += 1
+                    need(int(number) == counts[-1], f"the scale told {line!r} out of turn")
+                    heard.append(what)
+        need(heard == [grams(weight) for weight in self.weights[:len(heard)]],
+             "a scale was acknowledged other weights than its own")
+        return [count for count in counts if count]
+
+
+class Storm:
+    """Two lanes over bad lines, with a hall that is killed again and again."""
+
+    def __init__(self, program, folder, seed, count):
+        self.program = program
+        self.folder = folder
+        self.draw = random.Random(seed)
+        self.count = count
+        self.port = free_ports()
+        self.book = f"{folder}/book"
+        self.halls = 0
+        self.hall = None
+        self.lines = [Line(self.port + lane, random.Random(self.draw.random()))
+                      for lane in range(LANES)]
+        for line in self.lines:
+            line.open()
+            line.close()
+        self.scales = []
+
+    def batch(self, hall, lane):
+        return f"H{hall}L{lane}"
+
+    def begin(self):
+        """A hall over the book, whose lanes weigh for batches of their own."""
+        self.halls += 1
+        batches = [self.batch(self.halls, lane) for lane in range(1, LANES + 1)]
+        setup = OPENING + "".join(f"open {batch} P\n" for batch in batches)
+        self.hall = Hall(self.program, self.folder, plan(setup, batches), self.book, lanes=LANES,
+                         pipes=False, remote=self.port)
+        for lane in range(LANES):
+            wait_for_port(self.hall, self.port + lane)
+        for line in self.lines:
+            line.open()
+
+    def kill(self):
+        """Kills it, and cuts its lines with it, for long enough that the scales see it."""
+        self.hall.kill()
+        for line in self.lines:
+            line.close()
+        time.sleep(2 * SECONDS + 0.5)
+
+    def run(self):
+        self.begin()
+        for lane in range(1, LANES + 1):
+            weights = [LEAST + at for at in range(self.count)]
+            self.draw.shuffle(weights)
+            self.scales.append(Scale(self.folder, lane, weights, self.lines[lane - 1]))
+        while not any(scale.ended() for scale in self.scales):
+            until = time.monotonic() + self.draw.uniform(SHORTEST, LONGEST)
+            while time.monotonic() < until and not any(scale.ended() for scale in self.scales):
+                need(not self.hall.ended(), f"the hall ended by itself: {self.hall.said()}")
+                time.sleep(0.02)
+            if any(scale.ended() for scale in self.scales) or self.is_near_end():
+                break
+            self.kill()
+            self.begin()
+        self.finish()
+
+    def is_near_end(self):
+        """Whether a scale is about to say its end: no hall is killed behind that."""
+        return any(self.count - 100 < sum(scale.told()) for scale in self.scales)
+
+    def finish(self):
+        for scale in self.scales:
+            status = scale.process.wait(600)
+            need(status in (0, 1), f"a scale ended with the status {status}")
+        need(self.hall.wait(60) == 0, f"the hall ended with {self.hall.process.returncode}")
+        lines = self.hall.said()
+        for lane in range(1, LANES + 1):
+            need(any(re.fullmatch(rf"lane {lane} opened \d+ done", line) for line in lines), str(lines))
+        for line in self.lines:
+            line.close()
+
+    # -- what is compared
+
+    def rows(self):
+        """The packs of each lane, in the order of their rows."""
+        said = subprocess.run([self.program, "check", "--book", self.book], stdout=subprocess.PIPE,
+                              check=False).stdout.decode()
+        need(re.fullmatch(r"rows \d+ whole\n", said), said)
+        with subprocess.Popen([self.program, "export", "--book", self.book], stdout=subprocess.PIPE,
+                              encoding="ascii") as export:
+            packs = list(csv.DictReader(export.stdout))
+        return [[pack for pack in packs if pack["lane"] == str(lane)] for lane in range(1, LANES + 1)]
+
+    def compare(self):
+        unheard = unopened = 0
+        for lane, packs in enumerate(self.rows(), 1):
+            scale = self.scales[lane - 1]
+            unheard += self.compare_scale(scale, lane, packs)
+            unopened += self.compare_gate(lane, packs)
+        return unheard, unopened
+
+    def compare_scale(self, scale, lane, packs):
+        """Each hall weighed on where the last acknowledged weight was, in order, and at most one
+        weight more than it acknowledged. Says how many such there are."""
+        places = {grams(weight): place for place, weight in enumerate(scale.weights)}
+        halls = [[places[pack["gross"]] for pack in packs if pack["batch"] == self.batch(hall, lane)]
+                 for hall in range(1, self.halls + 1)]
+        halls = [own for own in halls if own]
+        heard = [then[0] - own[0] for own, then in zip(halls, halls[1:] + [[self.count]])]
+        need(halls[0][0] == 0 and all(own == list(range(own[0], own[0] + len(own))) for own in halls),
+             f"lane {lane} has other packs than the next ones, one behind the other")
+        need(all(len(own) - count in (0, 1) for own, count in zip(halls, heard)),
+             f"lane {lane}: halls weighed {[len(own) for own in halls]}, of which {heard} were next")
+        need([count for count in heard if count] == scale.told(),
+             f"lane {lane}: the scale was told {scale.told()}, and weighed on behind {heard}")
+        voided = sum(pack["pile"] != "passed" for pack in packs)
+        lasts = {pack["batch"]: pack for pack in packs}.values()
+        need(voided == sum(pack["pile"] == "voided" for pack in lasts),
+             f"lane {lane} has packs that aren't passed, with others behind them")
+        return sum(len(own) - count for own, count in zip(halls, heard))
+
+    def compare_gate(self, lane, packs):
+        """Each line of the gate is a pack of the lane that passed, in order; of each hall the last
+        alone may be without one. Says how many are."""
+        passed = [pack for pack in packs if pack["signal"] == "pass"]
+        rows = [int(pack["pack"]) for pack in passed]
+        lasts = {pack["batch"]: int(pack["pack"]) for pack in passed}
+        with open(f"{self.folder}/gate-{lane}.txt", encoding="ascii") as gate:
+            opened = [int(line.removeprefix("open ")) for line in gate]
+        need(opened == sorted(set(opened)) and set(opened) <= set(rows),
+             f"gate {lane} has a line that is no passed row, or has one twice")
+        missing = set(rows) - set(opened)
+        need(missing <= set(lasts.values()), f"gate {lane} lacks {sorted(missing)[:5]}")
+        return len(missing)
+
+
+def wait_for_port(hall, port):
+    """Waits until the system says that somebody listens at a port, without a connection."""
+    wanted = f"0100007F:{port:04X} 00000000:0000 0A"
+    for _ in range(2000):
+        with open("/proc/net/tcp", encoding="ascii") as table:
+            if any(wanted in line for line in table):
+                return
+        need(not hall.ended(), f"the hall ended: {hall.said()}")
+        time.sleep(0.005)
+    need(False, f"nobody listens at {port}")
+
+
+# ---- what else may happen at a port
+
+
+def one_lane(program, folder, name, port):
+    """A hall with one lane, and a folder of its own."""
+    own = f"{folder}/{name}"
+    os.mkdir(own)
+    hall = Hall(program, own, plan(OPENING + "open A P\n", ["A"]), f"{own}/book", lanes=1,
+                pipes=False, remote=port)
+    return hall
+
+
+def ends_as(hall, stop, status, seconds=60):
+    ended = hall.wait(seconds)
+    need(ended == status and hall.said()[0].endswith(stop),
+         f"status {ended} and {hall.said()[:1]} in place of {status} and {stop}")
+
+
+def link_to(hall, port):
+    wait_for_port(hall, port)
+    link = socket.create_connection(("127.0.0.1", port), timeout=60)
+    link.setsockopt(socket.IPPROTO_TCP, socket.TCP_NODELAY, 1)
+    return link
+
+
+def hear(link, wanted):
+    """Waits for just these bytes, and says how long that took."""
+    began, came = time.monotonic(), b""
+    while len(came) < len(wanted):
+        more = link.recv(4096)
+        need(more, f"the link ended behind {came!r}")
+        came += more
+    need(came == wanted, f"{came!r} came in place of {wanted!r}")
+    return time.monotonic() - began
+
+
+def in_use(program, folder, port):
+    """A port that another has: the cell fails when it is first asked, and the hall says why."""
+    with socket.create_server(("127.0.0.1", port)):
+        hall = one_lane(program, folder, "in_use", port)
+        ends_as(hall, "lane 1 opened 0 cell", 10)
+    with open(f"{folder}/in_use/errors", encoding="utf-8") as errors:
+        need(f"can't listen at port {port}" in errors.read(), "the hall doesn't say why")
+
+
+def silent(program, folder, port):
+    """Who connects and says nothing keeps nobody out, nor does one who stops in mid-line."""
+    hall = one_lane(program, folder, "silent", port)
+    with link_to(hall, port), link_to(hall, port) as cut, link_to(hall, port) as scale:
+        cut.sendall(b"1 26")
+        time.sleep(0.2)
+        scale.sendall(b"1 262\n2 263\n")
+        took = hear(scale, b"ack 1\nack 2\n")
+        scale.sendall(b"3 end\n")
+        hear(scale, b"ack 3\n")
+        ends_as(hall, "lane 1 opened 2 done", 0)
+    return took
+
+
+def pause(program, folder, port):
+    """A scale that is silent for longer than the office would wait goes on over its connection."""
+    hall = one_lane(program, folder, "pause", port)
+    with link_to(hall, port) as scale:
+        scale.sendall(b"1 262\n")
+        hear(scale, b"ack 1\n")
+        time.sleep(PAUSE)
+        scale.sendall(b"2 263\n3 end\n")
+        hear(scale, b"ack 2\nack 3\n")
+        ends_as(hall, "lane 1 opened 2 done", 0)
+
+
+def deaf(program, folder, port):
+    """One that never reads its acknowledgements, while another waits: what the system doesn't hold of
+    them the hall can't write, and leaves the first behind 10 s of that. Says how many lines it took,
+    and for how long the other waited."""
+    hall = one_lane(program, folder, "deaf", port)
+    wait_for_port(hall, port)
+    scale = socket.socket()
+    scale.setsockopt(socket.SOL_SOCKET, socket.SO_RCVBUF, 1)
+    scale.connect(("127.0.0.1", port))
+    said = []
+    speaker = threading.Thread(target=say_again, args=(scale, said), daemon=True)
+    speaker.start()
+    began = time.monotonic()
+    with link_to(hall, port) as other:
+        other.settimeout(300)
+        # behind the first line of the one that never reads
+        time.sleep(1)
+        other.sendall(b"2 263\n3 end\n")
+        hear(other, b"ack 2\nack 3\n")
+        waited = time.monotonic() - began
+        ends_as(hall, "lane 1 opened 2 done", 0)
+    end(scale)
+    speaker.join(60)
+    return sum(said), waited
+
+
+# Fewer than a cell looks at in one call.
+MOST_AGAIN = 900_000
+
+
+def say_again(scale, said):
+    """Says a line again and again, and reads nothing. Takes down how often it could."""
+    try:
+        for _ in range(MOST_AGAIN // 1000):
+            scale.sendall(b"1 262\n" * 1000)
+            said.append(1000)
+    except OSError:
+        pass
+
+
+def nonsense(program, folder, port):
+    """A line that is none ends the lane, and what is said behind it is heard by nobody."""
+    hall = one_lane(program, folder, "nonsense", port)
+    with link_to(hall, port) as scale:
+        scale.sendall(b"1 262\n7 270\n2 ERR\n2 263\n")
+        ends_as(hall, "lane 1 opened 1 bad 3", 10)
+
+
+def no_end(program, folder, port):
+    """A thousand connections without an end: the line behind the last is bad."""
+    hall = one_lane(program, folder, "no_end", port)
+    for number in range(1, 1001):
+        with link_to(hall, port) as scale:
+            scale.sendall(b"%d 262\n" % number)
+            hear(scale, b"ack %d\n" % number)
+    ends_as(hall, "lane 1 opened 1000 bad 1001", 10)
+
+
+def turns(program, folder, port):
+    """A million lines that are ahead, over some connections, since one that isn't answered for 10 s is
+    left: the lane gives up."""
+    hall = one_lane(program, folder, "turns", port)
+    wait_for_port(hall, port)
+    began = time.monotonic()
+    while not hall.ended() and time.monotonic() - began < 300:
+        try:
+            with socket.create_connection(("127.0.0.1", port), timeout=60) as scale:
+                scale.sendall(b"9 1\n" * 50_000)
+                scale.shutdown(socket.SHUT_WR)
+                scale.recv(1)
+        except OSError:
+            pass
+    ends_as(hall, "lane 1 opened 0 turns", 12)
+    return time.monotonic() - began
