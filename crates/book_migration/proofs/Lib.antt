@@ -1,4 +1,3 @@
 pub mod CarriedRows
-pub mod SameEntries
 pub mod SlotSteps
 pub mod MigrationEnds

@@ -6,7 +6,7 @@ use Rattle.disk_core.specs.declared.disk.Disk as disk
 use Rattle.book_words.specs.declared.act.Entry.{Entry}
 use Rattle.book_store.specs.declared.store.Store.{Store}
 use Rattle.old_journal.specs.OldJournal.{HasOldHeader}
-use Rattle.old_journal.specs.Carrying.{IsMigrated}
+use Rattle.book_migration.specs.Migrated.{IsMigrated}
 use Rattle.old_journal.specs.Reader.{OldView, old_after}
 use Rattle.old_journal.proofs.OpenSlots.{no_rows}
 use Rattle.old_journal.proofs.ReaderPlaces.{none_counted}

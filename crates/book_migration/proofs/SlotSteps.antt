@@ -10,25 +10,18 @@ use Rattle.row_format.specs.Rows.{Spells}
 use Rattle.old_journal.specs.declared.types.OldPiece.{OldPiece}
 use Rattle.old_journal.specs.declared.types.OldPiece.TheVariants.{Part, Header, Foreign, Row, Bad, Over}
 use Rattle.old_journal.specs.OldJournal.{HasOldHeader, IsNotForeign, old_rows, AreOldRows}
-use Rattle.old_journal.specs.Carrying.{IsLonger, IsBadRow, MayCome}
 use Rattle.old_journal.specs.Reader.{OldView, old_after, counted, Says, HasNextRow, SpellsOnly, HeaderStays}
 use Rattle.old_journal.proofs.Headers.{header_by, by_header, header_on}
 use Rattle.old_journal.proofs.OpenSlots.{rows_stay}
 use Rattle.old_journal.proofs.ReaderPlaces.{none_counted}
 use Rattle.store_runs.specs.declared.stop.Stop.{Stop}
 use Rattle.store_runs.specs.declared.stop.Stop.TheVariants.{Finished, BadLine, ReadFault, WriteFault, DiskFault, NoMemory, Spent}
-use Rattle.book_migration.specs.Migration.{HasNewRow, FailsToAdd, StopsAtSlot}
-use Rattle.book_migration.specs.Carrying.{StopsAtEntry, CarriesPiece, MigrationState, Carried, CarriesOn, StopsCarrying}
-use Rattle.book_migration.proofs.CarriedRows.{are_more, spelled_many, longer_same, longer_more, not_another, not_unlawful, bad_row, new_row, get_none, get_inside}
-
--- the entry of the next number
-numbered_next : (rows : List Entry) (k number : ℕ) → number ≡ k + 1
-    → entry_numbered rows number ≡ slice_get rows k
-numbered_next rows k number is =
-    let first : nat_le 1 (k + 1) ≡ true = grind (arith, nat_tests) in
-    let place : k + 1 - 1 ≡ k = omega arith in
-    ap (entry_numbered rows) is ∙ ap (λ b. if b then slice_get rows (k + 1 - 1) else None) first
-    ∙ ap (slice_get rows) place
+use Rattle.store_runs.specs.Carrying.{FailsToAdd, StopsAtEntry, IsLonger, MayCome}
+use Rattle.store_runs.proofs.CarriedEntries.{longer_same, longer_more, not_another, not_unlawful, get_none, get_inside, numbered_next}
+use Rattle.book_migration.specs.Migrated.{IsBadRow}
+use Rattle.book_migration.specs.Migration.{HasNewRow, StopsAtSlot}
+use Rattle.book_migration.specs.Carrying.{CarriesPiece, MigrationState, Carried, CarriesOn, StopsCarrying}
+use Rattle.book_migration.proofs.CarriedRows.{are_more, spelled_many, bad_row, new_row}
 
 nothing_before : (a b : List (List ℕ)) → a ++ b ≡ [] → a ≡ []
 nothing_before [] b is = refl

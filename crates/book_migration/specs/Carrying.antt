@@ -1,8 +1,6 @@
 -- What each step of a migration makes of the rows of its book, and where the migration then stands.
-use Rattle.std.specs.Prelude.{◌≡◌, ◌≢◌, ◌⊎◌, ℕ, ◌<◌, List, [], ◌∷◌, ◌++◌, length, Some, None, Result, Ok, Err, IsOk, MatchResult}
+use Rattle.std.specs.Prelude.{◌≡◌, ℕ, ◌<◌, List, ◌++◌, length, Result, Err, IsOk, MatchResult}
 use Rattle.book_words.specs.declared.act.Entry.{Entry}
-use Rattle.book_words.specs.Answers.{IsLawful}
-use Rattle.book_state.specs.Told.{entry_numbered}
 use Rattle.book_store.specs.Stores.{entries_of}
 use Rattle.old_journal.specs.Reader.{OldView, old_after}
 use Rattle.old_journal.specs.declared.types.OldPiece.{OldPiece}
@@ -12,39 +10,14 @@ use Rattle.text_streams.specs.Streams.{Stream}
 use Rattle.text_streams.specs.Reading.{ReadsWhole}
 use Rattle.store_runs.specs.declared.stop.Stop.{Stop}
 use Rattle.store_runs.specs.declared.stop.Stop.TheVariants.{BadLine}
+use Rattle.store_runs.specs.Carrying.{CarriesEntry}
 use Rattle.book_migration.specs.declared.carrying.Migration.{Migration}
 use Rattle.book_migration.specs.declared.migrate.TheConstants.{MAX_OLD_READS}
-use Rattle.book_migration.specs.Migration.{HasCarried, FailsToAdd, StopsAtSlot}
+use Rattle.book_migration.specs.Migration.{HasCarried, StopsAtSlot}
 
--- ---- one entry
+-- ---- one piece
 
--- the rows have this entry at its number, or have none there and this one is added
-abbrev pub Carries : List Entry → List Entry → ℕ → Entry → Type 0
-Carries before now number entry =
-    ((entry_numbered before number ≡ Some entry) × (now ≡ before))
-    ⊎ ((entry_numbered before number ≡ None) × IsLawful before entry
-    × (now ≡ before ++ entry ∷ []))
-
--- the rows have another entry there, or have none and this one isn't lawful behind them
-abbrev pub Refuses : List Entry → ℕ → Entry → Type 0
-Refuses rows number entry =
-    ((held : Entry) × (entry_numbered rows number ≡ Some held) × (held ≢ entry))
-    ⊎ ((entry_numbered rows number ≡ None) × ¬ IsLawful rows entry)
-
--- how a migration stops at an entry: it is refused, or it was to be added and that failed
-abbrev pub StopsAtEntry : List Entry → ℕ → Entry → Stop → Type 0
-StopsAtEntry rows number entry stop =
-    ((stop ≡ BadLine number) × Refuses rows number entry)
-    ⊎ ((entry_numbered rows number ≡ None) × IsLawful rows entry × FailsToAdd entry stop)
-
--- an entry was carried, or stopped a migration and left the rows as they were
-abbrev pub CarriesEntry : {T : Type 0} → List Entry → List Entry → ℕ → Entry → Result T Stop
-    → Type 0
-CarriesEntry before now number entry (Ok done) = Carries before now number entry
-CarriesEntry before now number entry (Err stop) =
-    (now ≡ before) × StopsAtEntry before number entry stop
-
--- the same of what a piece tells, where the reader then has so many rows
+-- what a piece tells was carried, where the reader then has so many rows
 abbrev pub CarriesPiece : {T : Type 0} → List Entry → List Entry → ℕ → OldPiece → Result T Stop
     → Type 0
 CarriesPiece before now number (Row told entry) result =

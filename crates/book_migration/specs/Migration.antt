@@ -7,14 +7,14 @@ use Rattle.book_words.specs.Answers.{IsLawful}
 use Rattle.row_format.specs.Spelling.{old_layout}
 use Rattle.row_format.specs.Rows.{Spells}
 use Rattle.old_journal.specs.OldJournal.{HasOldHeader, IsNotForeign, old_rows, AreOldRows}
-use Rattle.old_journal.specs.Carrying.{IsLonger, IsMigrated, IsCarriedTo, IsBadRow}
 use Rattle.text_streams.specs.declared.reader.TheConstants.{PIECE}
 use Rattle.text_streams.specs.Streams.{Stream, IsCalm, input_at}
 use Rattle.text_streams.specs.Reading.{HasMadeReads, FailsBehind, ReadsWhole}
-use Rattle.store_runs.specs.declared.stop.Offer.TheVariants as offering
 use Rattle.store_runs.specs.declared.stop.Stop.{Stop}
 use Rattle.store_runs.specs.declared.stop.Stop.TheVariants.{Finished, BadLine, ReadFault, WriteFault, DiskFault, NoMemory, Spent}
+use Rattle.store_runs.specs.Carrying.{FailsToAdd, IsLonger}
 use Rattle.store_runs.specs.Runs.{FailsToKeep}
+use Rattle.book_migration.specs.Migrated.{IsMigrated, IsCarriedTo, IsBadRow}
 use Rattle.book_migration.specs.declared.migrate.TheConstants.{MAX_OLD_READS}
 
 -- an input at one moment: itself, and what it tells
@@ -45,12 +45,6 @@ pub record HasNewRow (held : List Entry) (judged : List ℕ) (rows : List Entry)
   pub spells : Spells old_layout row (count + 1) entry
   pub lacks : length rows ≤ count
   pub lawful : IsLawful rows entry
-
--- an entry wasn't added: the disk failed as it was offered its row, or there was no memory
-abbrev pub FailsToAdd : Entry → Stop → Type 0
-FailsToAdd entry (DiskFault offer) = offer ≡ offering.Row entry
-FailsToAdd entry NoMemory = ⊤
-FailsToAdd entry _ = ⊥
 
 -- how a migration stops at the last slot of what it judged
 abbrev pub StopsAtSlot : List Entry → List Entry → List ℕ → Stop → Type 0

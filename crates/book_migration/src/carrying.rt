@@ -1,60 +1,18 @@
-ghost use Rattle.std.specs.Prelude.{◌≡◌, ◌<◌, ◌≤◌, None, OnOk, IfOk, IfErr, length, take};
-ghost use Rattle.book_state.specs.Told.{entry_numbered};
+ghost use Rattle.std.specs.Prelude.{◌<◌, ◌≤◌, OnOk, IfOk, IfErr, length, take};
 ghost use Rattle.book_store.specs.Stores.{entries_of, IsSound};
-ghost use Rattle.store_runs.specs.declared.stop.Stop.TheVariants as stop;
 ghost use Rattle.store_runs.specs.Runs.{Goes};
-ghost use Rattle.book_migration.specs.Carrying.{CarriesEntry, CarriesPiece, CarriesOn, StopsCarrying, CarrySteps, migration_state};
+ghost use Rattle.book_migration.specs.Carrying.{CarriesPiece, CarriesOn, StopsCarrying, CarrySteps, migration_state};
 
-use book_store::{AdoptError, Store};
-use book_words::Entry;
+use book_store::Store;
 use disk_core::Disk;
 use old_journal::{OldJournal, OldPiece};
-use store_runs::{Offer, Stop};
+use store_runs::{Stop, bad_row, carry_entry};
 
 /// A journal of version 1 that is carried into the book of a store.
 #[derive(Drop)]
 pub struct Migration<D: Disk> {
     pub store: Store<D>,
     pub journal: OldJournal,
-}
-
-/// The row of a number can't be carried.
-pub fn bad_row(number: u32) -> Stop
-    ensures { result ≡ stop.BadLine number }
-{
-    Stop::BadLine(u64::from(number))
-}
-
-// Adds an entry to a book that has none of its number.
-fn adopt_entry<D: Disk>(store: &mut Store<D>, number: u32, entry: &Entry) -> Result<(), Stop>
-    requires sound { IsSound D.Disk store.old }
-    requires behind { entry_numbered (entries_of store.old) number ≡ None }
-    ensures carries { CarriesEntry (entries_of store.old) (entries_of store.new) number entry.now
-        result }
-    ensures goes { Goes D.Disk result store.old store.new }
-    ensures sound { IsSound D.Disk store.new }
-{
-    match store.adopt(entry) {
-        Ok(_) => Ok(()),
-        Err(AdoptError::Unlawful) => Err(bad_row(number)),
-        Err(AdoptError::DiskFault) => Err(Stop::DiskFault(Offer::Row(*entry))),
-        Err(AdoptError::NoMemory) => Err(Stop::NoMemory),
-    }
-}
-
-// Carries an entry of a number into a book: where the book has one of that number it is the same.
-fn carry_entry<D: Disk>(store: &mut Store<D>, number: u32, entry: &Entry) -> Result<(), Stop>
-    requires sound { IsSound D.Disk store.old }
-    ensures carries { CarriesEntry (entries_of store.old) (entries_of store.new) number entry.now
-        result }
-    ensures goes { Goes D.Disk result store.old store.new }
-    ensures sound { IsSound D.Disk store.new }
-{
-    match store.entry(number) {
-        Some(held) if held == *entry => Ok(()),
-        Some(_) => Err(bad_row(number)),
-        None => adopt_entry(store, number, entry),
-    }
 }
 
 // Carries what a piece tells, where the reader now has so many rows.

@@ -8,12 +8,12 @@ ghost use Rattle.book_migration.specs.declared.migrate.TheConstants.{MAX_OLD_REA
 ghost use Rattle.book_migration.specs.Migration.{EndsMigration, ExplainsMigration, input_moment};
 ghost use Rattle.book_migration.specs.Carrying.{Carried, CarriesAll, IsFresh, migration_state};
 
-use crate::carrying::{Migration, bad_row};
+use crate::carrying::Migration;
 use book_store::Store;
 use disk_core::{Disk, Source};
 use old_journal::OldJournal;
 use std::alloc::Global;
-use store_runs::{RunEnd, Stop, keep_snapshot};
+use store_runs::{RunEnd, Stop, bad_row, keep_snapshot};
 use text_streams::Reader;
 
 /// A migration makes at most so many reads, each of which gives a byte: the longest journal of

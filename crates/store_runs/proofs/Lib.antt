@@ -1,3 +1,5 @@
 pub mod CallerGoes
+pub mod CarriedEntries
+pub mod SameEntries
 pub mod StoreSteps
 pub use Rattle.book_store.proofs.CallerSteps

@@ -4,7 +4,7 @@ use Rattle.book_store.specs.Stores.{entries_of}
 use Rattle.store_runs.specs.Runs.{Goes}
 use Rattle.store_runs.specs.Stops.{step_adopted}
 use Rattle.store_runs.proofs.StoreSteps.{goes_adopted}
-use Rattle.book_migration.proofs.carrying.adopt_entry.Goals as goal
+use Rattle.store_runs.proofs.carrying.adopt_entry.Goals as goal
 
 pub returns-in-Ok-clause-goes : goal.returns-in-Ok-clause-goes
 returns-in-Ok-clause-goes g c =

@@ -1,7 +1,7 @@
 use Rattle.std.proofs.Common.{◌≡◌, ◌∙◌, Some, inl, refl, sym, ap}
 use Rattle.book_words.specs.contracts.act.EntryPartialEq.TheImpl as entries
-use Rattle.book_migration.proofs.SameEntries.{found_equal, found_other}
-use Rattle.book_migration.proofs.carrying.carry_entry.Goals as goal
+use Rattle.store_runs.proofs.SameEntries.{found_equal, found_other}
+use Rattle.store_runs.proofs.carrying.carry_entry.Goals as goal
 
 pub returns-in-Some-clause-carries : goal.returns-in-Some-clause-carries
 returns-in-Some-clause-carries g c =

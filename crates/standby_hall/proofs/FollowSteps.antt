@@ -1,0 +1,217 @@
+-- What the head of a shipment, its rows and its end make of a store.
+use Rattle.std.proofs.Common.{◌≡◌, ◌≢◌, inl, inr, ⊎_elim, true, false, ℕ, ◌+◌, ◌<◌, ◌≤◌, List, [], ◌∷◌, ◌++◌, length, take, drop, Result, Ok, Err, refl, sym, ap, ◌∙◌, subst, arith, append_assoc, append-nil, length-append}
+use Rattle.std.specs.Io.KnownBytes.{Consumes, IsAtEnd}
+use Rattle.std.proofs.KnownBytes.{Consumes-trans}
+use Rattle.std.proofs.lemmas.List.{take-append-drop, take_at, nil_from_length}
+use Rattle.device_facts.specs.Prefix.{IsPrefixOf}
+use Rattle.disk_core.specs.declared.disk.Disk as disk
+use Rattle.book_words.specs.declared.act.Entry.{Entry}
+use Rattle.book_store.specs.declared.store.Store.{Store}
+use Rattle.book_store.specs.Stores.{disk_of}
+use Rattle.text_streams.specs.Streams.{Stream, IsCalm, HasFailed}
+use Rattle.store_runs.specs.declared.stop.Stop.{Stop}
+use Rattle.store_runs.specs.declared.stop.Stop.TheVariants as run
+use Rattle.store_runs.specs.Runs.{CountsStop, SparesDisk, Goes}
+use Rattle.store_runs.proofs.StoreSteps.{stays}
+use Rattle.standby_hall.specs.declared.types.ShipHead.{ShipHead}
+use Rattle.standby_hall.specs.declared.types.FollowStop.{FollowStop}
+use Rattle.standby_hall.specs.declared.types.FollowStop.TheVariants.{ReadFault, Head, Gap, Row, Extra, DiskFault, NoMemory}
+use Rattle.standby_hall.specs.declared.head.TheConstants.{HEAD_BYTES}
+use Rattle.standby_hall.specs.Shipments.{head_bytes, IsHead, shipped}
+use Rattle.standby_hall.specs.Following.{ExplainsFollow, stop_behind}
+use Rattle.standby_hall.specs.Rows.{TakesUpTo, FailsWithin, HasReadHead, HasReadRows, HasReadAll}
+
+-- ---- the head
+
+-- the input failed within it
+pub head_fails : (held : List Entry) (before now : Stream) → FailsWithin before now HEAD_BYTES
+    → ExplainsFollow held before now held (Err ReadFault)
+head_fails held before now fails = record {
+  arrival = record { bytes = fails.taken; ended = false };
+  read = fails.read;
+  at_end = λ never. absurd cc;
+  cause = fails.failed;
+  follows = inl (fails.less, refl);
+}
+
+-- fewer bytes than a head came
+short_never : (bytes more : List ℕ) (head : ShipHead) → length bytes < HEAD_BYTES
+    → bytes ≡ head_bytes head ++ more → ⊥
+short_never bytes more head short is =
+    absurd (omega (arith, short, ap length is, length-append (head_bytes head) more))
+
+pub head_cut : (held : List Entry) (before now : Stream) (bytes : List ℕ)
+    → TakesUpTo before now HEAD_BYTES bytes → length bytes < HEAD_BYTES
+    → ExplainsFollow held before now held (Err Head)
+head_cut held before now bytes takes short = record {
+  arrival = record { bytes = bytes; ended = true };
+  read = takes.read;
+  at_end = λ is. ⊎_elim (λ long. absurd (omega (arith, long, short))) (λ cut. cut.1) takes.all;
+  cause = takes.calm;
+  follows = (
+    record {
+      none = λ head good begins. short_never bytes begins.0 head short begins.1;
+      seen = inr refl;
+    },
+    refl,
+  );
+}
+
+-- as many came, and are none
+pub head_none : (held : List Entry) (before now : Stream) (bytes : List ℕ)
+    → Consumes before.bytes now.bytes bytes → IsCalm before now → length bytes ≡ HEAD_BYTES
+    → ((head : ShipHead) → IsHead head → ¬ (bytes ≡ head_bytes head))
+    → ExplainsFollow held before now held (Err Head)
+head_none held before now bytes read calm long none = record {
+  arrival = record { bytes = bytes; ended = false };
+  read = read;
+  at_end = λ never. absurd cc;
+  cause = calm;
+  follows = (
+    record {
+      none = λ head good begins. none head good
+          (sym (take_at bytes [] HEAD_BYTES long)
+          ∙ ap (λ (l : List ℕ). take HEAD_BYTES l) (append-nil bytes ∙ begins.1)
+          ∙ take_at (head_bytes head) begins.0 HEAD_BYTES refl);
+      seen = inl (omega (arith, long));
+    },
+    refl,
+  );
+}
+
+-- rows before those that come are lacking
+pub at_gap : (held : List Entry) (before now : Stream) (head : ShipHead) → IsHead head
+    → HasReadHead before now head → length held < head.passed
+    → ExplainsFollow held before now held (Err (Gap (length held + 1)))
+at_gap held before now head good read few = record {
+  arrival = record { bytes = head_bytes head; ended = false };
+  read = read.read;
+  at_end = λ never. absurd cc;
+  cause = read.calm;
+  follows = (record { head = head; good = good; parts = refl; few = few; next = refl }, refl);
+}
+
+-- ---- the rows
+
+-- none was read yet
+pub rows_begin : (start now : Stream) (held : List Entry) (head : ShipHead) → IsHead head
+    → head.passed ≤ length held → HasReadHead start now head
+    → HasReadRows start now held held head head.passed
+rows_begin start now held head good enough read = record {
+  entries = [];
+  read = subst (Consumes start.bytes now.bytes) (sym (append-nil (head_bytes head))) read.read;
+  calm = read.calm;
+  followed = record {
+    good = good;
+    enough = enough;
+    inside = omega (arith, good.inside);
+    can = tt;
+    longer = inl (
+      (
+        drop head.passed held,
+        sym (take-append-drop head.passed held)
+            ∙ ap (λ (es : List Entry). es ++ drop head.passed held)
+            (sym (append-nil (take head.passed held))),
+      ),
+      refl,
+    );
+  };
+  counted = omega arith;
+}
+
+-- ---- the end
+
+module _ (start now next : Stream) (held rows : List Entry) (head : ShipHead)
+    (all : HasReadAll start now held rows head) where
+  -- nothing follows
+  pub at_end_of : (adopted : ℕ) (bytes : List ℕ) → length rows ≡ length held + adopted
+      → TakesUpTo now next 1 bytes → length bytes ≡ 0
+      → ExplainsFollow held start next rows (Ok adopted)
+  at_end_of adopted bytes added takes none =
+      let read = subst (Consumes now.bytes next.bytes) (nil_from_length bytes none) takes.read in
+      record {
+        arrival = record { bytes = shipped head all.entries; ended = true };
+        read = subst (Consumes start.bytes next.bytes) (append-nil (shipped head all.entries))
+            (Consumes-trans start.bytes now.bytes next.bytes (shipped head all.entries) [] all.read read);
+        at_end = λ is. ⊎_elim (λ long. absurd (omega (arith, long, none))) (λ cut. cut.1) takes.all;
+        cause = takes.calm ∙ all.calm;
+        follows = record {
+          head = head;
+          entries = all.entries;
+          followed = all.followed;
+          bytes = refl;
+          all = all.counted;
+          ended = refl;
+          added = added;
+        };
+      }
+
+  -- a byte follows
+  pub at_extra : (bytes : List ℕ) → Consumes now.bytes next.bytes bytes → length bytes ≡ 1
+      → IsCalm now next → ExplainsFollow held start next rows (Err (Extra head.all))
+  at_extra [] read one calm = absurd (omega (arith, one))
+  at_extra (byte ∷ byte' ∷ more) read one calm = absurd (omega (arith, one))
+  at_extra (byte ∷ []) read one calm = record {
+    arrival = record { bytes = shipped head all.entries ++ byte ∷ []; ended = false };
+    read = Consumes-trans start.bytes now.bytes next.bytes (shipped head all.entries) (byte ∷ []) all.read
+        read;
+    at_end = λ never. absurd cc;
+    cause = calm ∙ all.calm;
+    follows = record {
+      head = head;
+      entries = all.entries;
+      byte = byte;
+      followed = all.followed;
+      complete = all.counted;
+      told = refl;
+      parts = refl;
+    };
+  }
+
+  -- the input failed there
+  pub end_fails : FailsWithin now next 1 → ExplainsFollow held start next rows (Err ReadFault)
+  end_fails fails = record {
+    arrival = record { bytes = shipped head all.entries ++ fails.taken; ended = false };
+    read = Consumes-trans start.bytes now.bytes next.bytes (shipped head all.entries) fails.taken all.read
+        fails.read;
+    at_end = λ never. absurd cc;
+    cause = subst (λ n. HasFailed (record { bytes = start.bytes; faults = n }) next) all.calm fails.failed;
+    follows = inr (record {
+      head = head;
+      entries = all.entries;
+      part = fails.taken;
+      followed = all.followed;
+      cut = omega (arith, fails.less);
+      parts = refl;
+    });
+  }
+
+-- ---- the store
+
+-- no stop of following is a good end of a run
+behind_unfinished : (stop : FollowStop) → stop_behind stop ≢ run.Finished
+behind_unfinished ReadFault is = absurd cc
+behind_unfinished Head is = absurd cc
+behind_unfinished (Gap row) is = absurd cc
+behind_unfinished (Row row) is = absurd cc
+behind_unfinished (Extra all) is = absurd cc
+behind_unfinished (DiskFault entry) is = absurd cc
+behind_unfinished NoMemory is = absurd cc
+
+counts_spared : (count : ℕ) (stop : Stop) → SparesDisk stop → CountsStop count count stop
+counts_spared count (run.DiskFault offer) spares = absurd spares
+counts_spared count run.Finished spares = refl
+counts_spared count (run.BadLine row) spares = refl
+counts_spared count run.ReadFault spares = refl
+counts_spared count run.WriteFault spares = refl
+counts_spared count run.NoMemory spares = refl
+counts_spared count run.Spent spares = refl
+
+-- a stop at which the disk wasn't asked leaves the store
+pub stays_behind : {D T : Type 0} (g : disk.Ghosts D) (stop : FollowStop) (store : Store D)
+    → SparesDisk (stop_behind stop) → Goes {T = T} g (Err (stop_behind stop)) store store
+stays_behind g stop store spares =
+    stays g (Err (stop_behind stop)) store
+    (counts_spared (g.faults (disk_of store)) (stop_behind stop) spares)
+    (λ is. absurd (behind_unfinished stop
+    (let same : stop_behind stop ≡ run.Finished = cc is in same)))

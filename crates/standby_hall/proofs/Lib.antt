@@ -1,0 +1,7 @@
+pub mod FilledParts
+pub mod FollowSteps
+pub mod PageSteps
+pub mod RowBytes
+pub mod RowSteps
+pub mod ShipSteps
+pub mod StandbyFronts

@@ -1,0 +1,5 @@
+pub mod Following
+pub mod Pages
+pub mod Rows
+pub mod Shipments
+pub mod Standby
