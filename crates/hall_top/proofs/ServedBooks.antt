@@ -1,6 +1,5 @@
 -- Lemmas on a serve over a disk that was opened as a book.
-use Rattle.std.proofs.Common.{◌≡◌, ◌⊎◌, ℕ, ◌≤◌, List, [], length, take, None, refl, sym, ap, ◌∙◌, subst, arith, length-append, append-nil}
-use Rattle.device_facts.specs.Count.{Rose}
+use Rattle.std.proofs.Common.{◌≡◌, ◌⊎◌, ℕ, ◌≤◌, List, [], length, take, Some, None, refl, sym, ap, ◌∙◌, subst, arith, length-append, append-nil}
 use Rattle.device_facts.specs.Prefix.{IsPrefixOf}
 use Rattle.disk_core.specs.Disk.{WhereTold}
 use Rattle.disk_core.specs.declared.disk.Disk as disk
@@ -8,6 +7,7 @@ use Rattle.book_words.specs.declared.act.Entry.{Entry}
 use Rattle.book_words.specs.Answers.{IsLegal}
 use Rattle.book_words.specs.Callers.{Known}
 use Rattle.book_journal.specs.Mounting.{KeepsFromSync}
+use Rattle.book_journal.specs.Rows.{FitsSnapshot}
 use Rattle.book_store.specs.declared.store.Store.{Store}
 use Rattle.book_store.specs.Images.{HoldsBook}
 use Rattle.book_store.specs.Kept.{HasKept}
@@ -18,7 +18,7 @@ use Rattle.book_store.specs.Resting.{HoldsSnapshotOf}
 use Rattle.book_store.proofs.KeptLemmas.{kept_mounted}
 use Rattle.lane_worker.specs.Works as lanes
 use Rattle.office_door.specs.Doors as doors
-use Rattle.serve_run.specs.Sessions.{HoldsOrOneMore, KeepsRun, LeavesFrom}
+use Rattle.serve_run.specs.Sessions.{KeepsRun, LeavesAtEnd, LeavesFrom}
 use Rattle.store_runs.specs.Books.{BookState, stored_book}
 use Rattle.store_runs.specs.Runs.{HasGrown}
 use Rattle.store_runs.specs.Stops.{stop_row}
@@ -28,7 +28,7 @@ use Rattle.serve_run.specs.declared.stop.ServeStop.TheVariants.{BadPlan, Early, 
 use Rattle.serve_run.specs.declared.stop.JobsStop.TheVariants.{Finished}
 use Rattle.serve_run.specs.Jobs.{Handed}
 use Rattle.serve_run.specs.Keeping.{ServeGoes}
-use Rattle.serve_run.specs.Serving.{moment, ExplainsServe, CountsServe}
+use Rattle.serve_run.specs.Serving.{moment, ExplainsServe, CountsServe, SparesServe}
 use Rattle.hall_top.specs.declared.ended.Ended.{Ended}
 use Rattle.hall_top.specs.Serving.{handed_of, KeepsAll, KeepsServed, IsServed, ServeDone}
 use Rattle.hall_top.proofs.DoneLemmas.{serve_done}
@@ -52,22 +52,20 @@ module _ {D : Type 0} (g : disk.Ghosts D) where
 
   -- what is left of a disk that held these entries, where jobs ran
   keeps_all : (held : List Entry) (before : D) (store last : Store D) (left : D) (opened : ℕ)
-      (rows : List Entry) → HasHeld g before held store → KeepsRun g held before last
+      (limit : ℕ) (rows : List Entry) → limit_of last ≡ limit → HasHeld g before held store → KeepsRun g held before last
       → left ≡ disk_of last → rows ≡ entries_of last → take opened rows ≡ entries_of store
-      → KeepsAll g held before left opened rows
-  keeps_all held before store last left opened rows has run disk_left same front =
+      → KeepsAll g held before left opened (record { limit = limit; entries = rows })
+  keeps_all held before store last left opened limit rows limit_is has run disk_left same front =
       record {
         same = front ∙ has.same;
         moments = subst (λ (d : _). KeepsFromSync g before d (LeavesFrom held rows))
             (sym disk_left)
             (subst (λ (es : List Entry). KeepsFromSync g before (disk_of last)
             (LeavesFrom held es)) (sym same) run.moments);
-        end = λ c image.
-            subst (λ (d : _). HoldsBook rows c
-            ⊎ (Rose (g.faults before) (g.faults d) × HoldsOrOneMore rows c)) (sym disk_left)
-            (subst (λ (es : List Entry). HoldsBook es c
-            ⊎ (Rose (g.faults before) (g.faults (disk_of last)) × HoldsOrOneMore es c)) (sym same)
-            (run.end c (subst (λ (d : _). g.image d c) disk_left image)));
+        end = subst (λ (d : _). LeavesAtEnd g limit rows before d) (sym disk_left)
+            (subst (λ (es : List Entry). LeavesAtEnd g limit es before (disk_of last)) (sym same)
+            (subst (λ (n : ℕ). LeavesAtEnd g n (entries_of last) before (disk_of last)) limit_is
+            run.end));
       }
 
   -- the same as it stopped
@@ -95,8 +93,8 @@ module _ {D : Type 0} (g : disk.Ghosts D) where
       (goes.kept held before kept)) disk_left rows_are front
   serve_kept limit held before store last left opened rows (Ran stop) limit_is faults has kept over
       disk_left rows_are front =
-      keeps_all held before store last left opened rows has (over.kept held before faults kept)
-      disk_left rows_are front
+      keeps_all held before store last left opened limit rows (over.limit ∙ limit_is) has
+      (over.kept held before faults kept) disk_left rows_are front
 
   -- a serve that is done and added rows left a snapshot of them
   serve_snapshot : (store last : Store D) (left : D) (opened : ℕ) (rows : List Entry)
@@ -115,6 +113,20 @@ module _ {D : Type 0} (g : disk.Ghosts D) where
       (subst (λ (es : List Entry). HoldsSnapshotOf g es (disk_of last)) (sym same)
       (over.snapshot refl new))
 
+  -- a serve that added no row, where the disk didn't fail, left what the disk reads
+  serve_still : (store last : Store D) (stop : ServeStop) → ServeGoes g store last stop
+      → held_of store ≡ length (entries_of store)
+      → SparesServe (g.faults (disk_of store)) (g.faults (disk_of last)) stop
+      → ¬ HasGrown (held_of store) (entries_of last)
+      → g.reads (disk_of last) ≡ g.reads (disk_of store)
+  serve_still store last BadPlan same held spares small =
+      ap (λ (s : Store D). g.reads (disk_of s)) same
+  serve_still store last (Early stop) goes held spares small =
+      ap g.reads (goes.still spares (omega (arith, held))
+      (subst (λ (n : ℕ). ¬ HasGrown n (entries_of last)) (sym goes.held) small))
+  serve_still store last (Ran stop) over held spares small =
+      over.still spares (omega (arith, held)) small
+
   -- a serve over a store that a disk was mounted as
   pub is_served : {L O : Type 0} (counts_now : (d : D) (t : ℕ) (c : List ℕ)
       → t ≤ g.time d → g.image d c → g.since d t c) (lane_at : Known → L → lanes.Site)
@@ -125,12 +137,14 @@ module _ {D : Type 0} (g : disk.Ghosts D) where
       → WhereTold (g.reads before) (λ bytes. IsOpenedAs bytes (entries_of store))
       → WhereTold (g.reads before) (λ bytes. (held : List Entry) → HoldsBook held bytes
       → IsLegal held → HasHeld g before held store)
+      → WhereTold (g.reads before) (λ bytes. (rows size : ℕ) → FitsSnapshot rows size bytes
+      → g.reads (disk_of store) ≡ Some bytes)
       → ServeDone g lane_at door_at store (moment input output (g.faults (disk_of store)) handed)
       input_now now ended
       → IsServed g lane_at door_at limit before (moment input output (g.faults before) handed)
       input_now now ended
   is_served counts_now lane_at door_at limit before store input output handed input_now now ended
-      limit_is count calm faults opened held done =
+      limit_is count calm faults opened held unwritten done =
       let begins = serve_begins store done.left done.stop done.goes in
       let front : take ended.held ended.rows ≡ entries_of store =
       ap (λ n. take n ended.rows) done.held ∙ ap (take (length (entries_of store))) (done.rows
@@ -173,6 +187,14 @@ module _ {D : Type 0} (g : disk.Ghosts D) where
             done.disk_left done.rows front;
         snapshot = serve_snapshot store done.left ended.disk ended.held ended.rows done.stop
             (count ∙ sym done.held) done.goes done.disk_left done.rows;
+        unwritten = λ spares small bytes told rows size fits.
+            ap g.reads done.disk_left
+            ∙ (serve_still store done.left done.stop done.goes count
+            (subst (λ (n : ℕ). SparesServe n (g.faults (disk_of done.left)) done.stop) (sym faults)
+            (subst (λ (d : _). SparesServe (g.faults before) (g.faults d) done.stop) done.disk_left
+            spares))
+            (λ grown. small (omega (arith, grown, ap length done.rows, count, done.held)))
+            ∙ unwritten bytes told rows size fits);
         last = done.last;
         done = serve_done lane_at door_at (stored_book store)
             (moment input output (g.faults (disk_of store)) handed)

@@ -1,8 +1,7 @@
 -- What a call that serves does: its disk, its plan, its lanes and doors, its last line.
-use Rattle.std.specs.Prelude.{◌≡◌, ◌⊎◌, ℕ, ◌≤◌, List, length, take, All, Option, None}
+use Rattle.std.specs.Prelude.{◌≡◌, ◌⊎◌, ℕ, ◌≤◌, List, length, take, All, Option, Some, None}
 use Rattle.std.specs.declared.alloc.Global.{Global}
 use Rattle.std.specs.declared.vec.Vec.{Vec}
-use Rattle.device_facts.specs.Count.{Rose}
 use Rattle.disk_core.specs.Disk.{WhereTold}
 use Rattle.disk_core.specs.Doors.{Connections}
 use Rattle.disk_core.specs.declared.disk.Disk as disk
@@ -12,6 +11,7 @@ use Rattle.book_words.specs.declared.act.Entry.{Entry}
 use Rattle.book_words.specs.Answers.{IsLegal}
 use Rattle.book_words.specs.Callers.{Known}
 use Rattle.book_journal.specs.Mounting.{KeepsFromSync}
+use Rattle.book_journal.specs.Rows.{FitsSnapshot}
 use Rattle.book_store.specs.declared.store.Store.{Store}
 use Rattle.book_store.specs.Images.{HoldsBook}
 use Rattle.book_store.specs.Listing.{IsOpenedAs}
@@ -25,7 +25,7 @@ use Rattle.lane_worker.specs.Works as lanes
 use Rattle.office_door.specs.declared.ending.DoorEnd.{DoorEnd}
 use Rattle.office_door.specs.declared.ending.DoorStop.TheVariants as door
 use Rattle.office_door.specs.Doors as doors
-use Rattle.serve_run.specs.Sessions.{HoldsOrOneMore, LeavesFrom}
+use Rattle.serve_run.specs.Sessions.{LeavesAtEnd, LeavesFrom}
 use Rattle.serve_run.specs.Works.{lane_site, door_site}
 use Rattle.text_streams.specs.Streams.{Stream, input_at, output_at}
 use Rattle.store_runs.specs.Books.{BookState, stored_book}
@@ -37,7 +37,7 @@ use Rattle.serve_run.specs.declared.stop.ServeStop.TheVariants.{BadPlan, Early, 
 use Rattle.serve_run.specs.declared.stop.JobsStop.TheVariants.{Finished}
 use Rattle.serve_run.specs.Jobs.{Handed, handed_in}
 use Rattle.serve_run.specs.Keeping.{ServeGoes}
-use Rattle.serve_run.specs.Serving.{Moment, moment, ExplainsServe, CountsServe}
+use Rattle.serve_run.specs.Serving.{Moment, moment, ExplainsServe, CountsServe, SparesServe}
 use Rattle.hall_top.specs.declared.ended.Ended.{Ended}
 use Rattle.hall_top.specs.declared.ending.Ending.TheVariants.{Served}
 use Rattle.hall_top.specs.Calls.{KeepsRows, IsUnopened, Leaves}
@@ -56,14 +56,12 @@ handed_of ended =
 -- What is left of a disk that held these rows, where jobs ran: the rows begin with those that it
 -- held. Each crash from the first sync on leaves the first so many rows, those among them, and
 -- perhaps one lawful entry more. At the end it leaves all rows, or, only where the disk failed,
--- these and one lawful entry more.
+-- these and the one entry that hangs.
 pub record KeepsAll {D : Type 0} (disk : disk.Ghosts D) (held : List Entry) (before now : D)
-    (opened : ℕ) (rows : List Entry) : Type 0 where
-  pub same : take opened rows ≡ held
-  pub moments : KeepsFromSync disk before now (LeavesFrom held rows)
-  pub end : (c : List ℕ) → disk.image now c
-      → HoldsBook rows c
-      ⊎ (Rose (disk.faults before) (disk.faults now) × HoldsOrOneMore rows c)
+    (opened : ℕ) (book : BookState) : Type 0 where
+  pub same : take opened book.entries ≡ held
+  pub moments : KeepsFromSync disk before now (LeavesFrom held book.entries)
+  pub end : LeavesAtEnd disk book.limit book.entries before now
 
 -- the same as it stopped: before its jobs a serve leaves what a run leaves that stops so
 abbrev pub KeepsServed : {D : Type 0} → disk.Ghosts D → List Entry → D → D → ℕ → BookState
@@ -73,7 +71,7 @@ KeepsServed disk held before now opened book BadPlan =
 KeepsServed disk held before now opened book (Early stop) =
     KeepsRows disk held (stop_row book stop) before now opened book.entries
 KeepsServed disk held before now opened book (Ran stop) =
-    KeepsAll disk held before now opened book.entries
+    KeepsAll disk held before now opened book
 
 -- lanes came to the end of their cells, and doors to that of their connections, none of which a
 -- fault of the link ended
@@ -84,7 +82,8 @@ pub record AllEndDone (lane_ends : List LaneEnd) (door_ends : List DoorEnd) : Ty
 
 -- The disk was opened as a book, the serve stopped in one of its ways over the book as it was
 -- opened, and then came the last line. A serve that is done and added rows leaves a snapshot of all
--- rows. At status 0 its jobs ran, and all lanes and doors are done.
+-- rows; one that added none, where the disk didn't fail, leaves every byte of a disk with a
+-- snapshot. At status 0 its jobs ran, and all lanes and doors are done.
 pub record IsServed {D L O : Type 0} (disk : disk.Ghosts D) (lane_at : Known → L → lanes.Site)
     (door_at : Known → O → doors.Site) (limit : ℕ) (before : D) (start : Moment L O)
     (input output : Stream) (ended : Ended D L O) : Type 0 where
@@ -103,6 +102,10 @@ pub record IsServed {D L O : Type 0} (disk : disk.Ghosts D) (lane_at : Known →
       (record { limit = limit; entries = ended.rows }) stop)
   pub snapshot : stop ≡ Ran Finished → HasGrown ended.held ended.rows
       → HoldsSnapshotOf disk ended.rows ended.disk
+  pub unwritten : SparesServe (disk.faults before) (disk.faults ended.disk) stop
+      → ¬ HasGrown ended.held ended.rows
+      → WhereTold (disk.reads before) (λ bytes. (rows size : ℕ) → FitsSnapshot rows size bytes
+      → disk.reads ended.disk ≡ Some bytes)
   pub last : SaysLast (Served stop) (all_said ended.lane_ends) ended.door_ends said output
       ended.status
   pub done : ended.status ≡ 0

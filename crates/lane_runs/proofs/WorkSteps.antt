@@ -205,6 +205,7 @@ with_broke was now lane batch end said is =
       given = is.given;
       opened = is.opened;
       count = is.count;
+      places = is.places;
       accepted = is.accepted;
       done = is.done;
       stops = ⊎_elim

@@ -16,7 +16,9 @@ use Rattle.book_words.specs.declared.act.Prior.TheVariants.{Nothing, Opened, Sta
 use Rattle.book_words.specs.declared.caller.AskError.{AskError}
 use Rattle.book_words.specs.declared.caller.AskError.TheVariants as error
 use Rattle.book_words.specs.declared.reply.Answered.{Answered}
+use Rattle.book_words.specs.Answers.{added as added_by_ask}
 use Rattle.book_words.specs.Callers.{Known, FAULTS_END, IsAsked}
+use Rattle.book_words.proofs.RightAnswers.{right_names}
 use Rattle.book_words.specs.Desks.{Row}
 use Rattle.book_words.specs.Population.{is_pass}
 use Rattle.book_words.specs.Views.{lane_view}
@@ -31,7 +33,7 @@ use Rattle.lane_worker.specs.Asks.{act_ask, lane_ask, stop_found, prior_behind, 
 use Rattle.lane_worker.specs.Gates.{with_packs, HasPassed}
 use Rattle.lane_worker.specs.Replies.{pack_told}
 use Rattle.lane_worker.specs.Endings.{stop_by, stop_at, faults_at, last_items, cell_failed, gate_failed, FailsIf}
-use Rattle.lane_worker.specs.Works.{Site, Work, HasAdded, HasGiven, AreOpened, HasOpened, asks_of_work, IsWork}
+use Rattle.lane_worker.specs.Works.{Site, Work, HasAdded, HasGiven, AreOpened, HasOpened, NamesAsked, asks_of_work, IsWork}
 use Rattle.lane_worker.specs.Steps.{row_asks, with_caller, IsCalm, IsStopped, TakesItem, Weighs, HasWeighed, HasEnded, broken_end}
 use Rattle.lane_worker.proofs.RightReplies.{weighing_told, passed_row}
 use Rattle.lane_worker.proofs.AddedRows.{IsTaken, IsLost, added_row, added_none, nothing_added, calm_more, faults_finished, faults_broken}
@@ -60,6 +62,26 @@ one_more answered asks next first same =
     let long : length answered ≡ length ((answered ++ next ∷ []) ++ first.0) = ap length (sym same ∙ first.1) in
     omega (arith, long, length-append (answered ++ next ∷ []) first.0, length-append answered (next ∷ []))
 
+-- a refusal names what was seen when the question of the lane was answered
+names_asked : (was mid now : Known) (asked : List Entry) (rows : List Row) (next : Ask) (why : AskError)
+    → HasAdded was mid asked rows → IsAsked mid now next (Err why) → NamesAsked asked (stop_at why)
+names_asked was mid now asked rows next (error.Refused refused) has answer =
+    let right = answer.says.right in
+    let new = cons_option (added_by_ask mid.limit right.before mid.by next) [] in
+    let at : refused.at ≡ length (right.before ++ new) =
+    right_names mid.limit mid.by now.seen next (Err refused) right in
+    omega (
+      arith,
+      at,
+      length-append right.before new,
+      ap length answer.says.grows,
+      length-append mid.seen answer.says.unseen,
+      ap length has.after.1,
+      length-append asked has.after.0,
+    )
+names_asked was mid now asked rows next error.DiskFault has answer = tt
+names_asked was mid now asked rows next error.NoMemory has answer = tt
+
 -- the next ask has no answer
 pub breaks : (Reached : List Ask → Type 0) (Broke : List Ask → Ask → AskError → Type 0) (was now : Site) (mid : Known) (lane : ℕ) (batch : Name) (work : Work) (count : ℕ) (next : Ask) (why : AskError)
     → HasAdded was.caller mid work.asked work.rows → IsCalm was.caller mid → HasGiven was now work.grosses work.ending → HasOpened was now work.rows work.opened work.ending
@@ -75,6 +97,7 @@ breaks Reached Broke was now mid lane batch work count next why added calm given
   given = given;
   opened = opened;
   count = is;
+  places = names_asked was.caller mid now.caller work.asked work.rows next why added asked;
   accepted = accepted;
   done = (λ is. absurd (not_done why is), λ both. absurd (one_more work.answered (asks_of_work lane batch work) next first both.1));
   stops = inr (record { next = next; why = why; told = refl; first = first; broke = broke });
@@ -98,6 +121,7 @@ finishes Reached Broke was now mid lane batch work row count ending last answere
   given = given;
   opened = opened;
   count = is;
+  places = no_refusal ending;
   accepted = refl;
   done = (
     λ is. (ended ∙ ap (λ (e : Ending). Some e) (done_by ending is), whole),
@@ -106,6 +130,13 @@ finishes Reached Broke was now mid lane batch work row count ending last answere
   stops = inl (record { ending = ending; ended = ended; told = refl; whole = whole; later = later });
 }
   where
+    no_refusal : (e : Ending) → NamesAsked work.asked (stop_by e)
+    no_refusal ends.End = tt
+    no_refusal (ends.Bad line) = tt
+    no_refusal ends.Spent = tt
+    no_refusal ends.CellFailed = tt
+    no_refusal ends.GateFailed = tt
+
     by_ending : (e : Ending) → now.caller.faults ≡ min (was.caller.faults + 0) FAULTS_END → now.caller.faults ≡ min (was.caller.faults + faults_at (stop_by e)) FAULTS_END
     by_ending ends.End h = h
     by_ending (ends.Bad line) h = h

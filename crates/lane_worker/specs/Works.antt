@@ -1,5 +1,5 @@
 -- What the work of a lane is, from a state of its caller, its cell and its gate to a later one.
-use Rattle.std.specs.Prelude.{◌≡◌, ◌↔◌, ◌⊎◌, ℕ, ℤ, ◌+◌, ◌-◌, ◌<◌, min, Bool, true, false, List, [], ◌∷◌, ◌++◌, length, map, drop, slice_get, Option, Some, Err}
+use Rattle.std.specs.Prelude.{◌≡◌, ◌↔◌, ◌⊎◌, ℕ, ℤ, ◌+◌, ◌-◌, ◌<◌, ◌≤◌, min, Bool, true, false, List, [], ◌∷◌, ◌++◌, length, map, drop, slice_get, Option, Some, Err}
 use Rattle.device_facts.specs.Prefix.{IsPrefixOf}
 use Rattle.book_words.specs.declared.name.Name.{Name}
 use Rattle.book_words.specs.declared.act.Ask.{Ask}
@@ -15,7 +15,7 @@ use Rattle.lane_worker.specs.declared.types.CellNext.TheVariants.{Gross}
 use Rattle.lane_worker.specs.declared.ending.Ending.{Ending}
 use Rattle.lane_worker.specs.declared.ending.Ending.TheVariants.{End}
 use Rattle.lane_worker.specs.declared.ending.LaneStop.{LaneStop}
-use Rattle.lane_worker.specs.declared.ending.LaneStop.TheVariants.{Done}
+use Rattle.lane_worker.specs.declared.ending.LaneStop.TheVariants.{Done, Refused}
 use Rattle.lane_worker.specs.declared.ending.LaneEnd.{LaneEnd}
 use Rattle.lane_worker.specs.declared.cell.Cell as cell
 use Rattle.lane_worker.specs.declared.gate.Gate as gate
@@ -91,6 +91,12 @@ pub record HasOpened (was now : Site) (rows : List Row) (opened : List ℕ)
   pub passed : AreOpened (gate_failed ending) (passed_packs rows) opened
   pub faults : FailsIf (gate_failed ending) was.gate_faults now.gate_faults
 
+-- a refusal that is kept in an end names at least what its caller had seen when it was told what the
+-- lane does
+abbrev pub NamesAsked : List Entry → LaneStop → Type 0
+NamesAsked asked (Refused refused) = length asked ≤ refused.at
+NamesAsked asked stop = Unit {0}
+
 -- a worker finishes: all that it was to ask was answered, and its stop is what ended the weighing
 pub record Finishes (Reached : List Ask → Type 0) (asks : List Ask) (work : Work)
     (stop : LaneStop) : Type 0 where
@@ -134,6 +140,7 @@ pub record IsWork (Reached : List Ask → Type 0) (Broke : List Ask → Ask → 
   pub given : HasGiven was now work.grosses work.ending
   pub opened : HasOpened was now work.rows work.opened work.ending
   pub count : end.opened ≡ length work.opened
+  pub places : NamesAsked work.asked end.stop
   pub accepted : drop 1 work.answered ≡ map (λ row. ask_of row.entry) work.rows
   pub done : (end.stop ≡ Done)
       ↔ ((work.ending ≡ Some End) × (asks_of_work lane batch work ≡ work.answered))

@@ -168,9 +168,10 @@ module _ (L O : Type 0) where
       (first ∙ (ap (λ xs. xs ++ lane_jobs said lanes) empty ∙ ap (λ ps. lane_jobs ps lanes) same))
 
   -- as many come back as ran
-  pub run_many : (lane_at : Known → L → lanes.Site) (door_at : Known → O → doors.Site) (limit : ℕ)
-      (before rows : List Entry) (failed : ℕ) (was now : List (Work L O))
-      → HaveRun lane_at door_at limit before rows failed was now → length now ≡ length was
-  run_many lane_at door_at limit before rows failed was now ran =
+  pub run_many : (lane_at : Known → L → lanes.Site) (door_at : Known → O → doors.Site)
+      (limit spare : ℕ) (before rows : List Entry) (failed : ℕ) (was now : List (Work L O))
+      → HaveRun lane_at door_at limit spare before rows failed was now
+      → length now ≡ length was
+  run_many lane_at door_at limit spare before rows failed was now ran =
       sym (ap length ran.jobs_behind) ∙ (length-map ran.runs (λ (r : Run L O). r.now)
       ∙ (sym (length-map ran.runs (λ (r : Run L O). r.was)) ∙ ap length ran.jobs_before))

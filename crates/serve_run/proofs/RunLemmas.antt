@@ -64,7 +64,11 @@ module _ {D : Type 0} (g : disk.Ghosts D) (held : List Entry) (start : D) (store
           earlier = λ t c less was. ⊎_elim (λ is. inl is)
               (λ crash. inr (leaves held rows short c crash)) (kept.moments.earlier t c less was);
         };
-        end = λ c image. inl (rests_kept.images c image);
+        end = record {
+          hanging = None;
+          cause = tt;
+          images = λ c image. inl (rests_kept.images c image);
+        };
       }
 
 -- a store for whose rows room was made goes on as it is
@@ -106,3 +110,11 @@ keeps_own g old new opened result false is idle holds calm grown = nothing (idle
     nothing : {A : Type 0} → HasNothingToKeep old → A
     nothing (inl empty) = absurd (omega (arith, grown, ap length empty))
     nothing (inr hung) = absurd (calm hung)
+
+-- what leaves the disk untouched doesn't hold where a snapshot is kept
+pub none_of_these : {A G : Type 0} (failed : ℕ) (lack : Bool) → failed ≡ 0 → lack ≡ false → G
+    → (0 < failed) ⊎ ((lack ≡ true) ⊎ (¬ G)) → A
+none_of_these failed lack none has grown (inl some) = absurd (omega (arith, some, none))
+none_of_these failed lack none has grown (inr (inl lacks)) =
+    absurd (let never : true ≡ false = sym lacks ∙ has in cc)
+none_of_these failed lack none has grown (inr (inr small)) = absurd (small grown)

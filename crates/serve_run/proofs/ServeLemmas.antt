@@ -1,13 +1,13 @@
 -- The steps behind the jobs of a plan, put together.
 use Rattle.std.proofs.Common.{zero, suc, ◌≡◌, ◌⊎◌, inl, inr, ⊎_elim, ℕ, ◌<◌, ◌≤◌, Bool, List, sym, ◌∙◌, subst, arith}
-use Rattle.device_facts.specs.Count.{Counted, counted, Rose}
+use Rattle.device_facts.specs.Count.{Calm, Counted, counted, Rose}
 use Rattle.office_door.specs.Doors.{FailedSoOften}
 use Rattle.text_streams.specs.Streams.{Stream}
 use Rattle.serve_run.specs.declared.stop.JobsStop.{JobsStop}
 use Rattle.serve_run.specs.declared.stop.JobsStop.TheVariants.{Finished, WriteFault, DiskFault, NoMemory}
 use Rattle.serve_run.specs.Jobs.{Handed}
 use Rattle.serve_run.specs.Plans.{CountsRest, Says}
-use Rattle.serve_run.specs.Serving.{CountsJobs, SaysJobs, some_lack}
+use Rattle.serve_run.specs.Serving.{CountsJobs, SaysJobs, SparesJobs, some_lack}
 
 -- all was said behind jobs that stopped so
 module _ (old new failed : ℕ) (lack : Bool) (before now : Stream) (text : List ℕ)
@@ -82,6 +82,22 @@ module _ (old new failed : ℕ) (lack : Bool) (before now : Stream) (text : List
     counts_jobs DiskFault says = rose_at (as_kept DiskFault says.1)
     counts_jobs NoMemory says =
         let is = as_kept NoMemory says.1 in is.0 ∙ calm_jobs failed often is.1
+
+    -- where the disk didn't fail, no caller was answered that it did
+    rests_spared : (k : JobsStop) → CountsRest old new failed lack k → Calm first new
+        → failed ≡ 0
+    rests_spared Finished is calm = is.1
+    rests_spared WriteFault is calm = absurd is
+    rests_spared DiskFault is calm = absurd (let rose : Rose first new = rose_at is in
+        omega (arith, rose, calm))
+    rests_spared NoMemory is calm = is.1
+
+    pub spared : (stop : JobsStop) → Says before now text kept stop → SparesJobs first new stop
+        → failed ≡ 0
+    spared Finished says spares = (as_kept Finished says.1).1
+    spared WriteFault says spares = rests_spared kept counts spares
+    spared DiskFault says spares = absurd spares
+    spared NoMemory says spares = (as_kept NoMemory says.1).1
 
     -- at a whole end all was done, and nothing was answered by a fault
     pub finished : (stop : JobsStop) → Says before now text kept stop → stop ≡ Finished

@@ -1,5 +1,6 @@
 -- A whole `serve`, from what comes before its jobs and from what these come to.
-use Rattle.std.proofs.Common.{◌≡◌, ◌⊎◌, inl, inr, ⊎_elim, ℕ, ◌<◌, ◌≤◌, Bool, List, length, Option, None, Ok, Err, refl, sym, ap, ◌∙◌, subst, arith}
+use Rattle.std.proofs.Common.{◌≡◌, ◌⊎◌, inl, inr, ⊎_elim, ℕ, ◌+◌, ◌<◌, ◌≤◌, Bool, List, length, Option, None, Ok, Err, refl, sym, ap, ◌∙◌, subst, arith, length-append}
+use Rattle.std.proofs.lemmas.Bool.{cases_lt}
 use Rattle.device_facts.specs.Count.{counted, Counted}
 use Rattle.device_facts.specs.Prefix.{IsPrefixOf}
 use Rattle.disk_core.specs.declared.disk.Disk as disk
@@ -7,7 +8,7 @@ use Rattle.book_words.specs.declared.act.Entry.{Entry}
 use Rattle.book_words.specs.Callers.{Known}
 use Rattle.book_store.proofs.KeptLemmas.{begins_on}
 use Rattle.book_store.specs.declared.store.Store.{Store}
-use Rattle.book_store.specs.Stores.{disk_of, entries_of, held_of, limit_of, Hangs}
+use Rattle.book_store.specs.Stores.{disk_of, entries_of, held_of, limit_of, spare_of, Hangs}
 use Rattle.hall_plan.specs.declared.types.Plan.{Plan}
 use Rattle.hall_plan.specs.declared.types.PlannedLane.{PlannedLane}
 use Rattle.lane_worker.specs.Works as lanes
@@ -37,9 +38,9 @@ use Rattle.serve_run.specs.Jobs.{Handed, jobs_of}
 use Rattle.serve_run.specs.Keeping.{RanOver, ServeGoes}
 use Rattle.serve_run.specs.Plans.{EndsPlan, IsFinished, RunsPlan, handed_at}
 use Rattle.serve_run.specs.Preparing.{IsPreparedFor, IsUnpreparedFor, StopsPlan, WhyUnprepared, stop_without}
-use Rattle.serve_run.specs.Serving.{CountsJobs, ExplainsServe, HasRunPlan, Moment, SaysJobs, moment, serve_text, some_lack}
+use Rattle.serve_run.specs.Serving.{CountsJobs, ExplainsServe, HasRunPlan, Moment, SaysJobs, SparesJobs, moment, serve_text, some_lack}
 use Rattle.serve_run.proofs.RunLemmas.{rests_kept, run_kept}
-use Rattle.serve_run.proofs.ServeLemmas.{at_least, counts_jobs, finished, rests, says_jobs}
+use Rattle.serve_run.proofs.ServeLemmas.{at_least, counts_jobs, finished, rests, says_jobs, spared}
 
 -- a plan whose setup stopped, or for which there was no room
 pub unprepared : {D : Type 0} (g : disk.Ghosts D) (store left : Store D) (plan : Plan) (count : ℕ)
@@ -117,17 +118,20 @@ module _ {L O : Type 0} (lane_at : Known → L → lanes.Site) (door_at : Known 
               read = is.read;
               set_up = entries_of left;
               asked = is.set_up.asked;
+              spare = spare_of left;
+              room = is.set_up.room;
               jobs = ran.jobs;
               failed = ran.failed;
-              ran = subst (λ (n : ℕ). HaveRun lane_at door_at n (entries_of left) rows ran.failed
-                  (jobs_of plan.lanes given.lanes given.doors) ran.jobs) limits
-                  (subst (λ (ps : List PlannedLane). HaveRun lane_at door_at (limit_of left)
-                  (entries_of left) rows ran.failed (jobs_of ps given.lanes given.doors) ran.jobs)
-                  is.set_up.lanes ran.ran);
-              history = subst (λ (n : ℕ). OneHistory lane_at door_at n (entries_of left) rows
+              ran = subst (λ (n : ℕ). HaveRun lane_at door_at n (spare_of left) (entries_of left) rows
                   ran.failed (jobs_of plan.lanes given.lanes given.doors) ran.jobs) limits
+                  (subst (λ (ps : List PlannedLane). HaveRun lane_at door_at (limit_of left)
+                  (spare_of left) (entries_of left) rows ran.failed (jobs_of ps given.lanes given.doors) ran.jobs)
+                  is.set_up.lanes ran.ran);
+              history = subst (λ (n : ℕ). OneHistory lane_at door_at n (spare_of left)
+                  (entries_of left) rows ran.failed
+                  (jobs_of plan.lanes given.lanes given.doors) ran.jobs) limits
                   (subst (λ (ps : List PlannedLane). OneHistory lane_at door_at (limit_of left)
-                  (entries_of left) rows ran.failed (jobs_of ps given.lanes given.doors) ran.jobs)
+                  (spare_of left) (entries_of left) rows ran.failed (jobs_of ps given.lanes given.doors) ran.jobs)
                   is.set_up.lanes ran.history);
               back = ran.back;
               faults = subst (λ (n : ℕ). counted n ran.failed ≤ g.faults (disk_of end.store))
@@ -175,21 +179,41 @@ module _ {L O : Type 0} (lane_at : Known → L → lanes.Site) (door_at : Known 
                   over.kept held start (same_faults ∙ same) (goes.kept held start has);
               snapshot = λ finished grown. over.snapshot finished
                   (subst (λ (n : ℕ). HasGrown n (entries_of end.store)) (sym goes.held) grown);
+              still = λ spares many small.
+                  let before_jobs : length (entries_of left)
+                  ≡ length (entries_of store) + length goes.begins.0 =
+                  ap length goes.begins.1 ∙ length-append (entries_of store) goes.begins.0 in
+                  let at_end : length (entries_of end.store)
+                  ≡ length (entries_of left) + length over.begins.0 =
+                  ap length over.begins.1 ∙ length-append (entries_of left) over.begins.0 in
+                  over.still
+                  (subst (λ (n : ℕ). SparesJobs n (g.faults (disk_of end.store)) stop)
+                  (sym same_faults) spares)
+                  (omega (arith, goes.held, many, before_jobs))
+                  (subst (λ (n : ℕ). ¬ HasGrown n (entries_of end.store)) (sym goes.held) small)
+                  ∙ ap g.reads (goes.still tt many
+                  (λ added. small (omega (arith, added, goes.held, at_end))));
             }
+
+no_more : (opened rows before : ℕ) → ¬ (opened < rows) → opened ≤ before → rows ≤ before
+no_more opened rows before few many = ⊎_elim
+    (λ grown. absurd (few grown)) (λ least. omega (arith, least, many)) (cases_lt opened rows)
 
 -- the jobs of a plan, from their run to what is said behind them
 module _ {D L O : Type 0} (g : disk.Ghosts D) (lane_at : Known → L → lanes.Site)
     (door_at : Known → O → doors.Site) (store : Store D) (planned : List PlannedLane)
     (given : Handed L O) (before now : Stream) (end : ServeEnd D L O) (jobs : JobsEnd D L O)
     (opened : ℕ) (held : opened ≡ held_of store) (fin : IsFinished g opened jobs before now end)
-    (ran : HaveRun lane_at door_at (limit_of store) (entries_of store) (entries_of jobs.store)
-    jobs.faults (jobs_of planned given.lanes given.doors) jobs.jobs.items)
-    (history : OneHistory lane_at door_at (limit_of store) (entries_of store)
+    (ran : HaveRun lane_at door_at (limit_of store) (spare_of store) (entries_of store)
+    (entries_of jobs.store) jobs.faults (jobs_of planned given.lanes given.doors) jobs.jobs.items)
+    (history : OneHistory lane_at door_at (limit_of store) (spare_of store) (entries_of store)
     (entries_of jobs.store) jobs.faults (jobs_of planned given.lanes given.doors) jobs.jobs.items)
     (often : FailedSoOften (g.faults (disk_of store)) (g.faults (disk_of jobs.store)) jobs.faults)
     (settled : jobs.faults ≡ 0 → ¬ Hangs jobs.store) (limit : limit_of jobs.store ≡ limit_of store)
     (kept : RestsOnDisk g store → (held : List Entry) (start : D)
-    → KeepsRun g held start store → KeepsRun g held start jobs.store) where
+    → KeepsRun g held start store → KeepsRun g held start jobs.store)
+    (stays : jobs.faults ≡ 0 → length (entries_of jobs.store) ≤ length (entries_of store)
+    → g.reads (disk_of jobs.store) ≡ g.reads (disk_of store)) where
   abbrev first : ℕ
   first = g.faults (disk_of store)
 
@@ -224,17 +248,26 @@ module _ {D L O : Type 0} (g : disk.Ghosts D) (lane_at : Known → L → lanes.S
         fin.rests.snapshot all.0 (settled all.1)
         (subst (λ (es : List Entry). HasGrown opened es) fin.rests.same
         (subst (λ (n : ℕ). HasGrown n (entries_of end.store)) (sym held) grown));
+    still = λ spares many small.
+        let few : ¬ HasGrown opened (entries_of jobs.store) =
+        λ grown. small (subst (λ (n : ℕ). HasGrown n (entries_of end.store)) held
+        (subst (λ (es : List Entry). HasGrown opened es) (sym fin.rests.same) grown)) in
+        ap g.reads (fin.rests.untouched (inr (inr few)))
+        ∙ stays (spared old new jobs.faults lack before now text fin.kept fin.rests.counts first
+        often fin.stop fin.says spares)
+        (no_more opened (length (entries_of jobs.store)) (length (entries_of store)) few
+        (omega (arith, many, held)));
   }
 
   pub runs_plan : RunsPlan g lane_at door_at store planned given before now end fin.stop
   runs_plan = record {
     jobs = jobs.jobs.items;
     failed = jobs.faults;
-    ran = subst (λ (es : List Entry). HaveRun lane_at door_at (limit_of store) (entries_of store) es
-        jobs.faults (jobs_of planned given.lanes given.doors) jobs.jobs.items)
+    ran = subst (λ (es : List Entry). HaveRun lane_at door_at (limit_of store) (spare_of store)
+        (entries_of store) es jobs.faults (jobs_of planned given.lanes given.doors) jobs.jobs.items)
         (sym fin.rests.same) ran;
     history = subst (λ (es : List Entry). OneHistory lane_at door_at (limit_of store)
-        (entries_of store) es jobs.faults (jobs_of planned given.lanes given.doors)
+        (spare_of store) (entries_of store) es jobs.faults (jobs_of planned given.lanes given.doors)
         jobs.jobs.items) (sym fin.rests.same) history;
     back = fin.back;
     faults = at_least old new jobs.faults lack before now text fin.kept fin.rests.counts first often

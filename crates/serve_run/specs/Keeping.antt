@@ -1,5 +1,5 @@
 -- What `serve` makes of the store that it asks.
-use Rattle.std.specs.Prelude.{◌≡◌, List, None}
+use Rattle.std.specs.Prelude.{◌≡◌, ◌≤◌, List, None, length}
 use Rattle.device_facts.specs.Prefix.{IsPrefixOf}
 use Rattle.disk_core.specs.declared.disk.Disk as disk
 use Rattle.book_words.specs.declared.act.Entry.{Entry}
@@ -13,11 +13,11 @@ use Rattle.serve_run.specs.declared.stop.JobsStop.{JobsStop}
 use Rattle.serve_run.specs.declared.stop.JobsStop.TheVariants.{Finished}
 use Rattle.serve_run.specs.declared.stop.ServeStop.{ServeStop}
 use Rattle.serve_run.specs.declared.stop.ServeStop.TheVariants.{BadPlan, Early, Ran}
-use Rattle.serve_run.specs.Serving.{CountsJobs}
+use Rattle.serve_run.specs.Serving.{CountsJobs, SparesJobs}
 
 -- Jobs ran over a store. A whole run that had kept the rows of its disk until then keeps them, with
 -- all that the jobs added; the disk failed as the stop tells. Where all is done and rows were added,
--- a snapshot of them is on the disk.
+-- a snapshot of them is on the disk; where it didn't fail and none was added, it reads what it did.
 pub record RanOver {D : Type 0} (disk : disk.Ghosts D) (old new : Store D) (stop : JobsStop)
     : Type 0 where
   pub limit : limit_of new ≡ limit_of old
@@ -27,6 +27,9 @@ pub record RanOver {D : Type 0} (disk : disk.Ghosts D) (old new : Store D) (stop
       → HasKept disk held start None old → KeepsRun disk held start new
   pub snapshot : stop ≡ Finished → HasGrown (held_of old) (entries_of new)
       → HoldsOwnSnapshot disk new
+  pub still : SparesJobs (disk.faults (disk_of old)) (disk.faults (disk_of new)) stop
+      → held_of old ≤ length (entries_of old) → ¬ HasGrown (held_of old) (entries_of new)
+      → disk.reads (disk_of new) ≡ disk.reads (disk_of old)
 
 -- what `serve` that stopped so makes of its store: without a plan nothing, and before its jobs what
 -- any run does that stops so

@@ -1,5 +1,5 @@
 -- The jobs of a plan that was prepared, from its store to what is left.
-use Rattle.std.specs.Prelude.{◌≡◌, ◌⊎◌, ℕ, ◌<◌, ◌≤◌, Bool, false, List, [], vec_capacity}
+use Rattle.std.specs.Prelude.{◌≡◌, ◌⊎◌, ℕ, ◌<◌, ◌≤◌, Bool, false, true, List, [], vec_capacity}
 use Rattle.std.specs.declared.alloc.Global.{Global}
 use Rattle.std.specs.declared.vec.Vec.{Vec}
 use Rattle.device_facts.specs.Count.{counted, Counted}
@@ -8,7 +8,7 @@ use Rattle.book_words.specs.declared.act.Entry.{Entry}
 use Rattle.book_words.specs.Callers.{Known}
 use Rattle.book_store.specs.declared.store.Store.{Store}
 use Rattle.book_store.specs.Resting.{HoldsOwnSnapshot}
-use Rattle.book_store.specs.Stores.{disk_of, entries_of, limit_of, Hangs, IsSound}
+use Rattle.book_store.specs.Stores.{disk_of, entries_of, limit_of, spare_of, Hangs, IsSound}
 use Rattle.hall_plan.specs.declared.types.PlannedLane.{PlannedLane}
 use Rattle.lane_worker.specs.Works as lanes
 use Rattle.office_door.specs.Doors as doors
@@ -50,9 +50,9 @@ pub record RunsPlan {D L O : Type 0} (disk : disk.Ghosts D) (lane_at : Known →
   where
     pub jobs : List (Work L O)
     pub failed : ℕ
-    pub ran : HaveRun lane_at door_at (limit_of store) (entries_of store) (entries_of end.store)
-        failed (jobs_of plan given.lanes given.doors) jobs
-    pub history : OneHistory lane_at door_at (limit_of store) (entries_of store)
+    pub ran : HaveRun lane_at door_at (limit_of store) (spare_of store) (entries_of store)
+        (entries_of end.store) failed (jobs_of plan given.lanes given.doors) jobs
+    pub history : OneHistory lane_at door_at (limit_of store) (spare_of store) (entries_of store)
         (entries_of end.store) failed (jobs_of plan given.lanes given.doors) jobs
     pub back : handed_at end ≡ handed_back jobs
     pub faults : counted (disk.faults (disk_of store)) failed ≤ disk.faults (disk_of end.store)
@@ -89,7 +89,9 @@ CountsRest before now failed lack DiskFault =
     ((0 < failed) × (now ≡ before)) ⊎ Counted before now 1
 CountsRest before now failed lack WriteFault = ⊥
 
--- a snapshot is kept where nothing failed and rows were added; the rows stay as they are
+-- A snapshot is kept where nothing failed and rows were added; the rows stay as they are. The disk
+-- is untouched where a caller was answered that it failed, where memory was lacking, and where no
+-- rows were added.
 pub record RestsBehind {D : Type 0} (disk : disk.Ghosts D) (opened failed : ℕ) (lack : Bool)
     (old new : Store D) (stop : JobsStop) : Type 0 where
   pub same : entries_of new ≡ entries_of old
@@ -100,6 +102,8 @@ pub record RestsBehind {D : Type 0} (disk : disk.Ghosts D) (opened failed : ℕ)
       → KeepsRun disk held start old → KeepsRun disk held start new
   pub snapshot : stop ≡ Finished → ¬ Hangs old → HasGrown opened (entries_of old)
       → HoldsOwnSnapshot disk new
+  pub untouched : (0 < failed) ⊎ ((lack ≡ true) ⊎ (¬ HasGrown opened (entries_of old)))
+      → disk_of new ≡ disk_of old
 
 -- the text went out and it stops so, or it was cut
 abbrev pub Says : Stream → Stream → List ℕ → JobsStop → JobsStop → Type 0

@@ -1,9 +1,9 @@
 -- What comes before the jobs of a plan.
-use Rattle.std.specs.Prelude.{◌≡◌, ◌⊎◌, ⊤, ℕ, List, Ok}
+use Rattle.std.specs.Prelude.{◌≡◌, ◌⊎◌, ⊤, ℕ, ◌≤◌, List, Ok}
 use Rattle.disk_core.specs.declared.disk.Disk as disk
 use Rattle.book_words.specs.declared.act.Entry.{Entry}
 use Rattle.book_store.specs.declared.store.Store.{Store}
-use Rattle.book_store.specs.Stores.{entries_of, IsSound}
+use Rattle.book_store.specs.Stores.{entries_of, spare_of, IsSound}
 use Rattle.hall_plan.specs.declared.types.Plan.{Plan}
 use Rattle.hall_plan.specs.Limits.{IsWithinLimits}
 use Rattle.setup_run.specs.declared.planning.NoPlan.{NoPlan}
@@ -28,13 +28,15 @@ stop_without no_plan.BadPlan = BadPlan
 stop_without no_plan.ReadFault = Early stops.ReadFault
 stop_without no_plan.NoMemory = Early stops.NoMemory
 
--- the setup of a plan was asked over a store, which is sound and goes on, and here are its lanes
+-- the setup of a plan was asked over a store, which is sound and goes on, and has room for as many
+-- rows as the plan reserves; and here are its lanes
 pub record IsSetUpFor {D : Type 0} (disk : disk.Ghosts D) (store : Store D) (plan : Plan)
     (prepared : Prepared D) : Type 0 where
   pub asked : IsSetUp (stored_book store) plan.setup (entries_of prepared.store)
   pub lanes : prepared.lanes ≡ plan.lanes
   pub goes : Goes {T = ⊤} disk (Ok tt) store prepared.store
   pub sound : IsSound disk prepared.store
+  pub room : plan.reserve ≤ spare_of prepared.store
 
 -- a plan was read whole, and its setup was asked
 pub record IsPreparedFor {D : Type 0} (disk : disk.Ghosts D) (store : Store D) (count : ℕ)

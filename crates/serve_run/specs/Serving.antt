@@ -1,8 +1,8 @@
 -- What `serve` does over a book: the plan is read, its setup asked, and all jobs run; then come their
 -- lines and the summary.
-use Rattle.std.specs.Prelude.{◌≡◌, ◌⊎◌, ℕ, ◌≤◌, Bool, false, true, List, [], ◌++◌, ◌||◌, length}
+use Rattle.std.specs.Prelude.{◌≡◌, ◌⊎◌, ⊤, ℕ, ◌≤◌, Bool, false, true, List, [], ◌++◌, ◌||◌, length}
 use Rattle.std.specs.List.{list_any}
-use Rattle.device_facts.specs.Count.{counted, Rose}
+use Rattle.device_facts.specs.Count.{counted, Calm, Rose}
 use Rattle.book_words.specs.declared.act.Entry.{Entry}
 use Rattle.book_words.specs.Callers.{Known}
 use Rattle.book_words.specs.Views.{summary}
@@ -19,7 +19,7 @@ use Rattle.office_door.specs.Doors as doors
 use Rattle.store_runs.specs.declared.stop.Stop.{Stop}
 use Rattle.store_runs.specs.declared.stop.Stop.TheVariants as stops
 use Rattle.store_runs.specs.Books.{BookState}
-use Rattle.store_runs.specs.Runs.{CountsStop}
+use Rattle.store_runs.specs.Runs.{CountsStop, SparesDisk}
 use Rattle.text_streams.specs.Streams.{Stream, WroteAll, IsCutIn}
 use Rattle.session_history.specs.Histories.{OneHistory}
 use Rattle.session_jobs.specs.declared.work.Work.{Work}
@@ -73,8 +73,9 @@ SaysJobs before now text failed handed WriteFault = IsCutIn before now [] text
 SaysJobs before now text failed handed DiskFault = WroteAll before now text
 SaysJobs before now text failed handed NoMemory = WroteAll before now text × (failed ≡ 0)
 
--- The jobs of a plan ran. The plan is the whole input; its setup was asked in order, and behind the
--- rows that it left, the jobs made theirs, all at once. Each lane and each door was handed back with
+-- The jobs of a plan ran. The plan is the whole input; its setup was asked in order, room was made
+-- for at least as many rows as it reserves, and behind the rows that the setup left, the jobs made
+-- theirs, all at once. Each lane and each door was handed back with
 -- its end, in its order; the disk failed at least as often as callers were answered that it did.
 pub record HasRunPlan {L O : Type 0} (lane_at : Known → L → lanes.Site)
     (door_at : Known → O → doors.Site) (book : BookState) (before now : Moment L O)
@@ -83,11 +84,13 @@ pub record HasRunPlan {L O : Type 0} (lane_at : Known → L → lanes.Site)
   pub read : ReadsPlan (length before.handed.lanes) before.input now.input plan
   pub set_up : List Entry
   pub asked : IsSetUp book plan.setup set_up
+  pub spare : ℕ
+  pub room : plan.reserve ≤ spare
   pub jobs : List (Work L O)
   pub failed : ℕ
-  pub ran : HaveRun lane_at door_at book.limit set_up rows failed
+  pub ran : HaveRun lane_at door_at book.limit spare set_up rows failed
       (jobs_of plan.lanes before.handed.lanes before.handed.doors) jobs
-  pub history : OneHistory lane_at door_at book.limit set_up rows failed
+  pub history : OneHistory lane_at door_at book.limit spare set_up rows failed
       (jobs_of plan.lanes before.handed.lanes before.handed.doors) jobs
   pub back : now.handed ≡ handed_back jobs
   pub faults : counted before.faults failed ≤ now.faults
@@ -146,6 +149,19 @@ CountsJobs before now Finished = now ≡ before
 CountsJobs before now WriteFault = (now ≡ before) ⊎ Rose before now
 CountsJobs before now DiskFault = Rose before now
 CountsJobs before now NoMemory = now ≡ before
+
+-- the disk didn't fail, as jobs that stopped so tell; where the output was cut its count tells
+abbrev pub SparesJobs : ℕ → ℕ → JobsStop → Type 0
+SparesJobs before now Finished = ⊤
+SparesJobs before now WriteFault = Calm before now
+SparesJobs before now DiskFault = ⊥
+SparesJobs before now NoMemory = ⊤
+
+-- the same of a `serve` that stopped so
+abbrev pub SparesServe : ℕ → ℕ → ServeStop → Type 0
+SparesServe before now BadPlan = ⊤
+SparesServe before now (Early stop) = SparesDisk stop
+SparesServe before now (Ran stop) = SparesJobs before now stop
 
 -- the disk's count behind a `serve` that stopped so
 abbrev pub CountsServe : ℕ → ℕ → ServeStop → Type 0

@@ -1,5 +1,5 @@
 -- What was answered right in what a caller has seen is so in all rows, which go on from it.
-use Rattle.std.proofs.Common.{◌≡◌, ℕ, ◌+◌, ◌≤◌, List, [], ◌∷◌, ◌++◌, length, All, Option, Some, None, option_map, IsSome, Result, Ok, Err, refl, sym, ◌∙◌, ap, subst, arith, append_assoc, length-append}
+use Rattle.std.proofs.Common.{◌≡◌, ℕ, ◌+◌, ◌<◌, ◌≤◌, true, List, [], ◌∷◌, ◌++◌, length, All, Option, Some, None, option_map, IsSome, Result, Ok, Err, refl, sym, ◌∙◌, ap, subst, arith, append_assoc, length-append}
 use Rattle.std.proofs.lemmas.List.Elements.{All-append, All-cons, All-nil, All-same, All-weaker}
 use Rattle.std.specs.List.{cons_option}
 use Rattle.device_facts.specs.Prefix.{IsPrefixOf}
@@ -10,7 +10,7 @@ use Rattle.book_words.specs.declared.caller.AskError.TheVariants as error
 use Rattle.book_words.specs.declared.reply.Answered.{Answered}
 use Rattle.book_words.specs.declared.reply.Refused as refusals
 use Rattle.book_words.specs.Answers.{added}
-use Rattle.book_words.specs.Callers.{Known, IsRight, MayFindNoMemory, row_added}
+use Rattle.book_words.specs.Callers.{FAULTS_END, Known, IsRight, MayFindNoMemory, row_added}
 use Rattle.book_words.specs.Desks.{Row}
 use Rattle.book_words.proofs.RightAnswers.{right_in_longer, right_names}
 use Rattle.lane_worker.specs.declared.ending.Ending.{Ending}
@@ -21,7 +21,7 @@ use Rattle.office_door.specs.Exchanges.{Exchange, IsAnswered, IsAnsweredIn, IsLo
 use Rattle.office_door.proofs.Prefixes.{prefix_on}
 use Rattle.office_wire.specs.declared.types.OfficeAsk.{OfficeAsk}
 use Rattle.office_wire.specs.declared.types.OfficeAsk.TheVariants.{Ask, Bad, NoMemory}
-use Rattle.session_jobs.specs.Runs.{BrokeBefore, newcomer}
+use Rattle.session_jobs.specs.Runs.{BrokeBefore, AnyAsks, newcomer}
 use Rattle.session_history.specs.Replies.{IsErrorIn, NamesOwnRows}
 
 onto : (new : Option Entry) (after more : List Entry)
@@ -97,11 +97,12 @@ prefix_short a b begins = omega (arith, ap length begins.1, length-append a begi
 -- ---- errors
 
 -- an error to an ask of a caller is right in all rows, which go on from what it has seen then
-module _ (first last : Known) (rows : List Entry) (begins : IsPrefixOf last.seen rows)
-    (next : asks.Ask) where
-  own_error : (why : AskError) → BrokeBefore first last next why
-      → IsErrorIn last.limit last.by rows next why
-  own_error (error.Refused refused) broke = right_error
+module _ (room : ℕ) (first last : Known) (rows : List Entry)
+    (begins : IsPrefixOf last.seen rows) (answered : List asks.Ask) (next : asks.Ask) where
+  own_error : (why : AskError) → (why ≡ error.NoMemory → last.faults < FAULTS_END)
+      → BrokeBefore AnyAsks room first last answered next why
+      → IsErrorIn last.limit last.by room rows next why
+  own_error (error.Refused refused) few broke = right_error
     where
       by_limit : IsRight last.limit broke.between.by last.seen next (Err refused)
       by_limit = subst (λ (n : ℕ). IsRight n broke.between.by last.seen next (Err refused))
@@ -111,7 +112,7 @@ module _ (first last : Known) (rows : List Entry) (begins : IsPrefixOf last.seen
       right_error = right_on last.limit last.by last.seen rows begins next (Err refused)
           (subst (λ (n : ℕ). IsRight last.limit n last.seen next (Err refused))
           (sym broke.answer.by) by_limit)
-  own_error error.DiskFault broke = lost_error
+  own_error error.DiskFault few broke = lost_error
     where
       lost_error : IsLost last.limit last.by rows next IsSome None
       lost_error = record {
@@ -120,7 +121,10 @@ module _ (first last : Known) (rows : List Entry) (begins : IsPrefixOf last.seen
         cause = broke.answer.says.1;
         row_is = refl;
       }
-  own_error error.NoMemory broke = lost_error
+  own_error error.NoMemory few broke = (
+    lost_error,
+    λ weighing. omega (arith, broke.used refl weighing (few refl), prefix_short last.seen rows begins),
+  )
     where
       lost_error : IsLost last.limit last.by rows next (MayFindNoMemory next.want) None
       lost_error = record {
@@ -131,19 +135,23 @@ module _ (first last : Known) (rows : List Entry) (begins : IsPrefixOf last.seen
       }
 
   pub error_on : (limit by : ℕ) → last.limit ≡ limit → last.by ≡ by → (why : AskError)
-      → BrokeBefore first last next why → IsErrorIn limit by rows next why
-  error_on limit by same_limit same_by why broke =
-      subst (λ (n : ℕ). IsErrorIn n by rows next why) same_limit
-      (subst (λ (n : ℕ). IsErrorIn last.limit n rows next why) same_by
-      (own_error why broke))
+      → (why ≡ error.NoMemory → last.faults < FAULTS_END)
+      → BrokeBefore AnyAsks room first last answered next why
+      → IsErrorIn limit by room rows next why
+  error_on limit by same_limit same_by why few broke =
+      subst (λ (n : ℕ). IsErrorIn n by room rows next why) same_limit
+      (subst (λ (n : ℕ). IsErrorIn last.limit n room rows next why) same_by
+      (own_error why few broke))
 
 abbrev Named : refusals.Refused → Row → Type 0
 Named refused row = row.number ≤ refused.at
 
 -- a refusal names what its caller had seen before, and all rows of its own
-module _ (limit by : ℕ) (before : List Entry) (last : Known) (next : asks.Ask) where
+module _ (limit by room : ℕ) (before : List Entry) (last : Known) (answered : List asks.Ask)
+    (next : asks.Ask) where
   refused_names : (refused : refusals.Refused)
-      → BrokeBefore (newcomer limit before by) last next (error.Refused refused)
+      → BrokeBefore AnyAsks room (newcomer limit before by) last answered next
+      (error.Refused refused)
       → NamesOwnRows before last.mine (lane_stop.Refused refused)
   refused_names refused broke =
       let between = broke.between in
@@ -178,7 +186,8 @@ module _ (limit by : ℕ) (before : List Entry) (last : Known) (next : asks.Ask)
           All-cons (Named refused) (record { number = length front + 1; entry = entry }) []
           (omega (arith, at, length-append front (entry ∷ []))) (All-nil (Named refused))
 
-  pub error_names : (why : AskError) → BrokeBefore (newcomer limit before by) last next why
+  pub error_names : (why : AskError)
+      → BrokeBefore AnyAsks room (newcomer limit before by) last answered next why
       → NamesOwnRows before last.mine (stop_at why)
   error_names (error.Refused refused) broke = refused_names refused broke
   error_names error.DiskFault broke = tt

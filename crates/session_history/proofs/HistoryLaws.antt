@@ -27,7 +27,7 @@ use Rattle.session_history.proofs.OwnRows.{StandsAs, added_apart, added_stand, a
 use Rattle.book_store.specs.Callers.{own_rows}
 
 module _ {L O : Type 0} (weighs : cell.Ghosts L) (lifts : gate.Ghosts L) (reads : source.Ghosts O)
-    (connections : O → Option Connections) (limit : ℕ) (before rows : List Entry) (failed : ℕ)
+    (connections : O → Option Connections) (limit spare : ℕ) (before rows : List Entry) (failed : ℕ)
     (was now : List (Work L O)) where
   abbrev lane_at : Known → L → lanes.Site
   lane_at = lane_site weighs lifts
@@ -36,14 +36,14 @@ module _ {L O : Type 0} (weighs : cell.Ghosts L) (lifts : gate.Ghosts L) (reads 
   door_at = door_site reads connections
 
   module _ (apart : AllPairs (λ (v w : Work L O). number_of v ≢ number_of w) was)
-      (ran : HaveRun lane_at door_at limit before rows failed was now) (legal : IsLegal rows) where
-    made : AreShares weighs lifts reads connections limit before rows legal
+      (ran : HaveRun lane_at door_at limit spare before rows failed was now) (legal : IsLegal rows) where
+    made : AreShares weighs lifts reads connections limit spare before rows legal
         ran.runs
-    made = shares_of weighs lifts reads connections limit before rows legal
+    made = shares_of weighs lifts reads connections limit spare before rows legal
         ran.runs ran.each
 
     abbrev IsHere : Share L O → Type 0
-    IsHere = IsHeldShare weighs lifts reads connections limit before rows legal
+    IsHere = IsHeldShare weighs lifts reads connections limit spare before rows legal
 
     -- what follows of each share
     of_each : (K : Share L O → Type 0) → ((s : Share L O) → IsHere s → K s) → All K made.shares
@@ -127,7 +127,7 @@ module _ {L O : Type 0} (weighs : cell.Ghosts L) (lifts : gate.Ghosts L) (reads 
 
     -- Jobs that ran at once, each with a number of its own, over rows that are legal, make one
     -- history of them.
-    pub one_history : OneHistory lane_at door_at limit before rows failed was now
+    pub one_history : OneHistory lane_at door_at limit spare before rows failed was now
     one_history =
         record {
           shares = made.shares;
@@ -139,7 +139,9 @@ module _ {L O : Type 0} (weighs : cell.Ghosts L) (lifts : gate.Ghosts L) (reads 
           own = own;
           acts = of_each (λ s. AddsActs before rows (caller_of s) s.did) (λ s h. h.acts);
           others = others;
-          replies = of_each (λ s. RepliesRight limit rows (caller_of s) s.did) (λ s h. h.replies);
+          replies = of_each
+              (λ s. RepliesRight limit (spare + length before) rows (caller_of s) s.did)
+              (λ s h. h.replies);
           places = of_each (λ s. NamesWhatWasSeen before rows (caller_of s) s.did)
               (λ s h. h.places);
           stand = stand;

@@ -1,5 +1,5 @@
 -- What each job did, and that all of it is so in the rows that the session leaves.
-use Rattle.std.proofs.Common.{◌≡◌, ⊎_elim, inl, inr, ℕ, ◌+◌, min, List, [], ◌∷◌, ◌++◌, length, map, subst, All, Option, refl, sym, ◌∙◌, ap, arith}
+use Rattle.std.proofs.Common.{◌≡◌, ⊎_elim, inl, inr, ℕ, ◌+◌, ◌<◌, min, List, [], ◌∷◌, ◌++◌, length, map, subst, All, Option, refl, sym, ◌∙◌, ap, arith}
 use Rattle.std.specs.Bool.{⊤}
 use Rattle.std.proofs.lemmas.List.Elements.{All-cons, All-head, All-nil, All-tail}
 use Rattle.device_facts.specs.Prefix.{IsPrefixOf}
@@ -8,6 +8,8 @@ use Rattle.disk_core.specs.declared.source.Source as source
 use Rattle.disk_core.specs.Doors.{Connections}
 use Rattle.book_words.specs.declared.act.Ask.{Ask}
 use Rattle.book_words.specs.declared.act.Entry.{Entry}
+use Rattle.book_words.specs.declared.caller.AskError.{AskError}
+use Rattle.book_words.specs.declared.caller.AskError.TheVariants as error
 use Rattle.book_words.specs.Answers.{IsLegal}
 use Rattle.book_words.specs.Callers.{Known, FAULTS_END}
 use Rattle.book_words.specs.Desks.{Row}
@@ -26,7 +28,7 @@ use Rattle.session_jobs.specs.declared.work.DoorJob.{DoorJob}
 use Rattle.session_jobs.specs.declared.work.LaneJob.{LaneJob}
 use Rattle.session_jobs.specs.declared.work.Work.{Work}
 use Rattle.session_jobs.specs.declared.work.Work.TheVariants.{Lane, Door}
-use Rattle.session_jobs.specs.Runs.{BrokeBefore, HasRun, IsDoneBeside, Run, newcomer}
+use Rattle.session_jobs.specs.Runs.{BrokeBefore, HasRun, IsDoneBeside, Run, AnyAsks, newcomer}
 use Rattle.session_jobs.specs.Works.{IsDoorDone, IsLaneDone, door_site, lane_site, number_of}
 use Rattle.session_history.specs.Deeds.{Deed, Worked, Served, LaneDeed, DoorDeed, Share, HasDone, faults_of}
 use Rattle.session_history.specs.Gates.{OpensRight}
@@ -39,8 +41,11 @@ use Rattle.session_history.proofs.ToldVerdicts.{all_told}
 use Rattle.session_history.proofs.WorkedActs.{all_weighed, answered_all, answered_first}
 
 module _ {L O : Type 0} (weighs : cell.Ghosts L) (lifts : gate.Ghosts L) (reads : source.Ghosts O)
-    (connections : O → Option Connections) (limit : ℕ) (before rows : List Entry)
+    (connections : O → Option Connections) (limit spare : ℕ) (before rows : List Entry)
     (legal : IsLegal rows) where
+  abbrev room : ℕ
+  room = spare + length before
+
   abbrev lane_at : Known → L → lanes.Site
   lane_at = lane_site weighs lifts
 
@@ -52,7 +57,7 @@ module _ {L O : Type 0} (weighs : cell.Ghosts L) (lifts : gate.Ghosts L) (reads 
     pub done : HasDone lane_at door_at (newcomer limit before (number_of was)) known was now did
     pub own : AddsItsRows before rows (number_of was) did
     pub acts : AddsActs before rows (number_of was) did
-    pub replies : RepliesRight limit rows (number_of was) did
+    pub replies : RepliesRight limit room rows (number_of was) did
     pub places : NamesWhatWasSeen before rows (number_of was) did
     pub closings : TellsVerdicts rows (number_of was) did
     pub gates : OpensRight rows (number_of was) did
@@ -61,8 +66,8 @@ module _ {L O : Type 0} (weighs : cell.Ghosts L) (lifts : gate.Ghosts L) (reads 
 
   module _ (known : Known) (seen : IsPrefixOf known.seen rows) where
     module _ (was now : LaneJob L)
-        (done : IsLaneDone (λ asks. ⊤)
-        (λ answered next why. BrokeBefore (newcomer limit before was.number) known next why)
+        (done : IsLaneDone AnyAsks
+        (BrokeBefore AnyAsks room (newcomer limit before was.number) known)
         lane_at (newcomer limit before was.number) known was now)
         (own : own_rows was.number rows ≡ own_rows was.number before ++ known.mine) where
       abbrev lane_deed : LaneDeed
@@ -71,7 +76,15 @@ module _ {L O : Type 0} (weighs : cell.Ghosts L) (lifts : gate.Ghosts L) (reads 
       abbrev asks : List Ask
       asks = asks_of_work was.number was.batch done.works.work
 
-      ends_right : EndsRight limit rows was.number lane_deed
+      -- a worker that found no memory was answered no fault
+      no_faults : (why : AskError) → done.end.stop ≡ stop_at why → why ≡ error.NoMemory
+          → known.faults < FAULTS_END
+      no_faults why told is =
+          let none : faults_at done.end.stop ≡ 0 =
+          ap faults_at (told ∙ ap stop_at is) in
+          omega (arith, done.works.faults, none)
+
+      ends_right : EndsRight limit room rows was.number lane_deed
       ends_right = ⊎_elim
           (λ f. inl (record {
             ending = f.ending;
@@ -85,8 +98,9 @@ module _ {L O : Type 0} (weighs : cell.Ghosts L) (lifts : gate.Ghosts L) (reads 
             why = b.why;
             told = b.told;
             first = b.first;
-            broke = error_on (newcomer limit before was.number) known rows seen b.next limit was.number done.works.added.limit
-                done.works.added.by b.why b.broke;
+            broke = error_on room (newcomer limit before was.number) known rows seen
+                done.works.work.answered b.next limit was.number done.works.added.limit
+                done.works.added.by b.why (no_faults b.why b.told) b.broke;
           })) done.works.stops
 
       names_own : NamesOwnRows before done.works.work.rows done.end.stop
@@ -95,7 +109,8 @@ module _ {L O : Type 0} (weighs : cell.Ghosts L) (lifts : gate.Ghosts L) (reads 
           (finish_names before done.works.work.rows f.ending))
           (λ b. subst (NamesOwnRows before done.works.work.rows) (sym b.told)
           (subst (λ (own : List Row). NamesOwnRows before own (stop_at b.why)) done.works.added.mine
-          (error_names limit was.number before known b.next b.why b.broke))) done.works.stops
+          (error_names limit was.number room before known done.works.work.answered b.next b.why
+          b.broke))) done.works.stops
 
       pub lane_held : IsHeld known (Lane was) (Lane now) (Worked lane_deed)
       lane_held =
@@ -123,7 +138,7 @@ module _ {L O : Type 0} (weighs : cell.Ghosts L) (lifts : gate.Ghosts L) (reads 
                   (answered_all _ _ asks work done.end.stop is.stops whole);
             };
             replies = ends_right;
-            places = (stand, names_own);
+            places = (stand, names_own, is.places);
             closings = tt;
             gates = record {
               all = is.opened.passed;
@@ -142,7 +157,7 @@ module _ {L O : Type 0} (weighs : cell.Ghosts L) (lifts : gate.Ghosts L) (reads 
           }
 
     module _ (was now : DoorJob O)
-        (done : IsDoorDone (λ asks. ⊤) door_at
+        (done : IsDoorDone AnyAsks door_at
         (newcomer limit before (MAX_LANE + was.number)) known was now)
         (own : own_rows (MAX_LANE + was.number) rows
         ≡ own_rows (MAX_LANE + was.number) before ++ known.mine) where
@@ -182,7 +197,7 @@ module _ {L O : Type 0} (weighs : cell.Ghosts L) (lifts : gate.Ghosts L) (reads 
           }
 
     held : (was now : Work L O)
-        → IsDoneBeside lane_at door_at (newcomer limit before (number_of was)) known was now
+        → IsDoneBeside room lane_at door_at (newcomer limit before (number_of was)) known was now
         → own_rows (number_of was) rows ≡ own_rows (number_of was) before ++ known.mine
         → (did : Deed) × IsHeld known was now did
     held (Lane was) (Lane now) done own =
@@ -204,12 +219,13 @@ module _ {L O : Type 0} (weighs : cell.Ghosts L) (lifts : gate.Ghosts L) (reads 
     pub held : All IsHeldShare shares
 
   pub shares_of : (runs : List (Run L O))
-      → All (HasRun lane_at door_at limit before rows) runs → AreShares runs
+      → All (HasRun lane_at door_at limit spare before rows) runs → AreShares runs
   shares_of [] each = record { shares = []; runs_are = refl; held = All-nil IsHeldShare }
   shares_of (run ∷ runs) each =
-      let one = All-head (HasRun lane_at door_at limit before rows) run runs each in
+      let one = All-head (HasRun lane_at door_at limit spare before rows) run runs each in
       let did = held run.known one.seen run.was run.now one.done one.own in
-      let rest = shares_of runs (All-tail (HasRun lane_at door_at limit before rows) run runs each) in
+      let rest = shares_of runs
+      (All-tail (HasRun lane_at door_at limit spare before rows) run runs each) in
       let share : Share L O = record { run = run; did = did.0 } in
       record {
         shares = share ∷ rest.shares;

@@ -15,9 +15,9 @@ use Rattle.session_history.specs.Replies.{RepliesRight, NamesWhatWasSeen, TellsV
 use Rattle.session_history.specs.Rows.{AddsActs, AddsItsRows, HaveOwnNumbers, NobodyElse, StandsIn, acknowledged}
 
 -- Whatever the jobs of a session did at once, over a book of so many rows at most that began with
--- the rows `before`: `rows` is one history of them all.
+-- the rows `before` and with room for `spare` more: `rows` is one history of them all.
 pub record OneHistory {L O : Type 0} (lane_at : Known → L → lanes.Site)
-    (door_at : Known → O → doors.Site) (limit : ℕ) (before rows : List Entry) (failed : ℕ)
+    (door_at : Known → O → doors.Site) (limit spare : ℕ) (before rows : List Entry) (failed : ℕ)
     (was now : List (Work L O)) : Type 0 where
   pub shares : List (Share L O)
   pub jobs_before : map (λ (s : Share L O). s.run.was) shares ≡ was
@@ -31,8 +31,9 @@ pub record OneHistory {L O : Type 0} (lane_at : Known → L → lanes.Site)
   pub own : OfEach (AddsItsRows before rows) shares
   pub acts : OfEach (AddsActs before rows) shares
   pub others : NobodyElse before rows shares
-  -- every reply is the book's answer to the prefix that it names
-  pub replies : OfEach (RepliesRight limit rows) shares
+  -- every reply is the book's answer to the prefix that it names; a weighing finds no memory only
+  -- where the room is used up
+  pub replies : OfEach (RepliesRight limit (spare + length before) rows) shares
   -- which holds all that its caller was told before
   pub places : OfEach (NamesWhatWasSeen before rows) shares
   -- each acknowledged reading stands once, as all acknowledged rows do, and they are as many as the

@@ -1,5 +1,5 @@
 -- What was answered in a session, held against the rows that it leaves.
-use Rattle.std.specs.Prelude.{◌≡◌, ◌⊎◌, ⊤, ℕ, ◌≤◌, List, length, All, Option, Some, None, IsSome, Result, Ok, Err}
+use Rattle.std.specs.Prelude.{◌≡◌, ◌⊎◌, ⊤, ℕ, ◌≤◌, true, List, length, All, Option, Some, None, IsSome, Result, Ok, Err}
 use Rattle.book_words.specs.declared.act.Act.TheVariants.{Close}
 use Rattle.book_words.specs.declared.act.Ask.{Ask}
 use Rattle.book_words.specs.declared.act.Entry.{Entry}
@@ -15,30 +15,34 @@ use Rattle.book_words.specs.Desks.{Row}
 use Rattle.book_words.specs.Verdicts.{verdict_of}
 use Rattle.lane_worker.specs.declared.ending.LaneStop.{LaneStop}
 use Rattle.lane_worker.specs.declared.ending.LaneStop.TheVariants as stop
-use Rattle.lane_worker.specs.Works.{StandBehind, Finishes, BreaksOff, asks_of_work}
+use Rattle.lane_worker.specs.Works.{StandBehind, Finishes, BreaksOff, NamesAsked, asks_of_work}
 use Rattle.office_door.specs.Doors.{all_exchanges}
 use Rattle.office_door.specs.Exchanges.{Exchange, IsAnsweredIn, IsLost, NeverFall, places_of}
 use Rattle.office_door.specs.Served.{Visit, IsServed}
 use Rattle.office_wire.specs.declared.types.OfficeAsk.{OfficeAsk}
 use Rattle.office_wire.specs.declared.types.OfficeAsk.TheVariants as office
+use Rattle.session_jobs.specs.Sessions.{weighs}
 use Rattle.session_history.specs.Deeds.{Deed, Worked, Served, LaneDeed}
 
 -- An error to an ask is right in a list. A refusal is the book's answer over the entries that it
 -- names, with which the list begins. The disk failed only where an entry would have been added
--- behind such entries; so did memory, but for a question for a sample.
-abbrev pub IsErrorIn : ℕ → ℕ → List Entry → Ask → AskError → Type 0
-IsErrorIn limit by rows ask (error.Refused refused) = IsRight limit by rows ask (Err refused)
-IsErrorIn limit by rows ask error.DiskFault = IsLost limit by rows ask IsSome None
-IsErrorIn limit by rows ask error.NoMemory =
+-- behind such entries; so did memory, but for a question for a sample, and at a weighing only where
+-- there are `room` rows at least.
+abbrev pub IsErrorIn : ℕ → ℕ → ℕ → List Entry → Ask → AskError → Type 0
+IsErrorIn limit by room rows ask (error.Refused refused) = IsRight limit by rows ask (Err refused)
+IsErrorIn limit by room rows ask error.DiskFault = IsLost limit by rows ask IsSome None
+IsErrorIn limit by room rows ask error.NoMemory =
     IsLost limit by rows ask (MayFindNoMemory ask.want) None
+    × (weighs ask.want ≡ true → room ≤ length rows)
 
 -- How a lane's work ended is right: all that its worker was to ask was answered; or the next had an
 -- error, which is kept in its end, and right in these rows.
-abbrev pub EndsRight : ℕ → List Entry → ℕ → LaneDeed → Type 0
-EndsRight limit rows lane did =
+abbrev pub EndsRight : ℕ → ℕ → List Entry → ℕ → LaneDeed → Type 0
+EndsRight limit room rows lane did =
     let asks = asks_of_work lane did.batch did.work in
     Finishes (λ answered. ⊤) asks did.work did.end.stop
-    ⊎ BreaksOff (λ answered next why. IsErrorIn limit lane rows next why) asks did.work did.end.stop
+    ⊎ BreaksOff (λ answered next why. IsErrorIn limit lane room rows next why) asks did.work
+    did.end.stop
 
 -- What a door wrote is right: on each connection one response for each request, in order, the last
 -- perhaps cut by its link; and each is the text of an answer that is right in these rows, or of a
@@ -48,9 +52,9 @@ pub record RespondsRight (limit by : ℕ) (rows : List Entry) (visits : List Vis
   pub right : All (IsAnsweredIn limit by rows) (all_exchanges visits)
 
 -- every reply of a job is right in these rows
-abbrev pub RepliesRight : ℕ → List Entry → ℕ → Deed → Type 0
-RepliesRight limit rows lane (Worked did) = EndsRight limit rows lane did
-RepliesRight limit rows by (Served did) = RespondsRight limit by rows did.visits
+abbrev pub RepliesRight : ℕ → ℕ → List Entry → ℕ → Deed → Type 0
+RepliesRight limit room rows lane (Worked did) = EndsRight limit room rows lane did
+RepliesRight limit room rows by (Served did) = RespondsRight limit by rows did.visits
 
 -- a refusal that is kept in a worker's end names at least the rows of before, and the worker's own
 abbrev pub NamesOwnRows : List Entry → List Row → LaneStop → Type 0
@@ -60,11 +64,12 @@ NamesOwnRows before own _ = Unit {0}
 
 -- The places that a door's answers name never fall, and none is before the rows of before. A worker's
 -- rows stand behind all that it had seen when it was told of its lane, each behind the one before;
--- and a refusal that ended its work names them all.
+-- and a refusal that ended its work names all of these.
 abbrev pub NamesWhatWasSeen : List Entry → List Entry → ℕ → Deed → Type 0
 NamesWhatWasSeen before rows lane (Worked did) =
     StandBehind rows lane (length did.work.asked) did.work.rows
     × NamesOwnRows before did.work.rows did.end.stop
+    × NamesAsked did.work.asked did.end.stop
 NamesWhatWasSeen before rows by (Served did) =
     NeverFall (length before) (places_of (all_exchanges did.visits)) (length rows)
 

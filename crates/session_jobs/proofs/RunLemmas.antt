@@ -18,7 +18,7 @@ use Rattle.book_words.specs.declared.act.Entry.{Entry}
 use Rattle.book_words.specs.Callers.{Known, FAULTS_END}
 use Rattle.book_store.specs.Callers.{own_rows}
 use Rattle.book_store.specs.declared.store.Store.{Store}
-use Rattle.book_store.specs.Stores.{disk_of, entries_of, limit_of, Hangs, IsSound}
+use Rattle.book_store.specs.Stores.{disk_of, entries_of, limit_of, spare_of, Hangs, IsSound}
 use Rattle.lane_worker.specs.declared.cell.Cell as cell
 use Rattle.lane_worker.specs.declared.gate.Gate as gate
 use Rattle.lane_worker.specs.Works as lanes
@@ -28,7 +28,7 @@ use Rattle.shared_book.specs.Names.session
 use Rattle.shared_book.specs.Sessions.{Begins}
 use Rattle.shared_book.specs.Closing.{IsCalm, MakeRows}
 use Rattle.shared_book.specs.Locked.{IsNewSeat}
-use Rattle.shared_book.specs.Passes.{IsPassOf, entries_in, known_of, row_of}
+use Rattle.shared_book.specs.Passes.{IsPassOf, HasNoted, entries_in, known_of, room_of, row_of}
 use Rattle.turn_pass.specs.History.{BookState, PassState, TurnState, opening, newcomer as new_pass}
 use Rattle.session_jobs.specs.declared.begin.JobsEnd.{JobsEnd}
 use Rattle.session_jobs.specs.declared.job.Job.{Job}
@@ -37,7 +37,7 @@ use Rattle.session_jobs.specs.Ends.{EndsSession, HasEnded}
 use Rattle.session_jobs.specs.Jobs.{IsReady, IsRun, new_job, with_passes}
 use Rattle.session_jobs.specs.Runs.{newcomer, IsDoneBeside, Run, HasRun, HaveRun, faults_answered}
 use Rattle.session_jobs.specs.Works.{number_of, lane_site, door_site}
-use Rattle.session_jobs.proofs.WorkLemmas.{by_stays}
+use Rattle.session_jobs.proofs.WorkLemmas.{by_stays, forgets}
 
 -- ---- lists
 
@@ -119,7 +119,7 @@ module _ {N L O : Type 0} (session : session.Ghosts N) (weighs : cell.Ghosts L)
 
   -- a job that was run, and how, by a caller of the session
   abbrev DoneIn : Run L O → Type 0
-  DoneIn r = IsDoneBeside lane_at door_at
+  DoneIn r = IsDoneBeside (room_of session) lane_at door_at
       (newcomer session.limit session.before (number_of r.was)) r.known r.was r.now
 
   -- the runs of works, with the passes of their callers at the end and the works behind
@@ -145,16 +145,19 @@ module _ {N L O : Type 0} (session : session.Ghosts N) (weighs : cell.Ghosts L)
   module _ (seat : BookState Entry) (empty : seat.list ≡ []) where
     one_done : {A B : Type 0} (work : Work L O) (job : Job L O A B) (pass : PassState Entry)
         → IsRun {A = A} {B = B} session lane_at door_at (new_job seat work) job → Some pass ≡ job.seat
-        → IsDoneBeside lane_at door_at
+        → IsDoneBeside (room_of session) lane_at door_at
         (newcomer session.limit session.before (number_of work)) (known_of session pass) work job.work
     one_done work job pass is seated =
         let first : is.first ≡ new_pass seat (number_of work) =
         let same : Some (new_pass seat (number_of work)) ≡ Some is.first = is.seat_before in cc in
         let last : is.last ≡ pass = let same : Some pass ≡ Some is.last = seated ∙ is.seat_behind in cc in
-        subst (λ (k : Known). IsDoneBeside lane_at door_at k (known_of session pass) work job.work)
+        subst (λ (k : Known). IsDoneBeside (room_of session) lane_at door_at k
+        (known_of session pass) work job.work)
         (ap (known_of session) first ∙ fresh seat (number_of work) empty)
-        (subst (λ (p : PassState Entry). IsDoneBeside lane_at door_at (known_of session is.first)
-        (known_of session p) work job.work) last is.done)
+        (subst (λ (p : PassState Entry). IsDoneBeside (room_of session) lane_at door_at
+        (known_of session is.first) (known_of session p) work job.work) last
+        (forgets (HasNoted is.first.notes is.last.notes) (room_of session) lane_at door_at
+        (known_of session is.first) (known_of session is.last) work job.work is.done))
 
     matched : {A B : Type 0} (works : List (Work L O)) (behind : List (Job L O A B)) (ends : List (PassState Entry))
         → AllZip (IsRun session lane_at door_at) (map (new_job seat) works) behind
@@ -259,7 +262,7 @@ module _ {N L O : Type 0} (session : session.Ghosts N) (weighs : cell.Ghosts L)
       (made : MakeRows session.before rows ends) where
     by_right : All (λ (r : Run L O). r.known.by ≡ number_of r.was) m.runs
     by_right = All-weaker DoneIn (λ (r : Run L O). r.known.by ≡ number_of r.was)
-        (λ r done. by_stays weighs lifts reads connections
+        (λ r done. by_stays (room_of session) weighs lifts reads connections
         (newcomer session.limit session.before (number_of r.was)) r.known r.was r.now done)
         m.runs m.done
 
@@ -290,7 +293,7 @@ module _ {N L O : Type 0} (session : session.Ghosts N) (weighs : cell.Ghosts L)
         ∙ (sym (map_twice number_of (λ (r : Run L O). r.was) m.runs)
         ∙ ap (map number_of) m.was))))
 
-    each_right : All (HasRun lane_at door_at session.limit session.before rows) m.runs
+    each_right : All (HasRun lane_at door_at session.limit session.spare session.before rows) m.runs
     each_right k d inside =
         let r : Run L O = get_or m.runs k d in
         let by = by_right k d inside in
@@ -336,12 +339,20 @@ module _ {N L O : Type 0} (session : session.Ghosts N) (weighs : cell.Ghosts L)
     settled_right is = let told = ended.told in
         let none : booked ≡ 0 = omega arith in (ended.calm none).settled
 
+    -- where none was answered a fault and no row was added, the disk reads what it did
+    pub still_right : failed ≡ 0 → length (entries_of last) ≤ length (entries_of first)
+        → disk.reads (disk_of last) ≡ disk.reads (disk_of first)
+    still_right is few = let told = ended.told in
+        let none : booked ≡ 0 = omega arith in
+        let same : length session.before ≡ length (entries_of first) = ap length begins.rows in
+        (ended.calm none).still (omega (arith, few, same)) ∙ begins.reads
+
   pub have_run : {D A B : Type 0} (disk : disk.Ghosts D) (first last : Store D) → Begins disk session first
       → (seat : BookState Entry) → seat.list ≡ [] → (works behind : List (Work L O)) (failed : ℕ)
       → HasEnded {A = A} {B = B} disk session lane_at door_at (map (new_job seat) works) last behind
       failed
-      → HaveRun lane_at door_at (limit_of first) (entries_of first) (entries_of last) failed works
-      behind
+      → HaveRun lane_at door_at (limit_of first) (spare_of first) (entries_of first)
+      (entries_of last) failed works behind
   have_run {D} {A} {B} disk first last begins seat empty works behind failed ended =
       let jobs : List (Work L O) = map (λ (j : Job L O A B). j.work) ended.behind in
       let m : Matched works ended.ends jobs =
@@ -356,10 +367,12 @@ module _ {N L O : Type 0} (session : session.Ghosts N) (weighs : cell.Ghosts L)
         runs = m.runs;
         jobs_before = m.was;
         jobs_behind = m.now ∙ sym ended.works_are;
-        each = subst (λ (n : ℕ). All (HasRun lane_at door_at n (entries_of first) rows) m.runs)
-            begins.limit
-            (subst (λ (es : List Entry). All (HasRun lane_at door_at session.limit es rows) m.runs)
-            begins.rows each);
+        each = subst (λ (n : ℕ). All (HasRun lane_at door_at n (spare_of first) (entries_of first)
+            rows) m.runs) begins.limit
+            (subst (λ (n : ℕ). All (HasRun lane_at door_at session.limit n (entries_of first) rows)
+            m.runs) begins.spare
+            (subst (λ (es : List Entry). All (HasRun lane_at door_at session.limit session.spare es
+            rows) m.runs) begins.rows each));
         begins = subst (λ (es : List Entry). IsPrefixOf es rows) begins.rows
             (ended.rows.made, ended.rows.parts);
         total = subst (λ (es : List Entry). length rows
@@ -388,6 +401,7 @@ module _ {L O : Type 0} (weighs : cell.Ghosts L) (lifts : gate.Ghosts L) (reads 
         unbegun = λ unbegun. record { store_left = refl; jobs_left = refl; calm = refl };
         faults = refl;
         settled = λ none. calm;
+        still = λ none few. refl;
         sound = sound;
         balanced = balanced (entries_of store);
         limit = refl;
@@ -410,6 +424,8 @@ module _ {L O : Type 0} (weighs : cell.Ghosts L) (lifts : gate.Ghosts L) (reads 
         faults = failed_right session weighs lifts reads connections disk first last begins
             (map (new_job seat) jobs.items) behind.items failed ended;
         settled = settled_right session weighs lifts reads connections disk first last begins
+            (map (new_job seat) jobs.items) behind.items failed ended;
+        still = still_right session weighs lifts reads connections disk first last begins
             (map (new_job seat) jobs.items) behind.items failed ended;
         sound = ended.kept.sound;
         balanced = ended.kept.balanced;

@@ -1,28 +1,34 @@
 -- A work that was done, as it looks beside other callers.
-use Rattle.std.specs.Prelude.{⊤}
-use Rattle.std.proofs.Common.{◌≡◌, ◌⊎◌, inl, inr, ⊎_elim, ℕ, List, Option}
+use Rattle.std.proofs.Common.{◌≡◌, ◌⊎◌, inl, inr, ⊎_elim, ℕ, ◌+◌, ◌<◌, ◌≤◌, min, true, false, List, length, Option, Err, refl, arith}
 use Rattle.disk_core.specs.declared.source.Source as source
 use Rattle.disk_core.specs.Doors.{Connections}
 use Rattle.book_words.specs.declared.act.Ask.{Ask}
+use Rattle.book_words.specs.declared.act.Want.{Want}
+use Rattle.book_words.specs.declared.act.Want.TheVariants as want
 use Rattle.book_words.specs.declared.caller.AskError.{AskError}
-use Rattle.book_words.specs.Callers.{Known}
+use Rattle.book_words.specs.declared.caller.AskError.TheVariants as error
+use Rattle.book_words.specs.Callers.{Known, FAULTS_END, HasNoAnswer, IsAsked, MayFindNoMemory, entry_offered}
 use Rattle.lane_worker.specs.declared.cell.Cell as cell
 use Rattle.lane_worker.specs.declared.gate.Gate as gate
 use Rattle.lane_worker.specs.Works as lanes
 use Rattle.lane_worker.specs.Works.{Finishes, BreaksOff}
 use Rattle.office_door.specs.Doors as doors
+use Rattle.shared_book.specs.Passes.{FoundNoMemory, HasUsedRoom}
+use Rattle.shared_book.specs.Sessions.{weighs}
 use Rattle.session_jobs.specs.declared.work.Work.{Work}
 use Rattle.session_jobs.specs.declared.work.Work.TheVariants.{Lane, Door}
 use Rattle.session_jobs.specs.Works.{lane_site, door_site, IsDone}
-use Rattle.session_jobs.specs.Runs.{BrokeBefore, IsDoneBeside}
+use Rattle.session_jobs.specs.Runs.{BrokeBefore, IsDoneBeside, IsDoneBy, AnyAsks}
 
--- what the asks of a caller were may be forgotten, but for the error that it broke off at
-module _ {L O : Type 0} (Reached : List Ask → Type 0) (Broke : List Ask → Ask → AskError → Type 0)
+-- of what the asks of a caller were this may be told instead
+module _ {L O : Type 0} (Reached Told : List Ask → Type 0)
+    (Broke : List Ask → Ask → AskError → Type 0) (room : ℕ)
     (lane_at : Known → L → lanes.Site) (door_at : Known → O → doors.Site) (first last : Known)
+    (told : (asks : List Ask) → Reached asks → Told asks)
     (broke : (answered : List Ask) (next : Ask) (why : AskError) → Broke answered next why
-    → BrokeBefore first last next why) where
+    → BrokeBefore Told room first last answered next why) where
   pub beside : (was now : Work L O) → IsDone Reached Broke lane_at door_at first last was now
-      → IsDoneBeside lane_at door_at first last was now
+      → IsDoneBy Told room lane_at door_at first last was now
   beside (Lane was) (Lane now) done =
       let is = done.works in
       record {
@@ -38,6 +44,7 @@ module _ {L O : Type 0} (Reached : List Ask → Type 0) (Broke : List Ask → As
           given = is.given;
           opened = is.opened;
           count = is.count;
+          places = is.places;
           accepted = is.accepted;
           done = is.done;
           stops = ⊎_elim
@@ -46,7 +53,7 @@ module _ {L O : Type 0} (Reached : List Ask → Type 0) (Broke : List Ask → As
                 ended = f.ended;
                 told = f.told;
                 whole = f.whole;
-                later = tt;
+                later = told is.work.answered f.later;
               }))
               (λ b. inr (record {
                 next = b.next;
@@ -73,7 +80,7 @@ module _ {L O : Type 0} (Reached : List Ask → Type 0) (Broke : List Ask → As
             each = is.has.each;
             answered = record {
               seen = answered.seen;
-              asked = tt;
+              asked = told _ answered.asked;
               right = answered.right;
               places = answered.places;
               mine = answered.mine;
@@ -90,15 +97,59 @@ module _ {L O : Type 0} (Reached : List Ask → Type 0) (Broke : List Ask → As
         };
       }
 
+-- what they were may be forgotten
+pub forgets : {L O : Type 0} (Reached : List Ask → Type 0) (room : ℕ)
+    (lane_at : Known → L → lanes.Site) (door_at : Known → O → doors.Site) (first last : Known)
+    (was now : Work L O) → IsDoneBy Reached room lane_at door_at first last was now
+    → IsDoneBeside room lane_at door_at first last was now
+forgets Reached room lane_at door_at first last was now =
+    beside Reached AnyAsks (BrokeBefore Reached room first last) room lane_at door_at first last
+    (λ asks reached. tt)
+    (λ answered next why broke. record {
+      between = broke.between;
+      before = broke.before;
+      reached = tt;
+      answer = broke.answer;
+      used = broke.used;
+    }) was now
+
 -- a caller keeps its number at its work
-pub by_stays : {L O : Type 0} (weighs : cell.Ghosts L) (lifts : gate.Ghosts L)
+pub by_stays : {L O : Type 0} (room : ℕ) (weighs : cell.Ghosts L) (lifts : gate.Ghosts L)
     (reads : source.Ghosts O) (connections : O → Option Connections) (first last : Known)
     (was now : Work L O)
-    → IsDoneBeside (lane_site weighs lifts) (door_site reads connections) first last was now
+    → IsDoneBeside room (lane_site weighs lifts) (door_site reads connections) first last was now
     → last.by ≡ first.by
-by_stays weighs lifts reads connections first last (Lane was) (Lane now) done =
+by_stays room weighs lifts reads connections first last (Lane was) (Lane now) done =
     done.works.added.by
-by_stays weighs lifts reads connections first last (Lane was) (Door now) done = absurd done
-by_stays weighs lifts reads connections first last (Door was) (Lane now) done = absurd done
-by_stays weighs lifts reads connections first last (Door was) (Door now) done =
+by_stays room weighs lifts reads connections first last (Lane was) (Door now) done = absurd done
+by_stays room weighs lifts reads connections first last (Door was) (Lane now) done = absurd done
+by_stays room weighs lifts reads connections first last (Door was) (Door now) done =
     done.serves.has.answered.by
+
+-- ---- want of memory
+
+-- a weighing that was answered that there is no memory shows it in what is known of its caller
+shows : (between last : Known) (next : Ask) (w : Want) → next.want ≡ w
+    → HasNoAnswer between last → MayFindNoMemory w (entry_offered last next)
+    → last.faults ≡ min (between.faults + 0) FAULTS_END → last.faults < FAULTS_END
+    → weighs w ≡ true → FoundNoMemory between last next
+shows between last next (want.Act act) is silent may faults few weighing =
+    record {
+      offered = may;
+      mine = silent.mine;
+      faults = omega (arith, faults, few);
+      counted = few;
+    }
+shows between last next (want.Question question) is silent may faults few weighing =
+    absurd (let never : false ≡ true = weighing in cc)
+
+-- it found none only where the room was used up
+pub lacked : (room : ℕ) (between last : Known) (next : Ask) (why : AskError)
+    → IsAsked between last next (Err why) → HasUsedRoom room between last next
+    → why ≡ error.NoMemory → weighs next.want ≡ true → last.faults < FAULTS_END
+    → room ≤ length last.seen
+lacked room between last next error.NoMemory asked used is weighing few =
+    used (shows between last next next.want refl asked.says.0 asked.says.1 asked.faults few
+    weighing) weighing
+lacked room between last next error.DiskFault asked used is weighing few = absurd (cc)
+lacked room between last next (error.Refused refused) asked used is weighing few = absurd (cc)

@@ -1,5 +1,5 @@
 -- How a session ends, as it is told by its names.
-use Rattle.std.specs.Prelude.{◌≡◌, ℕ, ◌<◌, min, true, false, List, Some, map}
+use Rattle.std.specs.Prelude.{◌≡◌, ℕ, ◌<◌, ◌≤◌, min, true, false, List, Some, length, map}
 use Rattle.std.specs.declared.alloc.Global.{Global}
 use Rattle.std.specs.declared.vec.Vec.{Vec}
 use Rattle.std.specs.List.{AllZip, sum_by}
@@ -9,7 +9,7 @@ use Rattle.book_words.specs.declared.act.Entry.{Entry}
 use Rattle.book_words.specs.Callers.{Known}
 use Rattle.book_store.specs.declared.store.Store.{Store}
 use Rattle.book_words.specs.Balance.{IsBalanced}
-use Rattle.book_store.specs.Stores.{disk_of, entries_of, limit_of, Hangs, IsSound}
+use Rattle.book_store.specs.Stores.{disk_of, entries_of, limit_of, spare_of, Hangs, IsSound}
 use Rattle.lane_worker.specs.Works as lanes
 use Rattle.office_door.specs.Doors as doors
 use Rattle.office_door.specs.Doors.{FailedSoOften}
@@ -50,12 +50,14 @@ pub record HasEnded {D N L O A B : Type 0} (disk : disk.Ghosts D) (session : ses
 pub record EndsSession {D L O : Type 0} (disk : disk.Ghosts D) (lane_at : Known → L → lanes.Site)
     (door_at : Known → O → doors.Site) (store : Store D) (jobs : Vec (Work L O) Global)
     (end : JobsEnd D L O) : Type 0 where
-  pub ran : end.ran ≡ true → HaveRun lane_at door_at (limit_of store) (entries_of store)
-      (entries_of end.store) end.faults jobs.items end.jobs.items
+  pub ran : end.ran ≡ true → HaveRun lane_at door_at (limit_of store) (spare_of store)
+      (entries_of store) (entries_of end.store) end.faults jobs.items end.jobs.items
   pub unbegun : end.ran ≡ false → IsUnbegun store jobs end
   pub faults : FailedSoOften (disk.faults (disk_of store)) (disk.faults (disk_of end.store))
       end.faults
   pub settled : end.faults ≡ 0 → ¬ Hangs end.store
+  pub still : end.faults ≡ 0 → length (entries_of end.store) ≤ length (entries_of store)
+      → disk.reads (disk_of end.store) ≡ disk.reads (disk_of store)
   pub sound : IsSound disk end.store
   pub balanced : IsBalanced (entries_of end.store)
   pub limit : limit_of end.store ≡ limit_of store

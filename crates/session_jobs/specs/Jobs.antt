@@ -5,12 +5,12 @@ use Rattle.book_words.specs.Callers.{Known}
 use Rattle.lane_worker.specs.Works as lanes
 use Rattle.office_door.specs.Doors as doors
 use Rattle.shared_book.specs.Names.session
-use Rattle.shared_book.specs.Passes.{IsPassOf, known_of}
+use Rattle.shared_book.specs.Passes.{IsPassOf, HasNoted, known_of, room_of}
 use Rattle.turn_pass.specs.History.{BookState, PassState, newcomer}
 use Rattle.session_jobs.specs.declared.job.Job.{Job}
 use Rattle.session_jobs.specs.declared.session.Crew.{Crew}
 use Rattle.session_jobs.specs.declared.work.Work.{Work}
-use Rattle.session_jobs.specs.Runs.{IsDoneBeside}
+use Rattle.session_jobs.specs.Runs.{IsDoneBy}
 use Rattle.session_jobs.specs.Works.{number_of}
 
 -- a job has the seat of its caller, a pass of the session
@@ -19,7 +19,8 @@ pub record IsReady {N L O A B : Type 0} (session : session.Ghosts N) (job : Job 
   pub seated : job.seat ≡ Some pass
   pub of_session : IsPassOf session pass
 
--- a job was run by the caller of its seat, which it has back
+-- a job was run by the caller of its seat, which it has back; the caller was asked for just what the
+-- work says, by one note for each
 pub record IsRun {N L O A B : Type 0} (session : session.Ghosts N) (lane_at : Known → L → lanes.Site)
     (door_at : Known → O → doors.Site) (was now : Job L O A B) : Type 0 where
   pub first : PassState Entry
@@ -27,8 +28,8 @@ pub record IsRun {N L O A B : Type 0} (session : session.Ghosts N) (lane_at : Kn
   pub seat_before : was.seat ≡ Some first
   pub seat_behind : now.seat ≡ Some last
   pub of_session : IsPassOf session last
-  pub done : IsDoneBeside lane_at door_at (known_of session first) (known_of session last)
-      was.work now.work
+  pub done : IsDoneBy (HasNoted first.notes last.notes) (room_of session) lane_at door_at
+      (known_of session first) (known_of session last) was.work now.work
 
 -- a work with a new pass of its number: it has seen what the book seat has appended
 abbrev pub new_job : {L O A B : Type 0} → BookState Entry → Work L O → Job L O A B

@@ -1,5 +1,5 @@
 -- What the jobs of a session come to, all together.
-use Rattle.std.specs.Prelude.{◌≡◌, ⊤, ℕ, ◌+◌, min, List, [], ◌++◌, length, map, drop, All, Contains, Err}
+use Rattle.std.specs.Prelude.{◌≡◌, ⊤, ℕ, ◌+◌, ◌<◌, ◌≤◌, min, true, List, [], ◌∷◌, ◌++◌, length, map, drop, All, Contains, Err}
 use Rattle.std.specs.declared.alloc.Global.{Global}
 use Rattle.std.specs.declared.vec.Vec.{Vec}
 use Rattle.std.specs.List.{sum_by}
@@ -7,6 +7,7 @@ use Rattle.device_facts.specs.Prefix.{IsPrefixOf}
 use Rattle.book_words.specs.declared.act.Ask.{Ask}
 use Rattle.book_words.specs.declared.act.Entry.{Entry}
 use Rattle.book_words.specs.declared.caller.AskError.{AskError}
+use Rattle.book_words.specs.declared.caller.AskError.TheVariants as error
 use Rattle.book_words.specs.Callers.{Known, FAULTS_END, IsAsked}
 use Rattle.book_store.specs.declared.store.Store.{Store}
 use Rattle.book_store.specs.Callers.{own_rows}
@@ -14,6 +15,7 @@ use Rattle.lane_worker.specs.Works as lanes
 use Rattle.office_door.specs.Doors as doors
 use Rattle.session_jobs.specs.declared.begin.JobsEnd.{JobsEnd}
 use Rattle.shared_book.specs.Passes.{HasMet}
+use Rattle.shared_book.specs.Sessions.{weighs}
 use Rattle.session_jobs.specs.declared.work.Work.{Work}
 use Rattle.session_jobs.specs.Works.{number_of, IsDone}
 
@@ -22,19 +24,32 @@ abbrev pub newcomer : ℕ → List Entry → ℕ → Known
 newcomer limit before by =
     record { seen = before; mine = []; faults = 0; limit = limit; by = by }
 
--- a caller, of which this was known at the begin and at the end, went on, and then was answered an
--- error to an ask
-pub record BrokeBefore (first last : Known) (next : Ask) (why : AskError) : Type 0 where
+-- A caller, of which this was known at the begin and at the end, went on, and then was answered an
+-- error to an ask. A weighing found no memory only where so many rows were seen.
+pub record BrokeBefore (Reached : List Ask → Type 0) (room : ℕ) (first last : Known)
+    (answered : List Ask) (next : Ask) (why : AskError) : Type 0 where
   pub between : Known
   pub before : HasMet first between
+  pub reached : Reached (answered ++ next ∷ [])
   pub answer : IsAsked between last next (Err why)
+  pub used : why ≡ error.NoMemory → weighs next.want ≡ true → last.faults < FAULTS_END
+      → room ≤ length last.seen
 
--- a work was done by a caller beside others, who ask between its asks
-abbrev pub IsDoneBeside : {L O : Type 0} → (Known → L → lanes.Site) → (Known → O → doors.Site)
-    → Known → Known → Work L O → Work L O → Type 0
-IsDoneBeside lane_at door_at first last was now =
-    IsDone (λ asks. ⊤) (λ answered next why. BrokeBefore first last next why) lane_at door_at
-    first last was now
+-- A work was done by a caller beside others, who ask between its asks. `Reached` says what all asks
+-- of the caller were.
+abbrev pub IsDoneBy : {L O : Type 0} → (List Ask → Type 0) → ℕ → (Known → L → lanes.Site)
+    → (Known → O → doors.Site) → Known → Known → Work L O → Work L O → Type 0
+IsDoneBy Reached room lane_at door_at first last was now =
+    IsDone Reached (BrokeBefore Reached room first last) lane_at door_at first last was now
+
+-- the same, where it isn't told what they were
+abbrev pub AnyAsks : List Ask → Type 0
+AnyAsks asks = ⊤
+
+abbrev pub IsDoneBeside : {L O : Type 0} → ℕ → (Known → L → lanes.Site)
+    → (Known → O → doors.Site) → Known → Known → Work L O → Work L O → Type 0
+IsDoneBeside room lane_at door_at first last was now =
+    IsDoneBy AnyAsks room lane_at door_at first last was now
 
 -- a job that was run: what is known of its caller at the end, and its work before and behind
 pub record Run (L O : Type 0) : Type 0 where
@@ -42,13 +57,14 @@ pub record Run (L O : Type 0) : Type 0 where
   pub was : Work L O
   pub now : Work L O
 
--- A job was run by a caller of its number, in a session that began with some rows and leaves these.
--- What the caller has seen begins them, and the rows of its number are those of before and its own.
+-- A job was run by a caller of its number, in a session that began with some rows and with room for
+-- `spare` more, and leaves these. What the caller has seen begins them, and the rows of its number
+-- are those of before and its own.
 pub record HasRun {L O : Type 0} (lane_at : Known → L → lanes.Site)
-    (door_at : Known → O → doors.Site) (limit : ℕ) (before rows : List Entry) (run : Run L O)
-    : Type 0 where
-  pub done : IsDoneBeside lane_at door_at (newcomer limit before (number_of run.was)) run.known
-      run.was run.now
+    (door_at : Known → O → doors.Site) (limit spare : ℕ) (before rows : List Entry)
+    (run : Run L O) : Type 0 where
+  pub done : IsDoneBeside (spare + length before) lane_at door_at
+      (newcomer limit before (number_of run.was)) run.known run.was run.now
   pub seen : IsPrefixOf run.known.seen rows
   pub own : own_rows (number_of run.was) rows
       ≡ own_rows (number_of run.was) before ++ run.known.mine
@@ -57,16 +73,16 @@ pub record HasRun {L O : Type 0} (lane_at : Known → L → lanes.Site)
 abbrev pub faults_answered : {L O : Type 0} → List (Run L O) → ℕ
 faults_answered runs = sum_by (λ run. run.known.faults) runs
 
--- All jobs were run at once, each by a caller of its own number, over a book of so many rows at most.
--- The rows go on from those of before by the own rows of the callers, as many as these are together,
+-- All jobs were run at once, each by a caller of its own number, over a book of so many rows at most
+-- that has room for `spare` more. The rows go on from those of before by the own rows of the callers, as many as these are together,
 -- and by nobody else's; and the callers were answered so many faults of the disk.
 pub record HaveRun {L O : Type 0} (lane_at : Known → L → lanes.Site)
-    (door_at : Known → O → doors.Site) (limit : ℕ) (before rows : List Entry) (failed : ℕ)
+    (door_at : Known → O → doors.Site) (limit spare : ℕ) (before rows : List Entry) (failed : ℕ)
     (was now : List (Work L O)) : Type 0 where
   pub runs : List (Run L O)
   pub jobs_before : map (λ (r : Run L O). r.was) runs ≡ was
   pub jobs_behind : map (λ (r : Run L O). r.now) runs ≡ now
-  pub each : All (HasRun lane_at door_at limit before rows) runs
+  pub each : All (HasRun lane_at door_at limit spare before rows) runs
   pub begins : IsPrefixOf before rows
   pub total : length rows ≡ length before + sum_by (λ (r : Run L O). length r.known.mine) runs
   pub others : All (λ (e : Entry). Contains (map number_of was) e.by) (drop (length before) rows)

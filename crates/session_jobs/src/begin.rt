@@ -2,7 +2,7 @@
 ghost use Rattle.std.specs.Prelude.{◌≡◌, ◌≢◌, ◌+◌, ◌<◌, ◌≤◌, [], AllPairs, IfOk, List, length, map, true, false, vec_len};
 ghost use Rattle.book_words.specs.declared.act.Entry.{Entry as Entered};
 ghost use Rattle.book_words.specs.Balance.{IsBalanced};
-ghost use Rattle.book_store.specs.Stores.{disk_of, entries_of, limit_of, Hangs, IsSound};
+ghost use Rattle.book_store.specs.Stores.{disk_of, entries_of, limit_of, spare_of, Hangs, IsSound};
 ghost use Rattle.office_door.specs.Doors.{FailedSoOften};
 ghost use Rattle.shared_book.specs.Sessions.{KeepsRun, RestsOnDisk};
 ghost use Rattle.session_jobs.specs.declared.work.TheConstants.{MAX_JOBS};
@@ -140,7 +140,8 @@ fn unbegun<D: Disk, L, O>(store: Store<D>, jobs: Vec<Work<L, O>>) -> JobsEnd<D, 
 
 /// Runs jobs at once over a store in which nothing hangs, each in a thread of its own where one can
 /// be made, and waits for the last of them. Each job is a caller of its own number, whose rows bear
-/// it; all room is taken before the first begins, and where there is none nothing is done.
+/// it; all room is taken before the first begins, and where there is none nothing is done. While the
+/// store has room for a row more, a weighing finds memory.
 pub fn run_jobs<
     L: Lane + Send + Drop,
     O: Door + Send + Drop,
@@ -152,12 +153,15 @@ pub fn run_jobs<
     requires apart { AllPairs (λ v w. number_of v ≢ number_of w) jobs.items }
     requires few { length jobs.items ≤ MAX_JOBS }
     ensures ran { result.ran ≡ true → HaveRun (lane_site L.Cell L.Gate)
-        (door_site O.Source O.connections) (limit_of store) (entries_of store)
+        (door_site O.Source O.connections) (limit_of store) (spare_of store) (entries_of store)
         (entries_of result.store) result.faults jobs.items result.jobs.items }
     ensures unbegun { result.ran ≡ false → IsUnbegun store jobs result }
     ensures faults { FailedSoOften (D.faults (disk_of store)) (D.faults (disk_of result.store))
         result.faults }
     ensures settled { result.faults ≡ 0 → ¬ Hangs result.store }
+    ensures still { result.faults ≡ 0
+        → length (entries_of result.store) ≤ length (entries_of store)
+        → D.reads (disk_of result.store) ≡ D.reads (disk_of store) }
     ensures sound { IsSound D.Disk result.store }
     ensures balanced { IsBalanced (entries_of result.store) }
     ensures limit { limit_of result.store ≡ limit_of store }

@@ -1,6 +1,6 @@
 -- What is kept of a store in a session: as it begins, with each ask, and at its end.
 use Rattle.std.proofs.Common.{◌≡◌, ◌⊎◌, inl, inr, ⊎_elim, ℕ, ◌+◌, ◌≤◌, List, [], ◌∷◌, ◌++◌, length, take}
-use Rattle.std.proofs.Common.{true, Bool, Option, Some, None, IsSome, Result, Ok, Err, OnOk, refl, sym, ap, ◌∙◌}
+use Rattle.std.proofs.Common.{true, false, Bool, Option, Some, None, IsSome, IfSome, Result, Ok, Err, OnOk, refl, sym, ap, ◌∙◌}
 use Rattle.std.proofs.Common.{subst, arith, append_assoc, append-nil, length-append}
 use Rattle.std.proofs.Math.Seq.{take-append_seam}
 use Rattle.std.proofs.lemmas.List.{take-append-le}
@@ -16,12 +16,19 @@ use Rattle.book_words.specs.declared.caller.AskError.{AskError}
 use Rattle.book_words.specs.declared.caller.AskError.TheVariants as error
 use Rattle.book_words.specs.declared.reply.Answered.{Answered}
 use Rattle.book_words.specs.declared.reply.Refused.{Refused}
-use Rattle.book_words.specs.Answers.{IsLawful}
+use Rattle.book_words.specs.Answers.{added, answer, IsLawful}
+use Rattle.book_words.proofs.PlainLemmas.{in_both}
+use Rattle.row_format.specs.Spelling.{new_layout, row_bytes}
+use Rattle.row_format.specs.Rows.{CanBeSpelled}
+use Rattle.row_format.proofs.OneEntry.{one_entry}
 use Rattle.book_core.specs.Steps.{MayLackMemory}
 use Rattle.book_core.specs.View.{BookView}
 use Rattle.book_journal.specs.Mounting.{KeepsFromSync}
 use Rattle.book_store.specs.declared.store.Store.{Store}
 use Rattle.book_store.specs.Images.{HoldsBook}
+use Rattle.book_store.specs.Kept.{with_offered}
+use Rattle.book_store.proofs.CallerSteps.{refused_adds}
+use Rattle.book_store.proofs.StoreFacts.{one_row}
 use Rattle.book_laws.proofs.MoveLaws.{balanced}
 use Rattle.book_store.specs.Stores.{disk_of, book_of, KeepsBook, entries_of, limit_of, spare_of}
 use Rattle.book_store.specs.Stores.{Hangs, HasBook, HangsWith, HoldsOrHangs}
@@ -34,7 +41,8 @@ use Rattle.book_store.specs.declared.types.RestError.{RestError}
 use Rattle.book_store.specs.declared.types.RestError.TheVariants as rest
 use Rattle.book_store.proofs.KeptLemmas.{synced_on}
 use Rattle.session_laws.specs.declared.session.Session as session
-use Rattle.session_laws.specs.Sessions.{HoldsOrOneMore, LeavesFrom, RestsOnDisk, Begins}
+use Rattle.session_laws.specs.Sessions.{HoldsOrOneMore, IsOffered, LeavesFrom, LeavesAtEnd}
+use Rattle.session_laws.specs.Sessions.{RestsOnDisk, Begins}
 use Rattle.session_laws.specs.Sessions.{HasBookSince, IsKeptSince, KeepsRun, session_of, weighs}
 use Rattle.turn_pass.specs.History.{TableId}
 
@@ -103,6 +111,40 @@ rose_behind : (a b c : ℕ) → (b ≡ a) ⊎ Rose a b → Rose b c → Rose a c
 rose_behind a b c (inl same) rose = omega arith
 rose_behind a b c (inr first) rose = omega arith
 
+-- ---- where no row was added
+
+-- where an ask adds no row, the disk failed at it, or wasn't touched
+pub still_asked : {D : Type 0} (g : disk.Ghosts D) (old new : Store D) (by : ℕ) (ask : Ask)
+    (result : Result Answered AskError) (offered : Option Entry)
+    → added (limit_of old) (entries_of old) by ask ≡ offered
+    → entries_of new ≡ list_behind result (entries_of old) offered
+    → Offers g offered old new → (result ≡ Err error.NoMemory → LeavesDisk g old new)
+    → GivesAnswer (book_of old) by ask (added (limit_of old) (entries_of old) by ask) result
+    (answer (limit_of old) (entries_of old) ask)
+    → length (entries_of new) ≤ length (entries_of old)
+    → (result ≡ Err error.DiskFault) ⊎ (disk_of new ≡ disk_of old)
+still_asked g old new by ask (Ok answered) (Some entry) adds is offers no_memory gives few =
+    absurd (omega (arith, ap length is, length-append (entries_of old) (entry ∷ []), few))
+still_asked g old new by ask (Ok answered) None adds is offers no_memory gives few =
+    inr offers.same
+still_asked g old new by ask (Err error.DiskFault) offered adds is offers no_memory gives few =
+    inl refl
+still_asked g old new by ask (Err error.NoMemory) offered adds is offers no_memory gives few =
+    inr (no_memory refl).same
+still_asked g old new by ask (Err (error.Refused why)) None adds is offers no_memory gives few =
+    inr offers.same
+still_asked g old new by ask (Err (error.Refused why)) (Some entry) adds is offers no_memory gives
+    few = absurd (let never : None ≡ Some entry =
+    sym (refused_adds (book_of old) by ask (Err (error.Refused why)) why gives refl) ∙ adds in cc)
+
+-- two entries with one row's bytes are one
+one_entry_of : (number : ℕ) (entry other : Entry) → CanBeSpelled new_layout entry
+    → CanBeSpelled new_layout other
+    → row_bytes new_layout number entry ≡ row_bytes new_layout number other → entry ≡ other
+one_entry_of number entry other can could same =
+    one_entry (row_bytes new_layout number other) number entry other
+    (record { row = sym same; can = can }) (record { row = refl; can = could })
+
 module _ {D : Type 0} (g : disk.Ghosts D) where
   -- a session begins with the store that it is named after
   pub begins_named : {N : Type 0} (table : TableId) (store : Store D) → ¬ Hangs store
@@ -114,6 +156,7 @@ module _ {D : Type 0} (g : disk.Ghosts D) where
         spare = refl;
         start = refl;
         faults = refl;
+        reads = refl;
         past = λ t c. ((λ was. was), (λ was. was));
         rests = ((λ rests. rests), (λ rests. rests));
         calm = calm;
@@ -161,18 +204,58 @@ module _ {D : Type 0} (g : disk.Ghosts D) where
       no_fault then old new (λ hung. ⊎_elim (λ is. absurd (cc)) (λ was. was) (hangs hung)) cause
       fault
 
+  -- ---- what a crash leaves at the end
+
+  -- what hangs is an ask's entry, and the disk failed since the start
+  abbrev HungRight : D → Store D → Type 0
+  HungRight start last = (entry : Entry) → HangsWith g last entry
+      → Rose (g.faults start) (g.faults (disk_of last))
+      × IsOffered (limit_of last) (entries_of last) entry
+
+  -- a store hangs with one entry
+  one_hangs : (store : Store D) (entry other : Entry) → HangsWith g store entry
+      → HangsWith g store other → entry ≡ other
+  one_hangs store entry other is at =
+      one_entry_of (length (entries_of store) + 1) entry other is.can at.can
+      (one_row g store.journal _ _ is.row at.row)
+
+  -- every image holds all rows, or all and the entry that hangs
+  at_end : (start : D) (last : Store D) → HasBook g last → HungRight start last
+      → ((c : List ℕ) → g.image (disk_of last) c → HoldsOrHangs g last c)
+      → LeavesAtEnd g (limit_of last) (entries_of last) start (disk_of last)
+  at_end start last has hung images = in_both last.journal.hanging
+      (λ is. let one = has.hung is in
+      record {
+        hanging = Some one.0;
+        cause = hung one.0 one.1;
+        images = λ c image. ⊎_elim
+            (λ holds. inl holds)
+            (λ other. inr (subst (λ (e : Entry). HoldsBook (entries_of last ++ e ∷ []) c)
+            (one_hangs last other.0 one.0 other.1 one.1) other.2))
+            (images c image);
+      })
+      (λ is. record {
+        hanging = None;
+        cause = tt;
+        images = λ c image. ⊎_elim
+            (λ holds. inl holds)
+            (λ other. absurd (let never : false ≡ true = sym is ∙ other.1.row.hangs in cc))
+            (images c image);
+      })
+
   module _ {N : Type 0} (s : session.Ghosts N) where
     -- what hangs with a book, or stands behind it, is lawful
     holds_lawful : (store : Store D) (c : List ℕ) → HasBookSince g s store
         → HoldsOrHangs g store c → HoldsOrOneMore (entries_of store) c
     holds_lawful store c book (inl holds) = inl holds
-    holds_lawful store c book (inr hangs) = inr (hangs.0, book.hung hangs.0 hangs.1, hangs.2)
+    holds_lawful store c book (inr hangs) =
+        inr (hangs.0, (book.hung hangs.0 hangs.1).lawful, hangs.2)
 
     -- a call over which a crash leaves the rows, or one lawful entry more
     book_on : (old new : Store D) (Q : List ℕ → Type 0)
         → IsPrefixOf s.before (entries_of old)
         → IsPrefixOf (entries_of old) (entries_of new) → HasBookSince g s old → HasBook g new
-        → ((entry : Entry) → HangsWith g new entry → IsLawful (entries_of new) entry)
+        → ((entry : Entry) → HangsWith g new entry → IsOffered s.limit (entries_of new) entry)
         → ((c : List ℕ) → Q c → HoldsOrOneMore (entries_of old) c)
         → LeavesOnly g (disk_of old) (disk_of new) Q → ImagesHoldBook g new → HasBookSince g s new
     book_on old new Q opened begins book has hung lawful leaves images =
@@ -204,7 +287,7 @@ module _ {D : Type 0} (g : disk.Ghosts D) where
         record {
           has = leaves.has book.has;
           later = omega (arith, book.later, ap g.time leaves.same);
-          hung = λ entry hangs. subst (λ (es : List Entry). IsLawful es entry) (sym same)
+          hung = λ entry hangs. subst (λ (es : List Entry). IsOffered s.limit es entry) (sym same)
               (book.hung entry (leaves.hung entry hangs));
           images = images (leaves.has book.has);
           each = subst (λ (x : D × List Entry). (c : List ℕ) → g.since x.0 s.start c
@@ -214,39 +297,42 @@ module _ {D : Type 0} (g : disk.Ghosts D) where
               (λ i. (sym leaves.same i, sym same i)) book.earlier;
         }
 
-    -- a call that offered an entry: it hangs only where it wasn't added
-    book_offer : (entry : Entry) (old new : Store D)
+    -- a call that offered an ask's entry: it hangs only where it wasn't added
+    book_offer : (entry : Entry) (by : ℕ) (ask : Ask) (old new : Store D)
+        → added s.limit (entries_of old) by ask ≡ Some entry
         → IsPrefixOf s.before (entries_of old) → IsPrefixOf (entries_of old) (entries_of new)
         → HasBookSince g s old → OffersEntry g entry old new
         → (Hangs new → entries_of new ≡ entries_of old) → ImagesHoldBook g new
         → HasBookSince g s new
-    book_offer entry old new opened begins book offer unless images =
+    book_offer entry by ask old new adds opened begins book offer unless images =
         book_on old new
         (λ c. HoldsOrHangs g old c ⊎ HoldsBook (entries_of old ++ entry ∷ []) c)
         opened begins book offer.has
-        (λ hung hangs. subst (λ (es : List Entry). IsLawful es hung)
+        (λ hung hangs. subst (λ (es : List Entry). IsOffered s.limit es hung)
         (sym (unless hangs.row.hangs))
-        (⊎_elim (λ is. subst (IsLawful (entries_of old)) (sym is) offer.lawful)
+        (⊎_elim (λ is. subst (IsOffered s.limit (entries_of old)) (sym is)
+        (record { by = by; ask = ask; adds = adds; lawful = offer.lawful }))
         (λ is. book.hung hung is) (offer.hung hung hangs)))
         (λ c is. ⊎_elim (λ was. holds_lawful old c book was)
         (λ stands. inr (entry, offer.lawful, stands)) is)
         offer.moments images
 
     -- an ask, by what it offers
-    book_asked : (old new : Store D) (result : Result Answered AskError) (offered : Option Entry)
+    book_asked : (by : ℕ) (ask : Ask) (old new : Store D) (result : Result Answered AskError)
+        (offered : Option Entry) → added s.limit (entries_of old) by ask ≡ offered
         → IsPrefixOf s.before (entries_of old)
         → entries_of new ≡ list_behind result (entries_of old) offered → Offers g offered old new
         → (IsSome offered → OnOk result (¬ Hangs new)) → ImagesHoldBook g new
         → HasBookSince g s old → HasBookSince g s new
-    book_asked old new (Ok answered) None opened is offers settled images book =
+    book_asked by ask old new (Ok answered) None adds opened is offers settled images book =
         book_still old new is offers images book
-    book_asked old new (Err why) None opened is offers settled images book =
+    book_asked by ask old new (Err why) None adds opened is offers settled images book =
         book_still old new is offers images book
-    book_asked old new (Ok answered) (Some entry) opened is offers settled images book =
-        book_offer entry old new opened (entry ∷ [], is) book (offers book.has)
+    book_asked by ask old new (Ok answered) (Some entry) adds opened is offers settled images book =
+        book_offer entry by ask old new adds opened (entry ∷ [], is) book (offers book.has)
         (λ hangs. absurd (settled refl hangs)) images
-    book_asked old new (Err why) (Some entry) opened is offers settled images book =
-        book_offer entry old new opened (begins_same (entries_of old) (entries_of new) is)
+    book_asked by ask old new (Err why) (Some entry) adds opened is offers settled images book =
+        book_offer entry by ask old new adds opened (begins_same (entries_of old) (entries_of new) is)
         book (offers book.has) (λ hangs. is) images
 
     -- a store as its session begins
@@ -295,15 +381,17 @@ module _ {D : Type 0} (g : disk.Ghosts D) where
     no_memory old by ask new (Ok answered) wanted kept gives is weighed = absurd (cc)
 
     -- a store behind an ask
-    pub kept_asked : (old new : Store D) (result : Result Answered AskError)
-        (offered : Option Entry) → entries_of new ≡ list_behind result (entries_of old) offered
+    pub kept_asked : (by : ℕ) (ask : Ask) (old new : Store D) (result : Result Answered AskError)
+        (offered : Option Entry) → added (limit_of old) (entries_of old) by ask ≡ offered
+        → entries_of new ≡ list_behind result (entries_of old) offered
         → Offers g offered old new → (IsSome offered → OnOk result (¬ Hangs new))
         → ImagesHoldBook g new → (Hangs new → (result ≡ Err error.DiskFault) ⊎ Hangs old)
         → CountsDiskFault (g.faults (disk_of old)) (g.faults (disk_of new)) result
         → limit_of new ≡ limit_of old
         → spare_of old + length (entries_of old) ≤ spare_of new + length (entries_of new)
         → IsSound g new → IsKeptSince g s old → IsKeptSince g s new
-    kept_asked old new result offered is offers settled images hangs cause limit spare sound kept =
+    kept_asked by ask old new result offered adds is offers settled images hangs cause limit spare
+        sound kept =
         record {
           sound = sound;
           balanced = balanced (entries_of new);
@@ -312,8 +400,9 @@ module _ {D : Type 0} (g : disk.Ghosts D) where
           begins = begins_on s.before (entries_of old) (entries_of new) kept.begins
               (asked_begins result (entries_of old) (entries_of new) offered is);
           fault = fault_asked s.faults old new result hangs cause kept.fault;
-          book = λ rests. book_asked old new result offered kept.begins is offers settled images
-              (kept.book rests);
+          book = λ rests. book_asked by ask old new result offered
+              (subst (λ (n : ℕ). added n (entries_of old) by ask ≡ offered) kept.limit adds)
+              kept.begins is offers settled images (kept.book rests);
         }
 
     -- what a crash leaves of the book of a session is what it may leave of the whole run, whose
@@ -355,27 +444,17 @@ module _ {D : Type 0} (g : disk.Ghosts D) where
               (on t c (omega (arith, le, was_synced.after, was_synced.before)) was);
         }
 
-    -- what hangs at the end is lawful, and the disk failed
+    -- what hangs at the end is an ask's entry, and the disk failed
     hung_on : (start : D) (last : Store D) (entry : Entry)
         → (s.faults ≡ g.faults start) ⊎ Rose (g.faults start) s.faults
         → FailedSince s.faults last → HasBookSince g s last → HangsWith g last entry
-        → Rose (g.faults start) (g.faults (disk_of last)) × IsLawful (entries_of last) entry
+        → Rose (g.faults start) (g.faults (disk_of last))
+        × IsOffered s.limit (entries_of last) entry
     hung_on start last entry before (inl calm) book hangs = absurd (calm.0 hangs.row.hangs)
     hung_on start last entry before (inr rose) book hangs = (
       rose_behind (g.faults start) s.faults (g.faults (disk_of last)) before rose,
       book.hung entry hangs,
     )
-
-    -- each image holds the rows, or the disk failed and a lawful entry hangs
-    end_on : (start : D) (last : Store D) (c : List ℕ)
-        → (s.faults ≡ g.faults start) ⊎ Rose (g.faults start) s.faults
-        → FailedSince s.faults last → HasBookSince g s last → HoldsOrHangs g last c
-        → HoldsBook (entries_of last) c
-        ⊎ (Rose (g.faults start) (g.faults (disk_of last)) × HoldsOrOneMore (entries_of last) c)
-    end_on start last c before fault book (inl holds) = inl holds
-    end_on start last c before fault book (inr hangs) =
-        let it = hung_on start last hangs.0 before fault book hangs.1 in
-        inr (it.0, inr (hangs.0, it.1, hangs.2))
 
     -- the disk's count stayed, or it rose, with the session
     faults_on : (start : D) (last : Store D)
@@ -402,14 +481,18 @@ module _ {D : Type 0} (g : disk.Ghosts D) where
         let book = kept.book (names.rests.1 rests) in
         let before : (s.faults ≡ g.faults start) ⊎ Rose (g.faults start) s.faults =
         subst (λ (n : ℕ). (n ≡ g.faults start) ⊎ Rose (g.faults start) n) (sym faults) run.faults in
+        let hung : HungRight start last =
+        λ entry hangs. subst (λ (n : ℕ). Rose (g.faults start) (g.faults (disk_of last))
+        × IsOffered n (entries_of last) entry) (sym kept.limit)
+        (hung_on start last entry before kept.fault book hangs) in
         record {
           has = book.has;
           begins = begins_on held s.before (entries_of last)
               (subst (IsPrefixOf held) (sym rows) run.begins) kept.begins;
           faults = faults_on start last before kept.fault;
-          hung = λ entry hangs. hung_on start last entry before kept.fault book hangs;
+          hung = hung;
           moments = moments_on held start first last rows began past run kept.begins book;
-          end = λ c image. end_on start last c before kept.fault book (book.images c image);
+          end = at_end start last book.has hung book.images;
         }
 
   -- ---- a snapshot behind a session
@@ -438,11 +521,10 @@ module _ {D : Type 0} (g : disk.Ghosts D) where
       (λ more. rose_on (g.faults start) (g.faults (disk_of old)) (g.faults (disk_of new)) more
       (inr rose))
       counted in
-      let hung : (entry : Entry) → HangsWith g new entry
-      → Rose (g.faults start) (g.faults (disk_of new)) × IsLawful (entries_of new) entry =
+      let hung : HungRight start new =
       λ entry hangs. let was = run.hung entry (rested.hung entry hangs) in (
         rises was.0,
-        subst (λ (es : List Entry). IsLawful es entry) (sym entries) was.1,
+        subst (λ (b : BookView). IsOffered b.limit b.entries entry) (sym same) was.1,
       ) in
       record {
         has = rested.has;
@@ -458,13 +540,9 @@ module _ {D : Type 0} (g : disk.Ghosts D) where
             (λ c left. leaves_of_more held (entries_of old) (entries_of new) c front left)
             (λ c was. leaves_front held (entries_of old) (entries_of new) c run.begins front
             (⊎_elim (λ holds. inl holds)
-            (λ hangs. inr (hangs.0, (run.hung hangs.0 hangs.1).1, hangs.2)) was))
+            (λ hangs. inr (hangs.0, (run.hung hangs.0 hangs.1).1.lawful, hangs.2)) was))
             run.moments rested.moments;
-        end = λ c image. ⊎_elim
-            (λ holds. inl holds)
-            (λ hangs. let it = hung hangs.0 hangs.1 in
-            inr (it.0, inr (hangs.0, it.1, hangs.2)))
-            (images rested.has c image);
+        end = at_end start new rested.has hung (images rested.has);
       }
 
   -- ---- a store that was mounted on a disk that held these rows
@@ -505,5 +583,9 @@ module _ {D : Type 0} (g : disk.Ghosts D) where
             earlier = λ t c le was. ⊎_elim (λ is. inl is) (λ is. inr (left c is))
                 (has.moments.earlier t c le was);
           };
-          end = λ c image. inl (each_image c image);
+          end = record {
+            hanging = None;
+            cause = tt;
+            images = λ c image. inl (each_image c image);
+          };
         }

@@ -1,19 +1,21 @@
 -- What a crash leaves of a book that callers of one session ask: what is kept of it from call to
 -- call, and what that makes of the whole run.
-use Rattle.std.specs.Prelude.{◌≡◌, ◌⊎◌, ◌↔◌, ℕ, ◌+◌, ◌≤◌, Bool, false, List, [], ◌∷◌, ◌++◌, length, take}
+use Rattle.std.specs.Prelude.{◌≡◌, ◌⊎◌, ◌↔◌, ℕ, ◌+◌, ◌≤◌, Bool, false, List, [], ◌∷◌, ◌++◌, length, take, Option, Some, IfSome}
 use Rattle.device_facts.specs.Count.{Rose}
 use Rattle.device_facts.specs.Prefix.{IsPrefixOf}
 use Rattle.disk_core.specs.declared.disk.Disk as disk
 use Rattle.turn_pass.specs.History.{TableId}
+use Rattle.book_words.specs.declared.act.Ask.{Ask}
 use Rattle.book_words.specs.declared.act.Entry.{Entry}
 use Rattle.book_words.specs.declared.act.Want.{Want}
 use Rattle.book_words.specs.declared.act.Want.TheVariants as want
-use Rattle.book_words.specs.Answers.{IsLawful}
+use Rattle.book_words.specs.Answers.{added, IsLawful}
 use Rattle.book_words.specs.Balance.{IsBalanced}
 use Rattle.book_core.specs.Steps.{is_weighing}
 use Rattle.book_journal.specs.Mounting.{KeepsFromSync}
 use Rattle.book_store.specs.declared.store.Store.{Store}
 use Rattle.book_store.specs.Images.{HoldsBook}
+use Rattle.book_store.specs.Kept.{with_offered}
 use Rattle.book_store.specs.Stores.{disk_of, entries_of, limit_of, spare_of, Hangs, HasBook}
 use Rattle.book_store.specs.Stores.{HangsWith, HoldsOrHangs, IsSound}
 use Rattle.session_laws.specs.declared.session.Session as session
@@ -22,6 +24,13 @@ use Rattle.session_laws.specs.declared.session.Session as session
 abbrev pub HoldsOrOneMore : List Entry → List ℕ → Type 0
 HoldsOrOneMore entries c = HoldsBook entries c
     ⊎ ((entry : Entry) × IsLawful entries entry × HoldsBook (entries ++ entry ∷ []) c)
+
+-- an entry is what somebody's ask adds behind these rows of a book of so many at most
+pub record IsOffered (limit : ℕ) (rows : List Entry) (entry : Entry) : Type 0 where
+  pub by : ℕ
+  pub ask : Ask
+  pub adds : added limit rows by ask ≡ Some entry
+  pub lawful : IsLawful rows entry
 
 -- a crash leaves the first so many of these rows, at least those of before, and perhaps one lawful
 -- entry more
@@ -44,6 +53,7 @@ pub record Begins {D N : Type 0} (disk : disk.Ghosts D) (session : session.Ghost
   pub spare : session.spare ≡ spare_of store
   pub start : session.start ≡ disk.time (disk_of store)
   pub faults : session.faults ≡ disk.faults (disk_of store)
+  pub reads : session.reads ≡ disk.reads (disk_of store)
   pub past : (t : ℕ) (c : List ℕ) → session.past t c ↔ disk.since (disk_of store) t c
   pub rests : session.rests ↔ RestsOnDisk disk store
   pub calm : ¬ Hangs store
@@ -58,6 +68,7 @@ session_of disk table store =
       spare = spare_of store;
       start = disk.time (disk_of store);
       faults = disk.faults (disk_of store);
+      reads = disk.reads (disk_of store);
       past = disk.since (disk_of store);
       rests = RestsOnDisk disk store;
     }
@@ -67,14 +78,15 @@ abbrev pub weighs : Want → Bool
 weighs (want.Act act) = is_weighing act
 weighs (want.Question question) = false
 
--- The disk has the book of a session. What hangs is lawful behind it, and a crash leaves the book
--- or that and what hangs. A crash at a moment since the session began leaves what it may; one at a
+-- The disk has the book of a session. What hangs is an ask's entry behind it, and a crash leaves the
+-- book or that and what hangs. A crash at a moment since the session began leaves what it may; one at a
 -- moment since an earlier time leaves that, or what it left as the session began.
 pub record HasBookSince {D N : Type 0} (disk : disk.Ghosts D) (session : session.Ghosts N)
     (store : Store D) : Type 0 where
   pub has : HasBook disk store
   pub later : session.start ≤ disk.time (disk_of store)
-  pub hung : (entry : Entry) → HangsWith disk store entry → IsLawful (entries_of store) entry
+  pub hung : (entry : Entry) → HangsWith disk store entry
+      → IsOffered session.limit (entries_of store) entry
   pub images : (c : List ℕ) → disk.image (disk_of store) c → HoldsOrHangs disk store c
   pub each : (c : List ℕ) → disk.since (disk_of store) session.start c
       → LeavesFrom session.before (entries_of store) c
@@ -96,10 +108,20 @@ pub record IsKeptSince {D N : Type 0} (disk : disk.Ghosts D) (session : session.
       ⊎ Rose session.faults (disk.faults (disk_of store))
   pub book : session.rests → HasBookSince disk session store
 
--- A whole run over a disk that held these rows at the start: they are still there. What hangs is
--- lawful, and hangs only where the disk failed. Each crash from the first sync on leaves what it
--- may; at the end it leaves all rows, or, only where the disk failed, these and one lawful entry
--- more.
+-- What a crash leaves of a disk at the end of a run over a book of so many rows at most: all rows,
+-- or all and the one entry that hangs, the same in every image. It is what an ask adds behind all
+-- rows, and hangs only where the disk failed in the run.
+pub record LeavesAtEnd {D : Type 0} (disk : disk.Ghosts D) (limit : ℕ) (rows : List Entry)
+    (start now : D) : Type 0 where
+  pub hanging : Option Entry
+  pub cause : IfSome hanging (λ entry.
+      Rose (disk.faults start) (disk.faults now) × IsOffered limit rows entry)
+  pub images : (c : List ℕ) → disk.image now c
+      → HoldsBook rows c ⊎ HoldsBook (with_offered rows hanging) c
+
+-- A whole run over a disk that held these rows at the start: they are still there. What hangs is an
+-- ask's entry, and hangs only where the disk failed. Each crash from the first sync on leaves what
+-- it may; at the end it leaves all rows, or these and the one that hangs.
 pub record KeepsRun {D : Type 0} (disk : disk.Ghosts D) (held : List Entry) (start : D)
     (store : Store D) : Type 0 where
   pub has : HasBook disk store
@@ -107,9 +129,7 @@ pub record KeepsRun {D : Type 0} (disk : disk.Ghosts D) (held : List Entry) (sta
   pub faults : (disk.faults (disk_of store) ≡ disk.faults start)
       ⊎ Rose (disk.faults start) (disk.faults (disk_of store))
   pub hung : (entry : Entry) → HangsWith disk store entry
-      → Rose (disk.faults start) (disk.faults (disk_of store)) × IsLawful (entries_of store) entry
+      → Rose (disk.faults start) (disk.faults (disk_of store))
+      × IsOffered (limit_of store) (entries_of store) entry
   pub moments : KeepsFromSync disk start (disk_of store) (LeavesFrom held (entries_of store))
-  pub end : (c : List ℕ) → disk.image (disk_of store) c
-      → HoldsBook (entries_of store) c
-      ⊎ (Rose (disk.faults start) (disk.faults (disk_of store))
-      × HoldsOrOneMore (entries_of store) c)
+  pub end : LeavesAtEnd disk (limit_of store) (entries_of store) start (disk_of store)

@@ -30,7 +30,7 @@ impl<D: Disk, N: Session> HeldStore<D, N> {
     ghost use Rattle.book_words.specs.Answers.{answer, added, IsLegal};
     ghost use Rattle.book_state.specs.Told.{entry_numbered};
     ghost use Rattle.book_store.specs.Stores.{disk_of, book_of, entries_of, limit_of, Hangs, IsSound};
-    ghost use Rattle.book_store.specs.Offers.{CountsDiskFault, GivesAnswer, list_behind};
+    ghost use Rattle.book_store.specs.Offers.{CountsDiskFault, GivesAnswer, Offers, list_behind};
     ghost use Rattle.session_laws.specs.Sessions.{Begins, IsKeptSince, weighs};
 
     /// Begins a session with this store.
@@ -61,7 +61,9 @@ impl<D: Disk, N: Session> HeldStore<D, N> {
     }
 
     /// Answers an ask of the caller `by`, as the store does. A weighing finds no memory only where
-    /// the session has taken down as many rows as there was room for.
+    /// the session has taken down as many rows as there was room for. A crash at any moment of the
+    /// call leaves the rows before it, and at most the entry that is offered or the one that hung
+    /// besides; where no row is added the disk failed, or isn't touched.
     pub fn ask(&mut self, by: u16, ask: &Ask) -> Result<Answered, AskError>
         ensures answer { GivesAnswer (book_of self.old) by ask.now
             (added N.limit (entries_of self.old) by ask.now) result
@@ -73,6 +75,10 @@ impl<D: Disk, N: Session> HeldStore<D, N> {
         ensures begins { IsPrefixOf (entries_of self.old) (entries_of self.new) }
         ensures room { result ≡ Err error.NoMemory → weighs ask.now.want ≡ true
             → N.spare + length N.before ≤ length (entries_of self.old) }
+        ensures offers { Offers D.Disk (added N.limit (entries_of self.old) by ask.now)
+            self.old self.new }
+        ensures still { length (entries_of self.new) ≤ length (entries_of self.old)
+            → (result ≡ Err error.DiskFault) ⊎ (disk_of self.new ≡ disk_of self.old) }
         ensures hangs { Hangs self.new → (result ≡ Err error.DiskFault) ⊎ Hangs self.old }
         ensures cause { CountsDiskFault (D.faults (disk_of self.old)) (D.faults (disk_of self.new))
             result }

@@ -4,7 +4,7 @@ use std::marker::Brand;
 /// Which session it is. Each call of a program picks it, as the session begins. Its names stand for
 /// contracts alone: what lies under a lock and what each caller holds speak of one session by them.
 pub trait Session {
-    ghost use Rattle.std.specs.Prelude.{ℕ, List};
+    ghost use Rattle.std.specs.Prelude.{ℕ, List, Option};
     ghost use Rattle.turn_pass.specs.History.{TableId};
     ghost use Rattle.book_words.specs.declared.act.Entry.{Entry};
 
@@ -26,6 +26,9 @@ pub trait Session {
     /// The disk's count of faults.
     ghost faults: { ℕ };
 
+    /// What its disk reads, where it tells.
+    ghost reads: { Option (List ℕ) };
+
     /// What a crash since each earlier time may have left.
     ghost past: { ℕ → List ℕ → Type 0 };
 
@@ -34,7 +37,7 @@ pub trait Session {
 }
 
 impl Session for Brand {
-    ghost use Rattle.std.specs.Prelude.{[], ⊤};
+    ghost use Rattle.std.specs.Prelude.{[], ⊤, None};
     ghost use Rattle.turn_pass.specs.History.{no_table};
 
     ghost table = { no_table };
@@ -48,6 +51,8 @@ impl Session for Brand {
     ghost start = { 0 };
 
     ghost faults = { 0 };
+
+    ghost reads = { None };
 
     ghost past = { λ t c. ⊤ };
 

@@ -1,13 +1,15 @@
 -- What an ask under the lock makes of the book seat, and of what is known of the pass that asked.
 use Rattle.std.proofs.Common.{◌≡◌, ◌⊎◌, ⊎_elim, ℕ, ◌+◌, ◌-◌, ◌<◌, ◌≤◌, nat_le, true, min, List, [], ◌∷◌, ◌++◌, length, map, slice_get, All}
-use Rattle.std.proofs.Common.{Option, Some, None, option_map, IsSome, Result, Ok, Err, refl, sym, ap, ◌∙◌, subst, arith, append_assoc, append-nil, length-append}
+use Rattle.std.proofs.Common.{Option, Some, None, option_map, IfSome, IsSome, Result, Ok, Err, refl, sym, ap, ◌∙◌, subst, arith, append_assoc, append-nil, length-append}
 use Rattle.std.specs.List.{cons_option}
 use Rattle.std.proofs.lemmas.Bool.Decides.{nat_tests}
 use Rattle.std.proofs.lemmas.List.{map-append, length-map}
 use Rattle.std.proofs.lemmas.Bool.{cases_lt}
 use Rattle.std.proofs.lemmas.List.Elements.{All-nil, All-push}
 use mathlib.Core.List.{IsPrefix}
+use Rattle.hall_limits.specs.declared.TheConstants.{MAX_ROWS}
 use Rattle.device_facts.specs.Count.{Counted}
+use Rattle.device_facts.specs.Prefix.{IsPrefixOf}
 use Rattle.disk_core.specs.declared.disk.Disk as disk
 use Rattle.turn_pass.specs.declared.entries.Appended.{Appended}
 use Rattle.turn_pass.specs.History.{BookState, PassState, appended, own}
@@ -32,10 +34,10 @@ use Rattle.book_store.specs.Stores.{disk_of, entries_of, Hangs}
 use Rattle.book_store.specs.Offers.{GivesAnswer, list_behind, CountsDiskFault}
 use Rattle.book_store.proofs.CallerSteps.{refused_adds, added_by}
 use Rattle.session_laws.specs.declared.session.Session as session
-use Rattle.session_laws.specs.Sessions.{Begins}
+use Rattle.session_laws.specs.Sessions.{Begins, weighs}
 use Rattle.shared_book.specs.Closing.{IsCalm}
 use Rattle.shared_book.specs.Locked.{IsNewSeat, KeepsSeat, next_row, seat_behind, pass_behind}
-use Rattle.shared_book.specs.Passes.{entries_in, row_of, known_of, IsPassOf}
+use Rattle.shared_book.specs.Passes.{entries_in, noted, row_of, known_of, HasUsedRoom, IsPassOf}
 
 -- ---- the entry that an ask added
 
@@ -152,32 +154,60 @@ module _ {D N : Type 0} (g : disk.Ghosts D) (s : session.Ghosts N) (old new : St
       (first_more _ _ _ (kept.calm zero).faults cause))
       (cases_lt 0 seat.faults)
 
+  -- where an ask adds no row, the disk failed at it, or wasn't touched
+  abbrev IsStill : Result Answered AskError → Type 0
+  IsStill result = length (entries_of new) ≤ length (entries_of old)
+      → (result ≡ Err error.DiskFault) ⊎ (disk_of new ≡ disk_of old)
+
+  -- what was read stays, where no row was added since the session began
+  reads_on : IsPrefixOf (entries_of old) (entries_of new)
+      → (length (entries_of new) ≤ length (entries_of old) → disk_of new ≡ disk_of old)
+      → seat.faults ≡ 0 → length (entries_of new) ≤ length s.before
+      → g.reads (disk_of new) ≡ s.reads
+  reads_on begins same none few =
+      let all : length (entries_of old) ≡ length s.before + length (entries_in seat.list) =
+      ap length kept.rows ∙ length-append s.before (entries_in seat.list) in
+      let more : length (entries_of new) ≡ length (entries_of old) + length begins.0 =
+      ap length begins.1 ∙ length-append (entries_of old) begins.0 in
+      ap g.reads (same (omega (arith, all, few)))
+      ∙ (kept.calm none).still (omega (arith, more, few))
+
   calm_on : g.faults (disk_of new) ≡ g.faults (disk_of old) → (Hangs new → Hangs old)
+      → IsPrefixOf (entries_of old) (entries_of new)
+      → (length (entries_of new) ≤ length (entries_of old) → disk_of new ≡ disk_of old)
       → seat.faults ≡ 0 → IsCalm g s new
-  calm_on same hangs none =
+  calm_on same hangs begins stays none =
       let calm = kept.calm none in
-      record { faults = same ∙ calm.faults; settled = λ hung. calm.settled (hangs hung) }
+      record {
+        faults = same ∙ calm.faults;
+        settled = λ hung. calm.settled (hangs hung);
+        still = reads_on begins stays none;
+      }
 
   calm_more : (result : Result Answered AskError)
       → CountsDiskFault (g.faults (disk_of old)) (g.faults (disk_of new)) result
       → (Hangs new → (result ≡ Err error.DiskFault) ⊎ Hangs old)
+      → IsPrefixOf (entries_of old) (entries_of new) → IsStill result
       → seat.faults + faults_told result ≡ 0 → IsCalm g s new
-  calm_more (Ok answered) cause hangs none =
-      calm_on cause (λ hung. ⊎_elim (λ is. absurd (cc)) (λ was. was) (hangs hung)) (omega (arith, none))
-  calm_more (Err (error.Refused why)) cause hangs none =
-      calm_on cause (λ hung. ⊎_elim (λ is. absurd (cc)) (λ was. was) (hangs hung)) (omega (arith, none))
-  calm_more (Err error.NoMemory) cause hangs none =
-      calm_on cause (λ hung. ⊎_elim (λ is. absurd (cc)) (λ was. was) (hangs hung)) (omega (arith, none))
-  calm_more (Err error.DiskFault) cause hangs none = absurd (omega (arith, none))
+  calm_more (Ok answered) cause hangs begins still none =
+      calm_on cause (λ hung. ⊎_elim (λ is. absurd (cc)) (λ was. was) (hangs hung)) begins
+      (λ few. ⊎_elim (λ is. absurd (cc)) (λ same. same) (still few)) (omega (arith, none))
+  calm_more (Err (error.Refused why)) cause hangs begins still none =
+      calm_on cause (λ hung. ⊎_elim (λ is. absurd (cc)) (λ was. was) (hangs hung)) begins
+      (λ few. ⊎_elim (λ is. absurd (cc)) (λ same. same) (still few)) (omega (arith, none))
+  calm_more (Err error.NoMemory) cause hangs begins still none =
+      calm_on cause (λ hung. ⊎_elim (λ is. absurd (cc)) (λ was. was) (hangs hung)) begins
+      (λ few. ⊎_elim (λ is. absurd (cc)) (λ same. same) (still few)) (omega (arith, none))
+  calm_more (Err error.DiskFault) cause hangs begins still none = absurd (omega (arith, none))
 
   -- ---- the seat
 
   -- nothing was added
   seat_stays : (result : Result Answered AskError) → entries_of new ≡ entries_of old
       → CountsDiskFault (g.faults (disk_of old)) (g.faults (disk_of new)) result
-      → (Hangs new → (result ≡ Err error.DiskFault) ⊎ Hangs old)
+      → (Hangs new → (result ≡ Err error.DiskFault) ⊎ Hangs old) → IsStill result
       → KeepsSeat g s new (seat_behind by None (faults_told result) seat)
-  seat_stays result same cause hangs =
+  seat_stays result same cause hangs still =
       record {
         same_table = kept.same_table;
         behind = kept.behind;
@@ -185,16 +215,16 @@ module _ {D N : Type 0} (g : disk.Ghosts D) (s : session.Ghosts N) (old new : St
         rows = same ∙ kept.rows;
         marked = kept.marked;
         faults = counted_more result cause;
-        calm = calm_more result cause hangs;
+        calm = calm_more result cause hangs ([], same ∙ sym (append-nil (entries_of old))) still;
       }
 
   -- an entry was added
   seat_grows : (answered : Answered) (entry : Entry) → entry.by ≡ by
       → entries_of new ≡ entries_of old ++ entry ∷ []
       → g.faults (disk_of new) ≡ g.faults (disk_of old)
-      → (Hangs new → (Ok answered ≡ Err error.DiskFault) ⊎ Hangs old)
+      → (Hangs new → (Ok answered ≡ Err error.DiskFault) ⊎ Hangs old) → IsStill (Ok answered)
       → KeepsSeat g s new (seat_behind by (Some entry) 0 seat)
-  seat_grows answered entry own same cause hangs =
+  seat_grows answered entry own same cause hangs still =
       record {
         same_table = kept.same_table;
         behind = kept.behind;
@@ -204,20 +234,23 @@ module _ {D N : Type 0} (g : disk.Ghosts D) (s : session.Ghosts N) (old new : St
             (appended by entry) kept.marked (sym own);
         faults = λ some. omega (arith, kept.faults some, cause);
         calm = calm_on cause
-            (λ hung. ⊎_elim (λ is. absurd (cc)) (λ was. was) (hangs hung));
+            (λ hung. ⊎_elim (λ is. absurd (cc)) (λ was. was) (hangs hung)) (entry ∷ [], same)
+            (λ few. ⊎_elim (λ is. absurd (cc)) (λ stays. stays) (still few));
       }
 
   seat_cases : (result : Result Answered AskError) (offered : Option Entry)
       → ((entry : Entry) → offered ≡ Some entry → entry.by ≡ by)
       → entries_of new ≡ list_behind result (entries_of old) offered
       → CountsDiskFault (g.faults (disk_of old)) (g.faults (disk_of new)) result
-      → (Hangs new → (result ≡ Err error.DiskFault) ⊎ Hangs old)
+      → (Hangs new → (result ≡ Err error.DiskFault) ⊎ Hangs old) → IsStill result
       → KeepsSeat g s new (seat_behind by (added_behind result offered) (faults_told result) seat)
-  seat_cases (Ok answered) (Some entry) own is cause hangs =
-      seat_grows answered entry (own entry refl) is cause hangs
-  seat_cases (Ok answered) None own is cause hangs = seat_stays (Ok answered) is cause hangs
-  seat_cases (Err why) offered own is cause hangs =
+  seat_cases (Ok answered) (Some entry) own is cause hangs still =
+      seat_grows answered entry (own entry refl) is cause hangs still
+  seat_cases (Ok answered) None own is cause hangs still =
+      seat_stays (Ok answered) is cause hangs still
+  seat_cases (Err why) offered own is cause hangs still =
       seat_stays (Err why) (same_list why (entries_of old) (entries_of new) offered is) cause hangs
+      still
 
   -- the seat behind an ask
   pub seat_kept : (result : Result Answered AskError) (found : Option Entry)
@@ -225,13 +258,13 @@ module _ {D N : Type 0} (g : disk.Ghosts D) (s : session.Ghosts N) (old new : St
       → entries_of new ≡ list_behind result (entries_of old)
       (added s.limit (entries_of old) by ask)
       → CountsDiskFault (g.faults (disk_of old)) (g.faults (disk_of new)) result
-      → (Hangs new → (result ≡ Err error.DiskFault) ⊎ Hangs old)
+      → (Hangs new → (result ≡ Err error.DiskFault) ⊎ Hangs old) → IsStill result
       → KeepsSeat g s new (seat_behind by found (faults_told result) seat)
-  seat_kept result found at is cause hangs =
+  seat_kept result found at is cause hangs still =
       let offered = added s.limit (entries_of old) by ask in
       subst (λ (o : Option Entry). KeepsSeat g s new (seat_behind by o (faults_told result) seat))
       (sym (at ∙ found_behind result (entries_of old) (entries_of new) offered is))
-      (seat_cases result offered (added_by s.limit by (entries_of old) ask) is cause hangs)
+      (seat_cases result offered (added_by s.limit by (entries_of old) ask) is cause hangs still)
 
 -- the seat of a session that begins
 pub seat_begins : {D N : Type 0} (g : disk.Ghosts D) (s : session.Ghosts N) (store : Store D)
@@ -248,10 +281,32 @@ seat_begins g s store seat begins new =
           All (λ (line : Appended Entry). line.by ≡ line.entry.by) ls) (sym new.appended)
           (All-nil (λ (line : Appended Entry). line.by ≡ line.entry.by));
       faults = λ some. absurd (omega (arith, some, new.booked));
-      calm = λ none. record { faults = sym begins.faults; settled = begins.calm };
+      calm = λ none. record {
+        faults = sym begins.faults;
+        settled = begins.calm;
+        still = λ few. sym begins.reads;
+      };
     }
 
 -- ---- the pass
+
+-- nothing isn't something
+no_entry : {A : Type 0} (o : Option Entry) → o ≡ None → IsSome o → A
+no_entry None is some = absurd (cc)
+no_entry (Some entry) is some = absurd (cc)
+
+-- there was room for what was taken down
+pub room_found : (before rows next : List Entry) (seat : BookState Entry)
+    → rows ≡ before ++ entries_in seat.list → seat.history ≡ length before
+    → length next ≤ MAX_ROWS → (result : Result Answered AskError) (offered : Option Entry)
+    → next ≡ list_behind result rows offered
+    → IfSome (added_behind result offered) (λ (entry : Entry).
+    seat.history + length seat.list < MAX_ROWS)
+room_found before rows next seat is behind few (Ok answered) (Some entry) grows =
+    let all = next_is before rows seat is behind in
+    omega (arith, all, few, ap length grows, length-append rows (entry ∷ []))
+room_found before rows next seat is behind few (Ok answered) None grows = tt
+room_found before rows next seat is behind few (Err why) offered grows = tt
 
 -- what may find no memory in the book may find none for the caller
 lacks_memory : (book : BookView) (by : ℕ) (ask : Ask) (w : Want) (offered : Option Entry)
@@ -334,6 +389,12 @@ module _ {N : Type 0} (s : session.Ghosts N) (book : BookView) (seat : BookState
   -- what the ask would add behind what the pass then has seen
   offered_same : (told : ℕ) → entry_offered (known_behind None told) ask ≡ offer
   offered_same told = ap (λ (es : List Entry). added s.limit es pass.by ask) (sym rows)
+
+  -- where nothing would be added
+  nothing_offered : {A : Type 0} (told : ℕ) → offer ≡ None
+      → IsSome (entry_offered (known_behind None told) ask) → A
+  nothing_offered told none some =
+      no_entry (entry_offered (known_behind None told) ask) (offered_same told ∙ none) some
 
   says_cases : (result : Result Answered AskError) (offered : Option Entry) → offered ≡ offer
       → GivesAnswer book pass.by ask offered result (answer s.limit book.entries ask)
@@ -424,6 +485,53 @@ module _ {N : Type 0} (s : session.Ghosts N) (book : BookView) (seat : BookState
         length-append book.entries (entry ∷ []),
       )
   pass_sees None told = omega (arith, ap length rows)
+
+  -- an ask that shows that it found no memory found none
+  used_cases : (room : ℕ) (result : Result Answered AskError) (offered : Option Entry)
+      → offered ≡ offer
+      → GivesAnswer book pass.by ask offered result (answer s.limit book.entries ask)
+      → (result ≡ Err error.NoMemory → weighs ask.want ≡ true → room ≤ length book.entries)
+      → HasUsedRoom room (known_of s pass)
+      (known_behind (added_behind result offered) (faults_told result)) ask
+  used_cases room (Ok answered) (Some entry) is gives lacks found weighing = absurd (omega (
+    arith,
+    ap length found.mine,
+    length-map (pass.mine ++ own (next_row seat) entry ∷ []) row_of,
+    length-append pass.mine (own (next_row seat) entry ∷ []),
+    length-map pass.mine row_of,
+  ))
+  used_cases room (Ok answered) None is gives lacks found weighing =
+      nothing_offered 0 (sym is) found.offered
+  used_cases room (Err (error.Refused why)) offered is gives lacks found weighing =
+      nothing_offered 0 (refused_adds (record book { limit = s.limit }) pass.by ask
+      (Err (error.Refused why)) why
+      (subst (λ (o : Option Entry). GivesAnswer book pass.by ask o (Err (error.Refused why))
+      (answer s.limit book.entries ask)) is gives) refl) found.offered
+  used_cases room (Err error.DiskFault) offered is gives lacks found weighing =
+      absurd (let same : min (pass.faults + 1) FAULTS_END ≡ min pass.faults FAULTS_END =
+      found.faults in let few : min (pass.faults + 1) FAULTS_END < FAULTS_END = found.counted in
+      omega (arith, same, few))
+  used_cases room (Err error.NoMemory) offered is gives lacks found weighing =
+      let all : length (s.before ++ entries_in seat.list) ≡ length book.entries =
+      ap length (sym rows) in
+      omega (arith, lacks refl weighing, all)
+
+  pub pass_uses : (room : ℕ) (result : Result Answered AskError) (found : Option Entry)
+      (next : List Entry) → found ≡ entry_numbered next (length book.entries + 1)
+      → GivesAnswer book pass.by ask offer result (answer s.limit book.entries ask)
+      → next ≡ list_behind result book.entries offer
+      → (result ≡ Err error.NoMemory → weighs ask.want ≡ true → room ≤ length book.entries)
+      → HasUsedRoom room (known_of s pass) (known_behind found (faults_told result)) ask
+  pass_uses room result found next at gives is lacks =
+      subst (λ (o : Option Entry).
+      HasUsedRoom room (known_of s pass) (known_behind o (faults_told result)) ask)
+      (found_is result found next at is) (used_cases room result offer refl gives lacks)
+
+  -- one note more was taken in
+  pub pass_noted : (found : Option Entry) (told : ℕ)
+      → (pass_behind found told seat pass).notes ≡ noted pass.notes 1
+  pass_noted (Some entry) told = refl
+  pass_noted None told = refl
 
   booked_cases : (result : Result Answered AskError) (offered : Option Entry)
       → (pass_behind (added_behind result offered) (faults_told result) seat pass).faults

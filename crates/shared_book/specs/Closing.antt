@@ -1,5 +1,5 @@
 -- What a session leaves as it ends.
-use Rattle.std.specs.Prelude.{◌≡◌, ◌≢◌, ℕ, List, ◌++◌, length, map, All, AllPairs, Contains}
+use Rattle.std.specs.Prelude.{◌≡◌, ◌≢◌, ℕ, ◌≤◌, List, ◌++◌, length, map, All, AllPairs, Contains}
 use Rattle.std.specs.List.{sum_by}
 use Rattle.device_facts.specs.Prefix.{IsPrefixOf}
 use Rattle.disk_core.specs.declared.disk.Disk as disk
@@ -7,15 +7,18 @@ use Rattle.turn_pass.specs.History.{PassState}
 use Rattle.book_words.specs.declared.act.Entry.{Entry}
 use Rattle.book_store.specs.declared.store.Store.{Store}
 use Rattle.book_store.specs.Callers.{own_rows}
-use Rattle.book_store.specs.Stores.{disk_of, Hangs}
+use Rattle.book_store.specs.Stores.{disk_of, entries_of, Hangs}
 use Rattle.session_laws.specs.declared.session.Session as session
 use Rattle.shared_book.specs.Passes.{entries_in, row_of}
 
--- the disk's count is as it was when the session began, and nothing hangs
+-- The disk's count is as it was when the session began, and nothing hangs; and where no row was
+-- added the disk reads what it did.
 pub record IsCalm {D N : Type 0} (disk : disk.Ghosts D) (session : session.Ghosts N)
     (store : Store D) : Type 0 where
   pub faults : disk.faults (disk_of store) ≡ session.faults
   pub settled : ¬ Hangs store
+  pub still : length (entries_of store) ≤ length session.before
+      → disk.reads (disk_of store) ≡ session.reads
 
 -- The rows behind those of before are the own rows of the passes: they are as many. What each pass
 -- has seen begins the rows. The rows with its number are those of before and its own, each at its

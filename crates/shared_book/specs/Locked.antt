@@ -9,7 +9,7 @@ use Rattle.book_store.specs.declared.store.Store.{Store}
 use Rattle.book_store.specs.Stores.{disk_of, entries_of}
 use Rattle.session_laws.specs.declared.session.Session as session
 use Rattle.shared_book.specs.Closing.{IsCalm}
-use Rattle.shared_book.specs.Passes.{entries_in}
+use Rattle.shared_book.specs.Passes.{entries_in, noted}
 
 -- the store and its book seat, as contracts see them
 pub record LockedView (D : Type 0) : Type 0 where
@@ -53,14 +53,15 @@ seat_behind by (Some entry) told seat =
     record seat { list = seat.list ++ appended by entry ∷ [] }
 seat_behind by None told seat = record seat { faults = seat.faults + told }
 
--- the caller's pass behind an answer: it has seen the whole list, and the entry that was taken down
--- is its own
+-- the caller's pass behind an answer: it has taken in a note of the whole list, and the entry that
+-- was taken down is its own
 abbrev pub pass_behind : Option Entry → ℕ → BookState Entry → PassState Entry → PassState Entry
 pass_behind (Some entry) told seat pass =
     record pass {
       seen = seat.list ++ appended pass.by entry ∷ [];
       mine = pass.mine ++ own (next_row seat) entry ∷ [];
       rows = pass.rows + 1;
+      notes = noted pass.notes 1;
     }
 pass_behind None told seat pass =
-    record pass { seen = seat.list; faults = pass.faults + told }
+    record pass { seen = seat.list; faults = pass.faults + told; notes = noted pass.notes 1 }

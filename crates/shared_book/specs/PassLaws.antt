@@ -1,47 +1,41 @@
 -- A pass is reached from itself by no ask, and by two lists of asks one after the other.
-use Rattle.std.proofs.Common.{◌≡◌, ℕ, ◌+◌, ◌≤◌, List, [], ◌++◌, length, All, sym, ◌∙◌, ap, arith, append_assoc, append-nil, length-append}
-use Rattle.std.proofs.lemmas.List.Elements.{All-append, All-nil, All-weaker}
+use Rattle.std.proofs.Common.{◌≡◌, ℕ, ◌+◌, ◌≤◌, min, List, [], ◌∷◌, ◌++◌, length, refl, sym, ◌∙◌, ap, subst, arith, length-append}
+use Rattle.turn_pass.specs.History.{PassState}
 use Rattle.book_words.specs.declared.act.Ask.{Ask}
 use Rattle.book_words.specs.declared.act.Entry.{Entry}
-use Rattle.book_words.specs.Callers.{IsReached, Known}
-use Rattle.book_words.specs.Desks.{Row}
-use Rattle.shared_book.specs.Passes.{HasMet}
+use Rattle.book_words.specs.Callers.{FAULTS_END, IsReached, Known}
+use Rattle.session_laws.specs.declared.session.Session as session
+use Rattle.shared_book.specs.Passes.{HasAsked, IsReachedBy, known_of, noted, room_of}
 
-met_itself : (known : Known) → HasMet known known
-met_itself known =
-    record {
-      seen = ([], sym (append-nil known.seen));
-      added = [];
-      mine = sym (append-nil known.mine);
-      within = All-nil (λ (row : Row). row.number ≤ length known.seen);
-    }
+asked_on : (room : ℕ) (first between last : Known) (some more : List Ask)
+    → HasAsked room first some between → HasAsked room between more last
+    → HasAsked room first (some ++ more) last
+asked_on room first between last [] more one two =
+    subst (λ (k : Known). HasAsked room k more last) one two
+asked_on room first between last (ask ∷ some) more one two = (
+  one.0,
+  one.1,
+  one.2,
+  asked_on room one.0 between last some more one.3 two,
+)
 
-met_on : (first between last : Known) → HasMet first between → HasMet between last
-    → HasMet first last
-met_on first between last one two =
-    let longer : length between.seen ≤ length last.seen =
-    omega (arith, ap length two.seen.1, length-append between.seen two.seen.0) in
-    record {
-      seen = (
-        one.seen.0 ++ two.seen.0,
-        two.seen.1 ∙ (ap (λ (es : List Entry). es ++ two.seen.0) one.seen.1
-            ∙ append_assoc first.seen one.seen.0 two.seen.0),
-      );
-      added = one.added ++ two.added;
-      mine = two.mine ∙ (ap (λ (rows : List Row). rows ++ two.added) one.mine
-          ∙ append_assoc first.mine one.added two.added);
-      within = All-append (λ (row : Row). row.number ≤ length last.seen) one.added two.added
-          (All-weaker (λ (row : Row). row.number ≤ length between.seen)
-          (λ (row : Row). row.number ≤ length last.seen)
-          (λ row least. omega (arith, least, longer)) one.added one.within)
-          two.within;
-    }
+noted_on : (first between last one two : ℕ) → min between FAULTS_END ≡ noted first one
+    → min last FAULTS_END ≡ noted between two → min last FAULTS_END ≡ noted first (one + two)
+noted_on first between last one two some more = omega (arith, some, more)
 
-pub met_reached : {C : Type 0} (known : C → Known)
-    → IsReached {C = C} (λ old new asks. HasMet (known old) (known new))
-met_reached known =
+none_noted : (notes : ℕ) → min notes FAULTS_END ≡ noted notes 0
+none_noted notes = omega arith
+
+pub is_reached : {N : Type 0} (session : session.Ghosts N)
+    → IsReached {C = PassState Entry} (λ old new asks. IsReachedBy session old new asks)
+is_reached session =
     record {
-      by_none = λ caller. met_itself (known caller);
-      by_both = λ first between last some more one two.
-          met_on (known first) (known between) (known last) one two;
+      by_none = λ pass. record { asked = refl; count = none_noted pass.notes };
+      by_both = λ first between last some more one two. record {
+        asked = asked_on (room_of session) (known_of session first) (known_of session between)
+            (known_of session last) some more one.asked two.asked;
+        count = noted_on first.notes between.notes last.notes (length some) (length more) one.count
+            two.count
+            ∙ ap (λ (n : ℕ). noted first.notes n) (sym (length-append some more));
+      };
     }

@@ -1,13 +1,15 @@
 -- What the Turn and the passes of a session know of its book.
-use Rattle.std.specs.Prelude.{◌≡◌, ℕ, ◌≤◌, List, ◌++◌, length, map, min, All}
+use Rattle.std.specs.Prelude.{◌≡◌, ℕ, ◌+◌, ◌<◌, ◌≤◌, true, List, [], ◌∷◌, ◌++◌, length, map, min, All, IsSome}
 use Rattle.device_facts.specs.Prefix.{IsPrefixOf}
 use Rattle.turn_pass.specs.declared.entries.Appended.{Appended}
 use Rattle.turn_pass.specs.declared.entries.Own.{Own}
 use Rattle.turn_pass.specs.History.{PassState, TurnState}
+use Rattle.book_words.specs.declared.act.Ask.{Ask}
 use Rattle.book_words.specs.declared.act.Entry.{Entry}
-use Rattle.book_words.specs.Callers.{FAULTS_END, Known}
+use Rattle.book_words.specs.Callers.{FAULTS_END, Known, entry_offered}
 use Rattle.book_words.specs.Desks.{Row}
 use Rattle.session_laws.specs.declared.session.Session as session
+use Rattle.session_laws.specs.Sessions.{weighs}
 
 -- the entries of some lines of the list
 abbrev pub entries_in : List (Appended Entry) → List Entry
@@ -41,6 +43,27 @@ pub record IsPassOf {N : Type 0} (session : session.Ghosts N) (pass : PassState 
   pub behind : pass.history ≡ length session.before
   pub booked : pass.rows ≡ length pass.mine
 
+-- how many notes a pass has taken in behind so many more
+abbrev pub noted : ℕ → ℕ → ℕ
+noted before more = min (before + more) FAULTS_END
+
+-- one note was taken in for each ask
+abbrev pub HasNoted : ℕ → ℕ → List Ask → Type 0
+HasNoted before now asks = min now FAULTS_END ≡ noted before (length asks)
+
+-- An ask found no memory, as it shows in what is known of its caller: an entry would be added behind
+-- what is now seen, none was, and no fault of the disk was told.
+pub record FoundNoMemory (was now : Known) (ask : Ask) : Type 0 where
+  pub offered : IsSome (entry_offered now ask)
+  pub mine : now.mine ≡ was.mine
+  pub faults : now.faults ≡ was.faults
+  pub counted : now.faults < FAULTS_END
+
+-- at a weighing that found no memory so many rows are seen at least
+abbrev pub HasUsedRoom : ℕ → Known → Known → Ask → Type 0
+HasUsedRoom room was now ask =
+    FoundNoMemory was now ask → weighs ask.want ≡ true → room ≤ length now.seen
+
 -- A pass went on, whatever was asked between by whomever: what it had seen begins what it has seen
 -- now, and its own rows grow by rows that it has seen by now.
 pub record HasMet (old new : Known) : Type 0 where
@@ -48,3 +71,21 @@ pub record HasMet (old new : Known) : Type 0 where
   pub added : List Row
   pub mine : new.mine ≡ old.mine ++ added
   pub within : All (λ (row : Row). row.number ≤ length new.seen) added
+
+-- A caller went on by just these asks, one after another, whatever others asked between them; a
+-- weighing found no memory only where so many rows were seen.
+abbrev pub HasAsked : ℕ → Known → List Ask → Known → Type 0
+HasAsked room old [] new = new ≡ old
+HasAsked room old (ask ∷ asks) new =
+    (between : Known) × HasMet old between × HasUsedRoom room old between ask
+    × HasAsked room between asks new
+
+-- how many rows there are once the room of a session is used up
+abbrev pub room_of : {N : Type 0} → session.Ghosts N → ℕ
+room_of session = session.spare + length session.before
+
+-- A pass was asked for by just these asks: so many notes it took in.
+pub record IsReachedBy {N : Type 0} (session : session.Ghosts N) (old new : PassState Entry)
+    (asks : List Ask) : Type 0 where
+  pub asked : HasAsked (room_of session) (known_of session old) asks (known_of session new)
+  pub count : HasNoted old.notes new.notes asks

@@ -29,10 +29,12 @@ impl<D: Disk, L: Ledger, M: Ledger, N: Session> LockedBook<D, L, M, N> {
     ghost use Rattle.std.specs.Prelude.{◌≡◌, ◌+◌, ◌≤◌, Err, true, length};
     ghost use Rattle.book_words.specs.Callers.{IsAsked, faults_told};
     ghost use Rattle.book_words.specs.declared.caller.AskError.TheVariants as error;
-    ghost use Rattle.book_store.specs.Stores.{IsSound};
+    ghost use Rattle.book_words.specs.Answers.{added};
+    ghost use Rattle.book_store.specs.Stores.{entries_of, IsSound};
+    ghost use Rattle.book_store.specs.Offers.{Offers};
     ghost use Rattle.session_laws.specs.Sessions.{Begins, IsKeptSince, weighs};
     ghost use Rattle.shared_book.specs.Locked.{KeepsSeat, IsNewSeat};
-    ghost use Rattle.shared_book.specs.Passes.{IsPassOf, known_of};
+    ghost use Rattle.shared_book.specs.Passes.{IsPassOf, HasUsedRoom, known_of, noted, room_of};
 
     /// The book of a new session, all of whose passes were made.
     pub fn new(store: Store<D>, seat: BookSeat<Entry, L, M>) -> LockedBook<D, L, M, N>
@@ -48,7 +50,9 @@ impl<D: Disk, L: Ledger, M: Ledger, N: Session> LockedBook<D, L, M, N> {
         }
     }
 
-    /// Answers an ask of the caller of this pass, as `Pass::ask` says.
+    /// Answers an ask of the caller of this pass, as `Pass::ask` says. A crash at any moment of the
+    /// call leaves the rows before it, and at most the entry that is offered or the one that hung
+    /// besides.
     pub fn ask(
         &mut self,
         turn: &Turn<Entry, L, M>,
@@ -60,8 +64,14 @@ impl<D: Disk, L: Ledger, M: Ledger, N: Session> LockedBook<D, L, M, N> {
         ensures asked { IsAsked (known_of N.Session pass.old) (known_of N.Session pass.new)
             ask.now result }
         ensures room { result ≡ Err error.NoMemory → weighs ask.now.want ≡ true
-            → N.spare + length N.before ≤ length (known_of N.Session pass.new).seen }
+            → room_of N.Session ≤ length (known_of N.Session pass.new).seen }
+        ensures used { HasUsedRoom (room_of N.Session) (known_of N.Session pass.old)
+            (known_of N.Session pass.new) ask.now }
+        ensures noted { pass.new.notes ≡ noted pass.old.notes 1 }
         ensures booked { pass.new.faults ≡ pass.old.faults + faults_told result }
+        ensures offers { Offers D.Disk
+            (added N.limit (entries_of self.old.store) pass.old.by ask.now)
+            self.old.store self.new.store }
         ensures pass { IsPassOf N.Session pass.new }
     {
         let next = self.held.len() + 1;

@@ -61,32 +61,32 @@ impl<'a, D: Disk, R: Wait, L: Ledger, M: Ledger, N: Session> Pass<'a, D, R, L, M
 }
 
 impl<'a, D: Disk, R: Wait, L: Ledger, M: Ledger, N: Session> Caller for Pass<'a, D, R, L, M, N> {
-    ghost use Rattle.std.specs.Prelude.{◌≡◌, ◌+◌, ◌≤◌, Err, true, length};
+    ghost use Rattle.std.specs.Prelude.{◌≡◌, ◌+◌, ◌≤◌, [], ◌∷◌, Err, true, length};
     ghost use Rattle.book_words.specs.Callers.{IsAsked, faults_told};
     ghost use Rattle.book_words.specs.declared.caller.AskError.TheVariants as error;
     ghost use Rattle.session_laws.specs.Sessions.{weighs};
-    ghost use Rattle.shared_book.specs.Passes.{known_of, HasMet};
-    ghost use Rattle.shared_book.specs.PassLaws.{met_reached};
+    ghost use Rattle.shared_book.specs.Passes.{known_of, room_of, IsReachedBy};
+    ghost use Rattle.shared_book.specs.PassLaws.{is_reached};
 
     ghost known = { λ pass. known_of N.Session pass };
 
-    ghost later = { λ old new asks. HasMet (known_of N.Session old) (known_of N.Session new) };
+    ghost later = { λ old new asks. IsReachedBy N.Session old new asks };
 
-    /// Asks the book, as soon as nobody else asks. The answer is the book's to the whole list of
-    /// then, which the pass has seen afterwards: what it had seen before begins it, and an entry
-    /// that was added stands behind it. A fault of the disk is booked for this pass. A weighing
+    /// Asks the book, as soon as nobody else asks. The answer is the book's over the list of then,
+    /// which the pass has seen afterwards: what it had seen before begins it, and an entry that was
+    /// added stands behind it. The ask is counted. A fault of the disk is booked for this pass. A weighing
     /// finds no memory only where the session has taken down as many rows as there was room for as
     /// it began.
     fn ask(&mut self, ask: &Ask) -> Result<Answered, AskError>
         ensures asked { IsAsked (known_of N.Session self.old) (known_of N.Session self.new)
             ask.now result }
-        ensures later { HasMet (known_of N.Session self.old) (known_of N.Session self.new) }
+        ensures later { IsReachedBy N.Session self.old self.new (ask.now ∷ []) }
         ensures room { result ≡ Err error.NoMemory → weighs ask.now.want ≡ true
-            → N.spare + length N.before ≤ length (known_of N.Session self.new).seen }
+            → room_of N.Session ≤ length (known_of N.Session self.new).seen }
         ensures booked { self.new.faults ≡ self.old.faults + faults_told result }
     {
         self.shared.ask(self.rt, &mut self.seat, ask)
     }
 
-    ghost reached = { met_reached (known_of N.Session) };
+    ghost reached = { is_reached N.Session };
 }

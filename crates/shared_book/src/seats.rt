@@ -5,6 +5,7 @@ ghost use Rattle.hall_limits.specs.declared.TheConstants.{MAX_ROWS};
 ghost use Rattle.turn_pass.specs.History.{appended, own};
 ghost use Rattle.book_words.specs.Callers.{faults_told};
 ghost use Rattle.shared_book.specs.Locked.{next_row, seat_behind, pass_behind};
+ghost use Rattle.shared_book.specs.Passes.{noted};
 
 use book_words::{Answered, AskError, Entry};
 use std::sync::ledger::Ledger;
@@ -51,6 +52,7 @@ fn enter<L: Ledger, M: Ledger>(
       seen = seat.old.list ++ appended pass.old.by entry ∷ [];
       mine = pass.old.mine ++ own (next_row seat.old) entry ∷ [];
       rows = pass.old.rows + 1;
+      notes = noted pass.old.notes 1;
     } }
     ensures seen { IsPrefix pass.old.seen seat.old.list }
 {
@@ -68,7 +70,8 @@ fn show<L: Ledger, M: Ledger>(
 )
     requires turn { (seat.old.table ≡ turn.now.table) × (pass.old.table ≡ turn.now.table) }
     ensures seat { seat.new ≡ seat.old }
-    ensures pass { pass.new ≡ record pass.old { seen = seat.old.list } }
+    ensures pass { pass.new
+        ≡ record pass.old { seen = seat.old.list; notes = noted pass.old.notes 1 } }
     ensures seen { IsPrefix pass.old.seen seat.old.list }
 {
     seat.hear(turn, pass);

@@ -46,7 +46,7 @@ impl<D: Disk, L: Ledger, M: Ledger, N: Session> Shared<D, L, M, N> {
     ghost use Rattle.book_store.specs.Stores.{disk_of, entries_of, IsSound};
     ghost use Rattle.session_laws.specs.Sessions.{Begins, IsKeptSince, KeepsRun, RestsOnDisk, weighs};
     ghost use Rattle.shared_book.specs.Locked.{IsNewSeat};
-    ghost use Rattle.shared_book.specs.Passes.{IsPassOf, IsTurnOf, known_of};
+    ghost use Rattle.shared_book.specs.Passes.{IsPassOf, IsTurnOf, HasUsedRoom, known_of, noted, room_of};
     ghost use Rattle.shared_book.specs.Closing.{MakeRows, IsCalm};
 
     /// Begins a session with this store, in which nothing hangs. The Turn was begun behind the
@@ -88,7 +88,10 @@ impl<D: Disk, L: Ledger, M: Ledger, N: Session> Shared<D, L, M, N> {
         ensures asked { IsAsked (known_of N.Session pass.old) (known_of N.Session pass.new)
             ask.now result }
         ensures room { result ≡ Err error.NoMemory → weighs ask.now.want ≡ true
-            → N.spare + length N.before ≤ length (known_of N.Session pass.new).seen }
+            → room_of N.Session ≤ length (known_of N.Session pass.new).seen }
+        ensures used { HasUsedRoom (room_of N.Session) (known_of N.Session pass.old)
+            (known_of N.Session pass.new) ask.now }
+        ensures noted { pass.new.notes ≡ noted pass.old.notes 1 }
         ensures booked { pass.new.faults ≡ pass.old.faults + faults_told result }
         ensures pass { IsPassOf N.Session pass.new }
     {

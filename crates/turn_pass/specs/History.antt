@@ -37,8 +37,8 @@ pub record BookState (E : Type 0) : Type 0 where
   pub fault_parts : ℕ
   pub faults : ℕ
 
--- what the pass has seen of the list, its own entries, and how many rows and faults were booked for
--- it
+-- what the pass has seen of the list, its own entries, how many rows and faults were booked for it,
+-- and how many notes it took in, up to the greatest number of 64 bits
 pub record PassState (E : Type 0) : Type 0 where
   pub table : TableId
   pub history : ℕ
@@ -47,6 +47,7 @@ pub record PassState (E : Type 0) : Type 0 where
   pub mine : List (Own E)
   pub rows : ℕ
   pub faults : ℕ
+  pub notes : ℕ
 
 -- the list as it was when the note was made
 pub record NoteState (E : Type 0) : Type 0 where
@@ -82,6 +83,7 @@ module _ {E : Type 0} where
     mine = [];
     rows = 0;
     faults = 0;
+    notes = 0;
   }
 
   -- the pass is recorded, and takes one part of each ledger

@@ -45,8 +45,8 @@ module _ {E : Type 0} where
   }
 
   -- what a pass shows
-  abbrev pub pass_state : TableId → View E → ℕ → ℕ → PassState E
-  pass_state table v rows faults = record {
+  abbrev pub pass_state : TableId → View E → ℕ → ℕ → ℕ → PassState E
+  pass_state table v rows faults notes = record {
     table = table;
     history = v.history;
     by = v.known.by;
@@ -54,4 +54,5 @@ module _ {E : Type 0} where
     mine = v.known.mine;
     rows = rows;
     faults = faults;
+    notes = notes;
   }

@@ -1,5 +1,5 @@
 //! What a caller holds: its pass, and the notes that it meets.
-ghost use Rattle.std.specs.Prelude.{◌≡◌, ◌≢◌, ◌+◌, ◌++◌, ◌∷◌, [], All};
+ghost use Rattle.std.specs.Prelude.{◌≡◌, ◌≢◌, ◌+◌, ◌-◌, ◌^◌, ◌++◌, ◌∷◌, [], min, All};
 ghost use Rattle.turn_pass.specs.Seats.{IsOf, SitsAt, pass_state};
 ghost use Rattle.turn_pass.specs.Rule.{with_ended};
 ghost use mathlib.Core.List.{IsPrefix};
@@ -14,14 +14,15 @@ use crate::turn::Turn;
 use std::marker::{Brand, Model};
 use std::sync::ledger::{Ledger, Share};
 
-/// One caller's pass: what it has seen of the list, its own entries in it, and what was booked for
-/// it.
+/// One caller's pass: what it has seen of the list, its own entries in it, what was booked for it,
+/// and how many notes it took in.
 #[derive(Drop)]
 pub struct PassSeat<E, L: Ledger, M: Ledger> {
     pub(crate) place: Place<E>,
     pub(crate) rows: Share<L>,
     pub(crate) faults: Share<M>,
     by: u16,
+    notes: u64,
 }
 
 impl<E, L: Ledger, M: Ledger> Model for PassSeat<E, L, M> {
@@ -33,7 +34,8 @@ impl<E, L: Ledger, M: Ledger> Model for PassSeat<E, L, M> {
     ghost use Rattle.turn_pass.specs.declared.rule.Role.TheVariants.{Pass};
     ghost use Rattle.turn_pass.specs.Seats.{pass_state};
 
-    ghost view = { λ p. pass_state p.place.table_id p.place.me.0 p.rows.amount p.faults.amount };
+    ghost view = { λ p.
+        pass_state p.place.table_id p.place.me.0 p.rows.amount p.faults.amount p.notes };
 
     ghost invariant = { λ p.
         (p.place.me.0.role ≡ Pass)
@@ -71,13 +73,14 @@ impl<E: Copy, L: Ledger, M: Ledger> PassSeat<E, L, M> {
     ) -> PassSeat<E, L, M>
         requires place { (place.me.0.role ≡ Pass) × (place.me.1 ≡ []) × (place.me.0.known.by ≡ by) }
         requires parts { (rows.parts ≡ 1) × (faults.parts ≡ 1) }
-        ensures { result ≡ pass_state place.table_id place.me.0 rows.amount faults.amount }
+        ensures { result ≡ pass_state place.table_id place.me.0 rows.amount faults.amount 0 }
     {
         PassSeat {
             place,
             rows,
             faults,
             by,
+            notes: 0,
         }
     }
 
@@ -98,6 +101,7 @@ impl<E: Copy, L: Ledger, M: Ledger> PassSeat<E, L, M> {
             rows,
             faults,
             by: _,
+            notes: _,
         } = self;
         steps::end(board, &mut closing.place, place);
         closing.rows.merge(rows);
@@ -111,17 +115,21 @@ impl<E: Copy, L: Ledger, M: Ledger> PassSeat<E, L, M> {
         self.by
     }
 
-    /// Takes in a note. What the pass has seen becomes the note's list, or stays as it is where
-    /// that is shorter. Of the two the longer begins with the shorter.
+    /// Takes in a note, and counts it. What the pass has seen becomes the note's list, or stays as
+    /// it is where that is shorter. Of the two the longer begins with the shorter.
     pub fn meet(&mut self, turn: &Turn<E, L, M>, note: Note<E>)
         requires turn { (self.old.table ≡ turn.now.table) × (note.table ≡ turn.now.table) }
-        ensures pass { self.new ≡ record self.old { seen = longer self.old.seen note.seen } }
+        ensures pass { self.new ≡ record self.old {
+          seen = longer self.old.seen note.seen;
+          notes = min (self.old.notes + 1) (2 ^ 64 - 1);
+        } }
         ensures grows { IsPrefix self.old.seen self.new.seen }
         ensures met { IsPrefix note.seen self.new.seen }
         ensures later { IsPrefix self.old.seen note.seen → self.new.seen ≡ note.seen }
     {
         steps::meet(&turn.board, &mut self.place, note.place);
         steps::look(&turn.board, &mut self.place);
+        self.notes = self.notes.saturating_add(1);
     }
 
     /// Makes the entry at this number one of the pass's own, by one load of the word. It was

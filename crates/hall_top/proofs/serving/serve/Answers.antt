@@ -22,7 +22,8 @@ returns-in-Ok-clause-serves g c =
     (handed_in c.args.lanes.items c.args.doors.items)
     (input_at g.S.Source c.serve_store.new.input) (output_at g.K.Sink c.serve_store.new.output)
     c.serve_store.result c.in-Ok.ensures.limit c.in-Ok.ensures.count c.in-Ok.ensures.calm
-    c.in-Ok.ensures.cause c.in-Ok.ensures.opened c.in-Ok.ensures.held c.serve_store.ensures.done)
+    c.in-Ok.ensures.cause c.in-Ok.ensures.opened c.in-Ok.ensures.held c.in-Ok.ensures.unwritten
+    c.serve_store.ensures.done)
 
 pub returns-in-Ok-clause-status : goal.returns-in-Ok-clause-status
 returns-in-Ok-clause-status g c =

@@ -1,6 +1,6 @@
-use Rattle.std.proofs.Common.{◌≡◌, List, Ok, Err, refl, sym, ap, ◌∙◌, subst, inl}
+use Rattle.std.proofs.Common.{◌≡◌, ◌≤◌, OnOk, List, Ok, Err, refl, sym, ap, ◌∙◌, subst, inl}
 use Rattle.book_words.specs.declared.act.Entry.{Entry}
-use Rattle.book_store.specs.Stores.{entries_of}
+use Rattle.book_store.specs.Stores.{entries_of, spare_of}
 use Rattle.setup_run.specs.Setups.{IsSetUp}
 use Rattle.store_runs.specs.Books.{stored_book}
 use Rattle.store_runs.specs.Runs.{Goes}
@@ -26,6 +26,7 @@ returns-in-Ok-reserve-clause-ready g c =
       lanes = refl;
       goes = goes_on disk tt (Ok tt) first mid last c.in-Ok.ensures.goes step;
       sound = r.sound c.in-Ok.ensures.sound;
+      room = subst (λ x. OnOk x (c.args.plan.reserve ≤ spare_of last)) c.in-Ok-reserve.is r.ok;
     }
 
 pub returns-in-Err-reserve-clause-stops : goal.returns-in-Err-reserve-clause-stops

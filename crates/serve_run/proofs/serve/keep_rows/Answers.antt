@@ -1,7 +1,7 @@
 use Rattle.std.proofs.Common.{rules, ◌≡◌, ap, inr, arith}
 use Rattle.book_core.specs.View.{BookView}
 use Rattle.session_jobs.proofs.SessionLemmas.{run_rested}
-use Rattle.serve_run.proofs.RunLemmas.{keeps_own}
+use Rattle.serve_run.proofs.RunLemmas.{keeps_own, none_of_these}
 use Rattle.serve_run.proofs.serve.keep_rows.Goals as goal
 
 pub returns-in-Ok : goal.returns-in-Ok
@@ -20,6 +20,9 @@ returns-in-Ok g c =
             run_rested disk held start old new r.book r.keeps r.images c.rest.result r.cause run;
         snapshot = λ finished calm grown. keeps_own disk old new c.args.opened c.rest.result
             c.in-Ok.field-0 c.in-Ok.is r.idle.0 r.holds calm grown;
+        untouched = none_of_these c.args.faults c.args.lack
+            (omega (arith, c.if-faults-gt0.false)) c.if-lack.false
+            (omega (arith, c.if-len-opened.false, c.len.ensures));
       };
     }
 
@@ -38,6 +41,9 @@ returns-in-Err-DiskFault g c =
         kept = λ held start run.
             run_rested disk held start old new r.book r.keeps r.images c.rest.result r.cause run;
         snapshot = λ finished. absurd (cc);
+        untouched = none_of_these c.args.faults c.args.lack
+            (omega (arith, c.if-faults-gt0.false)) c.if-lack.false
+            (omega (arith, c.if-len-opened.false, c.len.ensures));
       };
     }
 
@@ -56,5 +62,8 @@ returns-in-Err-NoMemory g c =
         kept = λ held start run.
             run_rested disk held start old new r.book r.keeps r.images c.rest.result r.cause run;
         snapshot = λ finished. absurd (cc);
+        untouched = none_of_these c.args.faults c.args.lack
+            (omega (arith, c.if-faults-gt0.false)) c.if-lack.false
+            (omega (arith, c.if-len-opened.false, c.len.ensures));
       };
     }

@@ -4,7 +4,7 @@ use Rattle.session_history.specs.Histories.{OneHistory}
 use Rattle.session_jobs.specs.declared.work.Work.{Work}
 use Rattle.session_jobs.specs.Runs.{HaveRun}
 use Rattle.session_jobs.specs.Works.{lane_site, door_site, number_of}
-use Rattle.book_store.specs.Stores.{entries_of, limit_of}
+use Rattle.book_store.specs.Stores.{entries_of, limit_of, spare_of}
 use Rattle.text_streams.specs.Streams.{output_at}
 use Rattle.serve_run.specs.Jobs.{handed_back, handed_in, jobs_of}
 use Rattle.serve_run.specs.Plans.{EndsPlan}
@@ -61,7 +61,7 @@ finish-requires-clause-few g c =
     let end = c.run_jobs-end.result in
     let store = c.args.prepared.store in
     let ran = ended.ran c.if-end.true in
-    let many = run_many L O lane_at door_at (limit_of store) (entries_of store)
+    let many = run_many L O lane_at door_at (limit_of store) (spare_of store) (entries_of store)
     (entries_of end.store) end.faults c.push_doors.new.jobs.items end.jobs.items ran in
     omega (arith, many, ap length made, few, c.requires.few_lanes, c.requires.few_doors)
 
@@ -82,7 +82,7 @@ finish-requires-clause-room g c =
     let end = c.run_jobs-end.result in
     let store = c.args.prepared.store in
     let ran = ended.ran c.if-end.true in
-    let many = run_many L O lane_at door_at (limit_of store) (entries_of store)
+    let many = run_many L O lane_at door_at (limit_of store) (spare_of store) (entries_of store)
     (entries_of end.store) end.faults c.push_doors.new.jobs.items end.jobs.items ran in
     let lanes_len : c.len.result ≡ length lanes = search rules in
     let doors_len : c.len-2.result ≡ length doors = search rules in
@@ -127,17 +127,17 @@ returns-then-end g c =
     let end = c.run_jobs-end.result in
     let store = c.args.prepared.store in
     let ran = ended.ran c.if-end.true in
-    let many = run_many L O lane_at door_at (limit_of store) (entries_of store)
+    let many = run_many L O lane_at door_at (limit_of store) (spare_of store) (entries_of store)
     (entries_of end.store) end.faults c.push_doors.new.jobs.items end.jobs.items ran in
     let apart = jobs_apart L O planned lanes doors c.requires.numbered c.requires.distinct in
-    let whole : HaveRun lane_at door_at (limit_of store) (entries_of store) (entries_of end.store)
-    end.faults (jobs_of planned lanes doors) end.jobs.items =
-    subst (λ (ws : List (Work L O)). HaveRun lane_at door_at (limit_of store) (entries_of store)
-    (entries_of end.store) end.faults ws end.jobs.items) made ran in
-    let history : OneHistory lane_at door_at (limit_of store) (entries_of store)
+    let whole : HaveRun lane_at door_at (limit_of store) (spare_of store) (entries_of store)
+    (entries_of end.store) end.faults (jobs_of planned lanes doors) end.jobs.items =
+    subst (λ (ws : List (Work L O)). HaveRun lane_at door_at (limit_of store) (spare_of store)
+    (entries_of store) (entries_of end.store) end.faults ws end.jobs.items) made ran in
+    let history : OneHistory lane_at door_at (limit_of store) (spare_of store) (entries_of store)
     (entries_of end.store) end.faults (jobs_of planned lanes doors) end.jobs.items =
     one_history g.L.Cell g.L.Gate g.O.Source g.O.Door.connections (limit_of store)
-    (entries_of store) (entries_of end.store) end.faults (jobs_of planned lanes doors)
+    (spare_of store) (entries_of store) (entries_of end.store) end.faults (jobs_of planned lanes doors)
     end.jobs.items apart whole ended.sound.legal in
     let before = output_at g.K.Sink c.args.output.now in
     let now = output_at g.K.Sink c.finish.new.output in
@@ -147,7 +147,7 @@ returns-then-end g c =
           before now c.finish.result stop) (sym fin.stopped)
           (runs_plan g.D.Disk lane_at door_at store planned (handed_in lanes doors) before now
           c.finish.result end c.held-opened.result c.held-opened.ensures fin whole history
-          ended.faults ended.settled ended.limit ended.kept);
+          ended.faults ended.settled ended.limit ended.kept ended.still);
     }
 
 pub returns : goal.returns

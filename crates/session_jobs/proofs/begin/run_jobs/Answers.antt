@@ -8,6 +8,7 @@ returns g c =
       unbegun = e.unbegun;
       faults = e.faults;
       settled = e.settled;
+      still = e.still;
       sound = e.sound;
       balanced = e.balanced;
       limit = e.limit;

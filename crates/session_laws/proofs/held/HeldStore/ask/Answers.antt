@@ -1,19 +1,20 @@
-use Rattle.std.proofs.Common.{◌≡◌, ◌⊎◌, ◌+◌, ◌≤◌, ℕ, Err, true, length, subst}
+use Rattle.std.proofs.Common.{◌≡◌, ◌⊎◌, ◌+◌, ◌≤◌, ℕ, Err, true, length, refl, subst}
 use Rattle.device_facts.specs.Prefix.{IsPrefixOf}
 use Rattle.book_words.specs.Answers.{answer, added}
 use Rattle.book_words.specs.declared.caller.AskError.TheVariants as error
 use Rattle.book_store.specs.declared.store.Store.{Store}
 use Rattle.book_store.specs.Stores.{disk_of, book_of, entries_of, limit_of, Hangs}
-use Rattle.book_store.specs.Offers.{CountsDiskFault, GivesAnswer, list_behind}
+use Rattle.book_store.specs.Offers.{CountsDiskFault, GivesAnswer, Offers, list_behind}
 use Rattle.session_laws.specs.Sessions.{weighs}
-use Rattle.session_laws.proofs.SessionLemmas.{asked_begins, kept_asked, no_memory}
+use Rattle.session_laws.proofs.SessionLemmas.{asked_begins, kept_asked, no_memory, still_asked}
 use Rattle.session_laws.proofs.held.HeldStore.ask.Goals as goal
 
 pub invariant_of-self : goal.invariant_of-self
 invariant_of-self g c =
     let old = c.self.inside.store in
     let offered = added (limit_of old) (entries_of old) c.args.by c.args.ask.now in
-    kept_asked g.D.Disk g.N.Session old c.ask.new.self c.ask.result offered c.ask.ensures.entries
+    kept_asked g.D.Disk g.N.Session c.args.by c.args.ask.now old c.ask.new.self c.ask.result offered
+    refl c.ask.ensures.entries
     c.ask.ensures.offers c.ask.ensures.settled c.ask.ensures.images c.ask.ensures.hangs
     c.ask.ensures.cause c.ask.ensures.limit c.ask.ensures.spare c.ask.ensures.sound c.self.invariant
 
@@ -47,6 +48,14 @@ returns g c =
           (no_memory g.D.Disk g.N.Session old by asked
           (added (limit_of old) (entries_of old) by asked) r
           (answer (limit_of old) (entries_of old) asked) c.self.invariant e.answer);
+      offers = subst (λ (s : S). Offers g.D.Disk (added g.N.Session.limit (entries_of s) by asked) s new)
+          c.self.view_is
+          (subst (λ (n : ℕ). Offers g.D.Disk (added n (entries_of old) by asked) old new) limit
+          e.offers);
+      still = subst (λ (s : S). length (entries_of new) ≤ length (entries_of s)
+          → (r ≡ Err error.DiskFault) ⊎ (disk_of new ≡ disk_of s)) c.self.view_is
+          (still_asked g.D.Disk old new by asked r (added (limit_of old) (entries_of old) by asked)
+          refl e.entries e.offers e.no_memory e.answer);
       hangs = subst (λ (s : S). Hangs new → (r ≡ Err error.DiskFault) ⊎ Hangs s) c.self.view_is
           e.hangs;
       cause = subst (λ (s : S). CountsDiskFault (g.D.Disk.faults (disk_of s))
