@@ -19,9 +19,10 @@ import time
 from day_texts import read_days
 from rows import rows_behind
 from worked_tables import (
-    BOOK, BOOK_PLACES, DAMAGED, FIVE_ROWS, FOREIGN, GATE_PRIORS, GATES, IMPORTS, JOURNAL, JOURNALS,
-    LANES, LINES, NEXT_DAY, PATHS, PIPED, PLANS, PORTS, PRINTED, RIGHT_WORDS, SETUPS, SIXTH_ROW, Step,
-    TRIALS, USAGE, WRONG_WORDS)
+    BOOK, BOOK_PLACES, COPIES, DAMAGED, EMPTY_BATCH, EMPTY_PAPER, FIVE_ROWS, FOLLOWED, FOREIGN,
+    GATE_PRIORS, GATES, IMPORTS, JOURNAL, JOURNALS, LANES, LINES, NEXT_DAY, OPENING, PAPER, PATHS,
+    PIPED, PLANS, PORTS, PRINTED, PROVED, REFUSED_PAPERS, RIGHT_WORDS, SETUPS, SHIPPED, SIXTH_ROW,
+    Step, TRIALS, TRIAL_OF_TWO, USAGE, WRONG_WORDS)
 
 HERE = os.path.dirname(os.path.realpath(__file__))
 SECONDS = 120
@@ -143,7 +144,7 @@ def held(hall):
     first.stdin.flush()
     compare("the first hall", first.stdout.readline(), b"6 pass\n")
     written = hall.bytes()
-    for command in ("run", "check", "migrate", "serve", "report", "export", "import"):
+    for command in ("run", "check", "migrate", "serve", "report", "export", "import", "follow"):
         compare(f"{command} of a held book", hall.ask([command], SIXTH_ROW.given),
                 ("disk fault\n", 6))
     compare("a held book", hall.bytes(), written)
@@ -188,6 +189,66 @@ def journals(hall):
     hall.put(JOURNAL)
     compare("a journal as a book", hall.ask(["run"]), ("not a journal at 7\n", 8))
     compare("the journal", hall.bytes(), JOURNAL)
+
+
+def ask_bytes(hall, words, given=b""):
+    """What a run writes, and its status."""
+    told = subprocess.run([hall.program, *words, f"--book={hall.book}"], input=given,
+                          capture_output=True, timeout=SECONDS, cwd=hall.folder, check=False)
+    return told.stdout, told.returncode
+
+
+def copies(hall):
+    """Shipments of a book, which stays as it is; and copies that follow them, whole or spoiled. A
+    copy that followed is the book to the last byte, and goes on."""
+    hall.anew()
+    hall.do(FIVE_ROWS)
+    five = hall.bytes()
+    shipments = {}
+    for words, head, length in SHIPPED:
+        shipment, status = ask_bytes(hall, ["ship", *words])
+        compare(f"ship {words}", (shipment[:16], len(shipment), status), (head, length, 0))
+        compare(f"the rows of ship {words}", shipment[16:], five[96 * 6 - length + 16 : 96 * 6])
+        shipments[int.from_bytes(head[12:16], "little")] = shipment
+    compare("a book that was shipped", hall.bytes(), five)
+    for held, after, changes, length, more, step in FOLLOWED:
+        hall.anew()
+        hall.ask(["run"], COPIES[held])
+        shipment = shipments[after]
+        kept = len(shipment) if length is None else length
+        hall.do(step._replace(given=changed(shipment, changes, kept) + more))
+    hall.anew()
+    hall.ask(["run"], OPENING)
+    hall.do(Step(["follow"], shipments[3][:207], "bad line 5\n", 3, 4))
+    for shipment in (shipments[3], shipments[3], shipments[0]):
+        hall.do(Step(["follow"], shipment, "rows 5 whole\n", 0, 5))
+    compare("the copy", hall.bytes(), five)
+    hall.do(SIXTH_ROW)
+    hall.do(Step(["follow"], shipments[0], "rows 6 whole\n", 0, 6))
+    hall.anew()
+    hall.do(NEXT_DAY)
+    hall.do(Step(["follow"], shipments[0], "bad line 1\n", 3, 1))
+
+
+def papers(hall):
+    """Papers of closed batches, the refusals of others, and what is proved of papers."""
+    for script, batch, paper in ((TRIAL_OF_TWO, "T1", PAPER), (EMPTY_BATCH, "A", EMPTY_PAPER)):
+        hall.anew()
+        hall.ask(["run"], script)
+        before = hall.bytes()
+        compare(f"the paper of {batch}", ask_bytes(hall, ["paper", "--batch", batch]), (paper, 0))
+        compare("a book with a paper", hall.bytes(), before)
+    for script, batch, refusal in REFUSED_PAPERS:
+        hall.anew()
+        hall.ask(["run"], script)
+        hall.do(Step(["paper", f"--batch={batch}"], b"", refusal, 0))
+    for step in PROVED:
+        compare(f"prove {step.given!r}", hall.ask(step.words, step.given, book=False),
+                (step.printed, step.status))
+    long = PAPER.ljust(16_777_217, b"x")
+    compare("a longer paper", hall.ask(["prove"], long, book=False), ("bad line 0\n", 3))
+    compare("one as long as may be", hall.ask(["prove"], long[:-1], book=False),
+            ("bad line 10\n", 3))
 
 
 def printed(hall):
@@ -331,8 +392,8 @@ def main():
     folder = tempfile.mkdtemp(prefix="hall_worked.")
     signal.alarm(5 * SECONDS)
     hall = Hall(os.path.realpath(program), folder)
-    for table in (days, words, lines, gates, books, held, paths, journals, printed, imports, trials,
-                  foreign, lanes, pipes, ports, plans, setups):
+    for table in (days, words, lines, gates, books, held, paths, journals, copies, papers, printed,
+                  imports, trials, foreign, lanes, pipes, ports, plans, setups):
         table(hall)
     shutil.rmtree(folder)
     print(f"worked: {compared} comparisons, {len(wrong)} came out otherwise")

@@ -247,6 +247,139 @@ PRINTED = [
         Step(["report", "--batch=A"], b"", SHEET_OF_A),
         Step(["report", "--batch", "A"], b"weigh 1 251.000\n", SHEET_OF_A)])]
 
+# The head of a shipment: its title, how many rows the book has, and how many were passed over.
+def head(rows, passed):
+    return b"AQHSHIP2" + rows.to_bytes(4, "little") + passed.to_bytes(4, "little")
+
+
+# Copies of the first rows of the five, by how many they have.
+COPIES = {0: b"", 1: OPENING[:15], 2: OPENING[:35], 3: OPENING}
+
+# What is shipped of the book of five rows: the words behind `ship`, and the head and bytes.
+SHIPPED = [
+    ([], head(5, 0), 496),
+    (["--after", "0"], head(5, 0), 496),
+    (["--after=3"], head(5, 3), 208),
+    (["--after=5"], head(5, 5), 16),
+    (["--after", "1000000"], head(5, 5), 16)]
+
+
+def followed(held, after, printed, status=0, rows=None, changes=(), length=None, more=b""):
+    """How many rows a copy holds, how many the shipment passes over, what is changed in its bytes
+    and how many are kept, and how following it ends."""
+    return held, after, changes, length, more, Step(["follow"], b"", printed, status, rows)
+
+
+FOLLOWED = [
+    followed(3, 3, "rows 5 whole\n", rows=5),
+    followed(0, 0, "rows 5 whole\n", rows=5),
+    followed(2, 0, "rows 5 whole\n", rows=5),
+    # rows before those that came are lacking; also where none came
+    followed(2, 3, "bad line 3\n", 3, 2),
+    followed(2, 5, "bad line 3\n", 3, 2),
+    followed(0, 3, "bad line 1\n", 3, 0),
+    # the last row is cut, the first, and each row away
+    followed(3, 3, "bad line 5\n", 3, 4, length=207),
+    followed(3, 3, "bad line 4\n", 3, 3, length=17),
+    followed(3, 3, "bad line 4\n", 3, 3, length=16),
+    followed(3, 3, "bad line 5\n", 3, 4, length=112),
+    # something follows the last row
+    followed(3, 3, "bad line 6\n", 3, 5, more=b"\0"),
+    # the head: cut, another title, more passed over than there are, and more than a book may have
+    followed(3, 3, "bad line 0\n", 3, 3, length=0),
+    followed(3, 3, "bad line 0\n", 3, 3, length=15),
+    followed(3, 3, "bad line 0\n", 3, 3, changes=[(7, ord("1"))]),
+    followed(3, 3, "bad line 0\n", 3, 3, changes=[(12, 6)]),
+    followed(3, 3, "bad line 0\n", 3, 3, changes=[(8, 0x41), (9, 0x42), (10, 0x0f)]),
+    # a row that the copy has otherwise (a tare of 10.001 g), one of a kind that isn't there, and one with its gate closed
+    followed(3, 0, "bad line 3\n", 3, 3, changes=[(208 + 51, 0x11)]),
+    followed(3, 3, "bad line 4\n", 3, 3, changes=[(17, 200)]),
+    followed(3, 3, "bad line 5\n", 3, 4, changes=[(112, 0)])]
+
+# The script of a trial of two packs, and the paper of its batch.
+TRIAL_OF_TWO = b"""\
+day 2025-03-03
+product trial 250
+tare trial 2025-03-03 10
+open T1 trial
+start 1 T1
+start 2 T1
+start 3 T1
+weigh 1 261.014
+weigh 2 260.587
+stop 1
+stop 2
+stop 3
+end T1
+draw T1 keep 0
+measure 9 260.587
+measure 8 261.014
+close T1
+"""
+
+PAPER = b"""\
+paper 1
+batch T1 product trial nominal 250.000 unit g density 1000.000 row 17
+tare 2025-03-03 10.000
+pack 8 2025-03-03 261.014
+pack 9 2025-03-03 260.587
+mode keep word 0
+first 9 gross 260.587 empty 0.000
+first 8 gross 261.014 empty 0.000
+verdict released
+"""
+
+# A batch that was closed without a pack.
+EMPTY_BATCH = OPENING + b"open A rice250\nend A\nclose A\n"
+
+EMPTY_PAPER = b"""\
+paper 1
+batch A product rice250 nominal 250.000 unit g density 1000.000 row 6
+verdict empty
+"""
+
+# What is refused of a batch, by a script and its name.
+REFUSED_PAPERS = [
+    (OPENING, "A", "refused 14 BatchUnknown at 3\n"),
+    (OPENING + b"open A rice250\n", "A", "refused 15 BatchState running at 4\n"),
+    (OPENING + b"open A rice250\nend A\n", "A", "refused 15 BatchState ended at 5\n"),
+    (TRIAL_OF_TWO[:TRIAL_OF_TWO.index(b"measure")], "T1", "refused 15 BatchState drawn at 14\n")]
+
+
+def relined(paper, changes):
+    """A paper whose lines of these numbers are others."""
+    lines = paper.splitlines(keepends=True)
+    for number, line in changes:
+        lines[number - 1] = line
+    return b"".join(lines)
+
+
+def proved(paper, printed, status=3):
+    return Step(["prove"], paper, printed, status)
+
+
+PROVED = [
+    proved(PAPER, "true released\n", 0),
+    proved(EMPTY_PAPER, "true empty\n", 0),
+    proved(relined(PAPER, [(9, b"verdict withheld mean\n")]), "bad line 9\n"),
+    # two lines are exchanged: the packs aren't drawn so
+    proved(relined(PAPER, [(7, PAPER.splitlines(True)[7]), (8, PAPER.splitlines(True)[6])]),
+           "bad line 7\n"),
+    # a line is lacking, something follows, or the last LF is away
+    proved(b"", "bad line 1\n"),
+    proved(relined(PAPER, [(6, b"")]), "bad line 6\n"),
+    proved(PAPER + b"\n", "bad line 10\n"),
+    proved(PAPER[:-1], "bad line 9\n"),
+    proved(relined(PAPER, [(9, b"")]), "bad line 9\n"),
+    # the day of the tare is none of the packs'; a pack's has no tare
+    proved(relined(PAPER, [(3, b"tare 2025-03-02 10.000\n")]), "bad line 3\n"),
+    proved(relined(PAPER, [(5, b"pack 9 2025-03-04 260.587\n")]), "bad line 5\n"),
+    # a fault of form comes before one of tares, wherever it stands
+    proved(relined(PAPER, [(3, b"tare 2025-03-02 10.000\n"), (9, b"verdict good\n")]),
+           "bad line 9\n"),
+    # a sample is too short
+    proved(relined(PAPER, [(8, b"")]), "bad line 8\n")]
+
 HEADER = b"desk,request,command\n"
 
 TWO_ACTS = HEADER + b"101,1,day 2025-03-03\n101,2,product a 250\n"

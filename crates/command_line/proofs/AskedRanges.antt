@@ -1,18 +1,22 @@
 -- The ranges of the numbers that words ask for.
-use Rattle.std.proofs.Common.{◌≡◌, ℕ, ◌≤◌, ◌&&◌, ◌^◌, ◌-◌, nat_le, Bool, true, false, List, [], ◌∷◌, codes, if◌then◌else◌, Option, Some, None, IfSome, option_map, option_and_then, refl, subst, arith}
+use Rattle.std.proofs.Common.{◌≡◌, ℕ, ◌≤◌, ◌&&◌, ◌^◌, ◌-◌, nat_le, Bool, true, false, List, [], ◌∷◌, codes, if◌then◌else◌, Option, Some, None, IfSome, is_some, ◌∙◌, option_map, option_and_then, refl, subst, arith}
 use Rattle.std.specs.Prelude.{⊤}
+use Rattle.std.proofs.lemmas.Bool.{and_parts}
 use Rattle.std.proofs.lemmas.Bool.Decides.{nat_tests}
 use Rattle.hall_limits.specs.declared.TheConstants.{MAX_DOOR, MAX_LANE, MAX_ROWS, MAX_TRIAL}
+use Rattle.book_words.specs.Names.{name_of}
+use Rattle.book_words.specs.declared.name.Name.{Name}
 use Rattle.hall_units.specs.Number.{bounded_number}
 use Rattle.command_line.specs.declared.types.Command.{Command}
-use Rattle.command_line.specs.declared.types.Command.TheVariants.{Trial}
+use Rattle.command_line.specs.declared.types.Command.TheVariants.{Paper, Trial}
 use Rattle.command_line.specs.declared.table.NumberForm.{NumberForm}
 use Rattle.command_line.specs.declared.table.TheConstants.{AFTER, CONNECTIONS, COUNT, DOORS, LANES, LIMIT}
 use Rattle.command_line.specs.declared.table.TheConstants.{MAX_DOOR_CONNECTIONS, MAX_PORT, NUMBER, PORT}
 use Rattle.command_line.specs.declared.values.Values.{Values}
 use Rattle.command_line.specs.Taken.{IsInRange}
-use Rattle.command_line.specs.Words.{Item, Wanted, batch_in, command_of, form_of, given_number, in_range, items_in}
-use Rattle.command_line.specs.Words.{number_in, placed_items, stands_alone, value_of, values_in}
+use Rattle.command_line.specs.Words.{Item, Wanted, are_given, batch_in, command_of, form_of, given_items, given_number, in_range, items_in}
+use Rattle.command_line.specs.Words.{number_in, placed_items, read_items, stands_alone, taken_items, value_of, values_in}
+use Rattle.command_line.proofs.GivenValues.{value_some}
 use Rattle.command_line.specs.Words.{values_of, wanted_by, wanted_of, wanted_values, with_item}
 
 -- ---- steps that may find nothing
@@ -95,7 +99,18 @@ least_packs : (given : Option (List ℕ)) (count : ℕ) → number_in COUNT give
 least_packs None count is = tt
 least_packs (Some text) count is = (given_within COUNT text count is).from
 
-record AreWithin (given : Option (List ℕ)) (values : Values) : Type 0 where
+-- the batch where one is given
+abbrev IsNamed : Option (List ℕ) → Option Name → Type 0
+IsNamed None batch = ⊤
+IsNamed (Some text) batch = is_some batch ≡ true
+
+is_named : (given : Option (List ℕ)) (batch : Option Name) → batch_in given ≡ Some batch
+    → IsNamed given batch
+is_named None batch is = tt
+is_named (Some text) batch is = map_gives (λ (b : Option Name). is_some b ≡ true) _
+    (name_of text) batch is (λ name named. refl)
+
+record AreWithin (batch given : Option (List ℕ)) (values : Values) : Type 0 where
   limit : IsWithin 1 MAX_ROWS values.limit
   lanes : IsWithin 0 MAX_LANE values.lanes
   doors : IsWithin 0 MAX_DOOR values.doors
@@ -105,26 +120,27 @@ record AreWithin (given : Option (List ℕ)) (values : Values) : Type 0 where
   some : LeastPacks given values.count
   remote : PortWithin values.remote
   after : IsWithin 0 MAX_ROWS values.after
+  named : IsNamed batch values.batch
 
 values_within :
     (batch limit lanes doors port connections number count remote after : Option (List ℕ))
     (values : Values)
     → values_in batch limit lanes doors port connections number count remote after ≡ Some values
-    → AreWithin count values
+    → AreWithin batch count values
 values_within batch limit lanes doors port connections number count remote after values is =
-    then_gives (AreWithin count values) _ (batch_in batch) values is (λ b batch_is one.
-    then_gives (AreWithin count values) _ (number_in LIMIT limit) values one (λ l limit_is two.
-    then_gives (AreWithin count values) _ (number_in LANES lanes) values two (λ n lanes_is three.
-    then_gives (AreWithin count values) _ (number_in DOORS doors) values three (λ d doors_is four.
-    then_gives (AreWithin count values) _ (number_in PORT port) values four (λ p port_is five.
-    then_gives (AreWithin count values) _ (number_in CONNECTIONS connections) values five
+    then_gives (AreWithin batch count values) _ (batch_in batch) values is (λ b batch_is one.
+    then_gives (AreWithin batch count values) _ (number_in LIMIT limit) values one (λ l limit_is two.
+    then_gives (AreWithin batch count values) _ (number_in LANES lanes) values two (λ n lanes_is three.
+    then_gives (AreWithin batch count values) _ (number_in DOORS doors) values three (λ d doors_is four.
+    then_gives (AreWithin batch count values) _ (number_in PORT port) values four (λ p port_is five.
+    then_gives (AreWithin batch count values) _ (number_in CONNECTIONS connections) values five
     (λ s connections_are six.
-    then_gives (AreWithin count values) _ (number_in NUMBER number) values six
+    then_gives (AreWithin batch count values) _ (number_in NUMBER number) values six
     (λ u number_is seven.
-    then_gives (AreWithin count values) _ (number_in COUNT count) values seven (λ c count_is eight.
-    then_gives (AreWithin count values) _ (given_number PORT remote) values eight
+    then_gives (AreWithin batch count values) _ (number_in COUNT count) values seven (λ c count_is eight.
+    then_gives (AreWithin batch count values) _ (given_number PORT remote) values eight
     (λ r remote_is nine.
-    map_gives (AreWithin count) _ (number_in AFTER after) values nine (λ a after_is. record {
+    map_gives (AreWithin batch count) _ (number_in AFTER after) values nine (λ a after_is. record {
       limit = number_within LIMIT limit l (omega arith) (omega arith) limit_is;
       lanes = number_within LANES lanes n (omega arith) (omega arith) lanes_is;
       doors = number_within DOORS doors d (omega arith) (omega arith) doors_is;
@@ -135,6 +151,7 @@ values_within batch limit lanes doors port connections number count remote after
       some = least_packs count c count_is;
       remote = remote_within remote r remote_is;
       after = number_within AFTER after a (omega arith) (omega arith) after_is;
+      named = is_named batch b batch_is;
     }))))))))))
 
 -- the two words of a trial say how many packs it has
@@ -164,12 +181,38 @@ count_placed (number ∷ count ∷ words) items is =
     go true false left here = absurd cc
     go false b left here = absurd cc
 
+some_text : {A : Type 0} (found : Option A) → is_some found ≡ true → (x : A) × (found ≡ Some x)
+some_text None is = absurd (cc)
+some_text (Some x) is = (x, refl)
+
+-- the options of a paper say which batch it is of
+batch_given : (words : List (List ℕ)) (items : List Item)
+    → items_in (form_of Paper) words ≡ Some items
+    → (text : List ℕ) × (value_of items (codes "batch") ≡ Some text)
+batch_given words items is = then_gives _ (given_items names)
+    (option_and_then (taken_items names) (read_items None words)) items is
+    (λ found found_is here. go found (are_given names found) refl here)
+  where
+    names : List (List ℕ)
+    names = codes "book" ∷ codes "batch" ∷ []
+
+    go : (found : List Item) (t : Bool) → are_given names found ≡ t
+        → (if t then Some found else None) ≡ Some items
+        → (text : List ℕ) × (value_of items (codes "batch") ≡ Some text)
+    go found true given here =
+        let parts = and_parts _ _ (and_parts _ _ given).1 in
+        some_text (value_of items (codes "batch"))
+        (subst (λ (list : List Item). is_some (value_of list (codes "batch")) ≡ true)
+        (some_same found items here) (value_some (codes "batch") found ∙ parts.0))
+    go found false given here = absurd cc
+
 -- ---- what words ask for
 
 by_values : (command : Command) (items : List Item) (wanted : Wanted)
     → (command ≡ Trial → (text : List ℕ) × (value_of items (codes "count") ≡ Some text))
+    → (command ≡ Paper → (text : List ℕ) × (value_of items (codes "batch") ≡ Some text))
     → wanted_values command (value_of items) ≡ Some wanted → IsInRange wanted
-by_values command items wanted given is =
+by_values command items wanted given named is =
     map_gives IsInRange _ (values_of (value_of items)) wanted is (λ values values_are.
     let within = values_within (value_of items (codes "batch")) (value_of items (codes "limit"))
     (value_of items (codes "lanes")) (value_of items (codes "doors"))
@@ -191,6 +234,9 @@ by_values command items wanted given is =
       some = λ trial.
           let text = given trial in
           subst (λ (o : Option (List ℕ)). LeastPacks o values.count) text.1 within.some;
+      named = λ paper.
+          let text = named paper in
+          subst (λ (o : Option (List ℕ)). IsNamed o values.batch) text.1 within.named;
     })
 
 by_command : (command : Command) (words : List (List ℕ)) (wanted : Wanted)
@@ -199,7 +245,9 @@ by_command command words wanted is =
     then_gives (IsInRange wanted) (λ items. wanted_values command (value_of items))
     (items_in (form_of command) words) wanted is (λ items items_are here.
     by_values command items wanted (λ trial. count_placed words items
-    (subst (λ (c : Command). items_in (form_of c) words ≡ Some items) trial items_are)) here)
+    (subst (λ (c : Command). items_in (form_of c) words ≡ Some items) trial items_are))
+    (λ paper. batch_given words items
+    (subst (λ (c : Command). items_in (form_of c) words ≡ Some items) paper items_are)) here)
 
 pub asked_in_range : (words : List (List ℕ)) (wanted : Wanted) → wanted_of words ≡ Some wanted
     → IsInRange wanted

@@ -14,7 +14,8 @@ use Rattle.command_line.specs.Options.{app_by, app_for}
 use Rattle.command_line.specs.Words.{Form, Item, are_given, are_taken, form_of, items_in, options, needed, places}
 use Rattle.command_line.specs.Words.{given_items, read_items, taken_items, value_of}
 use Rattle.command_line.specs.declared.types.Command.TheVariants.{Run, Serve, Report, Export, Check}
-use Rattle.command_line.specs.declared.types.Command.TheVariants.{Import, Trial, Migrate}
+use Rattle.command_line.specs.declared.types.Command.TheVariants.{Import, Trial, Migrate, Ship, Follow}
+use Rattle.command_line.specs.declared.types.Command.TheVariants.{Paper, Prove}
 use Rattle.command_line.proofs.ManyOptions.{defaults_pass, finished_as, shape_for, simple, valid}
 use Rattle.command_line.proofs.Rows.{first_given}
 use Rattle.command_line.proofs.ClapPlaces.{ClapReads, two, two_placed}
@@ -97,6 +98,10 @@ is_known Check = tt
 is_known Import = tt
 is_known Trial = refl
 is_known Migrate = tt
+is_known Ship = tt
+is_known Follow = tt
+is_known Paper = tt
+is_known Prove = tt
 
 by_known : (form : Form) → IsKnown form → FormReads form
 by_known (options names) known = by_options names

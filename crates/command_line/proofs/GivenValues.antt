@@ -46,7 +46,7 @@ pub none_given : (name : List ℕ) (words : List (List ℕ)) → words ≡ [] �
 unfolding read_items
 none_given name words none = rw none refl
 
-value_some : (name : List ℕ) (items : List Item) → is_some (value_of items name) ≡ list_any
+pub value_some : (name : List ℕ) (items : List Item) → is_some (value_of items name) ≡ list_any
     (gives name) items
 value_some name [] = refl
 value_some name (item ∷ items) = go (bytes_eq item.name name) refl (value_some name items)

@@ -1,12 +1,12 @@
 -- What the words after a command ask for, and what is answered.
-use Rattle.std.specs.Prelude.{◌≡◌, ◌≤◌, ℕ, Bool, false, List, map, Option, None, option_map, is_some, IfSome}
+use Rattle.std.specs.Prelude.{◌≡◌, ◌≤◌, ℕ, Bool, true, false, List, map, Option, None, option_map, is_some, IfSome}
 use Rattle.std.specs.Option.{option_and_then, option_map_or}
 use Rattle.std.specs.Borrow.{Bor}
 use Rattle.hall_limits.specs.declared.TheConstants.{MAX_DOOR, MAX_LANE, MAX_ROWS, MAX_TRIAL}
 use Rattle.command_line.specs.declared.table.Form.{Form as Told}
 use Rattle.command_line.specs.declared.table.Form.TheVariants as told
 use Rattle.command_line.specs.declared.table.TheConstants.{MAX_DOOR_CONNECTIONS, MAX_PORT}
-use Rattle.command_line.specs.declared.types.Command.TheVariants.{Trial}
+use Rattle.command_line.specs.declared.types.Command.TheVariants.{Paper, Trial}
 use Rattle.command_line.specs.declared.types.Wants.{Wants}
 use Rattle.command_line.specs.Words.{Form, Wanted, are_taken, items_in, read_items, value_of}
 use Rattle.command_line.specs.Words.{values_of}
@@ -54,8 +54,8 @@ seen wants = record {
 }
 
 -- the numbers that are asked for are in their ranges: a book has room for a row at least, each door
--- has a port and a connection at least, each cell of a lane a port where they listen, and a trial
--- has a pack at least
+-- has a port and a connection at least, each cell of a lane a port where they listen, a trial has a
+-- pack at least, and a paper a batch
 pub record IsInRange (wanted : Wanted) : Type 0 where
   pub least : 1 ≤ wanted.limit
   pub most : wanted.limit ≤ MAX_ROWS
@@ -69,3 +69,4 @@ pub record IsInRange (wanted : Wanted) : Type 0 where
   pub after : wanted.after ≤ MAX_ROWS
   pub packs : wanted.count ≤ MAX_TRIAL
   pub some : wanted.command ≡ Trial → 1 ≤ wanted.count
+  pub named : wanted.command ≡ Paper → is_some wanted.batch ≡ true

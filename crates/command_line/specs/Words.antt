@@ -13,7 +13,8 @@ use Rattle.book_words.specs.declared.name.Name.{Name}
 use Rattle.hall_units.specs.Number.{bounded_number}
 use Rattle.command_line.specs.declared.types.Command.{Command}
 use Rattle.command_line.specs.declared.types.Command.TheVariants.{Run, Serve, Report, Export, Check}
-use Rattle.command_line.specs.declared.types.Command.TheVariants.{Import, Trial, Migrate}
+use Rattle.command_line.specs.declared.types.Command.TheVariants.{Import, Trial, Migrate, Ship, Follow}
+use Rattle.command_line.specs.declared.types.Command.TheVariants.{Paper, Prove}
 use Rattle.command_line.specs.declared.values.Values.{Values}
 use Rattle.command_line.specs.declared.table.NumberForm.{NumberForm}
 use Rattle.command_line.specs.declared.table.TheConstants.{LIMIT, LANES, DOORS, PORT, CONNECTIONS}
@@ -53,7 +54,8 @@ bytes_of words = map string_bytes words
 abbrev pub commands : List (List ℕ × Command)
 commands = (codes "run", Run) ∷ (codes "serve", Serve) ∷ (codes "report", Report)
     ∷ (codes "export", Export) ∷ (codes "check", Check) ∷ (codes "import", Import)
-    ∷ (codes "trial", Trial) ∷ (codes "migrate", Migrate) ∷ []
+    ∷ (codes "trial", Trial) ∷ (codes "migrate", Migrate) ∷ (codes "ship", Ship)
+    ∷ (codes "follow", Follow) ∷ (codes "paper", Paper) ∷ (codes "prove", Prove) ∷ []
 
 -- the command that a word names
 abbrev pub command_of : List ℕ → Option Command
@@ -78,6 +80,10 @@ form_of Check = options (codes "book" ∷ [])
 form_of Import = options (codes "book" ∷ codes "limit" ∷ [])
 form_of Trial = places (codes "number" ∷ codes "count" ∷ [])
 form_of Migrate = options (codes "book" ∷ [])
+form_of Ship = options (codes "book" ∷ codes "after" ∷ [])
+form_of Follow = options (codes "book" ∷ [])
+form_of Paper = needed (codes "book" ∷ codes "batch" ∷ [])
+form_of Prove = options []
 
 -- ---- items
 

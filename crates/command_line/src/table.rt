@@ -33,6 +33,18 @@ pub fn find_command(word: &str) -> Option<Command>
     if word == "migrate" {
         return Some(Command::Migrate);
     }
+    if word == "ship" {
+        return Some(Command::Ship);
+    }
+    if word == "follow" {
+        return Some(Command::Follow);
+    }
+    if word == "paper" {
+        return Some(Command::Paper);
+    }
+    if word == "prove" {
+        return Some(Command::Prove);
+    }
     None
 }
 
@@ -69,6 +81,10 @@ pub fn form_of(command: Command) -> Form
         Command::Import => Form::Options(&["book", "limit"]),
         Command::Trial => Form::Places(&["number", "count"]),
         Command::Migrate => Form::Options(&["book"]),
+        Command::Ship => Form::Options(&["book", "after"]),
+        Command::Follow => Form::Options(&["book"]),
+        Command::Paper => Form::Needed(&["book", "batch"]),
+        Command::Prove => Form::Options(&[]),
     }
 }
 

@@ -23,6 +23,14 @@ pub enum Command {
     Trial,
     /// Carries a journal of version 1 into a book: `migrate [--book PATH]`
     Migrate,
+    /// Writes the rows of a book behind the first so many: `ship [--book PATH] [--after N]`
+    Ship,
+    /// Adds the rows of a shipment to a book: `follow [--book PATH]`
+    Follow,
+    /// Writes the paper of a closed batch: `paper --book PATH --batch NAME`
+    Paper,
+    /// Proves that a paper is true: `prove`
+    Prove,
 }
 
 /// What the words of the command line ask for.
@@ -31,7 +39,7 @@ pub struct Wants {
     pub command: Command,
     /// The path of the book; without one the book is kept in memory.
     pub book: Option<Text>,
-    /// The batch whose sheet is reported; without one all are.
+    /// The batch whose sheet is reported, without one all are; the batch of a paper.
     pub batch: Option<Name>,
     /// The most rows of the book, 1 to `MAX_ROWS`.
     pub limit: u32,

@@ -1,5 +1,7 @@
 use book_words::Name;
-use command_line::Command::{Check, Export, Import, Migrate, Report, Run, Serve, Trial};
+use command_line::Command::{
+    Check, Export, Follow, Import, Migrate, Paper, Prove, Report, Run, Serve, Ship, Trial,
+};
 use command_line::{Command, Text, Wants, WantsError, wants};
 use hall_limits::MAX_ROWS;
 use std::alloc::{AllocError, Global};
@@ -77,10 +79,32 @@ const TRIAL: Asked = Asked {
     ..RUN
 };
 
+const SHIP: Asked = Asked {
+    command: Ship,
+    ..RUN
+};
+
+const FOLLOW: Asked = Asked {
+    command: Follow,
+    ..RUN
+};
+
+const PAPER: Asked = Asked {
+    command: Paper,
+    book: BOOK,
+    batch: Some("A"),
+    ..RUN
+};
+
+const PROVE: Asked = Asked {
+    command: Prove,
+    ..RUN
+};
+
 const BOOK: Option<&str> = Some("b.hall");
 
 // Words and what they ask for, written by hand from the grammar, as what follows.
-static ASKED: [(Words, Asked); 49] = [
+static ASKED: [(Words, Asked); 59] = [
     (&["run"], RUN),
     (&["check"], CHECK),
     (&["migrate"], MIGRATE),
@@ -261,6 +285,40 @@ static ASKED: [(Words, Asked); 49] = [
             ..SERVE
         },
     ),
+    (&["ship"], SHIP),
+    (&["ship", "--after=0"], SHIP),
+    (&["ship", "--after", "1"], Asked { after: 1, ..SHIP }),
+    (
+        &["ship", "--after=1000000", "--book=b.hall"],
+        Asked {
+            book: BOOK,
+            after: 1_000_000,
+            ..SHIP
+        },
+    ),
+    (&["follow"], FOLLOW),
+    (
+        &["follow", "--book", "b.hall"],
+        Asked {
+            book: BOOK,
+            ..FOLLOW
+        },
+    ),
+    (&["paper", "--book", "b.hall", "--batch", "A"], PAPER),
+    (&["paper", "--batch=A", "--book=b.hall"], PAPER),
+    (
+        &[
+            "paper",
+            "--batch=a234567890b234567890c234567890d2",
+            "--book=b",
+        ],
+        Asked {
+            book: Some("b"),
+            batch: Some("a234567890b234567890c234567890d2"),
+            ..PAPER
+        },
+    ),
+    (&["prove"], PROVE),
     (&["report"], REPORT),
     (&["export"], EXPORT),
     (&["import"], IMPORT),
@@ -342,7 +400,7 @@ static ASKED: [(Words, Asked); 49] = [
     ),
 ];
 
-static REFUSED: [Words; 95] = [
+static REFUSED: [Words; 118] = [
     &[],
     &["runs"],
     &["run", "run"],
@@ -376,6 +434,33 @@ static REFUSED: [Words; 95] = [
     &["import", "--remote=1"],
     &["check", "--remote", "1"],
     &["run", "--after=1"],
+    &["ship", "--after", "1000001"],
+    &["ship", "--after=-1"],
+    &["ship", "--after="],
+    &["ship", "--after=1", "--after=1"],
+    &["ship", "--limit=5"],
+    &["ship", "5"],
+    &["follow", "--after=1"],
+    &["follow", "--limit=5"],
+    &["follow", "--batch=A"],
+    &["paper"],
+    &["paper", "--book=b"],
+    &["paper", "--batch=A"],
+    &["paper", "--book=b", "--book=b"],
+    &["paper", "--batch=A", "--batch=A"],
+    &["paper", "--book=b", "--batch=A", "--book=b"],
+    &["paper", "--book=b", "--batch=A", "--limit=5"],
+    &["paper", "--book=b", "--batch="],
+    &[
+        "paper",
+        "--book=b",
+        "--batch=a234567890b234567890c234567890d23",
+    ],
+    &["paper", "b", "A"],
+    &["prove", "--book=b"],
+    &["prove", "--batch=A"],
+    &["prove", "p"],
+    &["proves"],
     &["run", "--help"],
     &["run", "--boo", "b"],
     &["run", "--=b"],

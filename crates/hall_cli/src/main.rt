@@ -73,6 +73,14 @@ fn run<
     ExitCode::from(hall(rt, rt.alloc(), words, input, output, disk, lanes, doors).status)
 }
 
+// The rows that a book in memory has room for: that of `prove` gets none.
+fn room(wanted: &Wants) -> u32 {
+    match wanted.command {
+        Command::Prove => 0,
+        _ => wanted.limit,
+    }
+}
+
 // A disk in memory with room for a book of so many rows and its snapshot.
 fn memory_disk(alloc: Global, limit: u32) -> Result<QuietDisk, AllocError> {
     let rows = limit.min(MAX_ROWS) as usize + ROWS_MORE;
@@ -170,7 +178,7 @@ fn over_book<
         }
         return run(rt, words, input, output, disk, lanes, doors);
     }
-    match memory_disk(rt.alloc(), wanted.limit) {
+    match memory_disk(rt.alloc(), room(wanted)) {
         Ok(disk) => run(rt, words, input, output, disk, lanes, doors),
         Err(_) => end_without_memory(rt.alloc(), output),
     }

@@ -1,9 +1,12 @@
 -- Lemmas on what a call leaves behind its last text.
-use Rattle.std.proofs.Common.{◌≡◌, true, inl, inr}
+use Rattle.std.proofs.Common.{◌≡◌, ℕ, List, [], true, inl, inr}
 use Rattle.disk_core.specs.declared.disk.Disk as disk
+use Rattle.disk_core.specs.declared.types.Partly.{Partly}
+use Rattle.text_streams.specs.Streams.{Stream, IsCutIn}
+use Rattle.standby_hall.specs.Pages.{IsCutAt}
 use Rattle.command_line.specs.Words.{Wanted}
 use Rattle.command_line.specs.declared.types.Command.{Command}
-use Rattle.command_line.specs.declared.types.Command.TheVariants.{Run, Serve, Report, Export, Check, Import, Trial, Migrate}
+use Rattle.command_line.specs.declared.types.Command.TheVariants.{Run, Serve, Report, Export, Check, Import, Trial, Migrate, Ship, Follow, Paper, Prove}
 use Rattle.store_runs.specs.declared.stop.Stop.{Stop}
 use Rattle.store_runs.specs.Books.{BookState}
 use Rattle.script_run.specs.Outside.{Call}
@@ -42,6 +45,10 @@ not_explained Check wanted book call stop serves explained = absurd (cc)
 not_explained Import wanted book call stop serves explained = absurd (cc)
 not_explained Trial wanted book call stop serves explained = absurd (cc)
 not_explained Migrate wanted book call stop serves explained = absurd (cc)
+not_explained Ship wanted book call stop serves explained = absurd (cc)
+not_explained Follow wanted book call stop serves explained = absurd (cc)
+not_explained Paper wanted book call stop serves explained = absurd (cc)
+not_explained Prove wanted book call stop serves explained = absurd (cc)
 
 -- a call of `serve` whose disk was opened as a book isn't one of another command
 not_opened : {S D : Type 0} (g : disk.Ghosts D) (wanted : Wanted) (before : D)
@@ -59,3 +66,9 @@ pub serve_unopened : {S D L O : Type 0} (g : disk.Ghosts D) (wanted : Wanted) (b
 serve_unopened g wanted before ended call serves leaves =
     leaves_more (EndsAs g wanted before) (IsUnopened g before)
     (λ outcome here. not_opened g wanted before outcome here serves) ended call leaves
+
+-- a shipment of which so many bytes went out was cut
+pub cut_in : (before now : Stream) (text : List ℕ) (partly : Partly)
+    → IsCutAt before now text partly → IsCutIn before now [] text
+cut_in before now text partly cut =
+    record { part = partly.done; less = cut.less; out = cut.out; failed = cut.failed }

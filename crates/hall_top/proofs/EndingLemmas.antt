@@ -1,9 +1,10 @@
 -- Lemmas on how a call ended, its last line and its status.
-use Rattle.std.proofs.Common.{◌≡◌, ◌⊎◌, ℕ, Bool, true, false, not, ◌&&◌, ◌==◌, List, length, min, Option, Some, None, Err, inl, inr, ⊎_elim, IsTrue, refl, sym, ◌∙◌, ap, subst}
+use Rattle.std.proofs.Common.{◌≡◌, ◌⊎◌, ℕ, Bool, true, false, not, ◌&&◌, ◌==◌, List, length, min, Option, Some, None, Result, Ok, Err, inl, inr, ⊎_elim, IsTrue, refl, sym, ◌∙◌, ap, subst}
 use Rattle.std.specs.List.{list_any}
 use Rattle.std.proofs.lemmas.Bool.{and_parts}
 use Rattle.disk_core.specs.declared.disk.Disk as disk
 use Rattle.book_words.specs.declared.act.Entry.{Entry}
+use Rattle.book_words.specs.declared.name.Name.{Name}
 use Rattle.command_line.specs.Words.{Wanted}
 use Rattle.command_line.specs.declared.types.Command.{Command}
 use Rattle.book_store.specs.declared.store.Store.{Store}
@@ -24,12 +25,19 @@ use Rattle.store_runs.specs.Runs.{RunGoes, CountsStep}
 use Rattle.import_run.specs.Runs.{ExplainsImport}
 use Rattle.trial_run.specs.Trials.{ExplainsTrial}
 use Rattle.report_run.specs.Printing.{SaysText}
+use Rattle.report_run.specs.Reports.{HasEachReading, IsReadBack, book_register}
+use Rattle.paper_run.specs.Printing.{SaysPaper}
+use Rattle.prove_run.specs.declared.types.ProveEnd.{ProveEnd}
+use Rattle.prove_run.specs.declared.types.ProveEnd.TheVariants as proving
+use Rattle.standby_hall.specs.declared.types.FollowStop.{FollowStop}
+use Rattle.standby_hall.specs.declared.types.FollowStop.TheVariants as why_is
+use Rattle.standby_hall.specs.Following.{EndsBehind, ExplainsFollowRun, stop_behind}
 use Rattle.hall_top.specs.declared.ended.Outcome.{Outcome}
 use Rattle.hall_top.specs.declared.ending.Ending.{Ending}
 use Rattle.hall_top.specs.declared.ending.Ending.TheVariants.{Usage, Unopened, Stopped, Served}
 use Rattle.hall_top.specs.Endings.{early_status, least_status, is_early, is_cut, are_spent, status_of, status_of_stop, status_of_why, status_behind, status_of_jobs, status_of_serve, last_status, SaysLast, is_status}
 use Rattle.book_migration.specs.Migration.{ExplainsMigration}
-use Rattle.hall_top.specs.Calls.{ExplainsAs, ExplainsCommand, SaysWhole, input_of, CarriesJournal, SaysMigration, LanesRest, ExplainsCheck, ExplainsPrinting, IsImport, IsTrial, stream_call, SaysMigrate, ExplainsMigrate, EndsAs}
+use Rattle.hall_top.specs.Calls.{ExplainsAs, ExplainsCommand, SaysAll, SaysWhole, input_of, CarriesJournal, FollowsShipment, EndsCarrying, LanesRest, ExplainsSaying, ExplainsPrinting, ExplainsExport, IsImport, IsTrial, stream_call, SaysBehind, ExplainsCarrying, ExplainsMigrate, ExplainsFollow, ExplainsPaper, ProvesInput, ExplainsProve, stop_at, EndsAs}
 
 -- ---- the command that is asked for
 
@@ -39,24 +47,25 @@ pub explains_as : {S : Type 0} (wanted : Wanted) (command : Command) (book : Boo
 explains_as wanted command book call stop is explained =
     subst (λ (c : Command). ExplainsAs c wanted book call stop) (sym is) explained
 
--- ---- the line that says that the book is whole
+-- ---- texts of a book
 
--- a check that said so
-pub explains_check : {S : Type 0} (book : BookState) (call : Call S) (stop : Stop) (rows : List Entry)
+-- one went out that takes no memory
+pub explains_saying : {S : Type 0} (text : List Entry → List ℕ) (book : BookState) (call : Call S)
+    (stop : Stop) (rows : List Entry)
     → call.now.source ≡ call.before.source → LanesRest call.before.outside call.now.outside
     → call.rows ≡ rows
-    → SaysWhole call.before.outside.output call.now.outside.output (length rows) stop
-    → rows ≡ book.entries → ExplainsCheck book call stop
-explains_check book call stop rows unread rest same says is =
+    → SaysAll call.before.outside.output call.now.outside.output (text rows) stop
+    → rows ≡ book.entries → ExplainsSaying text book call stop
+explains_saying text book call stop rows unread rest same says is =
     record {
       unread = unread;
       rest = rest;
       rows = same ∙ is;
-      says = subst (λ (es : List Entry). SaysWhole call.before.outside.output
-          call.now.outside.output (length es) stop) (sym same) says;
+      says = subst (λ (es : List Entry). SaysAll call.before.outside.output
+          call.now.outside.output (text es) stop) (sym same) says;
     }
 
--- a text of a book went out
+-- one went out
 pub explains_printing : {S : Type 0} (text : List Entry → List ℕ) (book : BookState) (call : Call S)
     (stop : Stop) (rows : List Entry)
     → call.now.source ≡ call.before.source → LanesRest call.before.outside call.now.outside
@@ -72,6 +81,18 @@ explains_printing text book call stop rows unread rest same says is =
           call.now.outside.output (text es) stop) (sym same) says;
     }
 
+-- the register went out
+pub explains_export : {S : Type 0} (book : BookState) (call : Call S) (was stop : Stop)
+    (rows : List Entry) → ExplainsPrinting book_register book call stop → call.rows ≡ rows
+    → stop ≡ was → (was ≡ Finished → HasEachReading rows) → IsReadBack rows
+    → ExplainsExport book call stop
+explains_export book call was stop rows prints same stopped each reads_back =
+    record {
+      prints = prints;
+      each = λ finished. subst HasEachReading (sym same) (each (sym stopped ∙ finished));
+      reads_back = subst IsReadBack (sym same) reads_back;
+    }
+
 -- it touches no disk
 pub text_counts : (T : Type 0) (before now : Stream) (text : List ℕ) (count : ℕ) (stop : Stop)
     → SaysText before now text stop → CountsStep {T = T} count count (Err stop)
@@ -82,6 +103,62 @@ text_counts T before now text count (BadLine number) says = absurd says
 text_counts T before now text count ReadFault says = absurd says
 text_counts T before now text count (DiskFault offer) says = absurd says
 text_counts T before now text count Spent says = absurd says
+
+-- what is said of a batch whose paper is asked for
+pub explains_paper : {S : Type 0} (named : Option Name) (batch : Name) (book : BookState)
+    (call : Call S) (stop : Stop) (rows : List Entry) → named ≡ Some batch
+    → call.now.source ≡ call.before.source → LanesRest call.before.outside call.now.outside
+    → call.rows ≡ rows
+    → SaysPaper rows batch call.before.outside.output call.now.outside.output stop
+    → rows ≡ book.entries → ExplainsPaper named book call stop
+explains_paper named batch book call stop rows is_named unread rest same says is =
+    subst (λ (n : Option Name). ExplainsPaper n book call stop) (sym is_named) (record {
+      unread = unread;
+      rest = rest;
+      rows = same ∙ is;
+      says = subst (λ (es : List Entry). SaysPaper es batch call.before.outside.output
+          call.now.outside.output stop) (sym same) says;
+    })
+
+pub paper_counts : (T : Type 0) (rows : List Entry) (batch : Name) (before now : Stream)
+    (count : ℕ) (stop : Stop) → SaysPaper rows batch before now stop
+    → CountsStep {T = T} count count (Err stop)
+paper_counts T rows batch before now count Finished says = refl
+paper_counts T rows batch before now count WriteFault says = refl
+paper_counts T rows batch before now count NoMemory says = refl
+paper_counts T rows batch before now count (BadLine number) says = refl
+paper_counts T rows batch before now count ReadFault says = refl
+paper_counts T rows batch before now count (DiskFault offer) says = absurd says.says
+paper_counts T rows batch before now count Spent says = refl
+
+-- an input that was proved
+pub explains_prove : {S : Type 0} (book : BookState) (call : Call S) (stop was : Stop)
+    (rows : List Entry) → LanesRest call.before.outside call.now.outside → call.rows ≡ rows
+    → stop ≡ was
+    → ProvesInput call.before.input call.now.input call.before.outside.output
+    call.now.outside.output was
+    → rows ≡ book.entries → ExplainsProve book call stop
+explains_prove book call stop was rows rest same stopped proves is =
+    record {
+      rest = rest;
+      rows = same ∙ is;
+      proves = subst (λ (s : Stop). ProvesInput call.before.input call.now.input
+          call.before.outside.output call.now.outside.output s) (sym stopped) proves;
+    }
+
+pub proving_counts : (T : Type 0) (input input_now output output_now : Stream) (count : ℕ)
+    (stop : Stop) → ProvesInput input input_now output output_now stop
+    → CountsStep {T = T} count count (Err stop)
+proving_counts T input input_now output output_now count stop proves =
+    subst (λ (s : Stop). CountsStep {T = T} count count (Err s)) (sym proves.same)
+    (by_end proves.ending)
+  where
+    by_end : (end : ProveEnd) → CountsStep {T = T} count count (Err (stop_at end))
+    by_end proving.Proved = refl
+    by_end (proving.BadLine line) = refl
+    by_end proving.ReadFault = refl
+    by_end proving.WriteFault = refl
+    by_end proving.NoMemory = refl
 
 -- an import that was run
 pub is_import : {S : Type 0} (book : BookState) (call : Call S) (was stop : Stop)
@@ -112,54 +189,93 @@ is_trial number count book call was stop rows unread rest same stopped runs =
           call.before.outside.output call.now.outside.output es was) (sym same) runs);
     }
 
--- a migration, and then its line
-module _ {S : Type 0} (book : BookState) (call : Call S) where
-  behind : (was stop : Stop) → CarriesJournal book call was
-      → SaysMigration call.before.outside.output call.now.outside.output (length call.rows) was stop
-      → SaysMigrate book call stop
-  behind Finished Finished explained ends = (explained, ends)
-  behind Finished WriteFault explained ends = (explained, ends)
-  behind Finished (BadLine number) explained ends = absurd ends
-  behind Finished ReadFault explained ends = absurd ends
-  behind Finished (DiskFault offer) explained ends = absurd ends
-  behind Finished NoMemory explained ends = absurd ends
-  behind Finished Spent explained ends = absurd ends
-  behind WriteFault stop explained ends = absurd explained
-  behind (BadLine number) stop explained ends =
-      subst (SaysMigrate book call) (sym ends.0) (explained, ends.1)
-  behind ReadFault stop explained ends =
-      subst (SaysMigrate book call) (sym ends.0) (explained, ends.1)
-  behind (DiskFault offer) stop explained ends =
-      subst (SaysMigrate book call) (sym ends.0) (explained, ends.1)
-  behind NoMemory stop explained ends =
-      subst (SaysMigrate book call) (sym ends.0) (explained, ends.1)
-  behind Spent stop explained ends = subst (SaysMigrate book call) (sym ends.0) (explained, ends.1)
+-- what carried rows, and then its line: a failed output is none of its own stops
+module _ {S : Type 0} (call : Call S) (Carries : Stop → Type 0) (unwritten : Carries WriteFault → ⊥)
+  where
+    behind : (was stop : Stop) → Carries was
+        → EndsCarrying call.before.outside.output call.now.outside.output (length call.rows) was stop
+        → SaysBehind Carries call stop
+    behind Finished Finished explained ends = (explained, ends)
+    behind Finished WriteFault explained ends = (explained, ends)
+    behind Finished (BadLine number) explained ends = absurd ends
+    behind Finished ReadFault explained ends = absurd ends
+    behind Finished (DiskFault offer) explained ends = absurd ends
+    behind Finished NoMemory explained ends = absurd ends
+    behind Finished Spent explained ends = absurd ends
+    behind WriteFault stop explained ends = absurd (unwritten explained)
+    behind (BadLine number) stop explained ends =
+        subst (SaysBehind Carries call) (sym ends.0) (explained, ends.1)
+    behind ReadFault stop explained ends =
+        subst (SaysBehind Carries call) (sym ends.0) (explained, ends.1)
+    behind (DiskFault offer) stop explained ends =
+        subst (SaysBehind Carries call) (sym ends.0) (explained, ends.1)
+    behind NoMemory stop explained ends =
+        subst (SaysBehind Carries call) (sym ends.0) (explained, ends.1)
+    behind Spent stop explained ends = subst (SaysBehind Carries call) (sym ends.0) (explained, ends.1)
 
-  pub ends_migration : (rows : List Entry) (was stop : Stop) → call.rows ≡ rows
-      → LanesRest call.before.outside call.now.outside
-      → ExplainsMigration book.entries (input_of call.before) (input_of call.now) rows was
-      → SaysMigration call.before.outside.output call.now.outside.output (length rows) was stop
-      → ExplainsMigrate book call stop
-  ends_migration rows was stop same rest explained ends =
-      record {
-        rest = rest;
-        says = behind was stop
-            (subst (λ (es : List Entry). ExplainsMigration book.entries (input_of call.before)
-            (input_of call.now) es was) (sym same) explained)
-            (subst (λ (es : List Entry). SaysMigration call.before.outside.output
-            call.now.outside.output (length es) was stop) (sym same) ends);
-      }
+    pub ends_carrying : (rows : List Entry) (was stop : Stop) → call.rows ≡ rows
+        → LanesRest call.before.outside call.now.outside → Carries was
+        → EndsCarrying call.before.outside.output call.now.outside.output (length rows) was stop
+        → ExplainsCarrying Carries call stop
+    ends_carrying rows was stop same rest carries ends =
+        record {
+          rest = rest;
+          says = behind was stop carries
+              (subst (λ (es : List Entry). EndsCarrying call.before.outside.output
+              call.now.outside.output (length es) was stop) (sym same) ends);
+        }
+
+-- a migration, and then its line
+pub ends_migration : {S : Type 0} (book : BookState) (call : Call S) (rows : List Entry)
+    (was stop : Stop) → call.rows ≡ rows → LanesRest call.before.outside call.now.outside
+    → ExplainsMigration book.entries (input_of call.before) (input_of call.now) rows was
+    → EndsCarrying call.before.outside.output call.now.outside.output (length rows) was stop
+    → ExplainsMigrate book call stop
+ends_migration book call rows was stop same rest explained ends =
+    ends_carrying call (CarriesJournal book call) (λ none. none) rows was stop same rest
+    (subst (λ (es : List Entry). ExplainsMigration book.entries (input_of call.before)
+    (input_of call.now) es was) (sym same) explained) ends
+
+-- a shipment that was followed, and then its line
+follows_unwritten : (held : List Entry) (before now : Stream) (rows : List Entry)
+    → ExplainsFollowRun held before now rows WriteFault → ⊥
+follows_unwritten held before now rows (result, ends, explained) = by_result result ends
+  where
+    by_stop : (why : FollowStop) → WriteFault ≡ stop_behind why → ⊥
+    by_stop why_is.ReadFault same = absurd (cc)
+    by_stop why_is.Head same = absurd (cc)
+    by_stop (why_is.Gap row) same = absurd (cc)
+    by_stop (why_is.Row row) same = absurd (cc)
+    by_stop (why_is.Extra all) same = absurd (cc)
+    by_stop (why_is.DiskFault entry) same = absurd (cc)
+    by_stop why_is.NoMemory same = absurd (cc)
+
+    by_result : (result : Result ℕ FollowStop) → EndsBehind (length held) rows result WriteFault → ⊥
+    by_result (Ok adopted) (inl same) = absurd (cc)
+    by_result (Ok adopted) (inr fails) = fails
+    by_result (Err why) same = by_stop why same
+
+pub ends_following : {S : Type 0} (book : BookState) (call : Call S) (rows : List Entry)
+    (was stop : Stop) → call.rows ≡ rows → LanesRest call.before.outside call.now.outside
+    → ExplainsFollowRun book.entries call.before.input call.now.input rows was
+    → EndsCarrying call.before.outside.output call.now.outside.output (length rows) was stop
+    → ExplainsFollow book call stop
+ends_following book call rows was stop same rest explained ends =
+    ends_carrying call (FollowsShipment book call)
+    (follows_unwritten book.entries call.before.input call.now.input call.rows) rows was stop same
+    rest (subst (λ (es : List Entry). ExplainsFollowRun book.entries call.before.input
+    call.now.input es was) (sym same) explained) ends
 
 -- it touches no disk, and the store is as it was
-pub whole_counts : (T : Type 0) (before now : Stream) (rows count : ℕ) (stop : Stop)
-    → SaysWhole before now rows stop → CountsStep {T = T} count count (Err stop)
-whole_counts T before now rows count Finished says = refl
-whole_counts T before now rows count WriteFault says = refl
-whole_counts T before now rows count (BadLine number) says = absurd says
-whole_counts T before now rows count ReadFault says = absurd says
-whole_counts T before now rows count (DiskFault offer) says = absurd says
-whole_counts T before now rows count NoMemory says = absurd says
-whole_counts T before now rows count Spent says = absurd says
+pub said_counts : (T : Type 0) (before now : Stream) (text : List ℕ) (count : ℕ) (stop : Stop)
+    → SaysAll before now text stop → CountsStep {T = T} count count (Err stop)
+said_counts T before now text count Finished says = refl
+said_counts T before now text count WriteFault says = refl
+said_counts T before now text count (BadLine number) says = absurd says
+said_counts T before now text count ReadFault says = absurd says
+said_counts T before now text count (DiskFault offer) says = absurd says
+said_counts T before now text count NoMemory says = absurd says
+said_counts T before now text count Spent says = absurd says
 
 -- a run whose last text was cut
 goes_cut : {D : Type 0} (g : disk.Ghosts D) (old new : Store D) → RunGoes g Finished old new
@@ -187,23 +303,23 @@ whole_goes g before now rows old new (DiskFault offer) says goes = absurd says
 whole_goes g before now rows old new NoMemory says goes = absurd says
 whole_goes g before now rows old new Spent says goes = absurd says
 
--- a migration and its last line
-pub migrated_goes : {D : Type 0} (g : disk.Ghosts D) (before now : Stream) (rows : ℕ)
-    (old new : Store D) (was stop : Stop) → SaysMigration before now rows was stop
+-- what carried rows, and its last line
+pub carried_goes : {D : Type 0} (g : disk.Ghosts D) (before now : Stream) (rows : ℕ)
+    (old new : Store D) (was stop : Stop) → EndsCarrying before now rows was stop
     → RunGoes g was old new → RunGoes g stop old new
-migrated_goes g before now rows old new Finished stop ends goes = whole_goes g before now rows old
+carried_goes g before now rows old new Finished stop ends goes = whole_goes g before now rows old
     new stop ends goes
-migrated_goes g before now rows old new (BadLine number) stop ends goes = subst (λ
+carried_goes g before now rows old new (BadLine number) stop ends goes = subst (λ
     (s : Stop). RunGoes g s old new) (sym ends.0) goes
-migrated_goes g before now rows old new ReadFault stop ends goes = subst (λ
+carried_goes g before now rows old new ReadFault stop ends goes = subst (λ
     (s : Stop). RunGoes g s old new) (sym ends.0) goes
-migrated_goes g before now rows old new WriteFault stop ends goes = subst (λ
+carried_goes g before now rows old new WriteFault stop ends goes = subst (λ
     (s : Stop). RunGoes g s old new) (sym ends.0) goes
-migrated_goes g before now rows old new (DiskFault offer) stop ends goes = subst (λ
+carried_goes g before now rows old new (DiskFault offer) stop ends goes = subst (λ
     (s : Stop). RunGoes g s old new) (sym ends.0) goes
-migrated_goes g before now rows old new NoMemory stop ends goes = subst (λ
+carried_goes g before now rows old new NoMemory stop ends goes = subst (λ
     (s : Stop). RunGoes g s old new) (sym ends.0) goes
-migrated_goes g before now rows old new Spent stop ends goes = subst (λ
+carried_goes g before now rows old new Spent stop ends goes = subst (λ
     (s : Stop). RunGoes g s old new) (sym ends.0) goes
 
 -- ---- the status

@@ -22,7 +22,7 @@ use Rattle.lane_worker.specs.declared.cell.Cell as cell
 use Rattle.lane_worker.specs.declared.gate.Gate as gate
 use Rattle.text_streams.specs.Streams.{Stream, WroteAll, IsCutIn, Devices as StreamDevices}
 use Rattle.store_runs.specs.declared.stop.Stop.{Stop}
-use Rattle.store_runs.specs.declared.stop.Stop.TheVariants.{Finished, WriteFault}
+use Rattle.store_runs.specs.declared.stop.Stop.TheVariants.{Finished, BadLine, ReadFault, WriteFault, NoMemory}
 use Rattle.store_runs.specs.Books.{BookState, stored_book}
 use Rattle.store_runs.specs.Runs.{HasGrown, CountsStop, SparesDisk, RunGoes}
 use Rattle.store_runs.specs.Stops.{stop_row}
@@ -30,11 +30,17 @@ use Rattle.script_run.specs.Outside.{Outside, Devices, Call, call, all_said}
 pub use Rattle.script_run.specs.Outside.{call_between}
 use Rattle.script_run.specs.Runs.{ExplainsRun}
 use Rattle.book_migration.specs.Migration.{InputMoment, ExplainsMigration}
+use Rattle.standby_hall.specs.Shipments.{shipment}
+use Rattle.standby_hall.specs.Following.{ExplainsFollowRun}
 use Rattle.store_runs.specs.Calls.{Call as StreamCall}
+use Rattle.paper_run.specs.Printing.{SaysPaper}
+use Rattle.prove_run.specs.declared.types.ProveEnd.{ProveEnd}
+use Rattle.prove_run.specs.declared.types.ProveEnd.TheVariants as proving
+use Rattle.prove_run.specs.Proving.{ExplainsProving}
 use Rattle.import_run.specs.Runs.{ExplainsImport}
 use Rattle.trial_run.specs.Trials.{ExplainsTrial}
 use Rattle.report_run.specs.Printing.{SaysText}
-use Rattle.report_run.specs.Reports.{batch_text, book_register, report_text}
+use Rattle.report_run.specs.Reports.{HasEachReading, IsReadBack, batch_text, book_register, report_text}
 use Rattle.hall_top.specs.declared.ending.Ending.TheVariants.{Usage, Unopened, Stopped}
 use Rattle.hall_top.specs.declared.ended.Ended.{Ended}
 use Rattle.hall_top.specs.declared.ended.Outcome.{Outcome}
@@ -43,7 +49,8 @@ use Rattle.hall_top.specs.Texts.{whole}
 use Rattle.command_line.specs.Words.{Wanted}
 use Rattle.command_line.specs.declared.types.Command.{Command}
 use Rattle.command_line.specs.declared.types.Command.TheVariants.{Run, Serve, Report, Export, Check}
-use Rattle.command_line.specs.declared.types.Command.TheVariants.{Import, Trial, Migrate}
+use Rattle.command_line.specs.declared.types.Command.TheVariants.{Import, Trial, Migrate, Ship, Follow}
+use Rattle.command_line.specs.declared.types.Command.TheVariants.{Paper, Prove}
 
 -- nothing was read or written, no lane was worked, and there are no rows
 pub record NothingDone {S : Type 0} (call : Call S) : Type 0 where
@@ -101,24 +108,36 @@ pub record IsOpened {S D : Type 0} (disk : disk.Ghosts D) (limit : ℕ)
       → WhereTold (disk.reads before) (λ bytes. (rows size : ℕ) → FitsSnapshot rows size bytes
       → disk.reads outcome.disk ≡ Some bytes)
 
--- the line that says that the book is whole went out, or was cut
+-- a text that takes no memory went out, or was cut
+abbrev pub SaysAll : Stream → Stream → List ℕ → Stop → Type 0
+SaysAll before now text Finished = WroteAll before now text
+SaysAll before now text WriteFault = IsCutIn before now [] text
+SaysAll before now text _ = ⊥
+
+-- so the line that says that the book is whole
 abbrev pub SaysWhole : Stream → Stream → ℕ → Stop → Type 0
-SaysWhole before now rows Finished = WroteAll before now (whole rows)
-SaysWhole before now rows WriteFault = IsCutIn before now [] (whole rows)
-SaysWhole before now rows _ = ⊥
+SaysWhole before now rows stop = SaysAll before now (whole rows) stop
 
 -- beside the output all stands still: no lane was worked
 abbrev pub LanesRest : Outside → Outside → Type 0
 LanesRest before now = now ≡ record before { output = now.output }
 
--- a check: the input wasn't read, no lane was worked, the rows are those that the disk held, and the
--- line that says how many went out or was cut
-pub record ExplainsCheck {S : Type 0} (book : BookState) (call : Call S) (stop : Stop) : Type 0
-  where
-    pub unread : call.now.source ≡ call.before.source
-    pub rest : LanesRest call.before.outside call.now.outside
-    pub rows : call.rows ≡ book.entries
-    pub says : SaysWhole call.before.outside.output call.now.outside.output (length call.rows) stop
+-- a text of the book that takes no memory: the input wasn't read, no lane was worked, the rows are
+-- those that the disk held, and the text went out or was cut
+pub record ExplainsSaying {S : Type 0} (text : List Entry → List ℕ) (book : BookState)
+    (call : Call S) (stop : Stop) : Type 0 where
+  pub unread : call.now.source ≡ call.before.source
+  pub rest : LanesRest call.before.outside call.now.outside
+  pub rows : call.rows ≡ book.entries
+  pub says : SaysAll call.before.outside.output call.now.outside.output (text call.rows) stop
+
+-- a check says how many rows the book has
+abbrev pub ExplainsCheck : {S : Type 0} → BookState → Call S → Stop → Type 0
+ExplainsCheck book call stop = ExplainsSaying (λ rows. whole (length rows)) book call stop
+
+-- a shipment has the rows of the book behind the first so many
+abbrev pub ExplainsShip : {S : Type 0} → ℕ → BookState → Call S → Stop → Type 0
+ExplainsShip after book call stop = ExplainsSaying (shipment after) book call stop
 
 -- what is reported of a book: the sheet of a batch, or the line of its refusal; without a batch all
 -- sheets, and the summary
@@ -138,8 +157,13 @@ pub record ExplainsPrinting {S : Type 0} (text : List Entry → List ℕ) (book 
 abbrev pub ExplainsReport : {S : Type 0} → Option Name → BookState → Call S → Stop → Type 0
 ExplainsReport batch book call stop = ExplainsPrinting (reported batch) book call stop
 
-abbrev pub ExplainsExport : {S : Type 0} → BookState → Call S → Stop → Type 0
-ExplainsExport book call stop = ExplainsPrinting book_register book call stop
+-- the register of the book, which the kit's `csv` reads back; done, it has each reading, and nothing
+-- else
+pub record ExplainsExport {S : Type 0} (book : BookState) (call : Call S) (stop : Stop) : Type 0
+  where
+    pub prints : ExplainsPrinting book_register book call stop
+    pub each : stop ≡ Finished → HasEachReading call.rows
+    pub reads_back : IsReadBack call.rows
 
 -- the streams among some devices
 abbrev pub streams_of : {S : Type 0} → Devices S → StreamDevices S
@@ -173,24 +197,70 @@ abbrev pub CarriesJournal : {S : Type 0} → BookState → Call S → Stop → T
 CarriesJournal book call stop =
     ExplainsMigration book.entries (input_of call.before) (input_of call.now) call.rows stop
 
--- a migration that carried its journal then says how many rows the book has, or that line is cut;
--- one that stopped writes nothing
-abbrev pub SaysMigrate : {S : Type 0} → BookState → Call S → Stop → Type 0
-SaysMigrate book call Finished =
-    CarriesJournal book call Finished
+-- the book followed a shipment, or that stopped so
+abbrev pub FollowsShipment : {S : Type 0} → BookState → Call S → Stop → Type 0
+FollowsShipment book call stop =
+    ExplainsFollowRun book.entries call.before.input call.now.input call.rows stop
+
+-- what carried rows into the book to its end then says how many rows the book has, or that line is
+-- cut; where it stopped, nothing is written
+abbrev pub SaysBehind : {S : Type 0} → (Stop → Type 0) → Call S → Stop → Type 0
+SaysBehind Carries call Finished =
+    Carries Finished
     × SaysWhole call.before.outside.output call.now.outside.output (length call.rows) Finished
-SaysMigrate book call WriteFault =
-    CarriesJournal book call Finished
+SaysBehind Carries call WriteFault =
+    Carries Finished
     × SaysWhole call.before.outside.output call.now.outside.output (length call.rows) WriteFault
-SaysMigrate book call stop =
-    CarriesJournal book call stop
-    × (call.now.outside.output ≡ call.before.outside.output)
+SaysBehind Carries call stop =
+    Carries stop × (call.now.outside.output ≡ call.before.outside.output)
 
 -- no lane is worked by it
-pub record ExplainsMigrate {S : Type 0} (book : BookState) (call : Call S) (stop : Stop) : Type 0
+pub record ExplainsCarrying {S : Type 0} (Carries : Stop → Type 0) (call : Call S) (stop : Stop)
+    : Type 0 where
+  pub rest : LanesRest call.before.outside call.now.outside
+  pub says : SaysBehind Carries call stop
+
+abbrev pub ExplainsMigrate : {S : Type 0} → BookState → Call S → Stop → Type 0
+ExplainsMigrate book call stop = ExplainsCarrying (CarriesJournal book call) call stop
+
+abbrev pub ExplainsFollow : {S : Type 0} → BookState → Call S → Stop → Type 0
+ExplainsFollow book call stop = ExplainsCarrying (FollowsShipment book call) call stop
+
+-- what is said of a batch whose paper is asked for: the input wasn't read, no lane was worked, and
+-- the rows are those that the disk held
+pub record IsPaper {S : Type 0} (batch : Name) (book : BookState) (call : Call S) (stop : Stop)
+    : Type 0 where
+  pub unread : call.now.source ≡ call.before.source
+  pub rest : LanesRest call.before.outside call.now.outside
+  pub rows : call.rows ≡ book.entries
+  pub says : SaysPaper call.rows batch call.before.outside.output call.now.outside.output stop
+
+-- the batch is named
+abbrev pub ExplainsPaper : {S : Type 0} → Option Name → BookState → Call S → Stop → Type 0
+ExplainsPaper (Some batch) book call stop = IsPaper batch book call stop
+ExplainsPaper None book call stop = ⊥
+
+-- how a run stops that proved its input so
+abbrev pub stop_at : ProveEnd → Stop
+stop_at proving.Proved = Finished
+stop_at (proving.BadLine line) = BadLine line
+stop_at proving.ReadFault = ReadFault
+stop_at proving.WriteFault = WriteFault
+stop_at proving.NoMemory = NoMemory
+
+-- an input was proved as the paper that it is, or that stopped so
+pub record ProvesInput (input input_now output output_now : Stream) (stop : Stop) : Type 0 where
+  pub ending : ProveEnd
+  pub same : stop ≡ stop_at ending
+  pub proves : ExplainsProving input input_now output output_now ending
+
+-- no lane was worked by it, and the rows are those that the disk held
+pub record ExplainsProve {S : Type 0} (book : BookState) (call : Call S) (stop : Stop) : Type 0
   where
     pub rest : LanesRest call.before.outside call.now.outside
-    pub says : SaysMigrate book call stop
+    pub rows : call.rows ≡ book.entries
+    pub proves : ProvesInput call.before.input call.now.input call.before.outside.output
+        call.now.outside.output stop
 
 -- how each command but `serve` ends
 abbrev pub ExplainsAs : {S : Type 0} → Command → Wanted → BookState → Call S → Stop → Type 0
@@ -202,6 +272,10 @@ ExplainsAs Check wanted book call stop = ExplainsCheck book call stop
 ExplainsAs Import wanted book call stop = IsImport book call stop
 ExplainsAs Trial wanted book call stop = IsTrial wanted.number wanted.count book call stop
 ExplainsAs Migrate wanted book call stop = ExplainsMigrate book call stop
+ExplainsAs Ship wanted book call stop = ExplainsShip wanted.after book call stop
+ExplainsAs Follow wanted book call stop = ExplainsFollow book call stop
+ExplainsAs Paper wanted book call stop = ExplainsPaper wanted.batch book call stop
+ExplainsAs Prove wanted book call stop = ExplainsProve book call stop
 
 -- how the command that is asked for ends
 abbrev pub ExplainsCommand : {S : Type 0} → Wanted → BookState → Call S → Stop → Type 0
@@ -262,8 +336,8 @@ pub record CommandDone {S D : Type 0} (disk : disk.Ghosts D)
   pub goes : RunGoes disk stop store last
   pub explained : Explains (stored_book store) call stop
 
--- how a migration that stopped so is ended: where it carried its journal, by the line that says how
--- many rows the book has, and else as it stopped, with nothing written
-abbrev pub SaysMigration : Stream → Stream → ℕ → Stop → Stop → Type 0
-SaysMigration before now rows Finished stop = SaysWhole before now rows stop
-SaysMigration before now rows other stop = (stop ≡ other) × (now ≡ before)
+-- how what carried rows and stopped so is ended: where it carried all, by the line that says how many
+-- rows the book has, and else as it stopped, with nothing written
+abbrev pub EndsCarrying : Stream → Stream → ℕ → Stop → Stop → Type 0
+EndsCarrying before now rows Finished stop = SaysWhole before now rows stop
+EndsCarrying before now rows other stop = (stop ≡ other) × (now ≡ before)

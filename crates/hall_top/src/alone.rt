@@ -18,8 +18,8 @@ ghost use Rattle.hall_top.specs.Calls.{call_between, ExplainsCommand, EndsAs, Co
 
 use crate::ended::{Ended, Outcome};
 use crate::ending::{Ending, say_last};
-use crate::reports::{export, report};
-use crate::whole::{end_migration, say_whole};
+use crate::reports::{export, paper, prove, report, ship};
+use crate::whole::{end_carrying, say_whole};
 use book_core::{Book, Rows};
 use book_migration::migrate_journal;
 use book_store::{MountError, Store};
@@ -30,6 +30,7 @@ use import_run::run_import;
 use lane_worker::Lane;
 use script_run::{LaneLog, ScriptEnd, run_script};
 use serve_run::DoorEnds;
+use standby_hall::follow_run;
 use std::alloc::Global;
 use store_runs::RunEnd;
 use trial_run::run_trial;
@@ -80,9 +81,19 @@ fn run_command<S: Source, K: Sink, D: Disk, L: Lane>(
             without_lanes(alloc, end)
         }
         Command::Migrate => {
-            let end = end_migration(migrate_journal(alloc, store, input), output);
+            let end = end_carrying(migrate_journal(alloc, store, input), output);
             without_lanes(alloc, end)
         }
+        Command::Ship => without_lanes(alloc, ship(store, wanted.after, output)),
+        Command::Follow => {
+            let end = end_carrying(follow_run(store, input), output);
+            without_lanes(alloc, end)
+        }
+        Command::Paper => {
+            let batch = wanted.batch.unwrap();
+            without_lanes(alloc, paper(alloc, store, batch, output))
+        }
+        Command::Prove => without_lanes(alloc, prove(alloc, store, input, output)),
     }
 }
 

@@ -1,14 +1,20 @@
-ghost use Rattle.std.specs.Prelude.{◌≡◌};
+ghost use Rattle.std.specs.Prelude.{◌≡◌, false, Some};
 ghost use Rattle.book_store.specs.Stores.{entries_of};
-ghost use Rattle.text_streams.specs.Streams.{output_at};
+ghost use Rattle.text_streams.specs.Streams.{input_at, output_at};
 ghost use Rattle.report_run.specs.Printing.{SaysText};
-ghost use Rattle.report_run.specs.Reports.{book_register};
-ghost use Rattle.hall_top.specs.Calls.{reported};
+ghost use Rattle.paper_run.specs.Printing.{SaysPaper};
+ghost use Rattle.report_run.specs.Reports.{HasEachReading, IsReadBack, book_register};
+ghost use Rattle.book_words.specs.Answers.{IsLegal};
+ghost use Rattle.standby_hall.specs.Shipments.{shipment};
+ghost use Rattle.hall_top.specs.Calls.{reported, stop_at, ProvesInput, SaysAll};
 
 use book_store::Store;
 use book_words::Name;
-use disk_core::{Disk, Sink};
+use disk_core::{Disk, Sink, Source};
+use paper_run::print_paper;
+use prove_run::{ProveEnd, prove_input};
 use report_run::{print_register, print_report, print_sheet};
+use standby_hall::ship_entries;
 use std::alloc::Global;
 use store_runs::{RunEnd, Stop};
 
@@ -50,10 +56,87 @@ pub fn report<K: Sink, D: Disk>(
 pub fn export<K: Sink, D: Disk>(alloc: Global, store: Store<D>, output: &mut K) -> RunEnd<D>
     ensures says { SaysText (output_at K.Sink output.old) (output_at K.Sink output.new)
         (book_register (entries_of store)) result.stop }
+    ensures each { result.stop ≡ Stop.Finished → HasEachReading (entries_of store) }
+    ensures reads_back { IsReadBack (entries_of store) }
     ensures store { result.store ≡ store }
 {
     RunEnd {
         stop: print_register(alloc, &store, output),
+        store,
+    }
+}
+
+// Writes the shipment of the book of a store after so many rows.
+fn write_shipment<K: Sink, D: Disk>(store: &Store<D>, after: u32, output: &mut K) -> Stop
+    requires legal { IsLegal (entries_of store.now) }
+    ensures { SaysAll (output_at K.Sink output.old) (output_at K.Sink output.new)
+        (shipment after (entries_of store.now)) result }
+{
+    match ship_entries(store.book().entries(), after, output) {
+        Ok(()) => Stop::Finished,
+        Err(_) => Stop::WriteFault,
+    }
+}
+
+/// Writes the shipment of the book of a store after so many rows. The store stays as it is. It takes
+/// no memory.
+pub fn ship<K: Sink, D: Disk>(store: Store<D>, after: u32, output: &mut K) -> RunEnd<D>
+    requires legal { IsLegal (entries_of store) }
+    ensures says { SaysAll (output_at K.Sink output.old) (output_at K.Sink output.new)
+        (shipment after (entries_of store)) result.stop }
+    ensures store { result.store ≡ store }
+{
+    RunEnd {
+        stop: write_shipment(&store, after, output),
+        store,
+    }
+}
+
+/// Writes the paper of a closed batch of the book of a store, or the line of its refusal. The store
+/// stays as it is.
+pub fn paper<K: Sink, D: Disk>(
+    alloc: Global,
+    store: Store<D>,
+    batch: Name,
+    output: &mut K,
+) -> RunEnd<D>
+    ensures says { SaysPaper (entries_of store) batch (output_at K.Sink output.old)
+        (output_at K.Sink output.new) result.stop }
+    ensures store { result.store ≡ store }
+{
+    RunEnd {
+        stop: print_paper(alloc, &store, batch, output),
+        store,
+    }
+}
+
+// How a run stops that proved its input so.
+fn stop_at(end: ProveEnd) -> Stop
+    ensures { result ≡ stop_at end }
+{
+    match end {
+        ProveEnd::Proved => Stop::Finished,
+        ProveEnd::BadLine(line) => Stop::BadLine(u64::from(line)),
+        ProveEnd::ReadFault => Stop::ReadFault,
+        ProveEnd::WriteFault => Stop::WriteFault,
+        ProveEnd::NoMemory => Stop::NoMemory,
+    }
+}
+
+/// Proves that the input is a paper that is true, and says so. The store stays as it is.
+pub fn prove<S: Source, K: Sink, D: Disk>(
+    alloc: Global,
+    store: Store<D>,
+    input: &mut S,
+    output: &mut K,
+) -> RunEnd<D>
+    requires unended { S.ended input.old ≡ false }
+    ensures proves { ProvesInput (input_at S.Source input.old) (input_at S.Source input.new)
+        (output_at K.Sink output.old) (output_at K.Sink output.new) result.stop }
+    ensures store { result.store ≡ store }
+{
+    RunEnd {
+        stop: stop_at(prove_input(alloc, input, output)),
         store,
     }
 }

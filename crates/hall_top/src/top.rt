@@ -53,6 +53,16 @@ use std::thread::Threads;
 /// the book's, or isn't lawful there; `bad line 0` says that the input isn't such a journal. The
 /// rows before are carried.
 ///
+/// `ship` reads nothing and writes the shipment of the book behind the first rows, as many as
+/// `--after` says; the rows stay as they are. `follow` reads a shipment and does with its rows as
+/// `migrate` does; the row is bad, too, which the book lacks before the first that was shipped, and
+/// the one behind the last where anything follows it.
+///
+/// `paper` reads nothing and writes the paper of a closed batch, all that its verdict rests on, or
+/// the line of its refusal. `prove` reads a paper and says its verdict where it is true; line N is
+/// bad where the paper's first fault is there, and line 0 where the input is longer than a paper.
+/// Both leave the rows as they are.
+///
 /// | status | comes | last line |
 /// |---|---|---|
 /// | 0 | where the command was done | |

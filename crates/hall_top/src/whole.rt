@@ -1,7 +1,7 @@
 ghost use Rattle.std.specs.Prelude.{◌≡◌, length};
 ghost use Rattle.book_store.specs.Stores.{entries_of};
 ghost use Rattle.text_streams.specs.Streams.{output_at};
-ghost use Rattle.hall_top.specs.Calls.{SaysWhole, SaysMigration};
+ghost use Rattle.hall_top.specs.Calls.{SaysWhole, EndsCarrying};
 
 use book_store::Store;
 use disk_core::{Disk, Sink};
@@ -31,9 +31,9 @@ pub fn say_whole<K: Sink, D: Disk>(store: Store<D>, output: &mut K) -> RunEnd<D>
     }
 }
 
-/// Behind a migration that carried its journal, says that the book is whole.
-pub fn end_migration<K: Sink, D: Disk>(end: RunEnd<D>, output: &mut K) -> RunEnd<D>
-    ensures ends { SaysMigration (output_at K.Sink output.old) (output_at K.Sink output.new)
+/// Behind a run that carried rows into the book of a store to its end, says that the book is whole.
+pub fn end_carrying<K: Sink, D: Disk>(end: RunEnd<D>, output: &mut K) -> RunEnd<D>
+    ensures ends { EndsCarrying (output_at K.Sink output.old) (output_at K.Sink output.new)
         (length (entries_of end.store)) end.stop result.stop }
     ensures store { result.store ≡ end.store }
 {

@@ -1,7 +1,7 @@
 use crate::halls::{book_of, copy, ends_of, only};
 use crate::texts::{
-    FIVE_ROWS, OLD_JOURNAL, REGISTER, SHEET, THREE_ANSWERED, THREE_PACKS, TWO, TWO_ACTS,
-    TWO_ANSWERED, TWO_TRIED,
+    CLOSED, FIVE_ROWS, OLD_JOURNAL, ONE_SHIPPED, PAPER, REGISTER, SHEET, THREE_ANSWERED,
+    THREE_PACKS, TWO, TWO_ACTS, TWO_ANSWERED, TWO_TRIED,
 };
 use disk_core::{MemoryDisk, MemorySink, MemorySource, QuietSink, QuietSource};
 use std::alloc::Global;
@@ -22,14 +22,36 @@ const RUN: &[&str] = &["run"];
 
 const MIGRATE: &[&str] = &["migrate"];
 
+const SHIP: &[&str] = &["ship"];
+
+const FOLLOW: &[&str] = &["follow"];
+
+const PROVE: &[&str] = &["prove"];
+
+const PAPER_OF_A: &[&str] = &["paper", "--book=b", "--batch=A"];
+
 // Over an empty disk. The first read gives the whole input, and the next one its end.
-const OF_NOTHING: [Run; 27] = [
+const OF_NOTHING: [Run; 40] = [
     // nothing fails
     (RUN, TWO, (3, 4, 0), TWO_ANSWERED, 0, 2),
     (&["check"], b"", (0, 0, 0), "rows 0 whole\n", 0, 0),
     (&["import"], TWO_ACTS, (0, 0, 0), TWO_ANSWERED, 0, 2),
     (&["trial", "0", "2"], b"", (1, 0, 0), TWO_TRIED, 0, 17),
     (MIGRATE, OLD_JOURNAL, (0, 0, 0), "rows 1 whole\n", 0, 1),
+    (SHIP, b"", (1, 0, 0), "AQHSHIP2\0\0\0\0\0\0\0\0", 0, 0),
+    (SHIP, b"", (0, 1, 0), "", 5, 0),
+    (FOLLOW, ONE_SHIPPED, (0, 0, 0), "rows 1 whole\n", 0, 1),
+    (FOLLOW, b"", (0, 0, 0), "bad line 0\n", 3, 0),
+    // its head, its row and its end are read
+    (FOLLOW, ONE_SHIPPED, (1, 0, 0), "read fault\n", 4, 0),
+    (FOLLOW, ONE_SHIPPED, (2, 0, 0), "read fault\n", 4, 0),
+    (FOLLOW, ONE_SHIPPED, (3, 0, 0), "read fault\n", 4, 1),
+    (FOLLOW, ONE_SHIPPED, (0, 1, 0), "", 5, 1),
+    (PROVE, PAPER.as_bytes(), (0, 0, 0), "true empty\n", 0, 0),
+    (PROVE, b"", (0, 0, 0), "bad line 1\n", 3, 0),
+    (PROVE, PAPER.as_bytes(), (1, 0, 0), "read fault\n", 4, 0),
+    (PROVE, PAPER.as_bytes(), (2, 0, 0), "read fault\n", 4, 0),
+    (PROVE, PAPER.as_bytes(), (0, 1, 0), "", 5, 0),
     // at wrong words a write that fails says nothing
     (
         &["Run"],
@@ -93,7 +115,7 @@ const OF_NOTHING: [Run; 27] = [
 ];
 
 // Over a book of ten rows. An import alone reads.
-const OF_TEN_ROWS: [Run; 8] = [
+const OF_TEN_ROWS: [Run; 13] = [
     (&["report", "--batch=A"], b"", (1, 0, 0), SHEET, 0, 10),
     (
         &["report", "--batch=B"],
@@ -103,6 +125,32 @@ const OF_TEN_ROWS: [Run; 8] = [
         0,
         10,
     ),
+    (
+        PAPER_OF_A,
+        b"",
+        (1, 0, 0),
+        "refused 15 BatchState running at 10\n",
+        0,
+        10,
+    ),
+    (
+        &["paper", "--book=b", "--batch=B"],
+        b"",
+        (0, 0, 0),
+        "refused 14 BatchUnknown at 10\n",
+        0,
+        10,
+    ),
+    (PAPER_OF_A, b"", (0, 1, 0), "", 5, 10),
+    (
+        &["ship", "--after=10"],
+        b"",
+        (1, 0, 0),
+        "AQHSHIP2\x0a\0\0\0\x0a\0\0\0",
+        0,
+        10,
+    ),
+    (FOLLOW, ONE_SHIPPED, (0, 0, 0), "rows 10 whole\n", 0, 10),
     (&["export"], b"", (1, 0, 0), REGISTER, 0, 10),
     (&["export"], b"", (1, 1, 0), "", 5, 10),
     (&["report"], b"", (1, 1, 0), "", 5, 10),
@@ -112,6 +160,12 @@ const OF_TEN_ROWS: [Run; 8] = [
 ];
 
 const OF_FIVE_ROWS: [Run; 1] = [(RUN, THREE_PACKS, (0, 0, 0), THREE_ANSWERED, 0, 10)];
+
+// Over a book with a closed batch.
+const OF_CLOSED: [Run; 2] = [
+    (PAPER_OF_A, b"", (1, 0, 0), PAPER, 0, 6),
+    (PAPER_OF_A, b"", (0, 1, 0), "", 5, 6),
+];
 
 // Whether a run over a disk of these bytes comes out so.
 fn is_right(alloc: Global, bytes: &[u8], case: &Run) -> bool {
@@ -141,6 +195,8 @@ fn each_command_and_its_streams(rt: HostRuntime) -> Result<(), Fail> {
     assert_eq!(rt; wrong_run(alloc, &[], &OF_NOTHING), None);
     assert_eq!(rt; wrong_run(alloc, &five, &OF_FIVE_ROWS), None);
     assert_eq!(rt; wrong_run(alloc, &ten, &OF_TEN_ROWS), None);
+    let closed = book_of(alloc, &[CLOSED]);
+    assert_eq!(rt; wrong_run(alloc, &closed, &OF_CLOSED), None);
     Ok(())
 }
 

@@ -51,3 +51,17 @@ pub const OLD_JOURNAL: &[u8] = b"AQHBOOK1\0\0\0\0\0\0\0\0\0\0\0\0\0\0\0\0\0\0\0\
 \0\0\0\0\0\0\0\0\0\0\0\0\0\0\0\0\0\0\0\0\0\0\0\0\0\0\0\0\0\0\0\0\
 \x01\x01\x01\0\0\0\0\0\0\0\0\0\0\0\xb6\x4e\0\0\0\0\0\0\0\0\0\0\0\0\0\0\0\0\
 \0\0\0\0\0\0\0\0\0\0\0\0\0\0\0\0\0\0\0\0\0\0\0\0\0\0\0\0\0\0\0\0\0";
+
+/// The shipment of a book with one row, a day. It was written by hand from docs/FORMATS.md.
+pub const ONE_SHIPPED: &[u8] = b"AQHSHIP2\x01\0\0\0\0\0\0\0\
+\x01\x01\x01\0\0\0\0\0\0\0\0\0\0\0\xb6\x4e\0\0\0\0\0\0\0\0\0\0\0\0\0\0\
+\0\0\0\0\0\0\0\0\0\0\0\0\0\0\0\0\0\0\0\0\0\0\0\0\0\0\0\0\0\0\0\0\
+\0\0\0\0\0\0\0\0\0\0\0\0\0\0\0\0\0\0\0\0\0\0\0\0\0\0\0\0\0\0\0\0\0\0";
+
+/// Six rows: a batch that is closed without a pack.
+pub const CLOSED: &[u8] = b"day 2025-03-03\nproduct rice250 250\ntare rice250 2025-03-03 10\n\
+open A rice250\nend A\nclose A\n";
+
+/// Its paper.
+pub const PAPER: &str = "paper 1\n\
+batch A product rice250 nominal 250.000 unit g density 1000.000 row 6\nverdict empty\n";

@@ -16,7 +16,7 @@ pub record IsWhole (before now : Stream) (Holds : List ℕ → Type 0) : Type 0 
   pub short : length bytes ≤ MAX_PAPER
   pub holds : Holds bytes
 
--- the input is longer; that is line 0
+-- the input is longer, and was read no further than the piece that makes it so; that is line 0
 abbrev pub IsTooLong : Stream → Stream → ℕ → Type 0
 IsTooLong before now line = (line ≡ 0) × IsReadNoFurther MAX_PAPER before now TooLong
 

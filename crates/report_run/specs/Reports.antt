@@ -1,5 +1,5 @@
 -- What is printed of a book: reports and the register, over the list of its entries.
-use Rattle.std.specs.Prelude.{◌≡◌, ℕ, List, [], ◌++◌, map, Option, Some, None, Result, Ok, Err}
+use Rattle.std.specs.Prelude.{◌≡◌, ℕ, List, [], ◌∷◌, ◌++◌, map, Option, Some, None, Result, Ok, Err}
 use Rattle.std.specs.List.{flat_map, filter_map}
 use Rattle.std.specs.Option.{option_and_then}
 use Rattle.book_words.specs.declared.name.Name.{Name}
@@ -18,7 +18,9 @@ use Rattle.book_words.specs.Answers.{question_answer}
 use Rattle.book_core.specs.declared.types.BookError.{BookError}
 use Rattle.book_state.specs.Told.{entry_numbered}
 use Rattle.batch_reports.specs.Texts.{outcome_text, summary_text}
-use Rattle.pack_register.specs.Register.{register_text}
+use Rattle.csv.specs.Reading.{AreRecords, default_config, strip_bom}
+use Rattle.csv.specs.declared.parser.State.TheVariants.{StartRecord}
+use Rattle.pack_register.specs.Register.{column_names, columns, register_text}
 
 -- what the question for the sheet of a batch is answered: the sheet, or that there is no such batch
 abbrev pub sheet_answer : List Entry → Name → Result Answered Refused
@@ -48,6 +50,13 @@ book_register entries = register_text (weighed_packs entries)
 abbrev pub HasEachReading : List Entry → Type 0
 HasEachReading entries =
     map (λ pack. pack.pack) (weighed_packs entries) ≡ numbers_of (readings entries)
+
+-- what `csv` reads of the register: the names of the columns, and then what stands in them of each
+-- pack
+abbrev pub IsReadBack : List Entry → Type 0
+IsReadBack entries =
+    AreRecords default_config StartRecord (strip_bom (book_register entries))
+    (column_names ∷ map columns (weighed_packs entries))
 
 -- the batch that the row of a number opens, where it opens one
 abbrev pub opened_at : List Entry → ℕ → Option Name

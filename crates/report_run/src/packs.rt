@@ -1,16 +1,14 @@
-ghost use Rattle.std.specs.Prelude.{◌≡◌, ◌∷◌, ◌++◌, OnOk, IfOk, IfSome, map};
+ghost use Rattle.std.specs.Prelude.{◌≡◌, ◌++◌, OnOk, IfOk, IfSome};
 ghost use Rattle.std.specs.List.{flat_map};
-ghost use Rattle.csv.specs.Reading.{AreRecords, default_config, strip_bom};
-ghost use Rattle.csv.specs.declared.parser.State.TheVariants.{StartRecord};
 ghost use Rattle.text_streams.specs.Streams.{output_at};
 ghost use Rattle.book_words.specs.Answers.{IsLegal};
 ghost use Rattle.book_words.specs.Ranges.{IsPackInRange};
 ghost use Rattle.book_words.specs.Views.{pack_view};
-ghost use Rattle.pack_register.specs.Register.{column_names, columns, record_text};
+ghost use Rattle.pack_register.specs.Register.{record_text};
 ghost use Rattle.pack_register.specs.Writing.{IsReady, written};
 ghost use Rattle.book_store.specs.Stores.{entries_of};
 ghost use Rattle.report_run.specs.Printing.{SaysText};
-ghost use Rattle.report_run.specs.Reports.{HasEachReading, weighed_packs, book_register, pack_told, text_if_there};
+ghost use Rattle.report_run.specs.Reports.{HasEachReading, IsReadBack, weighed_packs, book_register, pack_told, text_if_there};
 
 use book_core::{Book, BookError};
 use book_store::Store;
@@ -93,9 +91,7 @@ pub fn print_register<K: Sink, D: Disk>(alloc: Global, store: &Store<D>, output:
     ensures says { SaysText (output_at K.Sink output.old) (output_at K.Sink output.new)
         (book_register (entries_of store.now)) result }
     ensures each { result ≡ Stop.Finished → HasEachReading (entries_of store.now) }
-    ensures reads_back { AreRecords default_config StartRecord
-        (strip_bom (book_register (entries_of store.now)))
-        (column_names ∷ map columns (weighed_packs (entries_of store.now))) }
+    ensures reads_back { IsReadBack (entries_of store.now) }
 {
     let Ok(text) = write_register(alloc, store.book()) else {
         return Stop::NoMemory;

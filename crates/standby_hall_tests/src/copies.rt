@@ -76,7 +76,9 @@ pub(crate) fn open_copy(
     fails: &[u32],
 ) -> Option<BookCopy<MemoryDisk>> {
     let disk = MemoryDisk::new(alloc, Vec::new(alloc), copy(alloc, fails));
-    let store = Store::mount(alloc, disk, 1).ok()?;
+    let Ok(store) = Store::mount(alloc, disk, 1) else {
+        return None;
+    };
     let mut copied = BookCopy { store };
     copied.take_to(entries, rows);
     Some(copied)

@@ -82,4 +82,4 @@ pub told_long : (most : ℕ) (before now : Stream) (Holds : List ℕ → Type 0)
     → StopsReading most before now TooLong
     → ((bytes : List ℕ) → most < length bytes → Holds bytes) → IfSome before.bytes Holds
 told_long most before now Holds stops holds =
-    begins_long most before.bytes now.bytes stops.taken Holds stops.read stops.why holds
+    begins_long most before.bytes now.bytes stops.taken Holds stops.read stops.why.0 holds

@@ -1,6 +1,7 @@
 -- How the reading of a whole input stops before its end.
-use Rattle.std.specs.Prelude.{⊤, ℕ, ◌<◌, ◌≤◌, List, length}
+use Rattle.std.specs.Prelude.{⊤, ℕ, ◌+◌, ◌<◌, ◌≤◌, List, length}
 use Rattle.std.specs.Io.KnownBytes.{Consumes}
+use Rattle.text_streams.specs.declared.reader.TheConstants.{PIECE}
 use Rattle.text_streams.specs.declared.reader.ReadError.{ReadError}
 use Rattle.text_streams.specs.declared.reader.ReadError.TheVariants as reading
 use Rattle.text_streams.specs.Streams.{Stream, IsCalm}
@@ -18,10 +19,10 @@ unread_by reading.Spent = TooLong
 abbrev pub IsShort : ℕ → List ℕ → Type 0
 IsShort most bytes = length bytes ≤ most
 
--- why an input isn't read on behind these bytes: they are more than it may have, or there is no
--- memory for them
+-- why an input isn't read on behind these bytes: they are more than it may have, but no more than
+-- that and a piece, or there is no memory for them
 abbrev pub StopsBehind : ℕ → List ℕ → Unread → Type 0
-StopsBehind most taken TooLong = most < length taken
+StopsBehind most taken TooLong = (most < length taken) × (length taken ≤ most + PIECE)
 StopsBehind most taken NoMemory = ⊤
 StopsBehind most taken Failed = ⊥
 

@@ -1,4 +1,5 @@
 ghost use Rattle.std.specs.Prelude.{◌≡◌, ◌++◌, ◌<◌, ◌≤◌, false, length, OnOk, IfOk, IfErr};
+ghost use Rattle.text_streams.specs.declared.reader.TheConstants.{PIECE};
 ghost use Rattle.text_streams.specs.Streams.{input_at};
 ghost use Rattle.text_streams.specs.Reading.{ReadsWhole};
 ghost use Rattle.whole_input.specs.Reading.{StopsBehind, StopsReading};
@@ -36,6 +37,7 @@ impl From<ReadError> for Unread {
 // Adds a piece to the bytes of an input, unless it may not have so many.
 fn add_piece(bytes: &mut Vec<u8>, piece: &[u8], most: u32) -> Result<(), Unread>
     requires short { length bytes.old.items ≤ most }
+    requires piece { length piece.now ≤ PIECE }
     ensures added { OnOk result (bytes.new.items ≡ bytes.old.items ++ piece.now) }
     ensures short { OnOk result (length bytes.new.items ≤ most) }
     ensures stops { IfErr result (StopsBehind most (bytes.old.items ++ piece.now)) }

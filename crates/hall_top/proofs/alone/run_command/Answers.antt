@@ -1,9 +1,10 @@
-use Rattle.std.proofs.Common.{Err, refl, sym, ap, ◌∙◌, subst, arith}
+use Rattle.std.proofs.Common.{Err, List, length, refl, sym, ap, ◌∙◌, subst, arith}
 use Rattle.std.specs.Bool.{⊤}
 use Rattle.book_store.specs.declared.store.Store.{Store}
 use Rattle.book_store.specs.Stores.{entries_of}
 use Rattle.command_line.specs.declared.types.Command.TheVariants.{Run, Report, Export, Check}
-use Rattle.command_line.specs.declared.types.Command.TheVariants.{Import, Trial, Migrate}
+use Rattle.command_line.specs.declared.types.Command.TheVariants.{Import, Trial, Migrate, Ship, Follow}
+use Rattle.command_line.specs.declared.types.Command.TheVariants.{Paper, Prove}
 use Rattle.command_line.specs.Taken.{seen}
 use Rattle.text_streams.specs.Streams.{output_at}
 use Rattle.script_run.specs.Outside.{devices, outside_at, nothing_told}
@@ -11,9 +12,12 @@ use Rattle.store_runs.specs.Books.{stored_book}
 use Rattle.store_runs.specs.Runs.{RunGoes}
 use Rattle.store_runs.proofs.StoreSteps.{stays}
 use Rattle.report_run.specs.Reports.{book_register}
+use Rattle.standby_hall.specs.Shipments.{shipment}
+use Rattle.book_words.specs.declared.act.Entry.{Entry}
+use Rattle.hall_top.specs.Texts.{whole}
 use Rattle.hall_top.specs.Calls.{reported}
 use Rattle.hall_top.proofs.OpenedBooks.{call_from, lanes_rest}
-use Rattle.hall_top.proofs.EndingLemmas.{explains_as, explains_check, explains_printing, is_import, is_trial, ends_migration, whole_counts, text_counts, migrated_goes}
+use Rattle.hall_top.proofs.EndingLemmas.{explains_as, explains_saying, explains_printing, explains_export, is_import, is_trial, ends_migration, ends_following, explains_paper, explains_prove, paper_counts, proving_counts, said_counts, text_counts, carried_goes}
 use Rattle.hall_top.proofs.alone.run_command.Goals as goal
 
 pub returns-in-Run-clause-explained : goal.returns-in-Run-clause-explained
@@ -67,11 +71,13 @@ returns-in-Export-clause-explained g c =
     let same = ap (λ (s : Store _). entries_of s)
     (c.without_lanes-in-Export.ensures.store ∙ c.export.ensures.store) in
     explains_as (seen c.args.wanted.now) Export (stored_book c.args.store) call end.stop
-    c.in-Export.is (explains_printing book_register (stored_book c.args.store) call
+    c.in-Export.is (explains_export (stored_book c.args.store) call c.export.result.stop end.stop
+    (entries_of c.args.store) (explains_printing book_register (stored_book c.args.store) call
     end.stop (entries_of c.args.store) refl
     (lanes_rest here (output_at g.K.Sink c.export.new.output) end.log.told
     c.without_lanes-in-Export.ensures.log) same
-    (rw c.without_lanes-in-Export.ensures.stop c.export.ensures.says) refl)
+    (rw c.without_lanes-in-Export.ensures.stop c.export.ensures.says) refl) same
+    c.without_lanes-in-Export.ensures.stop c.export.ensures.each c.export.ensures.reads_back)
 
 pub returns-in-Export-clause-goes : goal.returns-in-Export-clause-goes
 returns-in-Export-clause-goes g c =
@@ -94,7 +100,7 @@ returns-in-Check-clause-explained g c =
     let same = ap (λ (s : Store _). entries_of s)
     (c.without_lanes-in-Check.ensures.store ∙ c.say_whole.ensures.store) in
     explains_as (seen c.args.wanted.now) Check (stored_book c.args.store) call end.stop
-    c.in-Check.is (explains_check (stored_book c.args.store) call end.stop
+    c.in-Check.is (explains_saying (λ (rows : List Entry). whole (length rows)) (stored_book c.args.store) call end.stop
     (entries_of c.args.store) refl
     (lanes_rest here (output_at g.K.Sink c.say_whole.new.output) end.log.told
     c.without_lanes-in-Check.ensures.log) same
@@ -106,7 +112,7 @@ returns-in-Check-clause-goes g c =
     (subst (λ (s : Store _). RunGoes g.D.Disk c.say_whole.result.stop c.args.store s)
     (sym c.say_whole.ensures.store)
     (stays g.D.Disk (Err c.say_whole.result.stop) c.args.store
-    (whole_counts ⊤ _ _ _ _ c.say_whole.result.stop c.say_whole.ensures.says)
+    (said_counts ⊤ _ _ _ _ c.say_whole.result.stop c.say_whole.ensures.says)
     (λ finished grown calm. absurd (omega (arith, grown, c.requires.opened)))))
 
 pub returns-in-Import-clause-explained : goal.returns-in-Import-clause-explained
@@ -165,25 +171,134 @@ returns-in-Migrate-clause-explained g c =
     let here = outside_at g.K.Sink g.L.Cell g.L.Gate c.args.output.now c.args.lanes.now
     nothing_told in
     let end = c.without_lanes-in-Migrate.result in
-    let now = outside_at g.K.Sink g.L.Cell g.L.Gate c.end_migration-end.new.output
+    let now = outside_at g.K.Sink g.L.Cell g.L.Gate c.end_carrying-end.new.output
     c.args.lanes.now end.log.told in
     let call = call_from (devices g.S.Source c.args.input.now here)
     (devices g.S.Source c.migrate_journal.new.input now) (entries_of end.store) in
     let same = ap (λ (s : Store _). entries_of s)
-    (c.without_lanes-in-Migrate.ensures.store ∙ c.end_migration-end.ensures.store) in
+    (c.without_lanes-in-Migrate.ensures.store ∙ c.end_carrying-end.ensures.store) in
     explains_as (seen c.args.wanted.now) Migrate (stored_book c.args.store) call end.stop
     c.in-Migrate.is (ends_migration (stored_book c.args.store) call
     (entries_of c.migrate_journal.result.store) c.migrate_journal.result.stop end.stop same
-    (lanes_rest here (output_at g.K.Sink c.end_migration-end.new.output) end.log.told
+    (lanes_rest here (output_at g.K.Sink c.end_carrying-end.new.output) end.log.told
     c.without_lanes-in-Migrate.ensures.log)
     c.migrate_journal.ensures.explained
-    (rw c.without_lanes-in-Migrate.ensures.stop c.end_migration-end.ensures.ends))
+    (rw c.without_lanes-in-Migrate.ensures.stop c.end_carrying-end.ensures.ends))
 
 pub returns-in-Migrate-clause-goes : goal.returns-in-Migrate-clause-goes
 returns-in-Migrate-clause-goes g c =
     rw (c.without_lanes-in-Migrate.ensures.stop, c.without_lanes-in-Migrate.ensures.store)
-    (subst (λ (s : Store _). RunGoes g.D.Disk c.end_migration-end.result.stop c.args.store s)
-    (sym c.end_migration-end.ensures.store)
-    (migrated_goes g.D.Disk _ _ _ c.args.store c.migrate_journal.result.store
-    c.migrate_journal.result.stop c.end_migration-end.result.stop c.end_migration-end.ensures.ends
+    (subst (λ (s : Store _). RunGoes g.D.Disk c.end_carrying-end.result.stop c.args.store s)
+    (sym c.end_carrying-end.ensures.store)
+    (carried_goes g.D.Disk _ _ _ c.args.store c.migrate_journal.result.store
+    c.migrate_journal.result.stop c.end_carrying-end.result.stop c.end_carrying-end.ensures.ends
     c.migrate_journal.ensures.goes))
+
+pub returns-in-Ship-clause-explained : goal.returns-in-Ship-clause-explained
+returns-in-Ship-clause-explained g c =
+    let here = outside_at g.K.Sink g.L.Cell g.L.Gate c.args.output.now c.args.lanes.now
+    nothing_told in
+    let end = c.without_lanes-in-Ship.result in
+    let now = outside_at g.K.Sink g.L.Cell g.L.Gate c.ship.new.output c.args.lanes.now
+    end.log.told in
+    let call = call_from (devices g.S.Source c.args.input.now here)
+    (devices g.S.Source c.args.input.now now) (entries_of end.store) in
+    let same = ap (λ (s : Store _). entries_of s)
+    (c.without_lanes-in-Ship.ensures.store ∙ c.ship.ensures.store) in
+    explains_as (seen c.args.wanted.now) Ship (stored_book c.args.store) call end.stop
+    c.in-Ship.is (explains_saying (shipment c.args.wanted.now.after) (stored_book c.args.store)
+    call end.stop (entries_of c.args.store) refl
+    (lanes_rest here (output_at g.K.Sink c.ship.new.output) end.log.told
+    c.without_lanes-in-Ship.ensures.log) same
+    (rw c.without_lanes-in-Ship.ensures.stop c.ship.ensures.says) refl)
+
+pub returns-in-Ship-clause-goes : goal.returns-in-Ship-clause-goes
+returns-in-Ship-clause-goes g c =
+    rw (c.without_lanes-in-Ship.ensures.stop, c.without_lanes-in-Ship.ensures.store)
+    (subst (λ (s : Store _). RunGoes g.D.Disk c.ship.result.stop c.args.store s)
+    (sym c.ship.ensures.store)
+    (stays g.D.Disk (Err c.ship.result.stop) c.args.store
+    (said_counts ⊤ _ _ _ _ c.ship.result.stop c.ship.ensures.says)
+    (λ finished grown calm. absurd (omega (arith, grown, c.requires.opened)))))
+
+pub returns-in-Follow-clause-explained : goal.returns-in-Follow-clause-explained
+returns-in-Follow-clause-explained g c =
+    let here = outside_at g.K.Sink g.L.Cell g.L.Gate c.args.output.now c.args.lanes.now
+    nothing_told in
+    let end = c.without_lanes-in-Follow.result in
+    let now = outside_at g.K.Sink g.L.Cell g.L.Gate c.end_carrying-end-in-Follow.new.output
+    c.args.lanes.now end.log.told in
+    let call = call_from (devices g.S.Source c.args.input.now here)
+    (devices g.S.Source c.follow_run.new.input now) (entries_of end.store) in
+    let same = ap (λ (s : Store _). entries_of s)
+    (c.without_lanes-in-Follow.ensures.store ∙ c.end_carrying-end-in-Follow.ensures.store) in
+    explains_as (seen c.args.wanted.now) Follow (stored_book c.args.store) call end.stop
+    c.in-Follow.is (ends_following (stored_book c.args.store) call
+    (entries_of c.follow_run.result.store) c.follow_run.result.stop end.stop same
+    (lanes_rest here (output_at g.K.Sink c.end_carrying-end-in-Follow.new.output) end.log.told
+    c.without_lanes-in-Follow.ensures.log)
+    c.follow_run.ensures.explained
+    (rw c.without_lanes-in-Follow.ensures.stop c.end_carrying-end-in-Follow.ensures.ends))
+
+pub returns-in-Follow-clause-goes : goal.returns-in-Follow-clause-goes
+returns-in-Follow-clause-goes g c =
+    rw (c.without_lanes-in-Follow.ensures.stop, c.without_lanes-in-Follow.ensures.store)
+    (subst (λ (s : Store _). RunGoes g.D.Disk c.end_carrying-end-in-Follow.result.stop c.args.store s)
+    (sym c.end_carrying-end-in-Follow.ensures.store)
+    (carried_goes g.D.Disk _ _ _ c.args.store c.follow_run.result.store
+    c.follow_run.result.stop c.end_carrying-end-in-Follow.result.stop
+    c.end_carrying-end-in-Follow.ensures.ends c.follow_run.ensures.goes))
+
+pub returns-in-Paper-clause-explained : goal.returns-in-Paper-clause-explained
+returns-in-Paper-clause-explained g c =
+    let here = outside_at g.K.Sink g.L.Cell g.L.Gate c.args.output.now c.args.lanes.now
+    nothing_told in
+    let end = c.without_lanes-in-Paper.result in
+    let now = outside_at g.K.Sink g.L.Cell g.L.Gate c.paper.new.output c.args.lanes.now
+    end.log.told in
+    let call = call_from (devices g.S.Source c.args.input.now here)
+    (devices g.S.Source c.args.input.now now) (entries_of end.store) in
+    let same = ap (λ (s : Store _). entries_of s)
+    (c.without_lanes-in-Paper.ensures.store ∙ c.paper.ensures.store) in
+    explains_as (seen c.args.wanted.now) Paper (stored_book c.args.store) call end.stop
+    c.in-Paper.is (explains_paper c.args.wanted.now.batch c.unwrap-batch.result
+    (stored_book c.args.store) call end.stop (entries_of c.args.store) c.unwrap-batch.ensures refl
+    (lanes_rest here (output_at g.K.Sink c.paper.new.output) end.log.told
+    c.without_lanes-in-Paper.ensures.log) same
+    (rw c.without_lanes-in-Paper.ensures.stop c.paper.ensures.says) refl)
+
+pub returns-in-Paper-clause-goes : goal.returns-in-Paper-clause-goes
+returns-in-Paper-clause-goes g c =
+    rw (c.without_lanes-in-Paper.ensures.stop, c.without_lanes-in-Paper.ensures.store)
+    (subst (λ (s : Store _). RunGoes g.D.Disk c.paper.result.stop c.args.store s)
+    (sym c.paper.ensures.store)
+    (stays g.D.Disk (Err c.paper.result.stop) c.args.store
+    (paper_counts ⊤ _ _ _ _ _ c.paper.result.stop c.paper.ensures.says)
+    (λ finished grown calm. absurd (omega (arith, grown, c.requires.opened)))))
+
+pub returns-in-Prove-clause-explained : goal.returns-in-Prove-clause-explained
+returns-in-Prove-clause-explained g c =
+    let here = outside_at g.K.Sink g.L.Cell g.L.Gate c.args.output.now c.args.lanes.now
+    nothing_told in
+    let end = c.without_lanes-in-Prove.result in
+    let now = outside_at g.K.Sink g.L.Cell g.L.Gate c.prove.new.output c.args.lanes.now
+    end.log.told in
+    let call = call_from (devices g.S.Source c.args.input.now here)
+    (devices g.S.Source c.prove.new.input now) (entries_of end.store) in
+    explains_as (seen c.args.wanted.now) Prove (stored_book c.args.store) call end.stop
+    c.in-Prove.is (explains_prove (stored_book c.args.store) call end.stop c.prove.result.stop
+    (entries_of c.args.store)
+    (lanes_rest here (output_at g.K.Sink c.prove.new.output) end.log.told
+    c.without_lanes-in-Prove.ensures.log)
+    (ap (λ (s : Store _). entries_of s)
+    (c.without_lanes-in-Prove.ensures.store ∙ c.prove.ensures.store))
+    c.without_lanes-in-Prove.ensures.stop c.prove.ensures.proves refl)
+
+pub returns-in-Prove-clause-goes : goal.returns-in-Prove-clause-goes
+returns-in-Prove-clause-goes g c =
+    rw (c.without_lanes-in-Prove.ensures.stop, c.without_lanes-in-Prove.ensures.store)
+    (subst (λ (s : Store _). RunGoes g.D.Disk c.prove.result.stop c.args.store s)
+    (sym c.prove.ensures.store)
+    (stays g.D.Disk (Err c.prove.result.stop) c.args.store
+    (proving_counts ⊤ _ _ _ _ _ c.prove.result.stop c.prove.ensures.proves)
+    (λ finished grown calm. absurd (omega (arith, grown, c.requires.opened)))))
