@@ -1,6 +1,6 @@
 use annex_tables::Mode;
-use batch_paper::{PaperError, write_paper};
-use book_core::{Book, BookError, Rows};
+use batch_paper::{PaperError, paper_of_book};
+use book_core::{Book, BookError};
 use book_words::{Act, Ask, BatchState, Name, Prior, Unit, Want};
 use std::alloc::{AllocError, Global};
 use std::fmt;
@@ -19,19 +19,19 @@ fn ask(book: &mut Book, act: Act) -> Result<bool, AllocError> {
     }
 }
 
-// The rows of a book of which these acts were asked.
-fn rows_of(alloc: Global, acts: &[Act]) -> Result<Rows, AllocError> {
+// A book of which these acts were asked.
+fn book_of(alloc: Global, acts: &[Act]) -> Result<Book, AllocError> {
     let mut book = Book::new(alloc, 100);
     for act in acts {
         let _ = ask(&mut book, *act)?;
     }
-    Ok(book.rows())
+    Ok(book)
 }
 
 // What the paper of a batch says, or why there is none.
 fn says(alloc: Global, acts: &[Act], batch: &Name, text: &[u8]) -> Result<bool, PaperError> {
-    let rows = rows_of(alloc, acts)?;
-    let paper = write_paper(alloc, &rows, batch)?;
+    let book = book_of(alloc, acts)?;
+    let paper = paper_of_book(alloc, &book, batch)?;
     Ok(paper.as_bytes() == text)
 }
 

@@ -28,7 +28,7 @@ fn open_cell<'a>(
     place: u8,
 ) -> Result<HallCell<'a>, AllocError> {
     let Some(first) = wanted.remote else {
-        return Ok(EitherCell::One(file_cell(rt.alloc(), rt, folder, place + 1)?));
+        return Ok(EitherCell::One(file_cell(rt.alloc(), rt, folder, place.saturating_add(1))?));
     };
     let port = first.saturating_add(u16::from(place));
     let door = open_door(*rt, port, MAX_CELL_CONNECTIONS, Manners::SCALE);
@@ -51,7 +51,7 @@ pub(crate) fn open_lanes<'a>(
     let mut lanes = Vec::with_capacity(rt.alloc(), usize::from(count))?;
     for place in 0..count {
         let cell = open_cell(rt, wanted, folder, place)?;
-        let gate = file_gate(rt.alloc(), rt, folder, place + 1)?;
+        let gate = file_gate(rt.alloc(), rt, folder, place.saturating_add(1))?;
         lanes.push(PairLane::new(cell, gate))?;
     }
     Ok(lanes)

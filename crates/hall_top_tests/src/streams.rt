@@ -1,7 +1,7 @@
 use crate::halls::{book_of, copy, ends_of, only};
 use crate::texts::{
-    CLOSED, FIVE_ROWS, OLD_JOURNAL, ONE_SHIPPED, PAPER, REGISTER, SHEET, THREE_ANSWERED,
-    THREE_PACKS, TWO, TWO_ACTS, TWO_ANSWERED, TWO_TRIED,
+    CLOSED, FIVE_ROWS, OLD_JOURNAL, ONE_SHIPPED, PAPER, PAPER_READ, REGISTER, SHEET,
+    THREE_ANSWERED, THREE_PACKS, TWO, TWO_ACTS, TWO_ANSWERED, TWO_TRIED,
 };
 use disk_core::{MemoryDisk, MemorySink, MemorySource, QuietSink, QuietSource};
 use std::alloc::Global;
@@ -47,11 +47,11 @@ const OF_NOTHING: [Run; 40] = [
     (FOLLOW, ONE_SHIPPED, (2, 0, 0), "read fault\n", 4, 0),
     (FOLLOW, ONE_SHIPPED, (3, 0, 0), "read fault\n", 4, 1),
     (FOLLOW, ONE_SHIPPED, (0, 1, 0), "", 5, 1),
-    (PROVE, PAPER.as_bytes(), (0, 0, 0), "true empty\n", 0, 0),
+    (PROVE, PAPER_READ, (0, 0, 0), "true empty\n", 0, 0),
     (PROVE, b"", (0, 0, 0), "bad line 1\n", 3, 0),
-    (PROVE, PAPER.as_bytes(), (1, 0, 0), "read fault\n", 4, 0),
-    (PROVE, PAPER.as_bytes(), (2, 0, 0), "read fault\n", 4, 0),
-    (PROVE, PAPER.as_bytes(), (0, 1, 0), "", 5, 0),
+    (PROVE, PAPER_READ, (1, 0, 0), "read fault\n", 4, 0),
+    (PROVE, PAPER_READ, (2, 0, 0), "read fault\n", 4, 0),
+    (PROVE, PAPER_READ, (0, 1, 0), "", 5, 0),
     // at wrong words a write that fails says nothing
     (
         &["Run"],

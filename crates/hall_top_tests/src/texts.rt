@@ -65,3 +65,7 @@ open A rice250\nend A\nclose A\n";
 /// Its paper.
 pub const PAPER: &str = "paper 1\n\
 batch A product rice250 nominal 250.000 unit g density 1000.000 row 6\nverdict empty\n";
+
+/// The same as the input of a check.
+pub const PAPER_READ: &[u8] = b"paper 1\n\
+batch A product rice250 nominal 250.000 unit g density 1000.000 row 6\nverdict empty\n";
