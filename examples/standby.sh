@@ -1,6 +1,7 @@
 #!/bin/sh
-# Keeps a copy of the book of a running hall: each second what is new is shipped, and the copy
-# follows it, here or on another machine. Says how many rows the copy has and how many the book.
+# Keeps a copy of a book: each second what is new is shipped, and the copy follows it, here or on
+# another machine. A book that a running hall has open isn't read, and is shipped once that hall has
+# ended. Says how many rows the copy has and how many the book.
 # It may be killed at any moment and started again, and so may the machine of the copy.
 #
 # usage: standby.sh BOOK COPY [COMMAND [WORD..]]    as: standby.sh day.book day.copy ssh hall@second
@@ -8,7 +9,7 @@
 # COMMAND runs `hall` where the copy is; without it that is this machine. HALL is the program (hall),
 # EVERY the seconds between two shipments (1), TIMES how many are sent (without it there is no end).
 set -u
-[ $# -ge 2 ] || { sed -n '2,10s/^# \{0,1\}//p' "$0" >&2; exit 2; }
+[ $# -ge 2 ] || { sed -n '2,11s/^# \{0,1\}//p' "$0" >&2; exit 2; }
 book=$1 copy=$2
 shift 2
 hall=${HALL:-hall} every=${EVERY:-1} times=${TIMES:--1}
