@@ -11,7 +11,7 @@ pub record ConnectionState : Type 0 where
 
 -- a door in memory: its connections, whether the end of the present one was given, the room of the
 -- present one, the room for past ones, the calls made, the numbers of those that fail, the faults
--- counted
+-- counted, and those of `next` among them
 pub record DoorState : Type 0 where
   pub connections : Connections
   pub ended : Bool
@@ -20,6 +20,7 @@ pub record DoorState : Type 0 where
   pub calls : ℕ
   pub fails : List ℕ
   pub faults : ℕ
+  pub missed : ℕ
 
 -- what was said on a connection, if there is one, and its room
 abbrev pub said_on : Option ConnectionState → Option Connection

@@ -15,15 +15,19 @@ pub trait Door: Source + Sink {
     /// doesn't never begins to.
     ghost connections: { Self → Option Connections };
 
+    /// How often it couldn't admit the next connection, up to the greatest number of 64 bits.
+    ghost missed: { Self → ℕ };
+
     /// Leaves the present connection and admits the next: true where there is one, and false at the
     /// end. Nothing is taken from it or written to it yet, and its end wasn't given. `Failed`
-    /// leaves the connections as they were and raises the count of faults by one.
+    /// leaves the connections as they were and raises the count of faults by one, and `missed`.
     fn next(&mut self) -> Result<bool, Failed>
         ensures connections { AdmitsNext (connections self.old) (connections self.new) result }
         ensures begins { OnOk result (Self.ended self.new ≡ false) }
         ensures stays { OnErr result (Self.ended self.new ≡ Self.ended self.old) }
         ensures cause { CountsFault
-            (Self.Source.faults self.old) (Self.Source.faults self.new) result };
+            (Self.Source.faults self.old) (Self.Source.faults self.new) result }
+        ensures missed { CountsFault (missed self.old) (missed self.new) result };
 
     /// As a source it has left what the present connection has left.
     ghost source_left: { (door : Self) → Self.left door ≡ option_map left_now (connections door) };
@@ -50,4 +54,11 @@ pub trait Door: Source + Sink {
     /// A write leaves whether the end was given.
     ghost write_leaves_end: { (old new : Self) → Self.Sink.keeps_rest old new
         → Self.ended new ≡ Self.ended old };
+
+    /// No read misses a connection, nor does a write.
+    ghost read_misses_none: { (old new : Self) → Self.Source.keeps_rest old new
+        → missed new ≡ missed old };
+
+    ghost write_misses_none: { (old new : Self) → Self.Sink.keeps_rest old new
+        → missed new ≡ missed old };
 }

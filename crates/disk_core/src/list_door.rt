@@ -22,6 +22,7 @@ pub struct ListDoor {
     calls: u32,
     fails: Vec<u32>,
     faults: u64,
+    missed: u64,
 }
 
 impl Model for ListDoor {
@@ -38,6 +39,7 @@ impl Model for ListDoor {
       calls = d.calls;
       fails = d.fails.items;
       faults = d.faults;
+      missed = d.missed;
     } };
 }
 
@@ -60,6 +62,7 @@ impl ListDoor {
           calls = 0;
           fails = fails.items;
           faults = 0;
+          missed = 0;
         } }
     {
         ListDoor {
@@ -71,6 +74,7 @@ impl ListDoor {
             calls: 0,
             fails,
             faults: 0,
+            missed: 0,
         }
     }
 
@@ -125,6 +129,17 @@ impl ListDoor {
         self.faults = counted_once_more(self.faults);
         Failed
     }
+
+    // Counts a fault of `next`.
+    fn miss(&mut self) -> Failed
+        ensures { self.new ≡ record self.old {
+          faults = counted self.old.faults 1;
+          missed = counted self.old.missed 1;
+        } }
+    {
+        self.missed = counted_once_more(self.missed);
+        self.fault()
+    }
 }
 
 fn contains(numbers: &[u32], number: u32) -> bool
@@ -148,9 +163,13 @@ impl Source for ListDoor {
 
     ghost faults = { λ d. d.faults };
 
-    ghost keeps_rest = { λ old new. all_unread new.connections ≡ all_unread old.connections };
+    ghost keeps_rest = { λ old new. (all_unread new.connections ≡ all_unread old.connections)
+        × (new.missed ≡ old.missed) };
 
-    ghost frame = { record { none = λ d. refl; both = λ a b c first second. second ∙ first } };
+    ghost frame = { record {
+      none = λ d. (refl, refl);
+      both = λ a b c first second. (second.0 ∙ first.0, second.1 ∙ first.1);
+    } };
 
     fn read(&mut self, into: &mut [u8]) -> Result<usize, Failed>
         requires { self.old.ended ≡ false }
@@ -159,7 +178,8 @@ impl Source for ListDoor {
             (Some (left_now self.new.connections)) result into.new }
         ensures end { self.new.ended ≡ gave_end result into.new }
         ensures cause { CountsFault self.old.faults self.new.faults result }
-        ensures rest { all_unread self.new.connections ≡ all_unread self.old.connections }
+        ensures rest { (all_unread self.new.connections ≡ all_unread self.old.connections)
+            × (self.new.missed ≡ self.old.missed) }
         ensures listed { IsErr result ↔ Contains self.old.fails (next_call self.old.calls) }
         ensures calls { self.new.calls ≡ next_call self.old.calls }
         ensures fails { self.new.fails ≡ self.old.fails }
@@ -187,11 +207,12 @@ impl Sink for ListDoor {
     ghost faults = { λ d. d.faults };
 
     ghost keeps_rest = { λ old new. (all_unwritten new.connections ≡ all_unwritten old.connections)
-        × (new.ended ≡ old.ended) };
+        × (new.ended ≡ old.ended) × (new.missed ≡ old.missed) };
 
     ghost frame = { record {
-      none = λ d. (refl, refl);
-      both = λ a b c first second. (second.0 ∙ first.0, second.1 ∙ first.1);
+      none = λ d. (refl, refl, refl);
+      both = λ a b c first second.
+          (second.0 ∙ first.0, second.1 ∙ first.1, second.2 ∙ first.2);
     } };
 
     fn write(&mut self, bytes: &[u8]) -> Result<usize, Failed>
@@ -202,7 +223,7 @@ impl Sink for ListDoor {
             (Some (written_now self.new.connections)) result bytes.now }
         ensures cause { CountsFault self.old.faults self.new.faults result }
         ensures rest { (all_unwritten self.new.connections ≡ all_unwritten self.old.connections)
-            × (self.new.ended ≡ self.old.ended) }
+            × (self.new.ended ≡ self.old.ended) × (self.new.missed ≡ self.old.missed) }
         ensures listed { Contains self.old.fails (next_call self.old.calls) → IsErr result }
         ensures absent { IsNone self.old.connections.present → 0 < length bytes.now → IsErr result }
         ensures unlisted { OnErr result (Contains self.old.fails (next_call self.old.calls)
@@ -230,6 +251,8 @@ impl Door for ListDoor {
 
     ghost connections = { λ d. Some d.connections };
 
+    ghost missed = { λ d. d.missed };
+
     ghost source_left = { λ d. refl };
 
     ghost sink_held = { λ d. refl };
@@ -237,12 +260,16 @@ impl Door for ListDoor {
     ghost one_count = { λ d. refl };
 
     ghost read_adds = { λ old new bytes same parts.
-        read_adds old.connections new.connections bytes same parts };
+        read_adds old.connections new.connections bytes same.0 parts };
 
     ghost write_adds = { λ old new bytes same grown.
         write_adds old.connections new.connections bytes same.0 grown };
 
     ghost write_leaves_end = { λ old new same. same.1 };
+
+    ghost read_misses_none = { λ old new same. same.1 };
+
+    ghost write_misses_none = { λ old new same. same.2 };
 
     fn next(&mut self) -> Result<bool, Failed>
         ensures connections { AdmitsNext (Some self.old.connections) (Some self.new.connections)
@@ -250,6 +277,7 @@ impl Door for ListDoor {
         ensures begins { OnOk result (self.new.ended ≡ false) }
         ensures stays { OnErr result (self.new.ended ≡ self.old.ended) }
         ensures cause { CountsFault self.old.faults self.new.faults result }
+        ensures missed { CountsFault self.old.missed self.new.missed result }
         ensures listed { Contains self.old.fails (next_call self.old.calls) → IsErr result }
         ensures unlisted { OnErr result (Contains self.old.fails (next_call self.old.calls)
             ⊎ (self.old.past_room < length self.old.connections.past + 1)) }
@@ -257,10 +285,10 @@ impl Door for ListDoor {
         ensures fails { self.new.fails ≡ self.old.fails }
     {
         if self.is_listed() {
-            return Err(self.fault());
+            return Err(self.miss());
         }
         if self.past.reserve(1).is_err() {
-            return Err(self.fault());
+            return Err(self.miss());
         }
         put_behind(&mut self.past, self.present.take());
         self.present = begin_first(self.alloc, &mut self.waiting);

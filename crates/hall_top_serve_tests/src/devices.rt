@@ -142,6 +142,8 @@ impl<'a> Door for MeetingDoor<'a> {
 
     ghost connections = { λ _. None };
 
+    ghost missed = { λ _. 0 };
+
     ghost source_left = { λ d. refl };
 
     ghost sink_held = { λ d. refl };
@@ -153,6 +155,10 @@ impl<'a> Door for MeetingDoor<'a> {
     ghost write_adds = { λ old new bytes same grown. refl };
 
     ghost write_leaves_end = { λ old new same. same };
+
+    ghost read_misses_none = { λ old new same. refl };
+
+    ghost write_misses_none = { λ old new same. refl };
 
     fn next(&mut self) -> Result<bool, Failed> {
         let found = self.waits;

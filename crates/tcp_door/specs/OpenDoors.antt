@@ -2,7 +2,8 @@
 use Rattle.std.specs.Prelude.{ℕ, Bool, true, false, nat_lt, Result, Ok, Err}
 
 -- whether it listens; how many connections it still awaits; whether one is present, and whether
--- bytes of it were read since the last write; whether its end was given; the faults counted
+-- bytes of it were read since the last write; whether its end was given; the faults counted, and
+-- those of `next` among them
 pub record OpenDoor : Type 0 where
   pub listens : Bool
   pub awaited : ℕ
@@ -10,6 +11,7 @@ pub record OpenDoor : Type 0 where
   pub in_request : Bool
   pub ended : Bool
   pub faults : ℕ
+  pub missed : ℕ
 
 -- whether a call moved some bytes
 abbrev pub moved_some : {E : Type 0} → Result ℕ E → Bool

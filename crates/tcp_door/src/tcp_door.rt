@@ -26,6 +26,7 @@ pub struct TcpDoor<R: Clock + Eprint + Drop> {
     in_request: bool,
     ended: bool,
     faults: u64,
+    missed: u64,
 }
 
 impl<R: Clock + Eprint + Drop> Model for TcpDoor<R> {
@@ -41,6 +42,7 @@ impl<R: Clock + Eprint + Drop> Model for TcpDoor<R> {
       in_request = d.in_request;
       ended = d.ended;
       faults = d.faults;
+      missed = d.missed;
     } };
 }
 
@@ -59,6 +61,7 @@ impl<R: Clock + Eprint + Net<Listener = TcpListener, Stream = TcpStream> + Drop>
           in_request = false;
           ended = false;
           faults = 0;
+          missed = 0;
         } }
     {
         TcpDoor {
@@ -68,6 +71,7 @@ impl<R: Clock + Eprint + Net<Listener = TcpListener, Stream = TcpStream> + Drop>
             in_request: false,
             ended: false,
             faults: 0,
+            missed: 0,
         }
     }
 }
@@ -133,9 +137,9 @@ impl<R: Clock + Eprint + Drop> TcpDoor<R> {
 }
 
 impl<R: Clock + Eprint + Drop> Source for TcpDoor<R> {
-    ghost use Rattle.std.specs.Prelude.{◌≡◌, ◌≤◌, ◌||◌, true, false, length, None, IfOk, IsErr, Ok};
+    ghost use Rattle.std.specs.Prelude.{◌≡◌, ◌≤◌, ◌||◌, true, false, length, None, IfOk, IsErr, Ok, refl};
+    ghost use Rattle.std.proofs.Common.{◌∙◌};
     ghost use Rattle.device_facts.specs.Count.{CountsFault};
-    ghost use Rattle.device_facts.specs.Frame.{NothingElse, nothing_else};
     ghost use Rattle.disk_core.specs.Streams.{gave_end};
     ghost use Rattle.tcp_door.specs.OpenDoors.{moved_some};
 
@@ -145,9 +149,9 @@ impl<R: Clock + Eprint + Drop> Source for TcpDoor<R> {
 
     ghost faults = { λ d. d.faults };
 
-    ghost keeps_rest = { NothingElse };
+    ghost keeps_rest = { λ old new. new.missed ≡ old.missed };
 
-    ghost frame = { nothing_else };
+    ghost frame = { record { none = λ d. refl; both = λ a b c first second. second ∙ first } };
 
     fn read(&mut self, into: &mut [u8]) -> Result<usize, Failed>
         requires { self.old.ended ≡ false }
@@ -157,6 +161,7 @@ impl<R: Clock + Eprint + Drop> Source for TcpDoor<R> {
         ensures end { self.new.ended ≡ gave_end result into.new }
         ensures request { self.new.in_request ≡ (self.old.in_request || moved_some result) }
         ensures cause { CountsFault self.old.faults self.new.faults result }
+        ensures rest { self.new.missed ≡ self.old.missed }
         ensures kept { (self.new.listens ≡ self.old.listens)
             × (self.new.awaited ≡ self.old.awaited)
             × (self.new.is_present ≡ self.old.is_present) }
@@ -183,16 +188,19 @@ impl<R: Clock + Eprint + Drop> Sink for TcpDoor<R> {
 
     ghost faults = { λ d. d.faults };
 
-    ghost keeps_rest = { λ old new. new.ended ≡ old.ended };
+    ghost keeps_rest = { λ old new. (new.ended ≡ old.ended) × (new.missed ≡ old.missed) };
 
-    ghost frame = { record { none = λ d. refl; both = λ a b c first second. second ∙ first } };
+    ghost frame = { record {
+      none = λ d. (refl, refl);
+      both = λ a b c first second. (second.0 ∙ first.0, second.1 ∙ first.1);
+    } };
 
     fn write(&mut self, bytes: &[u8]) -> Result<usize, Failed>
         ensures closed { self.old.listens ≡ false → IsErr result }
         ensures absent { self.old.is_present ≡ false → 0 < length bytes.now → IsErr result }
         ensures bound { IfOk result (λ count. count ≤ length bytes.now) }
         ensures some { IfOk result (λ count. 0 < length bytes.now → 0 < count) }
-        ensures rest { self.new.ended ≡ self.old.ended }
+        ensures rest { (self.new.ended ≡ self.old.ended) × (self.new.missed ≡ self.old.missed) }
         ensures request { self.new.in_request ≡ (self.old.in_request && not (moved_some result)) }
         ensures cause { CountsFault self.old.faults self.new.faults result }
         ensures kept { (self.new.listens ≡ self.old.listens)
@@ -215,6 +223,8 @@ impl<R: Clock + Eprint + Drop> Door for TcpDoor<R> {
 
     ghost connections = { λ d. None };
 
+    ghost missed = { λ d. d.missed };
+
     ghost source_left = { λ d. refl };
 
     ghost sink_held = { λ d. refl };
@@ -225,7 +235,11 @@ impl<R: Clock + Eprint + Drop> Door for TcpDoor<R> {
 
     ghost write_adds = { λ old new bytes same grown. refl };
 
-    ghost write_leaves_end = { λ old new same. same };
+    ghost write_leaves_end = { λ old new same. same.0 };
+
+    ghost read_misses_none = { λ old new same. same };
+
+    ghost write_misses_none = { λ old new same. same.1 };
 
     fn next(&mut self) -> Result<bool, Failed>
         ensures closed { self.old.listens ≡ false → IsErr result }
@@ -239,10 +253,12 @@ impl<R: Clock + Eprint + Drop> Door for TcpDoor<R> {
         ensures stays { OnErr result (self.new.ended ≡ self.old.ended) }
         ensures listens { self.new.listens ≡ self.old.listens }
         ensures cause { CountsFault self.old.faults self.new.faults result }
+        ensures missed { CountsFault self.old.missed self.new.missed result }
     {
         let visit = self.visit.take();
         let Ok(visit) = admit(&mut self.entrance, visit, self.awaited) else {
             self.faults = counted_once_more(self.faults);
+            self.missed = counted_once_more(self.missed);
             return Err(Failed);
         };
         let found = visit.is_some();
