@@ -483,7 +483,7 @@ def turns(program, folder, port):
     hall = one_lane(program, folder, "turns", port)
     wait_for_port(hall, port)
     began = time.monotonic()
-    while not hall.ended() and time.monotonic() - began < 300:
+    while not hall.ended() and time.monotonic() - began < 900:
         try:
             with socket.create_connection(("127.0.0.1", port), timeout=60) as scale:
                 scale.sendall(b"9 1\n" * 50_000)

@@ -16,7 +16,7 @@
 #
 # usage: tests/remote.sh [FOLDER [WEIGHTS [SEED]]]     the book lies in a folder below it
 #        HALL names another program than the one that `./hall` builds
-# needs: Python 3.11. Done in some 5 minutes, at most 20.
+# needs: Python 3.11. Done in some 10 minutes, at most 40.
 set -eu
 here=$(dirname "$(readlink -f "$0")")/..
 weights=${2:-20000}
@@ -26,7 +26,7 @@ work=$(mktemp -d "${1:-/tmp}/hall_remote.XXXXXX")
 if [ -z "${HALL:-}" ]; then "$here/hall" run </dev/null >/dev/null; fi
 program=${HALL:-$here/crates/hall_cli/out/hall_cli}
 
-PYTHONPATH=$here/tests timeout 1200 python3 -B - "$program" "$work" "$weights" "$seed" <<'PYTHON' ||
+PYTHONPATH=$here/tests timeout 2400 python3 -B - "$program" "$work" "$weights" "$seed" <<'PYTHON' ||
 import os
 import sys
 import time

@@ -3,3 +3,7 @@
 
 #[cfg(test)]
 mod doors;
+#[cfg(test)]
+mod ports;
+#[cfg(test)]
+mod steps;
