@@ -3,8 +3,8 @@ use Rattle.std.specs.Prelude.{◌≡◌, ◌⊎◌, ℕ, ◌≤◌, List, length
 use Rattle.std.specs.declared.alloc.Global.{Global}
 use Rattle.std.specs.declared.vec.Vec.{Vec}
 use Rattle.disk_core.specs.Disk.{WhereTold}
-use Rattle.disk_core.specs.Doors.{Connections}
 use Rattle.disk_core.specs.declared.disk.Disk as disk
+use Rattle.disk_core.specs.declared.door.Door as door
 use Rattle.disk_core.specs.declared.sink.Sink as sink
 use Rattle.disk_core.specs.declared.source.Source as source
 use Rattle.book_words.specs.declared.act.Entry.{Entry}
@@ -23,7 +23,7 @@ use Rattle.lane_worker.specs.declared.ending.LaneEnd.{LaneEnd}
 use Rattle.lane_worker.specs.declared.ending.LaneStop.TheVariants as lane
 use Rattle.lane_worker.specs.Works as lanes
 use Rattle.office_door.specs.declared.ending.DoorEnd.{DoorEnd}
-use Rattle.office_door.specs.declared.ending.DoorStop.TheVariants as door
+use Rattle.office_door.specs.declared.ending.DoorStop.TheVariants as door_stop
 use Rattle.office_door.specs.Doors as doors
 use Rattle.serve_run.specs.Sessions.{LeavesAtEnd, LeavesFrom}
 use Rattle.serve_run.specs.Works.{lane_site, door_site}
@@ -77,7 +77,7 @@ KeepsServed disk held before now opened book (Ran stop) =
 -- fault of the link ended
 pub record AllEndDone (lane_ends : List LaneEnd) (door_ends : List DoorEnd) : Type 0 where
   pub lanes : All (λ (end : LaneEnd). end.stop ≡ lane.Done) lane_ends
-  pub doors : All (λ (end : DoorEnd). end.stop ≡ door.Done) door_ends
+  pub doors : All (λ (end : DoorEnd). end.stop ≡ door_stop.Done) door_ends
   pub links : All (λ (end : DoorEnd). end.links ≡ 0) door_ends
 
 -- The disk was opened as a book, the serve stopped in one of its ways over the book as it was
@@ -114,11 +114,11 @@ pub record IsServed {D L O : Type 0} (disk : disk.Ghosts D) (lane_at : Known →
 -- A call of `serve` between these devices: it served over the book; or the disk wasn't opened as
 -- one, and the doors are as they were.
 unfoldable pub EndsServe : {S K D L O : Type 0} → source.Ghosts S → sink.Ghosts K → disk.Ghosts D
-    → cell.Ghosts L → gate.Ghosts L → source.Ghosts O → (O → Option Connections) → ℕ
+    → cell.Ghosts L → gate.Ghosts L → source.Ghosts O → door.Ghosts O → ℕ
     → S → S → K → K → D → Vec L Global → Vec O Global → Ended D L O → Type 0
-EndsServe reads writes disk weighs lifts hears connections limit input input_now output output_now
+EndsServe reads writes disk weighs lifts hears comes limit input input_now output output_now
     before given_lanes given_doors ended =
-    IsServed disk (lane_site weighs lifts) (door_site hears connections) limit before
+    IsServed disk (lane_site weighs lifts) (door_site hears comes) limit before
     (moment (input_at reads input) (output_at writes output) (disk.faults before)
     (handed_in given_lanes.items given_doors.items)) (input_at reads input_now)
     (output_at writes output_now) ended

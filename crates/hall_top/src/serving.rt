@@ -44,7 +44,7 @@ fn serve_store<
     requires opened { held_of store ≡ length (entries_of store) }
     requires sound { IsSound D.Disk store }
     requires calm { ¬ Hangs store }
-    ensures done { ServeDone D.Disk (lane_site L.Cell L.Gate) (door_site O.Source O.connections)
+    ensures done { ServeDone D.Disk (lane_site L.Cell L.Gate) (door_site O.Source O.Door.own)
         store (moment (input_at S.Source input.old) (output_at K.Sink output.old)
         (D.faults (disk_of store)) (handed_in lanes.items doors.items))
         (input_at S.Source input.new) (output_at K.Sink output.new) result }
@@ -103,7 +103,7 @@ pub fn serve<
     requires unended { S.ended input.old ≡ false }
     requires least { 1 ≤ limit }
     requires most { limit ≤ MAX_ROWS }
-    ensures serves { EndsServe S.Source K.Sink D.Disk L.Cell L.Gate O.Source O.connections limit
+    ensures serves { EndsServe S.Source K.Sink D.Disk L.Cell L.Gate O.Source O.Door.own limit
         input.old input.new output.old output.new disk lanes doors result }
     ensures status { IsTrue (is_status result.status) × (result.status ≢ 2) }
     ensures rows { IsSoundBook result.rows }

@@ -116,7 +116,7 @@ pub fn hall<
     // The command `serve`: it served over the book, or the disk wasn't opened as one.
     ensures serves { (wanted : Wanted) → wanted_of (bytes_of words.now) ≡ Some wanted →
         is_serve wanted.command ≡ true → EndsServe S.Source K.Sink D.Disk L.Cell L.Gate O.Source
-        O.connections wanted.limit input.old input.new output.old output.new disk lanes doors
+        O.Door.own wanted.limit input.old input.new output.old output.new disk lanes doors
         result }
 
     // At every status.

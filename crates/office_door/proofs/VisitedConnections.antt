@@ -128,6 +128,7 @@ open_none Reached now reached = record {
   };
   turns_are = refl;
   faults = refl;
+  missed = refl;
 }
 
 -- the exchanges of a visit more
@@ -150,6 +151,7 @@ pub open_more : (One Two Both : List Ask → Type 0) (was : Site) (known new : K
     → mid.connections ≡ option_map next_connections old.connections
     → IfSome mid.connections (λ (all : Connections). true ≡ is_some all.present)
     → mid.left ≡ option_map left_now mid.connections → mid.faults ≡ old.faults
+    → mid.missed ≡ old.missed → now.missed ≡ mid.missed
     → IsVisited Two (record { caller = known; door = mid }) (record { caller = new; door = now })
     served leaving
     → links ≡ links_of leaving
@@ -157,7 +159,7 @@ pub open_more : (One Two Both : List Ask → Type 0) (was : Site) (known new : K
     → IsOpen Both was (record { caller = new; door = now }) (turns + 1)
     (record { served = tally.served + served; links = tally.links + links })
 open_more One Two Both was known new old mid now turns tally served links leaving is admits found
-    left_is calm visit links_is both =
+    left_is calm met kept visit links_is both =
     let v = visit.visit in
     let before = is.has in
     let takes = takes_next old.connections mid.connections mid.left now.left v admits found left_is
@@ -196,6 +198,7 @@ open_more One Two Both was known new old mid now turns tally served links leavin
       faults = failed_more was.door.faults old.faults now.faults tally.links links is.faults
           (subst (λ (n : ℕ). FailedSoOften old.faults now.faults n) (sym links_is)
           (subst (λ (n : ℕ). FailedSoOften n now.faults (links_of leaving)) calm visit.faults));
+      missed = kept ∙ met ∙ is.missed;
     }
 
 -- ---- a door that serves no more
@@ -206,9 +209,9 @@ pub stops_done : (Reached : List Ask → Type 0) (was : Site) (known : Known) (o
     → IsOpen Reached was (record { caller = known; door = old }) turns tally
     → now.connections ≡ option_map next_connections old.connections
     → IfSome now.connections (λ (all : Connections). false ≡ is_some all.present)
-    → now.faults ≡ old.faults
+    → now.faults ≡ old.faults → now.missed ≡ old.missed
     → ServesDoor Reached was (record { caller = known; door = now }) (end_of tally stop.Done)
-stops_done Reached was known old now turns tally few is admits none calm = record {
+stops_done Reached was known old now turns tally few is admits none calm met = record {
   visits = is.visits;
   connections = old.connections;
   has = is.has;
@@ -218,6 +221,7 @@ stops_done Reached was known old now turns tally few is admits none calm = recor
     admits,
   );
   faults = failed_more was.door.faults old.faults now.faults tally.links 0 is.faults calm;
+  missed = met ∙ is.missed;
 }
 
 -- the next can't be admitted
@@ -225,13 +229,15 @@ pub stops_failed : (Reached : List Ask → Type 0) (was : Site) (known : Known) 
     (turns : ℕ) (tally : Tally) → turns < MAX_CONNECTIONS
     → IsOpen Reached was (record { caller = known; door = old }) turns tally
     → now.connections ≡ old.connections → Counted old.faults now.faults 1
+    → Counted old.missed now.missed 1
     → ServesDoor Reached was (record { caller = known; door = now }) (end_of tally stop.Door)
-stops_failed Reached was known old now turns tally few is same failed = record {
+stops_failed Reached was known old now turns tally few is same failed missed = record {
   visits = is.visits;
   connections = old.connections;
   has = is.has;
   stops = (subst (λ (n : ℕ). n < MAX_CONNECTIONS) (sym is.turns_are) few, same);
   faults = failed_more was.door.faults old.faults now.faults tally.links 1 is.faults failed;
+  missed = subst (λ (n : ℕ). Counted n now.missed 1) is.missed missed;
 }
 
 -- as many were served as may be
@@ -244,6 +250,7 @@ stops_spent Reached was now tally is = record {
   has = is.has;
   stops = (is.turns_are, refl);
   faults = failed_more was.door.faults now.door.faults now.door.faults tally.links 0 is.faults refl;
+  missed = is.missed;
 }
 
 -- there was no memory to begin
@@ -257,4 +264,5 @@ stops_without_memory Reached now reached =
       has = is.has;
       stops = (is.turns_are, refl);
       faults = refl;
+      missed = refl;
     }

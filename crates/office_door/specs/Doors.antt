@@ -3,6 +3,7 @@ use Rattle.std.specs.Prelude.{◌≡◌, ℕ, zero, suc, ◌+◌, ◌<◌, Bool,
 use Rattle.device_facts.specs.Count.{Counted}
 use Rattle.device_facts.specs.Prefix.{IsPrefixOf}
 use Rattle.disk_core.specs.Doors.{Connection, Connections, first_connection, next_connections, with_taken, with_written}
+use Rattle.disk_core.specs.declared.door.Door as door
 use Rattle.disk_core.specs.declared.source.Source as source
 use Rattle.book_words.specs.declared.act.Ask.{Ask}
 use Rattle.book_words.specs.declared.caller.Caller as caller
@@ -17,20 +18,22 @@ use Rattle.office_door.specs.Exchanges.{Exchange, HasAnswered}
 use Rattle.office_door.specs.Served.{Visit, IsServed, exchanges_of}
 
 -- a door at one moment: what the present connection has left, whether its end was given, all its
--- connections, where it tells them, and how often it failed
+-- connections, where it tells them, how often it failed, and how often it missed the next connection
 pub record Port : Type 0 where
   pub left : Option (List ℕ)
   pub ended : Bool
   pub connections : Option Connections
   pub faults : ℕ
+  pub missed : ℕ
 
-abbrev pub port : {O : Type 0} → source.Ghosts O → (O → Option Connections) → O → Port
-port reads connections o =
+abbrev pub port : {O : Type 0} → source.Ghosts O → door.Ghosts O → O → Port
+port reads comes o =
     record {
       left = reads.left o;
       ended = reads.ended o;
-      connections = connections o;
+      connections = comes.connections o;
       faults = reads.faults o;
+      missed = comes.missed o;
     }
 
 -- a caller and a door at one moment
@@ -38,10 +41,8 @@ pub record Site : Type 0 where
   pub caller : Known
   pub door : Port
 
-abbrev pub site : {C O : Type 0} → caller.Ghosts C → source.Ghosts O → (O → Option Connections)
-    → C → O → Site
-site asks reads connections c o =
-    record { caller = asks.known c; door = port reads connections o }
+abbrev pub site : {C O : Type 0} → caller.Ghosts C → source.Ghosts O → door.Ghosts O → C → O → Site
+site asks reads comes c o = record { caller = asks.known c; door = port reads comes o }
 
 -- ---- connections
 
@@ -125,3 +126,4 @@ pub record ServesDoor (Reached : List Ask → Type 0) (was now : Site) (end : Do
   pub has : HasServed Reached was now.caller connections visits end.served end.links
   pub stops : StopsAt end.stop (length visits) connections now.door.connections
   pub faults : FailedSoOften was.door.faults now.door.faults (end.links + next_faults end.stop)
+  pub missed : FailedSoOften was.door.missed now.door.missed (next_faults end.stop)

@@ -127,6 +127,7 @@ pub record IsOpen (Reached : List Ask → Type 0) (was now : Site) (turns : ℕ)
   pub has : HasServed Reached was now.caller now.door.connections visits tally.served tally.links
   pub turns_are : length visits ≡ turns
   pub faults : FailedSoOften was.door.faults now.door.faults tally.links
+  pub missed : now.door.missed ≡ was.door.missed
 
 -- it may serve more, or has stopped
 abbrev pub TurnsTo : (List Ask → Type 0) → Site → Site → ℕ → Tally → Option DoorStop → Type 0

@@ -24,9 +24,10 @@ pub(crate) fn serve_connection<C: Caller, O: Door>(
     requires begins { O.ended door.old ≡ false }
     ensures room { REPLY_ROOM ≤ vec_capacity buffers.new.reply }
     ensures few { served.new ≤ MAX_REQUESTS }
+    ensures missed { O.missed door.new ≡ O.missed door.old }
     ensures visited { IsVisited (C.later caller.old caller.new)
-        (site C.Caller O.Source O.connections caller.old door.old)
-        (site C.Caller O.Source O.connections caller.new door.new) served.new result }
+        (site C.Caller O.Source O.Door.own caller.old door.old)
+        (site C.Caller O.Source O.Door.own caller.new door.new) served.new result }
 {
     buffers.held.clear();
     *served = 0;

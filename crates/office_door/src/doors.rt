@@ -30,10 +30,10 @@ fn serve_next<C: Caller, O: Door>(
     ensures links { tally.new.links ≤ tally.old.links + 1 }
     ensures began { IfSome result (λ why. why ≡ stop.NoMemory → ⊥) }
     ensures turns { (first : C) (start : O) (turns : ℕ) → turns < MAX_CONNECTIONS
-        → IsOpen (C.later first caller.old) (site C.Caller O.Source O.connections first start)
-        (site C.Caller O.Source O.connections caller.old door.old) turns tally.old
-        → TurnsTo (C.later first caller.new) (site C.Caller O.Source O.connections first start)
-        (site C.Caller O.Source O.connections caller.new door.new) turns tally.new result }
+        → IsOpen (C.later first caller.old) (site C.Caller O.Source O.Door.own first start)
+        (site C.Caller O.Source O.Door.own caller.old door.old) turns tally.old
+        → TurnsTo (C.later first caller.new) (site C.Caller O.Source O.Door.own first start)
+        (site C.Caller O.Source O.Door.own caller.new door.new) turns tally.new result }
 {
     match door.next() {
         Ok(true) => {
@@ -57,8 +57,8 @@ fn serve_all<C: Caller, O: Door>(
 ) -> DoorEnd
     requires { REPLY_ROOM ≤ vec_capacity buffers.old.reply }
     ensures serves { ServesDoor (C.later caller.old caller.new)
-        (site C.Caller O.Source O.connections caller.old door.old)
-        (site C.Caller O.Source O.connections caller.new door.new) result }
+        (site C.Caller O.Source O.Door.own caller.old door.old)
+        (site C.Caller O.Source O.Door.own caller.new door.new) result }
     ensures began { result.stop ≡ stop.NoMemory → ⊥ }
 {
     let mut tally = Tally {
@@ -83,8 +83,8 @@ fn serve_all<C: Caller, O: Door>(
 /// the door; where it isn't to be had, nothing is done.
 pub fn serve_door<C: Caller, O: Door>(alloc: Global, caller: &mut C, door: &mut O) -> DoorEnd
     ensures serves { ServesDoor (C.later caller.old caller.new)
-        (site C.Caller O.Source O.connections caller.old door.old)
-        (site C.Caller O.Source O.connections caller.new door.new) result }
+        (site C.Caller O.Source O.Door.own caller.old door.old)
+        (site C.Caller O.Source O.Door.own caller.new door.new) result }
     ensures untouched { result.stop ≡ stop.NoMemory
         → (caller.new ≡ caller.old) × (door.new ≡ door.old) }
 {

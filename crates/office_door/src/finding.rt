@@ -21,9 +21,10 @@ pub(crate) fn next_request<O: Door>(
     ensures known { held.new.ended ≡ O.ended door.new }
     ensures found { IsFound held.new.bytes held.new.ended result }
     ensures heard { (start : Port) (exchanges : List Exchange) (written : List ℕ)
-        → IsHeard start (port O.Source O.connections door.old) exchanges written held.old.bytes
-        → IsHeard start (port O.Source O.connections door.new) exchanges written held.new.bytes }
+        → IsHeard start (port O.Source O.Door.own door.old) exchanges written held.old.bytes
+        → IsHeard start (port O.Source O.Door.own door.new) exchanges written held.new.bytes }
     ensures cause { CountsFault (O.Source.faults door.old) (O.Source.faults door.new) result }
+    ensures missed { O.missed door.new ≡ O.missed door.old }
 {
     'reading: loop {
         match held.frame(routes, alloc) {

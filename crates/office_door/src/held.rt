@@ -72,12 +72,13 @@ impl Held {
         requires unended { O.ended door.old ≡ false }
         requires known { self.old.ended ≡ false }
         requires room { length self.old.bytes < REQUEST_ROOM }
-        ensures reads { HasRead (port O.Source O.connections door.old)
-            (port O.Source O.connections door.new) self.old self.new }
+        ensures reads { HasRead (port O.Source O.Door.own door.old)
+            (port O.Source O.Door.own door.new) self.old self.new }
         ensures grows { OnOk result (self.new.ended ≡ false
             → length self.old.bytes < length self.new.bytes) }
         ensures unended { OnErr result (self.new ≡ self.old) }
         ensures cause { CountsFault (O.Source.faults door.old) (O.Source.faults door.new) result }
+        ensures missed { O.missed door.new ≡ O.missed door.old }
     {
         let count = door.read(&mut self.buffer[self.count..])?;
         self.count += count;

@@ -38,13 +38,14 @@ fn serve_held<C: Caller, O: Door>(
     requires whole { TellsFrame buffers.old.held.bytes buffers.old.held.ended (Whole framed.now) }
     ensures room { REPLY_ROOM ≤ vec_capacity buffers.new.reply }
     ensures known { buffers.new.held.ended ≡ O.ended door.new }
+    ensures missed { O.missed door.new ≡ O.missed door.old }
     ensures more { served.new ≡ served.old + 1 }
     ensures few { IfNone result (served.new < MAX_REQUESTS) }
     ensures goes { (first : C) (start : O)
-        → IsServing (C.later first caller.old) (site C.Caller O.Source O.connections first start)
-        (site C.Caller O.Source O.connections caller.old door.old) buffers.old.held.bytes served.old
-        → StepsTo (C.later first caller.new) (site C.Caller O.Source O.connections first start)
-        (site C.Caller O.Source O.connections caller.new door.new) buffers.new.held.bytes served.new
+        → IsServing (C.later first caller.old) (site C.Caller O.Source O.Door.own first start)
+        (site C.Caller O.Source O.Door.own caller.old door.old) buffers.old.held.bytes served.old
+        → StepsTo (C.later first caller.new) (site C.Caller O.Source O.Door.own first start)
+        (site C.Caller O.Source O.Door.own caller.new door.new) buffers.new.held.bytes served.new
         result }
 {
     *served += 1;
@@ -68,13 +69,14 @@ pub(crate) fn serve_request<C: Caller, O: Door>(
     requires few { served.old < MAX_REQUESTS }
     ensures room { REPLY_ROOM ≤ vec_capacity buffers.new.reply }
     ensures known { buffers.new.held.ended ≡ O.ended door.new }
+    ensures missed { O.missed door.new ≡ O.missed door.old }
     ensures few { served.new ≤ MAX_REQUESTS }
     ensures more { IfNone result ((served.old < served.new) × (served.new < MAX_REQUESTS)) }
     ensures goes { (first : C) (start : O)
-        → IsServing (C.later first caller.old) (site C.Caller O.Source O.connections first start)
-        (site C.Caller O.Source O.connections caller.old door.old) buffers.old.held.bytes served.old
-        → StepsTo (C.later first caller.new) (site C.Caller O.Source O.connections first start)
-        (site C.Caller O.Source O.connections caller.new door.new) buffers.new.held.bytes served.new
+        → IsServing (C.later first caller.old) (site C.Caller O.Source O.Door.own first start)
+        (site C.Caller O.Source O.Door.own caller.old door.old) buffers.old.held.bytes served.old
+        → StepsTo (C.later first caller.new) (site C.Caller O.Source O.Door.own first start)
+        (site C.Caller O.Source O.Door.own caller.new door.new) buffers.new.held.bytes served.new
         result }
 {
     match next_request(&buffers.routes, alloc, door, &mut buffers.held) {

@@ -1,3 +1,4 @@
+ghost use Rattle.std.specs.Prelude.{◌≡◌};
 ghost use Rattle.office_door.specs.Doors.{port};
 ghost use Rattle.office_door.specs.Steps.{Sends};
 
@@ -5,8 +6,9 @@ use disk_core::{Door, Partly, write_all};
 
 /// Sends a response to the present connection of a door.
 pub(crate) fn send<O: Door>(door: &mut O, text: &[u8]) -> Result<(), Partly>
-    ensures { Sends (port O.Source O.connections door.old) (port O.Source O.connections door.new)
+    ensures sends { Sends (port O.Source O.Door.own door.old) (port O.Source O.Door.own door.new)
         text.now result }
+    ensures missed { O.missed door.new ≡ O.missed door.old }
 {
     write_all(door, text)
 }

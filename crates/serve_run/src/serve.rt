@@ -237,7 +237,7 @@ fn serve_plan<
     requires lanes { length prepared.lanes ≡ length lanes.items }
     requires numbered { All IsNumbered prepared.lanes }
     requires distinct { are_distinct prepared.lanes ≡ true }
-    ensures ends { EndsPlan D.Disk (lane_site L.Cell L.Gate) (door_site O.Source O.connections)
+    ensures ends { EndsPlan D.Disk (lane_site L.Cell L.Gate) (door_site O.Source O.Door.own)
         prepared.store prepared.lanes (handed_in lanes.items doors.items)
         (output_at K.Sink output.old) (output_at K.Sink output.new) result result.stop }
 {
@@ -322,7 +322,7 @@ pub fn run_serve<
     requires opened { held_of store ≡ length (entries_of store) }
     requires sound { IsSound D.Disk store }
     requires calm { ¬ Hangs store }
-    ensures explained { ExplainsServe (lane_site L.Cell L.Gate) (door_site O.Source O.connections)
+    ensures explained { ExplainsServe (lane_site L.Cell L.Gate) (door_site O.Source O.Door.own)
         (stored_book store)
         (moment (input_at S.Source input.old) (output_at K.Sink output.old)
         (D.faults (disk_of store)) (handed_in lanes.items doors.items))

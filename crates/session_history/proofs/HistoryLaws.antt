@@ -2,7 +2,7 @@
 use Rattle.std.proofs.Common.{◌≡◌, ◌≢◌, ℕ, ◌+◌, min, List, length, map, drop, All, AllPairs, Contains, sum_by, Option, sym, ◌∙◌, ap, subst}
 use Rattle.std.proofs.lemmas.List.Elements.{All-weaker}
 use Rattle.disk_core.specs.declared.source.Source as source
-use Rattle.disk_core.specs.Doors.{Connections}
+use Rattle.disk_core.specs.declared.door.Door as door
 use Rattle.book_words.specs.declared.act.Entry.{Entry}
 use Rattle.book_words.specs.Answers.{IsLegal}
 use Rattle.book_words.specs.Callers.{Known, FAULTS_END}
@@ -27,23 +27,23 @@ use Rattle.session_history.proofs.OwnRows.{StandsAs, added_apart, added_stand, a
 use Rattle.book_store.specs.Callers.{own_rows}
 
 module _ {L O : Type 0} (weighs : cell.Ghosts L) (lifts : gate.Ghosts L) (reads : source.Ghosts O)
-    (connections : O → Option Connections) (limit spare : ℕ) (before rows : List Entry) (failed : ℕ)
+    (comes : door.Ghosts O) (limit spare : ℕ) (before rows : List Entry) (failed : ℕ)
     (was now : List (Work L O)) where
   abbrev lane_at : Known → L → lanes.Site
   lane_at = lane_site weighs lifts
 
   abbrev door_at : Known → O → doors.Site
-  door_at = door_site reads connections
+  door_at = door_site reads comes
 
   module _ (apart : AllPairs (λ (v w : Work L O). number_of v ≢ number_of w) was)
       (ran : HaveRun lane_at door_at limit spare before rows failed was now) (legal : IsLegal rows) where
-    made : AreShares weighs lifts reads connections limit spare before rows legal
+    made : AreShares weighs lifts reads comes limit spare before rows legal
         ran.runs
-    made = shares_of weighs lifts reads connections limit spare before rows legal
+    made = shares_of weighs lifts reads comes limit spare before rows legal
         ran.runs ran.each
 
     abbrev IsHere : Share L O → Type 0
-    IsHere = IsHeldShare weighs lifts reads connections limit spare before rows legal
+    IsHere = IsHeldShare weighs lifts reads comes limit spare before rows legal
 
     -- what follows of each share
     of_each : (K : Share L O → Type 0) → ((s : Share L O) → IsHere s → K s) → All K made.shares

@@ -5,7 +5,7 @@ use Rattle.std.proofs.lemmas.List.Elements.{All-cons, All-head, All-nil, All-tai
 use Rattle.device_facts.specs.Prefix.{IsPrefixOf}
 use Rattle.hall_limits.specs.declared.TheConstants.{MAX_LANE}
 use Rattle.disk_core.specs.declared.source.Source as source
-use Rattle.disk_core.specs.Doors.{Connections}
+use Rattle.disk_core.specs.declared.door.Door as door
 use Rattle.book_words.specs.declared.act.Ask.{Ask}
 use Rattle.book_words.specs.declared.act.Entry.{Entry}
 use Rattle.book_words.specs.declared.caller.AskError.{AskError}
@@ -41,7 +41,7 @@ use Rattle.session_history.proofs.ToldVerdicts.{all_told}
 use Rattle.session_history.proofs.WorkedActs.{all_weighed, answered_all, answered_first}
 
 module _ {L O : Type 0} (weighs : cell.Ghosts L) (lifts : gate.Ghosts L) (reads : source.Ghosts O)
-    (connections : O → Option Connections) (limit spare : ℕ) (before rows : List Entry)
+    (comes : door.Ghosts O) (limit spare : ℕ) (before rows : List Entry)
     (legal : IsLegal rows) where
   abbrev room : ℕ
   room = spare + length before
@@ -50,7 +50,7 @@ module _ {L O : Type 0} (weighs : cell.Ghosts L) (lifts : gate.Ghosts L) (reads 
   lane_at = lane_site weighs lifts
 
   abbrev door_at : Known → O → doors.Site
-  door_at = door_site reads connections
+  door_at = door_site reads comes
 
   -- all that a history says of one share
   pub record IsHeld (known : Known) (was now : Work L O) (did : Deed) : Type 0 where
@@ -180,6 +180,7 @@ module _ {L O : Type 0} (weighs : cell.Ghosts L) (lifts : gate.Ghosts L) (reads 
               served = is.has.served_is;
               links = is.has.links_are;
               faults = is.faults;
+              missed = is.missed;
             };
             own = own ∙ ap (λ added. own_rows (MAX_LANE + was.number) before ++ added)
                 is.has.answered.mine;

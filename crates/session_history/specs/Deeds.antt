@@ -81,6 +81,8 @@ pub record HasServed {O : Type 0} (door_at : Known → O → doors.Site) (first 
   pub links : did.end.links ≡ link_faults did.visits
   pub faults : FailedSoOften (door_at first was.door).door.faults
       (door_at last now.door).door.faults (did.end.links + next_faults did.end.stop)
+  pub missed : FailedSoOften (door_at first was.door).door.missed
+      (door_at last now.door).door.missed (next_faults did.end.stop)
 
 -- a job did so, by its kind
 abbrev pub HasDone : {L O : Type 0} → (Known → L → lanes.Site) → (Known → O → doors.Site)

@@ -12,7 +12,7 @@ use Rattle.device_facts.specs.Count.{Counted}
 use Rattle.device_facts.specs.Prefix.{IsPrefixOf}
 use Rattle.disk_core.specs.declared.disk.Disk as disk
 use Rattle.disk_core.specs.declared.source.Source as source
-use Rattle.disk_core.specs.Doors.{Connections}
+use Rattle.disk_core.specs.declared.door.Door as door
 use Rattle.book_laws.proofs.MoveLaws.{balanced}
 use Rattle.book_words.specs.declared.act.Entry.{Entry}
 use Rattle.book_words.specs.Callers.{Known, FAULTS_END}
@@ -110,12 +110,12 @@ failed_so before now (suc k) calm counted = counted (omega arith)
 -- ---- the jobs of a session
 
 module _ {N L O : Type 0} (session : session.Ghosts N) (weighs : cell.Ghosts L)
-    (lifts : gate.Ghosts L) (reads : source.Ghosts O) (connections : O → Option Connections) where
+    (lifts : gate.Ghosts L) (reads : source.Ghosts O) (comes : door.Ghosts O) where
   abbrev lane_at : Known → L → lanes.Site
   lane_at = lane_site weighs lifts
 
   abbrev door_at : Known → O → doors.Site
-  door_at = door_site reads connections
+  door_at = door_site reads comes
 
   -- a job that was run, and how, by a caller of the session
   abbrev DoneIn : Run L O → Type 0
@@ -262,7 +262,7 @@ module _ {N L O : Type 0} (session : session.Ghosts N) (weighs : cell.Ghosts L)
       (made : MakeRows session.before rows ends) where
     by_right : All (λ (r : Run L O). r.known.by ≡ number_of r.was) m.runs
     by_right = All-weaker DoneIn (λ (r : Run L O). r.known.by ≡ number_of r.was)
-        (λ r done. by_stays (room_of session) weighs lifts reads connections
+        (λ r done. by_stays (room_of session) weighs lifts reads comes
         (newcomer session.limit session.before (number_of r.was)) r.known r.was r.now done)
         m.runs m.done
 
@@ -388,14 +388,14 @@ module _ {N L O : Type 0} (session : session.Ghosts N) (weighs : cell.Ghosts L)
 -- ---- what is told of a session without its names
 
 module _ {L O : Type 0} (weighs : cell.Ghosts L) (lifts : gate.Ghosts L) (reads : source.Ghosts O)
-    (connections : O → Option Connections) where
+    (comes : door.Ghosts O) where
   -- no job ran
   pub unbegun_ends : {D : Type 0} (disk : disk.Ghosts D) (store : Store D)
       (jobs : Vec (Work L O) Global) (end : JobsEnd D L O) → IsSound disk store → ¬ Hangs store
       → end ≡ record { store = store; jobs = jobs; ran = false; faults = 0 }
-      → EndsSession disk (lane_site weighs lifts) (door_site reads connections) store jobs end
+      → EndsSession disk (lane_site weighs lifts) (door_site reads comes) store jobs end
   unbegun_ends disk store jobs end sound calm is =
-      subst (EndsSession disk (lane_site weighs lifts) (door_site reads connections) store jobs)
+      subst (EndsSession disk (lane_site weighs lifts) (door_site reads comes) store jobs)
       (sym is) (record {
         ran = λ ran. absurd (let never : false ≡ true = ran in cc);
         unbegun = λ unbegun. record { store_left = refl; jobs_left = refl; calm = refl };
@@ -413,19 +413,19 @@ module _ {L O : Type 0} (weighs : cell.Ghosts L) (lifts : gate.Ghosts L) (reads 
       (first last : Store D) → Begins disk session first → (seat : BookState Entry)
       → seat.list ≡ [] → (jobs behind : Vec (Work L O) Global) (failed : ℕ)
       → HasEnded {A = A} {B = B} disk session (lane_site weighs lifts)
-      (door_site reads connections) (map (new_job seat) jobs.items) last behind.items failed
-      → EndsSession disk (lane_site weighs lifts) (door_site reads connections) first jobs
+      (door_site reads comes) (map (new_job seat) jobs.items) last behind.items failed
+      → EndsSession disk (lane_site weighs lifts) (door_site reads comes) first jobs
       (record { store = last; jobs = behind; ran = true; faults = failed })
   session_ends {D} {N} {A} {B} session disk first last begins seat empty jobs behind failed ended =
       record {
-        ran = λ ran. have_run session weighs lifts reads connections disk first last begins seat
+        ran = λ ran. have_run session weighs lifts reads comes disk first last begins seat
             empty jobs.items behind.items failed ended;
         unbegun = λ unbegun. absurd (let never : true ≡ false = unbegun in cc);
-        faults = failed_right session weighs lifts reads connections disk first last begins
+        faults = failed_right session weighs lifts reads comes disk first last begins
             (map (new_job seat) jobs.items) behind.items failed ended;
-        settled = settled_right session weighs lifts reads connections disk first last begins
+        settled = settled_right session weighs lifts reads comes disk first last begins
             (map (new_job seat) jobs.items) behind.items failed ended;
-        still = still_right session weighs lifts reads connections disk first last begins
+        still = still_right session weighs lifts reads comes disk first last begins
             (map (new_job seat) jobs.items) behind.items failed ended;
         sound = ended.kept.sound;
         balanced = ended.kept.balanced;

@@ -1,7 +1,7 @@
 -- A work that was done, as it looks beside other callers.
 use Rattle.std.proofs.Common.{◌≡◌, ◌⊎◌, inl, inr, ⊎_elim, ℕ, ◌+◌, ◌<◌, ◌≤◌, min, true, false, List, length, Option, Err, refl, arith}
 use Rattle.disk_core.specs.declared.source.Source as source
-use Rattle.disk_core.specs.Doors.{Connections}
+use Rattle.disk_core.specs.declared.door.Door as door
 use Rattle.book_words.specs.declared.act.Ask.{Ask}
 use Rattle.book_words.specs.declared.act.Want.{Want}
 use Rattle.book_words.specs.declared.act.Want.TheVariants as want
@@ -94,6 +94,7 @@ module _ {L O : Type 0} (Reached Told : List Ask → Type 0)
           };
           stops = is.stops;
           faults = is.faults;
+          missed = is.missed;
         };
       }
 
@@ -115,15 +116,15 @@ forgets Reached room lane_at door_at first last was now =
 
 -- a caller keeps its number at its work
 pub by_stays : {L O : Type 0} (room : ℕ) (weighs : cell.Ghosts L) (lifts : gate.Ghosts L)
-    (reads : source.Ghosts O) (connections : O → Option Connections) (first last : Known)
+    (reads : source.Ghosts O) (comes : door.Ghosts O) (first last : Known)
     (was now : Work L O)
-    → IsDoneBeside room (lane_site weighs lifts) (door_site reads connections) first last was now
+    → IsDoneBeside room (lane_site weighs lifts) (door_site reads comes) first last was now
     → last.by ≡ first.by
-by_stays room weighs lifts reads connections first last (Lane was) (Lane now) done =
+by_stays room weighs lifts reads comes first last (Lane was) (Lane now) done =
     done.works.added.by
-by_stays room weighs lifts reads connections first last (Lane was) (Door now) done = absurd done
-by_stays room weighs lifts reads connections first last (Door was) (Lane now) done = absurd done
-by_stays room weighs lifts reads connections first last (Door was) (Door now) done =
+by_stays room weighs lifts reads comes first last (Lane was) (Door now) done = absurd done
+by_stays room weighs lifts reads comes first last (Door was) (Lane now) done = absurd done
+by_stays room weighs lifts reads comes first last (Door was) (Door now) done =
     done.serves.has.answered.by
 
 -- ---- want of memory

@@ -2,7 +2,7 @@
 use Rattle.std.specs.Prelude.{◌≡◌, ℕ, ◌+◌, List, Option, Some}
 use Rattle.hall_limits.specs.declared.TheConstants.{MAX_LANE}
 use Rattle.disk_core.specs.declared.source.Source as source
-use Rattle.disk_core.specs.Doors.{Connections}
+use Rattle.disk_core.specs.declared.door.Door as door
 use Rattle.book_words.specs.declared.act.Ask.{Ask}
 use Rattle.book_words.specs.declared.caller.AskError.{AskError}
 use Rattle.book_words.specs.Callers.{Known}
@@ -34,10 +34,8 @@ lane_site weighs lifts known lane =
     }
 
 -- a door and its caller at one moment
-abbrev pub door_site : {O : Type 0} → source.Ghosts O → (O → Option Connections) → Known → O
-    → doors.Site
-door_site reads connections known door =
-    record { caller = known; door = doors.port reads connections door }
+abbrev pub door_site : {O : Type 0} → source.Ghosts O → door.Ghosts O → Known → O → doors.Site
+door_site reads comes known o = record { caller = known; door = doors.port reads comes o }
 
 -- a lane was worked for its batch, and came to this end
 pub record IsLaneDone {L : Type 0} (Reached : List Ask → Type 0)

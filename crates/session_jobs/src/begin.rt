@@ -107,7 +107,7 @@ fn hold_session<
         × (rows.parts ≡ length jobs.items + 1) }
     requires faults { (faults.name ≡ B.name) × (faults.parts ≡ B.parts)
         × (faults.parts ≡ length jobs.items + 1) }
-    ensures ends { EndsSession D.Disk (lane_site L.Cell L.Gate) (door_site O.Source O.connections)
+    ensures ends { EndsSession D.Disk (lane_site L.Cell L.Gate) (door_site O.Source O.Door.own)
         store jobs result }
 {
     let Ok(room) = take_room(alloc, jobs.len()) else {
@@ -153,7 +153,7 @@ pub fn run_jobs<
     requires apart { AllPairs (λ v w. number_of v ≢ number_of w) jobs.items }
     requires few { length jobs.items ≤ MAX_JOBS }
     ensures ran { result.ran ≡ true → HaveRun (lane_site L.Cell L.Gate)
-        (door_site O.Source O.connections) (limit_of store) (spare_of store) (entries_of store)
+        (door_site O.Source O.Door.own) (limit_of store) (spare_of store) (entries_of store)
         (entries_of result.store) result.faults jobs.items result.jobs.items }
     ensures unbegun { result.ran ≡ false → IsUnbegun store jobs result }
     ensures faults { FailedSoOften (D.faults (disk_of store)) (D.faults (disk_of result.store))

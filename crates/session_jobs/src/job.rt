@@ -28,7 +28,7 @@ impl<L: Lane, O: Door, A: Ledger, B: Ledger> Job<L, O, A, B> {
         shared: &Shared<D, A, B, N>,
     )
         requires ready { IsReady N.Session self.old }
-        ensures run { IsRun N.Session (lane_site L.Cell L.Gate) (door_site O.Source O.connections)
+        ensures run { IsRun N.Session (lane_site L.Cell L.Gate) (door_site O.Source O.Door.own)
             self.old self.new }
     {
         if let Some(seat) = self.seat.take() {

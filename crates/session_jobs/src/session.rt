@@ -44,12 +44,12 @@ fn run_all<
 >(rt: &R, alloc: Global, shared: &Shared<D, A, B, N>, jobs: &mut [Job<L, O, A, B>])
     requires ready { All (IsReady N.Session) jobs.old }
     ensures run { AllZip (IsRun N.Session (lane_site L.Cell L.Gate)
-        (door_site O.Source O.connections)) jobs.old jobs.new }
+        (door_site O.Source O.Door.own)) jobs.old jobs.new }
 {
     let threads = jobs.len().max(1);
     let run = |_: usize, job: &mut Job<L, O, A, B>|
         requires { IsReady N.Session job.now }
-        ensures { IsRun N.Session (lane_site L.Cell L.Gate) (door_site O.Source O.connections)
+        ensures { IsRun N.Session (lane_site L.Cell L.Gate) (door_site O.Source O.Door.own)
             job.entry.now job.exit.now }
     { job.run(rt, alloc, shared) };
     thread::for_each_mut(rt, jobs, threads, &run);
@@ -82,7 +82,7 @@ pub fn hold<
     requires empty { (crew.works.items ≡ []) × (crew.ends.items ≡ []) }
     requires room { HasRoomFor (vec_len crew.jobs) crew }
     ensures ended { HasEnded D.Disk N.Session (lane_site L.Cell L.Gate)
-        (door_site O.Source O.connections) crew.jobs.items result.0 result.1.items result.2 }
+        (door_site O.Source O.Door.own) crew.jobs.items result.0 result.1.items result.2 }
 {
     let Crew {
         mut jobs,

@@ -64,7 +64,7 @@ impl<L: Lane, O: Door> Work<L, O> {
     pub(crate) fn run<C: Caller>(&mut self, alloc: Global, caller: &mut C)
         ensures done { IsDone (C.later caller.old caller.new)
             (BreaksAt C.Caller caller.old caller.new)
-            (lane_site L.Cell L.Gate) (door_site O.Source O.connections)
+            (lane_site L.Cell L.Gate) (door_site O.Source O.Door.own)
             (C.known caller.old) (C.known caller.new) self.old self.new }
     {
         match self {

@@ -17,7 +17,7 @@ unfolding EndsServe
 returns-in-Ok-clause-serves g c =
     let laws = g.met.D.Disk g.world.𝓛 g.world.𝓜 g.world.𝓡 ((λ s x. x), (λ x. x), (λ x. x), λ x. x) in
     inl (is_served g.D.Disk laws.counts_now (lane_site g.L.Cell g.L.Gate)
-    (door_site g.O.Source g.O.Door.connections) c.args.limit c.args.disk c.in-Ok.store
+    (door_site g.O.Source g.O.Door) c.args.limit c.args.disk c.in-Ok.store
     (input_at g.S.Source c.args.input.now) (output_at g.K.Sink c.args.output.now)
     (handed_in c.args.lanes.items c.args.doors.items)
     (input_at g.S.Source c.serve_store.new.input) (output_at g.K.Sink c.serve_store.new.output)

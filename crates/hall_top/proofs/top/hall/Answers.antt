@@ -66,7 +66,7 @@ returns-then-is_serve-clause-doors g c = λ wanted asks other. absurd (both_ways
 pub returns-then-is_serve-clause-serves : goal.returns-then-is_serve-clause-serves
 returns-then-is_serve-clause-serves g c = λ wanted asks serves.
     subst (λ (w : Wanted). EndsServe g.S.Source g.K.Sink g.D.Disk g.L.Cell g.L.Gate g.O.Source
-    g.O.Door.connections w.limit c.args.input.now c.serve.new.input c.args.output.now
+    g.O.Door w.limit c.args.input.now c.serve.new.input c.args.output.now
     c.serve.new.output c.args.disk c.args.lanes c.args.doors c.serve.result)
     (same_asked (wanted_of (bytes_of c.args.words.now)) (seen c.in-Ok.wanted) wanted
     c.in-Ok.ensures.ok asks) c.serve.ensures.serves

@@ -11,9 +11,10 @@ invariant-serving g l = record {
   room : REPLY_ROOM ≤ vec_capacity l.buffers.reply;
   known : l.buffers.held.ended ≡ g.O.Source.ended l.door;
   few : l.served < MAX_REQUESTS;
+  missed : g.O.Door.missed l.door ≡ g.O.Door.missed l.fn.door;
   serving : IsServing (g.C.Caller.later l.fn.caller l.caller)
-      (site g.C.Caller g.O.Source g.O.Door.connections l.fn.caller l.fn.door)
-      (site g.C.Caller g.O.Source g.O.Door.connections l.caller l.door)
+      (site g.C.Caller g.O.Source g.O.Door l.fn.caller l.fn.door)
+      (site g.C.Caller g.O.Source g.O.Door l.caller l.door)
       l.buffers.held.bytes l.served;
 }
 

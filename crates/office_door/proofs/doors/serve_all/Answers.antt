@@ -10,7 +10,7 @@ use Rattle.office_door.proofs.doors.serve_all.Goals as goal
 
 pub loop-turn-init : goal.loop-turn-init
 loop-turn-init g c =
-    let here = site g.C.Caller g.O.Source g.O.Door.connections c.args.caller.now c.args.door.now in
+    let here = site g.C.Caller g.O.Source g.O.Door c.args.caller.now c.args.door.now in
     let reached = g.C.Caller.later c.args.caller.now c.args.caller.now in
     record {
       room = c.requires;
@@ -28,8 +28,8 @@ returns-in-Some-clause-began g c = λ is.
 
 pub returns-in-Some-clause-serves : goal.returns-in-Some-clause-serves
 returns-in-Some-clause-serves g c =
-    let was = site g.C.Caller g.O.Source g.O.Door.connections c.args.caller.now c.args.door.now in
-    let now = site g.C.Caller g.O.Source g.O.Door.connections c.serve_next.new.caller
+    let was = site g.C.Caller g.O.Source g.O.Door c.args.caller.now c.args.door.now in
+    let now = site g.C.Caller g.O.Source g.O.Door c.serve_next.new.caller
     c.serve_next.new.door in
     let reached = g.C.Caller.later c.args.caller.now c.serve_next.new.caller in
     let few : c.loop-turn._turn < MAX_CONNECTIONS = search rules in

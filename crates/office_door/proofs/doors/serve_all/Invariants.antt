@@ -12,6 +12,6 @@ invariant-loop-turn g l = record {
   served : l.tally.served ≤ l._turn * MAX_REQUESTS;
   links : l.tally.links ≤ l._turn;
   serves : IsOpen (g.C.Caller.later l.fn.caller l.caller)
-      (site g.C.Caller g.O.Source g.O.Door.connections l.fn.caller l.fn.door)
-      (site g.C.Caller g.O.Source g.O.Door.connections l.caller l.door) l._turn l.tally;
+      (site g.C.Caller g.O.Source g.O.Door l.fn.caller l.fn.door)
+      (site g.C.Caller g.O.Source g.O.Door l.caller l.door) l._turn l.tally;
 }

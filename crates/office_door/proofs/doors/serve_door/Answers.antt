@@ -8,5 +8,5 @@ returns-in-Ok-clause-untouched g c = λ is. absurd (c.serve_all.ensures.began is
 pub returns-in-Err-clause-serves : goal.returns-in-Err-clause-serves
 returns-in-Err-clause-serves g c =
     stops_without_memory (g.C.Caller.later c.args.caller.now c.args.caller.now)
-    (site g.C.Caller g.O.Source g.O.Door.connections c.args.caller.now c.args.door.now)
+    (site g.C.Caller g.O.Source g.O.Door c.args.caller.now c.args.door.now)
     (g.met.C.Caller.reached.by_none c.args.caller.now)

@@ -6,10 +6,10 @@ use Rattle.office_door.proofs.doors.serve_next.Goals as goal
 
 pub returns-in-Ok-true-clause-turns : goal.returns-in-Ok-true-clause-turns
 returns-in-Ok-true-clause-turns g c = λ first start turns few is.
-    let old = port g.O.Source g.O.Door.connections c.args.door.now in
-    let mid = port g.O.Source g.O.Door.connections c.next.new.self in
-    let now = port g.O.Source g.O.Door.connections c.serve_connection-leaving.new.door in
-    let was = site g.C.Caller g.O.Source g.O.Door.connections first start in
+    let old = port g.O.Source g.O.Door c.args.door.now in
+    let mid = port g.O.Source g.O.Door c.next.new.self in
+    let now = port g.O.Source g.O.Door c.serve_connection-leaving.new.door in
+    let was = site g.C.Caller g.O.Source g.O.Door first start in
     let admits = c.in-Ok-true.ensures.connections in
     let is_true : c.in-Ok-true.field-0 ≡ true = search rules in
     let found = subst (λ (b : Bool).
@@ -22,5 +22,6 @@ returns-in-Ok-true-clause-turns g c = λ first start turns few is.
     old mid now turns c.args.tally.now c.serve_connection-leaving.new.served c.links_of.result
     c.serve_connection-leaving.result
     is admits.0 found (g.met.O.Door.source_left c.next.new.self) c.in-Ok-true.ensures.cause
+    c.in-Ok-true.ensures.missed c.serve_connection-leaving.ensures.missed
     c.serve_connection-leaving.ensures.visited c.links_of.ensures
     (g.met.C.Caller.reached.by_both first c.args.caller.now c.serve_connection-leaving.new.caller)

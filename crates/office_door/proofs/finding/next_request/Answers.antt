@@ -37,8 +37,8 @@ pub returns-in_err-read_from-in-More-clause-heard :
     goal.returns-in_err-read_from-in-More-clause-heard
 returns-in_err-read_from-in-More-clause-heard g c = λ start exchanges written heard.
     let wanted = wants c.reading.held.bytes c.reading.held.ended c.in-More.ensures in
-    heard_read start (port g.O.Source g.O.Door.connections c.reading.door)
-    (port g.O.Source g.O.Door.connections c.read_from.new.door) exchanges written c.reading.held
+    heard_read start (port g.O.Source g.O.Door c.reading.door)
+    (port g.O.Source g.O.Door c.read_from.new.door) exchanges written c.reading.held
     c.read_from.new.self (sym c.reading.invariant.known ∙ wanted.unended) c.read_from.ensures.reads
     (c.reading.invariant.heard start exchanges written heard)
 
@@ -48,9 +48,10 @@ reading-preserved g c =
     record {
       known = sym c.read_from.ensures.reads.ended;
       calm = c.in_ok-read_from-in-More.ensures.cause ∙ c.reading.invariant.calm;
+      missed = c.read_from.ensures.missed ∙ c.reading.invariant.missed;
       heard = λ start exchanges written heard.
-          heard_read start (port g.O.Source g.O.Door.connections c.reading.door)
-          (port g.O.Source g.O.Door.connections c.read_from.new.door) exchanges written
+          heard_read start (port g.O.Source g.O.Door c.reading.door)
+          (port g.O.Source g.O.Door c.read_from.new.door) exchanges written
           c.reading.held c.read_from.new.self
           (sym c.reading.invariant.known ∙ wanted.unended) c.read_from.ensures.reads
           (c.reading.invariant.heard start exchanges written heard);

@@ -10,10 +10,11 @@ abbrev pub invariant-reading : goal.invariant-reading
 invariant-reading g l = record {
   known : l.held.ended ≡ g.O.Source.ended l.door;
   calm : g.O.Source.faults l.door ≡ g.O.Source.faults l.fn.door;
+  missed : g.O.Door.missed l.door ≡ g.O.Door.missed l.fn.door;
   heard : (start : Port) (exchanges : List Exchange) (written : List ℕ)
-      → IsHeard start (port g.O.Source g.O.Door.connections l.fn.door) exchanges written
+      → IsHeard start (port g.O.Source g.O.Door l.fn.door) exchanges written
       l.fn.held.bytes
-      → IsHeard start (port g.O.Source g.O.Door.connections l.door) exchanges written l.held.bytes;
+      → IsHeard start (port g.O.Source g.O.Door l.door) exchanges written l.held.bytes;
 }
 
 -- each read fills the room that is left, or gives the end

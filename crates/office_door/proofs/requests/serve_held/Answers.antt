@@ -15,9 +15,9 @@ take-requires g c =
 
 pub returns-clause-goes : goal.returns-clause-goes
 returns-clause-goes g c = λ first start serving.
-    let old = port g.O.Source g.O.Door.connections c.args.door.now in
-    let new = port g.O.Source g.O.Door.connections c.send.new.door in
-    let was = site g.C.Caller g.O.Source g.O.Door.connections first start in
+    let old = port g.O.Source g.O.Door c.args.door.now in
+    let new = port g.O.Source g.O.Door c.send.new.door in
+    let was = site g.C.Caller g.O.Source g.O.Door first start in
     let held = c.args.buffers.now.held in
     let framed = c.args.framed.now in
     let served = c.args.served.now in
@@ -28,7 +28,7 @@ returns-clause-goes g c = λ first start serving.
     c.requires.whole in
     let sends : Sends old new c.respond.new.reply.items c.send.result =
     subst (λ (text : List ℕ). Sends old new text c.send.result) c.deref.ensures.value
-    c.send.ensures in
+    c.send.ensures.sends in
     let goes = more_served (g.C.Caller.later first c.args.caller.now)
     (g.C.Caller.later c.args.caller.now c.respond.new.caller)
     (g.C.Caller.later first c.respond.new.caller) was (g.C.Caller.known c.args.caller.now)

@@ -6,9 +6,9 @@ use Rattle.office_door.proofs.requests.serve_request.Goals as goal
 
 pub returns-in-Ok-Some-clause-goes : goal.returns-in-Ok-Some-clause-goes
 returns-in-Ok-Some-clause-goes g c = λ first start serving.
-    let old = port g.O.Source g.O.Door.connections c.args.door.now in
-    let now = port g.O.Source g.O.Door.connections c.next_request.new.door in
-    let was = site g.C.Caller g.O.Source g.O.Door.connections first start in
+    let old = port g.O.Source g.O.Door c.args.door.now in
+    let now = port g.O.Source g.O.Door c.next_request.new.door in
+    let was = site g.C.Caller g.O.Source g.O.Door first start in
     c.serve_held.ensures.goes first start
     (serving_heard (g.C.Caller.later first c.args.caller.now) was
     (g.C.Caller.known c.args.caller.now) old now c.args.buffers.now.held.bytes
@@ -18,9 +18,9 @@ returns-in-Ok-Some-clause-goes g c = λ first start serving.
 
 pub returns-in-Ok-None-clause-goes : goal.returns-in-Ok-None-clause-goes
 returns-in-Ok-None-clause-goes g c = λ first start serving.
-    let old = port g.O.Source g.O.Door.connections c.args.door.now in
-    let now = port g.O.Source g.O.Door.connections c.next_request.new.door in
-    let was = site g.C.Caller g.O.Source g.O.Door.connections first start in
+    let old = port g.O.Source g.O.Door c.args.door.now in
+    let now = port g.O.Source g.O.Door c.next_request.new.door in
+    let was = site g.C.Caller g.O.Source g.O.Door first start in
     let found = none_found c.next_request.new.held.bytes c.next_request.new.held.ended
     c.in-Ok-None.field-0 c.in-Ok-None.field-0-is c.in-Ok-None.ensures.found in
     visited_open (g.C.Caller.later first c.args.caller.now) was
@@ -31,9 +31,9 @@ returns-in-Ok-None-clause-goes g c = λ first start serving.
 
 pub returns-in-Err-clause-goes : goal.returns-in-Err-clause-goes
 returns-in-Err-clause-goes g c = λ first start serving.
-    let old = port g.O.Source g.O.Door.connections c.args.door.now in
-    let now = port g.O.Source g.O.Door.connections c.next_request.new.door in
-    let was = site g.C.Caller g.O.Source g.O.Door.connections first start in
+    let old = port g.O.Source g.O.Door c.args.door.now in
+    let now = port g.O.Source g.O.Door c.next_request.new.door in
+    let was = site g.C.Caller g.O.Source g.O.Door first start in
     let found = c.in-Err.ensures.found in
     visited_open (g.C.Caller.later first c.args.caller.now) was
     (g.C.Caller.known c.args.caller.now) old now c.args.buffers.now.held.bytes

@@ -22,7 +22,7 @@ serve_plan-requires-clause-numbered g c = λ κs _.
 pub returns-in-Ok : goal.returns-in-Ok
 returns-in-Ok g c =
     let lane_at = lane_site g.L.Cell g.L.Gate in
-    let door_at = door_site g.O.Source g.O.Door.connections in
+    let door_at = door_site g.O.Source g.O.Door in
     let given = handed_in c.args.lanes.items c.args.doors.items in
     let before = input_at g.S.Source c.args.input.now in
     let now = input_at g.S.Source c.prepare.new.input in
@@ -44,7 +44,7 @@ returns-in-Ok g c =
 pub returns-in-Err : goal.returns-in-Err
 returns-in-Err g c =
     let lane_at = lane_site g.L.Cell g.L.Gate in
-    let door_at = door_site g.O.Source g.O.Door.connections in
+    let door_at = door_site g.O.Source g.O.Door in
     let given = handed_in c.args.lanes.items c.args.doors.items in
     let before = input_at g.S.Source c.args.input.now in
     let now = input_at g.S.Source c.prepare.new.input in

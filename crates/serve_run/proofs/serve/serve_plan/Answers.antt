@@ -56,7 +56,7 @@ finish-requires-clause-few g c =
     c.as_slice.ensures c.push_lanes.ensures.jobs c.push_doors.ensures.jobs in
     let few = jobs_many L O planned lanes doors c.requires.lanes in
     let lane_at = lane_site g.L.Cell g.L.Gate in
-    let door_at = door_site g.O.Source g.O.Door.connections in
+    let door_at = door_site g.O.Source g.O.Door in
     let ended = c.run_jobs-end.ensures in
     let end = c.run_jobs-end.result in
     let store = c.args.prepared.store in
@@ -77,7 +77,7 @@ finish-requires-clause-room g c =
     c.as_slice.ensures c.push_lanes.ensures.jobs c.push_doors.ensures.jobs in
     let few = jobs_many L O planned lanes doors c.requires.lanes in
     let lane_at = lane_site g.L.Cell g.L.Gate in
-    let door_at = door_site g.O.Source g.O.Door.connections in
+    let door_at = door_site g.O.Source g.O.Door in
     let ended = c.run_jobs-end.ensures in
     let end = c.run_jobs-end.result in
     let store = c.args.prepared.store in
@@ -122,7 +122,7 @@ returns-then-end g c =
     c.as_slice.ensures c.push_lanes.ensures.jobs c.push_doors.ensures.jobs in
     let few = jobs_many L O planned lanes doors c.requires.lanes in
     let lane_at = lane_site g.L.Cell g.L.Gate in
-    let door_at = door_site g.O.Source g.O.Door.connections in
+    let door_at = door_site g.O.Source g.O.Door in
     let ended = c.run_jobs-end.ensures in
     let end = c.run_jobs-end.result in
     let store = c.args.prepared.store in
@@ -136,7 +136,7 @@ returns-then-end g c =
     (entries_of store) (entries_of end.store) end.faults ws end.jobs.items) made ran in
     let history : OneHistory lane_at door_at (limit_of store) (spare_of store) (entries_of store)
     (entries_of end.store) end.faults (jobs_of planned lanes doors) end.jobs.items =
-    one_history g.L.Cell g.L.Gate g.O.Source g.O.Door.connections (limit_of store)
+    one_history g.L.Cell g.L.Gate g.O.Source g.O.Door (limit_of store)
     (spare_of store) (entries_of store) (entries_of end.store) end.faults (jobs_of planned lanes doors)
     end.jobs.items apart whole ended.sound.legal in
     let before = output_at g.K.Sink c.args.output.now in
@@ -162,7 +162,7 @@ returns g c =
     c.as_slice.ensures c.push_lanes.ensures.jobs c.push_doors.ensures.jobs in
     let few = jobs_many L O planned lanes doors c.requires.lanes in
     let lane_at = lane_site g.L.Cell g.L.Gate in
-    let door_at = door_site g.O.Source g.O.Door.connections in
+    let door_at = door_site g.O.Source g.O.Door in
     let store = c.args.prepared.store in
     let unbegun = c.run_jobs-end.ensures.unbegun c.if-end.false in
     let back = c.give_back.ensures in

@@ -13,13 +13,13 @@ use Rattle.session_jobs.proofs.begin.hold_session.Goals as goal
 
 pub returns-in_default : goal.returns-in_default
 returns-in_default g c = record {
-  ends = unbegun_ends g.L.Cell g.L.Gate g.O.Source g.O.Door.connections g.D.Disk c.args.store
+  ends = unbegun_ends g.L.Cell g.L.Gate g.O.Source g.O.Door g.D.Disk c.args.store
       c.args.jobs c.unbegun.result c.requires.sound c.requires.calm c.unbegun.ensures;
 }
 
 pub returns-in_default-begin : goal.returns-in_default-begin
 returns-in_default-begin g c = record {
-  ends = unbegun_ends g.L.Cell g.L.Gate g.O.Source g.O.Door.connections g.D.Disk c.args.store
+  ends = unbegun_ends g.L.Cell g.L.Gate g.O.Source g.O.Door g.D.Disk c.args.store
       c.args.jobs c.unbegun-in_default-begin.result c.requires.sound c.requires.calm
       c.unbegun-in_default-begin.ensures;
 }
@@ -39,7 +39,7 @@ hold-store-requires-clause-seat g c = λ κs _.
     let session = session_of g.D.Disk c.in-Ok-begin.turn.table c.args.store in
     let seat = c.in-Ok-begin.seat in
     let many = length-map c.args.jobs.items number_of in
-    new_seat session g.L.Cell g.L.Gate g.O.Source g.O.Door.connections c.fill-crew.new.seat
+    new_seat session g.L.Cell g.L.Gate g.O.Source g.O.Door c.fill-crew.new.seat
     c.in-Ok-begin.turn c.args.rows.parts c.args.faults.parts (map number_of c.args.jobs.items)
     (c.fill-crew.ensures.seat ∙ ap (λ (s : BookState Entry).
     with_passes s (map number_of c.args.jobs.items)) c.in-Ok-begin.ensures.book)
@@ -54,7 +54,7 @@ hold-store-requires-clause-ready g c = λ κs _.
     let seat = c.in-Ok-begin.seat in
     let book = c.in-Ok-begin.ensures.book in
     subst (λ (js : List J). All (IsReady session) js) (sym c.fill-crew.ensures.jobs)
-    (all_ready session g.L.Cell g.L.Gate g.O.Source g.O.Door.connections seat
+    (all_ready session g.L.Cell g.L.Gate g.O.Source g.O.Door seat
     (ap (λ (s : BookState Entry). s.table) book)
     (ap (λ (s : BookState Entry). s.history) book ∙ (c.in-Ok-begin.ensures.turn ∙ c.len-2.ensures))
     c.args.jobs.items)
@@ -66,12 +66,12 @@ returns g c =
     let last = c.hold-store.result.0 in
     let session = session_of g.D.Disk c.in-Ok-begin.turn.table c.args.store in
     record {
-      ends = session_ends g.L.Cell g.L.Gate g.O.Source g.O.Door.connections session g.D.Disk
+      ends = session_ends g.L.Cell g.L.Gate g.O.Source g.O.Door session g.D.Disk
           c.args.store last
           (begins_named g.D.Disk c.in-Ok-begin.turn.table c.args.store c.requires.calm) seat
           (ap (λ (s : BookState Entry). s.list) c.in-Ok-begin.ensures.book) c.args.jobs
           c.hold-store.result.1 c.hold-store.result.2
           (subst (λ (js : List J). HasEnded g.D.Disk session (lane_site g.L.Cell g.L.Gate)
-          (door_site g.O.Source g.O.Door.connections) js last c.hold-store.result.1.items
+          (door_site g.O.Source g.O.Door) js last c.hold-store.result.1.items
           c.hold-store.result.2) c.fill-crew.ensures.jobs c.hold-store.ensures.ended);
     }

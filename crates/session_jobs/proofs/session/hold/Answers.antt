@@ -21,7 +21,7 @@ dismiss-works-requires-clause-seated g c =
     let jobs : List J = c.args.crew.jobs.items in
     let behind : List J = c.run_all.new.jobs in
     let R : J → J → Type 0 = IsRun g.N.Session (lane_site g.L.Cell g.L.Gate)
-    (door_site g.O.Source g.O.Door.connections) in
+    (door_site g.O.Source g.O.Door) in
     let run : AllZip R jobs behind = subst (λ (js : List J). AllZip R js behind)
     c.as_mut_slice.ensures.value c.run_all.ensures.run in
     let many : c.args.crew.jobs.len ≡ length behind = omega (
@@ -32,7 +32,7 @@ dismiss-works-requires-clause-seated g c =
     ) in
     subst (λ (js : List J). All (λ (j : J). IsSome j.seat) js)
     (sym (written c.args.crew.jobs.len behind (drop (length behind) jobs) many))
-    (all_seated g.N.Session g.L.Cell g.L.Gate g.O.Source g.O.Door.connections jobs behind run)
+    (all_seated g.N.Session g.L.Cell g.L.Gate g.O.Source g.O.Door jobs behind run)
 
 pub close-store-requires-clause-ends : goal.close-store-requires-clause-ends
 close-store-requires-clause-ends g c =
@@ -41,7 +41,7 @@ close-store-requires-clause-ends g c =
     let jobs : List J = c.args.crew.jobs.items in
     let behind : List J = c.run_all.new.jobs in
     let R : J → J → Type 0 = IsRun g.N.Session (lane_site g.L.Cell g.L.Gate)
-    (door_site g.O.Source g.O.Door.connections) in
+    (door_site g.O.Source g.O.Door) in
     let run : AllZip R jobs behind = subst (λ (js : List J). AllZip R js behind)
     c.as_mut_slice.ensures.value c.run_all.ensures.run in
     let many : c.args.crew.jobs.len ≡ length behind = omega (
@@ -54,7 +54,7 @@ close-store-requires-clause-ends g c =
     let ends : List P = c.dismiss-works.result.1.items in
     let seats : map (λ (p : P). Some p) ends ≡ map (λ (j : J). j.seat) behind =
     c.dismiss-works.ensures.ends ∙ ap (map (λ (j : J). j.seat)) whole in
-    all_passes g.N.Session g.L.Cell g.L.Gate g.O.Source g.O.Door.connections jobs behind ends run seats
+    all_passes g.N.Session g.L.Cell g.L.Gate g.O.Source g.O.Door jobs behind ends run seats
 
 pub close-store-requires-clause-all_rows : goal.close-store-requires-clause-all_rows
 close-store-requires-clause-all_rows g c =
@@ -63,7 +63,7 @@ close-store-requires-clause-all_rows g c =
     let jobs : List J = c.args.crew.jobs.items in
     let behind : List J = c.run_all.new.jobs in
     let R : J → J → Type 0 = IsRun g.N.Session (lane_site g.L.Cell g.L.Gate)
-    (door_site g.O.Source g.O.Door.connections) in
+    (door_site g.O.Source g.O.Door) in
     let run : AllZip R jobs behind = subst (λ (js : List J). AllZip R js behind)
     c.as_mut_slice.ensures.value c.run_all.ensures.run in
     let many : c.args.crew.jobs.len ≡ length behind = omega (
@@ -76,7 +76,7 @@ close-store-requires-clause-all_rows g c =
     let ends : List P = c.dismiss-works.result.1.items in
     let seats : map (λ (p : P). Some p) ends ≡ map (λ (j : J). j.seat) behind =
     c.dismiss-works.ensures.ends ∙ ap (map (λ (j : J). j.seat)) whole in
-    let all = all_many g.N.Session g.L.Cell g.L.Gate g.O.Source g.O.Door.connections jobs behind ends run seats in
+    let all = all_many g.N.Session g.L.Cell g.L.Gate g.O.Source g.O.Door jobs behind ends run seats in
     let r = c.requires.rows in
     omega (arith, all, r, c.as_mut_slice.ensures.len, ap length c.as_mut_slice.ensures.value)
 
@@ -87,7 +87,7 @@ close-store-requires-clause-all_faults g c =
     let jobs : List J = c.args.crew.jobs.items in
     let behind : List J = c.run_all.new.jobs in
     let R : J → J → Type 0 = IsRun g.N.Session (lane_site g.L.Cell g.L.Gate)
-    (door_site g.O.Source g.O.Door.connections) in
+    (door_site g.O.Source g.O.Door) in
     let run : AllZip R jobs behind = subst (λ (js : List J). AllZip R js behind)
     c.as_mut_slice.ensures.value c.run_all.ensures.run in
     let many : c.args.crew.jobs.len ≡ length behind = omega (
@@ -100,7 +100,7 @@ close-store-requires-clause-all_faults g c =
     let ends : List P = c.dismiss-works.result.1.items in
     let seats : map (λ (p : P). Some p) ends ≡ map (λ (j : J). j.seat) behind =
     c.dismiss-works.ensures.ends ∙ ap (map (λ (j : J). j.seat)) whole in
-    let all = all_many g.N.Session g.L.Cell g.L.Gate g.O.Source g.O.Door.connections jobs behind ends run seats in
+    let all = all_many g.N.Session g.L.Cell g.L.Gate g.O.Source g.O.Door jobs behind ends run seats in
     let r = c.requires.faults in
     omega (arith, all, r, c.as_mut_slice.ensures.len, ap length c.as_mut_slice.ensures.value)
 
@@ -111,7 +111,7 @@ returns g c =
     let jobs : List J = c.args.crew.jobs.items in
     let behind : List J = c.run_all.new.jobs in
     let R : J → J → Type 0 = IsRun g.N.Session (lane_site g.L.Cell g.L.Gate)
-    (door_site g.O.Source g.O.Door.connections) in
+    (door_site g.O.Source g.O.Door) in
     let run : AllZip R jobs behind = subst (λ (js : List J). AllZip R js behind)
     c.as_mut_slice.ensures.value c.run_all.ensures.run in
     let many : c.args.crew.jobs.len ≡ length behind = omega (

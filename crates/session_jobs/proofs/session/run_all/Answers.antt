@@ -14,7 +14,7 @@ for_each_mut-requires-sync-F g c κs =
 pub returns : goal.returns
 returns g c =
     let lane_at = lane_site g.L.Cell g.L.Gate in
-    let door_at = door_site g.O.Source g.O.Door.connections in
+    let door_at = door_site g.O.Source g.O.Door in
     record {
       run = zip_all (IsRun g.N.Session lane_at door_at) c.args.jobs.now c.for_each_mut.new.s
           c.for_each_mut.auto.s

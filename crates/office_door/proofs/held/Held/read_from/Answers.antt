@@ -66,3 +66,11 @@ returns-clause-reads g c =
       ended = c.in_ok-count.ensures.end ∙ end_known more into some;
       at_end = λ end. bytes.1 (eqb-true more 0 end) some;
     }
+
+pub returns-in_err-count-clause-missed : goal.returns-in_err-count-clause-missed
+returns-in_err-count-clause-missed g c =
+    g.met.O.Door.read_misses_none c.args.door.now c.read.new.self c.read.ensures.rest
+
+pub returns-clause-missed : goal.returns-clause-missed
+returns-clause-missed g c =
+    g.met.O.Door.read_misses_none c.args.door.now c.read.new.self c.read.ensures.rest

@@ -21,7 +21,7 @@ returns-in-Some g c =
     let pass : begun ≡ first = c.pass-pass.ensures in
     let ended : c.end.result ≡ last = c.end.ensures.seat in
     let lane_at = lane_site g.L.Cell g.L.Gate in
-    let door_at = door_site g.O.Source g.O.Door.connections in
+    let door_at = door_site g.O.Source g.O.Door in
     let was = c.args.self.now.work in
     let now = c.run.new.self in
     let done : IsDoneBy (HasNoted begun.notes last.notes) (room_of s) lane_at door_at
