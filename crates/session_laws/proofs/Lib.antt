@@ -1,1 +1,2 @@
+pub mod CallerCrashes
 pub mod SessionLemmas
