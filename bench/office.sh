@@ -1,12 +1,13 @@
 #!/bin/sh
 # Measures a door of the office over TCP, by wrk with one keep-alive connection.
 #
-# A sheet of a book of 100 000 rows in a file, beside nginx with a static file of the same size; then
-# acts over a book in memory, each with the next request number of desk 101 (a day set again, which
-# adds a row). Best of three runs of 4 seconds, in turn. Printed are requests a second and the ratios
-# to nginx.
+# A sheet of a book of 100 000 rows in a file, beside nginx with a static file of the same size;
+# then acts over a book in memory, each with the next request number of desk 101 (a day set again,
+# which adds a row). Best of three runs of 4 seconds, in turn. Printed are requests a second and the
+# ratios to nginx.
 #
-# usage: bench/office.sh     (HALL names another program than that of `.ci/run`; packages nginx-light, wrk)
+# usage: bench/office.sh     (HALL names another program than that of `.ci/run`; packages
+#                            nginx-light, wrk)
 set -eu
 cd "$(dirname "$0")/.."
 hall=${HALL:-$PWD/crates/hall_cli/out/hall_cli}
@@ -41,17 +42,6 @@ http {
 CONF
 nginx -c "$room/nginx.conf" -e "$room/errors" &
 
-cat >"$room/acts.lua" <<'LUA'
--- an act that wasn't accepted is sent again, so that a number is never left out
-local number = 1
-request = function()
-    local body = '{"desk":101,"request":' .. number .. ',"act":"day","day":"2025-03-03"}'
-    return wrk.format("POST", "/acts", nil, body)
-end
-response = function(status)
-    if status == 200 then number = number + 1 end
-end
-LUA
 
 # requests a second of one connection
 rate() {
@@ -60,7 +50,8 @@ rate() {
 
 best() { sort -n | tail -1; }
 
-"$hall" serve --book "$room/day.book" --doors 1 --port $port --connections 999999 </dev/null >/dev/null &
+"$hall" serve --book "$room/day.book" --doors 1 --port $port --connections 999999 \
+    </dev/null >/dev/null &
 sleep 2
 : >"$room/door"; : >"$room/nginx"; : >"$room/acts"
 for _ in 1 2 3; do
@@ -70,7 +61,7 @@ done
 for run in 1 2 3; do
     "$hall" serve --doors 1 --port $((port + 1 + run)) --connections 999999 </dev/null >/dev/null &
     sleep 1
-    rate -s "$room/acts.lua" http://127.0.0.1:$((port + 1 + run)) >>"$room/acts"
+    rate -s "$PWD/bench/acts.lua" http://127.0.0.1:$((port + 1 + run)) >>"$room/acts"
 done
 door=$(best <"$room/door") nginx=$(best <"$room/nginx") acts=$(best <"$room/acts")
 awk -v door="$door" -v nginx="$nginx" -v acts="$acts" 'BEGIN {

@@ -4,22 +4,21 @@
 usage: scale_sender.py PORT [--host H] [--first N] [--seconds S] < WEIGHTS
 
 WEIGHTS has a weight in grams a line: 1 to 8 digits, and at most three behind a point. What is no
-weight is left out and told on standard error, since it would end the lane. Weights are numbered from
-1 (`1 251.000`), and the line behind the last says `end`. A line is said, and said again over a new
-connection where none of its acknowledgements comes within S seconds (5), or the connection ends.
-Each line that was acknowledged goes to standard output.
+weight is left out and told on standard error, since it would end the lane. Weights are numbered
+from 1 (`1 251.000`), and the line behind the last says `end`. A line is said, and said again over a
+new connection where none of its acknowledgements comes within S seconds (5), or the connection
+ends. Each line that was acknowledged goes to standard output.
 
 A weight is acknowledged when its row is kept in the book, so one that isn't will be weighed by the
 next hall. That hall begins with the number 1 again, and so does this: it knows that a hall is gone
-where its port refuses a connection, also while the scale is silent. Where something in between takes
-the connection in the hall's place, begin this anew with each hall.
+where its port refuses a connection, also while the scale is silent. Where something in between
+takes the connection in the hall's place, begin this anew with each hall.
 
 --first N is for who begins this anew while the hall stays: the number behind the last one that was
 acknowledged.
 
 Status 0: the end was acknowledged. 1: it wasn't, and the hall is gone; the lane may have heard it.
-2: the words are wrong. 3: the hall has taken more than this has said, so see --first.
-"""
+2: the words are wrong. 3: the hall has taken more than this has said, so see --first."""
 
 import argparse
 import os
@@ -86,7 +85,7 @@ class Sender:
         time.sleep(RETRY)
 
     def hear(self):
-        """The numbers of the acknowledgements that came; raises an OSError where the line is cut."""
+        """The numbers of the acknowledgements that came; an OSError where the line is cut."""
         came = self.link.recv(4096)
         if not came:
             raise ConnectionResetError
@@ -169,7 +168,8 @@ def main():
         print("scale_sender: the hall is gone, and the end isn't acknowledged", file=sys.stderr)
         return 1
     except Ahead as ahead:
-        print(f"scale_sender: the hall has taken {ahead} lines: begin with --first {int(str(ahead)) + 1}",
+        print(f"scale_sender: the hall has taken {ahead} lines:"
+              f" begin with --first {int(str(ahead)) + 1}",
               file=sys.stderr)
         return 3
     return 0

@@ -6,8 +6,9 @@
 #
 # usage: standby.sh BOOK COPY [COMMAND [WORD..]]    as: standby.sh day.book day.copy ssh hall@second
 #
-# COMMAND runs `hall` where the copy is; without it that is this machine. HALL is the program (hall),
-# EVERY the seconds between two shipments (1), TIMES how many are sent (without it there is no end).
+# COMMAND runs `hall` where the copy is; without it that is this machine. HALL is the program
+# (hall), EVERY the seconds between two shipments (1), TIMES how many are sent (without it there is
+# no end).
 set -u
 [ $# -ge 2 ] || { sed -n '2,11s/^# \{0,1\}//p' "$0" >&2; exit 2; }
 book=$1 copy=$2

@@ -17,7 +17,8 @@ class Book:
         self.desks = {desk.number: desk for desk in desks}
         # the row of each request of a desk
         self.acts = {}
-        # the number, the gross and the signal of each weighing, and how many were there at the last look
+        # the number, the gross and the signal of each weighing, and how many were there at the last
+        # look
         self.weighed = []
         self.looked = 0
         self.rows = 0
@@ -35,7 +36,7 @@ class Book:
         return ran.stdout.splitlines()
 
     def new_rows(self):
-        """The rows since the book was looked at last. It has to be whole, with what stood before."""
+        """The rows since the last look. The book has to be whole, with what stood before."""
         began = time.monotonic()
         said = self.ask("check")
         self.opening = time.monotonic() - began
@@ -44,7 +45,8 @@ class Book:
              f"the first {self.rows} rows aren't what they were")
         self.rows += len(rows)
         self.stood = digest(self.path, self.rows)
-        need(said == [f"rows {self.rows} whole"], f"check says {said}, the file has {self.rows} rows")
+        need(said == [f"rows {self.rows} whole"],
+             f"check says {said}, the file has {self.rows} rows")
         self.looked = len(self.weighed)
         self.weighed += [(row.number, spell_grams(row.act["gross"]), row.signal)
                          for row in rows if row.act["act"] == "weigh"]
@@ -98,7 +100,8 @@ class Book:
         for request, number, act in desk.fresh:
             row = self.acts.get((desk.number, request))
             need(row and (row.number, row.act) == (number, act),
-                 f"desk {desk.number}: request {request}, {act} was told row {number}, but is {row}")
+                 f"desk {desk.number}: request {request}, {act} was told row {number}, but is"
+                 f" {row}")
         desk.fresh = []
 
     def compare_script(self, lines, answers, killed):
@@ -119,8 +122,8 @@ class Book:
         return len(accepted)
 
     def compare_packs(self, packs):
-        """Asks `hall run` for packs that were let out since the last look: their grosses and signals
-        are those sent."""
+        """Asks `hall run` for packs that were let out since the last look: their grosses and
+        signals are those sent."""
         told = self.ask("run", script="".join(f"pack {pack}\n" for pack in packs))
         need(f"rows {self.rows}" in told, f"the summary doesn't say rows {self.rows}")
         grosses = {pack: gross for pack, gross, _ in self.weighed[self.looked :]}

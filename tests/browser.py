@@ -196,7 +196,8 @@ class Browser:
         printed = self.driver.execute_cdp_cmd("Page.printToPDF", {"preferCSSPageSize": True,
                                                                   "printBackground": True})
         write(f"{path}.pdf", printed["data"])
-        said = subprocess.run(["pdfinfo", f"{path}.pdf"], capture_output=True, text=True, check=True)
+        said = subprocess.run(["pdfinfo", f"{path}.pdf"], capture_output=True, text=True,
+                              check=True)
         subprocess.run(["pdftoppm", "-r", "80", "-png", "-singlefile", f"{path}.pdf", path],
                        check=True)
         pages = next(line for line in said.stdout.splitlines() if line.startswith("Pages:"))

@@ -54,7 +54,7 @@ def plan(setup, batches, reserve=0):
 
 
 def free_ports():
-    """The first of a row of ports that belong to this process, below those that the system draws."""
+    """The first of a row of ports of this process's own, below those that the system draws."""
     return 20000 + os.getpid() * 40 % 12000
 
 
@@ -145,8 +145,8 @@ def make_pipes(folder, lanes):
 
 
 def visit(port, sent=b""):
-    """Makes a connection without a request, and says whether it came about. Where nothing is sent it
-    is none of the door's connections."""
+    """Makes a connection without a request, and says whether it came about. Where nothing is sent
+    it is none of the door's connections."""
     try:
         with socket.create_connection(("127.0.0.1", port), timeout=1) as link:
             link.sendall(sent)
@@ -424,15 +424,16 @@ class Desk:
         return self.spell(request, act)
 
     def hear(self, request, act, response, again=False):
-        """Takes down what an act was answered. The place of its answer is its row; one that is asked
-        again is told the row again, at the length that the book has then."""
+        """Takes down what an act was answered. The place of its answer is its row; one that is
+        asked again is told the row again, at the length that the book has then."""
         need(response.status in (200, 409), f"{act} is answered {response}")
         if response.status == 409:
             return
         row = response.json()["row"]
         need(response.row == row or again and response.row > row, f"{act} is answered {response}")
         need(self.told.setdefault(request, (row, act)) == (row, act),
-             f"desk {self.number}: request {request} is told row {row}, and was {self.told[request]}")
+             f"desk {self.number}: request {request} is told row {row}, and was"
+             f" {self.told[request]}")
         self.fresh.append((request, row, act))
         self.last = max(self.last, request)
 

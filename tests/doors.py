@@ -166,8 +166,8 @@ def dripping_on(port, ends):
         return time.monotonic() - began
 
 
-# Each kind with what it does until it is left, the seconds in which an honest client at the same door
-# is answered meanwhile, and those after which it is left: at the earliest and at the latest.
+# Each kind with what it does until it is left, the seconds in which an honest client at the same
+# door is answered meanwhile, and those after which it is left: at the earliest and at the latest.
 KINDS = {
     "silent": (silent, SOON, None),
     "half a head": (half, SOON, (9.5, 14)),
@@ -355,13 +355,15 @@ async def crowd_unread(_, reader, writer):
 
 
 # How many of 30 in a crowd are of a kind.
-CROWD = {crowd_silent: 8, crowd_half: 7, crowd_drip: 7, crowd_kept: 5, crowd_probe: 2, crowd_unread: 1}
+CROWD = {crowd_silent: 8, crowd_half: 7, crowd_drip: 7, crowd_kept: 5, crowd_probe: 2,
+         crowd_unread: 1}
 
 
 async def crowd(count, ports, ends, draw):
     ways = [way for way, share in CROWD.items() for _ in range(share)]
-    await asyncio.gather(*(crowd_client(random.Random(draw.random()), ways[at % len(ways)], ports, ends)
-                           for at in range(count)))
+    await asyncio.gather(*(
+        crowd_client(random.Random(draw.random()), ways[at % len(ways)], ports, ends)
+        for at in range(count)))
 
 
 def weights(draw, ends):
@@ -399,9 +401,11 @@ def beside_a_crowd(count, seconds, draw):
         need(len(lane.opened) >= len(lane.sent) - 1,
              f"lane {lane.number} let {len(lane.opened)} of {len(lane.sent)} packs out")
     took = sorted(one for client in honest for one in client.took)
-    print(f"{count} hostile clients at 4 doors for {seconds} s: {len(took)} honest answers, the middle"
-          f" one in {took[len(took) // 2]:.2f} s, the 99th of 100 in {took[len(took) * 99 // 100]:.2f} s,"
-          f" the last in {took[-1]:.2f} s; 2 lanes let {sum(len(lane.opened) for lane in lanes)} packs"
+    middle, late = took[len(took) // 2], took[len(took) * 99 // 100]
+    print(f"{count} hostile clients at 4 doors for {seconds} s: {len(took)} honest answers,"
+          f" the middle one in {middle:.2f} s, the 99th of 100 in {late:.2f} s,"
+          f" the last in {took[-1]:.2f} s;"
+          f" 2 lanes let {sum(len(lane.opened) for lane in lanes)} packs"
           f" out; {most} descriptors, {memory} KiB at most", flush=True)
 
 

@@ -6,11 +6,12 @@
 # body or takes no answer it is answered within 15 seconds, since these have 10 of their own.
 #
 # Then 300 connections that say nothing, of which none is one of `--connections` and none a fault of
-# the link; a door without a descriptor, which is told once and serves again; and 300 hostile clients
-# of all kinds at four doors beside two lanes, where it is told how long honest clients wait.
+# the link; a door without a descriptor, which is told once and serves again; and 300 hostile
+# clients of all kinds at four doors beside two lanes, where it is told how long honest clients
+# wait.
 #
-# usage: tests/doors.sh [FOLDER [SECONDS [CLIENTS [SEED]]]]    SECONDS of the crowd: 120, for the full
-#        run 1200; none at 0. HALL names another program than the one that `./hall` builds.
+# usage: tests/doors.sh [FOLDER [SECONDS [CLIENTS [SEED]]]]    SECONDS of the crowd: 120, for the
+#        full run 1200; none at 0. HALL names another program than the one that `./hall` builds.
 set -eu
 here=$(dirname "$(readlink -f "$0")")/..
 seconds=${2:-120}

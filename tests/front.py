@@ -91,7 +91,7 @@ class Person:
 
 
 def compare_book(front, book, setup):
-    """The rows behind the setup are the acts that were told, those that were sent bare among them."""
+    """The rows behind the setup are the acts that were told, those sent bare among them."""
     for row in rows_behind(book, setup):
         desk, request, members = front.told.pop(row.number)
         need((row.desk, row.request) == (desk, request) and members.items() <= row.act.items(),
@@ -174,10 +174,12 @@ def check_desks(front):
         expect(anna.send("POST", "/hall/acts", body), 403, body)
     expect(ben.act(101, act="end", batch="A"), 403, "ben as 101")
     need(anna.send("GET", "/hall/summary").fields["book-row"] == rows, "a refused body acted")
-    for person, desk, name in ((anna, 101, "rice100"), (anna, 102, "rice101"), (ben, 103, "rice103")):
+    for person, desk, name in ((anna, 101, "rice100"), (anna, 102, "rice101"),
+                               (ben, 103, "rice103")):
         reply = person.act(desk, act="product", name=name, nominal=100000)
         expect(reply, 200, f"desk {desk}")
-        need(reply.fields["book-row"] == str(json.loads(reply.body)["row"]), "Book-Row is handed on")
+        row = str(json.loads(reply.body)["row"])
+        need(reply.fields["book-row"] == row, "Book-Row is handed on")
 
 
 def check_bodies(front):
@@ -257,7 +259,8 @@ def check_many(front):
                 link.sendall(ben.head("GET", "/hall/summary"))
                 answers.append(Reply(link).status)
 
-    askers = [threading.Thread(target=ask_ten, args=(number,), daemon=True) for number in range(200)]
+    askers = [threading.Thread(target=ask_ten, args=(number,), daemon=True)
+              for number in range(200)]
     for asker in askers:
         asker.start()
     ready.wait()

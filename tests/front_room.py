@@ -27,7 +27,7 @@ def run(*words, **options):
 
 
 def wait_until(holds, said, seconds=20):
-    """Waits until something holds. What is said of it, where it doesn't in time, may be a function."""
+    """Waits until something holds. What is said where it doesn't in time may be a function."""
     end = time.monotonic() + seconds
     while not (found := holds()):
         if time.monotonic() > end:

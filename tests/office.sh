@@ -37,14 +37,7 @@ page() {
 # sends a voiding and hangs up without reading the answer
 lose() {
     body="{\"desk\":101,\"request\":$1,\"act\":\"void\",\"pack\":$VOIDED}"
-    python3 - $port "$body" <<'PYTHON'
-import socket, sys
-body = sys.argv[2].encode()
-link = socket.create_connection(("127.0.0.1", int(sys.argv[1])))
-head = f"POST /acts HTTP/1.1\r\nHost: hall\r\nContent-Length: {len(body)}\r\n\r\n"
-link.sendall(head.encode() + body)
-link.close()
-PYTHON
+    python3 tests/lost_request.py $port "$body"
 }
 
 # what lane 1 weighs

@@ -1,6 +1,6 @@
 #!/bin/sh
-# The package: made of the built program, looked over by lintian, installed into a Debian that has no
-# toolchain, used there for README's first day, and removed again, where the books stay; and the
+# The package: made of the built program, looked over by lintian, installed into a Debian that has
+# no toolchain, used there for README's first day, and removed again, where the books stay; and the
 # service as systemd judges it.
 #
 # usage: tests/package.sh        HALL names the program

@@ -58,7 +58,8 @@ sqlite3 :memory: '.mode csv' ".import $work/register.csv register" \
     tr -d '\r' | sort | cmp - "$work/summary" || fail "sqlite3 sums up otherwise"
 
 # csvkit
-SQLALCHEMY_SILENCE_UBER_WARNING=1 csvsql --query 'select pile, count(*), printf("%.3f", sum(gross)) from register group by pile' \
+SQLALCHEMY_SILENCE_UBER_WARNING=1 csvsql --query \
+    'select pile, count(*), printf("%.3f", sum(gross)) from register group by pile' \
     "$work/register.csv" | tail -n +2 | sort | cmp - "$work/summary" ||
     fail "csvkit sums up otherwise"
 

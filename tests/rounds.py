@@ -1,14 +1,13 @@
-"""Rounds of `hall` over one book, each killed at a drawn moment or brought to its end, and what they
-left compared with what was sent and answered. For tests/kill.sh and tests/soak.sh.
-"""
+"""Rounds of `hall` over one book, each killed at a drawn moment or brought to its end, and what
+they left compared with what was sent and answered. For tests/kill.sh and tests/soak.sh."""
 
 import random
 import subprocess
 import time
 
 from book import Book
-from clients import (FIRST_DESK, FIRST_DOOR, OPENING, Client, Curl, Desk, Hall, Lane, Link, drawn_act,
-                     drawn_gross, free_ports, need, plan, post, spell_grams)
+from clients import (FIRST_DESK, FIRST_DOOR, OPENING, Client, Curl, Desk, Hall, Lane, Link,
+                     drawn_act, drawn_gross, free_ports, need, plan, post, spell_grams)
 
 LANES = 3
 # A desk at each door: the first asks by connections that stay, the second by curl.
@@ -58,7 +57,8 @@ class DeskWork(Client):
     def ask_together(self, link):
         """Sends some acts at once, as if each were accepted, and hears the answers."""
         first = self.desk.last + 1
-        asked = [(request, self.drawn()) for request in range(first, first + self.draw.randint(2, 6))]
+        asked = [(request, self.drawn())
+                 for request in range(first, first + self.draw.randint(2, 6))]
         link.send(b"".join(post(self.desk.note(request, act)) for request, act in asked))
         for request, act in asked:
             self.desk.hear(request, act, link.response())
@@ -80,8 +80,8 @@ class Rounds:
         self.round = self.kills = self.early = 0
 
     def serve(self, load, killed=True):
-        """A round of `serve` under load, killed at a drawn moment of its opening and so many seconds
-        behind it, or brought to its end then."""
+        """A round of `serve` under load, killed at a drawn moment of its opening and so many
+        seconds behind it, or brought to its end then."""
         hall, lanes, desks = self.start()
         if killed:
             hall.wait_or_kill(self.draw.uniform(0, self.book.opening + load))
@@ -126,8 +126,8 @@ class Rounds:
             need(line in hall.said(), f"there is no line {line} in {hall.said()}")
 
     def run(self, load, killed=True):
-        """A round of `run` over a script of weighings, killed at a drawn moment of its opening and so
-        many seconds behind it, or to its end."""
+        """A round of `run` over a script of weighings, killed at a drawn moment of its opening and
+        so many seconds behind it, or to its end."""
         lines = self.script()
         with open(f"{self.folder}/script", "rb") as script, \
                 open(f"{self.folder}/answers", "wb") as answers:

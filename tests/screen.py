@@ -105,7 +105,8 @@ def check_keyboard(anna):
     """The key Tab comes by everything that can be used."""
     anna.open("desk")
     anna.find("#my-desk")
-    anna.run("document.querySelector('summary').parentElement.open = true; document.activeElement.blur()")
+    anna.run("document.querySelector('summary').parentElement.open = true;"
+             " document.activeElement.blur()")
     visited = set()
     for _ in range(60):
         webdriver.ActionChains(anna.driver).send_keys(Keys.TAB).perform()
@@ -123,7 +124,8 @@ def check_refusals(browser, language):
         const tell = arguments[0];
         import("./words.js").then(({ refusal }) => tell(
             Array.from({ length: 35 }, (_, at) => refusal(at + 1, "KEPT"))))""")
-    need(len(names) == 35 and len(set(said)) == 35, f"{len(names)} refusals, {len(set(said))} texts")
+    need(len(names) == 35 and len(set(said)) == 35,
+         f"{len(names)} refusals, {len(set(said))} texts")
     for number, sentence in enumerate(said, 1):
         need(sentence.endswith(f" ({number} {names[str(number)]})") and len(sentence) > 40
              and "{" not in sentence and "undefined" not in sentence, f"{language}: {sentence}")
@@ -286,7 +288,8 @@ def check_list(browser):
     """Where the front serves a list, the desk shows it and its fields propose its names."""
     os.makedirs("/run/hall")
     with open("/run/hall/list.txt", "w", encoding="ascii") as said:
-        said.write(f"day {DAY}\nproduct lentils500 nominal 500.000\nbatch LATE product lentils500\n")
+        said.write(f"day {DAY}\nproduct lentils500 nominal 500.000\n"
+                   "batch LATE product lentils500\n")
     browser.reload()
     browser.wait_text("#desk pre", "product lentils500")
     proposed = browser.run("return [...document.querySelectorAll('datalist option')]"
@@ -490,7 +493,8 @@ def numbers_of_page(browser, batch):
             .map((one) => [text(one.querySelector("dt")), text(one.querySelector("dd"))]);
         const rows = [...document.querySelectorAll("#sheet tbody tr")]
             .map((one) => [...one.children].map(text));
-        return [...facts, ...rows, ["verdict", text(document.querySelector("#sheet .verdict"))]]"""))
+        const verdict = text(document.querySelector("#sheet .verdict"));
+        return [...facts, ...rows, ["verdict", verdict]]"""))
 
 
 def report_of(program, book, batch):

@@ -194,7 +194,8 @@ JOURNALS = [
     ([(193, 14)], 385, migrated("bad line 3\n", 3, 2)),
     ([(288, ord("x"))], 385, migrated("bad line 4\n", 3, 3))]
 
-# A tare that is corrected makes the first pack inadequate, and the batch is held until it is voided.
+# A tare that is corrected makes the first pack inadequate, and the batch is held until it is
+# voided.
 THREE_PACKS = Step(
     ["run"],
     b"weigh 1 243.000\ntare rice250 2025-03-03 12\nweigh 1 260.000\nvoid 6\nweigh 1 260.000\n",
@@ -291,7 +292,8 @@ FOLLOWED = [
     followed(3, 3, "bad line 0\n", 3, 3, changes=[(7, ord("1"))]),
     followed(3, 3, "bad line 0\n", 3, 3, changes=[(12, 6)]),
     followed(3, 3, "bad line 0\n", 3, 3, changes=[(8, 0x41), (9, 0x42), (10, 0x0f)]),
-    # a row that the copy has otherwise (a tare of 10.001 g), one of a kind that isn't there, and one with its gate closed
+    # a row that the copy has otherwise (a tare of 10.001 g), one of a kind that isn't there, and
+    # one with its gate closed
     followed(3, 0, "bad line 3\n", 3, 3, changes=[(208 + 51, 0x11)]),
     followed(3, 3, "bad line 4\n", 3, 3, changes=[(17, 200)]),
     followed(3, 3, "bad line 5\n", 3, 4, changes=[(112, 0)])]
@@ -419,8 +421,8 @@ def worked(lane, printed, status=0, rows=None):
     return Step(["run", "--lanes=2"], b"work %d A\n" % lane, printed, status, rows)
 
 
-# What the file of lane 1's cell has, a run, and what the file of its gate then has. The lane is found
-# with a batch, so the worker stops it and starts it (two rows), weighs, and stops it (one).
+# What the file of lane 1's cell has, a run, and what the file of its gate then has. The lane is
+# found with a batch, so the worker stops it and starts it (two rows), weighs, and stops it (one).
 LANES = [
     (b"260\n240\r\n261.5",
      worked(1, "lane 1 opened 2 done\n"
@@ -441,8 +443,8 @@ LANES = [
 PIPED = [(b"251.5\n2", b"open 8\n"), (b"52\r\n253", b"open 9\n"), (b".25\n", b"open 10\n"),
          (b"251 g\n", b""), (b"254\n", b"")]
 
-# What a scale says over a port, connection by connection, and what each is answered; the line of the
-# lane, the status, and the lines of the gate.
+# What a scale says over a port, connection by connection, and what each is answered; the line of
+# the lane, the status, and the lines of the gate.
 PORTS = [
     # the first is cut behind `2 26`; a line comes twice, and one is ahead
     ([(b"1 251\n2 26", b"ack 1\n"),
@@ -478,7 +480,8 @@ PLANS = [
 
 # Inputs of a command, and what standard error says of the setup.
 SETUPS = [
-    ("serve", b'setup = """\n# none\n@164 1 day 2025-03-03\n\nsummary\n\tday 2025-03-04\nopen A a\n"""\n',
+    ("serve", b'setup = """\n# none\n@164 1 day 2025-03-03\n\nsummary\n\tday 2025-03-04\n'
+     b'open A a\n"""\n',
      "hall: line 5 of the setup has no desk, and acts at each start (@164 1 ..)\n"),
     ("serve", b"reserve = 1\nsetup = '''\ntare a 2025-03-03 1\n'''\n",
      "hall: line 1 of the setup has no desk, and acts at each start (@164 1 ..)\n"),

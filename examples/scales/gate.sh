@@ -14,7 +14,9 @@ fi
 while read -r line; do
     PACK=${line#open }
     case $line:$PACK in
-        "open :" | *:*[!0-9]* | "$line:$line") echo "gate: not a line of a gate: $line" >&2; exit 3 ;;
+        "open :" | *:*[!0-9]* | "$line:$line")
+            echo "gate: not a line of a gate: $line" >&2
+            exit 3 ;;
     esac
     export PACK
     "$@" </dev/null || echo "gate: pack $PACK: the command failed with status $?" >&2

@@ -3,8 +3,8 @@
 #
 # usage: lane.sh DEVICE DIALECT CELL      as: lane.sh /dev/ttyUSB0 sics /run/hall-main/cell-1.txt
 #
-# It waits until the hall reads from the lane's pipe, and then keeps the pipe open: a lane whose pipe
-# ends is done until the hall starts again. Weights that come while no hall reads are dropped.
+# It waits until the hall reads from the lane's pipe, and then keeps the pipe open: a lane whose
+# pipe ends is done until the hall starts again. Weights that come while no hall reads are dropped.
 set -u
 here=$(dirname "$0")
 device=$1 dialect=$2 cell=$3

@@ -3,13 +3,13 @@
 
 usage: weights.py DIALECT [--unit g] < SCALE > CELL     (a serial device and the lane's pipe)
 
-Dialects are those of the table below: `sics` (Mettler-Toledo), `and` (A&D), `sbi` (Sartorius).
-A line that is a stable weight in the unit is handed on as grams with at most three digits behind
-the point. Everything else is left out and counted: weights in motion, other units, negative ones,
+Dialects are those of the table below: `sics` (Mettler-Toledo), `and` (A&D), `sbi` (Sartorius). A
+line that is a stable weight in the unit is handed on as grams with at most three digits behind the
+point. Everything else is left out and counted: weights in motion, other units, negative ones,
 overload, words of the scale, lines that broke off; below 1 g the scale is empty, and above 30 kg it
-is no pack (a lane ends where the book refuses a weight). The counts go to standard error at the end, and
-behind every hundredth line that was left out. A line is handed on as soon as it has its end. What a
-device held before this began is of packs that are gone, and is dropped.
+is no pack (a lane ends where the book refuses a weight). The counts go to standard error at the
+end, and behind every hundredth line that was left out. A line is handed on as soon as it has its
+end. What a device held before this began is of packs that are gone, and is dropped.
 
 Status 0 is the end of the scale, 1 that nobody reads the weights any more.
 
