@@ -1,6 +1,8 @@
 #!/bin/bash
-# How long a program takes to check papers, and how much memory: one of 10 000 packs, and one of
-# 16 777 216 bytes that has as many tares and packs of a sample as fit and no fault of form.
+# How long a program takes to check papers, and how much memory: one of 10 000 packs, and two of
+# 16 777 216 bytes. The first has as many tares and packs of a sample as fit and no fault of form; the
+# second has a tare and a pack of each of 10 000 days, draws that are right, and as many packs of a
+# second sample as fit behind them.
 #
 # usage: bench/paper.sh [PROGRAM [WORD..]]    without a program ./prove
 top=$(dirname "$(dirname "$(readlink -f "$0")")")
@@ -39,10 +41,24 @@ def slow():
     return HEAD + tares + rest[0] + line * (room // len(line)) + rest[1]
 
 
+def drawn():
+    days = [datetime.date(2000, 1, 1) + datetime.timedelta(at) for at in range(10_000)]
+    packs = range(1, 10_001)
+    lines = [f"tare {day} 1" for day in days]
+    lines += [f"pack {pack} {day} 251" for pack, day in zip(packs, days)] + ["mode keep word 7"]
+    first = page.draw(7, packs, 80)
+    lines += [f"first {pick} gross 251 empty 0" for pick in first] + ["word 8"]
+    second = page.draw(8, [pack for pack in packs if pack not in set(first)], 80)
+    lines += [f"second {pick} unmeasured" for pick in second]
+    text, last, line = HEAD + "\n".join(lines) + "\n", "verdict released\n", "second 1 unmeasured\n"
+    return text + line * ((16_777_216 - len(text + last)) // len(line)) + last
+
+
 write("large", large())
 write("slow", slow())
+write("drawn", drawn())
 PYTHON
-for paper in large slow; do
+for paper in large slow drawn; do
     echo "$paper: $(stat -c %s "$papers/$paper") bytes, $(wc -l <"$papers/$paper") lines"
     for turn in 1 2 3; do
         /usr/bin/time -q -f '  %e s, %M kB' "$@" <"$papers/$paper" 2>&1
