@@ -1,5 +1,5 @@
-ghost use Rattle.std.specs.Prelude.{◌≡◌, ◌≢◌, ◌↔◌, ◌<◌, ℕ, true, length, drop, slice_index};
-ghost use Rattle.book_journal.specs.Rows.{HasHeader, open_rows, mark_of};
+ghost use Rattle.std.specs.Prelude.{◌≡◌, ◌↔◌, ◌≤◌, true, length};
+ghost use Rattle.book_journal.specs.Rows.{HasHeader, open_rows, gate_behind};
 ghost use Rattle.book_file.specs.Live.{live_count, unmarked};
 
 use crate::begin::header_byte;
@@ -24,7 +24,8 @@ pub fn has_header(bytes: &[u8]) -> bool
 /// How many rows a reader takes of the file of a book that a running hall has open: those of its
 /// slots up to the first that is cut or closed, but the last.
 pub fn live_count(bytes: &[u8]) -> usize
-    ensures { result ≡ live_count bytes.now }
+    ensures count { result ≡ live_count bytes.now }
+    ensures within { ROW_BYTES ≤ length bytes.now → gate_behind result ≤ length bytes.now }
 {
     if bytes.len() < ROW_BYTES {
         return 0;

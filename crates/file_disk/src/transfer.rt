@@ -1,40 +1,16 @@
-//! Whole transfers out of the system's calls, each of which may take less than it was offered.
-//! Where no file is open, each fails.
-ghost use Rattle.std.specs.Prelude.{◌≡◌, ◌+◌, ◌-◌, ◌<◌, ◌≤◌, min, length, take, drop, IfOk, IsErr, IsNone};
+//! Whole transfers out of the system's calls, each of which may take less than it was offered. A
+//! call that is interrupted is made again.
+ghost use Rattle.std.specs.Prelude.{◌≡◌, ◌+◌, ◌-◌, ◌<◌, ◌≤◌, min, length, take, drop, IfOk};
 ghost use Rattle.disk_core.specs.Disk.{WhereTold};
 
 use crate::read_at::ReadAt;
-use disk_core::Failed;
 use std::fs::File;
 use std::io;
 use std::io::ErrorKind;
-use std::os::unix::fs::FileExt;
-
-/// How many bytes the file has.
-pub(crate) fn measure(file: Option<&File>) -> Result<u64, Failed>
-    ensures { IsNone file.entry → IsErr result }
-{
-    let Some(file) = file else { return Err(Failed) };
-    match file.metadata() {
-        Ok(found) => Ok(found.len()),
-        Err(_) => Err(Failed),
-    }
-}
 
 /// Fills a buffer with the bytes from a place on, as many as there are and as it has room for, and
 /// tells how many they are.
-pub(crate) fn fetch(file: Option<&File>, place: u64, into: &mut [u8]) -> Result<usize, Failed>
-    ensures none { IsNone file.entry → IsErr result }
-    ensures bound { IfOk result (λ count. count ≤ length into.new) }
-{
-    let Some(file) = file else { return Err(Failed) };
-    let count = fill(file, place, into)?;
-    Ok(count)
-}
-
-// Reads on until the buffer is full or a read gives nothing. A call that is interrupted is made
-// again.
-fn fill<F: ReadAt>(file: &F, place: u64, into: &mut [u8]) -> Result<usize, Failed>
+pub(crate) fn fill<F: ReadAt>(file: &F, place: u64, into: &mut [u8]) -> io::Result<usize>
     ensures bound { IfOk result (λ count. count ≤ length into.new) }
     ensures count { WhereTold (F.reads file.now) (λ bytes. IfOk result (λ count.
         count ≡ min (length into.new) (length bytes - place))) }
@@ -50,10 +26,10 @@ fn fill<F: ReadAt>(file: &F, place: u64, into: &mut [u8]) -> Result<usize, Faile
             Ok(0) => return Ok(done),
             Ok(more) => done += more,
             Err(error) if error.kind() == ErrorKind::Interrupted => {}
-            Err(_) => break,
+            Err(error) => return Err(error),
         }
     }
-    Err(Failed)
+    Err(ErrorKind::Interrupted.into())
 }
 
 // Reads once more, behind what came so far.
@@ -72,18 +48,13 @@ fn read_on<F: ReadAt>(file: &F, place: u64, done: usize, into: &mut [u8]) -> io:
     file.read_once(from, &mut into[done..])
 }
 
-/// Puts all bytes into the file from a place on.
-pub(crate) fn put(file: Option<&File>, place: u64, bytes: &[u8]) -> Result<(), Failed>
-    ensures { IsNone file.entry → IsErr result }
-{
-    let Some(file) = file else { return Err(Failed) };
-    file.write_all_at(bytes, place).or(Err(Failed))
-}
-
-/// Makes all that was put stable.
-pub(crate) fn settle(file: Option<&File>) -> Result<(), Failed>
-    ensures { IsNone file.entry → IsErr result }
-{
-    let Some(file) = file else { return Err(Failed) };
-    file.sync_data().or(Err(Failed))
+/// Makes all that was put into a file stable.
+pub(crate) fn settle(file: &File) -> io::Result<()> {
+    for _turn in 0..u64::MAX {
+        match file.sync_data() {
+            Err(error) if error.kind() == ErrorKind::Interrupted => {}
+            done => return done,
+        }
+    }
+    Err(ErrorKind::Interrupted.into())
 }
