@@ -1,66 +1,187 @@
+ghost use Rattle.std.specs.Prelude.{IsErr};
 ghost use Rattle.device_facts.specs.Count.{CountsFault};
 
+use crate::backing::Backing;
+use crate::copying::{BookCopy, copy_book, copy_nothing};
+use crate::named_file::NamedFile;
+use crate::notice::Notice;
 use crate::open_error::OpenError;
-use crate::opening::open_locked;
-use crate::transfer::{fetch, measure, put, settle};
+use crate::opening::{make, open_present};
 use device_facts::counted_once_more;
-use disk_core::{DISK_END, Disk, Failed};
+use disk_core::{DISK_END, Disk, Failed, QuietDisk};
 use std::fs::File;
+use std::io;
+use std::io::{Eprint, ErrorKind};
 use std::marker::Model;
 use std::rt::Files;
 
-/// A disk over a file of the operating system. It tells no bytes, images or moments, only its
-/// faults: what the system's calls do is trusted. A disk whose file isn't open fails at each call.
+/// A disk over a file of the operating system, or over what such a file held, in memory. It tells no
+/// bytes, images or moments, only its faults: what the system's calls do is trusted. A disk that
+/// isn't open fails at each call. Standard error is told why a call failed, once for all failures
+/// up to the next good sync.
 #[derive(Drop)]
-pub struct FileDisk {
-    file: Result<File, OpenError>,
+pub struct FileDisk<R: Eprint + Drop> {
+    rt: R,
+    backing: Result<Backing, OpenError>,
+    notice: Option<Notice>,
+    told: bool,
     faults: u64,
 }
 
-impl Model for FileDisk {
+impl<R: Eprint + Drop> Model for FileDisk<R> {
     ghost use Rattle.std.specs.Prelude.{is_ok};
     ghost use Rattle.file_disk.specs.OpenFile.{OpenFile};
 
     ghost Value = { OpenFile };
 
-    ghost view = { λ d. record { is_open = is_ok d.file; faults = d.faults } };
+    ghost view = { λ d. record { is_open = is_ok d.backing; faults = d.faults } };
 }
 
-impl FileDisk {
-    ghost use Rattle.std.specs.Prelude.{◌≡◌, ◌↔◌, true, IsNone};
+impl<R: Eprint + Drop> FileDisk<R> {
+    ghost use Rattle.std.specs.Prelude.{◌≡◌, ◌↔◌, true, false, IsNone, IsOk, IsErr, Ok};
 
-    /// Opens the file at this path and makes it where it isn't there. The file stays locked for as
-    /// long as the disk is there, so no other hall uses it. Where the file is empty, its folder is
-    /// synced, so that a crash leaves its name. A file that can't be opened, made, locked or
-    /// synced, or that is no regular file, gives a disk that isn't open. Nothing is cut off a file.
-    pub fn open<R: Files<File = File> + Alloc>(rt: &R, path: &str) -> Self
-        ensures { result.faults ≡ 0 }
+    /// Over memory.
+    pub fn in_memory(rt: R, disk: QuietDisk) -> Self
+        ensures open { result.is_open ≡ true }
+        ensures faults { result.faults ≡ 0 }
     {
         FileDisk {
-            file: open_locked(rt, path),
+            rt,
+            backing: Ok(Backing::Memory(disk)),
+            notice: None,
+            told: false,
             faults: 0,
         }
     }
 
-    /// Why the file isn't open; none where it is.
+    /// Why the disk isn't open; none where it is.
     pub fn open_error(&self) -> Option<&OpenError>
         ensures { IsNone result ↔ (self.now.is_open ≡ true) }
     {
-        self.file.as_ref().err()
+        self.backing.as_ref().err()
+    }
+
+    /// What whoever opened it should be told.
+    pub fn notice(&self) -> Option<Notice> {
+        self.notice
+    }
+
+    // Counts a call that failed, and tells why where that wasn't told.
+    fn answer<T>(&mut self, done: io::Result<T>) -> Result<T, Failed>
+        ensures value { (value : T) → result ≡ Ok value → done ≡ Ok value }
+        ensures failed { IsErr done → IsErr result }
+        ensures kept { self.new.is_open ≡ self.old.is_open }
+        ensures cause { CountsFault self.old.faults self.new.faults result }
+    {
+        match done {
+            Ok(value) => Ok(value),
+            Err(error) => {
+                self.faults = counted_once_more(self.faults);
+                if !self.told {
+                    self.told = true;
+                    let _ = eprintln!(self.rt; "hall: the book's disk failed: {error}");
+                }
+                Err(Failed)
+            }
+        }
     }
 }
 
-// The count of faults after a call that answered so.
-fn counted_after<T>(faults: u64, answer: &Result<T, Failed>) -> u64
-    ensures { CountsFault faults result answer.now }
+impl<R: Files<File = File> + AllocGlobal + Eprint + Drop> FileDisk<R> {
+    ghost use Rattle.std.specs.Prelude.{◌≡◌};
+
+    /// Opens the book at this path for writing, and makes its file where there is none. The file
+    /// stays locked for as long as the disk is there, so no other hall writes it. Where it is
+    /// empty, its folder is synced, so that a crash leaves its name. A file that can't be opened,
+    /// made, locked or synced, that is no regular file, or has at most 97 bytes that aren't the
+    /// beginning of a book, gives a disk that isn't open. Nothing is cut off a file.
+    pub fn open(rt: R, path: &str) -> Self
+        ensures { result.faults ≡ 0 }
+    {
+        let mut notice = None;
+        let file = match open_present(&rt, path) {
+            Err(error) if error.is_of(ErrorKind::NotFound) => {
+                notice = Some(Notice::Made);
+                make(&rt, path)
+            }
+            found => found,
+        };
+        let backing = named(&rt, path, file);
+        Self::over(rt, backing, notice)
+    }
+
+    /// Opens the book at this path for a command that adds nothing. No file is made: where there is
+    /// none the disk is empty, in memory. A book that another hall has open, or whose file can't be
+    /// written, is read into memory; otherwise the disk is as by `open`.
+    pub fn open_to_read(rt: R, path: &str) -> Self
+        ensures { result.faults ≡ 0 }
+    {
+        match open_present(&rt, path) {
+            Err(OpenError::Held) => {
+                let copied = copy_book(&rt, path);
+                Self::over_copy(rt, copied)
+            }
+            Err(error) if is_unwritable(&error) => {
+                let copied = copy_book(&rt, path);
+                Self::over_copy(rt, copied)
+            }
+            Err(error) if error.is_of(ErrorKind::NotFound) => {
+                let copied = copy_nothing(rt.alloc());
+                Self::over_copy(rt, copied)
+            }
+            found => {
+                let backing = named(&rt, path, found);
+                Self::over(rt, backing, None)
+            }
+        }
+    }
+
+    // A disk that is open on this, or isn't.
+    fn over(rt: R, backing: Result<Backing, OpenError>, notice: Option<Notice>) -> Self
+        ensures { result.faults ≡ 0 }
+    {
+        FileDisk {
+            rt,
+            told: backing.is_err(),
+            notice,
+            backing,
+            faults: 0,
+        }
+    }
+
+    // A disk in memory, or none.
+    fn over_copy(rt: R, copied: Result<BookCopy, OpenError>) -> Self
+        ensures { result.faults ≡ 0 }
+    {
+        match copied {
+            Ok(copied) => Self::over(rt, Ok(Backing::Memory(copied.disk)), Some(copied.notice)),
+            Err(error) => Self::over(rt, Err(error), None),
+        }
+    }
+}
+
+// Whether the system doesn't let a file be written.
+fn is_unwritable(error: &OpenError) -> bool {
+    error.is_of(ErrorKind::PermissionDenied) || error.is_of(ErrorKind::ReadOnlyFilesystem)
+}
+
+// A file that was opened, with its path.
+fn named<R: AllocGlobal>(
+    rt: &R,
+    path: &str,
+    file: Result<File, OpenError>,
+) -> Result<Backing, OpenError> {
+    Ok(Backing::Named(NamedFile::new(rt.alloc(), path, file?)?))
+}
+
+// What a disk that isn't open answers.
+fn shut<T>() -> io::Result<T>
+    ensures { IsErr result }
 {
-    match answer {
-        Ok(_) => faults,
-        Err(Failed) => counted_once_more(faults),
-    }
+    Err(ErrorKind::NotConnected.into())
 }
 
-impl Disk for FileDisk {
+impl<R: Files<File = File> + Eprint + Drop> Disk for FileDisk<R> {
     ghost use Rattle.std.specs.Prelude.{◌≡◌, ◌+◌, ◌<◌, ◌≤◌, false, length, IsErr, IfOk};
     ghost use Rattle.device_facts.specs.Count.{CountsFault};
     ghost use Rattle.disk_core.specs.Untold.{untold, NoImage, NoMoment, told_nothing};
@@ -89,9 +210,11 @@ impl Disk for FileDisk {
         ensures kept { self.new.is_open ≡ self.old.is_open }
         ensures cause { CountsFault self.old.faults self.new.faults result }
     {
-        let length = measure(self.file.as_ref().ok());
-        self.faults = counted_after(self.faults, &length);
-        length
+        let length = match &mut self.backing {
+            Ok(backing) => backing.len(),
+            Err(_) => shut(),
+        };
+        self.answer(length)
     }
 
     fn read_at(&mut self, place: u64, into: &mut [u8]) -> Result<usize, Failed>
@@ -100,9 +223,11 @@ impl Disk for FileDisk {
         ensures kept { self.new.is_open ≡ self.old.is_open }
         ensures cause { CountsFault self.old.faults self.new.faults result }
     {
-        let count = fetch(self.file.as_ref().ok(), place, into);
-        self.faults = counted_after(self.faults, &count);
-        count
+        let count = match &mut self.backing {
+            Ok(backing) => backing.read_at(place, into),
+            Err(_) => shut(),
+        };
+        self.answer(count)
     }
 
     fn write_at(&mut self, place: u64, bytes: &[u8]) -> Result<(), Failed>
@@ -111,9 +236,11 @@ impl Disk for FileDisk {
         ensures kept { self.new.is_open ≡ self.old.is_open }
         ensures cause { CountsFault self.old.faults self.new.faults result }
     {
-        let done = put(self.file.as_ref().ok(), place, bytes);
-        self.faults = counted_after(self.faults, &done);
-        done
+        let done = match &mut self.backing {
+            Ok(backing) => backing.write_at(place, bytes),
+            Err(_) => shut(),
+        };
+        self.answer(done)
     }
 
     fn sync(&mut self) -> Result<(), Failed>
@@ -121,8 +248,11 @@ impl Disk for FileDisk {
         ensures kept { self.new.is_open ≡ self.old.is_open }
         ensures cause { CountsFault self.old.faults self.new.faults result }
     {
-        let done = settle(self.file.as_ref().ok());
-        self.faults = counted_after(self.faults, &done);
-        done
+        let done = match &mut self.backing {
+            Ok(backing) => backing.sync(&self.rt),
+            Err(_) => shut(),
+        };
+        self.told = self.told && done.is_err();
+        self.answer(done)
     }
 }

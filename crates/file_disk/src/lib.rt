@@ -1,22 +1,32 @@
-//! A disk over a file of the operating system: the file under which a hall keeps its book.
+//! A disk over a file of the operating system: the file under which a hall keeps its book; and over
+//! what such a file held, in memory, for a command that adds nothing to a book that is in use, can't
+//! be written or isn't there.
 //!
-//! Promised: each call that fails counts one fault; a disk whose file isn't open fails at each call
-//! and touches nothing; a buffer is filled with the bytes from its place on, as many as there are,
-//! however few of them each read of the system brings.
+//! Promised: each call that fails counts one fault; a disk that isn't open fails at each call; a
+//! buffer is filled with the bytes from its place on, as many as there are, however few of them each
+//! read of the system brings; of a running book the header and the rows that stay are taken, with
+//! no snapshot.
 //!
 //! Trusted: the system's calls, that they read, write and make stable what they say, and that a
-//! lock keeps other halls out; and std's `write_all_at`. A file tells no bytes, so no clause speaks
-//! of what stands in it. No test sees that a sync of the data or of the folder is left out, since
-//! the system keeps what was written also where a program is killed: `bench/book.sh` sees the first
-//! by its time, and nothing here sees the second.
+//! lock keeps other halls out; std's `write_all_at`; that a file which is opened for reading isn't
+//! written, and that a path is compared with its file before each sync is answered. A file tells no
+//! bytes, so no clause speaks of what stands in it. No test sees that a sync of the data or of the
+//! folder is left out, since the system keeps what was written also where a program is killed:
+//! `bench/book.sh` sees the first by its time, and nothing here sees the second.
 #![tactic(auto)]
 
+mod backing;
+mod copies;
+mod copying;
 mod file_disk;
+mod named_file;
+mod notice;
 mod open_error;
 mod opening;
 mod read_at;
 mod transfer;
 
 pub use file_disk::FileDisk;
+pub use notice::Notice;
 pub use open_error::OpenError;
 pub use opening::above_streams;

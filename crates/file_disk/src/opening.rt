@@ -1,5 +1,8 @@
+use crate::copies::{read_running, read_still};
 use crate::open_error::OpenError;
-use std::fs::{File, OpenOptions, canonicalize};
+use book_file::{has_header, is_unbegun};
+use book_journal::NEW_BYTES;
+use std::fs::{File, OpenOptions, canonicalize, symlink_metadata};
 use std::io;
 use std::io::ErrorKind;
 use std::os::fd::AsRawFd;
@@ -8,18 +11,41 @@ use std::rt::Files;
 // The descriptors up to this one are the standard streams.
 const LAST_STREAM: i32 = 2;
 
-/// Opens a regular file for reading and writing, makes it where it isn't there, and locks it for as
-/// long as it is open. No file is truncated.
-pub(crate) fn open_locked<R: Files<File = File> + Alloc>(
+/// Opens the file of a book for reading and writing, and locks it for as long as it is open. It is
+/// a book, or nothing yet. No file is made or truncated.
+pub(crate) fn open_present<R: Files<File = File> + AllocGlobal>(
     rt: &R,
     path: &str,
 ) -> Result<File, OpenError> {
-    let file = above_streams(open_or_make(rt, path)?)?;
+    let file = OpenOptions::new().read(true).write(true).open(rt, path)?;
+    lock_book(rt, path, file)
+}
+
+/// Makes the file of a new book where none is.
+pub(crate) fn make<R: Files<File = File> + AllocGlobal>(rt: &R, path: &str) -> Result<File, OpenError> {
+    if symlink_metadata(rt, path).is_ok() {
+        return Err(OpenError::LeadsNowhere);
+    }
+    let file = File::create_new(rt, path)?;
+    lock_book(rt, path, file)
+}
+
+// Locks a file that is a book, or nothing yet.
+fn lock_book<R: Files<File = File> + AllocGlobal>(
+    rt: &R,
+    path: &str,
+    file: File,
+) -> Result<File, OpenError> {
+    let file = above_streams(file)?;
     let found = file.metadata()?;
     if !found.is_file() {
         return Err(OpenError::NotAFile);
     }
     file.try_lock()?;
+    if found.len() <= NEW_BYTES as u64 {
+        let bytes = read_still(rt.alloc(), &file, found.len())?;
+        check_begun(&bytes)?;
+    }
     // An empty file may have been made by a run that ended before its folder was synced.
     if found.len() == 0 {
         sync_folder(rt, path)?;
@@ -27,10 +53,12 @@ pub(crate) fn open_locked<R: Files<File = File> + Alloc>(
     Ok(file)
 }
 
-fn open_or_make<R: Files<File = File>>(rt: &R, path: &str) -> io::Result<File> {
-    match OpenOptions::new().read(true).write(true).open(rt, path) {
-        Err(error) if error.kind() == ErrorKind::NotFound => File::create_new(rt, path),
-        opened => opened,
+/// A short file is a book without rows, or the beginning of one.
+pub(crate) fn check_begun(bytes: &[u8]) -> Result<(), OpenError> {
+    if has_header(bytes) || is_unbegun(bytes) {
+        Ok(())
+    } else {
+        Err(OpenError::NotABook)
     }
 }
 
@@ -45,7 +73,7 @@ pub fn above_streams(file: File) -> io::Result<File> {
 }
 
 // Makes the file's entry in its folder stable. A link leads to the folder of the file itself.
-fn sync_folder<R: Files<File = File> + Alloc>(rt: &R, path: &str) -> io::Result<()> {
+fn sync_folder<R: Files<File = File> + AllocGlobal>(rt: &R, path: &str) -> io::Result<()> {
     let mut folder = canonicalize(rt, path)?;
     folder.pop();
     File::open(rt, folder.as_str())?.sync_all()
