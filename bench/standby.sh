@@ -3,11 +3,12 @@
 #
 # A book of ROWS rows is made by a script of weighings. `ship` of it to a pipe is measured beside
 # `check` of the same book, which opens it and no more, and `cat` of as many bytes through the same
-# pipe: the ratio is the time that `ship` takes beyond `check`, to that of `cat`. Then `follow` of the
-# first FOLLOWED rows into an empty copy in a file of the folder, beside a bare loop in Python that
-# makes the same two writes and two data syncs a row there: the ratio is the rate of `follow` to that
-# of the loop. And the greatest memory of `ship` and of `follow` beside that of `check` of the book
-# and of the copy. Best of three, in turn, each process whole.
+# pipe: the ratio is the time that `ship` takes beyond `check`, to that of `cat`. `check` is measured
+# again while another process has the book locked, as a running hall does. Then `follow` of the first
+# FOLLOWED rows into an empty copy in a file of the folder, beside a bare loop in Python that makes
+# the same two writes and two data syncs a row there: the ratio is the rate of `follow` to that of
+# the loop. And the greatest memory of `ship` and of `follow` beside that of `check` of the book and
+# of the copy. Best of three, in turn, each process whole.
 #
 # usage: bench/standby.sh FOLDER [ROWS [FOLLOWED]]
 set -eu
@@ -20,7 +21,7 @@ if [ -z "${HALL:-}" ]; then "$here/hall" run </dev/null >/dev/null; fi
 program=${HALL:-$here/crates/hall_cli/out/hall_cli}
 
 python3 - "$program" "$work" "${2:-1000000}" "${3:-100000}" <<'PYTHON'
-import os, resource, subprocess, sys, time
+import fcntl, os, resource, subprocess, sys, time
 
 program, work = sys.argv[1:3]
 ROWS, FOLLOWED = map(int, sys.argv[3:5])
@@ -112,9 +113,15 @@ rows = (os.path.getsize(f"{work}/whole") - HEAD) // SLOT
 ships = [piped([program, "ship", "--book", book]) for _ in range(TURNS)]
 checks = [piped([program, "check", "--book", book]) for _ in range(TURNS)]
 cats = [piped(["cat", f"{work}/whole"]) for _ in range(TURNS)]
+with open(book, "rb") as held:
+    fcntl.flock(held, fcntl.LOCK_EX)
+    lives = [piped([program, "check", "--book", book]) for _ in range(TURNS)]
 ship, check, cat = (min(runs)[0] for runs in (ships, checks, cats))
 print(f"ship of {rows} rows: {ship:.2f} s, check {check:.2f} s, cat of its bytes {cat:.2f} s:"
       f" beyond the opening {(ship - check) / cat:.1f} times cat")
+live = min(lives)[0]
+print(f"check of {rows} rows while another has the book: {live:.2f} s, {live / check:.2f} times that at"
+      f" rest; {max(memory for _, memory in lives)} KiB")
 more = max(memory for _, memory in ships) - max(memory for _, memory in checks)
 print(f"memory: ship {max(m for _, m in ships)} KiB, {more} KiB more than check")
 

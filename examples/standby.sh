@@ -1,7 +1,7 @@
 #!/bin/sh
 # Keeps a copy of a book: each second what is new is shipped, and the copy follows it, here or on
-# another machine. A book that a running hall has open isn't read, and is shipped once that hall has
-# ended. Says how many rows the copy has and how many the book.
+# another machine, also while a hall runs over the book. Says how many rows the copy has and how many
+# the book.
 # It may be killed at any moment and started again, and so may the machine of the copy.
 #
 # usage: standby.sh BOOK COPY [COMMAND [WORD..]]    as: standby.sh day.book day.copy ssh hall@second

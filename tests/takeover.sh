@@ -8,9 +8,6 @@
 # its rows as they are; the last request of each desk that the copy has is told its row again, and no
 # request acts twice. What the first had acknowledged and not yet shipped is counted and printed.
 #
-# It ships the book of a hall that runs, so it takes a program that reads one: today's answers `disk
-# fault`, and the copies stay as they were.
-#
 # usage: tests/takeover.sh [FOLDER [TIMES [SEED]]]     the books lie in a folder below it; 20 times
 #        HALL names another program than the one that `./hall` builds
 # needs: root, iproute2, Python 3.11. Where namespaces can't be had it is skipped. Done in 3 minutes.

@@ -134,7 +134,8 @@ def books(hall):
 
 
 def held(hall):
-    """While a hall has the file, others fail and write nothing."""
+    """While a hall has the file, others write nothing: what adds rows fails, what adds none reads
+    all rows but the newest."""
     hall.anew()
     hall.do(FIVE_ROWS)
     five = hall.bytes()
@@ -144,9 +145,12 @@ def held(hall):
     first.stdin.flush()
     compare("the first hall", first.stdout.readline(), b"6 pass\n")
     written = hall.bytes()
-    for command in ("run", "check", "migrate", "serve", "report", "export", "import", "follow"):
+    for command in ("run", "migrate", "serve", "import", "follow"):
         compare(f"{command} of a held book", hall.ask([command], SIXTH_ROW.given),
                 ("disk fault\n", 6))
+    compare("check of a held book", hall.ask(["check"]), ("rows 5 whole\n", 0))
+    for command in ("report", "export"):
+        compare(f"{command} of a held book", hall.ask([command])[1], 0)
     compare("a held book", hall.bytes(), written)
     first.stdin.close()
     compare("the first hall", first.wait(SECONDS), 0)

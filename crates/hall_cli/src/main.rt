@@ -15,17 +15,16 @@ use crate::lanes::open_lanes;
 use book_snapshot::ROW_BYTES;
 use command_line::{Command, Wants, WantsError, wants};
 use disk_core::{Disk, Door, QuietDisk, Sink, Source, StdSink, StdSource};
-use file_disk::{FileDisk, OpenError};
+use file_disk::FileDisk;
 use hall_limits::{MAX_DOOR, MAX_ROWS};
 use hall_top::{DoorEnds, Ending, LaneEnds, MountError, hall, say_last};
 use lane_worker::Lane;
 use setup_watch::WatchedPlan;
 use std::alloc::{AllocError, Global};
 use std::env;
-use std::fs::File;
-use std::io::{Eprint, ErrorKind};
+use std::io::ErrorKind;
 use std::process::ExitCode;
-use std::rt::{Env, Files};
+use std::rt::Env;
 use std::sync::Wait;
 use std::thread::Threads;
 use tcp_door::{Manners, TcpDoor};
@@ -87,21 +86,50 @@ fn memory_disk(alloc: Global, limit: u32) -> Result<QuietDisk, AllocError> {
     Ok(QuietDisk::new(Vec::with_capacity(alloc, BYTES_A_ROW * rows)?))
 }
 
-// The file of a book. Where it can't be opened, standard error says why.
-fn open_book<R: AllocGlobal + Eprint + Files<File = File>>(rt: &R, path: &str) -> FileDisk {
-    let disk = FileDisk::open(rt, path);
+// Whether a command adds nothing to its book.
+fn reads_alone(command: Command) -> bool {
+    matches!(
+        command,
+        Command::Report | Command::Export | Command::Check | Command::Ship | Command::Paper
+    )
+}
+
+// The file of a book. Standard error says why it can't be opened, and how it was opened where it
+// isn't simply there.
+fn open_book(rt: HostRuntime, command: Command, path: &str) -> FileDisk<HostRuntime> {
+    let disk = if reads_alone(command) {
+        FileDisk::open_to_read(rt, path)
+    } else {
+        FileDisk::open(rt, path)
+    };
     if let Some(error) = disk.open_error() {
         let _ = eprintln!(rt; "hall: can't open {path}: {error}");
+    }
+    if let Some(notice) = disk.notice() {
+        let _ = eprintln!(rt; "hall: {path}: {notice}");
     }
     disk
 }
 
 // Whether there was no memory to open the file of a book.
-fn lacks_memory(disk: &FileDisk) -> bool {
+fn lacks_memory(disk: &FileDisk<HostRuntime>) -> bool {
     match disk.open_error() {
-        Some(OpenError::System(error)) => error.kind() == ErrorKind::OutOfMemory,
-        _ => false,
+        Some(error) => error.lacks_memory(),
+        None => false,
     }
+}
+
+// The disk that the words ask for: the file of the book, or one in memory.
+fn open_disk(rt: HostRuntime, wanted: &Wants) -> Result<FileDisk<HostRuntime>, AllocError> {
+    let Some(path) = &wanted.book else {
+        let disk = memory_disk(rt.alloc(), room(wanted))?;
+        return Ok(FileDisk::in_memory(rt, disk));
+    };
+    let disk = open_book(rt, wanted.command, path.as_str());
+    if lacks_memory(&disk) {
+        return Err(AllocError);
+    }
+    Ok(disk)
 }
 
 // A door at a port, for so many connections. Where it can't listen, standard error says why; it
@@ -150,20 +178,20 @@ fn end_without_memory<K: Sink>(alloc: Global, output: &mut K) -> ExitCode
     end_unopened(alloc, Ending::Unopened(MountError::NoMemory), output)
 }
 
-// Does what the words ask for, over the file of the book or one in memory, with these lanes and
-// doors.
+// Does what the words say over the disk of the book, with these lanes and doors, where there was
+// memory to open it.
 fn over_book<
     S: Source,
     K: Sink,
     L: Lane + Send + Drop,
     O: Door + Send + Drop,
-    R: AllocGlobal + Eprint + Files<File = File> + Threads + Wait + Sync,
+    R: AllocGlobal + Threads + Wait + Sync,
 >(
     rt: &R,
     words: &[String],
-    wanted: &Wants,
     input: &mut S,
     output: &mut K,
+    opened: Result<FileDisk<HostRuntime>, AllocError>,
     lanes: Vec<L>,
     doors: Vec<O>,
 ) -> ExitCode
@@ -171,14 +199,7 @@ fn over_book<
     requires few_doors { length doors.items ≤ MAX_DOOR }
     requires unended { S.ended input.old ≡ false }
 {
-    if let Some(path) = &wanted.book {
-        let disk = open_book(rt, path.as_str());
-        if lacks_memory(&disk) {
-            return end_without_memory(rt.alloc(), output);
-        }
-        return run(rt, words, input, output, disk, lanes, doors);
-    }
-    match memory_disk(rt.alloc(), room(wanted)) {
+    match opened {
         Ok(disk) => run(rt, words, input, output, disk, lanes, doors),
         Err(_) => end_without_memory(rt.alloc(), output),
     }
@@ -203,5 +224,6 @@ fn main(rt: HostRuntime) -> ExitCode {
     let Ok(doors) = open_doors(rt, &wanted) else {
         return end_without_memory(alloc, &mut output);
     };
-    over_book(&rt, &words, &wanted, &mut input, &mut output, lanes, doors)
+    let opened = open_disk(rt, &wanted);
+    over_book(&rt, &words, &mut input, &mut output, opened, lanes, doors)
 }

@@ -1,0 +1,172 @@
+"""Readings of a book while its hall works, fails or is killed, for tests/live.sh."""
+
+import os
+import re
+import subprocess
+import time
+from collections import Counter
+
+from clients import (FIRST_DESK, FIRST_DOOR, OPENING, Client, Desk, Gone, Hall, Lane, Link,
+                     drawn_act, good_gross, need, plan, post)
+from rows import SLOT, slots_behind
+
+LANES, DESKS = 2, 2
+COMMANDS = ("check", "export", "report", "ship")
+IN_USE = re.compile(r"^hall: .*: it is in use; (\d+) rows were read$")
+# Of so many gates that a hall opens one is not made stable, where its disk fails.
+FAIL_EVERY = 7
+HEAD = 16
+
+
+class Worker(Client):
+    """A desk that asks one act after another. Where the disk failed it asks another act under the same
+    number."""
+
+    def __init__(self, hall, port, desk, draw):
+        super().__init__(hall)
+        self.port, self.desk, self.draw = port, desk, draw
+        self.failed = 0
+
+    def hall_is_gone(self):
+        return self.ending.is_set() or super().hall_is_gone()
+
+    def work(self):
+        while not self.ending.is_set():
+            try:
+                with Link(self.port) as link:
+                    self.ask_many(link)
+            except ConnectionRefusedError:
+                time.sleep(0.01)
+
+    def ask_many(self, link):
+        for _ in range(link.ACTS):
+            if self.ending.is_set():
+                return
+            request = self.desk.last + 1
+            act = drawn_act(self.draw, self.desk.number, [])
+            response = link.ask(post(self.desk.note(request, act)))
+            if response.status == 500:
+                self.failed += 1
+            else:
+                self.desk.hear(request, act, response)
+            if response.last:
+                return
+
+
+class Reading:
+    """What a command said of a book, and how many rows it read."""
+
+    def __init__(self, command, rows, said):
+        self.command, self.rows, self.said = command, rows, said
+
+
+class Round:
+    """A hall at work, and readings of its book beside it."""
+
+    def __init__(self, program, folder, draw, port, failing=None):
+        self.program, self.folder, self.draw, self.port = program, folder, draw, port
+        self.book = f"{folder}/book"
+        self.env = os.environ | {"LD_PRELOAD": failing, "FAIL_EVERY": str(FAIL_EVERY)} if failing \
+            else None
+        self.desks = [Desk(FIRST_DESK + at, FIRST_DOOR + at) for at in range(DESKS)]
+        self.turn = 0
+        self.readings = []
+        self.counts = Counter()
+        self.packs = 0
+
+    def start(self):
+        """A hall, with new batches, its lanes and its desks at work."""
+        self.turn += 1
+        folder = f"{self.folder}/{self.turn}"
+        os.mkdir(folder)
+        names = [f"L{lane}-{self.turn}" for lane in range(1, LANES + 1)]
+        setup = (OPENING if self.turn == 1 else "") + "".join(f"open {name} P\n" for name in names)
+        # A lane whose disk fails ends; where it does the desks work alone.
+        lanes = 0 if self.env else LANES
+        hall = Hall(self.program, folder, plan(setup, names[:lanes]), book=self.book, lanes=lanes,
+                    doors=DESKS, port=self.port, connections=999_999, env=self.env)
+        pieces = [[good_gross(self.draw) for _ in range(4)] for _ in range(2_000)]
+        clients = [Lane(hall, lane, pieces) for lane in range(1, lanes + 1)]
+        clients += [Worker(hall, self.port + at, desk, self.draw)
+                    for at, desk in enumerate(self.desks)]
+        for client in clients:
+            client.start()
+        return hall, clients
+
+    def end(self, hall, clients):
+        """Kills the hall. What its desks don't know they hear from the next one."""
+        for client in clients:
+            client.ending.set()
+        hall.kill()
+        for client in clients:
+            client.finish()
+        self.packs += sum(len(client.opened) for client in clients if isinstance(client, Lane))
+        self.counts["failed"] += sum(getattr(client, "failed", 0) for client in clients)
+
+    def read(self):
+        """One reading, at this moment. It isn't longer than what stands in the file behind it."""
+        command = self.draw.choice(COMMANDS)
+        ran = subprocess.run([self.program, command, "--book", self.book], capture_output=True,
+                             check=False)
+        errors = ran.stderr.decode()
+        need(ran.returncode == 0, f"{command} ends {ran.returncode}: {ran.stdout[-200:]} {errors}")
+        in_use = IN_USE.match(errors)
+        need(in_use or not errors, f"{command} says {errors!r}")
+        if not in_use:
+            return False
+        rows = int(in_use.group(1))
+        if command == "check":
+            need(ran.stdout == b"rows %d whole\n" % rows, f"{rows} rows are read, {ran.stdout}")
+        if command == "ship":
+            need(len(ran.stdout) == HEAD + SLOT * rows, f"{rows} rows are read, and others shipped")
+        stands = len(slots_behind(self.book, 0)) // SLOT
+        need(rows <= stands + 1, f"{command} reads {rows} rows, {stands} stand")
+        self.readings.append(Reading(command, rows, ran.stdout))
+        self.counts[command] += 1
+        return True
+
+    def read_many(self, count, kills):
+        """So many readings beside halls, of which so many are killed."""
+        done = 0
+        for part in range(kills + 1):
+            hall, clients = self.start()
+            hall.wait_for_door(self.port)
+            until = count * (part + 1) // (kills + 1)
+            while done < until:
+                done += self.read()
+                time.sleep(self.draw.uniform(0, 0.02))
+            self.end(hall, clients)
+            if part < kills:
+                self.hear_on()
+
+    def hear_on(self):
+        """Each desk hears from a hall without load which request was accepted last."""
+        self.turn += 1
+        folder = f"{self.folder}/{self.turn}"
+        os.mkdir(folder)
+        hall = Hall(self.program, folder, plan("", []), book=self.book, doors=DESKS, port=self.port,
+                    connections=999_999)
+        for at, desk in enumerate(self.desks):
+            hall.wait_for_door(self.port + at)
+            with Link(self.port + at) as link:
+                desk.catch_up(link)
+        hall.kill()
+
+    def compare(self):
+        """Each reading is what the command says of a book of the first rows of the final one."""
+        final = subprocess.run([self.program, "ship", "--book", self.book], capture_output=True,
+                               check=True).stdout
+        with open(self.book, "rb") as book:
+            header = bytearray(book.read(SLOT))
+        header[8] = 0
+        front = f"{self.folder}/front"
+        for reading in self.readings:
+            rows = final[HEAD:HEAD + SLOT * reading.rows]
+            need(len(rows) == SLOT * reading.rows, f"{reading.rows} rows were read, fewer stay")
+            with open(front, "wb") as book:
+                book.write(header + rows + b"\0")
+            said = subprocess.run([self.program, reading.command, "--book", front],
+                                  capture_output=True, check=True).stdout
+            need(said == reading.said, f"{reading.command} of {reading.rows} rows isn't that of"
+                 " the first rows of the final book")
+        return (len(final) - HEAD) // SLOT
