@@ -68,14 +68,13 @@ class Place:
         except subprocess.TimeoutExpired:
             raise Wrong(f"{words} doesn't return in {LONGEST} s") from None
         self.errors = ran.stderr
-        need(self.is_unopened(ran.returncode, ran.stdout) or ran.stderr in ("", *self.notices()),
+        need(self.is_unopened(ran.returncode, ran.stdout) or ran.stderr in ("", self.notice()),
              f"{words} says on standard error: {ran.stderr}")
         return ran.returncode, ran.stdout
 
-    def notices(self):
-        """What standard error says where there was no file."""
-        return (f"hall: {self.book}: there was no book, a new one was made\n",
-                f"hall: {self.book}: there is no book\n")
+    def notice(self):
+        """What standard error says where a command that adds nothing finds no file."""
+        return f"hall: {self.book}: there is no book\n"
 
     def is_unopened(self, status, said):
         """Whether the file couldn't be opened for want of memory: standard error says so."""

@@ -15,7 +15,7 @@ use crate::lanes::open_lanes;
 use book_snapshot::ROW_BYTES;
 use command_line::{Command, Wants, WantsError, wants};
 use disk_core::{Disk, Door, QuietDisk, Sink, Source, StdSink, StdSource};
-use file_disk::FileDisk;
+use file_disk::{FileDisk, Notice};
 use hall_limits::{MAX_DOOR, MAX_ROWS};
 use hall_top::{DoorEnds, Ending, LaneEnds, MountError, hall, say_last};
 use lane_worker::Lane;
@@ -105,8 +105,11 @@ fn open_book(rt: HostRuntime, command: Command, path: &str) -> FileDisk<HostRunt
     if let Some(error) = disk.open_error() {
         let _ = eprintln!(rt; "hall: can't open {path}: {error}");
     }
-    if let Some(notice) = disk.notice() {
-        let _ = eprintln!(rt; "hall: {path}: {notice}");
+    match disk.notice() {
+        None | Some(Notice::Made) => {}
+        Some(notice) => {
+            let _ = eprintln!(rt; "hall: {path}: {notice}");
+        }
     }
     disk
 }
