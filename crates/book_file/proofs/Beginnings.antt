@@ -13,10 +13,13 @@ module _ (bytes : List ℕ) (begun : ℕ)
     (same : (k : ℕ) → k < begun → get_or bytes k 0 ≡ get_or title k 0) where
   -- a beginning of the header, and zeros
   pub begins : ((k : ℕ) → begun ≤ k → k < length bytes → get_or bytes k 0 ≡ 0) → IsUnbegun bytes
-  begins zeros = (begun, λ k lt. elim (cases_lt k begun) [
-    | inl front ↦ same k front ∙ sym (get_or-take begun title k 0 front)
-    | inr behind ↦ zeros k behind lt ∙ sym (past begun k behind)
-  ])
+  begins zeros = (
+    begun,
+    λ k lt. elim (cases_lt k begun) [
+      | inl front ↦ same k front ∙ sym (get_or-take begun title k 0 front)
+      | inr behind ↦ zeros k behind lt ∙ sym (past begun k behind)
+    ],
+  )
 
   -- nothing but zeros stands behind the first byte that differs
   pub zeros_behind : (begun < length bytes → get_or bytes begun 0 ≢ get_or title begun 0)

@@ -22,7 +22,10 @@ pub(crate) fn open_present<R: Files<File = File> + AllocGlobal>(
 }
 
 /// Makes the file of a new book where none is.
-pub(crate) fn make<R: Files<File = File> + AllocGlobal>(rt: &R, path: &str) -> Result<File, OpenError> {
+pub(crate) fn make<R: Files<File = File> + AllocGlobal>(
+    rt: &R,
+    path: &str,
+) -> Result<File, OpenError> {
     if symlink_metadata(rt, path).is_ok() {
         return Err(OpenError::LeadsNowhere);
     }
