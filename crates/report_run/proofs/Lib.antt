@@ -1,4 +1,4 @@
-mod Pieces
+pub mod Pieces
 mod Walks
 mod Questions
 mod EachReading

@@ -6,5 +6,6 @@ mod buffer;
 mod packs;
 mod sheets;
 
+pub use buffer::{BUFFER_BYTES, empty_buffer, flush, make_way};
 pub use packs::print_register;
 pub use sheets::{print_report, print_sheet};

@@ -1,0 +1,4 @@
+mod Pieces
+mod Walks
+mod Ranges
+mod Parts
