@@ -2,7 +2,7 @@
 
 _hall() {
     local word=${COMP_WORDS[COMP_CWORD]} before=${COMP_WORDS[COMP_CWORD - 1]}
-    local commands="run serve report export check import trial migrate ship follow paper prove" options
+    local commands="run serve report export check import trial migrate ship follow paper prove list" options
     COMPREPLY=()
     if [ "$COMP_CWORD" -eq 1 ]; then
         mapfile -t COMPREPLY < <(compgen -W "$commands" -- "$word")
@@ -19,7 +19,7 @@ _hall() {
         report | paper) options="--book --batch" ;;
         export | check | migrate | follow) options="--book" ;;
         ship) options="--book --after" ;;
-        import) options="--book --limit" ;;
+        import | list) options="--book --limit" ;;
         *) return ;;
     esac
     mapfile -t COMPREPLY < <(compgen -W "$options" -- "$word")

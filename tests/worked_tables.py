@@ -237,10 +237,45 @@ held no
 SHEET_OF_A = sheet("A", 1, "251.000", "241.000")
 
 # Runs, and what is then asked of their book.
+# A tare to come that is put again, a pack taken back and one that stayed, and a closed batch.
+IN_FORCE = Step(
+    ["run"], OPENING + b"product juice 1000 ml\nproduct salt 500\ntare rice250 2025-03-01 9\n"
+    b"@101 1 tare rice250 2025-03-10 11\ntare rice250 2025-03-10 12\ntare rice250 2025-03-07 13\n"
+    b"tare juice 2025-03-04 30\nopen B rice250\nopen A rice250\nopen C juice 1000\nstart 2 B\n"
+    b"weigh 2 262\nweigh 2 262\nweigh 2 262 stayed\nstop 2\nvoid 15\nstart 16 A\nend B\n"
+    b"@164 1 end C\nclose C\n",
+    numbered(range(1, 15)) + "15 pass\n16 pass\n17 pass\n" + numbered(range(18, 23)) + "23 empty\n"
+    + totals(23, "3 786.000", "1 262.000", "1 262.000", voided="1 262.000", batches="1 1 0 1"))
+
+LISTED = """day 2025-03-03
+product rice250 nominal 250.000 g tare 10.000
+product juice nominal 1000.000 ml tare none
+product salt nominal 500.000 g tare none
+tare rice250 from 2025-03-10 12.000
+tare rice250 from 2025-03-07 13.000
+tare juice from 2025-03-04 30.000
+batch B product rice250 state ended population 1
+batch A product rice250 state running population 0
+batch C product juice state closed population 0
+lane 16 batch A
+desk 101 request 1
+desk 164 request 1
+"""
+
+LISTED_FIVE = """day 2025-03-03
+product rice250 nominal 250.000 g tare 10.000
+batch A product rice250 state running population 0
+lane 1 batch A
+"""
+
 PRINTED = [
-    ([], [Step(["report"], b"", totals(0), 0, 0), Step(["export"], b"x", NO_PACK, 0, 0)]),
+    ([], [Step(["report"], b"", totals(0), 0, 0), Step(["export"], b"x", NO_PACK, 0, 0),
+          Step(["list"], b"", "day none\nrows 0 left 1000000\n", 0, 0)]),
     ([FIVE_ROWS], [Step(["report", "--batch", "B"], b"", "refused 14 BatchUnknown at 5\n"),
-                   Step(["export"], b"", NO_PACK)]),
+                   Step(["export"], b"", NO_PACK),
+                   Step(["list", "--limit=7"], b"", LISTED_FIVE + "rows 5 left 2\n"),
+                   Step(["list", "--limit=3"], b"", LISTED_FIVE + "rows 5 left 0\n")]),
+    ([IN_FORCE], [Step(["list"], b"", LISTED + "rows 23 left 999977\n")]),
     ([FIVE_ROWS, THREE_PACKS], [Step(["export"], b"", REGISTER)]),
     ([TWO_BATCHES], [
         Step(["report"], b"", sheet("B", 0, "0.000", "0.000") + SHEET_OF_A

@@ -16,6 +16,7 @@ use Rattle.command_line.specs.Words.{given_items, read_items, taken_items, value
 use Rattle.command_line.specs.declared.types.Command.TheVariants.{Run, Serve, Report, Export, Check}
 use Rattle.command_line.specs.declared.types.Command.TheVariants.{Import, Trial, Migrate, Ship, Follow}
 use Rattle.command_line.specs.declared.types.Command.TheVariants.{Paper, Prove}
+use Rattle.command_line.specs.declared.types.Command.TheVariants as verb
 use Rattle.command_line.proofs.ManyOptions.{defaults_pass, finished_as, shape_for, simple, valid}
 use Rattle.command_line.proofs.Rows.{first_given}
 use Rattle.command_line.proofs.ClapPlaces.{ClapReads, two, two_placed}
@@ -102,6 +103,7 @@ is_known Ship = tt
 is_known Follow = tt
 is_known Paper = tt
 is_known Prove = tt
+is_known verb.List = tt
 
 by_known : (form : Form) → IsKnown form → FormReads form
 by_known (options names) known = by_options names

@@ -15,6 +15,7 @@ use Rattle.command_line.specs.declared.types.Command.{Command}
 use Rattle.command_line.specs.declared.types.Command.TheVariants.{Run, Serve, Report, Export, Check}
 use Rattle.command_line.specs.declared.types.Command.TheVariants.{Import, Trial, Migrate, Ship, Follow}
 use Rattle.command_line.specs.declared.types.Command.TheVariants.{Paper, Prove}
+use Rattle.command_line.specs.declared.types.Command.TheVariants as verb
 use Rattle.command_line.specs.declared.values.Values.{Values}
 use Rattle.command_line.specs.declared.table.NumberForm.{NumberForm}
 use Rattle.command_line.specs.declared.table.TheConstants.{LIMIT, LANES, DOORS, PORT, CONNECTIONS}
@@ -55,7 +56,8 @@ abbrev pub commands : List (List ℕ × Command)
 commands = (codes "run", Run) ∷ (codes "serve", Serve) ∷ (codes "report", Report)
     ∷ (codes "export", Export) ∷ (codes "check", Check) ∷ (codes "import", Import)
     ∷ (codes "trial", Trial) ∷ (codes "migrate", Migrate) ∷ (codes "ship", Ship)
-    ∷ (codes "follow", Follow) ∷ (codes "paper", Paper) ∷ (codes "prove", Prove) ∷ []
+    ∷ (codes "follow", Follow) ∷ (codes "paper", Paper) ∷ (codes "prove", Prove)
+    ∷ (codes "list", verb.List) ∷ []
 
 -- the command that a word names
 abbrev pub command_of : List ℕ → Option Command
@@ -84,6 +86,7 @@ form_of Ship = options (codes "book" ∷ codes "after" ∷ [])
 form_of Follow = options (codes "book" ∷ [])
 form_of Paper = needed (codes "book" ∷ codes "batch" ∷ [])
 form_of Prove = options []
+form_of verb.List = options (codes "book" ∷ codes "limit" ∷ [])
 
 -- ---- items
 

@@ -45,6 +45,9 @@ pub fn find_command(word: &str) -> Option<Command>
     if word == "prove" {
         return Some(Command::Prove);
     }
+    if word == "list" {
+        return Some(Command::List);
+    }
     None
 }
 
@@ -85,6 +88,7 @@ pub fn form_of(command: Command) -> Form
         Command::Follow => Form::Options(&["book"]),
         Command::Paper => Form::Needed(&["book", "batch"]),
         Command::Prove => Form::Options(&[]),
+        Command::List => Form::Options(&["book", "limit"]),
     }
 }
 

@@ -31,6 +31,8 @@ pub enum Command {
     Paper,
     /// Proves that a paper is true: `prove`
     Prove,
+    /// Says what is in force in a book: `list [--book PATH] [--limit N]`
+    List,
 }
 
 /// What the words of the command line ask for.

@@ -1,6 +1,6 @@
 use book_words::Name;
 use command_line::Command::{
-    Check, Export, Follow, Import, Migrate, Paper, Prove, Report, Run, Serve, Ship, Trial,
+    Check, Export, Follow, Import, List, Migrate, Paper, Prove, Report, Run, Serve, Ship, Trial,
 };
 use command_line::{Command, Text, Wants, WantsError, wants};
 use hall_limits::MAX_ROWS;
@@ -101,10 +101,15 @@ const PROVE: Asked = Asked {
     ..RUN
 };
 
+const LIST: Asked = Asked {
+    command: List,
+    ..RUN
+};
+
 const BOOK: Option<&str> = Some("b.hall");
 
 // Words and what they ask for, written by hand from the grammar, as what follows.
-static ASKED: [(Words, Asked); 59] = [
+static ASKED: [(Words, Asked); 62] = [
     (&["run"], RUN),
     (&["check"], CHECK),
     (&["migrate"], MIGRATE),
@@ -319,6 +324,12 @@ static ASKED: [(Words, Asked); 59] = [
         },
     ),
     (&["prove"], PROVE),
+    (&["list"], LIST),
+    (&["list", "--limit=1"], Asked { limit: 1, ..LIST }),
+    (
+        &["list", "--limit", "1000000", "--book=b.hall"],
+        Asked { book: BOOK, ..LIST },
+    ),
     (&["report"], REPORT),
     (&["export"], EXPORT),
     (&["import"], IMPORT),
@@ -498,8 +509,8 @@ static REFUSED: [Words; 95] = [
     &["serves"],
 ];
 
-// The same, of the commands that copy a book or write and prove a paper.
-static REFUSED_COPIES: [Words; 23] = [
+// The same, of the commands that copy a book, write and prove a paper, or list what is in force.
+static REFUSED_COPIES: [Words; 29] = [
     &["ship", "--after", "1000001"],
     &["ship", "--after=-1"],
     &["ship", "--after="],
@@ -527,6 +538,12 @@ static REFUSED_COPIES: [Words; 23] = [
     &["prove", "--batch=A"],
     &["prove", "p"],
     &["proves"],
+    &["list", "--limit=0"],
+    &["list", "--limit=1000001"],
+    &["list", "--limit=1", "--limit=1"],
+    &["list", "--batch=A"],
+    &["list", "b"],
+    &["lists"],
 ];
 
 fn words_of(alloc: Global, words: &[&str]) -> Result<Vec<String>, AllocError> {

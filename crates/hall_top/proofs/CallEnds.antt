@@ -7,6 +7,7 @@ use Rattle.standby_hall.specs.Pages.{IsCutAt}
 use Rattle.command_line.specs.Words.{Wanted}
 use Rattle.command_line.specs.declared.types.Command.{Command}
 use Rattle.command_line.specs.declared.types.Command.TheVariants.{Run, Serve, Report, Export, Check, Import, Trial, Migrate, Ship, Follow, Paper, Prove}
+use Rattle.command_line.specs.declared.types.Command.TheVariants as verb
 use Rattle.store_runs.specs.declared.stop.Stop.{Stop}
 use Rattle.store_runs.specs.Books.{BookState}
 use Rattle.script_run.specs.Outside.{Call}
@@ -49,6 +50,7 @@ not_explained Ship wanted book call stop serves explained = absurd (cc)
 not_explained Follow wanted book call stop serves explained = absurd (cc)
 not_explained Paper wanted book call stop serves explained = absurd (cc)
 not_explained Prove wanted book call stop serves explained = absurd (cc)
+not_explained verb.List wanted book call stop serves explained = absurd (cc)
 
 -- a call of `serve` whose disk was opened as a book isn't one of another command
 not_opened : {S D : Type 0} (g : disk.Ghosts D) (wanted : Wanted) (before : D)

@@ -38,6 +38,7 @@ use Rattle.prove_run.specs.declared.types.ProveEnd.{ProveEnd}
 use Rattle.prove_run.specs.declared.types.ProveEnd.TheVariants as proving
 use Rattle.prove_run.specs.Proving.{ExplainsProving}
 use Rattle.import_run.specs.Runs.{ExplainsImport}
+use Rattle.list_run.specs.Texts.{list_text}
 use Rattle.trial_run.specs.Trials.{ExplainsTrial}
 use Rattle.report_run.specs.Printing.{SaysText}
 use Rattle.report_run.specs.Reports.{HasEachReading, IsReadBack, batch_text, book_register, report_text}
@@ -51,6 +52,7 @@ use Rattle.command_line.specs.declared.types.Command.{Command}
 use Rattle.command_line.specs.declared.types.Command.TheVariants.{Run, Serve, Report, Export, Check}
 use Rattle.command_line.specs.declared.types.Command.TheVariants.{Import, Trial, Migrate, Ship, Follow}
 use Rattle.command_line.specs.declared.types.Command.TheVariants.{Paper, Prove}
+use Rattle.command_line.specs.declared.types.Command.TheVariants as verb
 
 -- nothing was read or written, no lane was worked, and there are no rows
 pub record NothingDone {S : Type 0} (call : Call S) : Type 0 where
@@ -156,6 +158,10 @@ pub record ExplainsPrinting {S : Type 0} (text : List Entry → List ℕ) (book 
 
 abbrev pub ExplainsReport : {S : Type 0} → Option Name → BookState → Call S → Stop → Type 0
 ExplainsReport batch book call stop = ExplainsPrinting (reported batch) book call stop
+
+-- what is in force in a book that may have so many rows
+abbrev pub ExplainsList : {S : Type 0} → ℕ → BookState → Call S → Stop → Type 0
+ExplainsList limit book call stop = ExplainsPrinting (list_text limit) book call stop
 
 -- the register of the book, which the kit's `csv` reads back; done, it has each reading, and nothing
 -- else
@@ -276,6 +282,7 @@ ExplainsAs Ship wanted book call stop = ExplainsShip wanted.after book call stop
 ExplainsAs Follow wanted book call stop = ExplainsFollow book call stop
 ExplainsAs Paper wanted book call stop = ExplainsPaper wanted.batch book call stop
 ExplainsAs Prove wanted book call stop = ExplainsProve book call stop
+ExplainsAs verb.List wanted book call stop = ExplainsList wanted.limit book call stop
 
 -- how the command that is asked for ends
 abbrev pub ExplainsCommand : {S : Type 0} → Wanted → BookState → Call S → Stop → Type 0

@@ -18,7 +18,7 @@ ghost use Rattle.hall_top.specs.Calls.{call_between, ExplainsCommand, EndsAs, Co
 
 use crate::ended::{Ended, Outcome};
 use crate::ending::{Ending, say_last};
-use crate::reports::{export, paper, prove, report, ship};
+use crate::reports::{export, list, paper, prove, report, ship};
 use crate::whole::{end_carrying, say_whole};
 use book_core::{Book, Rows};
 use book_migration::migrate_journal;
@@ -94,6 +94,7 @@ fn run_command<S: Source, K: Sink, D: Disk, L: Lane>(
             without_lanes(alloc, paper(alloc, store, batch, output))
         }
         Command::Prove => without_lanes(alloc, prove(alloc, store, input, output)),
+        Command::List => without_lanes(alloc, list(alloc, store, wanted.limit, output)),
     }
 }
 

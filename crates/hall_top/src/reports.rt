@@ -3,6 +3,7 @@ ghost use Rattle.book_store.specs.Stores.{entries_of};
 ghost use Rattle.text_streams.specs.Streams.{input_at, output_at};
 ghost use Rattle.report_run.specs.Printing.{SaysText};
 ghost use Rattle.paper_run.specs.Printing.{SaysPaper};
+ghost use Rattle.list_run.specs.Texts.{list_text};
 ghost use Rattle.report_run.specs.Reports.{HasEachReading, IsReadBack, book_register};
 ghost use Rattle.book_words.specs.Answers.{IsLegal};
 ghost use Rattle.standby_hall.specs.Shipments.{shipment};
@@ -11,6 +12,7 @@ ghost use Rattle.hall_top.specs.Calls.{reported, stop_at, ProvesInput, SaysAll};
 use book_store::Store;
 use book_words::Name;
 use disk_core::{Disk, Sink, Source};
+use list_run::print_list;
 use paper_run::print_paper;
 use prove_run::{ProveEnd, prove_input};
 use report_run::{print_register, print_report, print_sheet};
@@ -106,6 +108,23 @@ pub fn paper<K: Sink, D: Disk>(
 {
     RunEnd {
         stop: print_paper(alloc, &store, batch, output),
+        store,
+    }
+}
+
+/// Says what is in force in the book of a store that may have `limit` rows. The store stays as it is.
+pub fn list<K: Sink, D: Disk>(
+    alloc: Global,
+    store: Store<D>,
+    limit: u32,
+    output: &mut K,
+) -> RunEnd<D>
+    ensures says { SaysText (output_at K.Sink output.old) (output_at K.Sink output.new)
+        (list_text limit (entries_of store)) result.stop }
+    ensures store { result.store ≡ store }
+{
+    RunEnd {
+        stop: print_list(alloc, &store, limit, output),
         store,
     }
 }

@@ -1,6 +1,6 @@
 use crate::halls::{book_of, copy, ends_of, only};
 use crate::texts::{
-    CLOSED, FIVE_ROWS, OLD_JOURNAL, ONE_SHIPPED, PAPER, PAPER_READ, REGISTER, SHEET,
+    CLOSED, FIVE_ROWS, LISTED, OLD_JOURNAL, ONE_SHIPPED, PAPER, PAPER_READ, REGISTER, SHEET,
     THREE_ANSWERED, THREE_PACKS, TWO, TWO_ACTS, TWO_ANSWERED, TWO_TRIED,
 };
 use disk_core::{MemoryDisk, MemorySink, MemorySource, QuietSink, QuietSource};
@@ -115,7 +115,7 @@ const OF_NOTHING: [Run; 40] = [
 ];
 
 // Over a book of ten rows. An import alone reads.
-const OF_TEN_ROWS: [Run; 13] = [
+const OF_TEN_ROWS: [Run; 15] = [
     (&["report", "--batch=A"], b"", (1, 0, 0), SHEET, 0, 10),
     (
         &["report", "--batch=B"],
@@ -154,6 +154,8 @@ const OF_TEN_ROWS: [Run; 13] = [
     (&["export"], b"", (1, 0, 0), REGISTER, 0, 10),
     (&["export"], b"", (1, 1, 0), "", 5, 10),
     (&["report"], b"", (1, 1, 0), "", 5, 10),
+    (&["list", "--limit=11"], b"", (1, 0, 0), LISTED, 0, 10),
+    (&["list"], b"", (1, 1, 0), "", 5, 10),
     (&["import"], TWO_ACTS, (1, 0, 0), "read fault\n", 4, 10),
     (&["import"], TWO_ACTS, (2, 0, 0), "read fault\n", 4, 10),
     (&["import"], TWO_ACTS, (1, 1, 0), "", 4, 10),

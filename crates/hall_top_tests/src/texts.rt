@@ -29,6 +29,11 @@ readings 3 gross 763.000\npassed 1 gross 260.000\nrejected 1 gross 260.000\n\
 sampled 0 gross 0.000\nvoided 1 gross 243.000\npopulation 1 net 248.000 nonstandard 0 inadequate 0\n\
 held no\n";
 
+/// What is in force behind them, where there is room for one more row.
+pub const LISTED: &str = "day 2025-03-03\n\
+product rice250 nominal 250.000 g tare 12.000\n\
+batch A product rice250 state running population 1\nlane 1 batch A\nrows 10 left 1\n";
+
 /// Their register.
 pub const REGISTER: &str = "\
 pack,batch,product,lane,day,gross,net,class,signal,pile

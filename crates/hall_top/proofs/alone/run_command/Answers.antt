@@ -5,6 +5,7 @@ use Rattle.book_store.specs.Stores.{entries_of}
 use Rattle.command_line.specs.declared.types.Command.TheVariants.{Run, Report, Export, Check}
 use Rattle.command_line.specs.declared.types.Command.TheVariants.{Import, Trial, Migrate, Ship, Follow}
 use Rattle.command_line.specs.declared.types.Command.TheVariants.{Paper, Prove}
+use Rattle.command_line.specs.declared.types.Command.TheVariants as verb
 use Rattle.command_line.specs.Taken.{seen}
 use Rattle.text_streams.specs.Streams.{output_at}
 use Rattle.script_run.specs.Outside.{devices, outside_at, nothing_told}
@@ -12,6 +13,7 @@ use Rattle.store_runs.specs.Books.{stored_book}
 use Rattle.store_runs.specs.Runs.{RunGoes}
 use Rattle.store_runs.proofs.StoreSteps.{stays}
 use Rattle.report_run.specs.Reports.{book_register}
+use Rattle.list_run.specs.Texts.{list_text}
 use Rattle.standby_hall.specs.Shipments.{shipment}
 use Rattle.book_words.specs.declared.act.Entry.{Entry}
 use Rattle.hall_top.specs.Texts.{whole}
@@ -301,4 +303,31 @@ returns-in-Prove-clause-goes g c =
     (sym c.prove.ensures.store)
     (stays g.D.Disk (Err c.prove.result.stop) c.args.store
     (proving_counts ⊤ _ _ _ _ _ c.prove.result.stop c.prove.ensures.proves)
+    (λ finished grown calm. absurd (omega (arith, grown, c.requires.opened)))))
+
+pub returns-in-List-clause-explained : goal.returns-in-List-clause-explained
+returns-in-List-clause-explained g c =
+    let here = outside_at g.K.Sink g.L.Cell g.L.Gate c.args.output.now c.args.lanes.now
+    nothing_told in
+    let end = c.without_lanes-in-List.result in
+    let now = outside_at g.K.Sink g.L.Cell g.L.Gate c.list.new.output c.args.lanes.now
+    end.log.told in
+    let call = call_from (devices g.S.Source c.args.input.now here)
+    (devices g.S.Source c.args.input.now now) (entries_of end.store) in
+    let same = ap (λ (s : Store _). entries_of s)
+    (c.without_lanes-in-List.ensures.store ∙ c.list.ensures.store) in
+    explains_as (seen c.args.wanted.now) verb.List (stored_book c.args.store) call end.stop
+    c.in-List.is (explains_printing (list_text c.args.wanted.now.limit)
+    (stored_book c.args.store) call end.stop (entries_of c.args.store) refl
+    (lanes_rest here (output_at g.K.Sink c.list.new.output) end.log.told
+    c.without_lanes-in-List.ensures.log) same
+    (rw c.without_lanes-in-List.ensures.stop c.list.ensures.says) refl)
+
+pub returns-in-List-clause-goes : goal.returns-in-List-clause-goes
+returns-in-List-clause-goes g c =
+    rw (c.without_lanes-in-List.ensures.stop, c.without_lanes-in-List.ensures.store)
+    (subst (λ (s : Store _). RunGoes g.D.Disk c.list.result.stop c.args.store s)
+    (sym c.list.ensures.store)
+    (stays g.D.Disk (Err c.list.result.stop) c.args.store
+    (text_counts ⊤ _ _ _ _ c.list.result.stop c.list.ensures.says)
     (λ finished grown calm. absurd (omega (arith, grown, c.requires.opened)))))
