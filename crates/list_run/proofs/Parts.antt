@@ -15,7 +15,8 @@ text_of lines = flat_map line_text lines
 -- lines behind others
 behind : (some more : List Line) (text : List ℕ) → text_of some ≡ text
     → text_of (some ++ more) ≡ text ++ text_of more
-behind some more text is = flat_map-append line_text some more ∙ ap (λ (l : List ℕ). l ++ text_of more) is
+behind some more text is =
+    flat_map-append line_text some more ∙ ap (λ (l : List ℕ). l ++ text_of more) is
 
 pub named_text : (entries : List Entry)
     → text_of (named_lines entries)

@@ -11,7 +11,8 @@ use Rattle.list_run.specs.Listing.{act_line}
 use Rattle.list_run.specs.Texts.{line_text}
 
 line_first : (o : Option Line) (lines : List Line)
-    → flat_map line_text (cons_option o lines) ≡ text_if_there line_text o ++ flat_map line_text lines
+    → flat_map line_text (cons_option o lines)
+    ≡ text_if_there line_text o ++ flat_map line_text lines
 line_first None lines = refl
 line_first (Some line) lines = refl
 
@@ -20,7 +21,8 @@ abbrev pub section_text : Section → List Entry → List Entry → List ℕ
 section_text section entries some = flat_map line_text (said (act_line section entries) some)
 
 -- the line of the first of them comes first
-pub next_line : (section : Section) (entries some : List Entry) (entry : Entry) (others : List Entry)
+pub next_line : (section : Section) (entries some : List Entry) (entry : Entry)
+    (others : List Entry)
     → some ≡ entry ∷ others
     → section_text section entries some
     ≡ text_if_there line_text (act_line section entries entry.act)

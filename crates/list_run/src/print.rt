@@ -4,7 +4,8 @@ ghost use Rattle.book_store.specs.Stores.{entries_of};
 ghost use Rattle.text_streams.specs.Streams.{output_at, WroteAll, IsCutIn};
 ghost use Rattle.report_run.specs.Printing.{SaysText, HasPrinted};
 ghost use Rattle.report_run.specs.Reports.{text_if_there};
-ghost use Rattle.list_run.specs.Listing.{lines_in, lane_lines, desk_lines, named_lines, numbered_lines};
+ghost use Rattle.list_run.specs.Listing.{lines_in, lane_lines, desk_lines};
+ghost use Rattle.list_run.specs.Listing.{named_lines, numbered_lines};
 ghost use Rattle.list_run.specs.Ranges.{IsInRange};
 ghost use Rattle.list_run.specs.Texts.{line_text, list_text};
 
@@ -171,8 +172,8 @@ fn write_list<K: Sink>(
 
 /// Prints what is in force in the book, in lines: the newest day; the products in order, each with
 /// its tare on that day; the tares to come; the batches in order of opening; the lanes that have a
-/// batch; the desks that have asked; and how many rows there are and how many more a book of `limit`
-/// rows takes.
+/// batch; the desks that have done an act; and how many rows there are and how many more a book of
+/// `limit` rows takes.
 ///
 /// All memory that it takes is a buffer, taken before the first write: without it, nothing goes
 /// out. Where the output fails, a part of the lines went out.

@@ -21,7 +21,8 @@ returns-in_err-print_section-clause-cut g c =
     let now = output_at g.K.Sink c.print_section.new.output in
     let left = c.from_residual-in_err-print_section in
     let p = err_from_is_err_and left.result left.ensures.1 in
-    rw p.1 (subst (λ (text : List ℕ). IsCutIn start now [] (held ++ text)) (sym (named_text entries))
+    rw p.1 (subst (λ (text : List ℕ). IsCutIn start now [] (held ++ text))
+    (sym (named_text entries))
     (cut_first start now held (day ++ products ++ tares) batches
     (cut_first start now held (day ++ products) tares
     (cut_behind start (output_at g.K.Sink c.print_line.new.output) now held
@@ -46,7 +47,8 @@ returns-in_err-print_section-2-clause-cut g c =
     c.in_ok-print_section.ensures.printed in
     let left = c.from_residual-in_err-print_section-2 in
     let p = err_from_is_err_and left.result left.ensures.1 in
-    rw p.1 (subst (λ (text : List ℕ). IsCutIn start now [] (held ++ text)) (sym (named_text entries))
+    rw p.1 (subst (λ (text : List ℕ). IsCutIn start now [] (held ++ text))
+    (sym (named_text entries))
     (cut_first start now held (day ++ products ++ tares) batches
     (cut_behind start mid now held c.print_section.new.text.items (day ++ products) tares one
     c.in_err-print_section-2.ensures.cut)))
@@ -72,7 +74,8 @@ returns-in_err-print_section-3-clause-cut g c =
     c.in_ok-print_section-2.ensures.printed in
     let left = c.from_residual-in_err-print_section-3 in
     let p = err_from_is_err_and left.result left.ensures.1 in
-    rw p.1 (subst (λ (text : List ℕ). IsCutIn start now [] (held ++ text)) (sym (named_text entries))
+    rw p.1 (subst (λ (text : List ℕ). IsCutIn start now [] (held ++ text))
+    (sym (named_text entries))
     (cut_behind start later now held c.print_section-2.new.text.items (day ++ products ++ tares)
     batches two c.in_err-print_section-3.ensures.cut))
 
