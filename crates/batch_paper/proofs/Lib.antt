@@ -10,3 +10,4 @@ pub mod PaperForm
 pub mod StockPacks
 pub mod PaperSamples
 pub mod PaperWhole
+pub mod PaperProven

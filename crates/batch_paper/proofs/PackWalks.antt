@@ -8,7 +8,7 @@ use Rattle.book_words.specs.declared.act.Reading.{Reading}
 use Rattle.book_words.specs.Readings.{placed_reading, readings, reading_of, is_of_batch}
 use Rattle.book_words.specs.Population.{is_counted, population}
 use Rattle.book_laws.proofs.ReadingLaws.{reading_of-at}
-use Rattle.paper_check.specs.declared.types.Pack as packs
+use Rattle.paper_form.specs.declared.types.Pack as packs
 use Rattle.batch_paper.specs.Written.{pack_of, pack_where, pack_at, packs_of}
 
 -- the packs of a batch among so many rows behind some

@@ -20,7 +20,7 @@ use Rattle.book_words.proofs.LastSaid.{last_said-push}
 use Rattle.book_words.proofs.LegalLemmas.{legal_steps}
 use Rattle.book_words.proofs.NameLemmas.{same_name_is, same_name_itself}
 use Rattle.book_laws.proofs.BatchLaws.{state_of-push}
-use Rattle.paper_check.specs.Papers.{is_verdict_said}
+use Rattle.paper_form.specs.Papers.{is_verdict_said}
 use Rattle.batch_paper.specs.Written.{is_close_of}
 use Rattle.batch_paper.proofs.ClosedBatches.{closes_it, some_of_two}
 

@@ -31,10 +31,10 @@ use Rattle.book_words.specs.Answers.{IsLegal}
 use Rattle.book_laws.proofs.BatchLaws.{is_fixed}
 use Rattle.book_laws.proofs.DrawnLaws.{drawing_has_plan}
 use Rattle.book_laws.proofs.PopulationLaws.{drawn_from_all, drawn_or_empty}
-use Rattle.paper_check.specs.declared.types.Pack as packs
-use Rattle.paper_check.specs.declared.types.Draw as draws
-use Rattle.paper_check.specs.declared.types.Pick.{Pick}
-use Rattle.paper_check.specs.Papers.{PaperData}
+use Rattle.paper_form.specs.declared.types.Pack as packs
+use Rattle.paper_form.specs.declared.types.Draw as draws
+use Rattle.paper_form.specs.declared.types.Pick.{Pick}
+use Rattle.paper_form.specs.Papers.{PaperData}
 use Rattle.paper_check.specs.Judging.{nets_of, contents_of_picks, below_count, defective_picks, sample_in, contents_check_in, mean_check_in, fails_in_nets, judged}
 use Rattle.paper_check.specs.Faults.{has_tare_of, tare_fault, strays_at, stray_line, needs_second, unmeasured_line, given_second_fault, second_fault, samples_fault, draw_fault, after_first, second_line, first_line, draw_line, verdict_line, earlier_line, packs_line, tares_line}
 use Rattle.batch_paper.specs.Written.{pack_of, packs_of, tares_of, weighed_of, pick_of, first_picks, second_picks, draw_by, paper_by}
@@ -83,7 +83,7 @@ strays_nowhere entries mode drawn =
     ∙ ap (λ b. cond (b && b) None (Some (length drawn))) (is_equal (length drawn))
 
 -- measured packs have no line that isn't
-none_unmeasured : (entries : List Entry) (mode : Mode) (some : List ℕ) → first_unmeasured entries some ≡ None
+pub none_unmeasured : (entries : List Entry) (mode : Mode) (some : List ℕ) → first_unmeasured entries some ≡ None
     → All (λ (pick : Pick). is_none pick.weighed ≡ false) (map (pick_of entries mode) some)
 none_unmeasured entries mode [] h = All-nil (λ (pick : Pick). is_none pick.weighed ≡ false)
 none_unmeasured entries mode (pack ∷ some) h =
@@ -100,7 +100,7 @@ none_unmeasured entries mode (pack ∷ some) h =
         (ap (λ (o : Option Measured). is_none (option_map (weighed_of mode) o)) is)
         (rest k)
 
-measured_first : (entries : List Entry) (some more : List ℕ)
+pub measured_first : (entries : List Entry) (some more : List ℕ)
     → first_unmeasured entries (some ++ more) ≡ None → first_unmeasured entries some ≡ None
 measured_first entries [] more h = refl
 measured_first entries (pack ∷ some) more h =
@@ -155,10 +155,10 @@ module _ (entries : List Entry) (batch product : Name) (legal : IsLegal entries)
   is_drawn : paper.draw ≡ Some draw
   is_drawn = ap (option_map draw_by) drawn
 
-  first_is : paper.first ≡ map (pick_of entries drawing.mode) sample.first
+  pub first_is : paper.first ≡ map (pick_of entries drawing.mode) sample.first
   first_is = ap (λ (o : Option Sample). option_map_or (first_picks entries) o []) has
 
-  second_is : paper.second ≡ map (pick_of entries drawing.mode) (second_packs sample)
+  pub second_is : paper.second ≡ map (pick_of entries drawing.mode) (second_packs sample)
   second_is = ap (λ (o : Option Sample). option_map_or (second_picks entries) o []) has
 
   same_sample : sample_in paper draw ≡ sample
@@ -250,7 +250,7 @@ module _ (entries : List Entry) (batch product : Name) (legal : IsLegal entries)
   fails_right = λ i. fails_by (contents_right i) (mean_right i) (average_right i) (allowance_right i)
       (inadequate_right i)
 
-  some_packs : (length some == 0) ≡ false
+  pub some_packs : (length some == 0) ≡ false
   some_packs = each some refl
     where
       each : (rs : List Reading) → some ≡ rs → (length rs == 0) ≡ false
@@ -360,7 +360,7 @@ module _ (entries : List Entry) (batch product : Name) (legal : IsLegal entries)
 -- ---- any closed batch
 
 -- a closed batch without a draw has no pack
-undrawn_empty : (entries : List Entry) (batch : Name) → IsLegal entries
+pub undrawn_empty : (entries : List Entry) (batch : Name) → IsLegal entries
     → state_of entries batch ≡ Some Closed → drawing_of entries batch ≡ None
     → population entries batch ≡ []
 undrawn_empty entries batch legal closed none =

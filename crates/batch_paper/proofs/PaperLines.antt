@@ -6,11 +6,11 @@ use Rattle.std.specs.List.{flat_map, join_with_byte, slice_split, last_or, cons_
 use Rattle.std.specs.Option.{option_or, option_to_list}
 use Rattle.book_words.specs.declared.views.Verdict.{Verdict}
 use Rattle.book_texts.specs.Words.{verdict_text}
-use Rattle.paper_check.specs.declared.types.Line as lines
-use Rattle.paper_check.specs.declared.types.Line.TheVariants as line
-use Rattle.paper_check.specs.declared.types.Weighed.{Weighed}
-use Rattle.paper_check.specs.declared.types.Pick.{Pick}
-use Rattle.paper_check.specs.Papers.{PaperData, is_blank, line_text, weighed_fields, paper_text}
+use Rattle.paper_form.specs.declared.types.Line as lines
+use Rattle.paper_form.specs.declared.types.Line.TheVariants as line
+use Rattle.paper_form.specs.declared.types.Weighed.{Weighed}
+use Rattle.paper_form.specs.declared.types.Pick.{Pick}
+use Rattle.paper_form.specs.Papers.{PaperData, is_blank, line_text, weighed_fields, paper_text}
 use Rattle.batch_paper.specs.Written.{tare_lines, pack_lines, sample_lines}
 
 -- ---- what is said by the acts so far

@@ -22,10 +22,10 @@ use Rattle.book_words.specs.Names.{same_name}
 use Rattle.book_words.proofs.NameLemmas.{same_name_is}
 use Rattle.book_laws.proofs.ReadingLaws.{of_found}
 use Rattle.book_laws.proofs.TareLaws.{IsWeighed, tared_of}
-use Rattle.paper_check.specs.declared.types.Pack as packs
-use Rattle.paper_check.specs.declared.types.Weighed.{Weighed}
-use Rattle.paper_check.specs.declared.types.Pick.{Pick}
-use Rattle.paper_check.specs.Papers.{PaperData}
+use Rattle.paper_form.specs.declared.types.Pack as packs
+use Rattle.paper_form.specs.declared.types.Weighed.{Weighed}
+use Rattle.paper_form.specs.declared.types.Pick.{Pick}
+use Rattle.paper_form.specs.Papers.{PaperData}
 use Rattle.paper_check.specs.Judging.{tare_on, net_on, nets_of, pack_with, contents_by, contents_of_pick, contents_of_picks}
 use Rattle.batch_paper.specs.Written.{pack_of, packs_of, tare_for, tares_of, days_of, weighed_of, pick_of, paper_by}
 use Rattle.batch_paper.proofs.TareLines.{IsTaredBy, tares_found}

@@ -24,11 +24,11 @@ use Rattle.book_words.specs.Refusals.{is_within}
 use Rattle.book_words.specs.Answers.{IsLegal}
 use Rattle.book_laws.proofs.RangeLaws.{nominal_within, tare_within, measured_within}
 use Rattle.book_laws.proofs.TareLaws.{tared_of}
-use Rattle.paper_check.specs.declared.types.Pack as packs
-use Rattle.paper_check.specs.declared.types.Draw as draws
-use Rattle.paper_check.specs.declared.types.Pick.{Pick}
-use Rattle.paper_check.specs.declared.types.Line.TheVariants as line
-use Rattle.paper_check.specs.Papers.{PaperData, is_tare_in_range, is_weighed_in_range}
+use Rattle.paper_form.specs.declared.types.Pack as packs
+use Rattle.paper_form.specs.declared.types.Draw as draws
+use Rattle.paper_form.specs.declared.types.Pick.{Pick}
+use Rattle.paper_form.specs.declared.types.Line.TheVariants as line
+use Rattle.paper_form.specs.Papers.{PaperData, is_tare_in_range, is_weighed_in_range}
 use Rattle.batch_paper.specs.Ranges.{is_nominal_right, is_pack_right, is_pick_weighed, is_line_right}
 use Rattle.batch_paper.specs.Written.{goods_of, pack_of, packs_of, tare_for, days_of, tares_of, weighed_of, pick_of, paper_by, sample_lines}
 use Rattle.batch_paper.proofs.DayOrder.{day_on, IsFit, each_fits}

@@ -18,11 +18,11 @@ use Rattle.book_words.proofs.LastSaid.{last_said-push}
 use Rattle.book_words.proofs.PlainLemmas.{none_mapped}
 use Rattle.book_words.proofs.LegalLemmas.{legal_steps}
 use Rattle.book_laws.proofs.DrawnLaws.{comes_from, draws_second}
-use Rattle.paper_check.specs.declared.types.Draw as draws
-use Rattle.paper_check.specs.declared.types.Line as lines
-use Rattle.paper_check.specs.declared.types.Line.TheVariants as line
-use Rattle.paper_check.specs.declared.types.Pick.{Pick}
-use Rattle.paper_check.specs.Papers.{line_text}
+use Rattle.paper_form.specs.declared.types.Draw as draws
+use Rattle.paper_form.specs.declared.types.Line as lines
+use Rattle.paper_form.specs.declared.types.Line.TheVariants as line
+use Rattle.paper_form.specs.declared.types.Pick.{Pick}
+use Rattle.paper_form.specs.Papers.{line_text}
 use Rattle.batch_paper.specs.declared.picks.Part.TheVariants.{First, Second}
 use Rattle.batch_paper.specs.Written.{first_word, draw_by, pick_line, first_picks, second_picks, paper_by, sample_lines}
 use Rattle.batch_paper.proofs.ClosedBatches.{second_draw, some_of_two}
@@ -79,12 +79,12 @@ follow-push entries entry legal lawful all batch word said =
       | inr before ↦ all batch word before
     ])
 
-seconds_follow : (entries : List Entry) → IsLegal entries → SecondsFollow entries
+pub seconds_follow : (entries : List Entry) → IsLegal entries → SecondsFollow entries
 seconds_follow = legal_steps SecondsFollow (λ batch word said. absurd (cc)) follow-push
 
 -- ---- the lines
 
-none_said : {A : Type 0} (o : Option A) (d : Option Drawing) → (is_some o ≡ true → is_some d ≡ true) → d ≡ None
+pub none_said : {A : Type 0} (o : Option A) (d : Option Drawing) → (is_some o ≡ true → is_some d ≡ true) → d ≡ None
     → o ≡ None
 none_said None d h is = refl
 none_said (Some x) d h is = absurd (let wrong : false ≡ true = sym (ap is_some is) ∙ h refl in cc)

@@ -35,17 +35,16 @@ use Rattle.book_laws.proofs.ReadingLaws.{IsOneOf, each_is_one, of_found, of_read
 use Rattle.book_laws.proofs.TareLaws.{tared_of}
 use Rattle.book_state.proofs.PopulationLimits.{population_few}
 use Rattle.book_views.proofs.BatchFacts.{density_suits}
-use Rattle.paper_check.specs.declared.types.Pack as packs
-use Rattle.paper_check.specs.declared.types.Pick.{Pick}
-use Rattle.paper_check.specs.Papers.{PaperData, paper_text, is_row, is_density, are_goods_in_range, is_tare_in_range, is_pack_in_range, is_pick_in_range}
-use Rattle.paper_check.specs.Form.{is_empty_right, is_pick_right}
-use Rattle.paper_check.specs.Ranges.{IsListed}
-use Rattle.batch_paper.specs.Outcomes.{IsPaperOf}
+use Rattle.paper_form.specs.declared.types.Pack as packs
+use Rattle.paper_form.specs.declared.types.Pick.{Pick}
+use Rattle.paper_form.specs.Papers.{PaperData, paper_text, is_row, is_density, are_goods_in_range, is_tare_in_range, is_pack_in_range, is_pick_in_range}
+use Rattle.paper_form.specs.Form.{is_empty_right, is_pick_right}
+use Rattle.paper_form.specs.Ranges.{IsListed}
 use Rattle.batch_paper.specs.Ranges.{is_pick_weighed}
 use Rattle.batch_paper.specs.Written.{is_close_of, closing_row, goods_of, pack_of, packs_of, tare_for, days_of, tares_of, weighed_of, pick_of, draw_by, first_picks, second_picks, paper_by}
 use Rattle.batch_paper.proofs.DayOrder.{day_on, RiseWithin, span, lower, rise-filter, last_day, days_rise, IsFit}
 use Rattle.batch_paper.proofs.PaperNets.{of_mapped, both, IsCounted, pack_found}
-use Rattle.batch_paper.proofs.PaperJudged.{twice_mapped, judged_as_book, tares_right, draws_as_book}
+use Rattle.batch_paper.proofs.PaperJudged.{twice_mapped}
 use Rattle.batch_paper.proofs.PaperRanges.{each_fit, nominal_right, pick_right, tares_fit}
 use Rattle.batch_paper.proofs.PaperForm.{batches_shaped, products_shaped, closing_within}
 use Rattle.batch_paper.proofs.ClosedBatches.{first_counted, second_counted}
@@ -306,20 +305,3 @@ module _ (entries : List Entry) (batch product : Name) (legal : IsLegal entries)
         second = list_all_of is_pick_in_range (option_map_or (second_picks entries) sampled [])
             (second_fits sampled refl);
       }
-
--- the text of what the list says of a closed batch is its paper
-pub paper_right : (entries : List Entry) (batch product : Name) (bytes : List ℕ) → IsLegal entries
-    → state_of entries batch ≡ Some Closed → product_of entries batch ≡ Some product
-    → bytes ≡ paper_text (paper_by entries batch product) → IsPaperOf entries batch bytes
-paper_right entries batch product bytes legal closed known text =
-    record {
-      closed = closed;
-      paper = paper_by entries batch product;
-      written = ap (option_map (paper_by entries batch)) known;
-      text = text;
-      listed = is_listed entries batch product legal closed known;
-      tares = tares_right entries batch product;
-      draws = draws_as_book entries batch product legal closed;
-      given = judged_as_book entries batch product legal closed;
-      said = refl;
-    }

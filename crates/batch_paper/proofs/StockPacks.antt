@@ -14,7 +14,7 @@ use Rattle.book_laws.proofs.PopulationLaws.{counted_is_in_stock}
 use Rattle.book_laws.proofs.ReadingLaws.{IsOneOf, each_is_one, of_reading}
 use Rattle.book_state.specs.declared.types.KnownPack.{KnownPack}
 use Rattle.book_state.specs.Told.{known_record, known_reading, known_pack}
-use Rattle.paper_check.specs.declared.types.Pack as packs
+use Rattle.paper_form.specs.declared.types.Pack as packs
 use Rattle.batch_paper.specs.Written.{is_stock, pack_of, pack_where, pack_at}
 
 -- what is known of a reading

@@ -11,7 +11,7 @@ use Rattle.tare_register.specs.declared.types.DatedTare.{DatedTare}
 use Rattle.book_words.specs.declared.name.Name.{Name}
 use Rattle.book_words.specs.declared.act.Entry.{Entry}
 use Rattle.book_words.specs.Desks.{same_number}
-use Rattle.paper_check.specs.declared.types.Pack as packs
+use Rattle.paper_form.specs.declared.types.Pack as packs
 use Rattle.paper_check.specs.Judging.{tare_on}
 use Rattle.paper_check.specs.Faults.{has_pack_of, has_tare_of}
 use Rattle.batch_paper.specs.Written.{tare_for, days_of}

@@ -1,15 +1,19 @@
 -- Which lines of a paper have masses and days within the limits of the book, so that they can be
 -- printed.
-use Rattle.std.specs.Prelude.{Bool, true, pos, ◌&&◌}
+use Rattle.std.specs.Prelude.{ℕ, ◌<◌, ◌^◌, Bool, true, pos, ◌&&◌, Option, IfSome}
 use Rattle.std.specs.Option.{option_map_or}
 use Rattle.hall_limits.specs.declared.TheConstants.{MIN_NOMINAL, MAX_NOMINAL, MAX_GROSS, MAX_DAY}
 use Rattle.book_words.specs.Refusals.{is_within}
-use Rattle.paper_check.specs.declared.types.Goods as goods
-use Rattle.paper_check.specs.declared.types.Pack as packs
-use Rattle.paper_check.specs.declared.types.Pick.{Pick}
-use Rattle.paper_check.specs.declared.types.Line as lines
-use Rattle.paper_check.specs.declared.types.Line.TheVariants as line
-use Rattle.paper_check.specs.Papers.{is_tare_in_range, is_weighed_in_range}
+use Rattle.paper_form.specs.declared.types.Goods as goods
+use Rattle.paper_form.specs.declared.types.Pack as packs
+use Rattle.paper_form.specs.declared.types.Pick.{Pick}
+use Rattle.paper_form.specs.declared.types.Line as lines
+use Rattle.paper_form.specs.declared.types.Line.TheVariants as line
+use Rattle.paper_form.specs.Papers.{is_tare_in_range, is_weighed_in_range}
+
+-- a word of a draw, where there is one, has 64 bits
+abbrev pub IsWordOf : Option ℕ → Type 0
+IsWordOf word = IfSome word (λ w. w < 2 ^ 64)
 
 -- the nominal quantity is one
 abbrev pub is_nominal_right : goods.Goods → Bool

@@ -25,14 +25,14 @@ use Rattle.book_words.specs.Population.{is_counted, population}
 use Rattle.book_words.specs.Samples.{Drawing, Sample, drawing_of, second_word, sample_of}
 use Rattle.book_words.specs.Measures.{Measured, measured_of}
 use Rattle.book_words.specs.Verdicts.{second_packs, verdict_of}
-use Rattle.paper_check.specs.declared.types.Goods as goods
-use Rattle.paper_check.specs.declared.types.Pack as packs
-use Rattle.paper_check.specs.declared.types.Draw as draws
-use Rattle.paper_check.specs.declared.types.Weighed.{Weighed}
-use Rattle.paper_check.specs.declared.types.Pick.{Pick}
-use Rattle.paper_check.specs.declared.types.Line as lines
-use Rattle.paper_check.specs.declared.types.Line.TheVariants as line
-use Rattle.paper_check.specs.Papers.{PaperData}
+use Rattle.paper_form.specs.declared.types.Goods as goods
+use Rattle.paper_form.specs.declared.types.Pack as packs
+use Rattle.paper_form.specs.declared.types.Draw as draws
+use Rattle.paper_form.specs.declared.types.Weighed.{Weighed}
+use Rattle.paper_form.specs.declared.types.Pick.{Pick}
+use Rattle.paper_form.specs.declared.types.Line as lines
+use Rattle.paper_form.specs.declared.types.Line.TheVariants as line
+use Rattle.paper_form.specs.Papers.{PaperData}
 use Rattle.batch_paper.specs.declared.picks.Part.{Part}
 use Rattle.batch_paper.specs.declared.picks.Part.TheVariants.{First, Second}
 

@@ -8,7 +8,7 @@ ghost use Rattle.batch_paper.specs.Written.{closing_row, goods_of, tare_for};
 use crate::words::closing_place;
 use book_state::State;
 use book_words::{Name, Unit};
-use paper_check::Goods;
+use paper_form::Goods;
 use reference_test::UNIT_DENSITY;
 use tare_register::DatedTare;
 

@@ -3,8 +3,8 @@ ghost use Rattle.std.specs.Option.{option_map_or};
 ghost use Rattle.std.specs.List.{join_with_byte};
 ghost use Rattle.hall_units.specs.Grams.{gram_text};
 ghost use Rattle.book_texts.specs.Appending.{HasRoom, Appended};
-ghost use Rattle.paper_check.specs.declared.types.Line.TheVariants as line;
-ghost use Rattle.paper_check.specs.Papers.{line_text, unit_field, weighed_fields, is_tare_in_range, is_weighed_in_range};
+ghost use Rattle.paper_form.specs.declared.types.Line.TheVariants as line;
+ghost use Rattle.paper_form.specs.Papers.{line_text, unit_field, weighed_fields, is_tare_in_range, is_weighed_in_range};
 ghost use Rattle.batch_paper.specs.Ranges.{is_line_right, is_nominal_right, is_pack_right, is_pick_weighed};
 
 use book_texts::{
@@ -13,7 +13,7 @@ use book_texts::{
 };
 use book_words::{Unit, Verdict};
 use hall_units::make_room;
-use paper_check::{Draw, Goods, Line, Pack, Pick, Weighed};
+use paper_form::{Draw, Goods, Line, Pack, Pick, Weighed};
 use std::alloc::AllocError;
 use tare_register::DatedTare;
 

@@ -8,7 +8,7 @@ ghost use Rattle.batch_paper.specs.Written.{is_stock, pack_at, packs_of, days_of
 use book_state::State;
 use book_words::Name;
 use pack_judge::Pile;
-use paper_check::Pack;
+use paper_form::Pack;
 use std::alloc::{AllocError, Global};
 use tare_register::DatedTare;
 

@@ -2,15 +2,15 @@ ghost use Rattle.std.specs.Prelude.{◌≡◌, ◌≢◌, ◌++◌, ◌↔◌, �
 ghost use Rattle.std.specs.List.{AllPass, flat_map};
 ghost use Rattle.std.specs.Option.{option_to_list, unwrap_or};
 ghost use Rattle.book_words.specs.declared.name.Name as names;
-ghost use Rattle.paper_check.specs.declared.types.Line.TheVariants as line;
+ghost use Rattle.paper_form.specs.declared.types.Line.TheVariants as line;
 ghost use Rattle.book_words.specs.declared.act.BatchState as states;
 ghost use Rattle.book_words.specs.declared.act.BatchState.TheVariants.{Closed};
 ghost use Rattle.book_words.specs.Acts.{last_said, product_of, state_of};
 ghost use Rattle.book_words.specs.Answers.{IsLegal};
 ghost use Rattle.book_words.specs.Samples.{second_word};
 ghost use Rattle.book_words.specs.Verdicts.{second_packs};
-ghost use Rattle.paper_check.specs.Papers.{line_text, paper_text, is_tare_in_range};
-ghost use Rattle.batch_paper.specs.Ranges.{is_pack_right};
+ghost use Rattle.paper_form.specs.Papers.{line_text, paper_text, is_tare_in_range};
+ghost use Rattle.batch_paper.specs.Ranges.{IsWordOf, is_pack_right};
 ghost use Rattle.batch_paper.specs.Written.{first_word, first_picks, second_picks, pick_line, tare_for, tare_lines, pack_lines, sample_lines, paper_by};
 ghost use Rattle.batch_paper.specs.Outcomes.{IsPaperOf};
 ghost use Rattle.batch_paper.specs.declared.picks.Part.TheVariants as part;
@@ -28,7 +28,7 @@ use book_state::State;
 use book_views::verdict_of;
 use book_words::{BatchState, Entry, Name};
 use hall_limits::MAX_ROWS;
-use paper_check::{Draw, Line, Pack};
+use paper_form::{Draw, Line, Pack};
 use std::alloc::{AllocError, Global};
 
 // Writes a line for each of some days: the tare of a batch's product.
@@ -145,8 +145,10 @@ fn write_text(
 ) -> Result<Vec<u8>, AllocError>
     requires known { product_of state.now.entries batch.now ≡ Some product.now }
     requires legal { IsLegal state.now.entries }
-    ensures { IfOk result (λ text. text.items
+    ensures text { IfOk result (λ text. text.items
         ≡ paper_text (paper_by state.now.entries batch.now product.now)) }
+    ensures words { IfOk result (λ _. IsWordOf (last_said (first_word batch.now) state.now.entries)
+        × IsWordOf (last_said (second_word batch.now) state.now.entries)) }
 {
     let packs = list_packs(alloc, state, batch)?;
     let days = list_days(alloc, &packs)?;

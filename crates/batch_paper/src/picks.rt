@@ -1,7 +1,7 @@
 ghost use Rattle.std.specs.Prelude.{◌≡◌, ◌<◌, ◌^◌, ◌++◌, All, OnOk, IsTrue, map};
 ghost use Rattle.std.specs.List.{AllPass, flat_map};
-ghost use Rattle.paper_check.specs.declared.types.Line.TheVariants as line;
-ghost use Rattle.paper_check.specs.Papers.{line_text};
+ghost use Rattle.paper_form.specs.declared.types.Line.TheVariants as line;
+ghost use Rattle.paper_form.specs.Papers.{line_text};
 ghost use Rattle.batch_paper.specs.Ranges.{is_line_right, is_pick_weighed};
 ghost use Rattle.batch_paper.specs.Written.{weighed_of, pick_of, pick_line};
 
@@ -9,7 +9,7 @@ use crate::lines::write_line;
 use annex_tables::Mode;
 use book_samples::Measured;
 use book_state::State;
-use paper_check::{Line, Pick, Weighed};
+use paper_form::{Line, Pick, Weighed};
 use std::alloc::AllocError;
 
 /// Which sample a pack was drawn into.

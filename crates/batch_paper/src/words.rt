@@ -2,6 +2,7 @@ ghost use Rattle.std.specs.Prelude.{◌≡◌};
 ghost use Rattle.std.specs.Option.{option_or};
 ghost use Rattle.book_words.specs.Acts.{last_said};
 ghost use Rattle.book_words.specs.Samples.{second_word};
+ghost use Rattle.batch_paper.specs.Ranges.{IsWordOf};
 ghost use Rattle.batch_paper.specs.Written.{first_word, is_close_of, closing_place};
 
 use book_words::{Act, Entry, Name};
@@ -15,7 +16,8 @@ pub struct Words {
 
 // The word by which an act draws the first sample of a batch.
 fn first_word(batch: &Name, act: &Act) -> Option<u64>
-    ensures { result ≡ first_word batch.now act.now }
+    ensures said { result ≡ first_word batch.now act.now }
+    ensures sized { IsWordOf result }
 {
     match act {
         Act::Draw {
@@ -29,7 +31,8 @@ fn first_word(batch: &Name, act: &Act) -> Option<u64>
 
 // The word by which an act draws the second sample of a batch.
 fn second_word(batch: &Name, act: &Act) -> Option<u64>
-    ensures { result ≡ second_word batch.now act.now }
+    ensures said { result ≡ second_word batch.now act.now }
+    ensures sized { IsWordOf result }
 {
     match act {
         Act::DrawSecond { batch: name, word } if name.is(batch) => Some(*word),
@@ -42,6 +45,7 @@ fn second_word(batch: &Name, act: &Act) -> Option<u64>
 pub fn words_of(entries: &[Entry], batch: &Name) -> Words
     ensures first { result.first ≡ last_said (first_word batch.now) entries.now }
     ensures second { result.second ≡ last_said (second_word batch.now) entries.now }
+    ensures sized { IsWordOf result.first × IsWordOf result.second }
 {
     let mut first = None;
     let mut second = None;

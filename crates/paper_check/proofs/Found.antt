@@ -2,10 +2,10 @@
 use Rattle.std.proofs.Common.{◌≡◌, ◌==◌, ◌<◌, ℕ, ℤ, pos, int_le, true, false, List, length, find, slice_index, get_or, unsigned_abs, Some, None, sym, ap, ◌∙◌, subst}
 use Rattle.tare_register.specs.declared.types.DatedTare.{DatedTare}
 use Rattle.book_words.specs.Desks.{same_number}
-use Rattle.paper_check.specs.declared.types.Pack as packs
-use Rattle.paper_check.specs.Papers.{PaperData, is_tare_in_range}
+use Rattle.paper_form.specs.declared.types.Pack as packs
+use Rattle.paper_form.specs.Papers.{PaperData, is_tare_in_range}
 use Rattle.paper_check.specs.Keys.{has_key}
-use Rattle.paper_check.specs.Ranges.{days_of, numbers_of, IsListed}
+use Rattle.paper_form.specs.Ranges.{days_of, numbers_of, IsListed}
 use Rattle.paper_check.specs.Judging.{pack_with}
 use Rattle.paper_check.proofs.Lookups.{find_none, find_at, find-same}
 use Rattle.paper_check.proofs.TareFaults.{same_days, tare_day}

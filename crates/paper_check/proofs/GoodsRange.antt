@@ -11,9 +11,9 @@ use Rattle.reference_test.proofs.SignedNumbers.{again, computes_read}
 use Rattle.book_words.specs.Refusals.{is_within}
 use Rattle.book_words.specs.declared.act.Unit as units
 use Rattle.book_words.specs.declared.act.Unit.TheVariants.{Mass, Volume}
-use Rattle.paper_check.specs.declared.types.Goods as goods
-use Rattle.paper_check.specs.Papers.{are_goods_in_range, is_density, is_pick_in_range}
-use Rattle.paper_check.specs.declared.types.Pick.{Pick}
+use Rattle.paper_form.specs.declared.types.Goods as goods
+use Rattle.paper_form.specs.Papers.{are_goods_in_range, is_density, is_pick_in_range}
+use Rattle.paper_form.specs.declared.types.Pick.{Pick}
 
 at_most : (a b : ℤ) → int_le a b ≡ true → a ≤ℤ b
 at_most (pos a) (pos b) h = omega (arith, ints, leb-true a b h)

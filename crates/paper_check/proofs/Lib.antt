@@ -1,6 +1,3 @@
-pub mod PiecesBetween
-pub mod Listed
-pub mod ReadingOn
 pub mod Lookups
 pub mod TareFaults
 pub mod Found

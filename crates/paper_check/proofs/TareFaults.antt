@@ -8,10 +8,10 @@ use Rattle.tare_register.specs.declared.types.DatedTare.{DatedTare}
 use Rattle.book_words.specs.Desks.{same_number}
 use Rattle.book_words.specs.Refusals.{is_within}
 use Rattle.hall_limits.specs.declared.TheConstants.{MAX_DAY, MAX_TARE, MAX_GROSS}
-use Rattle.paper_check.specs.declared.types.Pack as packs
-use Rattle.paper_check.specs.Papers.{PaperData, is_row, is_tare_in_range, is_pack_in_range}
+use Rattle.paper_form.specs.declared.types.Pack as packs
+use Rattle.paper_form.specs.Papers.{PaperData, is_row, is_tare_in_range, is_pack_in_range}
 use Rattle.paper_check.specs.Keys.{is_missing}
-use Rattle.paper_check.specs.Ranges.{days_of, IsListed}
+use Rattle.paper_form.specs.Ranges.{days_of, IsListed}
 use Rattle.paper_check.specs.Keyed.{pack_days_of}
 use Rattle.paper_check.specs.Faults.{tares_line, packs_line, has_pack_of, has_tare_of, tare_fault}
 use Rattle.paper_check.proofs.Lookups.{position-from, position_from-map, position_from-same, list_any-same, list_any-map}

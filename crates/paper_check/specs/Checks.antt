@@ -1,10 +1,10 @@
 -- What the check of a paper answers.
 use Rattle.std.specs.Prelude.{◌≡◌, ◌≢◌, ⊤, ℕ, List, None, Some, Ok, Err}
 use Rattle.book_words.specs.declared.views.Verdict as verdicts
-use Rattle.paper_check.specs.declared.types.PaperFault.{PaperFault}
-use Rattle.paper_check.specs.declared.types.PaperFault.TheVariants as fault
-use Rattle.paper_check.specs.Papers.{PaperData}
-use Rattle.paper_check.specs.Form.{paper_in}
+use Rattle.paper_form.specs.declared.types.PaperFault.{PaperFault}
+use Rattle.paper_form.specs.declared.types.PaperFault.TheVariants as fault
+use Rattle.paper_form.specs.Papers.{PaperData}
+use Rattle.paper_form.specs.Form.{paper_in}
 use Rattle.paper_check.specs.Judging.{judged}
 use Rattle.paper_check.specs.Faults.{tare_fault, draw_fault, verdict_line}
 

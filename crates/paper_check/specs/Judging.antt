@@ -14,11 +14,11 @@ use Rattle.book_words.specs.Verdicts.{contents_accepts, mean_accepts, average_by
 use Rattle.book_words.specs.declared.views.Fails.{Fails}
 use Rattle.book_words.specs.declared.views.Verdict as verdicts
 use Rattle.book_words.specs.declared.views.Verdict.TheVariants.{Empty}
-use Rattle.paper_check.specs.declared.types.Pack as packs
-use Rattle.paper_check.specs.declared.types.Draw as draws
-use Rattle.paper_check.specs.declared.types.Weighed.{Weighed}
-use Rattle.paper_check.specs.declared.types.Pick.{Pick}
-use Rattle.paper_check.specs.Papers.{PaperData}
+use Rattle.paper_form.specs.declared.types.Pack as packs
+use Rattle.paper_form.specs.declared.types.Draw as draws
+use Rattle.paper_form.specs.declared.types.Weighed.{Weighed}
+use Rattle.paper_form.specs.declared.types.Pick.{Pick}
+use Rattle.paper_form.specs.Papers.{PaperData}
 
 -- the tare of a day, where a line gives one
 abbrev pub tare_on : List DatedTare → ℤ → Option ℤ

@@ -2,10 +2,10 @@
 use Rattle.std.specs.Prelude.{◌≡◌, ℕ, ℤ, neg_ℤ, Bool, List, map, unsigned_abs}
 use Rattle.hall_limits.specs.declared.TheConstants.{MAX_GROSS, MAX_TARE}
 use Rattle.book_words.specs.Refusals.{is_within}
-use Rattle.paper_check.specs.declared.types.Pack as packs
+use Rattle.paper_form.specs.declared.types.Pack as packs
 use Rattle.paper_check.specs.declared.tares.Keys.{Keys}
-use Rattle.paper_check.specs.Papers.{PaperData}
-use Rattle.paper_check.specs.Ranges.{days_of, numbers_of}
+use Rattle.paper_form.specs.Papers.{PaperData}
+use Rattle.paper_form.specs.Ranges.{days_of, numbers_of}
 
 -- the days of some packs
 abbrev pub pack_days_of : List packs.Pack → List ℕ

@@ -1,9 +1,4 @@
-pub mod Papers
-pub mod Lines
-pub mod Form
 pub mod Keys
-pub mod Ranges
-pub mod Drafts
 pub mod Judging
 pub mod Faults
 pub mod Keyed

@@ -2,11 +2,10 @@ ghost use Rattle.std.specs.Prelude.{◌≤◌, length, IfOk, IfErr};
 ghost use Rattle.paper_check.specs.Checks.{IsProven, HasFault};
 
 use crate::draws::{find_draw_fault, verdict_line};
-use crate::paper::read_paper;
 use crate::tares::{find_tare_fault, keys_of};
-use crate::types::{MAX_PAPER, PaperFault};
 use crate::verdicts::judge;
 use book_words::Verdict;
+use paper_form::{MAX_PAPER, PaperFault, read_paper};
 use std::alloc::Global;
 
 /// Whether a text of at most 16 777 216 bytes is a true paper: the answer is the verdict that its

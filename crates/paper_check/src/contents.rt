@@ -2,17 +2,16 @@ ghost use Rattle.std.specs.Prelude.{◌≡◌, ◌≤◌, ◌+◌, ◌-ℤ◌, �
 ghost use Rattle.std.specs.List.{cons_option, list_all};
 ghost use Rattle.hall_limits.specs.declared.TheConstants.{MAX_GROSS, MAX_TARE};
 ghost use Rattle.book_words.specs.Refusals.{is_within};
-ghost use Rattle.paper_check.specs.Papers.{is_pick_in_range, is_pack_in_range};
-ghost use Rattle.paper_check.specs.Drafts.{data_of};
-ghost use Rattle.paper_check.specs.Ranges.{IsListed, ArePicksInRange};
+ghost use Rattle.paper_form.specs.Papers.{is_pick_in_range, is_pack_in_range};
+ghost use Rattle.paper_form.specs.Drafts.{data_of};
+ghost use Rattle.paper_form.specs.Ranges.{IsListed, ArePicksInRange};
 ghost use Rattle.paper_check.specs.Keyed.{AreKeysOf, is_mass};
 ghost use Rattle.paper_check.specs.Judging.{net_on, nets_of, pack_with, contents_of_pick, contents_of_picks};
 
 use crate::finding::{find_pack, find_tare};
-use crate::reading::Paper;
 use crate::tares::Keys;
-use crate::types::{Pack, Pick};
 use annex_tables::Mode;
+use paper_form::{Pack, Paper, Pick};
 use std::alloc::{AllocError, Global};
 
 // A mass in mg less another, both within their limits.

@@ -1,16 +1,15 @@
 ghost use Rattle.std.specs.Prelude.{◌≡◌, ◌+◌, ◌≤◌, None, Ok, IfOk, length, is_none, if◌then◌else◌, ◌==◌};
 ghost use Rattle.std.specs.List.{common_prefix_len, position_from};
-ghost use Rattle.paper_check.specs.Drafts.{data_of};
-ghost use Rattle.paper_check.specs.Ranges.{IsListed, IsShort};
+ghost use Rattle.paper_form.specs.Drafts.{data_of};
+ghost use Rattle.paper_form.specs.Ranges.{IsListed, IsShort};
 ghost use Rattle.paper_check.specs.Keyed.{AreKeysOf};
 ghost use Rattle.paper_check.specs.Judging.{sample_in};
 ghost use Rattle.paper_check.specs.Faults.{draw_line, after_first, second_line, verdict_line, stray_line, earlier_line, unmeasured_line, second_fault, samples_fault, draw_fault};
 
-use crate::reading::Paper;
 use crate::tares::Keys;
-use crate::types::{Draw, Pick};
 use crate::verdicts::needs_second;
 use annex_tables::{Plan, plan};
+use paper_form::{Draw, Paper, Pick};
 use sample_draw::{Picks, draw, draw_more};
 use std::alloc::{AllocError, Global};
 

@@ -1,15 +1,14 @@
 ghost use Rattle.std.specs.Prelude.{◌≡◌, true, find, IfSome};
 ghost use Rattle.book_words.specs.Desks.{same_number};
-ghost use Rattle.paper_check.specs.Papers.{is_tare_in_range, is_pack_in_range};
-ghost use Rattle.paper_check.specs.Drafts.{data_of};
-ghost use Rattle.paper_check.specs.Ranges.{IsListed};
+ghost use Rattle.paper_form.specs.Papers.{is_tare_in_range, is_pack_in_range};
+ghost use Rattle.paper_form.specs.Drafts.{data_of};
+ghost use Rattle.paper_form.specs.Ranges.{IsListed};
 ghost use Rattle.paper_check.specs.Keyed.{AreKeysOf};
 ghost use Rattle.paper_check.specs.Judging.{pack_with};
 
 use crate::keys::place_of;
-use crate::reading::Paper;
 use crate::tares::Keys;
-use crate::types::{Pack, Pick};
+use paper_form::{Pack, Paper, Pick};
 use tare_register::DatedTare;
 
 /// The tare of the day of a pack, where a line gives one.

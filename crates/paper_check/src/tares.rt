@@ -1,12 +1,11 @@
 ghost use Rattle.std.specs.Prelude.{◌≡◌, IfOk};
-ghost use Rattle.paper_check.specs.Drafts.{data_of};
-ghost use Rattle.paper_check.specs.Ranges.{days_of, numbers_of, IsListed, IsShort};
+ghost use Rattle.paper_form.specs.Drafts.{data_of};
+ghost use Rattle.paper_form.specs.Ranges.{days_of, numbers_of, IsListed, IsShort};
 ghost use Rattle.paper_check.specs.Keyed.{pack_days_of, AreKeysOf};
 ghost use Rattle.paper_check.specs.Faults.{tare_fault};
 
 use crate::keys::{first_missing, in_order};
-use crate::reading::Paper;
-use crate::types::Pack;
+use paper_form::{Pack, Paper};
 use std::alloc::{AllocError, Global};
 use tare_register::DatedTare;
 

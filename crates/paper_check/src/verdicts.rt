@@ -6,19 +6,18 @@ ghost use Rattle.hall_limits.specs.declared.TheConstants.{MAX_POPULATION};
 ghost use Rattle.reference_test.specs.Means.{total};
 ghost use Rattle.book_words.specs.Samples.{plan_or_empty};
 ghost use Rattle.book_words.specs.Verdicts.{average_by, allowance_by, none_inadequate, fails_by, any_fails, verdict_by_fails};
-ghost use Rattle.paper_check.specs.Drafts.{data_of};
-ghost use Rattle.paper_check.specs.Ranges.{IsListed, IsShort, ArePicksInRange};
+ghost use Rattle.paper_form.specs.Drafts.{data_of};
+ghost use Rattle.paper_form.specs.Ranges.{IsListed, IsShort, ArePicksInRange};
 ghost use Rattle.paper_check.specs.Keyed.{AreKeysOf, is_mass};
 ghost use Rattle.paper_check.specs.Judging.{sample_in, defective_picks, below_count, contents_check_in, mean_check_in, fails_in_nets, nets_of, judged};
 ghost use Rattle.paper_check.specs.Faults.{needs_second};
 
 use crate::contents::{contents_of_picks, nets_of};
-use crate::reading::Paper;
 use crate::sums::{count_below, is_reached, mean_accepts, total_of};
 use crate::tares::Keys;
-use crate::types::{Draw, Pick};
 use annex_tables::{Limits, Mode, Plan, limits, plan};
 use book_words::{Fails, Verdict};
+use paper_form::{Draw, Paper, Pick};
 use reference_test::{Contents, contents_check};
 use std::alloc::{AllocError, Global};
 

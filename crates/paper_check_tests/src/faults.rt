@@ -1,5 +1,5 @@
 use crate::papers::check_with;
-use paper_check::PaperFault;
+use paper_form::PaperFault;
 
 #[test]
 fn a_tare_of_no_pack_comes_before_a_pack_without_a_tare(rt: HostRuntime) {

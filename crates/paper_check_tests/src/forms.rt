@@ -1,5 +1,5 @@
 use crate::papers::check_with;
-use paper_check::PaperFault;
+use paper_form::PaperFault;
 use std::alloc::Global;
 
 // Lines that aren't the next ones of a paper, by their places.

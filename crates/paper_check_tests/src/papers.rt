@@ -1,5 +1,6 @@
 use book_words::Verdict;
-use paper_check::{PaperFault, check_paper};
+use paper_check::check_paper;
+use paper_form::PaperFault;
 use std::alloc::{AllocError, Global};
 
 /// The paper of a batch of two packs.

@@ -1,6 +1,7 @@
 use crate::papers::{TRIAL, check_lines, check_with};
 use book_words::Verdict;
-use paper_check::{PaperFault, check_paper};
+use paper_check::check_paper;
+use paper_form::PaperFault;
 
 #[test]
 fn the_trial_is_true(rt: HostRuntime) {

@@ -6,8 +6,8 @@ use Rattle.text_streams.specs.Streams.{Stream, WroteAll, IsCutIn}
 use Rattle.whole_input.specs.declared.whole.Unread.{Unread}
 use Rattle.whole_input.specs.declared.whole.Unread.TheVariants as unread
 use Rattle.paper_check.specs.Checks.{IsProven, HasFault}
-use Rattle.paper_check.specs.declared.types.PaperFault.{PaperFault}
-use Rattle.paper_check.specs.declared.types.PaperFault.TheVariants as fault
+use Rattle.paper_form.specs.declared.types.PaperFault.{PaperFault}
+use Rattle.paper_form.specs.declared.types.PaperFault.TheVariants as fault
 use Rattle.prove_run.specs.declared.types.ProveEnd.{ProveEnd}
 use Rattle.prove_run.specs.declared.types.ProveEnd.TheVariants.{Proved, BadLine, ReadFault, WriteFault, NoMemory}
 

@@ -4,7 +4,7 @@ use Rattle.text_streams.specs.Streams.{Stream, IsCalm, WroteAll, IsCutIn}
 use Rattle.text_streams.specs.Reading.{FailsBehind, ReadsWhole}
 use Rattle.whole_input.specs.declared.whole.Unread.TheVariants.{TooLong}
 use Rattle.whole_input.specs.Reading.{IsShort, IsReadNoFurther}
-use Rattle.paper_check.specs.declared.types.TheConstants.{MAX_PAPER}
+use Rattle.paper_form.specs.declared.types.TheConstants.{MAX_PAPER}
 use Rattle.prove_run.specs.declared.types.ProveEnd.{ProveEnd}
 use Rattle.prove_run.specs.declared.types.ProveEnd.TheVariants.{Proved, BadLine, ReadFault, WriteFault, NoMemory}
 use Rattle.prove_run.specs.Papers.{IsTrue, IsFaulty}

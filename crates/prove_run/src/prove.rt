@@ -1,5 +1,5 @@
 ghost use Rattle.std.specs.Prelude.{◌≡◌, ◌≤◌, false, length, IfOk};
-ghost use Rattle.paper_check.specs.declared.types.TheConstants.{MAX_PAPER};
+ghost use Rattle.paper_form.specs.declared.types.TheConstants.{MAX_PAPER};
 ghost use Rattle.text_streams.specs.Streams.{input_at, output_at};
 ghost use Rattle.prove_run.specs.Papers.{ProvesPaper, TellsTrue, end_at, end_unread, true_line};
 ghost use Rattle.prove_run.specs.Proving.{ExplainsProving};
@@ -8,7 +8,8 @@ use crate::types::ProveEnd;
 use book_texts::{MAX_VERDICT, append, push_verdict};
 use book_words::Verdict;
 use disk_core::{Sink, Source};
-use paper_check::{MAX_PAPER, PaperFault, check_paper};
+use paper_check::check_paper;
+use paper_form::{MAX_PAPER, PaperFault};
 use std::alloc::{AllocError, Global};
 use text_streams::write_text;
 use whole_input::{Unread, read_whole};

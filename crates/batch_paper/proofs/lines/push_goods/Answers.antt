@@ -1,7 +1,7 @@
 use Rattle.std.proofs.Common.{◌∙◌, codes, pos, decimal, arith}
 use Rattle.hall_units.specs.Grams.{gram_text}
 use Rattle.book_words.specs.Names.{bytes_of}
-use Rattle.paper_check.specs.Papers.{unit_field}
+use Rattle.paper_form.specs.Papers.{unit_field}
 use Rattle.batch_paper.proofs.PaperLines.{goods_pieces}
 use Rattle.batch_paper.proofs.lines.push_goods.Goals as goal
 

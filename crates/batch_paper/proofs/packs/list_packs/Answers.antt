@@ -1,6 +1,6 @@
 use Rattle.std.proofs.Common.{rules, ◌≡◌, ◌+◌, ◌<◌, ◌≤◌, ◌++◌, [], List, length, sym, ◌∙◌, ap, append_assoc, append-nil, arith}
 use Rattle.std.specs.List.{cons_option}
-use Rattle.paper_check.specs.declared.types.Pack as packs
+use Rattle.paper_form.specs.declared.types.Pack as packs
 use Rattle.batch_paper.specs.Written.{pack_at}
 use Rattle.batch_paper.proofs.PackWalks.{packs_behind, next_pack, no_packs}
 use Rattle.batch_paper.proofs.packs.list_packs.Goals as goal

@@ -2,7 +2,7 @@ use Rattle.std.proofs.Common.{rules, ◌≡◌, ◌&&◌, true, cond, Some, None
 use Rattle.std.proofs.lemmas.Bool.{and_from}
 use Rattle.std.proofs.lemmas.Int.{to_z-of_z}
 use Rattle.book_words.specs.Names.{same_name}
-use Rattle.paper_check.specs.declared.types.Pack as packs
+use Rattle.paper_form.specs.declared.types.Pack as packs
 use Rattle.batch_paper.specs.Written.{is_stock}
 use Rattle.batch_paper.proofs.StockPacks.{stock_pack}
 use Rattle.batch_paper.proofs.packs.pack_at.Goals as goal

@@ -1,7 +1,7 @@
 use Rattle.std.proofs.Common.{◌≡◌, false, true, None, is_some, sym, ◌∙◌, ap}
 use Rattle.book_words.specs.Acts.{product_of}
 use Rattle.book_laws.proofs.BatchLaws.{orderly}
-use Rattle.batch_paper.proofs.PaperWhole.{paper_right}
+use Rattle.batch_paper.proofs.PaperProven.{paper_right}
 use Rattle.batch_paper.proofs.papers.write_closed.Goals as goal
 
 pub unreachable-requires : goal.unreachable-requires
@@ -16,6 +16,8 @@ unreachable-requires c =
 
 pub returns : goal.returns
 returns c =
-    paper_right c.args.state.now.entries c.args.batch.now c.in-Some.product c.new.result
-    c.requires.legal c.requires.closed (sym c.in-Some.ensures.value)
-    (c.new.ensures ∙ c.in_ok-text.ensures)
+    let entries = c.args.state.now.entries in
+    let batch = c.args.batch.now in
+    let words = c.in_ok-text.ensures.words in
+    paper_right entries batch c.in-Some.product c.requires.legal c.requires.closed
+    (sym c.in-Some.ensures.value) c.new.result words.0 words.1 (c.new.ensures ∙ c.in_ok-text.ensures.text)

@@ -1,7 +1,7 @@
 use Rattle.std.proofs.Common.{◌++◌, List, sym, ◌∙◌, ap, append-nil}
 use Rattle.std.specs.List.{flat_map}
-use Rattle.paper_check.specs.declared.types.Line as lines
-use Rattle.paper_check.specs.Papers.{line_text}
+use Rattle.paper_form.specs.declared.types.Line as lines
+use Rattle.paper_form.specs.Papers.{line_text}
 use Rattle.batch_paper.proofs.PaperSamples.{drawn_told, no_lines}
 use Rattle.batch_paper.proofs.papers.write_samples.Goals as goal
 

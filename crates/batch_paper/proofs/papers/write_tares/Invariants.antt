@@ -1,6 +1,6 @@
 use Rattle.std.proofs.Common.{◌≡◌, ◌++◌, drop, map}
 use Rattle.std.specs.List.{flat_map}
-use Rattle.paper_check.specs.Papers.{line_text}
+use Rattle.paper_form.specs.Papers.{line_text}
 use Rattle.batch_paper.specs.Written.{tare_for, tare_lines}
 use Rattle.batch_paper.proofs.papers.write_tares.Given as goal
 

@@ -1,10 +1,10 @@
 use Rattle.std.proofs.Common.{◌≡◌, ◌++◌, ℕ, ℤ, List, IsTrue, map, subst, sym, ◌∙◌, ap}
 use Rattle.std.specs.List.{AllPass, flat_map}
 use Rattle.book_words.specs.declared.views.Verdict.{Verdict}
-use Rattle.paper_check.specs.declared.types.Goods as goods
-use Rattle.paper_check.specs.declared.types.Pack as packs
-use Rattle.paper_check.specs.declared.types.Line.TheVariants as line
-use Rattle.paper_check.specs.Papers.{line_text, is_tare_in_range}
+use Rattle.paper_form.specs.declared.types.Goods as goods
+use Rattle.paper_form.specs.declared.types.Pack as packs
+use Rattle.paper_form.specs.declared.types.Line.TheVariants as line
+use Rattle.paper_form.specs.Papers.{line_text, is_tare_in_range}
 use Rattle.batch_paper.specs.Ranges.{is_nominal_right, is_pack_right}
 use Rattle.batch_paper.specs.Written.{packs_of, days_of, tare_for, tare_lines, pack_lines, paper_by}
 use Rattle.batch_paper.proofs.PaperLines.{grown}
@@ -33,8 +33,8 @@ write_packs-requires c =
     (sym (c.deref-3.ensures.value ∙ c.in_ok-packs.ensures))
     (packs_right c.args.state.now.entries c.args.batch.now c.requires.legal)
 
-pub returns : goal.returns
-returns c =
+pub returns-clause-text : goal.returns-clause-text
+returns-clause-text c =
     let entries = c.args.state.now.entries in
     let batch = c.args.batch.now in
     let product = c.args.product.now in

@@ -1,6 +1,6 @@
 use Rattle.std.proofs.Common.{rules, ◌≡◌, ◌∙◌, Bool, true, false, not, refl, sym}
 use Rattle.book_words.specs.contracts.views.VerdictPartialEq.TheImpl as verdicts
-use Rattle.paper_check.specs.Drafts.{data_of}
+use Rattle.paper_form.specs.Drafts.{data_of}
 use Rattle.paper_check.proofs.SameVerdicts.{found_equal, found_other}
 use Rattle.paper_check.proofs.check.check_paper.Goals as goal
 

@@ -1,6 +1,6 @@
 use Rattle.std.proofs.Common.{◌≡◌, ◌≤◌, ◌++◌, true, drop, length}
 use Rattle.std.specs.List.{list_all}
-use Rattle.paper_check.specs.Drafts.{data_of}
+use Rattle.paper_form.specs.Drafts.{data_of}
 use Rattle.paper_check.specs.Keyed.{is_mass}
 use Rattle.paper_check.specs.Judging.{contents_of_picks}
 use Rattle.paper_check.proofs.contents.contents_of_picks.Given as goal

@@ -1,6 +1,6 @@
 use Rattle.std.proofs.Common.{◌≡◌, ◌≤◌, ◌++◌, true, drop, length}
 use Rattle.std.specs.List.{list_all}
-use Rattle.paper_check.specs.Drafts.{data_of}
+use Rattle.paper_form.specs.Drafts.{data_of}
 use Rattle.paper_check.specs.Keyed.{is_mass}
 use Rattle.paper_check.specs.Judging.{nets_of}
 use Rattle.paper_check.proofs.contents.nets_of.Given as goal

@@ -1,6 +1,6 @@
 use Rattle.std.proofs.Common.{rules, ◌≡◌, ◌==◌, length}
 use Rattle.std.specs.List.{common_prefix_len}
-use Rattle.paper_check.specs.declared.types.Pick.{Pick}
+use Rattle.paper_form.specs.declared.types.Pick.{Pick}
 use Rattle.paper_check.proofs.Prefixes.{counted_over}
 use Rattle.paper_check.proofs.draws.count_same.Goals as goal
 

@@ -1,7 +1,7 @@
 use Rattle.std.proofs.Common.{rules, ◌≡◌, ◌∙◌, ap, sym, Bool, true, ℕ, Option, None, is_none, if◌then◌else◌}
 use Rattle.std.specs.List.{position_from}
-use Rattle.paper_check.specs.declared.types.Pick.{Pick}
-use Rattle.paper_check.specs.Drafts.{data_of}
+use Rattle.paper_form.specs.declared.types.Pick.{Pick}
+use Rattle.paper_form.specs.Drafts.{data_of}
 use Rattle.paper_check.specs.Faults.{second_line, stray_line, earlier_line, unmeasured_line}
 use Rattle.paper_check.proofs.Lookups.{position-from}
 use Rattle.paper_check.proofs.draws.find_given_fault.Goals as goal

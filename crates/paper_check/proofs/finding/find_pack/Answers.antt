@@ -1,8 +1,8 @@
 use Rattle.std.proofs.Common.{◌∙◌, ap, subst, sym, Some}
 use Rattle.std.specs.List.Sorted.{IsNonDecreasing}
-use Rattle.paper_check.specs.declared.types.Pack as packs
-use Rattle.paper_check.specs.Drafts.{data_of}
-use Rattle.paper_check.specs.Ranges.{numbers_of}
+use Rattle.paper_form.specs.declared.types.Pack as packs
+use Rattle.paper_form.specs.Drafts.{data_of}
+use Rattle.paper_form.specs.Ranges.{numbers_of}
 use Rattle.paper_check.specs.Judging.{pack_with}
 use Rattle.paper_check.proofs.Lookups.{rises_on}
 use Rattle.paper_check.proofs.Found.{found_pack, no_pack}

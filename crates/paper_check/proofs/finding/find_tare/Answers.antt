@@ -1,9 +1,9 @@
 use Rattle.std.proofs.Common.{rules, ◌≡◌, ◌∙◌, ap, subst, sym, Some, length, ◌<◌, List, unsigned_abs, true, arith}
 use Rattle.std.specs.List.Sorted.{IsNonDecreasing}
 use Rattle.tare_register.specs.declared.types.DatedTare.{DatedTare}
-use Rattle.paper_check.specs.Papers.{is_tare_in_range}
-use Rattle.paper_check.specs.Drafts.{data_of}
-use Rattle.paper_check.specs.Ranges.{days_of}
+use Rattle.paper_form.specs.Papers.{is_tare_in_range}
+use Rattle.paper_form.specs.Drafts.{data_of}
+use Rattle.paper_form.specs.Ranges.{days_of}
 use Rattle.paper_check.proofs.Lookups.{rises_on, passes_at, map_length}
 use Rattle.paper_check.proofs.TareFaults.{pack_day}
 use Rattle.paper_check.proofs.Found.{found_tare, no_tare}

@@ -1,9 +1,9 @@
 use Rattle.std.proofs.Common.{◌≡◌, ◌∙◌, ◌+◌, ℕ, List, length, IsPermutation, sym, ap, subst, arith, rules, vec_len}
 use Rattle.std.specs.List.{position_from}
 use Rattle.std.specs.List.Sorted.{IsNonDecreasing}
-use Rattle.paper_check.specs.Drafts.{data_of}
+use Rattle.paper_form.specs.Drafts.{data_of}
 use Rattle.paper_check.specs.Keys.{is_missing}
-use Rattle.paper_check.specs.Ranges.{days_of}
+use Rattle.paper_form.specs.Ranges.{days_of}
 use Rattle.paper_check.specs.Keyed.{pack_days_of}
 use Rattle.paper_check.specs.Faults.{packs_line}
 use Rattle.paper_check.proofs.Lookups.{rises_on}

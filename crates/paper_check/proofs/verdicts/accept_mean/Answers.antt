@@ -1,6 +1,6 @@
 use Rattle.std.proofs.Common.{sym, subst}
 use Rattle.annex_tables.specs.Errors.{IsNominal}
-use Rattle.paper_check.specs.Drafts.{data_of}
+use Rattle.paper_form.specs.Drafts.{data_of}
 use Rattle.paper_check.proofs.GoodsRange.{nominal_known, nominal_again}
 use Rattle.paper_check.proofs.verdicts.accept_mean.Goals as goal
 

@@ -1,7 +1,7 @@
 use Rattle.std.proofs.Common.{◌∙◌, count_by, ap}
 use Rattle.annex_tables.specs.declared.types.Limits.{Limits}
 use Rattle.book_words.specs.Classes.{is_below}
-use Rattle.paper_check.specs.Drafts.{data_of}
+use Rattle.paper_form.specs.Drafts.{data_of}
 use Rattle.paper_check.specs.Judging.{contents_of_picks}
 use Rattle.paper_check.proofs.verdicts.count_defective.Goals as goal
 

@@ -2,7 +2,7 @@ use Rattle.std.proofs.Common.{◌≡◌, ◌∙◌, Bool, ap, length}
 use Rattle.annex_tables.specs.declared.types.Limits.{Limits}
 use Rattle.reference_test.specs.Means.{total}
 use Rattle.book_words.specs.Verdicts.{average_by, allowance_by, none_inadequate, fails_by}
-use Rattle.paper_check.specs.Drafts.{data_of}
+use Rattle.paper_form.specs.Drafts.{data_of}
 use Rattle.paper_check.specs.Judging.{below_count}
 use Rattle.annex_tables.specs.Errors.{limits_of}
 use Rattle.paper_check.proofs.verdicts.fails_of.Goals as goal

@@ -4,7 +4,7 @@ use Rattle.hall_limits.specs.declared.TheConstants.{MIN_NOMINAL, MAX_NOMINAL}
 use Rattle.reference_test.specs.Means.{total}
 use Rattle.reference_test.proofs.SignedNumbers.{again}
 use Rattle.book_words.specs.Verdicts.{average_by}
-use Rattle.paper_check.specs.Drafts.{data_of}
+use Rattle.paper_form.specs.Drafts.{data_of}
 use Rattle.paper_check.proofs.GoodsRange.{nominal_known, nominal_again}
 use Rattle.paper_check.proofs.verdicts.is_average_right.Goals as goal
 

@@ -1,8 +1,8 @@
 use Rattle.std.proofs.Common.{rules, ◌≡◌, ◌∙◌, ap, arith, length, map, vec_len}
 use Rattle.annex_tables.specs.Plans.{plan_of}
 use Rattle.book_words.specs.Samples.{plan_or_empty}
-use Rattle.paper_check.specs.declared.types.Pack as packs
-use Rattle.paper_check.specs.Drafts.{data_of}
+use Rattle.paper_form.specs.declared.types.Pack as packs
+use Rattle.paper_form.specs.Drafts.{data_of}
 use Rattle.paper_check.proofs.Lookups.{map_length}
 use Rattle.paper_check.proofs.verdicts.plan_in.Goals as goal
 
