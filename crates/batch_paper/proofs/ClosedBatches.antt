@@ -60,7 +60,8 @@ pub second_counted : (entries : List Entry) (batch : Name) (sample : Sample) →
     → sample_of entries batch ≡ Some sample → All (IsCounted entries batch) (second_packs sample)
 second_counted entries batch sample legal is =
     All-weaker (λ pack. is_among pack (second_packs sample) ≡ true) (IsCounted entries batch)
-    (λ pack among. counted entries batch pack (second_in_population entries batch sample pack legal is among).0)
+    (λ pack among. counted entries batch pack
+    (second_in_population entries batch sample pack legal is among).0)
     (second_packs sample) (each_among (second_packs sample))
 
 -- ---- what a closed batch keeps
@@ -131,7 +132,8 @@ tested_too others entries batch agree same tested =
     whole : (sample : Sample) → sample_of entries batch ≡ Some sample
         → is_second_needed others batch sample ≡ false
     whole sample is =
-        ap (λ n. (is_measured others sample.first && is_open sample.plan n) && is_none sample.second)
+        ap (λ n. (is_measured others sample.first && is_open sample.plan n) && is_none
+        sample.second)
         (same_defective others entries batch sample agree is)
         ∙ ap (λ o. (is_none o && is_open sample.plan (first_defective entries batch sample))
         && is_none sample.second)
@@ -143,7 +145,8 @@ abbrev AreTested : List Entry → Type 0
 AreTested entries = (batch : Name) → state_of entries batch ≡ Some Closed → IsTested entries batch
 
 -- an act that sets the state closed is a closing of the batch
-pub closes_it : (batch : Name) (act : Act) → state_set batch act ≡ Some Closed → act ≡ acts.Close batch
+pub closes_it : (batch : Name) (act : Act) → state_set batch act ≡ Some Closed
+    → act ≡ acts.Close batch
 closes_it batch (acts.Close name) h = each (same_name name batch) refl h
   where
     each : (b : Bool) → same_name name batch ≡ b → cond b (Some Closed) None ≡ Some Closed
@@ -211,7 +214,8 @@ tested-push entries entry legal lawful all batch closed =
     later before =
         let stays : (pack : ℕ) → IsCounted entries batch pack
         → SameMeasured (entries ++ entry ∷ []) entries pack =
-        λ pack is. measured_stays entries entry batch pack h before (own_pack entries batch pack is) in
+        λ pack is. measured_stays entries entry batch pack h before (own_pack entries batch pack is)
+        in
         tested_too (entries ++ entry ∷ []) entries batch
         (agrees entries entry batch h (settled_of entries batch legal before))
         (λ sample found. (
@@ -238,11 +242,13 @@ ArePlanned entries = (batch : Name) (drawing : Drawing) (word : ℕ)
 undrawn : (entries : List Entry) (act : Act) (batch : Name) (drawing : Drawing) → IsLegal entries
     → IsAllowed entries act → drawing_from batch entries act ≡ Some drawing
     → option_or (second_word batch act) (last_said (second_word batch) entries) ≡ None
-undrawn entries (acts.Draw name mode word) batch drawing legal h is = each (same_name name batch) refl is
+undrawn entries (acts.Draw name mode word) batch drawing legal h is =
+    each (same_name name batch) refl is
   where
     each : (b : Bool) → same_name name batch ≡ b
         → cond {A = Option Drawing} b
-        (Some (record { mode = mode; word = word; packs = numbers_of (population entries batch) })) None
+        (Some (record { mode = mode; word = word; packs = numbers_of (population entries batch) }))
+        None
         ≡ Some drawing → last_said (second_word batch) entries ≡ None
     each true same k =
         (orderly entries legal).single batch
@@ -270,7 +276,8 @@ planned-push entries entry legal lawful all batch drawing word drawn said =
     elim (some_of_two (drawing_from batch entries entry.act) (drawing_of entries batch) drawing
     (sym (drawing_of-push entries entry batch) ∙ drawn)) [
       | inl now ↦
-          let none = undrawn entries entry.act batch drawing legal (allowed entries entry lawful) now in
+          let none = undrawn entries entry.act batch drawing legal
+          (allowed entries entry lawful) now in
           absurd (let wrong : None ≡ Some word =
           sym none ∙ sym (last_said-push (second_word batch) entries entry) ∙ said in cc)
       | inr before ↦ elim (some_of_two (second_word batch entry.act)

@@ -34,7 +34,8 @@ span least most [] h = h
 span least most (reading ∷ some) h =
     let rest = span (day_on reading) most some h.1 in grind (arith, ints, h.0, rest)
 
-pub lower : (least below most : ℤ) (some : List Reading) → below ≤ℤ least → RiseWithin least most some
+pub lower : (least below most : ℤ) (some : List Reading) → below ≤ℤ least
+    → RiseWithin least most some
     → RiseWithin below most some
 lower least below most [] low h = grind (arith, ints, low, h)
 lower least below most (reading ∷ some) low h = (grind (arith, ints, low, h.0), h.1)
@@ -75,7 +76,8 @@ last_day entries = unwrap_or (newest_day entries) (pos 0)
 
 -- the readings of a list up to its newest day
 abbrev pub DaysRise : List Entry → Type 0
-DaysRise entries = (pos 0 ≤ℤ last_day entries) × RiseWithin (pos 0) (last_day entries) (readings entries)
+DaysRise entries = (pos 0 ≤ℤ last_day entries) × RiseWithin (pos 0) (last_day entries)
+    (readings entries)
 
 later_day : (entries : List Entry) (act : Act) → IsAllowed entries act → (pos 0 ≤ℤ last_day entries)
     → last_day entries ≤ℤ unwrap_or (option_or (day_set act) (newest_day entries)) (pos 0)
@@ -105,7 +107,8 @@ rise-push entries entry legal lawful rise =
     subst (λ (d : ℤ). last_day entries ≤ℤ d) (sym now)
     (later_day entries entry.act (allowed entries entry lawful) rise.0) in (
       grind (arith, ints, rise.0, later),
-      subst (RiseWithin (pos 0) (last_day (entries ++ entry ∷ []))) (sym (readings-push entries entry))
+      subst (RiseWithin (pos 0) (last_day (entries ++ entry ∷ [])))
+          (sym (readings-push entries entry))
           (rise-append (pos 0) (last_day entries) (last_day (entries ++ entry ∷ []))
           (map (advance entry.act) (readings entries)) (cons_option (own_reading entries entry) [])
           (rise-advance entry.act (pos 0) (last_day entries) (readings entries) rise.1)
@@ -125,11 +128,13 @@ IsFit reading = (is_within (pos 0) MAX_DAY (day_on reading) ≡ true)
 
 -- the newest day is within the limits, and the readings are
 abbrev AreFit : List Entry → Type 0
-AreFit entries = (is_within (pos 0) MAX_DAY (last_day entries) ≡ true) × All IsFit (readings entries)
+AreFit entries = (is_within (pos 0) MAX_DAY (last_day entries) ≡ true) × All IsFit
+    (readings entries)
 
 day_fits : (entries : List Entry) (act : Act) → IsAllowed entries act
     → is_within (pos 0) MAX_DAY (last_day entries) ≡ true
-    → is_within (pos 0) MAX_DAY (unwrap_or (option_or (day_set act) (newest_day entries)) (pos 0)) ≡ true
+    → is_within (pos 0) MAX_DAY (unwrap_or (option_or (day_set act) (newest_day entries)) (pos 0))
+    ≡ true
 day_fits entries (NewDay day) h before = (new_day_tells entries day h).range
 day_fits entries act h before = before
 

@@ -1,4 +1,4 @@
--- What a written paper says has the form of a paper: names, the row of the closing, and the verdict.
+-- What a written paper says has its form: names, the row of the closing, and the verdict.
 use Rattle.std.proofs.Common.{◌≡◌, ℕ, ℤ, suc, ◌+◌, ◌<◌, Bool, true, false, not, ◌||◌, ◌==◌, cond, inl, inr, List, [], ◌∷◌, ◌++◌, length, Option, Some, None, is_some, refl, sym, ◌∙◌, ap, subst, arith}
 use Rattle.std.specs.List.{list_any, position_or_len}
 use Rattle.std.specs.Option.{option_or}
@@ -88,7 +88,8 @@ any_at test [] h = absurd (cc)
 any_at test (x ∷ some) h = each (test x) refl (any_at test some) h
   where
     each : (b : Bool) → test x ≡ b
-        → (list_any test some ≡ true → position_or_len test some < length some) → (b || list_any test some) ≡ true
+        → (list_any test some ≡ true → position_or_len test some < length some)
+        → (b || list_any test some) ≡ true
         → position_or_len test (x ∷ some) < length (x ∷ some)
     each true is rest k = subst (λ n. n < suc (length some))
         (sym (ap (λ b. cond (not b) (1 + position_or_len test some) 0) is)) (omega arith)
@@ -107,7 +108,8 @@ any_append test [] x = each (test x)
 any_append test (y ∷ some) x =
     ap (λ b. test y || b) (any_append test some x) ∙ each (test y)
   where
-    each : (b : Bool) → (b || (list_any test some || test x)) ≡ ((b || list_any test some) || test x)
+    each : (b : Bool) → (b || (list_any test some || test x))
+        ≡ ((b || list_any test some) || test x)
     each true = refl
     each false = refl
 
@@ -127,7 +129,8 @@ closed-push entries entry legal lawful all batch closed =
       | inr before ↦ ap (λ b. b || is_close_of batch entry.act) (all batch before)
     ]
   where
-    last : (b : Bool) → is_close_of batch entry.act ≡ true → (b || is_close_of batch entry.act) ≡ true
+    last : (b : Bool) → is_close_of batch entry.act ≡ true → (b || is_close_of batch entry.act)
+        ≡ true
     last true h = refl
     last false h = h
 
@@ -144,7 +147,8 @@ closing_within entries batch legal closed =
 -- ---- the verdict
 
 -- a verdict of the book says what fails where it withholds
-pub verdict_said : (entries : List Entry) (batch : Name) → is_verdict_said (verdict_of entries batch) ≡ true
+pub verdict_said : (entries : List Entry) (batch : Name)
+    → is_verdict_said (verdict_of entries batch) ≡ true
 verdict_said entries batch = either (length (population entries batch) == 0)
     (fails_of entries batch (population entries batch) (sample_of entries batch))
   where

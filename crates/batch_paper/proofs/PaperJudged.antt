@@ -44,7 +44,8 @@ use Rattle.batch_paper.proofs.ClosedBatches.{first_counted, second_counted, IsTe
 
 -- ---- lists of picks
 
-take_mapped : {A B : Type 0} (f : A → B) (n : ℕ) (some : List A) → take n (map f some) ≡ map f (take n some)
+take_mapped : {A B : Type 0} (f : A → B) (n : ℕ) (some : List A)
+    → take n (map f some) ≡ map f (take n some)
 take_mapped f zero some = refl
 take_mapped f (suc n) [] = refl
 take_mapped f (suc n) (x ∷ some) = ap (λ ys. f x ∷ ys) (take_mapped f n some)
@@ -63,7 +64,8 @@ is_equal n = grind arith
 
 -- packs that are those drawn stray nowhere
 same_prefix : (entries : List Entry) (mode : Mode) (drawn : List ℕ)
-    → common_prefix_len (λ (pick : Pick) number. pick.pack == number) (map (pick_of entries mode) drawn) drawn
+    → common_prefix_len
+    (λ (pick : Pick) number. pick.pack == number) (map (pick_of entries mode) drawn) drawn
     ≡ length drawn
 same_prefix entries mode [] = refl
 same_prefix entries mode (pack ∷ drawn) =
@@ -76,14 +78,17 @@ same_prefix entries mode (pack ∷ drawn) =
 strays_nowhere : (entries : List Entry) (mode : Mode) (drawn : List ℕ)
     → strays_at drawn (map (pick_of entries mode) drawn) ≡ None
 strays_nowhere entries mode drawn =
-    ap (λ n. cond ((n == length (map (pick_of entries mode) drawn)) && (n == length drawn)) None (Some n))
+    ap (λ n. cond ((n == length (map (pick_of entries mode) drawn)) && (n == length drawn)) None
+    (Some n))
     (same_prefix entries mode drawn)
-    ∙ ap (λ m. cond ((length drawn == m) && (length drawn == length drawn)) None (Some (length drawn)))
+    ∙ ap (λ m. cond ((length drawn == m) && (length drawn == length drawn)) None
+    (Some (length drawn)))
     (length-map drawn (pick_of entries mode))
     ∙ ap (λ b. cond (b && b) None (Some (length drawn))) (is_equal (length drawn))
 
 -- measured packs have no line that isn't
-pub none_unmeasured : (entries : List Entry) (mode : Mode) (some : List ℕ) → first_unmeasured entries some ≡ None
+pub none_unmeasured : (entries : List Entry) (mode : Mode) (some : List ℕ)
+    → first_unmeasured entries some ≡ None
     → All (λ (pick : Pick). is_none pick.weighed ≡ false) (map (pick_of entries mode) some)
 none_unmeasured entries mode [] h = All-nil (λ (pick : Pick). is_none pick.weighed ≡ false)
 none_unmeasured entries mode (pack ∷ some) h =
@@ -93,10 +98,12 @@ none_unmeasured entries mode (pack ∷ some) h =
         → (first_unmeasured entries some ≡ None
         → All (λ (pick : Pick). is_none pick.weighed ≡ false) (map (pick_of entries mode) some))
         → cond (is_none o) (Some pack) (first_unmeasured entries some) ≡ None
-        → All (λ (pick : Pick). is_none pick.weighed ≡ false) (map (pick_of entries mode) (pack ∷ some))
+        → All (λ (pick : Pick). is_none pick.weighed ≡ false)
+        (map (pick_of entries mode) (pack ∷ some))
     each None is rest k = absurd (cc)
     each (Some m) is rest k =
-        All-cons (λ (pick : Pick). is_none pick.weighed ≡ false) (pick_of entries mode pack) (map (pick_of entries mode) some)
+        All-cons (λ (pick : Pick). is_none pick.weighed ≡ false) (pick_of entries mode pack)
+        (map (pick_of entries mode) some)
         (ap (λ (o : Option Measured). is_none (option_map (weighed_of mode) o)) is)
         (rest k)
 
@@ -106,7 +113,8 @@ measured_first entries [] more h = refl
 measured_first entries (pack ∷ some) more h =
     each (is_none (measured_of entries pack)) (measured_first entries some more) h
   where
-    each : (b : Bool) → (first_unmeasured entries (some ++ more) ≡ None → first_unmeasured entries some ≡ None)
+    each : (b : Bool)
+        → (first_unmeasured entries (some ++ more) ≡ None → first_unmeasured entries some ≡ None)
         → cond b (Some pack) (first_unmeasured entries (some ++ more)) ≡ None
         → cond b (Some pack) (first_unmeasured entries some) ≡ None
     each true rest k = absurd (cc)
@@ -118,7 +126,8 @@ measured_rest entries [] more h = h
 measured_rest entries (pack ∷ some) more h =
     each (is_none (measured_of entries pack)) (measured_rest entries some more) h
   where
-    each : (b : Bool) → (first_unmeasured entries (some ++ more) ≡ None → first_unmeasured entries more ≡ None)
+    each : (b : Bool)
+        → (first_unmeasured entries (some ++ more) ≡ None → first_unmeasured entries more ≡ None)
         → cond b (Some pack) (first_unmeasured entries (some ++ more)) ≡ None
         → first_unmeasured entries more ≡ None
     each true rest k = absurd (cc)
@@ -183,25 +192,31 @@ module _ (entries : List Entry) (batch product : Name) (legal : IsLegal entries)
       ∙ contents_among_picks entries batch product legal drawing.mode (second_packs sample)
       (second_counted entries batch sample legal has)
 
-  first_count : defective_picks paper drawing.mode paper.first ≡ first_defective entries batch sample
-  first_count = ap (count_by (is_below (density_of_batch entries batch) (limits_of_batch entries batch).t1))
+  first_count : defective_picks paper drawing.mode paper.first
+      ≡ first_defective entries batch sample
+  first_count =
+      ap (count_by (is_below (density_of_batch entries batch) (limits_of_batch entries batch).t1))
       first_contents
 
-  second_count : defective_picks paper drawing.mode paper.second ≡ second_defective entries batch sample
-  second_count = ap (count_by (is_below (density_of_batch entries batch) (limits_of_batch entries batch).t1))
+  second_count : defective_picks paper drawing.mode paper.second
+      ≡ second_defective entries batch sample
+  second_count =
+      ap (count_by (is_below (density_of_batch entries batch) (limits_of_batch entries batch).t1))
       second_contents
 
   contents_right : contents_check_in paper draw ≡ contents_check_accepts entries batch sample
   contents_right =
       ap (λ (s : Sample). contents_accepts s.plan (defective_picks paper drawing.mode paper.first)
       (defective_picks paper drawing.mode paper.second)) same_sample
-      ∙ ap (λ n. contents_accepts sample.plan n (defective_picks paper drawing.mode paper.second)) first_count
+      ∙ ap (λ n. contents_accepts sample.plan n (defective_picks paper drawing.mode paper.second))
+      first_count
       ∙ ap (contents_accepts sample.plan (first_defective entries batch sample)) second_count
 
   mean_contents : contents_of_picks paper drawing.mode (take sample.plan.mean_n paper.first)
       ≡ contents_among entries drawing.mode (take sample.plan.mean_n sample.first)
   mean_contents =
-      ap (λ (picks : List Pick). contents_of_picks paper drawing.mode (take sample.plan.mean_n picks)) first_is
+      ap (λ (picks : List Pick). contents_of_picks paper drawing.mode
+      (take sample.plan.mean_n picks)) first_is
       ∙ ap (contents_of_picks paper drawing.mode)
       (take_mapped (pick_of entries drawing.mode) sample.plan.mean_n sample.first)
       ∙ contents_among_picks entries batch product legal drawing.mode
@@ -226,7 +241,9 @@ module _ (entries : List Entry) (batch product : Name) (legal : IsLegal entries)
   sum = ap total nets ∙ same_sum (net_of_reading entries) some
 
   below : (limit : ℤ) → below_count paper limit (nets_of paper.tares paper.packs)
-      ≡ count_by (λ (r : Reading). is_below (density_of_batch entries batch) limit (net_of_reading entries r)) some
+      ≡ count_by
+      (λ (r : Reading). is_below (density_of_batch entries batch) limit (net_of_reading entries r))
+      some
   below limit = ap (count_by (is_below (density_of_batch entries batch) limit)) nets
       ∙ same_count (is_below (density_of_batch entries batch) limit) (net_of_reading entries) some
 
@@ -247,7 +264,8 @@ module _ (entries : List Entry) (batch product : Name) (legal : IsLegal entries)
 
   fails_right : fails_in_nets paper draw (nets_of paper.tares paper.packs)
       ≡ fails_of entries batch some (Some sample)
-  fails_right = λ i. fails_by (contents_right i) (mean_right i) (average_right i) (allowance_right i)
+  fails_right =
+      λ i. fails_by (contents_right i) (mean_right i) (average_right i) (allowance_right i)
       (inadequate_right i)
 
   pub some_packs : (length some == 0) ≡ false
@@ -276,20 +294,26 @@ module _ (entries : List Entry) (batch product : Name) (legal : IsLegal entries)
   -- ---- the draws
 
   open_right : needs_second paper draw ≡ is_open sample.plan (first_defective entries batch sample)
-  open_right = ap (λ (s : Sample). is_open s.plan (defective_picks paper drawing.mode paper.first)) same_sample
+  open_right =
+      ap (λ (s : Sample). is_open s.plan (defective_picks paper drawing.mode paper.first))
+      same_sample
       ∙ ap (is_open sample.plan) first_count
 
   first_strays : stray_line (first_line paper) (sample_in paper draw).first paper.first ≡ None
   first_strays =
       ap (λ (s : Sample). stray_line (first_line paper) s.first paper.first) same_sample
       ∙ ap (stray_line (first_line paper) sample.first) first_is
-      ∙ ap (option_map (λ place. first_line paper + place)) (strays_nowhere entries drawing.mode sample.first)
+      ∙ ap (option_map
+      (λ place. first_line paper + place)) (strays_nowhere entries drawing.mode sample.first)
 
-  second_strays : stray_line (second_line paper) (second_packs (sample_in paper draw)) paper.second ≡ None
+  second_strays : stray_line (second_line paper) (second_packs (sample_in paper draw)) paper.second
+      ≡ None
   second_strays =
       ap (λ (s : Sample). stray_line (second_line paper) (second_packs s) paper.second) same_sample
       ∙ ap (stray_line (second_line paper) (second_packs sample)) second_is
-      ∙ ap (option_map (λ place. second_line paper + place)) (strays_nowhere entries drawing.mode (second_packs sample))
+      ∙ ap (option_map
+      (λ place. second_line paper + place))
+      (strays_nowhere entries drawing.mode (second_packs sample))
 
   module _ (right : IsTested entries batch) where
     not_needed : word ≡ None → needs_second paper draw ≡ false
@@ -306,7 +330,8 @@ module _ (entries : List Entry) (batch product : Name) (legal : IsLegal entries)
         ap (λ (picks : List Pick). option_map (λ place. second_line paper + place)
         (position (λ (pick : Pick). is_none pick.weighed) picks)) second_is
         ∙ ap (option_map (λ place. second_line paper + place))
-        (none_at (λ (pick : Pick). is_none pick.weighed) (map (pick_of entries drawing.mode) (second_packs sample))
+        (none_at (λ (pick : Pick). is_none pick.weighed)
+        (map (pick_of entries drawing.mode) (second_packs sample))
         (none_unmeasured entries drawing.mode (second_packs sample)
         (measured_rest entries sample.first (second_packs sample)
         (sym (ap (λ b. first_unmeasured entries (sample.first ++ cond b (second_packs sample) []))
@@ -328,10 +353,12 @@ module _ (entries : List Entry) (batch product : Name) (legal : IsLegal entries)
             ap (λ (o : Option ℕ). cond (is_none o) (cond (needs_second paper draw)
             (Some (verdict_line paper)) None) (given_second_fault paper draw)) is
             ∙ ap (λ (s : Sample). cond (s.plan.second == 0) (Some (after_first paper))
-            (earlier_line (stray_line (second_line paper) (second_packs (sample_in paper draw)) paper.second)
+            (earlier_line
+            (stray_line (second_line paper) (second_packs (sample_in paper draw)) paper.second)
             (cond (needs_second paper draw) (unmeasured_line paper) None))) same_sample
             ∙ ap (λ b. cond b (Some (after_first paper))
-            (earlier_line (stray_line (second_line paper) (second_packs (sample_in paper draw)) paper.second)
+            (earlier_line
+            (stray_line (second_line paper) (second_packs (sample_in paper draw)) paper.second)
             (cond (needs_second paper draw) (unmeasured_line paper) None)))
             (planned entries legal batch drawing w drawn is)
             ∙ ap (λ (o : Option ℕ). earlier_line o
@@ -340,7 +367,8 @@ module _ (entries : List Entry) (batch product : Name) (legal : IsLegal entries)
 
     draws_right : draw_fault paper ≡ None
     draws_right =
-        ap (option_and_then (λ (d : draws.Draw). samples_fault paper d (plan_of (length paper.packs) d.mode)))
+        ap (option_and_then
+        (λ (d : draws.Draw). samples_fault paper d (plan_of (length paper.packs) d.mode)))
         is_drawn
         ∙ each (plan_of (length paper.packs) drawing.mode) refl
       where
@@ -381,7 +409,8 @@ judged_as_book entries batch product legal closed = each (drawing_of entries bat
     each None is =
         ap (λ (o : Option Drawing). option_map_or (λ (d : draws.Draw). verdict_by_fails
         (fails_in_nets (paper_by entries batch product) d
-        (nets_of (tares_of entries batch) (packs_of entries batch)))) (option_map draw_by o) Empty) is
+        (nets_of (tares_of entries batch) (packs_of entries batch)))) (option_map draw_by o) Empty)
+        is
         ∙ sym (ap (λ (rs : List Reading). cond (length rs == 0) Empty (verdict_by_fails
         (fails_of entries batch rs (sample_of entries batch))))
         (undrawn_empty entries batch legal closed is))

@@ -23,7 +23,8 @@ last_step (Some x) w rest = refl
 
 -- ---- the whole text
 
-nested : (t p m f w s v : List lines.Line) → t ++ p ++ m ++ f ++ w ++ s ++ v ≡ t ++ p ++ (m ++ f ++ w ++ s) ++ v
+nested : (t p m f w s v : List lines.Line) → t ++ p ++ m ++ f ++ w ++ s ++ v ≡ t ++ p
+    ++ (m ++ f ++ w ++ s) ++ v
 nested t p m f w s v = simp append_assoc
 
 six_parts : (a b c d e f : List ℕ)
@@ -85,18 +86,21 @@ pick_text word number (Some weighed) = refl
 pub three_pieces : (start a b c : List ℕ) → start ++ a ++ b ++ c ≡ start ++ ((a ++ b) ++ c)
 three_pieces start a b c = simp append_assoc
 
-pub tare_pieces : (start a b c d e : List ℕ) → start ++ a ++ b ++ (c ++ d) ++ e ≡ start ++ ((a ++ (b ++ (c ++ d))) ++ e)
+pub tare_pieces : (start a b c d e : List ℕ) → start ++ a ++ b ++ (c ++ d) ++ e ≡ start
+    ++ ((a ++ (b ++ (c ++ d))) ++ e)
 tare_pieces start a b c d e = simp append_assoc
 
 pub pack_pieces : (start a b c d e f g : List ℕ)
-    → start ++ (a ++ b) ++ c ++ d ++ (e ++ f) ++ g ≡ start ++ ((a ++ (b ++ (c ++ (d ++ (e ++ f))))) ++ g)
+    → start ++ (a ++ b) ++ c ++ d ++ (e ++ f) ++ g ≡ start
+    ++ ((a ++ (b ++ (c ++ (d ++ (e ++ f))))) ++ g)
 pack_pieces start a b c d e f g = simp append_assoc
 
 pub mode_pieces : (start a b c d e : List ℕ)
     → start ++ a ++ b ++ c ++ d ++ e ≡ start ++ ((a ++ (b ++ (c ++ d))) ++ e)
 mode_pieces start a b c d e = simp append_assoc
 
-pub pick_pieces : (start a b c d : List ℕ) → start ++ (a ++ b) ++ c ++ d ≡ start ++ ((a ++ (b ++ c)) ++ d)
+pub pick_pieces : (start a b c d : List ℕ) → start ++ (a ++ b) ++ c ++ d ≡ start
+    ++ ((a ++ (b ++ c)) ++ d)
 pick_pieces start a b c d = simp append_assoc
 
 pub goods_pieces : (start a b c d e f g h i j k l m : List ℕ)

@@ -71,7 +71,8 @@ own_tare entries batch reading own =
 -- the lines of tares give a reading's line its tare
 abbrev HasLine : List Entry → Name → List DatedTare → Reading → Type 0
 HasLine entries batch tares reading =
-    tare_on tares ((pack_of reading).day) ≡ Some ((tare_for entries batch ((pack_of reading).day)).tare)
+    tare_on tares ((pack_of reading).day)
+    ≡ Some ((tare_for entries batch ((pack_of reading).day)).tare)
 
 pub of_mapped : {A B : Type 0} (P : B → Type 0) (f : A → B) (some : List A) → All P (map f some)
     → All (λ x. P (f x)) some
@@ -92,7 +93,8 @@ own_net : (entries : List Entry) (batch : Name) (tares : List DatedTare) (readin
     ≡ Some (gross -ℤ unwrap_or (tare_of_reading entries reading.batch reading.day) (pos 0))
 own_net entries batch tares reading gross line own =
     ap (option_map (λ (tare : ℤ). gross -ℤ tare)) line
-    ∙ sym (ap (λ (t : Option ℤ). Some (gross -ℤ unwrap_or t (pos 0))) (own_tare entries batch reading own))
+    ∙ sym (ap
+    (λ (t : Option ℤ). Some (gross -ℤ unwrap_or t (pos 0))) (own_tare entries batch reading own))
 
 all_there : {A B C : Type 0} (f : B → Option C) (g : A → B) (h : A → C) (some : List A)
     → All (λ x. f (g x) ≡ Some (h x)) some → filter_map f (map g some) ≡ map h some
@@ -179,7 +181,8 @@ find_mapped pack (r ∷ rs) = each (r.number == pack) (find_mapped pack rs)
     each false h = h
 
 -- its line is found by its number
-pub pack_found : (entries : List Entry) (batch : Name) (pack : ℕ) (is : IsCounted entries batch pack)
+pub pack_found : (entries : List Entry) (batch : Name) (pack : ℕ)
+    (is : IsCounted entries batch pack)
     → find (λ (r : Reading). r.number == pack) (population entries batch) ≡ Some is.reading
 pack_found entries batch pack is =
     found_still (λ (r : Reading). r.number == pack)
@@ -202,9 +205,11 @@ module _ (entries : List Entry) (batch product : Name) (legal : IsLegal entries)
       ≡ Some (gross -ℤ unwrap_or (tare_of_reading entries is.reading.batch is.reading.day) (pos 0))
   kept pack is gross =
       ap (option_and_then (λ (p : packs.Pack). net_on (tares_of entries batch) p.day gross))
-      (find_mapped pack (population entries batch) ∙ ap (option_map pack_of) (pack_found entries batch pack is))
+      (find_mapped pack (population entries batch)
+      ∙ ap (option_map pack_of) (pack_found entries batch pack is))
       ∙ own_net entries batch (tares_of entries batch) is.reading gross
-      (of_counted (HasLine entries batch (tares_of entries batch)) (each_has_line entries batch) pack is)
+      (of_counted (HasLine entries batch (tares_of entries batch))
+      (each_has_line entries batch) pack is)
       (of_counted (IsOwn batch) (each_own entries batch legal) pack is)
 
   measured_contents : (mode : Mode) (pack : ℕ) → (is : IsCounted entries batch pack)
@@ -217,7 +222,8 @@ module _ (entries : List Entry) (batch product : Name) (legal : IsLegal entries)
 
   -- the contents of a drawn pack
   pub same_contents : (mode : Mode) (pack : ℕ) → IsCounted entries batch pack
-      → contents_of_pick (paper_by entries batch product) mode (pick_of entries mode pack) ≡ contents_of_pack entries mode pack
+      → contents_of_pick (paper_by entries batch product) mode (pick_of entries mode pack)
+      ≡ contents_of_pack entries mode pack
   same_contents mode pack is =
       measured_contents mode pack is (measured_of entries pack)
       ∙ sym (ap (option_and_then (λ (r : Reading). option_map (actual_contents entries mode r)

@@ -1,5 +1,6 @@
 -- The paper of a closed batch is the paper of its data, and the check of papers finds it true.
-use Rattle.std.proofs.Common.{◌≡◌, ℕ, ◌^◌, ◌==◌, Bool, true, false, List, [], length, map, Option, Some, None, is_none, is_some, option_map, Ok, refl, sym, ◌∙◌, ap, subst, length-map}
+use Rattle.std.proofs.Common.{◌≡◌, ◌≤◌, ℕ, ◌^◌, ◌==◌, Bool, true, false, List, [], length, map, Option, Some, None, is_none, is_some, option_map, Ok, refl, sym, ◌∙◌, ap, subst}
+use Rattle.std.proofs.lemmas.List.{length-map}
 use Rattle.std.specs.Option.{option_map_or}
 use Rattle.std.specs.List.{All, AllPass, list_all}
 use Rattle.std.proofs.lemmas.Bool.{lt-ltb}
@@ -16,6 +17,7 @@ use Rattle.book_words.specs.Measures.{first_unmeasured}
 use Rattle.book_words.specs.Answers.{IsLegal}
 use Rattle.paper_form.specs.declared.types.Draw as draws
 use Rattle.paper_form.specs.declared.types.Pick.{Pick}
+use Rattle.paper_form.specs.declared.types.TheConstants.{MAX_PAPER}
 use Rattle.paper_form.specs.Papers.{PaperData, paper_text}
 use Rattle.paper_form.specs.Form.{is_pick_right, paper_in}
 use Rattle.paper_form.specs.Ranges.{IsPaper, is_word, is_measured}
@@ -43,7 +45,8 @@ all_told : (picks : List Pick) → All (λ (pick : Pick). is_none pick.weighed �
     → list_all is_measured picks ≡ true
 all_told picks all =
     list_all_of is_measured picks
-    (All-weaker (λ (pick : Pick). is_none pick.weighed ≡ false) (λ (pick : Pick). is_measured pick ≡ true)
+    (All-weaker
+    (λ (pick : Pick). is_none pick.weighed ≡ false) (λ (pick : Pick). is_measured pick ≡ true)
     (λ pick h. each pick.weighed h) picks all)
   where
     each : {A : Type 0} (o : Option A) → is_none o ≡ false → is_some o ≡ true
@@ -51,7 +54,8 @@ all_told picks all =
     each (Some x) h = refl
 
 module _ (entries : List Entry) (batch product : Name) (legal : IsLegal entries)
-    (closed : state_of entries batch ≡ Some Closed) (known : product_of entries batch ≡ Some product) where
+    (closed : state_of entries batch ≡ Some Closed)
+    (known : product_of entries batch ≡ Some product) where
   abbrev paper : PaperData
   paper = paper_by entries batch product
 
@@ -65,20 +69,24 @@ module _ (entries : List Entry) (batch product : Name) (legal : IsLegal entries)
   no_first is = ap (λ (o : Option Sample). option_map_or (first_picks entries) o []) (no_sample is)
 
   no_second : drawing_of entries batch ≡ None → paper.second ≡ []
-  no_second is = ap (λ (o : Option Sample). option_map_or (second_picks entries) o []) (no_sample is)
+  no_second is =
+      ap (λ (o : Option Sample). option_map_or (second_picks entries) o []) (no_sample is)
 
   unsaid : drawing_of entries batch ≡ None → second ≡ None
   unsaid is = none_said second (drawing_of entries batch) (follows second refl) is
     where
-      follows : (o : Option ℕ) → second ≡ o → is_some second ≡ true → is_some (drawing_of entries batch) ≡ true
-      follows None said there = absurd (let wrong : false ≡ true = sym (ap is_some said) ∙ there in cc)
+      follows : (o : Option ℕ) → second ≡ o → is_some second ≡ true
+          → is_some (drawing_of entries batch) ≡ true
+      follows None said there =
+          absurd (let wrong : false ≡ true = sym (ap is_some said) ∙ there in cc)
       follows (Some word) said there = seconds_follow entries legal batch word said
 
   -- a draw is told just where there are packs
   drawn_or_empty : (o : Option Drawing) → drawing_of entries batch ≡ o
       → is_none (option_map draw_by o) ≡ (length paper.packs == 0)
   drawn_or_empty None is =
-      sym (ap (λ (rs : List Reading). length (map pack_of rs) == 0) (undrawn_empty entries batch legal closed is))
+      sym (ap (λ (rs : List Reading). length (map pack_of rs) == 0)
+      (undrawn_empty entries batch legal closed is))
   drawn_or_empty (Some drawing) is =
       sym (ap (λ n. n == 0) (length-map (population entries batch) pack_of)
       ∙ some_packs entries batch product legal drawing is)
@@ -89,13 +97,15 @@ module _ (entries : List Entry) (batch product : Name) (legal : IsLegal entries)
   measured (Some sample) is =
       all_told (first_picks entries sample)
       (none_unmeasured entries sample.mode sample.first
-      (measured_first entries sample.first _ ((tested entries legal batch closed).measured sample is)))
+      (measured_first entries sample.first _
+      ((tested entries legal batch closed).measured sample is)))
 
   first_right : (o : Option Drawing) → drawing_of entries batch ≡ o
       → list_all (is_pick_right (option_map draw_by o)) paper.first ≡ true
   first_right None is = ap (list_all (is_pick_right None)) (no_first is)
   first_right (Some drawing) is =
-      ap (list_all (is_pick_right (Some (draw_by drawing)))) (first_is entries batch product legal drawing is)
+      ap (list_all (is_pick_right (Some (draw_by drawing))))
+      (first_is entries batch product legal drawing is)
       ∙ list_all_of (is_pick_right (Some (draw_by drawing))) _
       (empties_right entries drawing (sample_by drawing second).first)
 
@@ -103,12 +113,14 @@ module _ (entries : List Entry) (batch product : Name) (legal : IsLegal entries)
       → list_all (is_pick_right (option_map draw_by o)) paper.second ≡ true
   second_right None is = ap (list_all (is_pick_right None)) (no_second is)
   second_right (Some drawing) is =
-      ap (list_all (is_pick_right (Some (draw_by drawing)))) (second_is entries batch product legal drawing is)
+      ap (list_all (is_pick_right (Some (draw_by drawing))))
+      (second_is entries batch product legal drawing is)
       ∙ list_all_of (is_pick_right (Some (draw_by drawing))) _
       (empties_right entries drawing (second_packs (sample_by drawing second)))
 
   -- without a draw there are no samples
-  undrawn : (o : Option Drawing) → drawing_of entries batch ≡ o → is_none (option_map draw_by o) ≡ true
+  undrawn : (o : Option Drawing) → drawing_of entries batch ≡ o → is_none (option_map draw_by o)
+      ≡ true
       → (paper.first ≡ []) × (is_none paper.second_word ≡ true)
   undrawn None is h = (no_first is, ap is_none (unsaid is))
   undrawn (Some drawing) is h = absurd (cc)
@@ -119,7 +131,8 @@ module _ (entries : List Entry) (batch product : Name) (legal : IsLegal entries)
   wordless None w is said h = no_second is
   wordless (Some drawing) None is said h =
       second_is entries batch product legal drawing is
-      ∙ ap (λ (v : Option ℕ). map (pick_of entries drawing.mode) (second_packs (sample_by drawing v))) said
+      ∙ ap (λ (v : Option ℕ). map (pick_of entries drawing.mode)
+      (second_packs (sample_by drawing v))) said
   wordless (Some drawing) (Some word) is said h = absurd (cc)
 
   -- what the list says of a closed batch is the data of a paper
@@ -128,7 +141,8 @@ module _ (entries : List Entry) (batch product : Name) (legal : IsLegal entries)
       record {
         listed = is_listed entries batch product legal closed known;
         drawn = drawn_or_empty (drawing_of entries batch) refl;
-        word = word_said (drawing_of entries batch) (subst IsWordOf (words_tell entries legal batch) one);
+        word = word_said (drawing_of entries batch)
+            (subst IsWordOf (words_tell entries legal batch) one);
         second_word = second_said second two;
         measured = measured (sample_of entries batch) refl;
         first_right = first_right (drawing_of entries batch) refl;
@@ -139,9 +153,10 @@ module _ (entries : List Entry) (batch product : Name) (legal : IsLegal entries)
       }
 
   -- the text of what the list says of a closed batch is its paper
-  pub paper_right : (bytes : List ℕ) → IsWordOf (last_said (first_word batch) entries) → IsWordOf second
-      → bytes ≡ paper_text paper → IsPaperOf entries batch bytes
-  paper_right bytes one two text =
+  pub paper_right : (bytes : List ℕ) → IsWordOf (last_said (first_word batch) entries)
+      → IsWordOf second
+      → bytes ≡ paper_text paper → length bytes ≤ MAX_PAPER → IsPaperOf entries batch bytes
+  paper_right bytes one two text short =
       let whole : IsPaper paper = is_paper one two in
       let read : paper_in bytes ≡ Ok paper = paper_read bytes paper whole text in
       record {
@@ -149,6 +164,7 @@ module _ (entries : List Entry) (batch product : Name) (legal : IsLegal entries)
         paper = paper;
         written = ap (option_map (paper_by entries batch)) known;
         text = text;
+        short = short;
         whole = whole;
         read = read;
         proven = record {

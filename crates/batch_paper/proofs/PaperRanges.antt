@@ -58,7 +58,8 @@ nominal_right entries batch product legal known =
 
 -- ---- the packs
 
-pub each_fit : (entries : List Entry) (batch : Name) → IsLegal entries → All IsFit (population entries batch)
+pub each_fit : (entries : List Entry) (batch : Name) → IsLegal entries
+    → All IsFit (population entries batch)
 each_fit entries batch legal =
     All-filter (λ (r : Reading). is_of_batch batch r && is_counted r) IsFit (readings entries)
     (each_fits entries legal)
@@ -67,7 +68,9 @@ pub packs_right : (entries : List Entry) (batch : Name) → IsLegal entries
     → AllPass is_pack_right (packs_of entries batch)
 packs_right entries batch legal =
     All-map (λ (p : packs.Pack). is_pack_right p ≡ true) pack_of (population entries batch)
-    (All-weaker IsFit (λ (r : Reading). is_pack_right (pack_of r) ≡ true) (λ r fit. and_from _ _ fit.0 fit.1) (population entries batch)
+    (All-weaker IsFit
+    (λ (r : Reading). is_pack_right (pack_of r) ≡ true) (λ r fit. and_from _ _ fit.0 fit.1)
+    (population entries batch)
     (each_fit entries batch legal))
 
 -- ---- the tares
@@ -90,29 +93,35 @@ tare_fits entries batch day legal fit =
     (no_tare (tare_of_batch entries batch day) (tare_within entries (Some batch) (Some day) legal)))
 
 pub tares_fit : (entries : List Entry) (batch : Name) → IsLegal entries
-    → AllPass (λ day. is_tare_in_range (tare_for entries batch day)) (days_of (packs_of entries batch))
+    → AllPass
+    (λ day. is_tare_in_range (tare_for entries batch day)) (days_of (packs_of entries batch))
 tares_fit entries batch legal =
     All-weaker IsFitDay (λ (day : ℤ). is_tare_in_range (tare_for entries batch day) ≡ true)
     (λ day fit. tare_fits entries batch day legal fit) (days_of (packs_of entries batch))
     (All-dedup int_eq IsFitDay (map (λ (p : packs.Pack). p.day) (packs_of entries batch))
     (All-map IsFitDay (λ (p : packs.Pack). p.day) (packs_of entries batch)
     (All-map (λ (p : packs.Pack). IsFitDay p.day) pack_of (population entries batch)
-    (All-weaker IsFit (λ (r : Reading). IsFitDay (day_on r)) (λ r fit. fit.0) (population entries batch)
+    (All-weaker IsFit
+    (λ (r : Reading). IsFitDay (day_on r)) (λ r fit. fit.0) (population entries batch)
     (each_fit entries batch legal)))))
 
 -- ---- what was measured
 
 pub pick_right : (entries : List Entry) (mode : Mode) (pack : ℕ) → IsLegal entries
     → is_pick_weighed (pick_of entries mode pack) ≡ true
-pick_right entries mode pack legal = each mode (measured_of entries pack) (measured_within entries pack legal)
+pick_right entries mode pack legal = each mode (measured_of entries pack)
+    (measured_within entries pack legal)
   where
     each : (m : Mode) (o : Option Measured) → IfSome o
-        (λ measured. IsBetween (pos 0) MAX_GROSS measured.gross × IsBetween (pos 0) MAX_TARE measured.empty)
+        (λ measured. IsBetween (pos 0) MAX_GROSS measured.gross × IsBetween
+        (pos 0) MAX_TARE measured.empty)
         → option_map_or is_weighed_in_range (option_map (weighed_of m) o) true ≡ true
     each m None h = refl
-    each Keep (Some w) h = and_from (is_within (pos 0) MAX_GROSS w.gross) (is_within (pos 0) MAX_TARE (pos 0))
+    each Keep (Some w) h = and_from (is_within (pos 0) MAX_GROSS w.gross)
+        (is_within (pos 0) MAX_TARE (pos 0))
         (within (pos 0) MAX_GROSS w.gross h.0) refl
-    each Destroy (Some w) h = and_from (is_within (pos 0) MAX_GROSS w.gross) (is_within (pos 0) MAX_TARE w.empty)
+    each Destroy (Some w) h = and_from (is_within (pos 0) MAX_GROSS w.gross)
+        (is_within (pos 0) MAX_TARE w.empty)
         (within (pos 0) MAX_GROSS w.gross h.0) (within (pos 0) MAX_TARE w.empty h.1)
 
 pub picks_weighed : (entries : List Entry) (mode : Mode) (some : List ℕ) → IsLegal entries

@@ -32,12 +32,14 @@ use Rattle.batch_paper.proofs.ClosedBatches.{second_draw, some_of_two}
 either_word : (entries : List Entry) (batch : Name) (act : Act) (o : Option ℕ) (d : Option Drawing)
     → o ≡ option_map (λ (drawing : Drawing). drawing.word) d
     → option_or (first_word batch act) o
-    ≡ option_map (λ (drawing : Drawing). drawing.word) (option_or (drawing_from batch entries act) d)
+    ≡ option_map
+    (λ (drawing : Drawing). drawing.word) (option_or (drawing_from batch entries act) d)
 either_word entries batch (acts.Draw name mode word) o d h = each (same_name name batch)
   where
     each : (b : Bool) → option_or (cond b (Some word) None) o
         ≡ option_map (λ (drawing : Drawing). drawing.word) (option_or (cond b (Some
-        (record { mode = mode; word = word; packs = numbers_of (population entries batch) })) None) d)
+        (record { mode = mode; word = word; packs = numbers_of (population entries batch) })) None)
+        d)
     each true = refl
     each false = h
 either_word entries batch act o d h = h
@@ -52,13 +54,16 @@ words_tell =
     legal_steps WordsTell (λ batch. refl)
     (λ before entry legal lawful all batch.
     last_said-push (first_word batch) before entry
-    ∙ either_word before batch entry.act (last_said (first_word batch) before) (drawing_of before batch)
+    ∙ either_word before batch entry.act (last_said (first_word batch) before)
+    (drawing_of before batch)
     (all batch)
-    ∙ sym (ap (option_map (λ (drawing : Drawing). drawing.word)) (drawing_of-push before entry batch)))
+    ∙ sym (ap
+    (option_map (λ (drawing : Drawing). drawing.word)) (drawing_of-push before entry batch)))
 
 -- a second sample is drawn only behind a first one
 abbrev SecondsFollow : List Entry → Type 0
-SecondsFollow entries = (batch : Name) (word : ℕ) → last_said (second_word batch) entries ≡ Some word
+SecondsFollow entries = (batch : Name) (word : ℕ) → last_said (second_word batch) entries
+    ≡ Some word
     → is_some (drawing_of entries batch) ≡ true
 
 some_or : {A : Type 0} (o p : Option A) → is_some p ≡ true → is_some (option_or o p) ≡ true
@@ -74,7 +79,8 @@ follow-push entries entry legal lawful all batch word said =
     (sym (last_said-push (second_word batch) entries entry) ∙ said)) [
       | inl now ↦
           let told = draws_second entries batch word legal
-          (allowed_act entries entry (acts.DrawSecond batch word) lawful (second_draw batch entry.act word now)) in
+          (allowed_act entries entry (acts.DrawSecond batch word) lawful
+          (second_draw batch entry.act word now)) in
           ap is_some told.drawn
       | inr before ↦ all batch word before
     ])
@@ -84,7 +90,8 @@ seconds_follow = legal_steps SecondsFollow (λ batch word said. absurd (cc)) fol
 
 -- ---- the lines
 
-pub none_said : {A : Type 0} (o : Option A) (d : Option Drawing) → (is_some o ≡ true → is_some d ≡ true) → d ≡ None
+pub none_said : {A : Type 0} (o : Option A) (d : Option Drawing)
+    → (is_some o ≡ true → is_some d ≡ true) → d ≡ None
     → o ≡ None
 none_said None d h is = refl
 none_said (Some x) d h is = absurd (let wrong : false ≡ true = sym (ap is_some is) ∙ h refl in cc)
@@ -124,7 +131,8 @@ module _ (entries : List Entry) (batch product : Name) (legal : IsLegal entries)
 
   same_lines : (sample : Sample) → sample_of entries batch ≡ Some sample
       → sample_lines (paper_by entries batch product)
-      ≡ (line.Mode (mode_of sample) ∷ []) ++ map (pick_line First) (first_picks entries sample) ++ words
+      ≡ (line.Mode (mode_of sample) ∷ []) ++ map (pick_line First) (first_picks entries sample)
+      ++ words
       ++ map (pick_line Second) (second_picks entries sample)
   same_lines sample is =
       ap (λ (o : Option draws.Draw). map (λ draw. line.Mode draw) (option_to_list o)
@@ -147,7 +155,8 @@ module _ (entries : List Entry) (batch product : Name) (legal : IsLegal entries)
       (flat_map line_text (map (pick_line Second) (second_picks entries sample)))
       ∙ ap (λ (rest : List ℕ). start ++ rest)
       (sym (ap (flat_map line_text) (same_lines sample is)
-      ∙ text_parts (line.Mode (mode_of sample) ∷ []) (map (pick_line First) (first_picks entries sample))
+      ∙ text_parts (line.Mode (mode_of sample) ∷ [])
+      (map (pick_line First) (first_picks entries sample))
       words (map (pick_line Second) (second_picks entries sample))))
 
   -- the lines of a drawn sample behind a text
@@ -160,7 +169,8 @@ module _ (entries : List Entry) (batch product : Name) (legal : IsLegal entries)
       ++ flat_map line_text (map (pick_line Second) (second_picks entries sample))
       ≡ start ++ flat_map line_text (sample_lines (paper_by entries batch product))
   drawn_told sample start one two is one_is two_is =
-      ap (λ (o : Option ℕ). start ++ line_text (line.Mode (record { mode = sample.mode; word = unwrap_or o 0 }))
+      ap (λ (o : Option ℕ). start
+      ++ line_text (line.Mode (record { mode = sample.mode; word = unwrap_or o 0 }))
       ++ flat_map line_text (map (pick_line First) (first_picks entries sample))
       ++ flat_map line_text (map (λ word. line.Word word) (option_to_list two))
       ++ flat_map line_text (map (pick_line Second) (second_picks entries sample))) one_is
@@ -170,7 +180,8 @@ module _ (entries : List Entry) (batch product : Name) (legal : IsLegal entries)
       ++ flat_map line_text (map (pick_line Second) (second_picks entries sample))) two_is
       ∙ drawn_behind sample start is
 
-  follows : (o : Option ℕ) → second ≡ o → is_some second ≡ true → is_some (drawing_of entries batch) ≡ true
+  follows : (o : Option ℕ) → second ≡ o → is_some second ≡ true → is_some (drawing_of entries batch)
+      ≡ true
   follows None said there = absurd (let wrong : false ≡ true = sym (ap is_some said) ∙ there in cc)
   follows (Some word) said there = seconds_follow entries legal batch word said
 
@@ -181,7 +192,8 @@ module _ (entries : List Entry) (batch product : Name) (legal : IsLegal entries)
       none_mapped (λ (d : Drawing). sample_by d second) (drawing_of entries batch) is in
       let unsaid : second ≡ None =
       none_said second (drawing_of entries batch) (follows second refl) undrawn in
-      ap (λ (o : Option Drawing). map (λ draw. line.Mode draw) (option_to_list (option_map draw_by o))
+      ap (λ (o : Option Drawing). map (λ draw. line.Mode draw)
+      (option_to_list (option_map draw_by o))
       ++ map (pick_line First) (paper_by entries batch product).first ++ words
       ++ map (pick_line Second) (paper_by entries batch product).second) undrawn
       ∙ ap (λ (o : Option Sample). map (pick_line First) (option_map_or (first_picks entries) o [])

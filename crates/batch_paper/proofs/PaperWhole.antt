@@ -69,7 +69,8 @@ less a b x z = elim (cases_Bool (a == b)) [
 ]
 
 above_of : (a b : ℤ) → pos 0 ≤ℤ a → a ≤ℤ b → ((b ≡ a) → ⊥) → unsigned_abs a + 1 ≤ unsigned_abs b
-above_of (pos a) (pos b) x y z = less a b (let order : a ≤ b = grind (arith, ints, y) in order) (λ e. z (ap pos e))
+above_of (pos a) (pos b) x y z = less a b (let order : a ≤ b = grind (arith, ints, y) in order)
+    (λ e. z (ap pos e))
 above_of (pos a) (negsuc b) x y z = absurd (grind (arith, ints, y))
 above_of (negsuc a) b x y z = absurd (grind (arith, ints, x))
 
@@ -77,8 +78,11 @@ above_of (negsuc a) b x y z = absurd (grind (arith, ints, x))
 days_ascend : (last most : ℤ) (some : List Reading) → pos 0 ≤ℤ last → RiseWithin last most some
     → AscendWithin (unsigned_abs last) (unsigned_abs most)
     (map unsigned_abs (dedup_from int_eq last (map day_on some)))
-days_ascend last most [] low h =
-    (omega arith, (let order : unsigned_abs last ≤ unsigned_abs most = grind (arith, ints, low, h) in order), tt)
+days_ascend last most [] low h = (
+  omega arith,
+  (let order : unsigned_abs last ≤ unsigned_abs most = grind (arith, ints, low, h) in order),
+  tt,
+)
 days_ascend last most (r ∷ rs) low h =
     each (int_eq (day_on r) last) refl
     (λ here. days_ascend last most rs low here)
@@ -90,7 +94,8 @@ days_ascend last most (r ∷ rs) low h =
         → (pos 0 ≤ℤ day_on r → AscendWithin (unsigned_abs (day_on r)) (unsigned_abs most)
         (map unsigned_abs (dedup_from int_eq (day_on r) (map day_on rs))))
         → AscendWithin (unsigned_abs last) (unsigned_abs most) (map unsigned_abs
-        (cond b (dedup_from int_eq last (map day_on rs)) (last ∷ dedup_from int_eq (day_on r) (map day_on rs))))
+        (cond b (dedup_from int_eq last (map day_on rs))
+        (last ∷ dedup_from int_eq (day_on r) (map day_on rs))))
     each true is same next = same (lower (day_on r) last most rs h.0 h.1)
     each false is same next =
         let order : last ≤ℤ day_on r = h.0 in
@@ -101,8 +106,10 @@ days_ascend last most (r ∷ rs) low h =
         let later : pos 0 ≤ℤ day_on r = grind (arith, ints, low, order) in (
           omega arith,
           first,
-          ascend-wider (unsigned_abs (day_on r)) (unsigned_abs last + 1) (unsigned_abs most) (unsigned_abs most)
-              (map unsigned_abs (dedup_from int_eq (day_on r) (map day_on rs))) above (omega arith) (next later),
+          ascend-wider (unsigned_abs (day_on r)) (unsigned_abs last + 1) (unsigned_abs most)
+              (unsigned_abs most)
+              (map unsigned_abs (dedup_from int_eq (day_on r) (map day_on rs))) above (omega arith)
+              (next later),
         )
 
 twice : (entries : List Entry) (batch : Name) (some : List ℤ)
@@ -126,11 +133,13 @@ ascend_from most (r ∷ rs) h =
 
 -- each tare is for a later day than the one before it
 pub tares_ascend : (entries : List Entry) (batch : Name) → IsLegal entries
-    → IsStrictlyIncreasing (map (λ (dated : DatedTare). unsigned_abs dated.day) (tares_of entries batch))
+    → IsStrictlyIncreasing
+    (map (λ (dated : DatedTare). unsigned_abs dated.day) (tares_of entries batch))
 tares_ascend entries batch legal =
     subst IsStrictlyIncreasing
     (sym (twice entries batch (days_of (packs_of entries batch))
-    ∙ ap (λ (ds : List ℤ). map unsigned_abs (dedup int_eq ds)) (pack_days (population entries batch))))
+    ∙ ap (λ (ds : List ℤ). map unsigned_abs (dedup int_eq ds))
+    (pack_days (population entries batch))))
     (ascend_from (last_day entries) (population entries batch)
     (rise-filter (λ (r : Reading). is_of_batch batch r && is_counted r) (pos 0) (last_day entries)
     (readings entries) (days_rise entries legal).1))
@@ -151,7 +160,8 @@ is_row_of n most low high few =
     let greatest : nat_le n MAX_ROWS ≡ true = grind (arith, nat_tests, high, few) in
     and_from (nat_le 1 n) (nat_le n MAX_ROWS) least greatest
 
-above_least : (least most : ℕ) (ns : List ℕ) → AscendWithin least most ns → All (λ n. (least ≤ n) × (n ≤ most)) ns
+above_least : (least most : ℕ) (ns : List ℕ) → AscendWithin least most ns
+    → All (λ n. (least ≤ n) × (n ≤ most)) ns
 above_least least most [] h = All-nil (λ n. (least ≤ n) × (n ≤ most))
 above_least least most (n ∷ ns) h =
     All-cons (λ m. (least ≤ m) × (m ≤ most)) n ns (h.0, h.1)
@@ -167,7 +177,8 @@ each_row entries batch legal =
     (All-weaker (λ n. (1 ≤ n) × (n ≤ length entries)) (λ n. is_row n ≡ true)
     (λ n at. is_row_of n (length entries) at.0 at.1 (legal_few entries legal))
     (numbers_of (population entries batch))
-    (above_least 1 (length entries) (numbers_of (population entries batch)) (population_ascends entries batch)))
+    (above_least 1 (length entries) (numbers_of (population entries batch))
+    (population_ascends entries batch)))
 
 -- the packs are within the limits
 pub packs_fit : (entries : List Entry) (batch : Name) → IsLegal entries
@@ -176,7 +187,8 @@ packs_fit entries batch legal =
     All-map (λ (p : packs.Pack). is_pack_in_range p ≡ true) pack_of (population entries batch)
     (All-weaker (λ (r : Reading). (is_row r.number ≡ true) × IsFit r)
     (λ (r : Reading). is_pack_in_range (pack_of r) ≡ true)
-    (λ r at. and_from (is_row r.number && is_within (pos 0) MAX_DAY (day_on r)) (is_within (pos 0) MAX_GROSS r.gross)
+    (λ r at. and_from (is_row r.number && is_within (pos 0) MAX_DAY (day_on r))
+    (is_within (pos 0) MAX_GROSS r.gross)
     (and_from (is_row r.number) (is_within (pos 0) MAX_DAY (day_on r)) at.0 at.1.0) at.1.1)
     (population entries batch)
     (both (λ (r : Reading). is_row r.number ≡ true) IsFit (population entries batch)
@@ -189,10 +201,12 @@ density_right : (entries : List Entry) (batch product : Name) → IsLegal entrie
     → is_density (unwrap_or (unit_of entries product) Mass) (density_of_batch entries batch) ≡ true
 density_right entries batch product legal known =
     subst (λ (o : Option Name). is_density (unwrap_or (unit_of entries product) Mass)
-    (density_by_unit (option_and_then (unit_of entries) o) (unwrap_or (density_of entries batch) 0)) ≡ true)
+    (density_by_unit (option_and_then (unit_of entries) o) (unwrap_or (density_of entries batch) 0))
+    ≡ true)
     (sym known) (each (unit_of entries product) (density_of entries batch) refl refl)
   where
-    each : (u : Option units.Unit) (d : Option ℕ) → unit_of entries product ≡ u → density_of entries batch ≡ d
+    each : (u : Option units.Unit) (d : Option ℕ) → unit_of entries product ≡ u
+        → density_of entries batch ≡ d
         → is_density (unwrap_or u Mass) (density_by_unit u (unwrap_or d 0)) ≡ true
     each None d u_is d_is = refl
     each (Some Mass) d u_is d_is = refl
@@ -202,14 +216,16 @@ density_right entries batch product legal known =
         absurd (let wrong : false ≡ true = sym (ap is_some d_is)
         ∙ density_known entries batch (ap is_some known) in cc)
 
-row_right : (entries : List Entry) (batch : Name) → IsLegal entries → state_of entries batch ≡ Some Closed
+row_right : (entries : List Entry) (batch : Name) → IsLegal entries
+    → state_of entries batch ≡ Some Closed
     → is_row (closing_row entries batch) ≡ true
 row_right entries batch legal closed =
     let place : ℕ = position_or_len (λ (e : Entry). is_close_of batch e.act) entries in
     let inside : place < length entries = closing_within entries batch legal closed in
     let found : nat_lt place (length entries) ≡ true = grind (arith, nat_tests, inside) in
     ap (λ b. is_row (option_map_or (λ n. n + 1) (cond b (Some place) None) 0)) found
-    ∙ is_row_of (place + 1) (length entries) (omega arith) (omega (arith, inside)) (legal_few entries legal)
+    ∙ is_row_of (place + 1) (length entries) (omega arith) (omega (arith, inside))
+    (legal_few entries legal)
 
 pub goods_fit : (entries : List Entry) (batch product : Name) → IsLegal entries
     → state_of entries batch ≡ Some Closed → product_of entries batch ≡ Some product
@@ -227,22 +243,28 @@ goods_fit entries batch product legal closed known =
 pick_said : (entries : List Entry) (mode : Mode) (pack : ℕ) → IsLegal entries → is_row pack ≡ true
     → is_pick_in_range (pick_of entries mode pack) ≡ true
 pick_said entries mode pack legal row =
-    and_from (is_row pack) (is_pick_weighed (pick_of entries mode pack)) row (pick_right entries mode pack legal)
+    and_from (is_row pack) (is_pick_weighed (pick_of entries mode pack)) row
+    (pick_right entries mode pack legal)
 
 counted_row : (entries : List Entry) (batch : Name) (pack : ℕ) → IsLegal entries
     → IsCounted entries batch pack → is_row pack ≡ true
 counted_row entries batch pack legal is =
-    subst (λ n. is_row n ≡ true) (of_reading (IsOneOf entries) entries pack is.reading (each_is_one entries) is.found).0
+    subst (λ n. is_row n ≡ true)
+    (of_reading (IsOneOf entries) entries pack is.reading (each_is_one entries) is.found).0
     (of_found (λ (r : Reading). is_row r.number ≡ true) (λ (r : Reading). r.number == pack)
     (population entries batch) is.reading (each_row entries batch legal)
     (pack_found entries batch pack is)).1
 
-pub picks_said : (entries : List Entry) (batch : Name) (mode : Mode) (some : List ℕ) → IsLegal entries
-    → All (IsCounted entries batch) some → AllPass is_pick_in_range (map (pick_of entries mode) some)
+pub picks_said : (entries : List Entry) (batch : Name) (mode : Mode) (some : List ℕ)
+    → IsLegal entries
+    → All (IsCounted entries batch) some
+    → AllPass is_pick_in_range (map (pick_of entries mode) some)
 picks_said entries batch mode some legal all =
     All-map (λ (pick : Pick). is_pick_in_range pick ≡ true) (pick_of entries mode) some
-    (All-weaker (IsCounted entries batch) (λ pack. is_pick_in_range (pick_of entries mode pack) ≡ true)
-    (λ pack is. pick_said entries mode pack legal (counted_row entries batch pack legal is)) some all)
+    (All-weaker (IsCounted entries batch)
+    (λ pack. is_pick_in_range (pick_of entries mode pack) ≡ true)
+    (λ pack is. pick_said entries mode pack legal (counted_row entries batch pack legal is)) some
+    all)
 
 -- where packs are kept nothing is said of an empty pack
 empty_right : (entries : List Entry) (drawing : Drawing) (pack : ℕ)
@@ -258,13 +280,15 @@ empty_right entries drawing pack = each drawing.mode (measured_of entries pack)
 pub empties_right : (entries : List Entry) (drawing : Drawing) (some : List ℕ)
     → AllPass (is_pick_right (Some (draw_by drawing))) (map (pick_of entries drawing.mode) some)
 empties_right entries drawing some =
-    All-map (λ (pick : Pick). is_pick_right (Some (draw_by drawing)) pick ≡ true) (pick_of entries drawing.mode)
+    All-map (λ (pick : Pick). is_pick_right (Some (draw_by drawing)) pick ≡ true)
+    (pick_of entries drawing.mode)
     some (λ k d less. empty_right entries drawing _)
 
 -- ---- the whole
 
 module _ (entries : List Entry) (batch product : Name) (legal : IsLegal entries)
-    (closed : state_of entries batch ≡ Some Closed) (known : product_of entries batch ≡ Some product) where
+    (closed : state_of entries batch ≡ Some Closed)
+    (known : product_of entries batch ≡ Some product) where
   abbrev paper : PaperData
   paper = paper_by entries batch product
 
@@ -290,14 +314,17 @@ module _ (entries : List Entry) (batch product : Name) (legal : IsLegal entries)
         goods = goods_fit entries batch product legal closed known;
         tares = record {
           range = list_all_of is_tare_in_range (tares_of entries batch)
-              (All-map (λ (dated : DatedTare). is_tare_in_range dated ≡ true) (tare_for entries batch)
+              (All-map (λ (dated : DatedTare). is_tare_in_range dated ≡ true)
+              (tare_for entries batch)
               (days_of (packs_of entries batch)) (tares_fit entries batch legal));
           ascend = tares_ascend entries batch legal;
         };
         packs = record {
-          range = list_all_of is_pack_in_range (packs_of entries batch) (packs_fit entries batch legal);
+          range = list_all_of is_pack_in_range (packs_of entries batch)
+              (packs_fit entries batch legal);
           ascend = packs_ascend entries batch;
-          few = subst (λ n. n ≤ MAX_POPULATION) (sym (length-map (population entries batch) pack_of))
+          few = subst
+              (λ n. n ≤ MAX_POPULATION) (sym (length-map (population entries batch) pack_of))
               (population_few entries legal batch);
         };
         first = list_all_of is_pick_in_range (option_map_or (first_picks entries) sampled [])

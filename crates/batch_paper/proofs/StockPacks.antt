@@ -28,7 +28,8 @@ tells : (entries : List Entry) (reading : Reading) (known : KnownPack)
     → Some known ≡ known_reading entries reading → Tells entries reading known
 tells entries reading known h = each reading.batch reading.day reading.signal refl refl h
   where
-    each : (b : Option Name) (d : Option ℤ) (s : Option Signal) → reading.batch ≡ b → reading.day ≡ d
+    each : (b : Option Name) (d : Option ℤ) (s : Option Signal) → reading.batch ≡ b
+        → reading.day ≡ d
         → Some known ≡ option_and_then (λ (batch : Name). option_and_then
         (λ (day : ℤ). option_map (known_record entries reading batch day) s) d) b
         → Tells entries reading known
@@ -62,11 +63,13 @@ stock_pack entries batch number known h = each (reading_of entries number) refl 
         let told = tells entries reading known k in
         let one = of_reading (IsOneOf entries) entries number reading (each_is_one entries) is in
         ap (option_and_then (pack_where batch)) is
-        ∙ ap (λ (o : Option Name). cond (option_map_or (λ (name : Name). same_name name batch) o false
+        ∙ ap (λ (o : Option Name). cond
+        (option_map_or (λ (name : Name). same_name name batch) o false
         && is_counted reading) (Some (pack_of reading)) None) told.batch
         ∙ ap (λ b. cond (same_name known.batch batch && b) (Some (pack_of reading)) None)
         (counted_is_in_stock entries reading)
-        ∙ ap (λ pile. cond (same_name known.batch batch && is_stock pile) (Some (pack_of reading)) None)
+        ∙ ap (λ pile. cond (same_name known.batch batch && is_stock pile)
+        (Some (pack_of reading)) None)
         told.pile
         ∙ ap (λ (pack : packs.Pack). cond (same_name known.batch batch && is_stock known.pile)
         (Some pack) None)

@@ -107,12 +107,15 @@ tare_found entries batch day (d ∷ days) h =
   where
     each : (b : Bool) → same_number d day ≡ b
         → (list_any (λ (e : ℤ). same_number e day) days ≡ true
-        → tare_on (map (tare_for entries batch) days) day ≡ Some ((tare_for entries batch day).tare))
+        → tare_on (map (tare_for entries batch) days) day
+        ≡ Some ((tare_for entries batch day).tare))
         → (b || list_any (λ (e : ℤ). same_number e day) days) ≡ true
         → option_map (λ (dated : DatedTare). dated.tare) (cond b (Some (tare_for entries batch d))
-        (find (λ (dated : DatedTare). same_number dated.day day) (map (tare_for entries batch) days)))
+        (find (λ (dated : DatedTare). same_number dated.day day)
+        (map (tare_for entries batch) days)))
         ≡ Some ((tare_for entries batch day).tare)
-    each true is rest k = ap (λ (e : ℤ). Some ((tare_for entries batch e).tare)) (same_number_is d day is)
+    each true is rest k =
+        ap (λ (e : ℤ). Some ((tare_for entries batch e).tare)) (same_number_is d day is)
     each false is rest k = rest k
 
 -- lines of tares give a pack the tare of its batch on its day
@@ -150,12 +153,16 @@ none_at test some all =
     ∙ ap (λ b. cond b (Some (length some)) None) (not_below (length some))
 
 pub no_tare_missing : (entries : List Entry) (batch : Name) (some : List packs.Pack)
-    → position (λ (pack : packs.Pack). not (has_tare_of (map (tare_for entries batch) (days_of some)) pack)) some
+    → position
+    (λ (pack : packs.Pack). not (has_tare_of (map (tare_for entries batch) (days_of some)) pack))
+    some
     ≡ None
 no_tare_missing entries batch some =
-    none_at (λ (pack : packs.Pack). not (has_tare_of (map (tare_for entries batch) (days_of some)) pack)) some
+    none_at (λ (pack : packs.Pack). not
+    (has_tare_of (map (tare_for entries batch) (days_of some)) pack)) some
     (All-weaker (HasOwn some)
-    (λ (pack : packs.Pack). not (has_tare_of (map (tare_for entries batch) (days_of some)) pack) ≡ false)
+    (λ (pack : packs.Pack). not (has_tare_of (map (tare_for entries batch) (days_of some)) pack)
+    ≡ false)
     (λ pack own. ap not
     (any_mapped (λ (dated : DatedTare). same_number dated.day pack.day) (tare_for entries batch)
     (days_of some) ∙ days_have some pack.day ∙ own)) some (each_has_own some))
@@ -164,8 +171,10 @@ pub no_tare_needless : (entries : List Entry) (batch : Name) (some : List packs.
     → position (λ (dated : DatedTare). not (has_pack_of some dated))
     (map (tare_for entries batch) (days_of some)) ≡ None
 no_tare_needless entries batch some =
-    none_at (λ (dated : DatedTare). not (has_pack_of some dated)) (map (tare_for entries batch) (days_of some))
-    (All-map (λ (dated : DatedTare). not (has_pack_of some dated) ≡ false) (tare_for entries batch) (days_of some)
+    none_at (λ (dated : DatedTare). not (has_pack_of some dated))
+    (map (tare_for entries batch) (days_of some))
+    (All-map (λ (dated : DatedTare). not (has_pack_of some dated) ≡ false) (tare_for entries batch)
+    (days_of some)
     (All-dedup int_eq HasPack (map (λ (p : packs.Pack). p.day) some)
     (All-map HasPack (λ (p : packs.Pack). p.day) some
     (All-weaker (HasOwn some) (λ (p : packs.Pack). HasPack p.day) (λ pack own. ap not own) some

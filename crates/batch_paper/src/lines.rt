@@ -3,6 +3,7 @@ ghost use Rattle.std.specs.Option.{option_map_or};
 ghost use Rattle.std.specs.List.{join_with_byte};
 ghost use Rattle.hall_units.specs.Grams.{gram_text};
 ghost use Rattle.book_texts.specs.Appending.{HasRoom, Appended};
+ghost use Rattle.paper_form.specs.declared.types.TheConstants.{MAX_PAPER};
 ghost use Rattle.paper_form.specs.declared.types.Line.TheVariants as line;
 ghost use Rattle.paper_form.specs.Papers.{line_text, unit_field, weighed_fields, is_tare_in_range, is_weighed_in_range};
 ghost use Rattle.batch_paper.specs.Ranges.{is_line_right, is_nominal_right, is_pack_right, is_pick_weighed};
@@ -13,7 +14,7 @@ use book_texts::{
 };
 use book_words::{Unit, Verdict};
 use hall_units::make_room;
-use paper_form::{Draw, Goods, Line, Pack, Pick, Weighed};
+use paper_form::{Draw, Goods, Line, MAX_PAPER, Pack, Pick, Weighed};
 use std::alloc::AllocError;
 use tare_register::DatedTare;
 
@@ -24,11 +25,16 @@ pub const LINE_ROOM: usize = 256;
 /// The most bytes of what a pack of a sample weighed, with the blank before it.
 const WEIGHED_ROOM: usize = 128;
 
-/// Writes a line behind the text so far.
+/// Writes a line behind the text so far. A text that would be longer than may be read of a paper is
+/// refused as for want of memory; no book comes near it.
 pub fn write_line(to: &mut Vec<u8>, line: &Line) -> Result<(), AllocError>
     requires range { IsTrue (is_line_right line.now) }
-    ensures { OnOk result (to.new.items ≡ to.old.items ++ line_text line.now) }
+    ensures text { OnOk result (to.new.items ≡ to.old.items ++ line_text line.now) }
+    ensures short { OnOk result (length to.new.items ≤ MAX_PAPER) }
 {
+    if to.len() > MAX_PAPER - LINE_ROOM {
+        return Err(AllocError);
+    }
     make_room(to, LINE_ROOM)?;
     push_line(to, line);
     Ok(())
@@ -129,7 +135,8 @@ fn push_mode(to: &mut Vec<u8>, draw: &Draw)
 fn push_weighed(to: &mut Vec<u8>, weighed: &Option<Weighed>)
     requires room { HasRoom to.old WEIGHED_ROOM }
     requires range { IsTrue (option_map_or is_weighed_in_range weighed.now true) }
-    ensures { Appended to.old to.new (32 ∷ join_with_byte 32 (weighed_fields weighed.now)) WEIGHED_ROOM }
+    ensures { Appended to.old to.new (32 ∷ join_with_byte 32 (weighed_fields weighed.now))
+        WEIGHED_ROOM }
 {
     match weighed {
         Some(masses) => {

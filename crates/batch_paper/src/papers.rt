@@ -1,7 +1,8 @@
-ghost use Rattle.std.specs.Prelude.{◌≡◌, ◌≢◌, ◌++◌, ◌↔◌, ◌<◌, ◌^◌, All, IfOk, OnOk, Some, None, Err, IsTrue, map};
+ghost use Rattle.std.specs.Prelude.{◌≡◌, ◌≢◌, ◌++◌, ◌↔◌, ◌<◌, ◌≤◌, ◌^◌, length, All, IfOk, OnOk, Some, None, Err, IsTrue, map};
 ghost use Rattle.std.specs.List.{AllPass, flat_map};
 ghost use Rattle.std.specs.Option.{option_to_list, unwrap_or};
 ghost use Rattle.book_words.specs.declared.name.Name as names;
+ghost use Rattle.paper_form.specs.declared.types.TheConstants.{MAX_PAPER};
 ghost use Rattle.paper_form.specs.declared.types.Line.TheVariants as line;
 ghost use Rattle.book_words.specs.declared.act.BatchState as states;
 ghost use Rattle.book_words.specs.declared.act.BatchState.TheVariants.{Closed};
@@ -147,6 +148,7 @@ fn write_text(
     requires legal { IsLegal state.now.entries }
     ensures text { IfOk result (λ text. text.items
         ≡ paper_text (paper_by state.now.entries batch.now product.now)) }
+    ensures short { IfOk result (λ text. length text.items ≤ MAX_PAPER) }
     ensures words { IfOk result (λ _. IsWordOf (last_said (first_word batch.now) state.now.entries)
         × IsWordOf (last_said (second_word batch.now) state.now.entries)) }
 {
@@ -210,8 +212,8 @@ fn replayed(alloc: Global, rows: &[Entry]) -> Result<Book, AllocError>
     Ok(book)
 }
 
-/// The paper of a closed batch of a legal list of rows: all that its verdict rests on. Unknown comes
-/// exactly where the batch isn't in the list, NotClosed exactly where it isn't closed.
+/// The paper of a closed batch of a legal list of rows: all that its verdict rests on. Unknown
+/// comes only where the batch isn't in the list, NotClosed only where it isn't closed.
 pub fn write_paper(alloc: Global, rows: &Rows, batch: &Name) -> Result<Paper, PaperError>
     requires legal { IsLegal rows.now }
     ensures ok { IfOk result (IsPaperOf rows.now batch.now) }

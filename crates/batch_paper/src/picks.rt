@@ -70,7 +70,8 @@ pub fn write_picks(
     packs: &[u64],
 ) -> Result<(), AllocError>
     requires rows { All (λ pack. pack < 2 ^ 32) packs.now }
-    requires range { AllPass (λ pack. is_pick_weighed (pick_of state.now.entries mode pack)) packs.now }
+    requires range { AllPass (λ pack. is_pick_weighed (pick_of state.now.entries mode pack))
+        packs.now }
     ensures { OnOk result (to.new.items ≡ to.old.items ++ flat_map line_text
         (map (pick_line part) (map (pick_of state.now.entries mode) packs.now))) }
 {

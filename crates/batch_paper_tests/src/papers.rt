@@ -1,7 +1,8 @@
 use annex_tables::Mode;
-use batch_paper::{PaperError, paper_of_book};
-use book_core::{Book, BookError};
-use book_words::{Act, Ask, BatchState, Name, Prior, Unit, Want};
+use batch_paper::{PaperError, paper_of_book, write_paper};
+use book_core::{Book, BookError, Rows};
+use book_words::{Act, Ask, BatchState, Name, Prior, Unit, Verdict, Want};
+use paper_check::check_paper;
 use std::alloc::{AllocError, Global};
 use std::fmt;
 
@@ -35,6 +36,22 @@ fn says(alloc: Global, acts: &[Act], batch: &Name, text: &[u8]) -> Result<bool, 
     Ok(paper.as_bytes() == text)
 }
 
+// Whether the rows alone give the same paper as the open book.
+fn rows_say(alloc: Global, acts: &[Act], batch: &Name) -> Result<bool, PaperError> {
+    let book = book_of(alloc, acts)?;
+    let paper = paper_of_book(alloc, &book, batch)?;
+    let rows = Rows::new(Vec::from_slice(alloc, book.entries())?);
+    let again = write_paper(alloc, &rows, batch)?;
+    Ok(again.as_bytes() == paper.as_bytes())
+}
+
+// What the check of the paper of a batch answers, where it has one.
+fn checked(alloc: Global, acts: &[Act], batch: &Name) -> Option<Verdict> {
+    let book = book_of(alloc, acts).ok()?;
+    let paper = paper_of_book(alloc, &book, batch).ok()?;
+    check_paper(alloc, paper.as_bytes()).ok()
+}
+
 // A day, a product of 250 g with a tare of 10 g, and a batch of it with two lanes.
 fn begun(product: Name, batch: Name) -> [Act; 6] {
     [
@@ -59,9 +76,8 @@ fn begun(product: Name, batch: Name) -> [Act; 6] {
     ]
 }
 
-// A third lane, and then two packs of 261.014 g and 260.587 g, drawn by the word 0, measured as they
-// were weighed.
-fn weighed(batch: Name) -> [Act; 11] {
+// A third lane, two packs of 261.014 g and 260.587 g, and no lane any more.
+fn weighed(batch: Name) -> [Act; 6] {
     [
         Act::StartLane { lane: 3, batch },
         Act::Weigh {
@@ -86,6 +102,12 @@ fn weighed(batch: Name) -> [Act; 11] {
             lane: 3,
             prior: Prior::Nothing,
         },
+    ]
+}
+
+// Its packs drawn by the word 0, measured as they were weighed, and its closing.
+fn tested(batch: Name) -> [Act; 5] {
+    [
         Act::EndRun { batch },
         Act::Draw {
             batch,
@@ -133,7 +155,11 @@ fn paper_of_a_trial(rt: HostRuntime) -> fmt::Result {
     let mut acts = Vec::from_slice(rt.alloc(), &begun(product, batch)).map_err(|_| fmt::Error)?;
     acts.extend_from_slice(&weighed(batch))
         .map_err(|_| fmt::Error)?;
+    acts.extend_from_slice(&tested(batch))
+        .map_err(|_| fmt::Error)?;
     assert!(rt; says(rt.alloc(), &acts, &batch, TRIAL) == Ok(true));
+    assert!(rt; rows_say(rt.alloc(), &acts, &batch) == Ok(true));
+    assert!(rt; checked(rt.alloc(), &acts, &batch) == Some(Verdict::Released));
     assert!(rt;
         says(rt.alloc(), &acts[..16], &batch, TRIAL)
             == Err(PaperError::NotClosed {
@@ -163,5 +189,7 @@ fn paper_of_no_pack(rt: HostRuntime) -> fmt::Result {
     ];
     acts.extend_from_slice(&closing).map_err(|_| fmt::Error)?;
     assert!(rt; says(rt.alloc(), &acts, &batch, EMPTY) == Ok(true));
+    assert!(rt; rows_say(rt.alloc(), &acts, &batch) == Ok(true));
+    assert!(rt; checked(rt.alloc(), &acts, &batch) == Some(Verdict::Empty));
     Ok(())
 }

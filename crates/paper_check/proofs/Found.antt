@@ -24,7 +24,8 @@ pub found_tare : (paper : PaperData) (days : List ℕ) (day : ℤ) (place key : 
     → key ≡ unsigned_abs day → place < length days → slice_index days place ≡ key
     → Some (get_or paper.tares place d) ≡ find (λ dated. same_number dated.day day) paper.tares
 found_tare paper days day place key d listed natural are is within there =
-    sym (find_at (λ (dated : DatedTare). unsigned_abs dated.day) paper.tares (unsigned_abs day) place d
+    sym (find_at
+    (λ (dated : DatedTare). unsigned_abs dated.day) paper.tares (unsigned_abs day) place d
     listed.tares.ascend (subst (λ (xs : List ℕ). place < length xs) are within)
     (sym (ap (λ (xs : List ℕ). slice_index xs place) are) ∙ there ∙ is))
     ∙ by_key paper day listed natural
@@ -36,7 +37,8 @@ pub no_tare : (paper : PaperData) (days : List ℕ) (day : ℤ) (key : ℕ)
     → None ≡ find (λ dated. same_number dated.day day) paper.tares
 no_tare paper days day key listed natural are is missing =
     sym (find_none (λ (dated : DatedTare). unsigned_abs dated.day) paper.tares (unsigned_abs day)
-    (sym (ap (λ (xs : List ℕ). has_key xs (unsigned_abs day)) are) ∙ sym (ap (has_key days) is) ∙ missing))
+    (sym (ap (λ (xs : List ℕ). has_key xs (unsigned_abs day)) are) ∙ sym (ap (has_key days) is)
+    ∙ missing))
     ∙ by_key paper day listed natural
 
 -- the pack at the place of its number

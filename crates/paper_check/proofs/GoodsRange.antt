@@ -66,8 +66,10 @@ pub picks_front : (most : ℕ) (picks : List Pick) → list_all is_pick_in_range
 picks_front most picks all = list_all_take is_pick_in_range (min (length picks) most) picks all
 
 -- the nominal quantity goes to bits and back unchanged
-pub nominal_again : (g : goods.Goods) → are_goods_in_range g ≡ true → again w64 g.nominal ≡ g.nominal
+pub nominal_again : (g : goods.Goods) → are_goods_in_range g ≡ true
+    → again w64 g.nominal ≡ g.nominal
 nominal_again g h =
     let known = nominal_known g h in
-    let near : unsigned_abs g.nominal ≤ unsigned_abs MAX_NOMINAL = omega (arith, ints, known.0, known.1) in
+    let near : unsigned_abs g.nominal ≤ unsigned_abs MAX_NOMINAL =
+    omega (arith, ints, known.0, known.1) in
     (computes_read w64 g.nominal g.nominal (unsigned_abs MAX_NOMINAL) (lit< tt) refl near).same

@@ -62,7 +62,8 @@ from_place p n (x ∷ xs) = elim (cases_Bool (p x)) [
       ∙ ap (λ (m : ℕ). cond (nat_lt (1 + k) (length (x ∷ xs))) (Some m) None) e)
 ]
 
-map_cond : (t : Bool) (f : ℕ → ℕ) (k : ℕ) → cond t (Some (f k)) None ≡ option_map f (cond t (Some k) None)
+map_cond : (t : Bool) (f : ℕ → ℕ) (k : ℕ)
+    → cond t (Some (f k)) None ≡ option_map f (cond t (Some k) None)
 map_cond true f k = refl
 map_cond false f k = refl
 
@@ -90,7 +91,8 @@ position_from-same r p q n [] same all = refl
 position_from-same r p q n (x ∷ xs) same all =
     let parts = and_parts (r x) (list_all r xs) all in
     ap (λ (t : Bool). cond t (Some n) (position_from p (n + 1) xs)) (same x parts.0)
-    ∙ ap (λ (o : Option ℕ). cond (q x) (Some n) o) (position_from-same r p q (n + 1) xs same parts.1)
+    ∙ ap (λ (o : Option ℕ). cond (q x) (Some n) o)
+    (position_from-same r p q (n + 1) xs same parts.1)
 
 pub list_any-same : {A : Type 0} (r p q : A → Bool) (xs : List A)
     → ((x : A) → r x ≡ true → p x ≡ q x) → list_all r xs ≡ true → list_any p xs ≡ list_any q xs
@@ -133,7 +135,8 @@ behind_head n ns rises i less =
 
 -- a key that is there finds what stands at its place
 pub find_at : {A : Type 0} (f : A → ℕ) (xs : List A) (key place : ℕ) (d : A)
-    → IsStrictlyIncreasing (map f xs) → place < length (map f xs) → slice_index (map f xs) place ≡ key
+    → IsStrictlyIncreasing (map f xs) → place < length (map f xs)
+    → slice_index (map f xs) place ≡ key
     → find (λ x. f x == key) xs ≡ Some (get_or xs place d)
 find_at f [] key place d rises within is = absurd (omega (arith, within))
 find_at f (x ∷ xs) key zero d rises within is = rw (eq-eqb (f x) key is) refl

@@ -4,7 +4,8 @@ use Rattle.std.specs.List.{common_prefix_len}
 use Rattle.std.proofs.lemmas.List.{drop_more}
 
 -- one place more
-pub prefix_more : {A B : Type 0} (f : A → B → Bool) (xs : List A) (ys : List B) (i : ℕ) (d : A) (e : B)
+pub prefix_more : {A B : Type 0} (f : A → B → Bool) (xs : List A) (ys : List B) (i : ℕ) (d : A)
+    (e : B)
     → i < length xs → i < length ys → f (get_or xs i d) (get_or ys i e) ≡ true
     → common_prefix_len f (drop i xs) (drop i ys)
     ≡ 1 + common_prefix_len f (drop (i + 1) xs) (drop (i + 1) ys)

@@ -20,7 +20,8 @@ same_naturals : (a b : ℕ) → (nat_le a b && nat_le b a) ≡ (a == b)
 same_naturals a b = elim (cases_Bool (a == b)) [
   | inl is ↦
       let e : a ≡ b = eqb-true a b is in
-      and_from (nat_le a b) (nat_le b a) (le-leb a b (omega (arith, e))) (le-leb b a (omega (arith, e)))
+      and_from (nat_le a b) (nat_le b a) (le-leb a b (omega (arith, e)))
+      (le-leb b a (omega (arith, e)))
       ∙ sym is
   | inr other ↦ elim (cases_lt a b) [
     | inl less ↦ and_right (nat_le a b) (nat_le b a) (lt-leb b a less) ∙ sym other
@@ -43,7 +44,8 @@ same_days (negsuc a) b la lb = let never : false ≡ true = la in cc
 
 pub tare_day : (dated : DatedTare) → is_tare_in_range dated ≡ true → int_le (pos 0) dated.day ≡ true
 tare_day dated range =
-    (and_parts _ _ ((and_parts (is_within (pos 0) MAX_DAY dated.day) (is_within (pos 0) MAX_TARE dated.tare)
+    (and_parts _ _
+    ((and_parts (is_within (pos 0) MAX_DAY dated.day) (is_within (pos 0) MAX_TARE dated.tare)
     range).0)).0
 
 pub pack_day : (pack : packs.Pack) → is_pack_in_range pack ≡ true → int_le (pos 0) pack.day ≡ true
@@ -84,7 +86,8 @@ pub unused_is : (paper : PaperData) (sorted days : List ℕ) → IsListed paper
     (position (λ dated. not (has_pack_of paper.packs dated)) paper.tares)
 unused_is paper sorted days listed permuted are =
     ap (position_from (is_missing sorted) tares_line) are
-    ∙ position_from-map (is_missing sorted) (λ (dated : DatedTare). unsigned_abs dated.day) tares_line paper.tares
+    ∙ position_from-map (is_missing sorted)
+    (λ (dated : DatedTare). unsigned_abs dated.day) tares_line paper.tares
     ∙ position_from-same is_tare_in_range (λ dated. is_missing sorted (unsigned_abs dated.day))
     (λ dated. not (has_pack_of paper.packs dated)) tares_line paper.tares
     (missing_pack paper sorted listed permuted) listed.tares.range
@@ -99,10 +102,13 @@ pub tareless_is : (paper : PaperData) (days packs : List ℕ) (line : ℕ) → I
 tareless_is paper days wanted line listed are wanted_are at =
     ap (λ (d : List ℕ). position_from (is_missing d) line wanted) are
     ∙ ap (position_from (is_missing (days_of paper.tares)) line) wanted_are
-    ∙ ap (λ (n : ℕ). position_from (is_missing (days_of paper.tares)) n (pack_days_of paper.packs)) at
-    ∙ position_from-map (is_missing (days_of paper.tares)) (λ (pack : packs.Pack). unsigned_abs pack.day)
+    ∙ ap (λ (n : ℕ). position_from (is_missing (days_of paper.tares)) n (pack_days_of paper.packs))
+    at
+    ∙ position_from-map (is_missing (days_of paper.tares))
+    (λ (pack : packs.Pack). unsigned_abs pack.day)
     (packs_line paper) paper.packs
-    ∙ position_from-same is_pack_in_range (λ pack. is_missing (days_of paper.tares) (unsigned_abs pack.day))
+    ∙ position_from-same is_pack_in_range
+    (λ pack. is_missing (days_of paper.tares) (unsigned_abs pack.day))
     (λ pack. not (has_tare_of paper.tares pack)) (packs_line paper) paper.packs
     (missing_tare paper listed) listed.packs.range
     ∙ position-from (λ pack. not (has_tare_of paper.tares pack)) (packs_line paper) paper.packs

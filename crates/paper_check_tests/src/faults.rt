@@ -1,4 +1,4 @@
-use crate::papers::check_with;
+use crate::papers::{TRIAL, check_lines, check_with};
 use paper_form::PaperFault;
 
 #[test]
@@ -41,4 +41,31 @@ fn a_plan_without_a_second_sample_has_no_word_for_one(rt: HostRuntime) {
 fn a_smaller_gross_makes_the_verdict_wrong(rt: HostRuntime) {
     let answer = check_with(rt.alloc(), 4, "pack 9 2025-03-03 241.587");
     assert_eq!(rt; answer, Err(PaperFault::Verdict { line: 9 }));
+}
+
+#[test]
+fn form_comes_before_a_tare_at_an_earlier_line(rt: HostRuntime) {
+    let mut lines = TRIAL;
+    lines[2] = "tare 2025-03-04 10.000";
+    lines[8] = "verdict withheld";
+    assert_eq!(rt;
+        check_lines(rt.alloc(), &lines),
+        Err(PaperFault::Line { line: 9 })
+    );
+}
+
+#[test]
+fn a_tare_comes_before_a_draw_and_a_draw_before_the_verdict(rt: HostRuntime) {
+    let mut lines = TRIAL;
+    lines[7] = "first 9 gross 260.587 empty 0.000";
+    lines[8] = "verdict withheld mean";
+    assert_eq!(rt;
+        check_lines(rt.alloc(), &lines),
+        Err(PaperFault::Draw { line: 8 })
+    );
+    lines[3] = "pack 8 2025-03-02 261.014";
+    assert_eq!(rt;
+        check_lines(rt.alloc(), &lines),
+        Err(PaperFault::Tare { line: 4 })
+    );
 }

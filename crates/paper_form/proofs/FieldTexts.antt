@@ -56,7 +56,8 @@ split_whole : (stop : ℕ) (text : List ℕ) → are_above stop text ≡ true
     → slice_split (λ b. b == stop) text ≡ text ∷ []
 split_whole stop text above = slice_split_none (λ b. b == stop) text (none_stops stop text above)
 
-pub split_first : (stop : ℕ) (text rest : List ℕ) → are_above stop text ≡ true → (stop == stop) ≡ true
+pub split_first : (stop : ℕ) (text rest : List ℕ) → are_above stop text ≡ true
+    → (stop == stop) ≡ true
     → slice_split (λ b. b == stop) (text ++ stop ∷ rest) ≡ text ∷ slice_split (λ b. b == stop) rest
 split_first stop text rest above same =
     slice_split_at (λ b. b == stop) text stop rest (none_stops stop text above) same
@@ -100,7 +101,8 @@ plain_digits text digits =
 pub plain_number : (n : ℕ) → n < 10 ^ 20 → IsPlain (decimal n)
 plain_number n small =
     plain_digits (decimal n)
-    ((and_parts (nat_lt 0 (length (decimal n)) && nat_le (length (decimal n)) 20) (list_all is_ascii_digit (decimal n))
+    ((and_parts (nat_lt 0 (length (decimal n)) && nat_le (length (decimal n)) 20)
+    (list_all is_ascii_digit (decimal n))
     (is_numeral-decimal 20 n (omega arith) small (omega (arith, small)))).1)
 
 plain_digit : (k : ℕ) → nat_lt 32 (48 + k) ≡ true

@@ -21,7 +21,8 @@ use Rattle.paper_form.specs.Ranges.{is_word}
 use Rattle.paper_form.proofs.FieldTexts.{IsPlain, plain_number, plain_mass, plain_day}
 
 -- a text of a value: plain, and read as it
-pub record IsTextOf {A : Type 0} (read : List ℕ → Option A) (value : A) (text : List ℕ) : Type 0 where
+pub record IsTextOf {A : Type 0} (read : List ℕ → Option A) (value : A)
+    (text : List ℕ) : Type 0 where
   pub plain : IsPlain text
   pub back : read text ≡ Some value
 
@@ -55,14 +56,16 @@ row_back row h =
     record {
       plain = plain_number row (omega (arith, few));
       back = rw (
-        bounded_number-decimal 20 MAX_ROWS row (omega arith) (omega (arith, few)) (omega (arith, few)) few,
+        bounded_number-decimal 20 MAX_ROWS row (omega arith) (omega (arith, few))
+            (omega (arith, few)) few,
         parts.0,
       ) refl;
     }
 
 -- ---- masses
 
-read_mass : (most mg : ℤ) → most <ℤ pos 100_000_000_000 → is_within (pos 0) most mg ≡ true → IsReadMass mg
+read_mass : (most mg : ℤ) → most <ℤ pos 100_000_000_000 → is_within (pos 0) most mg ≡ true
+    → IsReadMass mg
 read_mass most mg small h =
     let limits = between (pos 0) most mg h in (limits.0, omega (arith, ints, small, limits.1))
 
@@ -72,13 +75,17 @@ mass_back most mg small h =
     let read = read_mass most mg small h in
     record {
       plain = plain_mass mg read;
-      back = rw (milligrams_of-gram_text mg read, (and_parts (int_le (pos 0) mg) (int_le mg most) h).1) refl;
+      back = rw
+          (milligrams_of-gram_text mg read, (and_parts (int_le (pos 0) mg) (int_le mg most) h).1)
+          refl;
     }
 
-pub gross_back : (mg : ℤ) → is_within (pos 0) MAX_GROSS mg ≡ true → IsTextOf (mass_in MAX_GROSS) mg (gram_text mg)
+pub gross_back : (mg : ℤ) → is_within (pos 0) MAX_GROSS mg ≡ true
+    → IsTextOf (mass_in MAX_GROSS) mg (gram_text mg)
 gross_back mg h = mass_back MAX_GROSS mg (omega (arith, ints)) h
 
-pub tare_back : (mg : ℤ) → is_within (pos 0) MAX_TARE mg ≡ true → IsTextOf (mass_in MAX_TARE) mg (gram_text mg)
+pub tare_back : (mg : ℤ) → is_within (pos 0) MAX_TARE mg ≡ true
+    → IsTextOf (mass_in MAX_TARE) mg (gram_text mg)
 tare_back mg h = mass_back MAX_TARE mg (omega (arith, ints)) h
 
 pub nominal_back : (mg : ℤ) → is_within MIN_NOMINAL MAX_NOMINAL mg ≡ true
@@ -86,13 +93,15 @@ pub nominal_back : (mg : ℤ) → is_within MIN_NOMINAL MAX_NOMINAL mg ≡ true
 nominal_back mg h =
     let limits = between MIN_NOMINAL MAX_NOMINAL mg h in
     let read : IsReadMass mg = (omega (arith, ints, limits.0), omega (arith, ints, limits.1)) in
-    record { plain = plain_mass mg read; back = milligrams_of-gram_text mg read; }
+    record { plain = plain_mass mg read; back = milligrams_of-gram_text mg read }
 
 -- a density is at most the greatest
-density_most : (unit : units.Unit) (density : ℕ) → is_density unit density ≡ true → density ≤ MAX_DENSITY
+density_most : (unit : units.Unit) (density : ℕ) → is_density unit density ≡ true
+    → density ≤ MAX_DENSITY
 density_most Mass density h = let is = eqb-true density UNIT_DENSITY h in omega (arith, is)
 density_most Volume density h =
-    leb-true density MAX_DENSITY (and_parts (nat_le MIN_DENSITY density) (nat_le density MAX_DENSITY) h).1
+    leb-true density MAX_DENSITY
+    (and_parts (nat_le MIN_DENSITY density) (nat_le density MAX_DENSITY) h).1
 
 pub density_back : (unit : units.Unit) (density : ℕ) → is_density unit density ≡ true
     → IsTextOf density_in density (gram_text (pos density))
@@ -108,7 +117,7 @@ density_back unit density h =
 
 pub day_back : (day : ℤ) → is_within (pos 0) MAX_DAY day ≡ true → IsTextOf day_of day (day_text day)
 day_back day h =
-    record { plain = plain_day day; back = day_of-day_text day (between (pos 0) MAX_DAY day h); }
+    record { plain = plain_day day; back = day_of-day_text day (between (pos 0) MAX_DAY day h) }
 
 pub name_back : (name : Name) → name_of (bytes_of name) ≡ Some name
 name_back name = sym (name_of_bytes name (bytes_of name) refl)

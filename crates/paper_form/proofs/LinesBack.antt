@@ -47,15 +47,16 @@ pub record AreFieldsOf (said : lines.Line) : Type 0 where
 -- ---- the goods
 
 unit_back : (unit : units.Unit) → IsTextOf unit_in unit (unit_field unit)
-unit_back Mass = record { plain = refl; back = refl; }
-unit_back Volume = record { plain = refl; back = refl; }
+unit_back Mass = record { plain = refl; back = refl }
+unit_back Volume = record { plain = refl; back = refl }
 
 goods_back : (g : goods.Goods) → are_goods_in_range g ≡ true → AreFieldsOf (line.Goods g)
 goods_back g h =
     let rows = and_parts _ (is_row g.row) h in
     let densities = and_parts _ (is_density g.unit g.density) rows.0 in
     let nominals = and_parts _ (is_within MIN_NOMINAL MAX_NOMINAL g.nominal) densities.0 in
-    let names = and_parts (is_name_shape (bytes_of g.batch)) (is_name_shape (bytes_of g.product)) nominals.0 in
+    let names = and_parts (is_name_shape (bytes_of g.batch)) (is_name_shape (bytes_of g.product))
+    nominals.0 in
     let nominal = nominal_back g.nominal nominals.1 in
     let unit = unit_back g.unit in
     let density = density_back g.unit g.density densities.1 in
@@ -70,7 +71,13 @@ goods_back g h =
         row.plain,
       ) refl;
       back = rw (
-        name_back g.batch, name_back g.product, nominal.back, unit.back, density.back, row.back, h,
+        name_back g.batch,
+        name_back g.product,
+        nominal.back,
+        unit.back,
+        density.back,
+        row.back,
+        h,
       ) refl;
     }
 
@@ -78,10 +85,11 @@ goods_back g h =
 
 tare_line_back : (dated : DatedTare) → is_tare_in_range dated ≡ true → AreFieldsOf (line.Tare dated)
 tare_line_back dated h =
-    let parts = and_parts (is_within (pos 0) MAX_DAY dated.day) (is_within (pos 0) MAX_TARE dated.tare) h in
+    let parts = and_parts (is_within (pos 0) MAX_DAY dated.day)
+    (is_within (pos 0) MAX_TARE dated.tare) h in
     let day = day_back dated.day parts.0 in
     let tare = tare_back dated.tare parts.1 in
-    record { plain = rw (day.plain, tare.plain) refl; back = rw (day.back, tare.back) refl; }
+    record { plain = rw (day.plain, tare.plain) refl; back = rw (day.back, tare.back) refl }
 
 pack_line_back : (pack : packs.Pack) → is_pack_in_range pack ≡ true → AreFieldsOf (line.Pack pack)
 pack_line_back pack h =
@@ -103,15 +111,15 @@ mode_line_back draw h = each draw.mode
     each : (mode : Mode) → AreFieldsOf (line.Mode (record { mode = mode; word = draw.word }))
     each Keep =
         let word = word_back draw.word h in
-        record { plain = rw word.plain refl; back = rw word.back refl; }
+        record { plain = rw word.plain refl; back = rw word.back refl }
     each Destroy =
         let word = word_back draw.word h in
-        record { plain = rw word.plain refl; back = rw word.back refl; }
+        record { plain = rw word.plain refl; back = rw word.back refl }
 
 word_line_back : (w : ℕ) → is_word w ≡ true → AreFieldsOf (line.Word w)
 word_line_back w h =
     let word = word_back w h in
-    record { plain = rw word.plain refl; back = rw word.back refl; }
+    record { plain = rw word.plain refl; back = rw word.back refl }
 
 first_line_back : (n : ℕ) (weighed : Option Weighed)
     → (is_pick_in_range (record { pack = n; weighed = weighed })
@@ -122,7 +130,8 @@ first_line_back n None h =
 first_line_back n (Some w) h =
     let range = and_parts (is_row n && is_weighed_in_range w) true h in
     let parts = and_parts (is_row n) (is_weighed_in_range w) range.0 in
-    let masses = and_parts (is_within (pos 0) MAX_GROSS w.gross) (is_within (pos 0) MAX_TARE w.empty) parts.1 in
+    let masses = and_parts (is_within (pos 0) MAX_GROSS w.gross)
+    (is_within (pos 0) MAX_TARE w.empty) parts.1 in
     let number = row_back n parts.0 in
     let gross = gross_back w.gross masses.0 in
     let empty = tare_back w.empty masses.1 in
@@ -137,10 +146,11 @@ second_line_back : (n : ℕ) (weighed : Option Weighed)
 second_line_back n None h =
     let parts = and_parts (is_row n) true h in
     let number = row_back n parts.0 in
-    record { plain = rw number.plain refl; back = rw number.back refl; }
+    record { plain = rw number.plain refl; back = rw number.back refl }
 second_line_back n (Some w) h =
     let parts = and_parts (is_row n) (is_weighed_in_range w) h in
-    let masses = and_parts (is_within (pos 0) MAX_GROSS w.gross) (is_within (pos 0) MAX_TARE w.empty) parts.1 in
+    let masses = and_parts (is_within (pos 0) MAX_GROSS w.gross)
+    (is_within (pos 0) MAX_TARE w.empty) parts.1 in
     let number = row_back n parts.0 in
     let gross = gross_back w.gross masses.0 in
     let empty = tare_back w.empty masses.1 in
@@ -160,50 +170,50 @@ fails_back : (contents mean average allowance inadequate : Bool)
       allowance = allowance;
       inadequate = inadequate;
     })))
-fails_back true true true true true h = record { plain = refl; back = refl; }
-fails_back true true true true false h = record { plain = refl; back = refl; }
-fails_back true true true false true h = record { plain = refl; back = refl; }
-fails_back true true true false false h = record { plain = refl; back = refl; }
-fails_back true true false true true h = record { plain = refl; back = refl; }
-fails_back true true false true false h = record { plain = refl; back = refl; }
-fails_back true true false false true h = record { plain = refl; back = refl; }
-fails_back true true false false false h = record { plain = refl; back = refl; }
-fails_back true false true true true h = record { plain = refl; back = refl; }
-fails_back true false true true false h = record { plain = refl; back = refl; }
-fails_back true false true false true h = record { plain = refl; back = refl; }
-fails_back true false true false false h = record { plain = refl; back = refl; }
-fails_back true false false true true h = record { plain = refl; back = refl; }
-fails_back true false false true false h = record { plain = refl; back = refl; }
-fails_back true false false false true h = record { plain = refl; back = refl; }
-fails_back true false false false false h = record { plain = refl; back = refl; }
-fails_back false true true true true h = record { plain = refl; back = refl; }
-fails_back false true true true false h = record { plain = refl; back = refl; }
-fails_back false true true false true h = record { plain = refl; back = refl; }
-fails_back false true true false false h = record { plain = refl; back = refl; }
-fails_back false true false true true h = record { plain = refl; back = refl; }
-fails_back false true false true false h = record { plain = refl; back = refl; }
-fails_back false true false false true h = record { plain = refl; back = refl; }
-fails_back false true false false false h = record { plain = refl; back = refl; }
-fails_back false false true true true h = record { plain = refl; back = refl; }
-fails_back false false true true false h = record { plain = refl; back = refl; }
-fails_back false false true false true h = record { plain = refl; back = refl; }
-fails_back false false true false false h = record { plain = refl; back = refl; }
-fails_back false false false true true h = record { plain = refl; back = refl; }
-fails_back false false false true false h = record { plain = refl; back = refl; }
-fails_back false false false false true h = record { plain = refl; back = refl; }
+fails_back true true true true true h = record { plain = refl; back = refl }
+fails_back true true true true false h = record { plain = refl; back = refl }
+fails_back true true true false true h = record { plain = refl; back = refl }
+fails_back true true true false false h = record { plain = refl; back = refl }
+fails_back true true false true true h = record { plain = refl; back = refl }
+fails_back true true false true false h = record { plain = refl; back = refl }
+fails_back true true false false true h = record { plain = refl; back = refl }
+fails_back true true false false false h = record { plain = refl; back = refl }
+fails_back true false true true true h = record { plain = refl; back = refl }
+fails_back true false true true false h = record { plain = refl; back = refl }
+fails_back true false true false true h = record { plain = refl; back = refl }
+fails_back true false true false false h = record { plain = refl; back = refl }
+fails_back true false false true true h = record { plain = refl; back = refl }
+fails_back true false false true false h = record { plain = refl; back = refl }
+fails_back true false false false true h = record { plain = refl; back = refl }
+fails_back true false false false false h = record { plain = refl; back = refl }
+fails_back false true true true true h = record { plain = refl; back = refl }
+fails_back false true true true false h = record { plain = refl; back = refl }
+fails_back false true true false true h = record { plain = refl; back = refl }
+fails_back false true true false false h = record { plain = refl; back = refl }
+fails_back false true false true true h = record { plain = refl; back = refl }
+fails_back false true false true false h = record { plain = refl; back = refl }
+fails_back false true false false true h = record { plain = refl; back = refl }
+fails_back false true false false false h = record { plain = refl; back = refl }
+fails_back false false true true true h = record { plain = refl; back = refl }
+fails_back false false true true false h = record { plain = refl; back = refl }
+fails_back false false true false true h = record { plain = refl; back = refl }
+fails_back false false true false false h = record { plain = refl; back = refl }
+fails_back false false false true true h = record { plain = refl; back = refl }
+fails_back false false false true false h = record { plain = refl; back = refl }
+fails_back false false false false true h = record { plain = refl; back = refl }
 fails_back false false false false false h = absurd (cc)
 
 verdict_line_back : (verdict : verdicts.Verdict) → is_verdict_said verdict ≡ true
     → AreFieldsOf (line.Verdict verdict)
-verdict_line_back Empty h = record { plain = refl; back = refl; }
-verdict_line_back Released h = record { plain = refl; back = refl; }
+verdict_line_back Empty h = record { plain = refl; back = refl }
+verdict_line_back Released h = record { plain = refl; back = refl }
 verdict_line_back (Withheld fails) h =
     fails_back fails.contents fails.mean fails.average fails.allowance fails.inadequate h
 
 -- ---- any line
 
 fields_back : (said : lines.Line) → is_line_whole said ≡ true → AreFieldsOf said
-fields_back line.Title h = record { plain = refl; back = refl; }
+fields_back line.Title h = record { plain = refl; back = refl }
 fields_back (line.Goods g) h = goods_back g h
 fields_back (line.Tare dated) h = tare_line_back dated h
 fields_back (line.Pack pack) h = pack_line_back pack h
@@ -238,6 +248,7 @@ pub line_ends : (said : lines.Line) (rest : List ℕ) → is_line_whole said ≡
     ≡ join_with_byte 32 (line_fields said) ∷ slice_split is_line_end rest
 line_ends said rest h =
     let fields = fields_back said h in
-    ap (slice_split is_line_end) (append_assoc (join_with_byte 32 (line_fields said)) (10 ∷ []) rest)
+    ap (slice_split is_line_end)
+    (append_assoc (join_with_byte 32 (line_fields said)) (10 ∷ []) rest)
     ∙ split_first 10 (join_with_byte 32 (line_fields said)) rest
     (join_above (line_fields said) fields.plain) refl

@@ -37,7 +37,8 @@ rises-push f (x ∷ []) y rises last (suc k) within = absurd (omega (arith, with
 rises-push f (x ∷ z ∷ xs) y rises last zero within = rises 0 (omega arith)
 rises-push f (x ∷ z ∷ xs) y rises last (suc k) within =
     let e : suc k + 1 ≡ suc (k + 1) = omega arith in
-    subst (λ n. slice_index (map f (z ∷ xs ++ y ∷ [])) k < slice_index (map f (x ∷ z ∷ xs ++ y ∷ [])) n)
+    subst (λ n. slice_index (map f (z ∷ xs ++ y ∷ [])) k < slice_index
+    (map f (x ∷ z ∷ xs ++ y ∷ [])) n)
     (sym e) (rises-push f (z ∷ xs) y (rises_behind f x z xs rises) last k (omega (arith, within)))
 
 natural_less : (a b : ℤ) → int_le (pos 0) a ≡ true → int_le (pos 0) b ≡ true → int_lt a b ≡ true
@@ -48,7 +49,8 @@ natural_less (negsuc a) b la lb less = let never : false ≡ true = la in cc
 
 day_natural : (dated : DatedTare) → is_tare_in_range dated ≡ true → int_le (pos 0) dated.day ≡ true
 day_natural dated range =
-    (and_parts _ _ ((and_parts (is_within (pos 0) MAX_DAY dated.day) (is_within (pos 0) MAX_TARE dated.tare)
+    (and_parts _ _
+    ((and_parts (is_within (pos 0) MAX_DAY dated.day) (is_within (pos 0) MAX_TARE dated.tare)
     range).0)).0
 
 -- a tare for a later day than the last
@@ -60,11 +62,13 @@ later-days [] dated range one later = refl
 later-days (x ∷ []) dated range one later = natural_less x.day dated.day
     (day_natural x ((and_parts (is_tare_in_range x) true range).0)) (day_natural dated one) later
 later-days (x ∷ z ∷ xs) dated range one later =
-    later-days (z ∷ xs) dated ((and_parts (is_tare_in_range x) (list_all is_tare_in_range (z ∷ xs)) range).1)
+    later-days (z ∷ xs) dated
+    ((and_parts (is_tare_in_range x) (list_all is_tare_in_range (z ∷ xs)) range).1)
     one later
 
 pub listed-tare : (tares : List DatedTare) (dated : DatedTare) → AreTaresListed tares
-    → is_tare_in_range dated ≡ true → is_later tares dated ≡ true → AreTaresListed (tares ++ dated ∷ [])
+    → is_tare_in_range dated ≡ true → is_later tares dated ≡ true
+    → AreTaresListed (tares ++ dated ∷ [])
 listed-tare tares dated listed one later =
     record {
       range = list_all-push is_tare_in_range tares dated listed.range one;
@@ -73,7 +77,8 @@ listed-tare tares dated listed one later =
     }
 
 pub listed-pack : (before : List packs.Pack) (pack : packs.Pack) → ArePacksListed before
-    → is_pack_in_range pack ≡ true → is_next before pack ≡ true → ArePacksListed (before ++ pack ∷ [])
+    → is_pack_in_range pack ≡ true → is_next before pack ≡ true
+    → ArePacksListed (before ++ pack ∷ [])
 listed-pack before pack listed one next =
     let parts = and_parts (is_greater before pack) (nat_lt (length before) MAX_POPULATION) next in
     let room = ltb-true (length before) MAX_POPULATION parts.1 in

@@ -35,12 +35,14 @@ split_place p (x ∷ text) (suc place) none within is = elim (cases_Bool (p x)) 
 -- the bytes before the first blank are the first field, and behind it stand the others
 pub first_part : (text : List ℕ) →
     slice_split is_blank text
-    ≡ take (position_or_len is_blank text) text ∷ fields_left (drop (position_or_len is_blank text) text)
+    ≡ take (position_or_len is_blank text) text ∷ fields_left
+    (drop (position_or_len is_blank text) text)
 first_part [] = refl
 first_part (x ∷ text) = elim (cases_Bool (is_blank x)) [
   | inl is ↦ rw is refl
   | inr other ↦
-      let one : 1 + position_or_len is_blank text ≡ suc (position_or_len is_blank text) = omega arith in
+      let one : 1 + position_or_len is_blank text ≡ suc (position_or_len is_blank text) =
+      omega arith in
       rw (other, first_part text, one) refl
 ]
 
@@ -62,4 +64,5 @@ is_over-parts text = rw (first_part text) refl
 -- no field is left just where no byte is
 pub over_is : (left : List ℕ) → (length left == 0) ≡ is_over (fields_left left)
 over_is [] = refl
-over_is (byte ∷ text) = ne_eqb (length (byte ∷ text)) 0 (λ e. omega (arith, e)) ∙ sym (is_over-parts text)
+over_is (byte ∷ text) = ne_eqb (length (byte ∷ text)) 0
+    (λ e. omega (arith, e)) ∙ sym (is_over-parts text)

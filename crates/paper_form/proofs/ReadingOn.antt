@@ -27,7 +27,8 @@ parts_of p (x ∷ text) = elim (cases_Bool (p x)) [
 
 by_parts : (line : ℕ) (draft : Draft) (text first : List ℕ) (others : List (List ℕ)) →
     read_on line draft (text ∷ first ∷ others)
-    ≡ option_map_or (λ more. read_on (line + 1) more (first ∷ others)) (next_text draft text) (Err line)
+    ≡ option_map_or
+    (λ more. read_on (line + 1) more (first ∷ others)) (next_text draft text) (Err line)
 unfolding read_on
 by_parts line draft text first others = refl
 
@@ -46,12 +47,14 @@ pub read_on-end : (line : ℕ) (draft : Draft) (rest : List ℕ)
 unfolding read_on
 read_on-end line draft rest = refl
 
-pub paper_in-begins : (bytes : List ℕ) → read_on 1 no_lines (slice_split is_line_end bytes) ≡ paper_in bytes
+pub paper_in-begins : (bytes : List ℕ) → read_on 1 no_lines (slice_split is_line_end bytes)
+    ≡ paper_in bytes
 unfolding paper_in
 paper_in-begins bytes = refl
 
 -- with a line taken the reading goes on
-pub reads_next : (line : ℕ) (draft more : Draft) (rest text after : List ℕ) (whole : Result PaperData ℕ)
+pub reads_next : (line : ℕ) (draft more : Draft) (rest text after : List ℕ)
+    (whole : Result PaperData ℕ)
     → read_on line draft (slice_split is_line_end rest) ≡ whole
     → slice_split is_line_end rest ≡ text ∷ slice_split is_line_end after
     → next_text draft text ≡ Some more
@@ -94,4 +97,5 @@ ok_read (Err why) end whole same read = read
 pub err_unread : (r : Result Paper PaperFault) (end whole : Result PaperData ℕ) → end ≡ whole
     → IfErr r (IsUnread end) → IfErr r (IsUnread whole)
 err_unread (Ok paper) end whole same unread = unread
-err_unread (Err why) end whole same unread = subst (λ (e : Result PaperData ℕ). IsUnread e why) same unread
+err_unread (Err why) end whole same unread =
+    subst (λ (e : Result PaperData ℕ). IsUnread e why) same unread

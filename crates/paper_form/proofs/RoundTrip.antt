@@ -26,21 +26,26 @@ use Rattle.paper_form.proofs.LinesBack.{is_line_whole, line_back, line_ends}
 abbrev goes_on : Draft → List lines.Line → Option Draft
 goes_on draft [] = Some draft
 goes_on draft (said ∷ more) =
-    option_and_then (λ after. goes_on after more) (if is_line_whole said then next draft said else None)
+    option_and_then
+    (λ after. goes_on after more) (if is_line_whole said then next draft said else None)
 
 -- one line of them is taken, and the others go on
-one_on : (draft after : Draft) (said : lines.Line) (more : List lines.Line) → is_line_whole said ≡ true
+one_on : (draft after : Draft) (said : lines.Line) (more : List lines.Line)
+    → is_line_whole said ≡ true
     → next draft said ≡ Some after → goes_on draft (said ∷ more) ≡ goes_on after more
 one_on draft after said more whole taken = rw (whole, taken) refl
 
 on_append : (draft after : Draft) (some more : List lines.Line) → goes_on draft some ≡ Some after
     → goes_on draft (some ++ more) ≡ goes_on after more
-on_append draft after [] more goes = ap (λ (o : Option Draft). option_and_then (λ d. goes_on d more) o) goes
+on_append draft after [] more goes =
+    ap (λ (o : Option Draft). option_and_then (λ d. goes_on d more) o) goes
 on_append draft after (said ∷ some) more goes =
-    each (if is_line_whole said then next draft said else None) (λ d. on_append d after some more) goes
+    each (if is_line_whole said then next draft said else None)
+    (λ d. on_append d after some more) goes
   where
     each : (o : Option Draft)
-        → ((d : Draft) → goes_on d some ≡ Some after → goes_on d (some ++ more) ≡ goes_on after more)
+        → ((d : Draft) → goes_on d some ≡ Some after
+        → goes_on d (some ++ more) ≡ goes_on after more)
         → option_and_then (λ d. goes_on d some) o ≡ Some after
         → option_and_then (λ d. goes_on d (some ++ more)) o ≡ goes_on after more
     each None rest h = absurd (cc)
@@ -48,7 +53,8 @@ on_append draft after (said ∷ some) more goes =
 
 -- ---- what their text gives
 
-reads_line : (number : ℕ) (draft after : Draft) (said : lines.Line) (rest : List ℕ) → is_line_whole said ≡ true
+reads_line : (number : ℕ) (draft after : Draft) (said : lines.Line) (rest : List ℕ)
+    → is_line_whole said ≡ true
     → next draft said ≡ Some after
     → read_on number draft (slice_split is_line_end (line_text said ++ rest))
     ≡ read_on (number + 1) after (slice_split is_line_end rest)
@@ -56,7 +62,8 @@ reads_line number draft after said rest whole taken =
     ap (read_on number draft) (line_ends said rest whole)
     ∙ read_on-line number draft _ rest
     ∙ ap (λ (o : Option lines.Line). option_map_or
-    (λ d. read_on (number + 1) d (slice_split is_line_end rest)) (option_and_then (next draft) o) (Err number))
+    (λ d. read_on (number + 1) d (slice_split is_line_end rest)) (option_and_then (next draft) o)
+    (Err number))
     (line_back said whole)
     ∙ ap (λ (o : Option Draft). option_map_or
     (λ d. read_on (number + 1) d (slice_split is_line_end rest)) o (Err number)) taken
@@ -67,7 +74,8 @@ reads_lines : (number : ℕ) (draft end : Draft) (paper : PaperData) (some : Lis
     → read_on number draft (slice_split is_line_end (flat_map line_text some)) ≡ Ok paper
 reads_lines number draft end paper [] goes whole =
     read_on-end number draft []
-    ∙ ap (λ (o : Option Draft). option_map_or (λ d. option_map_or (λ p. Ok p) (whole_of d) (Err number)) o
+    ∙ ap (λ (o : Option Draft). option_map_or
+    (λ d. option_map_or (λ p. Ok p) (whole_of d) (Err number)) o
     (Err number)) goes
     ∙ ap (λ (o : Option PaperData). option_map_or (λ p. Ok p) o (Err number)) whole
 reads_lines number draft end paper (said ∷ some) goes whole =
@@ -78,7 +86,8 @@ reads_lines number draft end paper (said ∷ some) goes whole =
         → ((d : Draft) → goes_on d some ≡ Some end
         → read_on (number + 1) d (slice_split is_line_end (flat_map line_text some)) ≡ Ok paper)
         → option_and_then (λ d. goes_on d some) (if b then o else None) ≡ Some end
-        → read_on number draft (slice_split is_line_end (flat_map line_text (said ∷ some))) ≡ Ok paper
+        → read_on number draft (slice_split is_line_end (flat_map line_text (said ∷ some)))
+        ≡ Ok paper
     each true (Some d) told taken rest h =
         reads_line number draft d said (flat_map line_text some) told taken ∙ rest d h
     each true None told taken rest h = absurd (cc)
@@ -103,16 +112,19 @@ whole_less (negsuc a) b la lb less = absurd (cc)
 
 whole_day : (dated : DatedTare) → is_tare_in_range dated ≡ true → int_le (pos 0) dated.day ≡ true
 whole_day dated range =
-    (and_parts _ _ ((and_parts (is_within (pos 0) MAX_DAY dated.day) (is_within (pos 0) MAX_TARE dated.tare)
+    (and_parts _ _
+    ((and_parts (is_within (pos 0) MAX_DAY dated.day) (is_within (pos 0) MAX_TARE dated.tare)
     range).0)).0
 
 later_than : (before : List DatedTare) (dated : DatedTare) → list_all is_tare_in_range before ≡ true
     → is_tare_in_range dated ≡ true
-    → option_map_or (λ b. nat_lt (unsigned_abs b.day) (unsigned_abs dated.day)) (last_or None before) true ≡ true
+    → option_map_or
+    (λ b. nat_lt (unsigned_abs b.day) (unsigned_abs dated.day)) (last_or None before) true ≡ true
     → is_later before dated ≡ true
 later_than [] dated all one above = refl
 later_than (a ∷ []) dated all one above =
-    whole_less a.day dated.day (whole_day a (and_parts (is_tare_in_range a) true all).0) (whole_day dated one) above
+    whole_less a.day dated.day (whole_day a (and_parts (is_tare_in_range a) true all).0)
+    (whole_day dated one) above
 later_than (a ∷ b ∷ before) dated all one above =
     later_than (b ∷ before) dated (and_parts (is_tare_in_range a) _ all).1 one above
 
@@ -145,7 +157,8 @@ at_first g ts ps draw first =
       first = first;
     }
 
-abbrev at_second : goods.Goods → List DatedTare → List packs.Pack → draws.Draw → List Pick → ℕ → List Pick → Draft
+abbrev at_second : goods.Goods → List DatedTare → List packs.Pack → draws.Draw → List Pick → ℕ
+    → List Pick → Draft
 at_second g ts ps draw first word second =
     record no_lines {
       stage = stage.Second;
@@ -166,12 +179,14 @@ tares_on g before (t ∷ ts) listed =
     let later = later_than before t parts.0 parts.1
     (before_it (λ (d : DatedTare). unsigned_abs d.day) before t ts listed.ascend) in
     let same = append_assoc before (t ∷ []) ts in
-    one_on (at_tares g before) (at_tares g (before ++ t ∷ [])) (line.Tare t) (map (λ t. line.Tare t) ts) parts.1
+    one_on (at_tares g before) (at_tares g (before ++ t ∷ [])) (line.Tare t)
+    (map (λ t. line.Tare t) ts) parts.1
     (rw later refl)
     ∙ tares_on g (before ++ t ∷ []) ts (subst AreTaresListed (sym same) listed)
     ∙ ap (λ ts. Some (at_tares g ts)) same
 
-next_pack : (before : List packs.Pack) (p : packs.Pack) (ps : List packs.Pack) → ArePacksListed (before ++ p ∷ ps)
+next_pack : (before : List packs.Pack) (p : packs.Pack) (ps : List packs.Pack)
+    → ArePacksListed (before ++ p ∷ ps)
     → is_next before p ≡ true
 next_pack before p ps listed =
     let few = listed.few in
@@ -179,13 +194,16 @@ next_pack before p ps listed =
     (before_it (λ (x : packs.Pack). x.number) before p ps listed.ascend)
     (lt-ltb (length before) MAX_POPULATION (omega (arith, length-append before (p ∷ ps), few)))
 
-packs_on : (g : goods.Goods) (ts : List DatedTare) (before ps : List packs.Pack) → ArePacksListed (before ++ ps)
-    → goes_on (at_packs g ts before) (map (λ p. line.Pack p) ps) ≡ Some (at_packs g ts (before ++ ps))
+packs_on : (g : goods.Goods) (ts : List DatedTare) (before ps : List packs.Pack)
+    → ArePacksListed (before ++ ps)
+    → goes_on (at_packs g ts before)
+    (map (λ p. line.Pack p) ps) ≡ Some (at_packs g ts (before ++ ps))
 packs_on g ts before [] listed = ap (λ ps. Some (at_packs g ts ps)) (sym (append-nil before))
 packs_on g ts before (p ∷ ps) listed =
     let parts = parts_of is_pack_in_range before p ps listed.range in
     let same = append_assoc before (p ∷ []) ps in
-    one_on (at_packs g ts before) (at_packs g ts (before ++ p ∷ [])) (line.Pack p) (map (λ p. line.Pack p) ps) parts.1
+    one_on (at_packs g ts before) (at_packs g ts (before ++ p ∷ [])) (line.Pack p)
+    (map (λ p. line.Pack p) ps) parts.1
     (rw (next_pack before p ps listed) refl)
     ∙ packs_on g ts (before ++ p ∷ []) ps (subst ArePacksListed (sym same) listed)
     ∙ ap (λ ps. Some (at_packs g ts ps)) same
@@ -196,12 +214,14 @@ all_packs_on : (g : goods.Goods) (ts : List DatedTare) (p : packs.Pack) (ps : Li
     → goes_on (at_tares g ts) (map (λ p. line.Pack p) (p ∷ ps)) ≡ Some (at_packs g ts (p ∷ ps))
 all_packs_on g ts p ps listed =
     let parts = parts_of is_pack_in_range [] p ps listed.range in
-    one_on (at_tares g ts) (at_packs g ts (p ∷ [])) (line.Pack p) (map (λ p. line.Pack p) ps) parts.1
+    one_on (at_tares g ts) (at_packs g ts (p ∷ [])) (line.Pack p)
+    (map (λ p. line.Pack p) ps) parts.1
     refl
     ∙ packs_on g ts (p ∷ []) ps listed
 
 first_on : (g : goods.Goods) (ts : List DatedTare) (ps : List packs.Pack) (draw : draws.Draw)
-    (before picks : List Pick) → list_all is_pick_in_range picks ≡ true → list_all is_measured picks ≡ true
+    (before picks : List Pick) → list_all is_pick_in_range picks ≡ true
+    → list_all is_measured picks ≡ true
     → list_all (is_pick_right (Some draw)) picks ≡ true
     → goes_on (at_first g ts ps draw before) (map (λ p. line.First p) picks)
     ≡ Some (at_first g ts ps draw (before ++ picks))
@@ -210,7 +230,8 @@ first_on g ts ps draw before [] range told right =
 first_on g ts ps draw before (p ∷ picks) range told right =
     let ranges = and_parts (is_pick_in_range p) (list_all is_pick_in_range picks) range in
     let tolds = and_parts (is_measured p) (list_all is_measured picks) told in
-    let rights = and_parts (is_pick_right (Some draw) p) (list_all (is_pick_right (Some draw)) picks) right in
+    let rights = and_parts (is_pick_right (Some draw) p)
+    (list_all (is_pick_right (Some draw)) picks) right in
     one_on (at_first g ts ps draw before) (at_first g ts ps draw (before ++ p ∷ [])) (line.First p)
     (map (λ p. line.First p) picks) (and_from (is_pick_in_range p) (is_measured p) ranges.0 tolds.0)
     (rw rights.0 refl)
@@ -218,7 +239,8 @@ first_on g ts ps draw before (p ∷ picks) range told right =
     ∙ ap (λ picks. Some (at_first g ts ps draw picks)) (append_assoc before (p ∷ []) picks)
 
 second_on : (g : goods.Goods) (ts : List DatedTare) (ps : List packs.Pack) (draw : draws.Draw)
-    (first : List Pick) (word : ℕ) (before picks : List Pick) → list_all is_pick_in_range picks ≡ true
+    (first : List Pick) (word : ℕ) (before picks : List Pick) → list_all is_pick_in_range picks
+    ≡ true
     → list_all (is_pick_right (Some draw)) picks ≡ true
     → goes_on (at_second g ts ps draw first word before) (map (λ p. line.Second p) picks)
     ≡ Some (at_second g ts ps draw first word (before ++ picks))
@@ -226,15 +248,19 @@ second_on g ts ps draw first word before [] range right =
     ap (λ picks. Some (at_second g ts ps draw first word picks)) (sym (append-nil before))
 second_on g ts ps draw first word before (p ∷ picks) range right =
     let ranges = and_parts (is_pick_in_range p) (list_all is_pick_in_range picks) range in
-    let rights = and_parts (is_pick_right (Some draw) p) (list_all (is_pick_right (Some draw)) picks) right in
-    one_on (at_second g ts ps draw first word before) (at_second g ts ps draw first word (before ++ p ∷ []))
+    let rights = and_parts (is_pick_right (Some draw) p)
+    (list_all (is_pick_right (Some draw)) picks) right in
+    one_on (at_second g ts ps draw first word before)
+    (at_second g ts ps draw first word (before ++ p ∷ []))
     (line.Second p) (map (λ p. line.Second p) picks) ranges.0 (rw rights.0 refl)
     ∙ second_on g ts ps draw first word (before ++ p ∷ []) picks ranges.1 rights.1
-    ∙ ap (λ picks. Some (at_second g ts ps draw first word picks)) (append_assoc before (p ∷ []) picks)
+    ∙ ap (λ picks. Some (at_second g ts ps draw first word picks))
+    (append_assoc before (p ∷ []) picks)
 
 -- ---- the whole
 
-abbrev end_with : goods.Goods → List DatedTare → List packs.Pack → Option draws.Draw → List Pick → Option ℕ
+abbrev end_with : goods.Goods → List DatedTare → List packs.Pack → Option draws.Draw → List Pick
+    → Option ℕ
     → List Pick → verdicts.Verdict → Draft
 end_with g ts ps draw first word second v =
     record {
@@ -252,18 +278,22 @@ end_with g ts ps draw first word second v =
 -- the lines behind the first sample, those behind the mode, and those behind the tares
 abbrev behind_first : Option ℕ → List Pick → verdicts.Verdict → List lines.Line
 behind_first word second v =
-    map (λ w. line.Word w) (option_to_list word) ++ (map (λ p. line.Second p) second ++ line.Verdict v ∷ [])
+    map (λ w. line.Word w) (option_to_list word)
+    ++ (map (λ p. line.Second p) second ++ line.Verdict v ∷ [])
 
 abbrev behind_mode : List Pick → Option ℕ → List Pick → verdicts.Verdict → List lines.Line
 behind_mode first word second v = map (λ p. line.First p) first ++ behind_first word second v
 
-abbrev behind_tares : List packs.Pack → Option draws.Draw → List Pick → Option ℕ → List Pick → verdicts.Verdict
+abbrev behind_tares : List packs.Pack → Option draws.Draw → List Pick → Option ℕ → List Pick
+    → verdicts.Verdict
     → List lines.Line
 behind_tares ps draw first word second v =
-    map (λ p. line.Pack p) ps ++ (map (λ d. line.Mode d) (option_to_list draw) ++ behind_mode first word second v)
+    map (λ p. line.Pack p) ps
+    ++ (map (λ d. line.Mode d) (option_to_list draw) ++ behind_mode first word second v)
 
 -- the data of a paper by its parts
-abbrev paper_with : goods.Goods → List DatedTare → List packs.Pack → Option draws.Draw → List Pick → Option ℕ
+abbrev paper_with : goods.Goods → List DatedTare → List packs.Pack → Option draws.Draw → List Pick
+    → Option ℕ
     → List Pick → verdicts.Verdict → PaperData
 paper_with g ts ps draw first word second v =
     record {
@@ -284,7 +314,8 @@ samples_on : (g : goods.Goods) (ts : List DatedTare) (ps : List packs.Pack) (dra
     → goes_on (at_first g ts ps draw first) (behind_first word second v)
     ≡ Some (end_with g ts ps (Some draw) first word second v)
 samples_on g ts ps draw first None [] v h =
-    one_on (at_first g ts ps draw first) (end_with g ts ps (Some draw) first None [] v) (line.Verdict v) []
+    one_on (at_first g ts ps draw first) (end_with g ts ps (Some draw) first None [] v)
+    (line.Verdict v) []
     h.verdict refl
 samples_on g ts ps draw first None (p ∷ second) v h = let none = h.no_second refl in absurd (cc)
 samples_on g ts ps draw first (Some word) second v h =
@@ -296,7 +327,8 @@ samples_on g ts ps draw first (Some word) second v h =
     ∙ one_on (at_second g ts ps draw first word second)
     (end_with g ts ps (Some draw) first (Some word) second v) (line.Verdict v) [] h.verdict refl
 
-behind_on : (g : goods.Goods) (ts : List DatedTare) (ps : List packs.Pack) (draw : Option draws.Draw)
+behind_on : (g : goods.Goods) (ts : List DatedTare) (ps : List packs.Pack)
+    (draw : Option draws.Draw)
     (first : List Pick) (word : Option ℕ) (second : List Pick) (v : verdicts.Verdict)
     → IsPaper (paper_with g ts ps draw first word second v)
     → goes_on (at_tares g ts) (behind_tares ps draw first word second v)
@@ -307,8 +339,10 @@ behind_on g ts [] None [] None (p ∷ second) v h = let none = h.no_second refl 
 behind_on g ts [] None [] (Some word) second v h = let none = (h.undrawn refl).1 in absurd (cc)
 behind_on g ts [] None (p ∷ first) word second v h = let none = (h.undrawn refl).0 in absurd (cc)
 behind_on g ts (p ∷ ps) None first word second v h =
-    let none : length (p ∷ ps) ≡ 0 = eqb-true (length (p ∷ ps)) 0 (sym h.drawn) in absurd (omega (arith, none))
-behind_on g ts [] (Some draw) first word second v h = let never : false ≡ true = h.drawn in absurd (cc)
+    let none : length (p ∷ ps) ≡ 0 = eqb-true (length (p ∷ ps)) 0 (sym h.drawn) in absurd
+    (omega (arith, none))
+behind_on g ts [] (Some draw) first word second v h = let never : false ≡ true = h.drawn in absurd
+    (cc)
 behind_on g ts (p ∷ ps) (Some draw) first word second v h =
     on_append (at_tares g ts) (at_packs g ts (p ∷ ps)) (map (λ p. line.Pack p) (p ∷ ps))
     (map (λ d. line.Mode d) (option_to_list (Some draw)) ++ behind_mode first word second v)
@@ -334,23 +368,27 @@ behind_goods paper =
 
 whole_on : (paper : PaperData) → IsPaper paper
     → goes_on no_lines (lines_of paper)
-    ≡ Some (end_with paper.goods paper.tares paper.packs paper.draw paper.first paper.second_word paper.second
+    ≡ Some (end_with paper.goods paper.tares paper.packs paper.draw paper.first paper.second_word
+    paper.second
     paper.verdict)
 whole_on paper h =
     one_on no_lines (record no_lines { stage = stage.Goods }) line.Title
     (line.Goods paper.goods ∷ behind_goods paper) refl refl
-    ∙ one_on (record no_lines { stage = stage.Goods }) (at_tares paper.goods []) (line.Goods paper.goods)
+    ∙ one_on (record no_lines { stage = stage.Goods }) (at_tares paper.goods [])
+    (line.Goods paper.goods)
     (behind_goods paper) h.listed.goods refl
     ∙ ap (goes_on (at_tares paper.goods []))
     (regrouped (map (λ t. line.Tare t) paper.tares) (map (λ p. line.Pack p) paper.packs)
     (map (λ d. line.Mode d) (option_to_list paper.draw)) (map (λ p. line.First p) paper.first)
-    (map (λ w. line.Word w) (option_to_list paper.second_word)) (map (λ p. line.Second p) paper.second)
+    (map (λ w. line.Word w) (option_to_list paper.second_word))
+    (map (λ p. line.Second p) paper.second)
     (line.Verdict paper.verdict ∷ []))
     ∙ on_append (at_tares paper.goods []) (at_tares paper.goods paper.tares)
     (map (λ t. line.Tare t) paper.tares)
     (behind_tares paper.packs paper.draw paper.first paper.second_word paper.second paper.verdict)
     (tares_on paper.goods [] paper.tares h.listed.tares)
-    ∙ behind_on paper.goods paper.tares paper.packs paper.draw paper.first paper.second_word paper.second
+    ∙ behind_on paper.goods paper.tares paper.packs paper.draw paper.first paper.second_word
+    paper.second
     paper.verdict h
 
 paper_back : (paper : PaperData) → IsPaper paper → paper_in (paper_text paper) ≡ Ok paper

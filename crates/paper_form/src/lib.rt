@@ -1,6 +1,6 @@
-//! The form of the paper of a closed batch: what it says, as data and as text, and what the lines of
-//! a text say. What is written of data within the limits reads back as the same data. Masses are
-//! whole milligrams, days are counted from 1970-01-01.
+//! The form of the paper of a closed batch: what it says, as data and as text, and what the lines
+//! of a text say. The text of data within the limits reads back as these data. Masses are whole
+//! milligrams, days are counted from 1970-01-01.
 #![tactic(auto)]
 
 mod fields;

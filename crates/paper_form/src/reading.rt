@@ -214,7 +214,8 @@ fn add_pick(
 fn add_line(reading: &mut Reading, line: u32, said: &Line) -> Result<(), PaperFault>
     requires listed { IsDraftListed (draft_of reading.old) }
     requires range { is_line_in_range said.now ≡ true }
-    ensures longer { OnOk result (size_of (draft_of reading.new) ≤ size_of (draft_of reading.old) + 1) }
+    ensures longer { OnOk result
+        (size_of (draft_of reading.new) ≤ size_of (draft_of reading.old) + 1) }
     ensures listed { OnOk result (IsDraftListed (draft_of reading.new)) }
     ensures added { OnOk result
         (adds (draft_of reading.old) said.now ≡ Some (draft_of reading.new)) }
@@ -238,7 +239,8 @@ fn add_line(reading: &mut Reading, line: u32, said: &Line) -> Result<(), PaperFa
 fn take_line(reading: &mut Reading, line: u32, said: &Line) -> Result<(), PaperFault>
     requires listed { IsDraftListed (draft_of reading.old) }
     requires range { is_line_in_range said.now ≡ true }
-    ensures longer { OnOk result (size_of (draft_of reading.new) ≤ size_of (draft_of reading.old) + 1) }
+    ensures longer { OnOk result
+        (size_of (draft_of reading.new) ≤ size_of (draft_of reading.old) + 1) }
     ensures listed { OnOk result (IsDraftListed (draft_of reading.new)) }
     ensures taken { OnOk result
         (next (draft_of reading.old) said.now ≡ Some (draft_of reading.new)) }
@@ -256,7 +258,8 @@ fn take_line(reading: &mut Reading, line: u32, said: &Line) -> Result<(), PaperF
 /// refused line leaves isn't told.
 pub fn take_text(reading: &mut Reading, line: u32, text: &[u8]) -> Result<(), PaperFault>
     requires listed { IsDraftListed (draft_of reading.old) }
-    ensures longer { OnOk result (size_of (draft_of reading.new) ≤ size_of (draft_of reading.old) + 1) }
+    ensures longer { OnOk result
+        (size_of (draft_of reading.new) ≤ size_of (draft_of reading.old) + 1) }
     ensures listed { OnOk result (IsDraftListed (draft_of reading.new)) }
     ensures taken { OnOk result
         (next_text (draft_of reading.old) text.now ≡ Some (draft_of reading.new)) }

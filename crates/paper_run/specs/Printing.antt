@@ -18,8 +18,8 @@ use Rattle.report_run.specs.Printing.{SaysText}
 abbrev pub refused_line : List Entry → Refusal → List ℕ
 refused_line entries why = refusal_text (record { at = length entries; refusal = why })
 
--- What is printed of a batch in this state: the paper of a closed one; else the line that there is no
--- such batch, or that it is in another state.
+-- What is printed of a batch in this state: the paper of a closed one; else the line that there is
+-- no such batch, or that it is in another state.
 abbrev pub IsPrintedOf : List Entry → Name → Option BatchState → List ℕ → Type 0
 IsPrintedOf entries batch None text = text ≡ refused_line entries refusal.BatchUnknown
 IsPrintedOf entries batch (Some Closed) text = IsPaperOf entries batch text

@@ -80,7 +80,8 @@ fn prove_paper<K: Sink>(alloc: Global, paper: &[u8], output: &mut K) -> ProveEnd
 
 /// Reads an input to its end and proves that it is a paper whose verdict is true: then the line
 /// `true VERDICT` is written. A fault is at its line; an input of more than 16 777 216 bytes is
-/// faulty at line 0, and is read no further than the piece that makes it so. Nothing else is written.
+/// faulty at line 0, and is read no further than the piece that makes it so. Nothing else is
+/// written.
 pub fn prove_input<S: Source, K: Sink>(alloc: Global, input: &mut S, output: &mut K) -> ProveEnd
     requires unended { S.ended input.old ≡ false }
     ensures { ExplainsProving (input_at S.Source input.old) (input_at S.Source input.new)

@@ -16,7 +16,8 @@ loop-before-preserved c =
     ap (λ (front : List packs.Pack). front ++ left) (c.in_ok-push_pack.ensures
     ∙ ap (λ o. here.packs.items ++ cons_option o []) c.pack_at.ensures)
     ∙ append_assoc here.packs.items told left
-    ∙ ap (λ (rest : List packs.Pack). here.packs.items ++ rest) (sym (next_pack entries batch here.before inside))
+    ∙ ap (λ (rest : List packs.Pack). here.packs.items ++ rest)
+    (sym (next_pack entries batch here.before inside))
     ∙ here.invariant
 
 pub returns : goal.returns
@@ -26,5 +27,6 @@ returns c =
     let batch = c.args.batch.now in
     let all : length entries ≤ here.before = search rules in
     sym (append-nil here.packs.items)
-    ∙ ap (λ (left : List packs.Pack). here.packs.items ++ left) (sym (no_packs entries batch here.before all))
+    ∙ ap (λ (left : List packs.Pack). here.packs.items ++ left)
+    (sym (no_packs entries batch here.before all))
     ∙ here.invariant

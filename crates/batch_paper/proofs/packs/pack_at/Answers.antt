@@ -19,7 +19,9 @@ returns-then-is_in_stock c =
     let both : (same_name known.batch batch && is_stock known.pile) ≡ true =
     and_from (same_name known.batch batch) (is_stock known.pile)
     (sym c.is.ensures ∙ c.if-is.true) (sym c.is_in_stock.ensures ∙ c.if-is_in_stock.true) in
-    let pack : packs.Pack = record { number = c.args.number; day = known.day; gross = known.gross } in
+    let pack : packs.Pack = record { number = c.args.number; day = known.day; gross = known.gross }
+    in
     (λ i. Some (record { number = c.args.number; day = day i; gross = gross i }))
-    ∙ sym (stock_pack entries batch c.args.number known (sym c.in_ok-pack.was ∙ c.pack.ensures.value)
+    ∙ sym (stock_pack entries batch c.args.number known
+    (sym c.in_ok-pack.was ∙ c.pack.ensures.value)
     ∙ ap (λ b. cond b (Some pack) None) both)

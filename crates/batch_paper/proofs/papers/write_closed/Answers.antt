@@ -1,4 +1,5 @@
-use Rattle.std.proofs.Common.{◌≡◌, false, true, None, is_some, sym, ◌∙◌, ap}
+use Rattle.std.proofs.Common.{◌≡◌, ◌≤◌, ℕ, List, length, subst, false, true, None, is_some, sym, ◌∙◌, ap}
+use Rattle.paper_form.specs.declared.types.TheConstants.{MAX_PAPER}
 use Rattle.book_words.specs.Acts.{product_of}
 use Rattle.book_laws.proofs.BatchLaws.{orderly}
 use Rattle.batch_paper.proofs.PaperProven.{paper_right}
@@ -20,4 +21,7 @@ returns c =
     let batch = c.args.batch.now in
     let words = c.in_ok-text.ensures.words in
     paper_right entries batch c.in-Some.product c.requires.legal c.requires.closed
-    (sym c.in-Some.ensures.value) c.new.result words.0 words.1 (c.new.ensures ∙ c.in_ok-text.ensures.text)
+    (sym c.in-Some.ensures.value) c.new.result words.0 words.1
+    (c.new.ensures ∙ c.in_ok-text.ensures.text)
+    (subst (λ (bytes : List ℕ). length bytes ≤ MAX_PAPER)
+    (sym c.new.ensures) c.in_ok-text.ensures.short)

@@ -7,4 +7,5 @@ write_picks-requires-clause-range c =
 
 pub write_picks-requires-2-clause-range : goal.write_picks-requires-2-clause-range
 write_picks-requires-2-clause-range c =
-    picks_weighed c.args.state.now.entries c.mode-mode.result c.second_slice.result.now c.requires.legal
+    picks_weighed c.args.state.now.entries c.mode-mode.result c.second_slice.result.now
+    c.requires.legal

@@ -8,7 +8,8 @@ use Rattle.batch_paper.proofs.papers.write_samples.Goals as goal
 pub returns-in_ok-write_drawn : goal.returns-in_ok-write_drawn
 returns-in_ok-write_drawn c product =
     c.in_ok-write_drawn.ensures
-    ∙ drawn_told c.args.state.now.entries c.args.batch.now product c.requires.legal c.in-Some.sample.now
+    ∙ drawn_told c.args.state.now.entries c.args.batch.now product c.requires.legal
+    c.in-Some.sample.now
     c.args.to.now.items c.args.words.now.first c.args.words.now.second
     (sym c.in-Some.ensures.value) c.requires.first c.requires.second
 

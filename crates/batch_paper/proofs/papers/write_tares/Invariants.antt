@@ -9,4 +9,5 @@ abbrev pub invariant-loop-day : goal.invariant-loop-day
 invariant-loop-day l =
     l.to.items ++ flat_map line_text (tare_lines (map (tare_for l.state.entries l.batch)
     (drop l.day-index l.days)))
-    ≡ l.fn.to.items ++ flat_map line_text (tare_lines (map (tare_for l.state.entries l.batch) l.days))
+    ≡ l.fn.to.items ++ flat_map line_text
+    (tare_lines (map (tare_for l.state.entries l.batch) l.days))

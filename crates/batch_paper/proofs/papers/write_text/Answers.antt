@@ -14,7 +14,8 @@ use Rattle.batch_paper.proofs.papers.write_text.Goals as goal
 pub write_line-requires-2 : goal.write_line-requires-2
 write_line-requires-2 c = record {
   range = subst (λ (g : goods.Goods). IsTrue (is_nominal_right g)) (sym c.goods_of.ensures)
-      (nominal_right c.args.state.now.entries c.args.batch.now c.args.product.now c.requires.legal c.requires.known);
+      (nominal_right c.args.state.now.entries c.args.batch.now c.args.product.now c.requires.legal
+      c.requires.known);
 }
 
 pub write_tares-requires-clause-range : goal.write_tares-requires-clause-range
@@ -47,13 +48,13 @@ returns-clause-text c =
     c.write_line-2.new.to.items c.write_tares.new.to.items c.write_packs.new.to.items
     c.write_samples.new.to.items c.write_line-3.new.to.items
     c.new-text.ensures.items
-    c.in_ok-write_line.ensures
-    (c.in_ok-write_line-2.ensures ∙ ap (λ (g : goods.Goods). c.write_line.new.to.items
+    c.in_ok-write_line.ensures.text
+    (c.in_ok-write_line-2.ensures.text ∙ ap (λ (g : goods.Goods). c.write_line.new.to.items
     ++ line_text (line.Goods g)) c.goods_of.ensures)
     (c.in_ok-write_tares.ensures ∙ ap (λ (ds : List ℤ). c.write_line-2.new.to.items
     ++ flat_map line_text (tare_lines (map (tare_for entries batch) ds))) days)
     (c.in_ok-write_packs.ensures ∙ ap (λ (ps : List packs.Pack). c.write_tares.new.to.items
     ++ flat_map line_text (pack_lines ps)) listed)
     (c.in_ok-write_samples.ensures product)
-    (c.in_ok-write_line-3.ensures ∙ ap (λ (v : Verdict). c.write_samples.new.to.items
+    (c.in_ok-write_line-3.ensures.text ∙ ap (λ (v : Verdict). c.write_samples.new.to.items
     ++ line_text (line.Verdict v)) c.verdict_of.ensures)

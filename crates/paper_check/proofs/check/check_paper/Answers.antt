@@ -23,7 +23,8 @@ returns-in-Some-2-clause-fault c =
 
 pub returns-then-ne-clause-fault : goal.returns-then-ne-clause-fault
 returns-then-ne-clause-fault c =
-    let told : c.ne.result ≡ not (verdicts.ghosts.eq c.in_ok-verdict.verdict c.in_ok-paper.paper.verdict) =
+    let told : c.ne.result
+    ≡ not (verdicts.ghosts.eq c.in_ok-verdict.verdict c.in_ok-paper.paper.verdict) =
     search rules in
     let other : verdicts.ghosts.eq c.in_ok-verdict.verdict c.in_ok-paper.paper.verdict ≡ false =
     not_true _ (sym told ∙ c.if-ne.true) in
@@ -43,7 +44,8 @@ returns-then-ne-clause-fault c =
 
 pub returns-clause-proven : goal.returns-clause-proven
 returns-clause-proven c =
-    let told : c.ne.result ≡ not (verdicts.ghosts.eq c.in_ok-verdict.verdict c.in_ok-paper.paper.verdict) =
+    let told : c.ne.result
+    ≡ not (verdicts.ghosts.eq c.in_ok-verdict.verdict c.in_ok-paper.paper.verdict) =
     search rules in
     let same : verdicts.ghosts.eq c.in_ok-verdict.verdict c.in_ok-paper.paper.verdict ≡ true =
     not_false _ (sym told ∙ c.if-ne.false) in

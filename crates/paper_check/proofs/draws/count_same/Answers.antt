@@ -9,5 +9,6 @@ returns-then-same-drawn-clause-value c =
     let over : c.loop-pick.same ≡ length c.args.drawn.now = search rules in
     counted_over (λ (pick : Pick) number. pick.pack == number) c.args.picks.now c.args.drawn.now
     c.loop-pick.same
-    (common_prefix_len (λ (pick : Pick) number. pick.pack == number) c.args.picks.now c.args.drawn.now)
+    (common_prefix_len
+    (λ (pick : Pick) number. pick.pack == number) c.args.picks.now c.args.drawn.now)
     c.loop-pick.invariant.2 over

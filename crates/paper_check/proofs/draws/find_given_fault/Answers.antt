@@ -12,11 +12,14 @@ returns c =
     let strays : Option ℕ = stray_line (second_line paper) c.args.drawn.now paper.second in
     let first : c.find_stray-strays.result ≡ strays = search rules in
     let counted : c.find_unmeasured.result
-    ≡ position_from (λ (pick : Pick). is_none pick.weighed) (second_line paper) paper.second = search rules in
+    ≡ position_from
+    (λ (pick : Pick). is_none pick.weighed) (second_line paper) paper.second = search rules in
     let told : c.find_unmeasured.result ≡ unmeasured_line paper =
-    counted ∙ position-from (λ (pick : Pick). is_none pick.weighed) (second_line paper) paper.second in
+    counted ∙ position-from
+    (λ (pick : Pick). is_none pick.weighed) (second_line paper) paper.second in
     let needed : c.args.needed ≡ true = search rules in
     c.earlier_line.ensures
     ∙ ap (λ (o : Option ℕ). earlier_line o c.find_unmeasured.result) first
     ∙ ap (earlier_line strays) told
-    ∙ sym (ap (λ (b : Bool). earlier_line strays (if b then unmeasured_line paper else None)) needed)
+    ∙ sym (ap
+    (λ (b : Bool). earlier_line strays (if b then unmeasured_line paper else None)) needed)

@@ -34,7 +34,8 @@ returns-in-Some-clause-range c =
       map_length (λ (d : DatedTare). unsigned_abs d.day) tares,
     ) in
     subst (λ (d : DatedTare). is_tare_in_range d ≡ true) (sym c.index.ensures)
-    (passes_at is_tare_in_range tares c.in-Some.place c.index.result.now c.requires.listed.tares.range within)
+    (passes_at is_tare_in_range tares c.in-Some.place c.index.result.now
+    c.requires.listed.tares.range within)
 
 pub returns-in-None-clause-value : goal.returns-in-None-clause-value
 returns-in-None-clause-value c =

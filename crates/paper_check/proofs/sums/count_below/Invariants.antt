@@ -6,5 +6,6 @@ use Rattle.paper_check.proofs.sums.count_below.Given as goal
 abbrev pub invariant-loop-mass : goal.invariant-loop-mass
 invariant-loop-mass l =
     (l.count ≤ l.mass-index)
-    × (fold (λ n mass. n + cond (is_below l.density l.limit mass) 1 0) l.count (drop l.mass-index l.masses)
+    × (fold (λ n mass. n + cond (is_below l.density l.limit mass) 1 0) l.count
+    (drop l.mass-index l.masses)
     ≡ count_by (is_below l.density l.limit) l.masses)

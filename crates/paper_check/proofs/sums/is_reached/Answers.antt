@@ -18,7 +18,8 @@ nominal_read : (nominal from : ℤ) → FitsSigned w64 nominal → MIN_NOMINAL �
     → nominal ≤ℤ MAX_NOMINAL → from ≡ again w64 nominal
     → Computes (again w128 from) nominal (unsigned_abs MAX_NOMINAL)
 nominal_read nominal from fits least greatest is =
-    let near : unsigned_abs nominal ≤ unsigned_abs MAX_NOMINAL = omega (arith, ints, least, greatest) in
+    let near : unsigned_abs nominal ≤ unsigned_abs MAX_NOMINAL =
+    omega (arith, ints, least, greatest) in
     computes_read w128 from nominal (unsigned_abs MAX_NOMINAL) (lit< tt)
     (is ∙ to_z-of_z w64 nominal fits) near
 

@@ -24,7 +24,8 @@ returns-in-Some c =
     c.in_ok-sorted.ensures.same in
     fault_of_tare paper c.first_missing.result c.in-Some.line
     (c.first_missing.ensures
-    ∙ ap (λ (s : List ℕ). position_from (is_missing s) 3 c.deref-3.result.now) c.deref-4.ensures.value
+    ∙ ap (λ (s : List ℕ). position_from (is_missing s) 3 c.deref-3.result.now)
+    c.deref-4.ensures.value
     ∙ unused_is paper sorted c.deref-3.result.now c.requires.listed permuted
     (c.deref-3.ensures.value ∙ c.requires.keys.days)) c.in-Some.is
 
@@ -47,9 +48,11 @@ returns c =
     let at : 3 + c.len.result ≡ packs_line paper = omega (arith, c.len.ensures, long) in
     fault_of_pack paper c.first_missing.result c.first_missing-2.result
     (c.first_missing.ensures
-    ∙ ap (λ (s : List ℕ). position_from (is_missing s) 3 c.deref-3.result.now) c.deref-4.ensures.value
+    ∙ ap (λ (s : List ℕ). position_from (is_missing s) 3 c.deref-3.result.now)
+    c.deref-4.ensures.value
     ∙ unused_is paper sorted c.deref-3.result.now c.requires.listed permuted
     (c.deref-3.ensures.value ∙ c.requires.keys.days)) c.in_default.is
     (c.first_missing-2.ensures
-    ∙ tareless_is paper c.deref-6.result.now c.deref-5.result.now (3 + c.len.result) c.requires.listed
+    ∙ tareless_is paper c.deref-6.result.now c.deref-5.result.now
+    (3 + c.len.result) c.requires.listed
     (c.deref-6.ensures.value ∙ c.requires.keys.days) (c.deref-5.ensures.value ∙ are) at)

@@ -26,7 +26,8 @@ returns c =
     let fits : FitsSigned w64 c.total_of.result = search rules in
     let long : vec_len c.args.paper.now.packs ≡ length paper.packs = search rules in
     c.is_reached.ensures
-    ∙ ap (λ (n : ℤ). average_by c.len-number.result paper.goods.density n (again w64 c.total_of.result))
+    ∙ ap (λ (n : ℤ). average_by c.len-number.result paper.goods.density n
+    (again w64 c.total_of.result))
     (nominal_again paper.goods c.requires.listed.goods)
     ∙ ap (λ (s : ℤ). average_by c.len-number.result paper.goods.density paper.goods.nominal s)
     (to_z-of_z w64 c.total_of.result fits ∙ c.total_of.ensures)

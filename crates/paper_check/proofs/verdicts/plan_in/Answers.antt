@@ -11,5 +11,11 @@ returns-clause-value c =
     let paper = data_of c.args.paper.now in
     let long : vec_len c.args.paper.now.packs ≡ length paper.packs = search rules in
     let count : c.len.result ≡ length (map (λ (pack : packs.Pack). pack.number) paper.packs) =
-    omega (arith, c.len.ensures, long, map_length (λ (pack : packs.Pack). pack.number) paper.packs) in
+    omega (
+      arith,
+      c.len.ensures,
+      long,
+      map_length
+          (λ (pack : packs.Pack). pack.number) paper.packs,
+    ) in
     c.plan_or_none.ensures.value ∙ ap (λ n. plan_or_empty (plan_of n c.args.draw.now.mode)) count

@@ -11,7 +11,8 @@ pub loop-text-preserved : goal.loop-text-preserved
 loop-text-preserved c =
     let inv = c.loop-text.invariant in
     record {
-      reads = reads_next c.loop-text.line (draft_of c.loop-text.reading) (draft_of c.take_text.new.reading)
+      reads = reads_next c.loop-text.line (draft_of c.loop-text.reading)
+          (draft_of c.take_text.new.reading)
           c.loop-text.rest.now c.in-Some.text.now c.in-Some.after.now (paper_in c.args.bytes.now)
           inv.reads c.in-Some.ensures.pieces c.in_ok-take_text.ensures.taken;
       listed = c.in_ok-take_text.ensures.listed;

@@ -9,4 +9,5 @@ pub returns-in-Some : goal.returns-in-Some
 returns-in-Some c =
     let is : last_or None c.args.packs.now ≡ Some c.in-Some.before.now =
     last_is c.args.packs.now c.last.result c.last.ensures.value ∙ ap option_copied c.in-Some.is in
-    sym (ap (λ (o : Option packs.Pack). option_map_or (λ b. nat_lt b.number c.args.pack.now.number) o true) is)
+    sym (ap (λ (o : Option packs.Pack). option_map_or (λ b. nat_lt b.number c.args.pack.now.number)
+    o true) is)

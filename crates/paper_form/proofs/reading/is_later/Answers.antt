@@ -10,4 +10,5 @@ returns-in-Some c =
     let is : last_or None c.args.tares.now ≡ Some c.in-Some.before.now =
     last_is c.args.tares.now c.last.result c.last.ensures.value ∙ ap option_copied c.in-Some.is in
     c.is_after.ensures
-    ∙ sym (ap (λ (o : Option DatedTare). option_map_or (λ b. int_lt b.day c.args.dated.now.day) o true) is)
+    ∙ sym (ap
+    (λ (o : Option DatedTare). option_map_or (λ b. int_lt b.day c.args.dated.now.day) o true) is)
