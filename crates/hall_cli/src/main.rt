@@ -12,6 +12,7 @@ ghost use Rattle.text_streams.specs.Streams.{output_at};
 ghost use Rattle.hall_top.specs.Endings.{LacksMemory, SaysLast};
 
 use crate::lanes::open_lanes;
+use bad_lines::{KeptInput, KeptOutput, Kind, explain};
 use book_snapshot::ROW_BYTES;
 use command_line::{Command, Wants, WantsError, wants};
 use disk_core::{Disk, Door, QuietDisk, Sink, Source, StdSink, StdSource};
@@ -90,7 +91,12 @@ fn memory_disk(alloc: Global, limit: u32) -> Result<QuietDisk, AllocError> {
 fn reads_alone(command: Command) -> bool {
     matches!(
         command,
-        Command::Report | Command::Export | Command::Check | Command::Ship | Command::Paper
+        Command::Report
+            | Command::Export
+            | Command::List
+            | Command::Check
+            | Command::Ship
+            | Command::Paper
     )
 }
 
@@ -208,9 +214,20 @@ fn over_book<
     }
 }
 
+// What the input of a command is made of.
+fn kind_of(command: Command) -> Kind {
+    match command {
+        Command::Run => Kind::Script,
+        Command::Import => Kind::Table,
+        Command::Serve => Kind::Plan,
+        _ => Kind::Other,
+    }
+}
+
 fn main(rt: HostRuntime) -> ExitCode {
     let alloc = rt.alloc();
-    let mut output = StdSink::new(rt.stdout());
+    let mut said = KeptOutput::new(rt.stdout());
+    let mut output = StdSink::new(&mut said);
     let Ok(words) = words(&rt) else {
         return end_without_memory(alloc, &mut output);
     };
@@ -220,7 +237,8 @@ fn main(rt: HostRuntime) -> ExitCode {
         Err(WantsError::Usage) => return end_unopened(alloc, Ending::Usage, &mut output),
     };
     let is_plan = matches!(wanted.command, Command::Serve);
-    let mut input = StdSource::new(WatchedPlan::new(rt.stdin(), rt, is_plan));
+    let mut read = KeptInput::new(alloc, rt.stdin(), kind_of(wanted.command));
+    let mut input = StdSource::new(WatchedPlan::new(&mut read, rt, is_plan));
     let Ok(lanes) = open_lanes(&rt, &wanted) else {
         return end_without_memory(alloc, &mut output);
     };
@@ -228,5 +246,7 @@ fn main(rt: HostRuntime) -> ExitCode {
         return end_without_memory(alloc, &mut output);
     };
     let opened = open_disk(rt, &wanted);
-    over_book(&rt, &words, &mut input, &mut output, opened, lanes, doors)
+    let status = over_book(&rt, &words, &mut input, &mut output, opened, lanes, doors);
+    explain(&rt, alloc, &read, &said);
+    status
 }

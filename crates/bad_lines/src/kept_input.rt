@@ -1,0 +1,60 @@
+use crate::lines::Lines;
+use crate::types::Kind;
+use std::alloc::Global;
+use std::io;
+use std::io::Read;
+use std::marker::Model;
+
+/// An input that keeps what was read last: of a script the newest piece and the line that it goes on,
+/// of a table or a plan everything. It gives what the input gives.
+#[derive(Drop)]
+pub struct KeptInput<R: Read + Drop> {
+    input: R,
+    lines: Lines,
+}
+
+impl<R: Read + Drop> Model for KeptInput<R> {
+    ghost Value = { R };
+
+    ghost view = { λ kept. kept.input };
+}
+
+impl<R: Read + Drop> KeptInput<R> {
+    ghost use Rattle.std.specs.Prelude.{◌≡◌};
+
+    /// Nothing of it was read yet.
+    pub fn new(alloc: Global, input: R, kind: Kind) -> Self
+        ensures { result ≡ input }
+    {
+        KeptInput {
+            input,
+            lines: Lines::new(alloc, kind),
+        }
+    }
+
+    /// What the input is made of.
+    pub fn kind(&self) -> Kind {
+        self.lines.kind()
+    }
+
+    /// What is kept of it.
+    pub fn bytes(&self) -> &[u8] {
+        self.lines.bytes()
+    }
+
+    /// A line, by its number from 1, or a record of a table, where empty lines don't count: its bytes
+    /// without the LF, if they are kept.
+    pub fn line(&self, number: u64) -> Option<&[u8]> {
+        self.lines.line(number)
+    }
+}
+
+impl<R: Read + Drop> Read for KeptInput<R> {
+    ghost remaining = { R.remaining };
+
+    fn read(&mut self, buf: &mut [u8]) -> io::Result<usize> {
+        let count = self.input.read(buf)?;
+        self.lines.keep(buf.get(..count).unwrap_or(&[]));
+        Ok(count)
+    }
+}

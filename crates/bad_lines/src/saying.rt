@@ -1,0 +1,45 @@
+use crate::kept_input::KeptInput;
+use crate::kept_output::{Fault, KeptOutput};
+use crate::plan::{plan_fault, setup_line, table_of};
+use crate::telling::reason;
+use crate::types::{Kind, Shown};
+use std::alloc::Global;
+use std::io::{Eprint, Read, Write};
+
+/// Says on standard error why a line is bad, or the plan, where the last line of the output says so.
+pub fn explain<E: Eprint, R: Read + Drop, W: Write + Drop>(
+    errors: &E,
+    alloc: Global,
+    input: &KeptInput<R>,
+    output: &KeptOutput<W>,
+) {
+    match (output.fault(), input.kind()) {
+        (Some(Fault::Line(number)), Kind::Plan) => {
+            explain_setup(errors, alloc, input.bytes(), number);
+        }
+        (Some(Fault::Line(number)), kind) => {
+            if let Some(line) = input.line(number) {
+                say(errors, kind, number, line);
+            }
+        }
+        (Some(Fault::Plan), Kind::Plan) => {
+            let _ = eprintln!(errors; "hall: bad plan: {}", plan_fault(alloc, input.bytes()));
+        }
+        _ => {}
+    }
+}
+
+// Says why a line of the setup of a plan is bad.
+fn explain_setup<E: Eprint>(errors: &E, alloc: Global, plan: &[u8], number: u64) {
+    if let Some(table) = table_of(alloc, plan) {
+        if let Some(line) = setup_line(&table, number) {
+            say(errors, Kind::Script, number, line);
+        }
+    }
+}
+
+// Says why a line is bad.
+fn say<E: Eprint>(errors: &E, kind: Kind, number: u64, line: &[u8]) {
+    let reason = reason(kind, number, line);
+    let _ = eprintln!(errors; "hall: bad line {number}, {}: {reason}", Shown(line));
+}

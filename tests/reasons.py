@@ -1,0 +1,96 @@
+#!/usr/bin/env python3
+"""What the program says of bad lines on standard error, for people, beside what it prints and its
+status, which stay as docs/FORMATS.md has them.
+
+usage: tests/reasons.py      (HALL names another program than the one that `./hall` builds)
+"""
+
+import os
+import subprocess
+import sys
+import tempfile
+
+HERE = os.path.dirname(os.path.realpath(__file__))
+LONG = b"#" * 201 + b"\n"
+HEADER = b"desk,request,command\n"
+
+# words, input, the last line that is printed, and what is said on standard error behind `hall: `
+ROWS = [
+    (["run"], b"day 2025-03-03\nweihg 1 250\n", "bad line 2",
+     "bad line 2, weihg 1 250: no such command: weihg"),
+    (["run"], b"day 2025-03-03\nproduct rice250 250,5\n", "bad line 2",
+     "bad line 2, product rice250 250,5: a point, not a comma, in 250,5"),
+    (["run"], b"\xef\xbb\xbfday 2025-03-03\n", "bad line 1",
+     "bad line 1, \\xef\\xbb\\xbfday 2025-03-03: a byte order mark: save the text without it"),
+    (["run"], b"\n" + LONG, "bad line 2",
+     "bad line 2, " + "#" * 200 + ": more than 200 bytes"),
+    (["run"], b"day 3.3.2025\r\n", "bad line 1",
+     "bad line 1, day 3.3.2025\\x0d: not as day DATE (2025-03-03)"),
+    (["run"], b"day 2025-03-03\nday", "bad line 2",
+     "bad line 2, day: not as day DATE (2025-03-03)"),
+    (["run"], b"@101 1 summary\n", "bad line 1",
+     "bad line 1, @101 1 summary: no act that a desk sends: summary"),
+    (["run"], b"work 1 A\n", "bad line 1",
+     "bad line 1, work 1 A: not as work LANE BATCH, of a lane that the hall has (--lanes)"),
+    (["run"], b"\x1b[2J\n", "bad line 1",
+     "bad line 1, \\x1b[2J: a character that no command has"),
+    (["run"], b"# a comment\n" * 60_000 + b"viod 6\n" + b"void 6\n" * 60_000, "bad line 60001",
+     "bad line 60001, viod 6: no such command: viod"),
+    (["import"], b"desk;request;command\n", "bad line 1",
+     "bad line 1, desk;request;command: the table begins with desk,request,command"),
+    (["import"], HEADER + b"\n101,1,day 2025-03-03\r\n101;2;open A rice250\n", "bad line 3",
+     "bad line 3, 101;2;open A rice250: commas, not semicolons, part the fields"),
+    (["import"], HEADER + b"101,1,\"product rice 250,5\"\n", "bad line 2",
+     "bad line 2, 101,1,\"product rice 250,5\": a point, not a comma, in 250,5"),
+    (["import"], HEADER + b"101,1,sheet A\n", "bad line 2",
+     "bad line 2, 101,1,sheet A: no act that a desk sends: sheet"),
+    (["import"], HEADER + b"101,1\n", "bad line 2",
+     "bad line 2, 101,1: three fields are wanted: desk,request,command"),
+    (["serve"], b"reserve = 10\nlane = 1\n", "bad plan",
+     "bad plan: a value of it is of another kind, or out of its range (setup, reserve, lane)"),
+    (["serve"], b"reserve = \xff\n", "bad plan", "bad plan: it isn't a text in UTF-8"),
+    (["serve"], b'setup = """\n@164 1 day 2025-03-03\n@164 2 dya 2025-03-04\n"""\n', "bad line 2",
+     "bad line 2, @164 2 dya 2025-03-04: no such command: dya"),
+    (["follow"], b"x\n", "bad line 0", None),
+    (["run"], b"day 2025-03-03\n", "batches running 0 ended 0 drawn 0 closed 0", None),
+]
+
+# words, input, and what the reason of a text that TOML doesn't read begins with
+TOML = [
+    (["serve"], b"reserve = 10\n\nlane = {\n", "bad plan: its line "),
+    (["serve"], b"reserve = 10\nreserve = 11\n", "bad plan: its line 2 isn't TOML: "),
+]
+
+
+def ask(program, folder, words, given):
+    """The last line of a run, and what it says of a bad line."""
+    told = subprocess.run([program, *words, f"--book={folder}/book"], input=given, timeout=60,
+                          capture_output=True, check=False)
+    bad = [line for line in told.stderr.decode().splitlines() if line.startswith("hall: bad ")]
+    said = told.stdout.decode().splitlines() or [""]
+    os.remove(f"{folder}/book")
+    return said[-1], told.returncode, "\n".join(line.removeprefix("hall: ") for line in bad) or None
+
+
+def main():
+    program = os.environ.get("HALL") or f"{HERE}/../crates/hall_cli/out/hall_cli"
+    if "HALL" not in os.environ:
+        subprocess.run([f"{HERE}/../hall", "run"], input=b"", stdout=subprocess.DEVNULL, check=True)
+    wrong = 0
+    with tempfile.TemporaryDirectory() as folder:
+        for words, given, last, reason in ROWS:
+            found = ask(program, folder, words, given)
+            if found != (last, 3 if last.startswith("bad") else 0, reason):
+                wrong += 1
+                print(f"{words} {given[:60]!r}:\n  found  {found}\n  wanted {last!r}, {reason!r}")
+        for words, given, begin in TOML:
+            last, status, reason = ask(program, folder, words, given)
+            if (last, status) != ("bad plan", 3) or not (reason or "").startswith(begin):
+                wrong += 1
+                print(f"{words} {given!r}: {last!r}, {status}, {reason!r}, and not {begin!r}")
+    print(f"{len(ROWS) + len(TOML)} bad lines and plans, {wrong} told otherwise")
+    return wrong > 0
+
+
+if __name__ == "__main__":
+    sys.exit(main())
