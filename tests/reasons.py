@@ -47,7 +47,8 @@ ROWS = [
     (["import"], HEADER + b"101,1\n", "bad line 2",
      "bad line 2, 101,1: three fields are wanted: desk,request,command"),
     (["serve"], b"reserve = 10\nlane = 1\n", "bad plan",
-     "bad plan: a value of it is of another kind, or out of its range (setup, reserve, lane)"),
+     "bad plan: a value is of another kind or out of its range, or its lanes aren't --lanes in"
+     " number"),
     (["serve"], b"reserve = \xff\n", "bad plan", "bad plan: it isn't a text in UTF-8"),
     (["serve"], b'setup = """\n@164 1 day 2025-03-03\n@164 2 dya 2025-03-04\n"""\n', "bad line 2",
      "bad line 2, @164 2 dya 2025-03-04: no such command: dya"),

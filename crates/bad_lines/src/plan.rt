@@ -51,7 +51,7 @@ impl fmt::Display for PlanFault {
     fn fmt<W: fmt::Write>(&self, f: &mut fmt::Formatter<W>) -> fmt::Result {
         match self {
             PlanFault::Value => f.write_str(
-                "a value of it is of another kind, or out of its range (setup, reserve, lane)",
+                "a value is of another kind or out of its range, or its lanes aren't --lanes in number",
             ),
             PlanFault::NoToml(line, error) => {
                 write!(f, "its line {line} isn't TOML: {}", error.message())
