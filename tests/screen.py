@@ -288,8 +288,8 @@ def check_list(browser):
     """Where the front serves a list, the desk shows it and its fields propose its names."""
     os.makedirs("/run/hall")
     with open("/run/hall/list.txt", "w", encoding="ascii") as said:
-        said.write(f"day {DAY}\nproduct lentils500 nominal 500.000\n"
-                   "batch LATE product lentils500\n")
+        said.write(f"day {DAY}\nproduct lentils500 nominal 500.000 g tare none\n"
+                   "batch LATE product lentils500 state running population 0\nrows 3 left 999997\n")
     browser.reload()
     browser.wait_text("#desk pre", "product lentils500")
     proposed = browser.run("return [...document.querySelectorAll('datalist option')]"

@@ -149,7 +149,7 @@ def held(hall):
         compare(f"{command} of a held book", hall.ask([command], SIXTH_ROW.given),
                 ("disk fault\n", 6))
     compare("check of a held book", hall.ask(["check"]), ("rows 5 whole\n", 0))
-    for command in ("report", "export"):
+    for command in ("report", "export", "list"):
         compare(f"{command} of a held book", hall.ask([command])[1], 0)
     compare("a held book", hall.bytes(), written)
     first.stdin.close()

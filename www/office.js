@@ -162,7 +162,7 @@ export async function list() {
   if (answer?.status !== 200) return told;
   told.text = answer.text;
   for (const [word, name] of linesOf(answer.text).map((line) => line.split(" "))) {
-    if (word === "day") told.day = name;
+    if (word === "day" && name !== "none") told.day = name;
     if (word === "product") told.products.push(name);
     if (word === "batch") told.batches.push(name);
   }
