@@ -4,6 +4,7 @@ The lines are written by hand after the makers' protocols: SICS of Mettler-Toled
 format of A&D, and the 16 and 22 signs of Sartorius SBI.
 """
 
+import fcntl
 import os
 import pty
 import subprocess
@@ -61,19 +62,35 @@ def open_scale():
     return scale, device
 
 
+def held(device):
+    """How many bytes a device holds."""
+    return int.from_bytes(fcntl.ioctl(device, termios.FIONREAD, bytes(4)), sys.byteorder)
+
+
+def wait_until(there, seconds=20):
+    """Waits until something holds; it has to in so many seconds."""
+    until = time.monotonic() + seconds
+    while not there():
+        need(time.monotonic() < until, "a device isn't read")
+        time.sleep(0.01)
+
+
 def weigh(dialect, unit, lines, end, piece):
     """What the script makes of lines that come over a serial line in pieces."""
     scale, device = open_scale()
     os.write(scale, b"S S     111.000 g\r\n")
+    wait_until(lambda: held(device))
     script = subprocess.Popen([f"{SCALES}/weights.py", dialect, "--unit", unit], stdin=device,
                               stdout=subprocess.PIPE, stderr=subprocess.PIPE)
-    os.close(device)
-    time.sleep(0.3)
+    wait_until(lambda: not held(device))
     said = b"".join(line + end for line, _ in lines)
     for place in range(0, len(said), piece):
         os.write(scale, said[place:place + piece])
         time.sleep(0.001)
+    # what was written last may still be on its way to the device
     time.sleep(0.3)
+    wait_until(lambda: not held(device))
+    os.close(device)
     os.close(scale)
     told, counts = script.communicate(timeout=20)
     need(script.returncode == 0, f"{dialect}: status {script.returncode}, {counts}")

@@ -520,5 +520,7 @@ SETUPS = [
      "hall: line 5 of the setup has no desk, and acts at each start (@164 1 ..)\n"),
     ("serve", b"reserve = 1\nsetup = '''\ntare a 2025-03-03 1\n'''\n",
      "hall: line 1 of the setup has no desk, and acts at each start (@164 1 ..)\n"),
-    ("serve", b'setup = """\n@164 1 day 2025-03-03\n@164 2 product a 250\n"""\n# """\nday\n', ""),
-    ("run", b'setup = """\nday 2025-03-03\n"""\n', "")]
+    ("serve", b'setup = """\n@164 1 day 2025-03-03\n@164 2 product a 250\n"""\n# """\nday\n',
+     "hall: bad plan: its line 6 isn't TOML: key with no value, expected `=`\n"),
+    ("run", b'setup = """\nday 2025-03-03\n"""\n',
+     'hall: bad line 1, setup = """: no such command: setup\n')]
