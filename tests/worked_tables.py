@@ -144,8 +144,8 @@ IS_DAMAGED = "damaged row 6\n"
 DAMAGED = [
     ((FOREIGN_BYTE, 129), Step(["run"], b"", IS_FOREIGN, 8), (FOREIGN_BYTE, 129)),
     ((FOREIGN_BYTE, 98), Step(["check"], b"", IS_FOREIGN, 8), (FOREIGN_BYTE, 98)),
-    # so few bytes have no room for a row
-    ((FOREIGN_BYTE, 97), Step(["run"], b"", totals(0)), ([(8, 0), (96, 0)], 97)),
+    # so few bytes have no room for a row; they are no beginning of a book either
+    ((FOREIGN_BYTE, 97), Step(["run"], b"", "disk fault\n", 6), (FOREIGN_BYTE, 97)),
     ((SIXTH_DAMAGED, 673), Step(["run"], b"", IS_DAMAGED, 9), (SIXTH_DAMAGED, 673)),
     ((SIXTH_DAMAGED, 1152), Step(["check"], b"", IS_DAMAGED, 9), (SIXTH_DAMAGED, 1152)),
     ((SIXTH_DAMAGED, 672), Step(["run"], b"", IS_DAMAGED, 9), (SIXTH_DAMAGED, 673)),
