@@ -7,7 +7,8 @@
 # - the rows fit and the snapshot doesn't: status 6, and each row stands;
 # - it fills up under `serve`: the lane ends with `disk`, an act is answered 500, a question 200; with
 #   room again the same act is answered 200 by the same hall, whose status is 6 at its end;
-# - it is mounted read-only: each command ends with status 6 and says why, and the file is untouched;
+# - it is mounted read-only: what may add rows ends with status 6 and says why, what adds none reads the
+#   book and says that it can't be written, and the file is untouched;
 # - it breaks under `serve`: the system finds a fault and makes it read-only, and, in another hall,
 #   shuts it down without writing what it still holds, as at a power cut: an act is answered 500, and
 #   once the file system is mounted anew each acknowledged row is there.
@@ -186,13 +187,17 @@ def remount(options):
 def read_only():
     stood = digest(book.path, book.rows)
     remount("ro")
-    for words in (["run"], ["check"], ["export"], ["report"], ["serve"]):
+    for words in (["run"], ["serve"]):
         _, errors = fails(*words)
         need("Read-only" in errors, f"{words} says {errors}")
+    for words in (["check"], ["export"], ["report"]):
+        status, said, errors = run(*words)
+        need(status == 0 and "can't be written" in errors, f"{words} ends with {status}: {errors}")
+        need(words != ["check"] or said == [f"rows {book.rows} whole"], f"check says {said}")
     need(digest(book.path, book.rows) == stood, "a book that is read-only has changed")
     remount("rw")
     goes_on(["stop 1\n", "open D P\n", "start 1 D\n"] + weighings(10))
-    print(f"read-only between runs: each command fails and says why; then {book.rows} rows")
+    print(f"read-only between runs: what adds rows fails and says why; then {book.rows} rows")
 
 
 def breaks(batch, name, break_it):
