@@ -46,8 +46,9 @@ part() {
     }'
 }
 
-"$here/hall" run </dev/null >/dev/null
-program=$here/crates/hall_cli/out/hall_cli
+# HALL names another program to try.
+if [ -z "${HALL:-}" ]; then "$here/hall" run </dev/null >/dev/null; fi
+program=${HALL:-$here/crates/hall_cli/out/hall_cli}
 
 # The places that the word draws from 600 packs; the packs of the first batch have rows 6 and on.
 { first_lines; part 1 1 3 0; echo "sample B1"; } >"$work/one"
