@@ -117,7 +117,7 @@ class Draw:
         return date.fromordinal(self.day + self.chance.randint(least, most)).isoformat()
 
     def name(self, kind):
-        return f"{kind}{self.chance.randint(1, 5)}"
+        return f"{kind}{self.chance.randint(1, 4)}"
 
     def line(self):
         """An act of some kind."""
@@ -128,14 +128,14 @@ class Draw:
             "product": (2, lambda: f"product {name('p')} {draw.choice((250, 330.5, 1000))}"
                                    f"{draw.choice(('', ' ml'))}"),
             "tare": (4, lambda: f"tare {name('p')} {self.date(-3, 5)} {draw.randint(8, 12)}"),
-            "open": (3, lambda: f"open {name('B')} {name('p')} {draw.choice(('', '1000'))}"),
+            "open": (2, lambda: f"open {name('B')} {name('p')} {draw.choice(('', '1000'))}"),
             "start": (4, lambda: f"start {lane} {name('B')}"),
             "weigh": (20, lambda: f"weigh {lane} {draw.choice((250, 262, 270, 1100))} "
                                   f"{draw.choice(('', '', '', 'stayed', 'unknown'))}"),
-            "stop": (2, lambda: f"stop {lane}"),
+            "stop": (3, lambda: f"stop {lane}"),
             "void": (2, lambda: f"void {draw.randint(1, self.packs + 1)}"),
-            "end": (1, lambda: f"end {name('B')}"),
-            "draw": (1, lambda: f"draw {name('B')} keep {draw.randint(0, 99)}"),
+            "end": (3, lambda: f"end {name('B')}"),
+            "draw": (4, lambda: f"draw {name('B')} keep {draw.randint(0, 99)}"),
             "close": (1, lambda: f"close {name('B')}"),
         }
         kind = draw.choices(list(kinds), [often for often, _ in kinds.values()])[0]

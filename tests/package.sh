@@ -49,7 +49,8 @@ as_hall 'hall run --book /var/lib/hall/day.book </usr/share/doc/hall/examples/fi
 diff "$room/said" "$room/says" || fail "the day there isn't README's"
 
 # ---- the service
-inside systemd-analyze verify --man=no /lib/systemd/system/hall@.service >"$room/log" 2>&1 ||
+inside systemd-analyze verify --man=no /lib/systemd/system/hall@.service \
+    /lib/systemd/system/hall-list@.service /lib/systemd/system/hall-list@.timer >"$room/log" 2>&1 ||
     { cat "$room/log" >&2; fail "the service isn't well made"; }
 [ ! -s "$room/log" ] || { cat "$room/log" >&2; fail "systemd has a word on the service"; }
 cp "$debian/lib/systemd/system/hall@.service" "$room/hall@day.service"
@@ -65,6 +66,10 @@ as_hall 'mkdir /tmp/cells && echo no plan >/tmp/plan &&
 [ "$status" = 3 ] || { cat "$room/log" >&2; fail "a plan that is none has status $status"; }
 grep -q '^rows 17 whole$' "$room/log" || { cat "$room/log" >&2; fail "the book isn't looked over"; }
 [ -p "$debian/tmp/cells/gate-2.txt" ] || fail "there are no pipes for the lanes"
+
+# what the screen is told is in force
+as_hall 'mkdir /tmp/shown && SHOWN=/tmp/shown /usr/lib/hall/list day'
+grep -q '^rows 17 left 999983$' "$debian/tmp/shown/list.txt" || fail "nothing is shown in force"
 
 # ---- people, and the end
 word=$(inside hall-person anna 101 102)
