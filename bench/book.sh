@@ -22,8 +22,7 @@ quick=$(mktemp -d "${2:-/dev/shm}/hall_book.XXXXXX")
 trap 'rm -rf "$work" "$quick"' EXIT
 
 . "$here/program.sh"
-build_program journal_opening hall_limits device_facts hall_units disk_core file_disk \
-    book_snapshot book_journal -- book_journal book_snapshot disk_core file_disk hall_limits
+build_program journal_opening book_journal book_snapshot disk_core file_disk hall_limits
 opener=$program
 
 # HALL names another program to try.

@@ -9,8 +9,7 @@ here=$(dirname "$(readlink -f "$0")")
 work=$(mktemp -d)
 trap 'rm -rf "$work"' EXIT
 . "$here/program.sh"
-build_program journal_bench hall_limits device_facts hall_units disk_core book_snapshot \
-    book_journal -- book_journal book_snapshot disk_core hall_limits hall_units
+build_program journal_bench book_journal book_snapshot disk_core hall_limits hall_units
 
 # Five runs of the program, each of which prints the microseconds of each thing by its name.
 for rows in 250000 500000 1000000; do

@@ -8,7 +8,7 @@ here=$(dirname "$(readlink -f "$0")")
 work=$(mktemp -d)
 trap 'rm -rf "$work"' EXIT
 . "$here/program.sh"
-build_program pass_bench hall_limits turn_pass -- turn_pass hall_limits
+build_program pass_bench turn_pass hall_limits
 
 microseconds() { echo $(($(date +%s%N) / 1000)); }
 # the middle one of nine times of ten sessions, in each of which one work is done 800000 times over

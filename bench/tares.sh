@@ -11,7 +11,7 @@ work=$(mktemp -d)
 trap 'rm -rf "$work"' EXIT
 . "$here/program.sh"
 CRATES=${1:-$here/../crates} left_out=./out run_words='-- 100 100 1 0'
-build_program tares_bench tare_register -- tare_register
+build_program tares_bench tare_register
 
 # milliseconds of processor time, best of 5 of a run with so many entries, look-ups and registers,
 # in one of the two orders

@@ -1,8 +1,8 @@
 #!/bin/sh
 # Keeps a copy of a book: each second what is new is shipped, and the copy follows it, here or on
-# another machine, also while a hall runs over the book. Says how many rows the copy has and how many
-# the book.
-# It may be killed at any moment and started again, and so may the machine of the copy.
+# another machine, also while a hall runs over the book. Says how many rows the copy has and how
+# many the book. It may be killed at any moment and started again, and so may the machine of the
+# copy.
 #
 # usage: standby.sh BOOK COPY [COMMAND [WORD..]]    as: standby.sh day.book day.copy ssh hall@second
 #

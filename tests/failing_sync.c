@@ -19,7 +19,8 @@ static unsigned long every(void)
     return word ? strtoul(word, NULL, 10) : 0;
 }
 
-static ssize_t write_through(const char *name, int file, const void *bytes, size_t count, off_t place)
+static ssize_t write_through(const char *name, int file, const void *bytes, size_t count,
+                             off_t place)
 {
     ssize_t (*next)(int, const void *, size_t, off_t) = dlsym(RTLD_NEXT, name);
     unsigned long turns = every();

@@ -1,9 +1,10 @@
 #!/usr/bin/env python3
-"""Draws books of a day and more at random, through the script line by line, and compares what `list`
-says of each with what is counted here from the rows of its file, by docs/RULES.md and FORMATS.md.
+"""Draws books of a day and more at random, through the script line by line, and compares what
+`list` says of each with what is counted here from the rows of its file, by docs/RULES.md and
+FORMATS.md.
 
-usage: tests/list.py [BOOKS [SEED]]     (HALL names another program than the one that `./hall` builds)
-"""
+usage: tests/list.py [BOOKS [SEED]]     (HALL names another program than the one that `./hall`
+builds)"""
 
 import os
 import random

@@ -1,13 +1,15 @@
 """Readings of a book while its hall works, fails or is killed, for tests/live.sh."""
 
 import os
+import random
 import re
 import subprocess
+import sys
 import time
 from collections import Counter
 
 from clients import (FIRST_DESK, FIRST_DOOR, OPENING, Client, Desk, Gone, Hall, Lane, Link,
-                     drawn_act, good_gross, need, plan, post)
+                     drawn_act, free_ports, good_gross, need, plan, post)
 from rows import SLOT, slots_behind
 
 LANES, DESKS = 2, 2
@@ -16,11 +18,13 @@ IN_USE = re.compile(r"^hall: .*: it is in use; (\d+) rows were read$")
 # Of so many gates that a hall opens one is not made stable, where its disk fails.
 FAIL_EVERY = 7
 HEAD = 16
+# Kills of the hall that is read, and how long one without a reader is looked at.
+KILLS, QUIET_SECONDS = 8, 5
 
 
 class Worker(Client):
-    """A desk that asks one act after another. Where the disk failed it asks another act under the same
-    number."""
+    """A desk that asks one act after another. Where the disk failed it asks another act under the
+    same number."""
 
     def __init__(self, hall, port, desk, draw):
         super().__init__(hall)
@@ -170,3 +174,40 @@ class Round:
             need(said == reading.said, f"{reading.command} of {reading.rows} rows isn't that of"
                  " the first rows of the final book")
         return (len(final) - HEAD) // SLOT
+
+
+def tried(name, count, kills, failing=None):
+    """Reads so often beside a hall; the round, and the seconds that it took."""
+    folder = f"{work}/{name}"
+    os.mkdir(folder)
+    this = Round(program, folder, random.Random(f"{seed}-{name}"), free_ports(), failing)
+    began = time.monotonic()
+    this.read_many(count, kills)
+    spent = time.monotonic() - began
+    rows = this.compare()
+    counts = ", ".join(f"{this.counts[word]} {word}" for word in COMMANDS)
+    print(f"{name}: {count} readings ({counts}) are those of the first rows of {rows}", flush=True)
+    return this, spent
+
+
+def quiet():
+    """The packs a second that the lanes let out with no reader beside them."""
+    folder = f"{work}/quiet"
+    os.mkdir(folder)
+    this = Round(program, folder, random.Random(f"{seed}-quiet"), free_ports())
+    hall, clients = this.start()
+    hall.wait_for_door(this.port)
+    time.sleep(QUIET_SECONDS)
+    this.end(hall, clients)
+    return this.packs / QUIET_SECONDS
+
+
+if __name__ == "__main__":
+    program, work, readings, seed = sys.argv[1:]
+    print(f"seed {seed}", flush=True)
+    read, spent = tried("killed", int(readings) * 7 // 10, KILLS)
+    print(f"lanes let out {read.packs / spent:.0f} packs a second beside readers,"
+          f" {quiet():.0f} without")
+    failed, _ = tried("failing", int(readings) * 3 // 10, 2, f"{work}/failing_sync.so")
+    need(failed.counts["failed"] > 0, "no sync failed")
+    print(f"{failed.counts['failed']} acts failed at a sync")
