@@ -51,6 +51,7 @@ seen wants = record {
   count = wants.count;
   remote = wants.remote;
   after = wants.after;
+  rows = wants.rows;
 }
 
 -- the numbers that are asked for are in their ranges: a book has room for a row at least, each door
@@ -67,6 +68,7 @@ pub record IsInRange (wanted : Wanted) : Type 0 where
   pub connections_most : wanted.connections ≤ MAX_DOOR_CONNECTIONS
   pub remote : IfSome wanted.remote (λ port. (1 ≤ port) × (port ≤ MAX_PORT))
   pub after : wanted.after ≤ MAX_ROWS
+  pub rows : wanted.rows ≤ MAX_ROWS
   pub packs : wanted.count ≤ MAX_TRIAL
   pub some : wanted.command ≡ Trial → 1 ≤ wanted.count
   pub named : wanted.command ≡ Paper → is_some wanted.batch ≡ true

@@ -14,12 +14,12 @@ use Rattle.hall_units.specs.Number.{bounded_number}
 use Rattle.command_line.specs.declared.types.Command.{Command}
 use Rattle.command_line.specs.declared.types.Command.TheVariants.{Run, Serve, Report, Export, Check}
 use Rattle.command_line.specs.declared.types.Command.TheVariants.{Import, Trial, Migrate, Ship, Follow}
-use Rattle.command_line.specs.declared.types.Command.TheVariants.{Paper, Prove}
+use Rattle.command_line.specs.declared.types.Command.TheVariants.{Paper, Prove, Audit}
 use Rattle.command_line.specs.declared.types.Command.TheVariants as verb
 use Rattle.command_line.specs.declared.values.Values.{Values}
 use Rattle.command_line.specs.declared.table.NumberForm.{NumberForm}
 use Rattle.command_line.specs.declared.table.TheConstants.{LIMIT, LANES, DOORS, PORT, CONNECTIONS}
-use Rattle.command_line.specs.declared.table.TheConstants.{NUMBER, COUNT, AFTER}
+use Rattle.command_line.specs.declared.table.TheConstants.{NUMBER, COUNT, AFTER, ROWS}
 
 -- a name, and the value given to it
 pub record Item : Type 0 where
@@ -44,6 +44,7 @@ pub record Wanted : Type 0 where
   pub count : ℕ
   pub remote : Option ℕ
   pub after : ℕ
+  pub rows : ℕ
 
 -- the bytes of each word
 abbrev pub bytes_of : List (String Global) → List (List ℕ)
@@ -57,7 +58,8 @@ commands = (codes "run", Run) ∷ (codes "serve", Serve) ∷ (codes "report", Re
     ∷ (codes "export", Export) ∷ (codes "check", Check) ∷ (codes "import", Import)
     ∷ (codes "trial", Trial) ∷ (codes "migrate", Migrate) ∷ (codes "ship", Ship)
     ∷ (codes "follow", Follow) ∷ (codes "paper", Paper) ∷ (codes "prove", Prove)
-    ∷ (codes "list", verb.List) ∷ []
+    ∷ (codes "list", verb.List)
+    ∷ (codes "audit", Audit) ∷ []
 
 -- the command that a word names
 abbrev pub command_of : List ℕ → Option Command
@@ -87,6 +89,7 @@ form_of Follow = options (codes "book" ∷ [])
 form_of Paper = needed (codes "book" ∷ codes "batch" ∷ [])
 form_of Prove = options []
 form_of verb.List = options (codes "book" ∷ codes "limit" ∷ [])
+form_of Audit = options (codes "book" ∷ codes "rows" ∷ [])
 
 -- ---- items
 
@@ -193,12 +196,14 @@ batch_in (Some text) = option_map (λ name. Some name) (name_of text)
 
 -- what is read of these texts, where each is in its range
 abbrev pub values_in :
-    (batch limit lanes doors port connections number count remote after : Option (List ℕ))
+    (batch limit lanes doors port connections number count remote after rows : Option (List ℕ))
     → Option Values
-values_in batch limit lanes doors port connections number count remote after = option_and_then (λ batch.
+values_in batch limit lanes doors port connections number count remote after rows =
+    option_and_then (λ batch.
     option_and_then (λ limit. option_and_then (λ lanes. option_and_then (λ doors.
     option_and_then (λ port. option_and_then (λ connections. option_and_then (λ number.
-    option_and_then (λ count. option_and_then (λ remote. option_map (λ after. record {
+    option_and_then (λ count. option_and_then (λ remote. option_and_then (λ after.
+    option_map (λ rows. record {
       batch = batch;
       limit = limit;
       lanes = lanes;
@@ -209,7 +214,9 @@ values_in batch limit lanes doors port connections number count remote after = o
       count = count;
       remote = remote;
       after = after;
-    }) (number_in AFTER after)) (given_number PORT remote)) (number_in COUNT count)) (number_in NUMBER number)) (number_in CONNECTIONS connections))
+      rows = rows;
+    }) (number_in ROWS rows)) (number_in AFTER after)) (given_number PORT remote))
+    (number_in COUNT count)) (number_in NUMBER number)) (number_in CONNECTIONS connections))
     (number_in PORT port)) (number_in DOORS doors)) (number_in LANES lanes))
     (number_in LIMIT limit)) (batch_in batch)
 
@@ -218,7 +225,7 @@ abbrev pub values_of : (List ℕ → Option (List ℕ)) → Option Values
 values_of value = values_in (value (codes "batch")) (value (codes "limit")) (value (codes "lanes"))
     (value (codes "doors")) (value (codes "port")) (value (codes "connections"))
     (value (codes "number")) (value (codes "count")) (value (codes "remote"))
-    (value (codes "after"))
+    (value (codes "after")) (value (codes "rows"))
 
 -- what a command asks for by the values of its names
 abbrev pub wanted_values : Command → (List ℕ → Option (List ℕ)) → Option Wanted
@@ -236,6 +243,7 @@ wanted_values command value = option_map (λ values. record {
   count = values.count;
   remote = values.remote;
   after = values.after;
+  rows = values.rows;
 }) (values_of value)
 
 -- what a command asks for by the words after it

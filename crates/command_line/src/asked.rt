@@ -51,6 +51,7 @@ pub fn wants(alloc: Global, words: &[String]) -> Result<Wants, WantsError>
         count: values.count,
         remote: values.remote,
         after: values.after,
+        rows: values.rows,
     })
 }
 
@@ -69,6 +70,7 @@ fn values_in(matches: &ArgMatches) -> Option<Values>
         count: matches.get_str("count"),
         remote: matches.get_str("remote"),
         after: matches.get_str("after"),
+        rows: matches.get_str("rows"),
     })
 }
 

@@ -61,6 +61,7 @@ fn are_options_read(names: &[&str], words: &[String]) -> bool
         count: find_value("count", words),
         remote: find_value("remote", words),
         after: find_value("after", words),
+        rows: find_value("rows", words),
     };
     read_values(&texts).is_some()
 }
@@ -84,6 +85,7 @@ fn are_places_read(names: &[&str], words: &[String]) -> bool
         count: placed_value(names, "count", words),
         remote: placed_value(names, "remote", words),
         after: placed_value(names, "after", words),
+        rows: placed_value(names, "rows", words),
     };
     read_values(&texts).is_some()
 }

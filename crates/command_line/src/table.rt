@@ -48,6 +48,9 @@ pub fn find_command(word: &str) -> Option<Command>
     if word == "list" {
         return Some(Command::List);
     }
+    if word == "audit" {
+        return Some(Command::Audit);
+    }
     None
 }
 
@@ -89,6 +92,7 @@ pub fn form_of(command: Command) -> Form
         Command::Paper => Form::Needed(&["book", "batch"]),
         Command::Prove => Form::Options(&[]),
         Command::List => Form::Options(&["book", "limit"]),
+        Command::Audit => Form::Options(&["book", "rows"]),
     }
 }
 
@@ -155,6 +159,13 @@ pub const COUNT: NumberForm = NumberForm {
     least: 1,
     most: MAX_TRIAL as u64,
     absent: 0,
+};
+
+/// Of how many rows a fingerprint is.
+pub const ROWS: NumberForm = NumberForm {
+    least: 0,
+    most: MAX_ROWS as u64,
+    absent: MAX_ROWS as u64,
 };
 
 /// How many rows a shipment passes over.

@@ -33,6 +33,9 @@ pub enum Command {
     Prove,
     /// Says what is in force in a book: `list [--book PATH] [--limit N]`
     List,
+    /// Tells whether slots and snapshot of a book agree, and the fingerprint of its first rows:
+    /// `audit --book PATH [--rows N]`
+    Audit,
 }
 
 /// What the words of the command line ask for.
@@ -66,6 +69,9 @@ pub struct Wants {
     pub remote: Option<u16>,
     /// How many rows a shipment passes over, 0 to `MAX_ROWS`; 0 for other commands.
     pub after: u32,
+    /// How many rows a fingerprint is of, 0 to `MAX_ROWS`, the first ones; `MAX_ROWS` for other
+    /// commands.
+    pub rows: u32,
 }
 
 /// Why the words give nothing.

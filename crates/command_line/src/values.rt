@@ -3,7 +3,9 @@ ghost use Rattle.command_line.specs.Words.{batch_in, given_number, number_in, va
 ghost use Rattle.command_line.specs.Taken.{bytes_in};
 ghost use Rattle.command_line.specs.declared.table.TheConstants.{PORT};
 
-use crate::table::{AFTER, CONNECTIONS, COUNT, DOORS, LANES, LIMIT, NUMBER, NumberForm, PORT};
+use crate::table::{
+    AFTER, CONNECTIONS, COUNT, DOORS, LANES, LIMIT, NUMBER, NumberForm, PORT, ROWS,
+};
 use book_words::Name;
 use hall_units::read_number;
 
@@ -20,6 +22,7 @@ pub struct Texts<'a> {
     pub count: Option<&'a str>,
     pub remote: Option<&'a str>,
     pub after: Option<&'a str>,
+    pub rows: Option<&'a str>,
 }
 
 /// The values that were read.
@@ -35,6 +38,7 @@ pub struct Values {
     pub count: u32,
     pub remote: Option<u16>,
     pub after: u32,
+    pub rows: u32,
 }
 
 /// What the texts of values say, where each is in its range.
@@ -42,7 +46,7 @@ pub fn read_values(texts: &Texts) -> Option<Values>
     ensures { result ≡ values_in (bytes_in texts.now.batch) (bytes_in texts.now.limit)
         (bytes_in texts.now.lanes) (bytes_in texts.now.doors) (bytes_in texts.now.port)
         (bytes_in texts.now.connections) (bytes_in texts.now.number) (bytes_in texts.now.count)
-        (bytes_in texts.now.remote) (bytes_in texts.now.after) }
+        (bytes_in texts.now.remote) (bytes_in texts.now.after) (bytes_in texts.now.rows) }
 {
     let batch = read_batch(texts.batch)?;
     let limit = read_within(&LIMIT, texts.limit)?;
@@ -54,6 +58,7 @@ pub fn read_values(texts: &Texts) -> Option<Values>
     let count = read_within(&COUNT, texts.count)?;
     let remote = read_port(texts.remote)?;
     let after = read_within(&AFTER, texts.after)?;
+    let rows = read_within(&ROWS, texts.rows)?;
     Some(Values {
         batch,
         limit: limit as u32,
@@ -65,6 +70,7 @@ pub fn read_values(texts: &Texts) -> Option<Values>
         count: count as u32,
         remote,
         after: after as u32,
+        rows: rows as u32,
     })
 }
 

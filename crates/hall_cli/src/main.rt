@@ -73,10 +73,10 @@ fn run<
     ExitCode::from(hall(rt, rt.alloc(), words, input, output, disk, lanes, doors).status)
 }
 
-// The rows that a book in memory has room for: that of `prove` gets none.
+// The rows that a book in memory has room for: that of `prove` or `audit` gets none.
 fn room(wanted: &Wants) -> u32 {
     match wanted.command {
-        Command::Prove => 0,
+        Command::Prove | Command::Audit => 0,
         _ => wanted.limit,
     }
 }
@@ -97,6 +97,7 @@ fn reads_alone(command: Command) -> bool {
             | Command::Check
             | Command::Ship
             | Command::Paper
+            | Command::Audit
     )
 }
 

@@ -6,14 +6,14 @@ use Rattle.text_streams.specs.Streams.{Stream, IsCutIn}
 use Rattle.standby_hall.specs.Pages.{IsCutAt}
 use Rattle.command_line.specs.Words.{Wanted}
 use Rattle.command_line.specs.declared.types.Command.{Command}
-use Rattle.command_line.specs.declared.types.Command.TheVariants.{Run, Serve, Report, Export, Check, Import, Trial, Migrate, Ship, Follow, Paper, Prove}
+use Rattle.command_line.specs.declared.types.Command.TheVariants.{Run, Serve, Report, Export, Check, Import, Trial, Migrate, Ship, Follow, Paper, Prove, Audit}
 use Rattle.command_line.specs.declared.types.Command.TheVariants as verb
 use Rattle.store_runs.specs.declared.stop.Stop.{Stop}
 use Rattle.store_runs.specs.Books.{BookState}
 use Rattle.script_run.specs.Outside.{Call}
 use Rattle.hall_top.specs.declared.ended.Ended.{Ended}
 use Rattle.hall_top.specs.declared.ended.Outcome.{Outcome}
-use Rattle.hall_top.specs.Asked.{is_serve}
+use Rattle.hall_top.specs.Asked.{is_serve, is_audit}
 use Rattle.hall_top.specs.Calls.{EndsAs, ExplainsAs, IsUnopened, LeavesOutcome}
 
 -- an outcome of which more holds
@@ -51,6 +51,7 @@ not_explained Follow wanted book call stop serves explained = absurd (cc)
 not_explained Paper wanted book call stop serves explained = absurd (cc)
 not_explained Prove wanted book call stop serves explained = absurd (cc)
 not_explained verb.List wanted book call stop serves explained = absurd (cc)
+not_explained Audit wanted book call stop serves explained = explained
 
 -- a call of `serve` whose disk was opened as a book isn't one of another command
 not_opened : {S D : Type 0} (g : disk.Ghosts D) (wanted : Wanted) (before : D)
@@ -58,7 +59,13 @@ not_opened : {S D : Type 0} (g : disk.Ghosts D) (wanted : Wanted) (before : D)
     → EndsAs g wanted before outcome call → IsUnopened g before outcome call
 not_opened g wanted before outcome call serves (inl opened) = absurd
     (not_explained wanted.command wanted _ call opened.stop serves opened.explained)
-not_opened g wanted before outcome call serves (inr unopened) = unopened
+not_opened g wanted before outcome call serves (inr (inl unopened)) = unopened
+not_opened g wanted before outcome call serves (inr (inr audited)) =
+    absurd (serves_not wanted.command serves audited.asked)
+  where
+    serves_not : (command : Command) → is_serve command ≡ true → is_audit command ≡ true → ⊥
+    serves_not Serve serves is = absurd cc
+    serves_not command serves is = absurd cc
 
 -- words of `serve` for which there was no memory
 pub serve_unopened : {S D L O : Type 0} (g : disk.Ghosts D) (wanted : Wanted) (before : D)

@@ -37,7 +37,9 @@ use Rattle.hall_top.specs.declared.ending.Ending.{Ending}
 use Rattle.hall_top.specs.declared.ending.Ending.TheVariants.{Usage, Unopened, Stopped, Served}
 use Rattle.hall_top.specs.Endings.{early_status, least_status, is_early, is_cut, are_spent, status_of, status_of_stop, status_of_why, status_behind, status_of_jobs, status_of_serve, last_status, SaysLast, is_status}
 use Rattle.book_migration.specs.Migration.{ExplainsMigration}
-use Rattle.hall_top.specs.Calls.{ExplainsAs, ExplainsCommand, SaysAll, SaysWhole, input_of, CarriesJournal, FollowsShipment, EndsCarrying, LanesRest, ExplainsSaying, ExplainsPrinting, ExplainsExport, IsImport, IsTrial, stream_call, SaysBehind, ExplainsCarrying, ExplainsMigrate, ExplainsFollow, ExplainsPaper, ProvesInput, ExplainsProve, stop_at, EndsAs}
+use Rattle.hall_top.specs.Calls.{ExplainsAs, ExplainsCommand, SaysAll, SaysWhole, input_of, CarriesJournal, FollowsShipment, EndsCarrying, LanesRest, ExplainsSaying, ExplainsPrinting, ExplainsExport, IsImport, IsTrial, stream_call, SaysBehind, ExplainsCarrying, ExplainsMigrate, ExplainsFollow, ExplainsPaper, ProvesInput, ExplainsProve, stop_at, EndsAs, ending_of}
+use Rattle.book_audit.specs.declared.types.AuditEnd.{AuditEnd}
+use Rattle.book_audit.specs.declared.types.AuditEnd.TheVariants as audits
 
 -- ---- the command that is asked for
 
@@ -499,5 +501,12 @@ pub ends_otherwise : {S D : Type 0} (g : disk.Ghosts D) (wanted : Wanted) (befor
     → outcome.ending ≡ Usage → ⊥
 ends_otherwise g wanted before outcome call (inl opened) is = absurd
     (let same : Stopped opened.stop ≡ Usage = sym opened.ending ∙ is in cc)
-ends_otherwise g wanted before outcome call (inr unopened) is = absurd
+ends_otherwise g wanted before outcome call (inr (inl unopened)) is = absurd
     (let same : Unopened unopened.why ≡ Usage = sym unopened.ending ∙ is in cc)
+ends_otherwise g wanted before outcome call (inr (inr audited)) is =
+    no_usage audited.audits.end (sym audited.audits.ending ∙ is)
+  where
+    no_usage : (end : AuditEnd) → ending_of end ≡ Usage → ⊥
+    no_usage audits.Whole is = absurd cc
+    no_usage audits.WriteFault is = absurd cc
+    no_usage (audits.Refused why) is = absurd cc

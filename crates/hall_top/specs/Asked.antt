@@ -3,7 +3,7 @@ use Rattle.std.specs.Prelude.{◌≡◌, ◌↔◌, ℕ, Bool, true, false, List
 use Rattle.std.specs.Str.{bytes_eq}
 use Rattle.book_store.specs.declared.types.MountError.TheVariants as mount
 use Rattle.command_line.specs.declared.types.Command.{Command}
-use Rattle.command_line.specs.declared.types.Command.TheVariants.{Serve}
+use Rattle.command_line.specs.declared.types.Command.TheVariants.{Serve, Audit}
 use Rattle.command_line.specs.declared.types.Wants.{Wants}
 use Rattle.command_line.specs.declared.types.WantsError.{WantsError}
 use Rattle.command_line.specs.declared.types.WantsError.TheVariants.{Usage, NoMemory}
@@ -16,6 +16,11 @@ use Rattle.hall_top.specs.declared.ending.Ending.TheVariants as ending
 abbrev pub is_serve : Command → Bool
 is_serve Serve = true
 is_serve _ = false
+
+-- whether it reads the disk of the book and opens none
+abbrev pub is_audit : Command → Bool
+is_audit Audit = true
+is_audit _ = false
 
 -- whether the first word is `serve`
 abbrev pub begins_serve : List (List ℕ) → Bool

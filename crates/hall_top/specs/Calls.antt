@@ -1,5 +1,5 @@
 -- What a whole call of the program does: its words, its disk, its command, its last line.
-use Rattle.std.specs.Prelude.{◌≡◌, ◌⊎◌, ℕ, ◌≤◌, List, [], length, take, Option, Some, None}
+use Rattle.std.specs.Prelude.{◌≡◌, ◌⊎◌, ℕ, ◌≤◌, true, List, [], length, take, Option, Some, None}
 use Rattle.disk_core.specs.Disk.{WhereTold}
 use Rattle.disk_core.specs.Devices.{IsUnmoved}
 use Rattle.disk_core.specs.declared.disk.Disk as disk
@@ -42,7 +42,12 @@ use Rattle.list_run.specs.Texts.{list_text}
 use Rattle.trial_run.specs.Trials.{ExplainsTrial}
 use Rattle.report_run.specs.Printing.{SaysText}
 use Rattle.report_run.specs.Reports.{HasEachReading, IsReadBack, batch_text, book_register, report_text}
+use Rattle.book_audit.specs.declared.types.AuditEnd.{AuditEnd}
+use Rattle.book_audit.specs.declared.types.AuditEnd.TheVariants as audits
+use Rattle.book_audit.specs.Audits.{ExplainsAudit, CountsEnd}
+use Rattle.hall_top.specs.declared.ending.Ending.{Ending}
 use Rattle.hall_top.specs.declared.ending.Ending.TheVariants.{Usage, Unopened, Stopped}
+use Rattle.hall_top.specs.Asked.{is_audit}
 use Rattle.hall_top.specs.declared.ended.Ended.{Ended}
 use Rattle.hall_top.specs.declared.ended.Outcome.{Outcome}
 use Rattle.hall_top.specs.Endings.{SaysLast}
@@ -51,7 +56,7 @@ use Rattle.command_line.specs.Words.{Wanted}
 use Rattle.command_line.specs.declared.types.Command.{Command}
 use Rattle.command_line.specs.declared.types.Command.TheVariants.{Run, Serve, Report, Export, Check}
 use Rattle.command_line.specs.declared.types.Command.TheVariants.{Import, Trial, Migrate, Ship, Follow}
-use Rattle.command_line.specs.declared.types.Command.TheVariants.{Paper, Prove}
+use Rattle.command_line.specs.declared.types.Command.TheVariants.{Paper, Prove, Audit}
 use Rattle.command_line.specs.declared.types.Command.TheVariants as verb
 
 -- nothing was read or written, no lane was worked, and there are no rows
@@ -283,17 +288,46 @@ ExplainsAs Follow wanted book call stop = ExplainsFollow book call stop
 ExplainsAs Paper wanted book call stop = ExplainsPaper wanted.batch book call stop
 ExplainsAs Prove wanted book call stop = ExplainsProve book call stop
 ExplainsAs verb.List wanted book call stop = ExplainsList wanted.limit book call stop
+ExplainsAs Audit wanted book call stop = ⊥
 
 -- how the command that is asked for ends
 abbrev pub ExplainsCommand : {S : Type 0} → Wanted → BookState → Call S → Stop → Type 0
 ExplainsCommand wanted book call stop = ExplainsAs wanted.command wanted book call stop
 
+-- how a call ends whose audit ended so
+abbrev pub ending_of : AuditEnd → Ending
+ending_of audits.Whole = Stopped Finished
+ending_of audits.WriteFault = Stopped WriteFault
+ending_of (audits.Refused why) = Unopened why
+
+-- A disk was audited and that ended so: what was found went out, or why nothing was. The disk is as
+-- it was, and wasn't opened as a book.
+pub record AuditsDisk {D : Type 0} (disk : disk.Ghosts D) (most : ℕ) (before : D)
+    (outcome : Outcome D) (output now : Stream) : Type 0 where
+  pub end : AuditEnd
+  pub ending : outcome.ending ≡ ending_of end
+  pub explained : ExplainsAudit (disk.reads before) most output now end
+  pub unmoved : IsUnmoved disk before outcome.disk
+  pub cause : CountsEnd (disk.faults before) (disk.faults outcome.disk) end
+  pub none : outcome.held ≡ 0
+
+-- an audit of the first so many rows: the input wasn't read, no lane was worked, and there are no
+-- rows
+pub record IsAudited {S D : Type 0} (disk : disk.Ghosts D) (wanted : Wanted) (before : D)
+    (outcome : Outcome D) (call : Call S) : Type 0 where
+  pub asked : is_audit wanted.command ≡ true
+  pub unread : call.now.source ≡ call.before.source
+  pub rest : LanesRest call.before.outside call.now.outside
+  pub rows : call.rows ≡ []
+  pub audits : AuditsDisk disk wanted.rows before outcome call.before.outside.output
+      call.now.outside.output
+
 -- A call with right words: the disk was opened as a book and the command ended in one of its ways,
--- or it wasn't opened.
+-- or it wasn't opened, or it was audited.
 abbrev pub EndsAs : {S D : Type 0} → disk.Ghosts D → Wanted → D → Outcome D → Call S → Type 0
 EndsAs disk wanted before outcome call =
     IsOpened disk wanted.limit (ExplainsCommand wanted) before outcome call
-    ⊎ IsUnopened disk before outcome call
+    ⊎ IsUnopened disk before outcome call ⊎ IsAudited disk wanted before outcome call
 
 -- a call with wrong words: nothing was read, the disk is as it was, and there are no rows
 pub record IsUsage {S D : Type 0} (before : D) (outcome : Outcome D) (call : Call S) : Type 0

@@ -11,15 +11,16 @@ ghost use Rattle.script_run.specs.Outside.{nothing_told};
 ghost use Rattle.store_runs.specs.Runs.{RunGoes};
 ghost use Rattle.text_streams.specs.Streams.{output_at};
 ghost use Rattle.hall_top.specs.declared.ending.Ending.TheVariants as ending;
-ghost use Rattle.hall_top.specs.Asked.{begins_serve, is_serve, wanted_alone, refused_as, IsRead};
+ghost use Rattle.hall_top.specs.Asked.{begins_serve, is_serve, is_audit, wanted_alone, refused_as, IsRead};
 ghost use Rattle.hall_top.specs.Requests.{RequestsOnce};
 ghost use Rattle.hall_top.specs.Endings.{is_status, SaysLast};
-ghost use Rattle.hall_top.specs.Calls.{call_between, ExplainsCommand, EndsAs, CommandDone, IsUsage, Leaves};
+ghost use Rattle.hall_top.specs.Calls.{call_between, ExplainsCommand, EndsAs, CommandDone, AuditsDisk, ending_of, IsUsage, Leaves};
 
 use crate::ended::{Ended, Outcome};
 use crate::ending::{Ending, say_last};
 use crate::reports::{export, list, paper, prove, report, ship};
 use crate::whole::{end_carrying, say_whole};
+use book_audit::{AuditEnd, audit_run};
 use book_core::{Book, Rows};
 use book_migration::migrate_journal;
 use book_store::{MountError, Store};
@@ -32,7 +33,7 @@ use script_run::{LaneLog, ScriptEnd, run_script};
 use serve_run::DoorEnds;
 use standby_hall::follow_run;
 use std::alloc::Global;
-use store_runs::RunEnd;
+use store_runs::{RunEnd, Stop};
 use trial_run::run_trial;
 
 // The end of a command that works no lane.
@@ -64,13 +65,14 @@ fn run_command<S: Source, K: Sink, D: Disk, L: Lane>(
     requires legal { IsLegal (entries_of store) }
     requires range { IsInRange (seen wanted.now) }
     requires alone { is_serve wanted.now.command ≡ false }
+    requires unaudited { is_audit wanted.now.command ≡ false }
     ensures explained { ExplainsCommand (seen wanted.now) (stored_book store)
         (call_between S.Source K.Sink L.Cell L.Gate input.old input.new output.old output.new
         lanes.old lanes.new result.log.told (entries_of result.store)) result.stop }
     ensures goes { RunGoes D.Disk result.stop store result.store }
 {
     match wanted.command {
-        Command::Serve => unreachable!(),
+        Command::Serve | Command::Audit => unreachable!(),
         Command::Run => run_script(alloc, store, input, output, lanes),
         Command::Report => without_lanes(alloc, report(alloc, store, wanted.batch, output)),
         Command::Export => without_lanes(alloc, export(alloc, store, output)),
@@ -114,6 +116,7 @@ fn do_command<S: Source, K: Sink, D: Disk, L: Lane>(
     requires legal { IsLegal (entries_of store) }
     requires range { IsInRange (seen wanted.now) }
     requires alone { is_serve wanted.now.command ≡ false }
+    requires unaudited { is_audit wanted.now.command ≡ false }
     ensures done { CommandDone D.Disk (ExplainsCommand (seen wanted.now)) store result
         (call_between S.Source K.Sink L.Cell L.Gate input.old input.new output.old output.new
         lanes.old lanes.new result.log.told result.rows) }
@@ -158,6 +161,62 @@ pub fn leave_unopened<D>(alloc: Global, ending: Ending, disk: D) -> Outcome<D>
 }
 
 // Opens a disk as a book, and does a command over it.
+fn do_opened<S: Source, K: Sink, D: Disk, L: Lane>(
+    alloc: Global,
+    wanted: &Wants,
+    input: &mut S,
+    output: &mut K,
+    disk: D,
+    lanes: &mut [L],
+) -> Outcome<D>
+    requires few { length lanes.old ≤ MAX_LANE }
+    requires unended { S.ended input.old ≡ false }
+    requires range { IsInRange (seen wanted.now) }
+    requires alone { is_serve wanted.now.command ≡ false }
+    requires unaudited { is_audit wanted.now.command ≡ false }
+    ensures ends { EndsAs D.Disk (seen wanted.now) disk result
+        (call_between S.Source K.Sink L.Cell L.Gate input.old input.new output.old output.new
+        lanes.old lanes.new result.log.told result.rows) }
+    ensures rows { IsSoundBook result.rows }
+{
+    match Store::mount(alloc, disk, wanted.limit) {
+        Ok(store) => do_command(alloc, wanted, store, input, output, lanes),
+        Err(refused) => leave_unopened(alloc, Ending::Unopened(refused.why), refused.disk),
+    }
+}
+
+// How a call ends whose audit ended so.
+fn ending_of(end: AuditEnd) -> Ending
+    ensures { result ≡ ending_of end }
+{
+    match end {
+        AuditEnd::Whole => Ending::Stopped(Stop::Finished),
+        AuditEnd::WriteFault => Ending::Stopped(Stop::WriteFault),
+        AuditEnd::Refused(why) => Ending::Unopened(why),
+    }
+}
+
+// Audits the book on a disk, which isn't opened.
+fn do_audit<K: Sink, D: Disk>(alloc: Global, most: u32, output: &mut K, disk: D) -> Outcome<D>
+    ensures audits { AuditsDisk D.Disk most disk result (output_at K.Sink output.old)
+        (output_at K.Sink output.new) }
+    ensures rows { result.rows ≡ [] }
+    ensures sound { IsSoundBook result.rows }
+    ensures log { result.log.told ≡ nothing_told }
+{
+    let mut disk = disk;
+    let end = audit_run(alloc, &mut disk, most, output);
+    leave_unopened(alloc, ending_of(end), disk)
+}
+
+// Whether a command reads the disk of the book and opens none.
+fn is_audit(command: Command) -> bool
+    ensures { result ≡ is_audit command }
+{
+    matches!(command, Command::Audit)
+}
+
+// Audits the disk of a book, or opens it as a book and does a command over it.
 fn do_wanted<S: Source, K: Sink, D: Disk, L: Lane>(
     alloc: Global,
     wanted: &Wants,
@@ -175,10 +234,10 @@ fn do_wanted<S: Source, K: Sink, D: Disk, L: Lane>(
         lanes.old lanes.new result.log.told result.rows) }
     ensures rows { IsSoundBook result.rows }
 {
-    match Store::mount(alloc, disk, wanted.limit) {
-        Ok(store) => do_command(alloc, wanted, store, input, output, lanes),
-        Err(refused) => leave_unopened(alloc, Ending::Unopened(refused.why), refused.disk),
+    if is_audit(wanted.command) {
+        return do_audit(alloc, wanted.rows, output, disk);
     }
+    do_opened(alloc, wanted, input, output, disk, lanes)
 }
 
 // How a call ends whose words weren't read.

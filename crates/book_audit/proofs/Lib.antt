@@ -1,0 +1,5 @@
+pub mod Agreeing
+pub mod AuditTexts
+pub mod Digests
+pub mod Refusals
+pub mod WalkSteps

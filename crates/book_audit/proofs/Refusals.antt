@@ -1,0 +1,41 @@
+-- Why nothing was found, as it is handed on.
+use Rattle.std.proofs.Common.{◌≡◌, ℕ, List, Option, Err, Result, refl, subst, sym, ap, ◌∙◌}
+use Rattle.device_facts.specs.Count.{Counted}
+use Rattle.disk_core.specs.Disk.{WhereTold}
+use Rattle.text_streams.specs.Streams.{Stream}
+use Rattle.book_store.specs.declared.types.MountError.{MountError}
+use Rattle.book_store.specs.declared.types.MountError.TheVariants.{NotJournal, Damaged, DiskFault, NoMemory}
+use Rattle.book_store.specs.Mounting.{IsPassing}
+use Rattle.book_store.specs.Opening.{CountsReading}
+use Rattle.book_audit.specs.declared.types.AuditEnd.TheVariants.{Refused}
+use Rattle.book_audit.specs.Audits.{IsUnaudited, ExplainsAudit}
+use Rattle.book_audit.specs.Fronts.{IsUndamaged, CountsFront}
+
+pub passing_unaudited : (bytes : List ℕ) (why : MountError) → IsPassing why → IsUnaudited bytes why
+passing_unaudited bytes (NotJournal place) is = absurd is
+passing_unaudited bytes (Damaged row) is = is
+passing_unaudited bytes DiskFault is = tt
+passing_unaudited bytes NoMemory is = tt
+
+pub passing_undamaged : (why : MountError) → IsPassing why → IsUndamaged why
+passing_undamaged (NotJournal place) is = tt
+passing_undamaged (Damaged row) is = is
+passing_undamaged DiskFault is = tt
+passing_undamaged NoMemory is = tt
+
+-- the count of faults, where nothing failed before
+pub counts_front : (T U : Type 0) (before mid now : ℕ) (why : MountError) → mid ≡ before
+    → CountsReading {T = T} mid now (Err why) → CountsFront {T = U} before now (Err why)
+counts_front T U before mid now (NotJournal place) calm is = absurd is
+counts_front T U before mid now (Damaged row) calm is = is ∙ calm
+counts_front T U before mid now DiskFault calm is = subst (λ (n : ℕ). Counted n now 1) calm is
+counts_front T U before mid now NoMemory calm is = is ∙ calm
+
+-- nothing went out
+pub explains_refused : (told : Option (List ℕ)) (most : ℕ) (output : Stream) (why : MountError)
+    → WhereTold told (λ bytes. IsUnaudited bytes why) → IsUndamaged why
+    → ExplainsAudit told most output output (Refused why)
+explains_refused told most output (NotJournal place) unaudited undamaged = (unaudited, refl)
+explains_refused told most output (Damaged row) unaudited undamaged = absurd undamaged
+explains_refused told most output DiskFault unaudited undamaged = refl
+explains_refused told most output NoMemory unaudited undamaged = refl

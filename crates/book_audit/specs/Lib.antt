@@ -1,0 +1,5 @@
+pub mod Audits
+pub mod Beside
+pub mod Fronts
+pub mod Slots
+pub mod Walking
