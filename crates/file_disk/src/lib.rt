@@ -4,8 +4,10 @@
 //!
 //! Promised: each call that fails counts one fault; a disk that isn't open fails at each call; a
 //! buffer is filled with the bytes from its place on, as many as there are, however few of them each
-//! read of the system brings; of a running book the header and the rows that stay are taken, with
-//! no snapshot.
+//! read of the system brings.
+//!
+//! Tested: that of a running book the header and the rows that stay are taken, with no snapshot. How
+//! many rows those are, and that they stay, is promised by book_file.
 //!
 //! Trusted: the system's calls, that they read, write and make stable what they say, and that a
 //! lock keeps other halls out; std's `write_all_at`; that a file which is opened for reading isn't
