@@ -12,7 +12,8 @@ set -eu
 cd "$(dirname "$0")/.."
 hall=${HALL:-$PWD/crates/hall_cli/out/hall_cli}
 room=$(mktemp -d)
-trap 'rm -rf "$room"; kill $(jobs -p) 2>/dev/null || true' EXIT
+begun=
+trap 'kill $begun 2>/dev/null || true; rm -rf "$room"' EXIT
 port=$((20000 + $$ % 20000))
 
 # a book of ten batches with 9 998 packs each
@@ -41,6 +42,7 @@ http {
 }
 CONF
 nginx -c "$room/nginx.conf" -e "$room/errors" &
+begun=$!
 
 
 # requests a second of one connection
@@ -52,6 +54,7 @@ best() { sort -n | tail -1; }
 
 "$hall" serve --book "$room/day.book" --doors 1 --port $port --connections 999999 \
     </dev/null >/dev/null &
+begun="$begun $!"
 sleep 2
 : >"$room/door"; : >"$room/nginx"; : >"$room/acts"
 for _ in 1 2 3; do
@@ -60,6 +63,7 @@ for _ in 1 2 3; do
 done
 for run in 1 2 3; do
     "$hall" serve --doors 1 --port $((port + 1 + run)) --connections 999999 </dev/null >/dev/null &
+    begun="$begun $!"
     sleep 1
     rate -s "$PWD/bench/acts.lua" http://127.0.0.1:$((port + 1 + run)) >>"$room/acts"
 done

@@ -11,7 +11,8 @@ set -eu
 cd "$(dirname "$0")/.."
 hall=${HALL:-$PWD/crates/hall_cli/out/hall_cli}
 room=$(mktemp -d)
-trap 'rm -rf "$room"; kill $(jobs -p) 2>/dev/null || true' EXIT
+begun=
+trap 'kill $begun 2>/dev/null || true; rm -rf "$room"' EXIT
 port=$((20000 + $$ % 20000))
 url=http://127.0.0.1:$port
 PACKS=101 VOIDED=30 DRAWN=30
@@ -20,6 +21,7 @@ PACKS=101 VOIDED=30 DRAWN=30
 serve() {
     timeout 120 "$hall" serve --book "$room/office.book" --doors 1 --port $port \
         --connections "$1" </dev/null >>"$room/doors" &
+    begun="$begun $!"
 }
 
 # sends an act of desk 101, and says the answer as a script's is said
