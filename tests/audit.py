@@ -103,13 +103,15 @@ class Audits:
                               capture_output=True, timeout=60, check=False)
         after = os.stat(self.path)
         with open(self.path, "rb") as file:
-            compare("the file", (file.read() == data, after.st_mtime_ns), (True, before.st_mtime_ns))
+            compare("the file", (file.read() == data, after.st_mtime_ns),
+                    (True, before.st_mtime_ns))
         return done.stdout, done.returncode
 
 
 def make(program, folder, text, name):
     path = f"{folder}/{name}"
-    subprocess.run([program, "run", "--book", path], input=text, stdout=subprocess.DEVNULL, check=True)
+    subprocess.run([program, "run", "--book", path], input=text, stdout=subprocess.DEVNULL,
+                   check=True)
     with open(path, "rb") as file:
         return file.read()
 
@@ -135,8 +137,8 @@ def turn(draw, book, audits):
         place = draw.randrange(HEADER, book.gate)
         row = place // SLOT
         found = audits.audit(changed(data, (place, other(draw, data[place]))))
-        # A slot that is changed so that it is still lawful lets the rows behind it stand or not: how
-        # many slots are told is the program's to say, the row isn't.
+        # A slot that is changed so that it is still lawful lets the rows behind it stand or not:
+        # how many slots are told is the program's to say, the row isn't.
         lines = found[0].split(b"\n")
         compare(f"slot byte {place}", (lines[1:], found[1]),
                 ([f"snapshot differs at row {row}".encode(), f"snapshot {rows}".encode(),
@@ -151,7 +153,8 @@ def turn(draw, book, audits):
     elif kind == "content":
         at = draw.randrange(len(book.content))
         place = book.place_in_snapshot(at)
-        compare(f"content byte {at}", audits.audit(changed(data, (place, other(draw, data[place])))),
+        changed_data = changed(data, (place, other(draw, data[place])))
+        compare(f"content byte {at}", audits.audit(changed_data),
                 differs(rows, book.row_of_content(at), rows))
     elif kind == "ends":
         place = draw.choice([book.snapshot, len(data) - SLOT]) + draw.randrange(SLOT)
@@ -166,7 +169,8 @@ def turn(draw, book, audits):
         compare("mark", audits.audit(changed(data, (MARK, other(draw, MARKED)))),
                 said(rows, "none", book.slots))
     elif kind == "both":
-        # The lowest byte of a weighing's gross mass, in its slot and in its form: still a lawful row.
+        # The lowest byte of a weighing's gross mass, in its slot and in its form: still a lawful
+        # row.
         row = draw.randrange(6, PACKS + 6)
         place = HEADER + SLOT * (row - 1) + 15
         byte = data[place] ^ 1
