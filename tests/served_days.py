@@ -88,7 +88,8 @@ class ServedDay:
     def refuse(self, kind, number):
         """A run in which this call is refused; tells how it ended, where that is right. Where the
         program then asks for the same in another way, that is refused too in a second run, unless
-        the next call may be that of another thread."""
+        the next call may be that of another thread; and in a third the call behind that, since it
+        goes on without the lines that standard error would show."""
         way, told = self.attempt(f"{kind}-{number}", kind, number)
         if not told.refused:
             need(way == DONE, f"the call didn't come in this run, and {way}")
@@ -98,8 +99,9 @@ class ServedDay:
         if way != DONE:
             return way
         if not self.grosses:
-            way, _ = self.attempt(f"{kind}-{number}-2", kind, number, 2)
-            need(way != DONE, "the day is whole also where two are refused")
+            ways = (self.attempt(f"{kind}-{number}-{count}", kind, number, count)[0]
+                    for count in (2, 3))
+            need(any(way != DONE for way in ways), "the day is whole also where three are refused")
         return ASKED_AGAIN
 
     def attempt(self, name, kind, number, count=1):
