@@ -26,13 +26,6 @@ impl Rows {
         Rows { rows }
     }
 
-    /// The entries.
-    pub fn into_vec(self) -> Vec<Entry>
-        ensures { result.items ≡ self }
-    {
-        self.rows
-    }
-
     /// The entries, to be read.
     pub fn as_slice(&self) -> &[Entry]
         ensures { result.now ≡ self.now }
