@@ -35,7 +35,6 @@ use Rattle.book_store.specs.Stores.{Hangs, HasBook, HangsWith, HoldsOrHangs}
 use Rattle.book_store.specs.Stores.{ImagesHoldBook, IsSound}
 use Rattle.book_store.specs.Offers.{Offers, OffersEntry, LeavesDisk, CountsDiskFault, GivesAnswer}
 use Rattle.book_store.specs.Offers.{list_behind}
-use Rattle.book_store.specs.Mounting.{HasHeld}
 use Rattle.book_store.specs.Resting.{CountsRestFault}
 use Rattle.book_store.specs.declared.types.RestError.{RestError}
 use Rattle.book_store.specs.declared.types.RestError.TheVariants as rest
@@ -544,48 +543,3 @@ module _ {D : Type 0} (g : disk.Ghosts D) where
             run.moments rested.moments;
         end = at_end start new rested.has hung (images rested.has);
       }
-
-  -- ---- a store that was mounted on a disk that held these rows
-
-  leaves_held : (held rows : List Entry) (c : List ℕ) → rows ≡ held → HoldsBook held c
-      → LeavesFrom held rows c
-  leaves_held held rows c same holds =
-      leaves_front held held rows c (begins_same held held refl) (begins_same held rows same)
-      (inl holds)
-
-  module _ (counts_now : (d : D) (t : ℕ) (c : List ℕ) → t ≤ g.time d → g.image d c → g.since d t c)
-      (held : List Entry) (start : D) (store : Store D) (has : HasHeld g start held store) where
-    each_image : (c : List ℕ) → g.image (disk_of store) c → HoldsBook (entries_of store) c
-    each_image c image = subst (λ (es : List Entry). HoldsBook es c) (sym has.same)
-        (has.moments.each c
-        (counts_now (disk_of store) has.moments.synced c has.moments.before image))
-
-    pub rests_mounted : RestsOnDisk g store
-    rests_mounted = record { has = has.has; images = each_image }
-
-    pub run_mounted : g.faults (disk_of store) ≡ g.faults start → ¬ Hangs store
-        → KeepsRun g held start store
-    run_mounted same calm =
-        let left : (c : List ℕ) → HoldsBook held c → LeavesFrom held (entries_of store) c =
-        λ c holds. leaves_held held (entries_of store) c has.same holds in
-        record {
-          has = has.has;
-          begins = begins_same held (entries_of store) has.same;
-          faults = inl same;
-          hung = λ entry hangs. absurd (calm hangs.row.hangs);
-          moments = record {
-            synced = has.moments.synced;
-            after = has.moments.after;
-            before = has.moments.before;
-            each = λ c was. left c (has.moments.each c was);
-            handed_in = λ c was. ⊎_elim (λ is. inl is) (λ is. inr (left c is))
-                (has.moments.handed_in c was);
-            earlier = λ t c le was. ⊎_elim (λ is. inl is) (λ is. inr (left c is))
-                (has.moments.earlier t c le was);
-          };
-          end = record {
-            hanging = None;
-            cause = tt;
-            images = λ c image. inl (each_image c image);
-          };
-        }

@@ -5,10 +5,8 @@
 
 mod held;
 mod laws;
-mod run;
 mod session;
 
 pub use held::HeldStore;
 pub use laws::caller_law;
-pub use run::{hold_session, mount_session, rest_session};
 pub use session::Session;
