@@ -1,4 +1,5 @@
-# Installs packages of Debian that are missing. To be read by a script: need PACKAGE..
+# Installs packages of Debian that are missing, where need be behind an update of apt's lists. To be
+# read by a script: need PACKAGE..
 need() {
     missing=
     for package; do
@@ -6,7 +7,11 @@ need() {
     done
     if [ -n "$missing" ]; then
         echo "installs$missing" >&2
-        # shellcheck disable=SC2086
-        DEBIAN_FRONTEND=noninteractive apt-get install -y --no-install-recommends $missing >&2
+        install_missing || { apt-get update >&2 && install_missing; }
     fi
+}
+
+install_missing() {
+    # shellcheck disable=SC2086
+    DEBIAN_FRONTEND=noninteractive apt-get install -y --no-install-recommends $missing >&2
 }
