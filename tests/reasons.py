@@ -1,11 +1,15 @@
 #!/usr/bin/env python3
-"""What the program says of bad lines on standard error, for people, beside what it prints and its
-status, which stay as docs/FORMATS.md has them.
+"""What the program says on standard error, for people, beside what it prints and its status, which
+stay as docs/FORMATS.md has them: of bad lines and plans, of a disk that fails, and of a file that
+can't be written.
 
 usage: tests/reasons.py      (HALL names another program than the one that `./hall` builds)
 """
 
 import os
+import resource
+import shutil
+import signal
 import subprocess
 import sys
 import tempfile
@@ -62,6 +66,55 @@ TOML = [
     (["serve"], b"reserve = 10\nreserve = 11\n", "bad plan: its line 2 isn't TOML: "),
 ]
 
+ONE_DAY = b"day 2025-03-03\n"
+
+# What is done to a file that can't be written, or with no room for its bytes, and what is said.
+UNWRITABLE = [(words, ["BOOK: it can't be written; it was read as it stands"])
+              for words in ("check", "report", "export", "list", "ship", "audit")]
+FULL = "the book's disk failed: File too large (os error 27)"
+
+
+def run(program, words, given, before=None):
+    """A run, as what it printed, what it said, and its status."""
+    return subprocess.run([program, *words], input=given, timeout=60, capture_output=True,
+                          preexec_fn=before, check=False)
+
+
+def heard(text, book):
+    """The lines of standard error, without what each begins with."""
+    lines = text.decode().replace(book, "BOOK").splitlines()
+    return [line.removeprefix("hall: ") for line in lines]
+
+
+def nobody():
+    """As nobody, who may read the file."""
+    if os.geteuid() == 0:
+        os.setuid(65534)
+
+
+def no_room():
+    """With room for some rows."""
+    signal.signal(signal.SIGXFSZ, signal.SIG_IGN)
+    resource.setrlimit(resource.RLIMIT_FSIZE, (1000, 1000))
+
+
+def with_files(program, folder):
+    """What is said otherwise of files that can't be written."""
+    book = f"{folder}/book"
+    run(program, ["run", f"--book={book}"], ONE_DAY)
+    os.chmod(folder, 0o755)
+    os.chmod(book, 0o444)
+    ours = shutil.copy(program, f"{folder}/hall")     # where nobody may read it
+    for word, wanted in UNWRITABLE:
+        told = run(ours, [word, f"--book={book}"], b"", before=nobody)
+        if (told.returncode, heard(told.stderr, book)) != (0, wanted):
+            yield f"{word} of a file that can't be written: {told}"
+    os.remove(book)
+    told = run(program, ["run", f"--book={book}"], ONE_DAY * 20, before=no_room)
+    if (told.returncode, heard(told.stderr, book)) != (6, [FULL]):
+        yield f"a run without room: {told}"
+    os.remove(book)
+
 
 def ask(program, folder, words, given):
     """The last line of a run, and what it says of a bad line."""
@@ -89,8 +142,12 @@ def main():
             if (last, status) != ("bad plan", 3) or not (reason or "").startswith(begin):
                 wrong += 1
                 print(f"{words} {given!r}: {last!r}, {status}, {reason!r}, and not {begin!r}")
+        others = list(with_files(program, folder))
+    for line in others:
+        print(line)
     print(f"{len(ROWS) + len(TOML)} bad lines and plans, {wrong} told otherwise")
-    return wrong > 0
+    print(f"{len(UNWRITABLE) + 1} runs over such files, {len(others)} told otherwise")
+    return wrong + len(others) > 0
 
 
 if __name__ == "__main__":
