@@ -18,8 +18,8 @@ use Rattle.store_runs.specs.Callers.{CallerView, own_rows, known_of, IsReachedBy
 use Rattle.store_runs.specs.CallerLaws.{is_reached}
 use Rattle.store_runs.specs.Stores.{book_of, entries_of, limit_of}
 use Rattle.store_runs.proofs.CallerSteps.{refused_adds}
-use Rattle.lane_worker.specs.declared.ending.Ending.{Ending}
-use Rattle.lane_worker.specs.declared.ending.Ending.TheVariants as ends
+use Rattle.lane_worker.specs.declared.ending.WeighingEnd.{WeighingEnd}
+use Rattle.lane_worker.specs.declared.ending.WeighingEnd.TheVariants as ends
 use Rattle.lane_worker.specs.declared.ending.LaneStop.{LaneStop}
 use Rattle.lane_worker.specs.declared.ending.LaneEnd.{LaneEnd}
 use Rattle.lane_worker.specs.Endings.{stop_by, stop_at, faults_at}
@@ -236,13 +236,13 @@ module _ {D : Type 0} (g : disk.Ghosts D) (reads_image : (d : D) → WhereTold (
     (step : Result ⊤ Stop) (calm : old.faults ≡ 0) (by : old.by ≡ lane)
     (is : IsWork (IsReachedBy g old new) (Broke g old new) (site_with (known_of old) was)
     (site_with (known_of new) now) lane batch end)
-    (goes_so : (ending : Ending) → end.stop ≡ stop_by ending → step ≡ Ok tt)
+    (goes_so : (ending : WeighingEnd) → end.stop ≡ stop_by ending → step ≡ Ok tt)
     (stops_so : (next : Ask) (why : AskError) → end.stop ≡ stop_at why
     → (why ≡ error.DiskFault → new.failed ≡ Some next) → step ≡ step_behind lane next why) where
   abbrev asks : List Ask
   asks = asks_of_work lane batch is.work
 
-  none_at : (ending : Ending) → faults_at (stop_by ending) ≡ 0
+  none_at : (ending : WeighingEnd) → faults_at (stop_by ending) ≡ 0
   none_at ends.End = refl
   none_at (ends.Bad line) = refl
   none_at ends.Spent = refl
@@ -254,7 +254,7 @@ module _ {D : Type 0} (g : disk.Ghosts D) (reads_image : (d : D) → WhereTold (
   few_at error.DiskFault = omega arith
   few_at error.NoMemory = omega arith
 
-  calm_after : (ending : Ending) → end.stop ≡ stop_by ending → new.faults ≡ 0
+  calm_after : (ending : WeighingEnd) → end.stop ≡ stop_by ending → new.faults ≡ 0
   calm_after ending told =
       omega (arith, calm, is.faults, ap faults_at told, none_at ending)
 

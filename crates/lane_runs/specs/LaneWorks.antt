@@ -11,7 +11,7 @@ use Rattle.book_words.specs.Callers.{MayFindNoMemory}
 use Rattle.book_words.specs.Desks.{Row}
 use Rattle.lane_worker.specs.declared.types.CellNext.{CellNext}
 use Rattle.lane_worker.specs.declared.types.CellNext.TheVariants.{Gross}
-use Rattle.lane_worker.specs.declared.ending.Ending.{Ending}
+use Rattle.lane_worker.specs.declared.ending.WeighingEnd.{WeighingEnd}
 use Rattle.lane_worker.specs.declared.ending.LaneStop.{LaneStop}
 use Rattle.lane_worker.specs.declared.ending.LaneEnd.{LaneEnd}
 use Rattle.lane_worker.specs.declared.cell.Cell as cell
@@ -81,7 +81,7 @@ MayHaveError book lane next error.NoMemory =
 -- a worker finished: all that it was to ask was answered, and its stop is what ended the weighing
 pub record IsFinished (asks : List Ask) (work : Work) (stop : LaneStop) (step : Result ⊤ Stop)
     : Type 0 where
-  pub ending : Ending
+  pub ending : WeighingEnd
   pub ended : work.ending ≡ Some ending
   pub told : stop ≡ stop_by ending
   pub whole : asks ≡ work.answered

@@ -3,7 +3,7 @@ ghost use Rattle.book_words.specs.declared.act.Ask.{Ask as Asked};
 ghost use Rattle.book_words.specs.declared.caller.AskError.{AskError};
 ghost use Rattle.book_words.specs.declared.caller.AskError.TheVariants as error;
 ghost use Rattle.lane_worker.specs.Endings.{stop_at, stop_by};
-ghost use Rattle.lane_worker.specs.declared.ending.Ending.{Ending as Ended};
+ghost use Rattle.lane_worker.specs.declared.ending.WeighingEnd.{WeighingEnd as Ended};
 ghost use Rattle.store_runs.specs.Books.{stored_book};
 ghost use Rattle.store_runs.specs.Runs.{Goes};
 ghost use Rattle.lane_runs.specs.LaneWorks.{lane_state, step_behind, IsWorked};

@@ -4,8 +4,8 @@ use Rattle.std.proofs.lemmas.List.{map-append}
 use Rattle.device_facts.specs.Count.{Counted}
 use Rattle.lane_worker.specs.declared.types.CellNext.{CellNext}
 use Rattle.lane_worker.specs.declared.types.CellNext.TheVariants.{Gross}
-use Rattle.lane_worker.specs.declared.ending.Ending.{Ending}
-use Rattle.lane_worker.specs.declared.ending.Ending.TheVariants.{CellFailed, GateFailed}
+use Rattle.lane_worker.specs.declared.ending.WeighingEnd.{WeighingEnd}
+use Rattle.lane_worker.specs.declared.ending.WeighingEnd.TheVariants.{CellFailed, GateFailed}
 use Rattle.lane_worker.specs.Cells.{items_behind, IsNext, Gave}
 use Rattle.lane_worker.specs.Endings.{last_items, cell_failed}
 use Rattle.lane_worker.specs.Works.{Site, HasGiven}
@@ -38,7 +38,7 @@ given_gross was mid now grosses gross given takes =
     }
 
 -- an item that ends the weighing
-pub given_last : (was mid now : Site) (grosses : List ℤ) (item : CellNext) (ending : Ending) → last_items (Some ending) ≡ item ∷ [] → cell_failed (Some ending) ≡ false
+pub given_last : (was mid now : Site) (grosses : List ℤ) (item : CellNext) (ending : WeighingEnd) → last_items (Some ending) ≡ item ∷ [] → cell_failed (Some ending) ≡ false
     → HasGiven was mid grosses None → TakesItem mid now item → HasGiven was now grosses (Some ending)
 given_last was mid now grosses item ending last calm given takes = record {
   items = subst (λ (items : List CellNext). Gave was.left (gross_items grosses ++ items) now.left) (sym last) (gave_next was mid now grosses item given takes);

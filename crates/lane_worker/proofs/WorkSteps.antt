@@ -24,9 +24,9 @@ use Rattle.book_words.specs.Population.{is_pass}
 use Rattle.book_words.specs.Views.{lane_view}
 use Rattle.lane_worker.specs.declared.types.CellNext.{CellNext}
 use Rattle.lane_worker.specs.declared.types.CellNext.TheVariants.{Gross}
-use Rattle.lane_worker.specs.declared.ending.Ending.{Ending}
-use Rattle.lane_worker.specs.declared.ending.Ending.TheVariants as ends
-use Rattle.lane_worker.specs.declared.ending.Ending.TheVariants.{CellFailed, GateFailed}
+use Rattle.lane_worker.specs.declared.ending.WeighingEnd.{WeighingEnd}
+use Rattle.lane_worker.specs.declared.ending.WeighingEnd.TheVariants as ends
+use Rattle.lane_worker.specs.declared.ending.WeighingEnd.TheVariants.{CellFailed, GateFailed}
 use Rattle.lane_worker.specs.declared.ending.LaneStop.TheVariants.{Done}
 use Rattle.lane_worker.specs.declared.progress.Progress.{Progress}
 use Rattle.lane_worker.specs.Asks.{act_ask, lane_ask, stop_found, prior_behind, weighing_asks, starting_asks, stopping_asks, passed_pack, passed_packs}
@@ -44,7 +44,7 @@ use Rattle.lane_worker.proofs.OpenedPacks.{packs_more, packs_none, passed_push, 
 -- ---- the end
 
 -- only the end of the cell is `Done`
-done_by : (ending : Ending) → stop_by ending ≡ Done → ending ≡ ends.End
+done_by : (ending : WeighingEnd) → stop_by ending ≡ Done → ending ≡ ends.End
 done_by ends.End is = refl
 done_by (ends.Bad line) is = absurd (cc)
 done_by ends.Spent is = absurd (cc)
@@ -108,7 +108,7 @@ ask_follows : (answered asks : List Ask) (next : Ask) → asks ≡ answered ++ n
 ask_follows answered asks next is = ([], is ∙ sym (append-nil (answered ++ next ∷ [])))
 
 -- the last stop is answered
-pub finishes : (Reached : List Ask → Type 0) (Broke : List Ask → Ask → AskError → Type 0) (was now : Site) (mid : Known) (lane : ℕ) (batch : Name) (work : Work) (row : Row) (count : ℕ) (ending : Ending) (last : Ask) (answered : Answered)
+pub finishes : (Reached : List Ask → Type 0) (Broke : List Ask → Ask → AskError → Type 0) (was now : Site) (mid : Known) (lane : ℕ) (batch : Name) (work : Work) (row : Row) (count : ℕ) (ending : WeighingEnd) (last : Ask) (answered : Answered)
     → HasAdded was.caller now.caller work.asked (work.rows ++ row ∷ []) → IsCalm was.caller mid → HasGiven was now work.grosses work.ending → HasOpened was now (work.rows ++ row ∷ []) work.opened work.ending
     → count ≡ length work.opened → work.ending ≡ Some ending → IsAsked mid now.caller last (Ok answered)
     → asks_of_work lane batch (record work { rows = work.rows ++ row ∷ [] }) ≡ lane_ask lane ∷ row_asks (work.rows ++ row ∷ []) → Reached (lane_ask lane ∷ row_asks (work.rows ++ row ∷ []))
@@ -124,20 +124,20 @@ finishes Reached Broke was now mid lane batch work row count ending last answere
   places = no_refusal ending;
   accepted = refl;
   done = (
-    λ is. (ended ∙ ap (λ (e : Ending). Some e) (done_by ending is), whole),
+    λ is. (ended ∙ ap (λ (e : WeighingEnd). Some e) (done_by ending is), whole),
     λ both. ap stop_by (same_Some ending ends.End (sym ended ∙ both.0)),
   );
   stops = inl (record { ending = ending; ended = ended; told = refl; whole = whole; later = later });
 }
   where
-    no_refusal : (e : Ending) → NamesAsked work.asked (stop_by e)
+    no_refusal : (e : WeighingEnd) → NamesAsked work.asked (stop_by e)
     no_refusal ends.End = tt
     no_refusal (ends.Bad line) = tt
     no_refusal ends.Spent = tt
     no_refusal ends.CellFailed = tt
     no_refusal ends.GateFailed = tt
 
-    by_ending : (e : Ending) → now.caller.faults ≡ min (was.caller.faults + 0) FAULTS_END → now.caller.faults ≡ min (was.caller.faults + faults_at (stop_by e)) FAULTS_END
+    by_ending : (e : WeighingEnd) → now.caller.faults ≡ min (was.caller.faults + 0) FAULTS_END → now.caller.faults ≡ min (was.caller.faults + faults_at (stop_by e)) FAULTS_END
     by_ending ends.End h = h
     by_ending (ends.Bad line) h = h
     by_ending ends.Spent h = h
@@ -254,16 +254,16 @@ weighing_breaks Before Reached Broke was mid at now lane batch gross progress wh
     let is = weighs.weighing in
     let next = act_ask (Weigh lane gross progress.prior) in
     let work : Work = record done { grosses = done.grosses ++ gross ∷ [] } in
-    let given : HasGiven was mid done.grosses None = subst (λ (e : Option Ending). HasGiven was mid done.grosses e) weighs.unended is.given in
+    let given : HasGiven was mid done.grosses None = subst (λ (e : Option WeighingEnd). HasGiven was mid done.grosses e) weighs.unended is.given in
     let passed : passed_packs done.rows ≡ done.opened = is.passed ∙ append-nil done.opened in
-    let calm : mid.gate_faults ≡ was.gate_faults = subst (λ (e : Option Ending). FailsIf (gate_failed e) was.gate_faults mid.gate_faults) weighs.unended is.gate in
+    let calm : mid.gate_faults ≡ was.gate_faults = subst (λ (e : Option WeighingEnd). FailsIf (gate_failed e) was.gate_faults mid.gate_faults) weighs.unended is.gate in
     let order : asks_of_work lane batch work ≡ done.answered ++ next ∷ [] =
     ap (λ (asks : List Ask). lane_ask lane ∷ asks) (next_weighing lane batch (stop_found (lane_view done.asked lane)) done.opened done.grosses done.rows weighs.last gross progress.prior weighs.prior is.course)
     ∙ ap (λ (asks : List Ask). asks ++ next ∷ []) (sym is.answered) in
     breaks Reached Broke was (with_caller at now) mid.caller lane batch work progress.opened next why
     is.added is.calm
-    (subst (λ (e : Option Ending). HasGiven was (with_caller at now) work.grosses e) (sym weighs.unended) (given_gross was mid (with_caller at now) done.grosses gross given (takes_with mid at now (Gross gross) takes)))
-    (subst (λ (e : Option Ending). HasOpened was (with_caller at now) done.rows done.opened e) (sym weighs.unended) (record { grows = takes.opened ∙ is.grows; passed = passed; faults = takes.gate ∙ calm }))
+    (subst (λ (e : Option WeighingEnd). HasGiven was (with_caller at now) work.grosses e) (sym weighs.unended) (given_gross was mid (with_caller at now) done.grosses gross given (takes_with mid at now (Gross gross) takes)))
+    (subst (λ (e : Option WeighingEnd). HasOpened was (with_caller at now) done.rows done.opened e) (sym weighs.unended) (record { grows = takes.opened ∙ is.grows; passed = passed; faults = takes.gate ∙ calm }))
     weighs.count (ap (λ (asks : List Ask). drop 1 asks) is.answered) asked lost
     (ask_follows done.answered (asks_of_work lane batch work) next order) broke
 
@@ -279,7 +279,7 @@ weighed Before Reached was mid at now lane batch gross progress answered weighs 
     let act : Act = Weigh lane gross progress.prior in
     let row = taken.row in
     let rows = done.rows ++ row ∷ [] in
-    let given : HasGiven was mid done.grosses None = subst (λ (e : Option Ending). HasGiven was mid done.grosses e) weighs.unended is.given in
+    let given : HasGiven was mid done.grosses None = subst (λ (e : Option WeighingEnd). HasGiven was mid done.grosses e) weighs.unended is.given in
     let told : passed_pack row ≡ pack_told answered.reply =
     sym (ap pack_told taken.told ∙ weighing_told taken.before lane gross progress.prior row taken.number taken.signal) in
     let all : lane_ask lane ∷ row_asks rows ≡ done.answered ++ act_ask act ∷ [] =
@@ -292,7 +292,7 @@ weighed Before Reached was mid at now lane batch gross progress answered weighs 
       weighing = record {
         added = added_row was.caller mid.caller now done.asked done.rows act answered is.added asked taken;
         calm = calm_more was.caller mid.caller now (act_ask act) answered is.calm asked;
-        given = subst (λ (e : Option Ending). HasGiven was (with_caller at now) (done.grosses ++ gross ∷ []) e) (sym weighs.unended) (given_gross was mid (with_caller at now) done.grosses gross given (takes_with mid at now (Gross gross) takes));
+        given = subst (λ (e : Option WeighingEnd). HasGiven was (with_caller at now) (done.grosses ++ gross ∷ []) e) (sym weighs.unended) (given_gross was mid (with_caller at now) done.grosses gross given (takes_with mid at now (Gross gross) takes));
         grows = takes.opened ∙ is.grows;
         passed = passed_push done.rows row ∙ ap (λ (ps : List ℕ). ps ++ cons_option (passed_pack row) []) packs ∙ ap (λ (o : Option ℕ). done.opened ++ cons_option o []) told;
         gate = subst (λ (n : ℕ). FailsIf (gate_failed done.ending) was.gate_faults n) (sym takes.gate) is.gate;
@@ -345,7 +345,7 @@ pub settles_open : (Reached : List Ask → Type 0) (was mid now : Site) (lane : 
 settles_open Reached was mid now lane batch pack opened has lifts calm =
     let done = has.done in
     let is = has.weighing in
-    let given : HasGiven was mid done.grosses None = subst (λ (e : Option Ending). HasGiven was mid done.grosses e) has.unended is.given in
+    let given : HasGiven was mid done.grosses None = subst (λ (e : Option WeighingEnd). HasGiven was mid done.grosses e) has.unended is.given in
     let packs = done.opened ++ pack ∷ [] in
     record {
       done = record done { opened = packs };
@@ -353,7 +353,7 @@ settles_open Reached was mid now lane batch pack opened has lifts calm =
       weighing = record {
         added = subst (λ (k : Known). HasAdded was.caller k done.asked done.rows) (sym lifts.asks) is.added;
         calm = subst (λ (k : Known). IsCalm was.caller k) (sym lifts.asks) is.calm;
-        given = subst (λ (e : Option Ending). HasGiven was now done.grosses e) (sym has.unended) (given_same was mid now done.grosses given lifts.left lifts.cell);
+        given = subst (λ (e : Option WeighingEnd). HasGiven was now done.grosses e) (sym has.unended) (given_same was mid now done.grosses given lifts.left lifts.cell);
         grows = packs_more done.opened pack was.opened mid.opened now.opened is.grows lifts.opened;
         passed = is.passed ∙ sym (append-nil packs);
         gate = subst (λ (n : ℕ). FailsIf (gate_failed done.ending) was.gate_faults n) (sym calm) is.gate;
@@ -378,8 +378,8 @@ pub settles_shut : (Reached : List Ask → Type 0) (was mid now : Site) (lane : 
 settles_shut Reached was mid now lane batch pack opened has lifts failed =
     let done = has.done in
     let is = has.weighing in
-    let given : HasGiven was mid done.grosses None = subst (λ (e : Option Ending). HasGiven was mid done.grosses e) has.unended is.given in
-    let calm : mid.gate_faults ≡ was.gate_faults = subst (λ (e : Option Ending). FailsIf (gate_failed e) was.gate_faults mid.gate_faults) has.unended is.gate in
+    let given : HasGiven was mid done.grosses None = subst (λ (e : Option WeighingEnd). HasGiven was mid done.grosses e) has.unended is.given in
+    let calm : mid.gate_faults ≡ was.gate_faults = subst (λ (e : Option WeighingEnd). FailsIf (gate_failed e) was.gate_faults mid.gate_faults) has.unended is.gate in
     let same : now.opened ≡ mid.opened = lifts.opened ∙ sym (packs_none mid.opened) in
     record {
       done = record done { ending = Some GateFailed };
@@ -406,15 +406,15 @@ settles_shut Reached was mid now lane batch pack opened has lifts failed =
 -- ---- the cell ends it
 
 -- with an item
-pub ends_with : (Reached : List Ask → Type 0) (was mid at : Site) (lane : ℕ) (batch : Name) (progress : Progress) (item : CellNext) (ending : Ending)
+pub ends_with : (Reached : List Ask → Type 0) (was mid at : Site) (lane : ℕ) (batch : Name) (progress : Progress) (item : CellNext) (ending : WeighingEnd)
     → last_items (Some ending) ≡ item ∷ [] → cell_failed (Some ending) ≡ false → gate_failed (Some ending) ≡ false
     → Weighs Reached was mid lane batch progress → TakesItem mid at item → HasEnded Reached was (with_caller at mid.caller) lane batch ending progress
 ends_with Reached was mid at lane batch progress item ending last cell gate weighs takes =
     let done = weighs.done in
     let is = weighs.weighing in
     let now = with_caller at mid.caller in
-    let given : HasGiven was mid done.grosses None = subst (λ (e : Option Ending). HasGiven was mid done.grosses e) weighs.unended is.given in
-    let calm : mid.gate_faults ≡ was.gate_faults = subst (λ (e : Option Ending). FailsIf (gate_failed e) was.gate_faults mid.gate_faults) weighs.unended is.gate in
+    let given : HasGiven was mid done.grosses None = subst (λ (e : Option WeighingEnd). HasGiven was mid done.grosses e) weighs.unended is.given in
+    let calm : mid.gate_faults ≡ was.gate_faults = subst (λ (e : Option WeighingEnd). FailsIf (gate_failed e) was.gate_faults mid.gate_faults) weighs.unended is.gate in
     record {
       done = record done { ending = Some ending };
       last = weighs.last;
@@ -445,8 +445,8 @@ ends_failed Reached was mid at lane batch progress weighs left failed opened gat
     let done = weighs.done in
     let is = weighs.weighing in
     let now = with_caller at mid.caller in
-    let given : HasGiven was mid done.grosses None = subst (λ (e : Option Ending). HasGiven was mid done.grosses e) weighs.unended is.given in
-    let calm : mid.gate_faults ≡ was.gate_faults = subst (λ (e : Option Ending). FailsIf (gate_failed e) was.gate_faults mid.gate_faults) weighs.unended is.gate in
+    let given : HasGiven was mid done.grosses None = subst (λ (e : Option WeighingEnd). HasGiven was mid done.grosses e) weighs.unended is.given in
+    let calm : mid.gate_faults ≡ was.gate_faults = subst (λ (e : Option WeighingEnd). FailsIf (gate_failed e) was.gate_faults mid.gate_faults) weighs.unended is.gate in
     record {
       done = record done { ending = Some CellFailed };
       last = weighs.last;
@@ -475,7 +475,7 @@ ends_failed Reached was mid at lane batch progress weighs left failed opened gat
 passed_on : (rows : List Row) (row : Row) → passed_pack row ≡ None → passed_packs (rows ++ row ∷ []) ≡ passed_packs rows
 passed_on rows row none = passed_push rows row ∙ ap (λ (o : Option ℕ). passed_packs rows ++ cons_option o []) none ∙ append-nil (passed_packs rows)
 
-pub last_stop : (Before Reached : List Ask → Type 0) (Broke : List Ask → Ask → AskError → Type 0) (was mid : Site) (now : Known) (lane : ℕ) (batch : Name) (ending : Ending) (progress : Progress) (answered : Answered)
+pub last_stop : (Before Reached : List Ask → Type 0) (Broke : List Ask → Ask → AskError → Type 0) (was mid : Site) (now : Known) (lane : ℕ) (batch : Name) (ending : WeighingEnd) (progress : Progress) (answered : Answered)
     → (has : HasEnded Before was mid lane batch ending progress)
     → IsAsked mid.caller now (act_ask (StopLane lane progress.prior)) (Ok answered) → IsTaken mid.caller now (StopLane lane progress.prior) answered
     → Reached (has.done.answered ++ act_ask (StopLane lane progress.prior) ∷ [])
@@ -498,13 +498,13 @@ last_stop Before Reached Broke was mid now lane batch ending progress answered h
     is.calm (record { items = is.given.items; faults = is.given.faults })
     (record {
       grows = is.grows;
-      passed = subst (λ (e : Option Ending). AreOpened (gate_failed e) (passed_packs rows) done.opened) (sym has.ended)
+      passed = subst (λ (e : Option WeighingEnd). AreOpened (gate_failed e) (passed_packs rows) done.opened) (sym has.ended)
           (subst (λ (ps : List ℕ). AreOpened (gate_failed (Some ending)) ps done.opened) (sym (passed_on done.rows row (no_pack row taken.signal))) has.opened);
       faults = is.gate;
     })
     has.count has.ended asked whole (subst Reached (sym all) later)
 
-pub last_stop_breaks : (Before Reached : List Ask → Type 0) (Broke : List Ask → Ask → AskError → Type 0) (was mid : Site) (now : Known) (lane : ℕ) (batch : Name) (ending : Ending) (progress : Progress) (why : AskError)
+pub last_stop_breaks : (Before Reached : List Ask → Type 0) (Broke : List Ask → Ask → AskError → Type 0) (was mid : Site) (now : Known) (lane : ℕ) (batch : Name) (ending : WeighingEnd) (progress : Progress) (why : AskError)
     → (has : HasEnded Before was mid lane batch ending progress)
     → IsAsked mid.caller now (act_ask (StopLane lane progress.prior)) (Err why) → IsLost mid.caller now
     → Broke has.done.answered (act_ask (StopLane lane progress.prior)) why
@@ -521,7 +521,7 @@ last_stop_breaks Before Reached Broke was mid now lane batch ending progress why
     is.added is.calm (record { items = is.given.items; faults = is.given.faults })
     (record {
       grows = is.grows;
-      passed = subst (λ (e : Option Ending). AreOpened (gate_failed e) (passed_packs done.rows) done.opened) (sym has.ended) has.opened;
+      passed = subst (λ (e : Option WeighingEnd). AreOpened (gate_failed e) (passed_packs done.rows) done.opened) (sym has.ended) has.opened;
       faults = is.gate;
     })
     has.count (ap (λ (asks : List Ask). drop 1 asks) is.answered) asked lost

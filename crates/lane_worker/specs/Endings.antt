@@ -5,13 +5,13 @@ use Rattle.book_words.specs.declared.caller.AskError.{AskError}
 use Rattle.book_words.specs.declared.caller.AskError.TheVariants as error
 use Rattle.lane_worker.specs.declared.types.CellNext as items
 use Rattle.lane_worker.specs.declared.types.CellNext.TheVariants as item
-use Rattle.lane_worker.specs.declared.ending.Ending.{Ending}
-use Rattle.lane_worker.specs.declared.ending.Ending.TheVariants.{End, Bad, Spent, CellFailed, GateFailed}
+use Rattle.lane_worker.specs.declared.ending.WeighingEnd.{WeighingEnd}
+use Rattle.lane_worker.specs.declared.ending.WeighingEnd.TheVariants.{End, Bad, Spent, CellFailed, GateFailed}
 use Rattle.lane_worker.specs.declared.ending.LaneStop.{LaneStop}
 use Rattle.lane_worker.specs.declared.ending.LaneStop.TheVariants as stop
 
 -- the stop of a worker all of whose asks were answered
-abbrev pub stop_by : Ending → LaneStop
+abbrev pub stop_by : WeighingEnd → LaneStop
 stop_by End = stop.Done
 stop_by (Bad line) = stop.Bad line
 stop_by Spent = stop.Turns
@@ -30,19 +30,19 @@ faults_at stop.DiskFault = 1
 faults_at _ = 0
 
 -- the last item that the cell gave, where it isn't the gross of a pack
-abbrev pub last_items : Option Ending → List items.CellNext
+abbrev pub last_items : Option WeighingEnd → List items.CellNext
 last_items (Some End) = item.End ∷ []
 last_items (Some (Bad line)) = item.Bad line ∷ []
 last_items (Some Spent) = item.Spent ∷ []
 last_items _ = []
 
 -- whether the cell failed
-abbrev pub cell_failed : Option Ending → Bool
+abbrev pub cell_failed : Option WeighingEnd → Bool
 cell_failed (Some CellFailed) = true
 cell_failed _ = false
 
 -- whether the gate failed
-abbrev pub gate_failed : Option Ending → Bool
+abbrev pub gate_failed : Option WeighingEnd → Bool
 gate_failed (Some GateFailed) = true
 gate_failed _ = false
 

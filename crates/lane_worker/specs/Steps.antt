@@ -12,7 +12,7 @@ use Rattle.book_words.specs.Callers.{Known, FAULTS_END}
 use Rattle.book_words.specs.Desks.{Row}
 use Rattle.book_words.specs.Views.{lane_view}
 use Rattle.lane_worker.specs.declared.types.CellNext.{CellNext}
-use Rattle.lane_worker.specs.declared.ending.Ending.{Ending}
+use Rattle.lane_worker.specs.declared.ending.WeighingEnd.{WeighingEnd}
 use Rattle.lane_worker.specs.declared.ending.LaneEnd.{LaneEnd}
 use Rattle.lane_worker.specs.declared.progress.Progress.{Progress}
 use Rattle.lane_worker.specs.Asks.{lane_ask, stop_found, is_among, prior_behind, starting_asks, stopping_asks, weighing_asks, passed_pack, passed_packs}
@@ -111,7 +111,7 @@ pub record HasWeighed (Reached : List Ask → Type 0) (was now : Site) (lane : �
 
 -- it weighs no more, and is to stop the lane
 pub record HasEnded (Reached : List Ask → Type 0) (was now : Site) (lane : ℕ) (batch : Name)
-    (ending : Ending) (progress : Progress) : Type 0 where
+    (ending : WeighingEnd) (progress : Progress) : Type 0 where
   pub done : Work
   pub last : Row
   pub unsettled : Option ℕ
@@ -122,20 +122,21 @@ pub record HasEnded (Reached : List Ask → Type 0) (was now : Site) (lane : ℕ
   pub prior : prior_behind done.opened last ≡ progress.prior
 
 -- it weighs on, or has ended
-abbrev pub GoesOn : (List Ask → Type 0) → Site → Site → ℕ → Name → Option Ending → Progress → Type 0
+abbrev pub GoesOn : (List Ask → Type 0) → Site → Site → ℕ → Name → Option WeighingEnd → Progress
+    → Type 0
 GoesOn Reached was now lane batch None progress = Weighs Reached was now lane batch progress
 GoesOn Reached was now lane batch (Some ending) progress =
     HasEnded Reached was now lane batch ending progress
 
 -- so, or it breaks off
 abbrev pub GoesTo : (List Ask → Type 0) → (List Ask → Ask → AskError → Type 0) → Site → Site → ℕ
-    → Name → Result (Option Ending) AskError → Progress → Type 0
+    → Name → Result (Option WeighingEnd) AskError → Progress → Type 0
 GoesTo Reached Broke was now lane batch (Ok ending) progress =
     GoesOn Reached was now lane batch ending progress
 GoesTo Reached Broke was now lane batch (Err why) progress =
     IsWork Reached Broke was now lane batch (broken_end progress.opened why)
 
 -- a weighing that goes on has added a row, and no more stand than a book may have
-abbrev pub HasRoom : Option Ending → List Entry → List Entry → Type 0
+abbrev pub HasRoom : Option WeighingEnd → List Entry → List Entry → Type 0
 HasRoom None was now = (length was < length now) × (length now ≤ MAX_ROWS)
 HasRoom (Some ending) was now = Unit {0}

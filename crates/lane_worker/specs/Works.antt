@@ -12,8 +12,8 @@ use Rattle.book_words.specs.Desks.{Row}
 use Rattle.book_words.specs.Views.{lane_view}
 use Rattle.lane_worker.specs.declared.types.CellNext.{CellNext}
 use Rattle.lane_worker.specs.declared.types.CellNext.TheVariants.{Gross}
-use Rattle.lane_worker.specs.declared.ending.Ending.{Ending}
-use Rattle.lane_worker.specs.declared.ending.Ending.TheVariants.{End}
+use Rattle.lane_worker.specs.declared.ending.WeighingEnd.{WeighingEnd}
+use Rattle.lane_worker.specs.declared.ending.WeighingEnd.TheVariants.{End}
 use Rattle.lane_worker.specs.declared.ending.LaneStop.{LaneStop}
 use Rattle.lane_worker.specs.declared.ending.LaneStop.TheVariants.{Done, Refused}
 use Rattle.lane_worker.specs.declared.ending.LaneEnd.{LaneEnd}
@@ -51,7 +51,7 @@ pub record Work : Type 0 where
   pub rows : List Row
   pub grosses : List ℤ
   pub opened : List ℕ
-  pub ending : Option Ending
+  pub ending : Option WeighingEnd
   pub answered : List Ask
 
 -- these rows are a caller's, and stand in a list in order, each at its number and behind the first
@@ -74,7 +74,7 @@ pub record HasAdded (was now : Known) (asked : List Entry) (rows : List Row) : T
 
 -- a cell gave these grosses and then what ended the weighing, and no more; it failed just where that
 -- ended it
-pub record HasGiven (was now : Site) (grosses : List ℤ) (ending : Option Ending) : Type 0 where
+pub record HasGiven (was now : Site) (grosses : List ℤ) (ending : Option WeighingEnd) : Type 0 where
   pub items : Gave was.left (map (λ gross. Gross gross) grosses ++ last_items ending) now.left
   pub faults : FailsIf (cell_failed ending) was.cell_faults now.cell_faults
 
@@ -86,7 +86,7 @@ AreOpened true passed opened = (last : ℕ) × (passed ≡ opened ++ last ∷ []
 -- a gate opened for these packs, and no others: those that passed; it failed just where that ended
 -- the weighing
 pub record HasOpened (was now : Site) (rows : List Row) (opened : List ℕ)
-    (ending : Option Ending) : Type 0 where
+    (ending : Option WeighingEnd) : Type 0 where
   pub grows : now.opened ≡ with_packs opened was.opened
   pub passed : AreOpened (gate_failed ending) (passed_packs rows) opened
   pub faults : FailsIf (gate_failed ending) was.gate_faults now.gate_faults
@@ -100,7 +100,7 @@ NamesAsked asked stop = Unit {0}
 -- a worker finishes: all that it was to ask was answered, and its stop is what ended the weighing
 pub record Finishes (Reached : List Ask → Type 0) (asks : List Ask) (work : Work)
     (stop : LaneStop) : Type 0 where
-  pub ending : Ending
+  pub ending : WeighingEnd
   pub ended : work.ending ≡ Some ending
   pub told : stop ≡ stop_by ending
   pub whole : asks ≡ work.answered

@@ -5,7 +5,7 @@ use book_words::{AskError, Refused};
 
 /// Why a worker weighs no more packs, while the book answers.
 #[derive(Clone, Copy, Debug, PartialEq, Eq)]
-pub enum Ending {
+pub enum WeighingEnd {
     /// The cell gave its end.
     End,
     /// The cell gave something that isn't a weight.
@@ -47,15 +47,15 @@ pub struct LaneEnd {
 }
 
 // The stop of a worker that was answered to its last ask.
-pub(crate) fn stop_by(ending: Ending) -> LaneStop
+pub(crate) fn stop_by(ending: WeighingEnd) -> LaneStop
     ensures { result ≡ stop_by ending }
 {
     match ending {
-        Ending::End => LaneStop::Done,
-        Ending::Bad { line } => LaneStop::Bad { line },
-        Ending::Spent => LaneStop::Turns,
-        Ending::CellFailed => LaneStop::Cell,
-        Ending::GateFailed => LaneStop::Gate,
+        WeighingEnd::End => LaneStop::Done,
+        WeighingEnd::Bad { line } => LaneStop::Bad { line },
+        WeighingEnd::Spent => LaneStop::Turns,
+        WeighingEnd::CellFailed => LaneStop::Cell,
+        WeighingEnd::GateFailed => LaneStop::Gate,
     }
 }
 

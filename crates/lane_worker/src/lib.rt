@@ -25,7 +25,7 @@ mod worker;
 pub use cell::Cell;
 pub use cell_lines::MAX_CELL_LINE;
 pub use either_cell::EitherCell;
-pub use ending::{Ending, LaneEnd, LaneStop};
+pub use ending::{LaneEnd, LaneStop, WeighingEnd};
 pub use gate::Gate;
 pub use lane::Lane;
 pub use line_cell::LineCell;

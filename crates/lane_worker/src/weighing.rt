@@ -7,7 +7,7 @@ ghost use Rattle.lane_worker.specs.Works.{site, BreaksAt, IsWork};
 ghost use Rattle.lane_worker.specs.Steps.{Weighs, HasWeighed, HasEnded, TakesItem, GoesOn, GoesTo, HasRoom, broken_end};
 
 use crate::asking::{ask_act, pack_told};
-use crate::ending::Ending;
+use crate::ending::WeighingEnd;
 use crate::lane::Lane;
 use crate::progress::Progress;
 use crate::types::CellNext;
@@ -20,7 +20,7 @@ fn settle<C: Caller, L: Lane>(
     lane: &mut L,
     pack: Option<u32>,
     progress: &mut Progress,
-) -> Option<Ending>
+) -> Option<WeighingEnd>
     requires passed { IfSome pack (λ number. HasPassed (C.known caller.now).mine number) }
     requires room { progress.old.opened < MAX_ROWS }
     ensures opened { progress.new.opened ≤ progress.old.opened + 1 }
@@ -42,7 +42,7 @@ fn settle<C: Caller, L: Lane>(
         }
         Err(Failed) => {
             progress.prior = Prior::Stayed;
-            Some(Ending::GateFailed)
+            Some(WeighingEnd::GateFailed)
         }
     }
 }
@@ -54,7 +54,7 @@ fn weigh_pack<C: Caller, L: Lane>(
     number: u8,
     gross: i64,
     progress: &mut Progress,
-) -> Result<Option<Ending>, AskError>
+) -> Result<Option<WeighingEnd>, AskError>
     requires room { progress.old.opened ≤ length (C.known caller.old).seen }
     ensures room { OnOk result (progress.new.opened ≤ length (C.known caller.new).seen) }
     ensures few { length (C.known caller.new).seen ≤ MAX_ROWS }
@@ -84,7 +84,7 @@ fn weigh_next<C: Caller, L: Lane>(
     lane: &mut L,
     number: u8,
     progress: &mut Progress,
-) -> Result<Option<Ending>, AskError>
+) -> Result<Option<WeighingEnd>, AskError>
     requires room { progress.old.opened ≤ length (C.known caller.old).seen }
     ensures room { OnOk result (progress.new.opened ≤ length (C.known caller.new).seen) }
     ensures grows { IfOk result (λ ending. HasRoom ending
@@ -98,10 +98,10 @@ fn weigh_next<C: Caller, L: Lane>(
 {
     match lane.next() {
         Ok(CellNext::Gross(gross)) => weigh_pack(caller, lane, number, gross, progress),
-        Ok(CellNext::End) => Ok(Some(Ending::End)),
-        Ok(CellNext::Bad { line }) => Ok(Some(Ending::Bad { line })),
-        Ok(CellNext::Spent) => Ok(Some(Ending::Spent)),
-        Err(Failed) => Ok(Some(Ending::CellFailed)),
+        Ok(CellNext::End) => Ok(Some(WeighingEnd::End)),
+        Ok(CellNext::Bad { line }) => Ok(Some(WeighingEnd::Bad { line })),
+        Ok(CellNext::Spent) => Ok(Some(WeighingEnd::Spent)),
+        Err(Failed) => Ok(Some(WeighingEnd::CellFailed)),
     }
 }
 
@@ -112,7 +112,7 @@ pub(crate) fn weigh_packs<C: Caller, L: Lane>(
     lane: &mut L,
     number: u8,
     progress: &mut Progress,
-) -> Result<Ending, AskError>
+) -> Result<WeighingEnd, AskError>
     requires room { progress.old.opened ≤ length (C.known caller.old).seen }
     ensures goes { (first : C) (start : L) (batch : Name)
         → Weighs (C.later first caller.old) (site C.Caller L.Cell L.Gate first start)

@@ -13,8 +13,8 @@ use Rattle.book_words.specs.Answers.{added}
 use Rattle.book_words.specs.Callers.{FAULTS_END, Known, IsRight, MayFindNoMemory, row_added}
 use Rattle.book_words.specs.Desks.{Row}
 use Rattle.book_words.proofs.RightAnswers.{right_in_longer, right_names}
-use Rattle.lane_worker.specs.declared.ending.Ending.{Ending}
-use Rattle.lane_worker.specs.declared.ending.Ending.TheVariants as ends
+use Rattle.lane_worker.specs.declared.ending.WeighingEnd.{WeighingEnd}
+use Rattle.lane_worker.specs.declared.ending.WeighingEnd.TheVariants as ends
 use Rattle.lane_worker.specs.declared.ending.LaneStop.TheVariants as lane_stop
 use Rattle.lane_worker.specs.Endings.{stop_at, stop_by}
 use Rattle.office_door.specs.Exchanges.{Exchange, IsAnswered, IsAnsweredIn, IsLost, IsTold, NeverFall}
@@ -194,7 +194,7 @@ module _ (limit by room : ℕ) (before : List Entry) (last : Known) (answered : 
   error_names error.NoMemory broke = tt
 
 -- a work that finished keeps no refusal
-pub finish_names : (before : List Entry) (own : List Row) (ending : Ending)
+pub finish_names : (before : List Entry) (own : List Row) (ending : WeighingEnd)
     → NamesOwnRows before own (stop_by ending)
 finish_names before own ends.End = tt
 finish_names before own (ends.Bad line) = tt

@@ -4,7 +4,7 @@ use Rattle.disk_core.specs.Doors.{Connections}
 use Rattle.book_words.specs.declared.act.Entry.{Entry}
 use Rattle.book_words.specs.declared.name.Name.{Name}
 use Rattle.book_words.specs.Callers.{Known}
-use Rattle.lane_worker.specs.declared.ending.Ending.TheVariants.{End}
+use Rattle.lane_worker.specs.declared.ending.WeighingEnd.TheVariants.{End}
 use Rattle.lane_worker.specs.declared.ending.LaneEnd.{LaneEnd}
 use Rattle.lane_worker.specs.declared.ending.LaneStop.TheVariants.{Done}
 use Rattle.lane_worker.specs.Endings.{faults_at}
