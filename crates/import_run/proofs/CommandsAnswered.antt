@@ -16,12 +16,12 @@ use Rattle.import_table.specs.declared.types.ImportError.{ImportError}
 use Rattle.import_table.specs.declared.types.ImportError.TheVariants as error
 use Rattle.import_table.specs.Imports.{Import, stopped, with_command}
 use Rattle.script_events.specs.Commands.{lines_asking}
-use Rattle.script_session.specs.Ends.{HaveToldWorks, AreTold, next_exchange, StopsAtLine, HasAnswered}
+use Rattle.script_session.specs.Ends.{HaveToldWorks, AreTold, AnswersGoOut, next_exchange, StopsAtLine, HasAnswered}
 use Rattle.script_session.specs.Outside.{Outside}
 use Rattle.script_events.specs.Transcript.{Event, Asked, Worked, after_event, AreEventsOf, ends_of}
 use Rattle.script_events.proofs.AcknowledgedRows.{lines_done, are_left}
 use Rattle.script_session.proofs.AnsweredLines.{answered_none, answered_more, stops_after}
-use Rattle.import_run.specs.Answered.{alone, AnswersGoOut, AreFirstAnswered, StopsAtCommand, HasAnsweredTo}
+use Rattle.import_run.specs.Answered.{alone, AreFirstAnswered, StopsAtCommand, HasAnsweredTo}
 use Rattle.import_run.specs.Ends.{StopsAtError, EndsImport}
 use Rattle.import_run.specs.Reading.{stop_of}
 
@@ -120,18 +120,19 @@ answered_next book old_after after before old now import left behind command has
 are_answered : (book after : BookState) (before now : Stream) (rows : List Entry)
     (commands : List Command)
     → HasAnswered book (alone before) (alone now) after (lines_asking commands)
-    → rows ≡ after.entries → AnswersGoOut book before now rows commands
+    → rows ≡ after.entries
+    → AnswersGoOut book (alone before) (alone now) rows (lines_asking commands)
 are_answered book after before now rows commands has same =
     record {
-      events = has.events;
-      right = has.right;
-      told = record {
-        wrote = has.wrote;
-        worked = has.worked;
+      answered = record {
+        events = has.events;
+        right = has.right;
         rows_left = are_left book has.events rows
             (lines_done book (lines_asking commands) has.events has.right)
             (same ∙ ap (λ (b : BookState). b.entries) has.left);
       };
+      wrote = has.wrote;
+      worked = has.worked;
     }
 
 -- ---- an import that stops
@@ -139,7 +140,7 @@ are_answered book after before now rows commands has same =
 module _ (book after : BookState) (before now : Stream) (rows : List Entry)
     (import left : Import) (has : HasAnsweredTo book before now after import left)
     (same : rows ≡ after.entries) where
-  first_answered : AnswersGoOut book before now rows has.first
+  first_answered : AnswersGoOut book (alone before) (alone now) rows (lines_asking has.first)
   first_answered = are_answered book after before now rows has.first has.answered same
 
   -- it has an error there
@@ -149,7 +150,8 @@ module _ (book after : BookState) (before now : Stream) (rows : List Entry)
       ∙ ap (λ (i : Import). has.first ++ i.commands) is ∙ append-nil has.first) in
       record {
         is = has.error ∙ ap (λ (i : Import). i.error) is;
-        answered = subst (AnswersGoOut book before now rows) all first_answered;
+        answered = subst (λ (commands : List Command). AnswersGoOut book (alone before) (alone now)
+            rows (lines_asking commands)) all first_answered;
       }
 
   -- there is no memory to read on
@@ -180,7 +182,15 @@ ends_at book before now rows import NoMemory at =
       first = at.first;
       others = at.command ∷ at.others;
       parts = at.parts;
-      answered = record { events = at.events; right = at.right; told = at.stops.0 };
+      answered = record {
+        answered = record {
+          events = at.events;
+          right = at.right;
+          rows_left = at.stops.0.rows_left;
+        };
+        wrote = at.stops.0.wrote;
+        worked = at.stops.0.worked;
+      };
     }
 ends_at book before now rows import Finished at = absurd at.stops.1
 ends_at book before now rows import (BadLine named) at = absurd at.stops.1

@@ -10,13 +10,13 @@ use Rattle.store_runs.specs.declared.stop.Stop.TheVariants.{Finished, BadLine, R
 use Rattle.store_runs.specs.Books.{BookState}
 use Rattle.import_table.specs.Imports.{Import, at_end}
 use Rattle.script_events.specs.Acknowledged.{AreLeft}
-use Rattle.script_events.specs.Commands.{lines_asking}
-use Rattle.script_session.specs.Ends.{StopsAtSummary, EndsAtSummary}
+use Rattle.script_events.specs.Commands.{lines_asking, AreAnswered}
+use Rattle.script_session.specs.Ends.{HaveToldWorks, StopsAtSummary, EndsAtSummary}
 use Rattle.script_events.specs.Transcript.{AreEventsOf, texts}
 use Rattle.script_events.proofs.AcknowledgedRows.{lines_done, are_left}
 use Rattle.script_session.proofs.AnsweredLines.{wrote_on, cut_on, wrote_still}
-use Rattle.import_run.specs.Answered.{HasAnsweredTo}
-use Rattle.import_run.specs.Ends.{EndsEarly, EndsImport}
+use Rattle.import_run.specs.Answered.{alone, HasAnsweredTo}
+use Rattle.import_run.specs.Ends.{StopsAtEnd, EndsImport}
 use Rattle.import_run.proofs.CommandsAnswered.{no_ends, works_alone}
 
 module _ (book after : BookState) (before old now : Stream) (rows : List Entry)
@@ -34,15 +34,19 @@ module _ (book after : BookState) (before old now : Stream) (rows : List Entry)
       (lines_done book (lines_asking has.first) has.answered.events has.answered.right)
       (same ∙ ap (λ (b : BookState). b.entries) has.answered.left)
 
+  abbrev answered : AreAnswered book (lines_asking import.commands) rows
+  answered = record { events = has.answered.events; right = right; rows_left = rows_left }
+
+  worked : HaveToldWorks (alone before) (alone now) has.answered.events
+  worked = works_alone before now has.answered.events
+      (no_ends book import.commands has.answered.events right)
+
   early : (stop : Stop)
       → StopsAtSummary (length book.entries) before now rows has.answered.events stop
-      → EndsEarly book before now rows import stop
+      → StopsAtEnd book before now rows import stop
   early stop stops = record {
     good = has.error;
-    events = has.answered.events;
-    right = right;
-    stops = stops;
-    rows_left = rows_left;
+    ends = record { answered = answered; stops = stops; worked = worked };
   }
 
   -- how it ends at the summary of these rows
@@ -50,13 +54,14 @@ module _ (book after : BookState) (before old now : Stream) (rows : List Entry)
       → EndsImport book before now rows import stop
   ends_so Finished wrote = record {
     good = has.error;
-    events = has.answered.events;
-    right = right;
-    wrote = subst (λ (es : List Entry). WroteAll before now
-        (texts has.answered.events ++ summary_text (summary es))) rows_left.left
-        (wrote_on before old now (texts has.answered.events) (summary_text (summary rows))
-        has.answered.wrote wrote);
-    rows_left = rows_left;
+    done = record {
+      answered = answered;
+      wrote = subst (λ (es : List Entry). WroteAll before now
+          (texts has.answered.events ++ summary_text (summary es))) rows_left.left
+          (wrote_on before old now (texts has.answered.events) (summary_text (summary rows))
+          has.answered.wrote wrote);
+      worked = worked;
+    };
   }
   ends_so WriteFault stops =
       inr (early WriteFault (cut_on before old now (texts has.answered.events)
@@ -69,14 +74,9 @@ module _ (book after : BookState) (before old now : Stream) (rows : List Entry)
     others = [];
     parts = sym (append-nil import.commands);
     answered = record {
-      events = has.answered.events;
-      right = right;
-      told = record {
-        wrote = wrote_still before old now (texts has.answered.events) has.answered.wrote stops.0;
-        worked = works_alone before now has.answered.events
-            (no_ends book import.commands has.answered.events right);
-        rows_left = rows_left;
-      };
+      answered = answered;
+      wrote = wrote_still before old now (texts has.answered.events) has.answered.wrote stops.0;
+      worked = worked;
     };
   }
   ends_so (BadLine named) stops = absurd stops.1

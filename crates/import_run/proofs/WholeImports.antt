@@ -31,15 +31,15 @@ WritesSo before now _ = IsCalm before now
 
 writes_so : (book : BookState) (before now : Stream) (rows : List Entry) (import : Import)
     (stop : Stop) → EndsImport book before now rows import stop → WritesSo before now stop
-writes_so book before now rows import Finished ends = ends.wrote.calm
-writes_so book before now rows import (BadLine number) ends = ends.answered.told.wrote.calm
+writes_so book before now rows import Finished ends = ends.done.wrote.calm
+writes_so book before now rows import (BadLine number) ends = ends.answered.wrote.calm
 writes_so book before now rows import ReadFault ends = absurd ends
 writes_so book before now rows import WriteFault (inl at) = at.stops.cut.failed
-writes_so book before now rows import WriteFault (inr early) = early.stops.failed
+writes_so book before now rows import WriteFault (inr early) = early.ends.stops.failed
 writes_so book before now rows import (DiskFault offer) (inl at) = at.stops.0.wrote.calm
-writes_so book before now rows import (DiskFault offer) (inr early) = early.stops.0.calm
-writes_so book before now rows import NoMemory ends = ends.answered.told.wrote.calm
-writes_so book before now rows import Spent ends = ends.answered.told.wrote.calm
+writes_so book before now rows import (DiskFault offer) (inr early) = early.ends.stops.0.calm
+writes_so book before now rows import NoMemory ends = ends.answered.wrote.calm
+writes_so book before now rows import Spent ends = ends.answered.wrote.calm
 
 read_cause : {S : Type 0} (call : Call S) (stop : Stop)
     → IsCalm call.before.input call.now.input → WritesSo call.before.output call.now.output stop

@@ -8,7 +8,7 @@ use Rattle.store_runs.specs.declared.stop.Stop.{Stop}
 use Rattle.store_runs.specs.Books.{BookState}
 use Rattle.import_table.specs.Imports.{Import}
 use Rattle.script_events.specs.Commands.{lines_asking}
-use Rattle.script_session.specs.Ends.{AreTold, StopsAtLine, HasAnswered}
+use Rattle.script_session.specs.Ends.{AnswersGoOut, StopsAtLine, HasAnswered}
 use Rattle.script_session.specs.Outside.{Outside, nothing_told}
 use Rattle.script_events.specs.Transcript.{Event, AreEventsOf}
 
@@ -16,20 +16,13 @@ use Rattle.script_events.specs.Transcript.{Event, AreEventsOf}
 abbrev pub alone : Stream → Outside
 alone output = record { output = output; lanes = []; log = nothing_told }
 
--- these commands are answered and nothing else went out, and these rows are left
-pub record AnswersGoOut (book : BookState) (before now : Stream) (rows : List Entry)
-    (commands : List Command) : Type 0 where
-  pub events : List Event
-  pub right : AreEventsOf book (lines_asking commands) events
-  pub told : AreTold book (alone before) (alone now) rows events
-
 -- the first of these commands are answered, none of them or all among it
 pub record AreFirstAnswered (book : BookState) (before now : Stream) (rows : List Entry)
     (commands : List Command) : Type 0 where
   pub first : List Command
   pub others : List Command
   pub parts : commands ≡ first ++ others
-  pub answered : AnswersGoOut book before now rows first
+  pub answered : AnswersGoOut book (alone before) (alone now) rows (lines_asking first)
 
 -- one of these commands stops an import as it stops a script: those before it are answered
 pub record StopsAtCommand (book : BookState) (before now : Stream) (rows : List Entry)

@@ -33,7 +33,8 @@ asked_left book (command ∷ commands) = asked_left (after_command book command)
 
 -- where these rows are left, the commands were answered
 pub are_answered : (book : BookState) (commands : List Command) (rows : List Entry)
-    → rows ≡ (after_commands book commands).entries → AreAnswered book commands rows
+    → rows ≡ (after_commands book commands).entries
+    → AreAnswered book (lines_asking commands) rows
 are_answered book commands rows is =
     record {
       events = events_asked book commands;

@@ -17,10 +17,9 @@ abbrev pub after_commands : BookState → List Command → BookState
 after_commands book [] = book
 after_commands book (command ∷ commands) = after_commands (after_command book command) commands
 
--- commands were asked and answered, one after another as in a run of a script, and these rows are
--- left; what was acknowledged stands among them once
-pub record AreAnswered (book : BookState) (commands : List Command) (rows : List Entry) : Type 0
-  where
-    pub events : List Event
-    pub right : AreEventsOf book (lines_asking commands) events
-    pub rows_left : AreLeft book events rows
+-- lines were answered, one after another as in a run of a script, and these rows are left; what was
+-- acknowledged stands among them once
+pub record AreAnswered (book : BookState) (lines : List Line) (rows : List Entry) : Type 0 where
+  pub events : List Event
+  pub right : AreEventsOf book lines events
+  pub rows_left : AreLeft book events rows

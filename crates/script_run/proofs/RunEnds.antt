@@ -32,7 +32,7 @@ use Rattle.script_session.specs.Outside.{Outside, Devices, Call, lane_count}
 use Rattle.script_events.specs.Scripts.{ended_lines_of, lines_of, HasLine}
 use Rattle.script_events.specs.Transcript.{Event, texts}
 use Rattle.script_session.specs.Ends.{HaveToldWorks, StopsAtLine, StopsInScript, StopsAtSummary, EndsAtSummary}
-use Rattle.script_events.specs.Acknowledged.{AreLeft}
+use Rattle.script_events.specs.Commands.{AreAnswered}
 use Rattle.script_run.specs.Runs.{StopsInInput, StopsAtEnd, IsGoodStill, Explains}
 use Rattle.script_run.specs.Reached.{RunState, Reached, Steps, StopsAfter, IsWholeSoFar}
 use Rattle.script_run.specs.Books.{HasRead, HasReadWhole}
@@ -293,14 +293,16 @@ good_still book before now taken run stands =
     let answered = stands.answered in
     record {
       good = record { ended = stands.good; begun = stands.short };
-      events = answered.events;
-      right = answered.right;
-      told = record {
+      answers = record {
+        answered = record {
+          events = answered.events;
+          right = answered.right;
+          rows_left = are_left book answered.events run.book.entries
+              (lines_done book (ended_lines_of (lane_count before.outside) taken) answered.events
+              answered.right) (ap (λ (b : BookState). b.entries) answered.left);
+        };
         wrote = answered.wrote;
         worked = answered.worked;
-        rows_left = are_left book answered.events run.book.entries
-            (lines_done book (ended_lines_of (lane_count before.outside) taken) answered.events
-            answered.right) (ap (λ (b : BookState). b.entries) answered.left);
       };
     }
 
@@ -402,11 +404,15 @@ module _ {S : Type 0} (book left : BookState) (before now : Devices S) (old : Ou
     (whole : IsWholeSoFar book before.outside old script left) (opened : ℕ)
     (begun : opened ≡ length book.entries) (rows : List Entry) (same : rows ≡ left.entries)
     (still : HaveToldWorks old now.outside []) where
-  left_whole : AreLeft book whole.answered.events rows
-  left_whole = are_left book whole.answered.events rows
-      (lines_done book (lines_of (lane_count before.outside) script) whole.answered.events
-      whole.answered.right)
-      (same ∙ ap (λ (b : BookState). b.entries) whole.answered.left)
+  abbrev answered_whole : AreAnswered book (lines_of (lane_count before.outside) script) rows
+  answered_whole = record {
+    events = whole.answered.events;
+    right = whole.answered.right;
+    rows_left = are_left book whole.answered.events rows
+        (lines_done book (lines_of (lane_count before.outside) script) whole.answered.events
+        whole.answered.right)
+        (same ∙ ap (λ (b : BookState). b.entries) whole.answered.left);
+  }
 
   worked_whole : HaveToldWorks before.outside now.outside whole.answered.events
   worked_whole = works_still before.outside old now.outside whole.answered.events
@@ -421,14 +427,12 @@ module _ {S : Type 0} (book left : BookState) (before now : Devices S) (old : Ou
       record {
         script = script;
         read = reads;
+        good = whole.good;
         ends = record {
-          good = whole.good;
-          events = whole.answered.events;
-          right = whole.answered.right;
+          answered = answered_whole;
           stops = summary_stops (length book.entries) before.outside.output old.output
               now.outside.output rows whole.answered.events stop whole.answered.wrote here;
           worked = worked_whole;
-          rows_left = left_whole;
         };
       }
 
@@ -439,17 +443,15 @@ module _ {S : Type 0} (book left : BookState) (before now : Devices S) (old : Ou
       record {
         script = script;
         read = reads;
+        good = whole.good;
         done = record {
-          good = whole.good;
-          events = whole.answered.events;
-          right = whole.answered.right;
+          answered = answered_whole;
           wrote = subst (λ (b : BookState). WroteAll before.outside.output now.outside.output
               (texts whole.answered.events ++ summary_text (summary b.entries))) whole.answered.left
               (wrote_on before.outside.output old.output now.outside.output
               (texts whole.answered.events)
               (summary_text (summary left.entries)) whole.answered.wrote wrote);
           worked = worked_whole;
-          rows_left = left_whole;
         };
       }
   explained_end WriteFault stops =

@@ -11,10 +11,9 @@ use Rattle.store_runs.specs.declared.stop.Stop.{Stop}
 use Rattle.store_runs.specs.declared.stop.Stop.TheVariants.{Finished, BadLine, ReadFault, WriteFault, DiskFault, NoMemory, Spent}
 use Rattle.store_runs.specs.Books.{BookState}
 use Rattle.script_run.specs.declared.script.TheConstants.{MAX_READS}
-use Rattle.script_session.specs.Ends.{AreTold, StopsInScript, HasTranscript, EndsEarly}
+use Rattle.script_session.specs.Ends.{AreTold, AnswersGoOut, StopsInScript, HasTranscript, EndsEarly}
 use Rattle.script_session.specs.Outside.{Call, lane_count}
 use Rattle.script_events.specs.Scripts.{ended_lines_of, lines_of, IsGoodSoFar, HasLine}
-use Rattle.script_events.specs.Transcript.{Event, AreEventsOf}
 
 -- a run stops in its input: of the bytes that it took it judged all but less than a piece, and the
 -- line at which it stopped is that of the whole script
@@ -32,15 +31,16 @@ pub record StopsInInput {S : Type 0} (book : BookState) (call : Call S) (stop : 
 pub record StopsAtEnd {S : Type 0} (book : BookState) (call : Call S) (stop : Stop) : Type 0 where
   pub script : List ℕ
   pub read : ReadsWhole call.before.input call.now.input script
-  pub ends : EndsEarly book call.before.outside call.now.outside call.rows stop script
+  pub good : all_good (lines_of (lane_count call.before.outside) script) ≡ true
+  pub ends : EndsEarly book call.before.outside call.now.outside call.rows stop
+      (lines_of (lane_count call.before.outside) script)
 
 -- the bytes taken are good so far and answered, and nothing else went out
 pub record IsGoodStill {S : Type 0} (book : BookState) (call : Call S) (taken : List ℕ)
     : Type 0 where
   pub good : IsGoodSoFar (lane_count call.before.outside) taken
-  pub events : List Event
-  pub right : AreEventsOf book (ended_lines_of (lane_count call.before.outside) taken) events
-  pub told : AreTold book call.before.outside call.now.outside call.rows events
+  pub answers : AnswersGoOut book call.before.outside call.now.outside call.rows
+      (ended_lines_of (lane_count call.before.outside) taken)
 
 -- there was no memory to begin with: nothing was read, nothing went out, and the book's rows are
 -- left
@@ -52,7 +52,9 @@ pub record NotBegun {S : Type 0} (book : BookState) (call : Call S) : Type 0 whe
 pub record IsDone {S : Type 0} (book : BookState) (call : Call S) : Type 0 where
   pub script : List ℕ
   pub read : ReadsWhole call.before.input call.now.input script
-  pub done : HasTranscript book call.before.outside call.now.outside call.rows script
+  pub good : all_good (lines_of (lane_count call.before.outside) script) ≡ true
+  pub done : HasTranscript book call.before.outside call.now.outside call.rows
+      (lines_of (lane_count call.before.outside) script)
 
 -- the line of this number is bad; the commands before it are answered, and nothing failed
 pub record IsBadLine {S : Type 0} (book : BookState) (call : Call S) (number : ℕ) : Type 0 where

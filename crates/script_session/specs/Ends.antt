@@ -16,6 +16,7 @@ use Rattle.store_runs.specs.Books.{BookState}
 use Rattle.store_runs.specs.Runs.{FailsToKeep}
 use Rattle.script_events.specs.Acknowledged.{AreLeft}
 use Rattle.script_events.specs.Asking.{Exchange, exchange_at}
+use Rattle.script_events.specs.Commands.{AreAnswered}
 use Rattle.script_session.specs.LaneMoves.{HaveWorked}
 use Rattle.script_session.specs.Outside.{Outside, lane_count}
 use Rattle.script_events.specs.Scripts.{lines_of}
@@ -42,6 +43,13 @@ pub record AreTold (book : BookState) (before now : Outside) (rows : List Entry)
   pub wrote : WroteAll before.output now.output (texts events)
   pub worked : HaveToldWorks before now events
   pub rows_left : AreLeft book events rows
+
+-- lines were answered and nothing else went out, and these rows are left
+pub record AnswersGoOut (book : BookState) (before now : Outside) (rows : List Entry)
+    (lines : List Line) : Type 0 where
+  pub answered : AreAnswered book lines rows
+  pub wrote : WroteAll before.output now.output (texts answered.events)
+  pub worked : HaveToldWorks before now answered.events
 
 -- the exchange of a command after events
 abbrev pub next_exchange : BookState → List Event → Command → Exchange
@@ -103,15 +111,12 @@ pub record StopsInScript (book : BookState) (before now : Outside) (rows : List 
   pub right : AreEventsOf book lines events
   pub stops : StopsAtLine book before now rows events (length lines + 1) line stop
 
--- all lines of a script are good, its transcript went out, and these rows are left
+-- lines were answered, their transcript went out, and these rows are left
 pub record HasTranscript (book : BookState) (before now : Outside) (rows : List Entry)
-    (script : List ℕ) : Type 0 where
-  pub good : all_good (lines_of (lane_count before) script) ≡ true
-  pub events : List Event
-  pub right : AreEventsOf book (lines_of (lane_count before) script) events
-  pub wrote : WroteAll before.output now.output (transcript book events)
-  pub worked : HaveToldWorks before now events
-  pub rows_left : AreLeft book events rows
+    (lines : List Line) : Type 0 where
+  pub answered : AreAnswered book lines rows
+  pub wrote : WroteAll before.output now.output (transcript book answered.events)
+  pub worked : HaveToldWorks before now answered.events
 
 -- how a run ends without its summary, behind these events and with these rows: the summary is cut,
 -- or, where rows were added to those that it opened with, no snapshot of them was kept
@@ -126,13 +131,10 @@ abbrev pub EndsAtSummary : ℕ → Stream → Stream → List Entry → Stop →
 EndsAtSummary opened before now rows Finished = WroteAll before now (summary_text (summary rows))
 EndsAtSummary opened before now rows stop = StopsAtSummary opened before now rows [] stop
 
--- all lines of a script are good and answered, these rows are left, and the run ended without its
--- summary
+-- lines were answered, these rows are left, and the run ended without its summary
 pub record EndsEarly (book : BookState) (before now : Outside) (rows : List Entry) (stop : Stop)
-    (script : List ℕ) : Type 0 where
-  pub good : all_good (lines_of (lane_count before) script) ≡ true
-  pub events : List Event
-  pub right : AreEventsOf book (lines_of (lane_count before) script) events
-  pub stops : StopsAtSummary (length book.entries) before.output now.output rows events stop
-  pub worked : HaveToldWorks before now events
-  pub rows_left : AreLeft book events rows
+    (lines : List Line) : Type 0 where
+  pub answered : AreAnswered book lines rows
+  pub stops : StopsAtSummary (length book.entries) before.output now.output rows
+      answered.events stop
+  pub worked : HaveToldWorks before now answered.events

@@ -8,7 +8,7 @@ use Rattle.store_runs.specs.declared.stop.Stop.{Stop}
 use Rattle.store_runs.specs.declared.stop.Stop.TheVariants.{BadLine}
 use Rattle.store_runs.specs.Books.{BookState}
 use Rattle.script_events.specs.Asking.{exchange_at}
-use Rattle.script_events.specs.Commands.{after_commands, AreAnswered}
+use Rattle.script_events.specs.Commands.{lines_asking, after_commands, AreAnswered}
 use Rattle.script_events.specs.Scripts.{lines_of}
 use Rattle.script_events.specs.Unanswered.{MayStopAt}
 
@@ -23,7 +23,7 @@ after_lines book lines = after_commands book (commands_of lines)
 -- all lines of a setup are good, their commands were answered in order, and these rows are left
 pub record IsSetUp (book : BookState) (setup : List ℕ) (rows : List Entry) : Type 0 where
   pub good : all_good (setup_lines setup) ≡ true
-  pub answered : AreAnswered book (commands_of (setup_lines setup)) rows
+  pub answered : AreAnswered book (lines_asking (commands_of (setup_lines setup))) rows
 
 -- how a setup may stop at the line of a number, at the book behind the lines before it: the line is
 -- bad, or its command has no answer
@@ -41,5 +41,5 @@ pub record StopsInSetup (book : BookState) (setup : List ℕ) (rows : List Entry
   pub after : List Line
   pub parts : setup_lines setup ≡ before ++ line ∷ after
   pub good : all_good before ≡ true
-  pub answered : AreAnswered book (commands_of before) rows
+  pub answered : AreAnswered book (lines_asking (commands_of before)) rows
   pub may : MayStopAtLine (after_lines book before) (length before + 1) line stop

@@ -16,7 +16,7 @@ use Rattle.book_store.specs.Stores.{entries_of, held_of}
 use Rattle.store_runs.specs.Books.{BookState, stored_book}
 use Rattle.store_runs.specs.Runs.{Goes, RunGoes}
 use Rattle.store_runs.proofs.StoreSteps.{goes_on}
-use Rattle.script_events.specs.Commands.{AreAnswered}
+use Rattle.script_events.specs.Commands.{lines_asking, AreAnswered}
 use Rattle.script_session.specs.Ends.{EndsAtSummary}
 use Rattle.script_events.specs.Transcript.{texts}
 use Rattle.script_events.proofs.CommandsInTurn.{are_answered}
@@ -39,7 +39,7 @@ ends_as_script opened before now rows Spent ends = ends
 
 -- a run whose script was answered
 pub explained_end : (book : BookState) (before now : Stream) (rows : List Entry)
-    (script : List Command) (stop : Stop) → AreAnswered book script rows
+    (script : List Command) (stop : Stop) → AreAnswered book (lines_asking script) rows
     → EndsScript (length book.entries) before now rows stop
     → ExplainsScript book before now rows stop script
 explained_end book before now rows script Finished answered ends =

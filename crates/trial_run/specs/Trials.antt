@@ -9,7 +9,7 @@ use Rattle.store_runs.specs.declared.stop.Stop.{Stop}
 use Rattle.store_runs.specs.declared.stop.Stop.TheVariants.{Finished, WriteFault, DiskFault, NoMemory}
 use Rattle.store_runs.specs.Books.{BookState}
 use Rattle.store_runs.specs.Runs.{FailsToKeep}
-use Rattle.script_events.specs.Commands.{AreAnswered}
+use Rattle.script_events.specs.Commands.{lines_asking, AreAnswered}
 use Rattle.script_events.specs.Transcript.{texts, transcript}
 use Rattle.trial_run.specs.Steps.{StopsIn}
 use Rattle.trial_run.specs.TrialScripts.{trial_commands}
@@ -17,7 +17,7 @@ use Rattle.trial_run.specs.TrialScripts.{trial_commands}
 -- the whole script was answered, and the summary went out with which its transcript ends
 pub record IsDone (book : BookState) (before now : Stream) (rows : List Entry)
     (script : List Command) : Type 0 where
-  pub answered : AreAnswered book script rows
+  pub answered : AreAnswered book (lines_asking script) rows
   pub ending : transcript book answered.events
       ≡ texts answered.events ++ summary_text (summary rows)
   pub wrote : WroteAll before now (summary_text (summary rows))
@@ -25,14 +25,14 @@ pub record IsDone (book : BookState) (before now : Stream) (rows : List Entry)
 -- the whole script was answered, and the summary was cut
 pub record IsCut (book : BookState) (before now : Stream) (rows : List Entry)
     (script : List Command) : Type 0 where
-  pub answered : AreAnswered book script rows
+  pub answered : AreAnswered book (lines_asking script) rows
   pub cut : IsCutIn before now [] (summary_text (summary rows))
 
 -- the script stopped before its end: the commands before are answered
 pub record StopsEarly (book : BookState) (rows : List Entry) (script : List Command) (stop : Stop)
     : Type 0 where
   pub stops : StopsIn book rows script stop
-  pub answered : AreAnswered book stops.answered rows
+  pub answered : AreAnswered book (lines_asking stops.answered) rows
 
 -- what may stop a trial behind its script: where rows were added, the disk may fail while a
 -- snapshot of them is kept; and memory may lack for that, or for the text of the summary
@@ -53,7 +53,8 @@ pub record IsStopped (book : BookState) (before now : Stream) (rows : List Entry
     (script : List Command) : Type 0 where
   pub silent : WroteAll before now []
   pub stops : StopsEarly book rows script stop
-      ⊎ (AreAnswered book script rows × MayFailAtEnd (length book.entries) rows stop)
+      ⊎ (AreAnswered book (lines_asking script) rows
+      × MayFailAtEnd (length book.entries) rows stop)
 
 -- what each way to stop says of a run of a script whose summary alone is written
 abbrev pub ExplainsScript : BookState → Stream → Stream → List Entry → Stop → List Command → Type 0
