@@ -1,10 +1,13 @@
 """Readings of a book while its hall works, fails or is killed, for tests/live.sh."""
 
+import fcntl
 import os
 import random
 import re
+import struct
 import subprocess
 import sys
+import threading
 import time
 from collections import Counter
 
@@ -20,6 +23,60 @@ FAIL_EVERY = 7
 HEAD = 16
 # Kills of the hall that is read, and how long one without a reader is looked at.
 KILLS, QUIET_SECONDS = 8, 5
+# A device that fails: its bytes, those in front of the place from which it fails, which hold no
+# file, and the longest that it fails and works in turn.
+DEVICE_BYTES, DEVICE_HEAD = 64 << 20, 1 << 20
+FAILS, WORKS = 0.02, 0.1
+# The calls that tell and set what a loop device is over, how long that is, and where in it the
+# length of the device stands.
+LOOP_TELL, LOOP_SET, LOOP_SIZE, LOOP_END = 0x4C05, 0x4C04, 232, 32
+
+
+class FailingDevice(threading.Thread):
+    """A file system over a loop device that ends too early at drawn moments: what is then written
+    behind its end fails."""
+
+    def __init__(self, folder, draw):
+        super().__init__(daemon=True)
+        self.draw, self.disk = draw, f"{folder}/disk"
+        self.lock, self.failing, self.ending = threading.Lock(), False, threading.Event()
+        with open(f"{folder}/image", "wb") as image:
+            image.truncate(DEVICE_BYTES)
+        call("mkfs.ext4", "-q", "-O", "^has_journal", f"{folder}/image")
+        self.loop = call("losetup", "--find", "--show", f"{folder}/image").strip()
+        os.mkdir(self.disk)
+        call("mount", "-o", "errors=continue", self.loop, self.disk)
+
+    def run(self):
+        while not self.ending.wait(self.draw.uniform(0, WORKS)):
+            with self.lock:
+                if self.failing:
+                    self.end_at(DEVICE_HEAD)
+                    time.sleep(self.draw.uniform(0, FAILS))
+                    self.end_at(0)
+
+    def end_at(self, length):
+        """Ends the device behind so many bytes; at 0 where its file ends."""
+        told = bytearray(LOOP_SIZE)
+        with open(self.loop, "rb") as device:
+            fcntl.ioctl(device, LOOP_TELL, told)
+            struct.pack_into("Q", told, LOOP_END, length)
+            fcntl.ioctl(device, LOOP_SET, told)
+
+    def may_fail(self, failing):
+        with self.lock:
+            self.failing = failing
+
+    def remove(self):
+        self.ending.set()
+        if self.is_alive():
+            self.join()
+        call("umount", self.disk)
+        call("losetup", "--detach", self.loop)
+
+
+def call(*words):
+    return subprocess.run(words, check=True, capture_output=True, text=True).stdout
 
 
 class Worker(Client):
@@ -67,9 +124,10 @@ class Reading:
 class Round:
     """A hall at work, and readings of its book beside it."""
 
-    def __init__(self, program, folder, draw, port, failing=None):
+    def __init__(self, program, folder, draw, port, failing=None, device=None):
         self.program, self.folder, self.draw, self.port = program, folder, draw, port
-        self.book = f"{folder}/book"
+        self.device = device
+        self.book = f"{device.disk if device else folder}/book"
         self.env = os.environ | {"LD_PRELOAD": failing, "FAIL_EVERY": str(FAIL_EVERY)} if failing \
             else None
         self.desks = [Desk(FIRST_DESK + at, FIRST_DOOR + at) for at in range(DESKS)]
@@ -86,7 +144,7 @@ class Round:
         names = [f"L{lane}-{self.turn}" for lane in range(1, LANES + 1)]
         setup = (OPENING if self.turn == 1 else "") + "".join(f"open {name} P\n" for name in names)
         # A lane whose disk fails ends; where it does the desks work alone.
-        lanes = 0 if self.env else LANES
+        lanes = 0 if self.env or self.device else LANES
         hall = Hall(self.program, folder, plan(setup, names[:lanes]), book=self.book, lanes=lanes,
                     doors=DESKS, port=self.port, connections=999_999, env=self.env)
         pieces = [[good_gross(self.draw) for _ in range(4)] for _ in range(2_000)]
@@ -134,14 +192,28 @@ class Round:
         done = 0
         for part in range(kills + 1):
             hall, clients = self.start()
-            hall.wait_for_door(self.port)
+            self.wait_for_acts(hall)
+            self.may_fail(True)
             until = count * (part + 1) // (kills + 1)
             while done < until:
                 done += self.read()
+                need(not hall.ended(), f"the hall ended: {hall.said()}")
                 time.sleep(self.draw.uniform(0, 0.02))
+            self.may_fail(False)
             self.end(hall, clients)
             if part < kills:
                 self.hear_on()
+
+    def wait_for_acts(self, hall):
+        """Waits until each desk was answered, so that the setup is done."""
+        asked = [desk.last for desk in self.desks]
+        while any(desk.last == last for desk, last in zip(self.desks, asked)):
+            need(not hall.ended(), f"the hall ended: {hall.said()}")
+            time.sleep(0.002)
+
+    def may_fail(self, failing):
+        if self.device:
+            self.device.may_fail(failing)
 
     def hear_on(self):
         """Each desk hears from a hall without load which request was accepted last."""
@@ -176,11 +248,11 @@ class Round:
         return (len(final) - HEAD) // SLOT
 
 
-def tried(name, count, kills, failing=None):
+def tried(name, count, kills, **failing):
     """Reads so often beside a hall; the round, and the seconds that it took."""
     folder = f"{work}/{name}"
-    os.mkdir(folder)
-    this = Round(program, folder, random.Random(f"{seed}-{name}"), free_ports(), failing)
+    os.makedirs(folder, exist_ok=True)
+    this = Round(program, folder, random.Random(f"{seed}-{name}"), free_ports(), **failing)
     began = time.monotonic()
     this.read_many(count, kills)
     spent = time.monotonic() - began
@@ -188,6 +260,23 @@ def tried(name, count, kills, failing=None):
     counts = ", ".join(f"{this.counts[word]} {word}" for word in COMMANDS)
     print(f"{name}: {count} readings ({counts}) are those of the first rows of {rows}", flush=True)
     return this, spent
+
+
+def beside_a_failing_device(count):
+    """Reads so often beside a hall whose device fails now and then."""
+    if os.geteuid() != 0:
+        print("no device that fails was tried: that takes root")
+        return
+    folder = f"{work}/device"
+    os.mkdir(folder)
+    device = FailingDevice(folder, random.Random(f"{seed}-moments"))
+    try:
+        device.start()
+        failed, _ = tried("device", count, 2, device=device)
+    finally:
+        device.remove()
+    need(failed.counts["failed"] > 0, "the device never failed at an act")
+    print(f"{failed.counts['failed']} acts failed at the device")
 
 
 def quiet():
@@ -208,6 +297,7 @@ if __name__ == "__main__":
     read, spent = tried("killed", int(readings) * 7 // 10, KILLS)
     print(f"lanes let out {read.packs / spent:.0f} packs a second beside readers,"
           f" {quiet():.0f} without")
-    failed, _ = tried("failing", int(readings) * 3 // 10, 2, f"{work}/failing_sync.so")
+    failed, _ = tried("failing", int(readings) * 3 // 10, 2, failing=f"{work}/failing_sync.so")
     need(failed.counts["failed"] > 0, "no sync failed")
     print(f"{failed.counts['failed']} acts failed at a sync")
+    beside_a_failing_device(int(readings) * 3 // 10)
