@@ -123,7 +123,8 @@ function draw(summary) {
   const byNumber = [...lanes].sort(([one], [other]) => one - other);
   const laneCards = byNumber.map(laneCard);
   place.lanes.replaceChildren(...(laneCards.length ? laneCards : [say("noLanes")]));
-  redraw(place.batches, [...sheets.values()].map(batchCard));
+  const batchCards = [...sheets.values()].map(batchCard);
+  redraw(place.batches, batchCards.length ? batchCards : [say("noBatches")]);
   const piles = summary.piles.map(({ word: pile, count, gross }) =>
     [word(pile), count, spellGrams(gross)]);
   const states = summary.states.map(([name, count]) => `${count} ${word(name)}`).join(", ");

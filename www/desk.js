@@ -11,6 +11,8 @@ const DESKS = [101, 164];
 const MEASURED_ALREADY = 30;
 const FAR_DAYS = 31;
 const SHOWN = 12;
+// How often the list of what is in force is asked for anew, in milliseconds.
+const LIST_EVERY = 10_000;
 // A measured pack that differs by more than this part of its weight on the lane is asked twice.
 const FAR_PART = 0.05;
 
@@ -40,6 +42,7 @@ const ACTS = {
 
 let desk = 0;
 let place;
+let listedAt = 0;
 
 // ---- what is looked at first: a text, after which the same has to be sent a second time
 
@@ -320,11 +323,17 @@ export function build(section) {
   onChange(showPending);
   showNames();
   choose(Number(choice.querySelector("select").value));
-  addListed().then(showListed);
+  askList();
 }
 
 export async function refresh() {
+  if (Date.now() - listedAt > LIST_EVERY) askList();
   await office.summary();
+}
+
+function askList() {
+  listedAt = Date.now();
+  addListed().then(showListed);
 }
 
 function showNames() {
@@ -335,8 +344,8 @@ function showNames() {
 
 // What the front serves of `hall list`: what is in force stands below the forms.
 function showListed({ day, text }) {
-  put(place.listed, text);
-  const days = document.querySelectorAll("#desk input[type=date]");
+  if (text) put(place.listed, text);
+  const days = document.querySelectorAll("#desk input[type=date]:not(:focus)");
   for (const input of days) input.value ||= day ?? "";
   showNames();
 }

@@ -27,6 +27,7 @@ const WORDS = {
   lane: ["Lane {lane}", "Linie {lane}"],
   idle: ["idle", "frei"],
   noLanes: ["No lane has a batch.", "Keine Linie hat eine Charge."],
+  noBatches: ["No batch was weighed lately.", "Zuletzt wurde keine Charge gewogen."],
   aMinute: ["{count} packs a minute", "{count} Packungen je Minute"],
   lastReject: ["Last reject: pack {pack}, net {net} g, {signal}",
     "Letzter Ausschuss: Packung {pack}, netto {net} g, {signal}"],
