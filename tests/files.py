@@ -1,15 +1,17 @@
 """The files of tests/files.sh, which says what they are: PROGRAM FOLDER."""
 
 import os
+import resource
 import subprocess
 import sys
 
 program, work = sys.argv[1:]
 os.chdir(work)
 HEADER = b"AQHBOOK2".ljust(97, b"\0")
+SLOT, MARK = 96, 8
 DAY = b"day 2025-03-03\n"
 READING = ("check", "report", "list", "export", "ship")
-ADDING = ("run", "serve", "import", "follow")
+ADDING = ("run", "serve", "import", "follow", "migrate")
 tried = 0
 
 
@@ -103,6 +105,99 @@ need(hall.ask(DAY) == b"1 ok\n", "the first row isn't answered")
 os.rename("d", "e")
 need(hall.ask(b"product P 250\n") == b"2 ok\n", "a folder with another name is a fault")
 need(hall.end() == (0, ""), "a folder with another name is a fault at the end")
+
+# A book whose slots and snapshot differ is written by nobody.
+ROWS = 3000
+DIFFERS = ("hall: can't open book: row {} differs from its snapshot; `hall ship --book OLD | hall"
+           " follow --book NEW` makes a book of the snapshot's rows; then `hall audit` both\n")
+WEIGHINGS = b"".join(b"weigh 1 26%d.%03d\n" % (pack % 10, pack % 997) for pack in range(ROWS - 5))
+need(ask("run", "book", DAY + b"product P 250\ntare P 2025-03-03 10\nopen A P\nstart 1 A\n"
+         + WEIGHINGS)[1] == 0, "no book is made")
+whole = content("book")
+PLACE = SLOT * (ROWS + 2)
+TAIL = len(whole) - SLOT
+need(whole[MARK] == 1 and whole[PLACE:PLACE + 2] == b"\0S" and whole[TAIL:TAIL + 2] == b"\0T",
+     "the book ends without a snapshot")
+
+
+def changed(*places):
+    """The book with other bytes at these places."""
+    other = bytearray(whole)
+    for place in places:
+        other[place] ^= 2
+    return bytes(other)
+
+
+def refuses(damaged, row, commands=ADDING):
+    """What adds rows doesn't open the book, and leaves it."""
+    for command in commands:
+        put("book", damaged)
+        said, status, errors = ask(command, "book", DAY)
+        need((said, status, errors) == (b"disk fault\n", 6, DIFFERS.format(row)),
+             f"{command}, row {row}: {status} {said} {errors}")
+        need(content("book") == damaged, f"{command} changed a book whose row {row} differs")
+
+
+def opens(same, what):
+    """A run begins with all rows, and its own is the next."""
+    put("book", same)
+    said, status, errors = ask("run", "book", b"stop 1\n")
+    need((said.split(b"\n")[0], status, errors) == (b"%d ok" % (ROWS + 1), 0, ""),
+         f"{what}: {status} {said} {errors}")
+
+
+damaged = changed(SLOT * 1500 + 18)
+refuses(damaged, 1500)
+for command in READING:
+    put("book", damaged)
+    said, status, errors = ask(command, "book")
+    need((status, errors) == (0, ""), f"{command} of a book that differs: {status} {errors}")
+    if command == "check":
+        need(said == b"rows %d whole\n" % ROWS, f"check says {said}")
+    if command == "ship":
+        need(ask("follow", "new", said) == (b"rows %d whole\n" % ROWS, 0, ""), "the way back")
+need(ask("audit", "book")[1] == 9 and b"snapshot same" in ask("audit", "new")[0], "audit of both")
+need(content("new")[SLOT:SLOT * (ROWS + 1)] == whole[SLOT:SLOT * (ROWS + 1)], "other rows came")
+for place, row in ((SLOT, 1), (SLOT + 1, 1), (SLOT * ROWS + 3, ROWS), (SLOT * 1024 + 95, 1024),
+                   (SLOT * 1025, 1025), (SLOT * 2048 + 95, 2048), (SLOT * 2049 + 10, 2049)):
+    refuses(changed(place), row, ["run"])
+refuses(changed(SLOT * 2900 + 5, SLOT * 77 + 20), 77, ["run"])
+# A byte of the snapshot's content; and content that can't be read is damaged, as ever.
+refuses(changed(PLACE + SLOT + 2 + 10), 1, ["run"])
+put("book", whole[:PLACE + SLOT + 2] + b"\0" + whole[PLACE + SLOT + 3:])
+need(ask("run", "book", DAY) == (b"damaged row 1\n", 9, ""), "content that can't be read")
+# No snapshot, a torn one, and what a crash leaves before the mark is set or behind it.
+opens(whole, "a whole snapshot")
+opens(whole[:PLACE], "no snapshot")
+for torn in (whole[:PLACE + SLOT * 9 + 7], changed(TAIL + 2), changed(TAIL + 1), changed(PLACE + 2),
+             changed(PLACE + 1), whole[:TAIL], whole + b"\0", changed(MARK)):
+    opens(torn, "a torn snapshot")
+unmarked = whole[:MARK] + b"\0" + whole[MARK + 1:]
+opens(unmarked, "a snapshot without its mark")
+hanging = bytearray(unmarked)
+hanging[SLOT * (ROWS + 1) + 1:SLOT * (ROWS + 2)] = bytes(range(95))
+opens(bytes(hanging), "the beginning of a row behind the closed gate")
+
+# A file at the limit of its size is a fault of the disk.
+LIMIT = SLOT * 40 + 50
+
+
+def limited():
+    resource.setrlimit(resource.RLIMIT_FSIZE, (LIMIT, LIMIT))
+
+
+os.remove("book")
+days = b"".join(b"day 2025-%02d-%02d\n" % (1 + day // 28, 1 + day % 28) for day in range(200))
+ran = subprocess.run([program, "run", "--book", "book"], input=days, capture_output=True,
+                     check=False, timeout=60, preexec_fn=limited)
+rows = ran.stdout.count(b" ok\n")
+need((ran.returncode, ran.stderr) == (
+    6, b"hall: the book's disk failed: File too large (os error 27)\n"),
+    f"at the limit of a file: {ran.returncode} {ran.stderr}")
+need(ran.stdout.endswith(b"disk fault\n") and 30 < rows < 40 and len(content("book")) <= LIMIT,
+     f"{rows} rows are answered below the limit")
+need(ask("check", "book")[0] == b"rows %d whole\n" % rows, "other rows stand below the limit")
+need(ask("run", "book", days)[1] == 0, "without the limit the book doesn't go on")
 
 # A file that may not be read or written, where the user isn't root; root may all.
 if os.geteuid() != 0:

@@ -1,11 +1,12 @@
 #!/bin/sh
 # The files of books as strangers leave them: what was meant for something else, what a crash leaves
 # of a new book, links, folders, files that are replaced, moved or deleted under a hall, and what
-# the commands that add nothing leave of a file. Each with its output, its status and standard
-# error.
+# the commands that add nothing leave of a file; books whose slots differ from their snapshot, and
+# what crashes leave of both; and the greatest size of a file (`ulimit -f`). Each with its output,
+# its status and standard error.
 #
 # usage: tests/files.sh [FOLDER]     HALL names another program than the one that `./hall` builds
-# needs: Python 3.11. Done in 10 seconds.
+# needs: Python 3.11. Done in 30 seconds.
 set -eu
 here=$(dirname "$(readlink -f "$0")")/..
 work=$(mktemp -d "${1:-/tmp}/hall_files.XXXXXX")

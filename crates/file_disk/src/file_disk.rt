@@ -6,7 +6,7 @@ use crate::copying::{BookCopy, copy_book, copy_nothing};
 use crate::named_file::NamedFile;
 use crate::notice::Notice;
 use crate::open_error::OpenError;
-use crate::opening::{make, open_present};
+use crate::opening::{make, open_present, with_same_rows};
 use device_facts::counted_once_more;
 use disk_core::{DISK_END, Disk, Failed, QuietDisk};
 use std::fs::File;
@@ -93,8 +93,9 @@ impl<R: Files<File = File> + AllocGlobal + Eprint + Drop> FileDisk<R> {
     /// Opens the book at this path for writing, and makes its file where there is none. The file
     /// stays locked for as long as the disk is there, so no other hall writes it. Where it is
     /// empty, its folder is synced, so that a crash leaves its name. A file that can't be opened,
-    /// made, locked or synced, that is no regular file, or has at most 97 bytes that aren't the
-    /// beginning of a book, gives a disk that isn't open. Nothing is cut off a file.
+    /// made, locked or synced, that is no regular file, has at most 97 bytes that aren't the
+    /// beginning of a book, or ends with a snapshot that fits and doesn't have the rows of its slots,
+    /// gives a disk that isn't open. Nothing is cut off a file.
     pub fn open(rt: R, path: &str) -> Self
         ensures { result.faults ≡ 0 }
     {
@@ -104,7 +105,8 @@ impl<R: Files<File = File> + AllocGlobal + Eprint + Drop> FileDisk<R> {
                 notice = Some(Notice::Made);
                 make(&rt, path)
             }
-            found => found,
+            Ok(file) => with_same_rows(file),
+            Err(error) => Err(error),
         };
         let backing = named(&rt, path, file);
         Self::over(rt, backing, notice)
@@ -112,7 +114,8 @@ impl<R: Files<File = File> + AllocGlobal + Eprint + Drop> FileDisk<R> {
 
     /// Opens the book at this path for a command that adds nothing. No file is made: where there is
     /// none the disk is empty, in memory. A book that another hall has open, or whose file can't be
-    /// written, is read into memory; otherwise the disk is as by `open`.
+    /// written, is read into memory; otherwise the disk is as by `open`, and its slots aren't compared
+    /// with a snapshot.
     pub fn open_to_read(rt: R, path: &str) -> Self
         ensures { result.faults ≡ 0 }
     {

@@ -6,8 +6,9 @@
 //! buffer is filled with the bytes from its place on, as many as there are, however few of them each
 //! read of the system brings.
 //!
-//! Tested: that of a running book the header and the rows that stay are taken, with no snapshot. How
-//! many rows those are, and that they stay, is promised by book_file.
+//! Tested: that of a running book the header and the rows that stay are taken, with no snapshot, and
+//! that a book whose slots don't hold the rows of its snapshot isn't opened to be written. How many
+//! rows those are, that they stay, and how a slot is compared, is promised by book_file.
 //!
 //! Trusted: the system's calls, that they read, write and make stable what they say, and that a
 //! lock keeps other halls out; std's `write_all_at`; that a file which is opened for reading isn't
@@ -26,6 +27,8 @@ mod notice;
 mod open_error;
 mod opening;
 mod read_at;
+mod size_limit;
+mod slots_check;
 mod transfer;
 
 pub use file_disk::FileDisk;

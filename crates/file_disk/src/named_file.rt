@@ -1,3 +1,4 @@
+use crate::size_limit::{greatest_size, too_large};
 use crate::transfer::{fill, settle};
 use std::alloc::Global;
 use std::fs::{File, metadata};
@@ -13,6 +14,7 @@ pub(crate) struct NamedFile {
     file: File,
     device: u64,
     number: u64,
+    greatest_size: u64,
 }
 
 impl NamedFile {
@@ -29,6 +31,7 @@ impl NamedFile {
             file,
             device: found.dev(),
             number: found.ino(),
+            greatest_size: greatest_size(),
         })
     }
 
@@ -44,8 +47,12 @@ impl NamedFile {
         fill(&self.file, place, into)
     }
 
-    /// Puts all bytes into the file from a place on.
+    /// Puts all bytes into the file from a place on. It fails where the file would be larger than the
+    /// system allowed as it was opened.
     pub(crate) fn write_at(&self, place: u64, bytes: &[u8]) -> io::Result<()> {
+        if place.saturating_add(bytes.len() as u64) > self.greatest_size {
+            return Err(too_large());
+        }
         self.file.write_all_at(bytes, place)
     }
 

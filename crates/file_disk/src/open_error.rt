@@ -15,6 +15,8 @@ pub enum OpenError {
     NotABook,
     /// The path is a link to a file that isn't there.
     LeadsNowhere,
+    /// The slot of this row holds something else than the snapshot beside it.
+    Differs { row: u32 },
     /// The system says why.
     System(io::Error),
 }
@@ -41,6 +43,11 @@ impl Display for OpenError {
             OpenError::NotAFile => f.write_str("it is no file"),
             OpenError::NotABook => f.write_str("it isn't a book"),
             OpenError::LeadsNowhere => f.write_str("it is a link to a file that isn't there"),
+            OpenError::Differs { row } => write!(
+                f,
+                "row {row} differs from its snapshot; `hall ship --book OLD | hall follow --book NEW` \
+                 makes a book of the snapshot's rows; then `hall audit` both"
+            ),
             OpenError::System(error) => Display::fmt(error, f),
         }
     }

@@ -1,5 +1,6 @@
 use crate::copies::{read_running, read_still};
 use crate::open_error::OpenError;
+use crate::slots_check::first_difference;
 use book_file::{has_header, is_unbegun};
 use book_journal::NEW_BYTES;
 use std::fs::{File, OpenOptions, canonicalize, symlink_metadata};
@@ -31,6 +32,16 @@ pub(crate) fn make<R: Files<File = File> + AllocGlobal>(
     }
     let file = File::create_new(rt, path)?;
     lock_book(rt, path, file)
+}
+
+/// A file that is to be written: none whose slots hold other rows than the snapshot beside them,
+/// since the next row would throw the snapshot away.
+pub(crate) fn with_same_rows(file: File) -> Result<File, OpenError> {
+    let size = file.metadata()?.len();
+    match first_difference(&file, size)? {
+        None => Ok(file),
+        Some(row) => Err(OpenError::Differs { row }),
+    }
 }
 
 // Locks a file that is a book, or nothing yet.

@@ -5,3 +5,5 @@
 mod books;
 #[cfg(test)]
 mod files;
+#[cfg(test)]
+mod slots;
