@@ -14,10 +14,10 @@ from selenium.webdriver.common.keys import Keys
 
 from browser import Browser, cut_between
 from clients import Lane, need
-from front_room import TOP, Front, make_hall, mount_room, run, wait_until
+from front_room import NAME, TOP, Front, make_hall, mount_room, run, wait_until
 from rows import rows_behind
 
-PEOPLE = {"anna": [101], "ben": [102], "wall": []}
+PEOPLE = {"anna": [101], "ben": [102], "carl": [103], "wall": []}
 DAY = "2025-03-03"
 SEED = 45
 # Milliseconds in which a chart of a thousand packs has to be drawn.
@@ -43,6 +43,7 @@ class Day:
         self.front.start()
         self.lanes = []
         self.browsers = []
+        self.curl = Curl(self.front.passwords["carl"])
         self.hall = make_hall(program, f"{room}/hall", "", [], self.book)
 
     def browser(self, person, **options):
@@ -60,6 +61,28 @@ class Day:
         self.lanes = [Lane(self.hall, number, piece) for number, piece in enumerate(pieces, 1)]
         for lane in self.lanes:
             lane.start()
+
+
+class Curl:
+    """What acts for a desk without a page, by curl through the front, and asks each act twice."""
+
+    DESK = 103
+
+    def __init__(self, password):
+        self.words = ["curl", "-sS", "--cacert", "/etc/hall/front/hall.crt", "--resolve",
+                      f"{NAME}:443:127.0.0.1", "-u", f"carl:{password}"]
+        self.request = 1
+        self.told = {}
+
+    def ask(self, members):
+        body = json.dumps({"desk": self.DESK, "request": self.request} | members)
+        return json.loads(run(*self.words, "--data", body, f"https://{NAME}/hall/acts"))
+
+    def act(self, **members):
+        said, again = self.ask(members), self.ask(members)
+        need(said == again and "row" in said, f"curl is told {said} and then {again}")
+        self.told[said["row"]] = (self.request, members)
+        self.request += 1
 
 
 def slowly(grosses, at_once, until=None):
@@ -298,6 +321,15 @@ def check_list(browser):
     os.remove("/run/hall/list.txt")
 
 
+def act_by_curl(day):
+    """A program at a desk of its own goes on beside the pages."""
+    day.curl.act(act="product", name="barley500", nominal=500_000)
+    day.curl.act(act="tare", product="barley500", day=DAY, tare=12_000)
+    day.curl.act(act="open", batch="BARLEY", product="barley500")
+    said = day.curl.ask({"act": "open", "batch": "BARLEY", "product": "barley500"})
+    need(said.get("refused") == 13, f"a batch that is known is told {said}")
+
+
 def not_theirs(day, ben):
     """A person speaks only as their own desks."""
     ben.choose_desk(101)
@@ -339,6 +371,8 @@ def weigh(day, anna, wall):
     wait_until(lambda: "HELD" not in wall.text("#board").split(), "held no more")
     last.set()
     wait_until(lambda: weighed(day.rows(), 1) == 110, "the last pack")
+    day.curl.act(act="end", batch="BARLEY")
+    day.curl.act(act="close", batch="BARLEY")
     wait_until(lambda: wall.text("#board").count("250.") > 0, "the board")
     time.sleep(3)
     wall.picture(f"{day.pictures}/board.png")
@@ -542,10 +576,16 @@ def compare_book(day, browsers):
                 need((row.desk, row.request) == (desk, entry["request"]), f"{row} for {entry}")
                 need(members.items() <= row.act.items(), f"{row} for {entry}")
                 told += 1
-    for desk in (101, 102):
+    for number, (request, members) in day.curl.told.items():
+        row = rows[number]
+        need((row.desk, row.request) == (Curl.DESK, request) and members.items() <= row.act.items(),
+             f"{row} for {members}")
+    for desk in (101, 102, Curl.DESK):
         numbers = [row.request for row in rows.values() if row.desk == desk]
         need(numbers == list(range(1, len(numbers) + 1)), f"desk {desk} has {numbers}")
-    print(f"screen: {told} acts that pages were told are rows of the book", flush=True)
+    need(len(day.curl.told) == len(numbers), f"curl was told {len(day.curl.told)} of {numbers}")
+    print(f"screen: {told} acts that pages were told and {len(numbers)} by curl are rows of the"
+          " book", flush=True)
 
 
 def end_day(day, anna):
@@ -595,6 +635,7 @@ def work(day):
     two_tabs(day, anna)
     other = another_machine(day)
     stay_in_doubt(day, anna, other)
+    act_by_curl(day)
     full_disk(day, anna)
     ben, wall = day.browser("ben"), day.browser("wall", size="1920,1080")
     not_theirs(day, ben)
