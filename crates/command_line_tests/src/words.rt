@@ -1,6 +1,7 @@
 use book_words::Name;
 use command_line::Command::{
-    Check, Export, Follow, Import, List, Migrate, Paper, Prove, Report, Run, Serve, Ship, Trial,
+    Audit, Check, Export, Follow, Import, List, Migrate, Paper, Prove, Report, Run, Serve, Ship,
+    Trial,
 };
 use command_line::{Command, Text, Wants, WantsError, wants};
 use hall_limits::MAX_ROWS;
@@ -25,6 +26,7 @@ struct Asked {
     count: u32,
     remote: Option<u16>,
     after: u32,
+    rows: u32,
 }
 
 const RUN: Asked = Asked {
@@ -41,6 +43,7 @@ const RUN: Asked = Asked {
     count: 0,
     remote: None,
     after: 0,
+    rows: MAX_ROWS,
 };
 
 const SERVE: Asked = Asked {
@@ -106,10 +109,15 @@ const LIST: Asked = Asked {
     ..RUN
 };
 
+const AUDIT: Asked = Asked {
+    command: Audit,
+    ..RUN
+};
+
 const BOOK: Option<&str> = Some("b.hall");
 
 // Words and what they ask for, written by hand from the grammar, as what follows.
-static ASKED: [(Words, Asked); 62] = [
+static ASKED: [(Words, Asked); 67] = [
     (&["run"], RUN),
     (&["check"], CHECK),
     (&["migrate"], MIGRATE),
@@ -330,6 +338,31 @@ static ASKED: [(Words, Asked); 62] = [
         &["list", "--limit", "1000000", "--book=b.hall"],
         Asked { book: BOOK, ..LIST },
     ),
+    (&["audit"], AUDIT),
+    (&["audit", "--rows=1"], Asked { rows: 1, ..AUDIT }),
+    (
+        &["audit", "--rows", "0", "--book", "b.hall"],
+        Asked {
+            book: BOOK,
+            rows: 0,
+            ..AUDIT
+        },
+    ),
+    (
+        &["audit", "--book=b.hall", "--rows=0181"],
+        Asked {
+            book: BOOK,
+            rows: 181,
+            ..AUDIT
+        },
+    ),
+    (
+        &["audit", "--book=b.hall", "--rows=1000000"],
+        Asked {
+            book: BOOK,
+            ..AUDIT
+        },
+    ),
     (&["report"], REPORT),
     (&["export"], EXPORT),
     (&["import"], IMPORT),
@@ -509,8 +542,9 @@ static REFUSED: [Words; 95] = [
     &["serves"],
 ];
 
-// The same, of the commands that copy a book, write and prove a paper, or list what is in force.
-static REFUSED_COPIES: [Words; 29] = [
+// The same, of the commands that copy a book, write and prove a paper, list what is in force, or
+// audit.
+static REFUSED_COPIES: [Words; 40] = [
     &["ship", "--after", "1000001"],
     &["ship", "--after=-1"],
     &["ship", "--after="],
@@ -544,6 +578,17 @@ static REFUSED_COPIES: [Words; 29] = [
     &["list", "--batch=A"],
     &["list", "b"],
     &["lists"],
+    &["list", "--rows=1"],
+    &["audit", "--book=b", "--rows=1000001"],
+    &["audit", "--book=b", "--rows=-1"],
+    &["audit", "--book=b", "--rows="],
+    &["audit", "--book=b", "--rows=1", "--rows=1"],
+    &["audit", "--book=b", "--book=b"],
+    &["audit", "--book=b", "--limit=5"],
+    &["audit", "--book=b", "1"],
+    &["audit", "b"],
+    &["audits", "--book=b"],
+    &["run", "--rows=1"],
 ];
 
 fn words_of(alloc: Global, words: &[&str]) -> Result<Vec<String>, AllocError> {
@@ -587,6 +632,7 @@ fn is_found(found: &Wants, asked: &Asked) -> bool {
         && found.count == asked.count
         && found.remote == asked.remote
         && found.after == asked.after
+        && found.rows == asked.rows
 }
 
 // Whether words ask for this.
