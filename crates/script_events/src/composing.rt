@@ -1,6 +1,7 @@
 ghost use Rattle.std.specs.Prelude.{◌≡◌, ◌≤◌, vec_capacity};
 ghost use Rattle.book_words.specs.Views.{summary};
 ghost use Rattle.book_words.specs.Answers.{IsLegal};
+ghost use Rattle.batch_reports.specs.Appending.{HasRoom, Appended};
 ghost use Rattle.batch_reports.specs.Texts.{outcome_text, summary_text};
 ghost use Rattle.script_events.specs.Asking.{IsTold};
 
@@ -30,6 +31,15 @@ pub fn compose_summary(book: &Book, text: &mut Vec<u8>)
     ensures capacity { vec_capacity text.new ≡ vec_capacity text.old }
 {
     text.clear();
+    append_summary(book, text);
+}
+
+/// Appends the text of the summary.
+pub fn append_summary(book: &Book, text: &mut Vec<u8>)
+    requires room { HasRoom text.old TEXT_ROOM }
+    requires legal { IsLegal book.now.entries }
+    ensures { Appended text.old text.new (summary_text (summary book.now.entries)) TEXT_ROOM }
+{
     let answered = Answered {
         at: book.len(),
         reply: Reply::SummaryIs(book.summary()),

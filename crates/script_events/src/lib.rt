@@ -7,5 +7,5 @@ mod composing;
 mod lane_ends;
 
 pub use asking::{SCRIPT, Unanswered, ask_at, ask_command};
-pub use composing::{compose_answer, compose_summary};
+pub use composing::{append_summary, compose_answer, compose_summary};
 pub use lane_ends::LaneEnds;

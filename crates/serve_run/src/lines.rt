@@ -7,10 +7,10 @@ ghost use Rattle.book_words.specs.Views.{summary};
 ghost use Rattle.serve_run.specs.Jobs.{job_text, job_lines};
 ghost use Rattle.serve_run.specs.Serving.{serve_text};
 
-use batch_reports::{TEXT_ROOM, answer_text};
+use batch_reports::TEXT_ROOM;
 use book_core::Book;
-use book_words::{Answered, Reply};
 use job_reports::{DOOR_ROOM, LANE_ROOM, door_text, lane_text};
+use script_events::append_summary;
 use session_jobs::{MAX_JOBS, Work};
 use std::alloc::{AllocError, Global};
 
@@ -69,9 +69,5 @@ pub fn compose<L, O>(jobs: &[Work<L, O>], book: &Book, text: &mut Vec<u8>)
     ensures text { text.new.items ≡ serve_text jobs.now book.now.entries }
 {
     push_lines(jobs, text);
-    let answered = Answered {
-        at: book.len(),
-        reply: Reply::SummaryIs(book.summary()),
-    };
-    answer_text(&answered, text).unwrap();
+    append_summary(book, text);
 }
