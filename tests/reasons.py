@@ -1,12 +1,13 @@
 #!/usr/bin/env python3
 """What the program says on standard error, for people, beside what it prints and its status, which
-stay as docs/FORMATS.md has them: of bad lines and plans, of a disk that fails, and of a file that
-can't be written.
+stay as docs/FORMATS.md has them: of bad lines and plans; of a setup's refusals; of a disk that
+fails and of a file that can't be written; and at a terminal, of what else people should know.
 
 usage: tests/reasons.py      (HALL names another program than the one that `./hall` builds)
 """
 
 import os
+import pty
 import resource
 import shutil
 import signal
@@ -66,24 +67,106 @@ TOML = [
     (["serve"], b"reserve = 10\nreserve = 11\n", "bad plan: its line 2 isn't TOML: "),
 ]
 
-ONE_DAY = b"day 2025-03-03\n"
 
+
+def plan(*lines):
+    """A plan without lanes, of a setup of these lines."""
+    return ('setup = """\n' + "".join(f"{line}\n" for line in lines) + '"""\n').encode()
+
+
+DAY, PRODUCT = "@164 1 day 2025-03-03", "@164 2 product rice250 250"
+TARE, OPEN = "@164 3 tare rice250 2025-03-03 10", "@164 4 open A rice250"
+WRONG_TARE, ONE_DAY = TARE.replace("rice250", "rice"), b"day 2025-03-03\n"
+NO_BOOK = "without --book the rows are in memory alone, and gone at the end"
+MADE = "BOOK: there was no book, a new one was made"
+IS_FULL = "a full book takes no act, not even a verdict"
+
+# Over one book after another: what is done in turn, each as words, an input, and all that is said.
+# SETUPS have standard error in a file, TERMINALS in a terminal; BOOK is the path of the book.
+SETUPS = [
+    [(["serve", "BOOK"], plan(DAY, PRODUCT, WRONG_TARE, OPEN),
+      [f"line 3 of the setup, {WRONG_TARE}: refused 9 ProductUnknown at 2: no product has this"
+       " name", f"line 4 of the setup, {OPEN}: refused 4 RequestGap 2 at 2: the desk's next request"
+       " has another number: a line before was refused, or one is left out"]),
+     (["serve", "BOOK"], plan(DAY, PRODUCT, TARE, OPEN), []),
+     (["serve", "BOOK"], plan(DAY, PRODUCT, TARE, OPEN), []),
+     (["serve", "BOOK"], plan(DAY, PRODUCT, TARE, "@164 4 open B rice250"),
+      ["line 4 of the setup, @164 4 open B rice250: refused 3 RequestReused 4 at 4: the desk did"
+       " another act under this number: give the line a new one"])],
+    [(["serve"], plan("", "# none", "@164 1 close A", "sheet A"),
+      ["line 3 of the setup, @164 1 close A: refused 6 DayUnset at 0: a day has to be set first",
+       "line 4 of the setup, sheet A: refused 14 BatchUnknown at 0: no batch has this name"])],
+    [(["serve"], plan("day 2025-03-03", "day 2025-03-02", "dya 2025-03-04"),
+      ["line 1 of the setup has no desk, and acts at each start (@164 1 ..)",
+       "line 2 of the setup, day 2025-03-02: refused 7 DayBack 2025-03-03 at 1: the book is at a"
+       " later day", "bad line 3, dya 2025-03-04: no such command: dya"])],
+    [(["run"], b"close A\n", []), (["run", "BOOK"], ONE_DAY, []),
+     (["run", "--limit=200"], ONE_DAY * 199 + b"day 2052-03-04\n", [])],
+]
+TERMINALS = [
+    [(["run"], ONE_DAY, [NO_BOOK]), (["serve"], plan(), [NO_BOOK]),
+     (["import"], HEADER, [NO_BOOK]), (["trial", "0", "100"], b"", []), (["check"], b"", []),
+     (["list"], b"", [])],
+    [(["run", "BOOK"], ONE_DAY, [MADE]), (["run", "BOOK"], b"day 2025-04-03\n", []),
+     (["run", "BOOK"], b"day 2025-04-02\nday 2025-05-05\n@101 1 day 2026-05-05\n",
+      ["row 3: the day is 32 days ahead of the one before, and it stands",
+       "row 4: the day is 365 days ahead of the one before, and it stands"]),
+     (["run", "BOOK"], b"summary\n", []), (["report", "BOOK"], b"", [])],
+    [(["serve", "BOOK"], plan(DAY, "@164 2 day 2052-03-04"),
+      [MADE, "row 2: the day is 9863 days ahead of the one before, and it stands"])],
+    [(["run", "BOOK", "--limit=200"], ONE_DAY * 197, [MADE]),
+     (["run", "BOOK", "--limit=200"], ONE_DAY, [f"2 rows are left of 200: {IS_FULL}"]),
+     (["run", "BOOK", "--limit=200"], ONE_DAY * 9, [f"0 rows are left of 200: {IS_FULL}"]),
+     (["run", "BOOK", "--limit=198"], ONE_DAY, [f"0 rows are left of 198: {IS_FULL}"]),
+     (["report", "BOOK"], b"", []), (["run", "BOOK"], ONE_DAY, [])],
+    [(["run", "BOOK", "--limit=50010"], ONE_DAY * 9, [MADE]),
+     (["run", "BOOK", "--limit=50010"], ONE_DAY * 2, [f"49999 rows are left of 50010: {IS_FULL}"]),
+     (["run", "BOOK", "--limit=50010"], ONE_DAY, [])],
+    [(["check", "BOOK"], b"", ["BOOK: there is no book"])],
+]
 # What is done to a file that can't be written, or with no room for its bytes, and what is said.
 UNWRITABLE = [(words, ["BOOK: it can't be written; it was read as it stands"])
               for words in ("check", "report", "export", "list", "ship", "audit")]
 FULL = "the book's disk failed: File too large (os error 27)"
 
 
-def run(program, words, given, before=None):
+def run(program, words, given, error=subprocess.PIPE, before=None):
     """A run, as what it printed, what it said, and its status."""
-    return subprocess.run([program, *words], input=given, timeout=60, capture_output=True,
-                          preexec_fn=before, check=False)
+    return subprocess.run([program, *words], input=given, timeout=60, stdout=subprocess.PIPE,
+                          stderr=error, preexec_fn=before, check=False)
 
 
 def heard(text, book):
     """The lines of standard error, without what each begins with."""
-    lines = text.decode().replace(book, "BOOK").splitlines()
+    lines = text.decode().replace("\r", "").replace(book, "BOOK").splitlines()
     return [line.removeprefix("hall: ") for line in lines]
+
+
+def at_terminal(program, words, given):
+    """What a run says at a terminal."""
+    ours, theirs = pty.openpty()
+    run(program, words, given, error=theirs)
+    os.close(theirs)
+    text = b""
+    try:
+        while piece := os.read(ours, 65536):
+            text += piece
+    except OSError:     # the end of a terminal that nobody else has
+        pass
+    os.close(ours)
+    return text
+
+
+def in_turn(program, folder, steps, terminal):
+    """The steps over a book of which something else is said than is wanted."""
+    book = f"{folder}/book"
+    for words, given, wanted in steps:
+        named = [f"--book={book}" if word == "BOOK" else word for word in words]
+        text = at_terminal(program, named, given) if terminal else run(program, named, given).stderr
+        if heard(text, book) != wanted:
+            yield f"{words} {given[:60]!r}: {heard(text, book)}, and not {wanted}"
+    if os.path.exists(book):
+        os.remove(book)
 
 
 def nobody():
@@ -142,11 +225,14 @@ def main():
             if (last, status) != ("bad plan", 3) or not (reason or "").startswith(begin):
                 wrong += 1
                 print(f"{words} {given!r}: {last!r}, {status}, {reason!r}, and not {begin!r}")
-        others = list(with_files(program, folder))
+        others = [line for tables, terminal in ((SETUPS, False), (TERMINALS, True))
+                  for steps in tables for line in in_turn(program, folder, steps, terminal)]
+        others += with_files(program, folder)
     for line in others:
         print(line)
+    steps = sum(map(len, SETUPS + TERMINALS)) + len(UNWRITABLE) + 1
     print(f"{len(ROWS) + len(TOML)} bad lines and plans, {wrong} told otherwise")
-    print(f"{len(UNWRITABLE) + 1} runs over such files, {len(others)} told otherwise")
+    print(f"{steps} runs of other kinds, {len(others)} told otherwise")
     return wrong + len(others) > 0
 
 

@@ -20,10 +20,11 @@ use file_disk::{FileDisk, Notice};
 use hall_limits::{MAX_DOOR, MAX_ROWS};
 use hall_top::{DoorEnds, Ending, LaneEnds, MountError, hall, say_last};
 use lane_worker::Lane;
+use run_notices::RunNotices;
 use setup_watch::WatchedPlan;
 use std::alloc::{AllocError, Global};
 use std::env;
-use std::io::ErrorKind;
+use std::io::{ErrorKind, IsTerminal};
 use std::process::ExitCode;
 use std::rt::Env;
 use std::sync::Wait;
@@ -48,7 +49,8 @@ fn words(rt: &(impl Env + AllocGlobal)) -> Result<Vec<String>, AllocError> {
 }
 
 // Does what the words say over a disk, with these lanes and doors: the call of `hall`, whose
-// contract says what that does. The exit status is that of the call.
+// contract says what that does. What people should know of the rows is said, and the exit status is
+// that of the call.
 fn run<
     S: Source,
     K: Sink,
@@ -61,6 +63,7 @@ fn run<
     words: &[String],
     input: &mut S,
     output: &mut K,
+    notices: &mut RunNotices<HostRuntime>,
     disk: D,
     lanes: Vec<L>,
     doors: Vec<O>,
@@ -70,7 +73,19 @@ fn run<
     requires unended { S.ended input.old ≡ false }
     ensures words { (exit_status result ≡ 2) ↔ (wanted_of (bytes_of words.now) ≡ None) }
 {
-    ExitCode::from(hall(rt, rt.alloc(), words, input, output, disk, lanes, doors).status)
+    let ended = hall(
+        rt,
+        rt.alloc(),
+        words,
+        input,
+        output,
+        notices,
+        disk,
+        lanes,
+        doors,
+    );
+    notices.say_rows(ended.held, ended.rows.as_slice());
+    ExitCode::from(ended.status)
 }
 
 // The rows that a book in memory has room for: that of `prove` or `audit` gets none.
@@ -102,8 +117,13 @@ fn reads_alone(command: Command) -> bool {
 }
 
 // The file of a book. Standard error says why it can't be opened, and how it was opened where it
-// isn't simply there.
-fn open_book(rt: HostRuntime, command: Command, path: &str) -> FileDisk<HostRuntime> {
+// isn't simply there; that one was made is said at a terminal.
+fn open_book(
+    rt: HostRuntime,
+    command: Command,
+    path: &str,
+    at_terminal: bool,
+) -> FileDisk<HostRuntime> {
     let disk = if reads_alone(command) {
         FileDisk::open_to_read(rt, path)
     } else {
@@ -112,9 +132,8 @@ fn open_book(rt: HostRuntime, command: Command, path: &str) -> FileDisk<HostRunt
     if let Some(error) = disk.open_error() {
         let _ = eprintln!(rt; "hall: can't open {path}: {error}");
     }
-    match disk.notice() {
-        None | Some(Notice::Made) => {}
-        Some(notice) => {
+    if let Some(notice) = disk.notice() {
+        if at_terminal || notice != Notice::Made {
             let _ = eprintln!(rt; "hall: {path}: {notice}");
         }
     }
@@ -130,12 +149,16 @@ fn lacks_memory(disk: &FileDisk<HostRuntime>) -> bool {
 }
 
 // The disk that the words ask for: the file of the book, or one in memory.
-fn open_disk(rt: HostRuntime, wanted: &Wants) -> Result<FileDisk<HostRuntime>, AllocError> {
+fn open_disk(
+    rt: HostRuntime,
+    wanted: &Wants,
+    at_terminal: bool,
+) -> Result<FileDisk<HostRuntime>, AllocError> {
     let Some(path) = &wanted.book else {
         let disk = memory_disk(rt.alloc(), room(wanted))?;
         return Ok(FileDisk::in_memory(rt, disk));
     };
-    let disk = open_book(rt, wanted.command, path.as_str());
+    let disk = open_book(rt, wanted.command, path.as_str(), at_terminal);
     if lacks_memory(&disk) {
         return Err(AllocError);
     }
@@ -201,6 +224,7 @@ fn over_book<
     words: &[String],
     input: &mut S,
     output: &mut K,
+    notices: &mut RunNotices<HostRuntime>,
     opened: Result<FileDisk<HostRuntime>, AllocError>,
     lanes: Vec<L>,
     doors: Vec<O>,
@@ -210,7 +234,7 @@ fn over_book<
     requires unended { S.ended input.old ≡ false }
 {
     match opened {
-        Ok(disk) => run(rt, words, input, output, disk, lanes, doors),
+        Ok(disk) => run(rt, words, input, output, notices, disk, lanes, doors),
         Err(_) => end_without_memory(rt.alloc(), output),
     }
 }
@@ -246,8 +270,20 @@ fn main(rt: HostRuntime) -> ExitCode {
     let Ok(doors) = open_doors(rt, &wanted) else {
         return end_without_memory(alloc, &mut output);
     };
-    let opened = open_disk(rt, &wanted);
-    let status = over_book(&rt, &words, &mut input, &mut output, opened, lanes, doors);
+    let at_terminal = rt.stderr().is_terminal();
+    let mut notices = RunNotices::new(rt, alloc, at_terminal, &wanted);
+    notices.say_memory();
+    let opened = open_disk(rt, &wanted, at_terminal);
+    let status = over_book(
+        &rt,
+        &words,
+        &mut input,
+        &mut output,
+        &mut notices,
+        opened,
+        lanes,
+        doors,
+    );
     explain(&rt, alloc, &read, &said);
     status
 }

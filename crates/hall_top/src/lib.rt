@@ -17,5 +17,5 @@ pub use command_line::{Command, Text, Wants, WantsError, wants};
 pub use ended::Ended;
 pub use ending::{Ending, say_last};
 pub use script_run::LaneEnds;
-pub use serve_run::{DoorEnds, JobsStop, ServeStop};
+pub use serve_run::{DoorEnds, JobsStop, NoNotices, ServeStop, SetupNotices};
 pub use top::hall;

@@ -16,7 +16,7 @@ use crate::ending::{Ending, say_last};
 use book_store::Store;
 use disk_core::{Disk, Door, Sink, Source};
 use lane_worker::Lane;
-use serve_run::{ServeEnd, run_serve};
+use serve_run::{ServeEnd, SetupNotices, run_serve};
 use std::alloc::Global;
 use std::sync::Wait;
 use std::thread::Threads;
@@ -25,6 +25,7 @@ use std::thread::Threads;
 fn serve_store<
     S: Source,
     K: Sink,
+    N: SetupNotices,
     D: Disk + Send,
     L: Lane + Send + Drop,
     O: Door + Send + Drop,
@@ -35,6 +36,7 @@ fn serve_store<
     store: Store<D>,
     input: &mut S,
     output: &mut K,
+    notices: &mut N,
     lanes: Vec<L>,
     doors: Vec<O>,
 ) -> Ended<D, L, O>
@@ -51,7 +53,7 @@ fn serve_store<
     ensures sound { IsSoundBook result.rows }
 {
     let held = store.len();
-    let end = run_serve(rt, alloc, store, input, output, lanes, doors);
+    let end = run_serve(rt, alloc, store, input, output, notices, lanes, doors);
     let ServeEnd {
         stop,
         store,
@@ -84,6 +86,7 @@ fn serve_store<
 pub fn serve<
     S: Source,
     K: Sink,
+    N: SetupNotices,
     D: Disk + Send,
     L: Lane + Send + Drop,
     O: Door + Send + Drop,
@@ -94,6 +97,7 @@ pub fn serve<
     limit: u32,
     input: &mut S,
     output: &mut K,
+    notices: &mut N,
     disk: D,
     lanes: Vec<L>,
     doors: Vec<O>,
@@ -109,7 +113,7 @@ pub fn serve<
     ensures rows { IsSoundBook result.rows }
 {
     match Store::mount(alloc, disk, limit) {
-        Ok(store) => serve_store(rt, alloc, store, input, output, lanes, doors),
+        Ok(store) => serve_store(rt, alloc, store, input, output, notices, lanes, doors),
         Err(refused) => {
             let outcome = leave_unopened(alloc, Ending::Unopened(refused.why), refused.disk);
             end_call(alloc, outcome, output, lanes, doors)

@@ -15,6 +15,7 @@ use crate::serving::serve;
 use command_line::wants;
 use disk_core::{Disk, Door, Sink, Source};
 use lane_worker::Lane;
+use serve_run::SetupNotices;
 use std::alloc::Global;
 use std::sync::Wait;
 use std::thread::Threads;
@@ -29,7 +30,8 @@ use std::thread::Threads;
 /// lanes that are handed in, of which the first is lane 1, and is answered by the lane's line; a run
 /// goes on behind a lane that ended early, unless the disk failed or there was no memory.
 ///
-/// `serve` reads a plan to its end and asks its setup, a script of which nothing is printed. Then all
+/// `serve` reads a plan to its end and asks its setup, a script of which nothing is printed; which
+/// of its lines are refused is told to `notices`, as nothing is by other commands. Then all
 /// lanes and all doors that are handed in are at work at once, each lane on its own batch, each act
 /// answered by the one book; when the last has ended, and where rows were added, a snapshot is kept,
 /// and each lane's line, each door's line and the summary are printed. The plan names a batch for
@@ -85,6 +87,7 @@ use std::thread::Threads;
 pub fn hall<
     S: Source,
     K: Sink,
+    N: SetupNotices,
     D: Disk + Send,
     L: Lane + Send + Drop,
     O: Door + Send + Drop,
@@ -95,6 +98,7 @@ pub fn hall<
     words: &[String],
     input: &mut S,
     output: &mut K,
+    notices: &mut N,
     disk: D,
     lanes: Vec<L>,
     doors: Vec<O>,
@@ -127,7 +131,17 @@ pub fn hall<
     match wants(alloc, words) {
         Ok(wanted) => {
             if is_serve(wanted.command) {
-                serve(rt, alloc, wanted.limit, input, output, disk, lanes, doors)
+                serve(
+                    rt,
+                    alloc,
+                    wanted.limit,
+                    input,
+                    output,
+                    notices,
+                    disk,
+                    lanes,
+                    doors,
+                )
             } else {
                 end_answer(alloc, Ok(wanted), input, output, disk, lanes, doors)
             }

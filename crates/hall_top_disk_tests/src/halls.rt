@@ -2,7 +2,7 @@ ghost use Rattle.std.specs.Prelude.{◌≤◌, length};
 
 use disk_core::{Keep, ListDoor, MemoryDisk, MemorySink, QuietSource};
 use hall_limits::{MAX_DOOR, MAX_LANE};
-use hall_top::{Ended, hall, hall_alone};
+use hall_top::{Ended, NoNotices, hall, hall_alone};
 use lane_worker::{CellNext, ListCell, ListGate, PairLane};
 use std::alloc::Global;
 use std::sync::Wait;
@@ -93,6 +93,7 @@ pub fn serve<R: Threads + Wait + Sync>(rt: &R, alloc: Global, disk: MemoryDisk) 
         &words,
         &mut input,
         &mut output,
+        &mut NoNotices,
         disk,
         lanes,
         doors,

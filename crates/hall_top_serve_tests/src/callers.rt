@@ -4,7 +4,7 @@ use crate::halls::{copy, word};
 use crate::texts::push_request;
 use disk_core::{MemorySink, QuietDisk, QuietSource};
 use hall_limits::{MAX_DOOR, MAX_LANE};
-use hall_top::{Ended, hall};
+use hall_top::{Ended, NoNotices, hall};
 use lane_worker::{ListGate, PairLane};
 use std::alloc::Global;
 use std::sync::Wait;
@@ -93,6 +93,7 @@ pub fn serve<'a, R: Threads + Wait + Sync>(
         &words,
         &mut input,
         &mut output,
+        &mut NoNotices,
         QuietDisk::new(room),
         lanes,
         doors,

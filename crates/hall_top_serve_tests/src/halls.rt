@@ -1,6 +1,6 @@
 use disk_core::{ListDoor, MemoryDisk, MemorySink, QuietSource};
 use hall_limits::{MAX_DOOR, MAX_LANE};
-use hall_top::{Ended, hall};
+use hall_top::{Ended, NoNotices, hall};
 use lane_worker::{CellNext, ListCell, ListGate, PairLane};
 use std::alloc::Global;
 use std::sync::Wait;
@@ -125,7 +125,17 @@ pub fn play<R: Threads + Wait + Sync>(
     lanes.truncate(usize::from(MAX_LANE));
     let mut doors = doors_of(alloc, case);
     doors.truncate(usize::from(MAX_DOOR));
-    hall(rt, alloc, &words, &mut input, output, disk, lanes, doors)
+    hall(
+        rt,
+        alloc,
+        &words,
+        &mut input,
+        output,
+        &mut NoNotices,
+        disk,
+        lanes,
+        doors,
+    )
 }
 
 /// An output, of which the calls of a case fail.

@@ -11,4 +11,5 @@ mod stop;
 
 pub use door_ends::DoorEnds;
 pub use serve::{ServeEnd, run_serve};
+pub use setup_run::{NoNotices, SetupNotices};
 pub use stop::{JobsStop, ServeStop};

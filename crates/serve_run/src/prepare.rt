@@ -10,7 +10,7 @@ use crate::stop::ServeStop;
 use book_store::Store;
 use disk_core::{Disk, Source};
 use hall_plan::{Plan, PlannedLanes};
-use setup_run::{NoPlan, read_whole_plan, run_setup};
+use setup_run::{NoPlan, SetupNotices, read_whole_plan, run_setup};
 use std::alloc::Global;
 use store_runs::Stop;
 
@@ -38,12 +38,16 @@ fn stop_without(why: NoPlan) -> ServeStop
 }
 
 // Asks the setup of a plan, and makes room for its rows.
-fn set_up<D: Disk>(store: Store<D>, plan: Plan) -> Result<Prepared<D>, Unprepared<D>>
+fn set_up<D: Disk, N: SetupNotices>(
+    store: Store<D>,
+    plan: Plan,
+    notices: &mut N,
+) -> Result<Prepared<D>, Unprepared<D>>
     requires sound { IsSound D.Disk store }
     ensures ready { IfOk result (IsSetUpFor D.Disk store plan) }
     ensures stops { IfErr result (λ left. StopsPlan D.Disk store plan left.store left.stop) }
 {
-    match run_setup(store, plan.setup.as_bytes()) {
+    match run_setup(store, plan.setup.as_bytes(), notices) {
         Ok(mut store) => match store.reserve(plan.reserve) {
             Ok(()) => Ok(Prepared {
                 store,
@@ -62,10 +66,11 @@ fn set_up<D: Disk>(store: Store<D>, plan: Plan) -> Result<Prepared<D>, Unprepare
 }
 
 /// Reads the plan that the whole input is, asks its setup, and makes room for its rows.
-pub fn prepare<S: Source, D: Disk>(
+pub fn prepare<S: Source, N: SetupNotices, D: Disk>(
     alloc: Global,
     store: Store<D>,
     input: &mut S,
+    notices: &mut N,
     lanes: u8,
 ) -> Result<Prepared<D>, Unprepared<D>>
     requires unended { S.ended input.old ≡ false }
@@ -76,7 +81,7 @@ pub fn prepare<S: Source, D: Disk>(
         (input_at S.Source input.old) (input_at S.Source input.new)) }
 {
     match read_whole_plan(alloc, input, lanes) {
-        Ok(plan) => set_up(store, plan),
+        Ok(plan) => set_up(store, plan, notices),
         Err(why) => Err(Unprepared {
             store,
             stop: stop_without(why),

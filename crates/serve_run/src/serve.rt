@@ -30,6 +30,7 @@ use lane_worker::{Lane, LaneEnd, LaneStop};
 use office_door::{DoorEnd, DoorStop};
 use script_events::LaneEnds;
 use session_jobs::{JobsEnd, Work, run_jobs};
+use setup_run::SetupNotices;
 use std::alloc::{AllocError, Global};
 use std::sync::Wait;
 use std::thread::Threads;
@@ -292,17 +293,19 @@ fn without_memory<D: Disk>(store: Store<D>) -> Unprepared<D>
     }
 }
 
-/// Does what a plan says over a book: its setup is asked as a script is, with nothing printed; room
-/// is made for its rows, and for all that is handed back; then every lane works its batch and every
-/// door serves its connections, all at once, each in a thread of its own where one can be made. When
-/// the last has ended, a snapshot is kept where rows were added and nothing failed, and the line of
-/// each lane, the line of each door and the summary go out.
+/// Does what a plan says over a book: its setup is asked as a script is, with nothing printed, and
+/// which of its lines are refused is told; room is made for its rows, and for all that is handed
+/// back; then every lane works its batch and every door serves its connections, all at once, each in
+/// a thread of its own where one can be made. When the last has ended, a snapshot is kept where rows
+/// were added and nothing failed, and the line of each lane, the line of each door and the summary go
+/// out.
 ///
 /// No job runs at `BadPlan` and at `Early`: what the setup added stands. A book is asked by one job
 /// at a time; which of two that wait comes first isn't said.
 pub fn run_serve<
     S: Source,
     K: Sink,
+    N: SetupNotices,
     D: Disk + Send,
     L: Lane + Send + Drop,
     O: Door + Send + Drop,
@@ -313,6 +316,7 @@ pub fn run_serve<
     store: Store<D>,
     input: &mut S,
     output: &mut K,
+    notices: &mut N,
     lanes: Vec<L>,
     doors: Vec<O>,
 ) -> ServeEnd<D, L, O>
@@ -331,7 +335,7 @@ pub fn run_serve<
         (entries_of result.store) result.stop }
     ensures goes { ServeGoes D.Disk store result.store result.stop }
 {
-    match prepare(alloc, store, input, lanes.len() as u8) {
+    match prepare(alloc, store, input, notices, lanes.len() as u8) {
         Ok(prepared) => serve_plan(rt, alloc, prepared, output, lanes, doors),
         Err(early) => end_early(alloc, early, lanes, doors),
     }

@@ -3,19 +3,42 @@ ghost use Rattle.book_store.specs.Stores.{entries_of};
 ghost use Rattle.script_lines.specs.Script.{is_good, all_good};
 ghost use Rattle.store_runs.specs.Books.{stored_book};
 ghost use Rattle.store_runs.specs.Runs.{Goes};
+ghost use Rattle.script_events.specs.Asking.{IsTold};
 ghost use Rattle.script_events.specs.Scripts.{IsHandedIn};
 ghost use Rattle.setup_run.specs.Setups.{setup_lines, after_lines, MayStopAtLine, StopsInSetup};
 
 use crate::lines::{ended_line, last_line};
+use crate::notices::SetupNotices;
 use book_store::OneCaller;
+use book_words::{Answered, Refused};
 use disk_core::Disk;
 use script_events::ask_command;
 use script_lines::{Line, split_line};
 use store_runs::Stop;
 
-// Asks the command of a line, where it has one; its answer is passed over. No lane was handed in
-// that a line might set to work.
-fn ask_line<D: Disk>(caller: &mut OneCaller<D>, line: &Line, number: u64) -> Result<(), Stop>
+// Tells of an answer, where it is a refusal.
+fn tell<N: SetupNotices>(
+    notices: &mut N,
+    number: u64,
+    text: &[u8],
+    answer: &Result<Answered, Refused>,
+)
+    requires { IsTold answer.now }
+{
+    if let Err(refused) = answer {
+        notices.refused(number, text, refused);
+    }
+}
+
+// Asks the command of a line, where it has one; its answer is passed over but for a refusal, which
+// is told. No lane was handed in that a line might set to work.
+fn ask_line<D: Disk, N: SetupNotices>(
+    caller: &mut OneCaller<D>,
+    notices: &mut N,
+    line: &Line,
+    number: u64,
+    text: &[u8],
+) -> Result<(), Stop>
     requires calm { caller.old.faults ≡ 0 }
     requires handed_in { IsHandedIn 0 line.now }
     ensures good { OnOk result (is_good line.now ≡ true) }
@@ -29,15 +52,21 @@ fn ask_line<D: Disk>(caller: &mut OneCaller<D>, line: &Line, number: u64) -> Res
     match line {
         Line::Nothing => Ok(()),
         Line::Asks(command) => {
-            let _ = ask_command(caller, command)?;
+            let answer = ask_command(caller, command)?;
+            tell(notices, number, text, &answer);
             Ok(())
         }
         Line::Works { .. } | Line::Bad => Err(Stop::BadLine(number)),
     }
 }
 
-/// Asks the commands of a setup, line by line, up to its end or to what stops it.
-pub fn ask_lines<D: Disk>(caller: &mut OneCaller<D>, setup: &[u8]) -> Result<(), Stop>
+/// Asks the commands of a setup, line by line, up to its end or to what stops it. Each that is
+/// refused is told.
+pub fn ask_lines<D: Disk, N: SetupNotices>(
+    caller: &mut OneCaller<D>,
+    notices: &mut N,
+    setup: &[u8],
+) -> Result<(), Stop>
     requires calm { caller.old.faults ≡ 0 }
     ensures good { OnOk result (all_good (setup_lines setup.now) ≡ true) }
     ensures after { OnOk result (stored_book caller.new.store
@@ -49,10 +78,10 @@ pub fn ask_lines<D: Disk>(caller: &mut OneCaller<D>, setup: &[u8]) -> Result<(),
     let mut number = 1;
     let mut rest = setup;
     while let Some((line, after)) = split_line(rest) {
-        ask_line(caller, &ended_line(line), number)?;
+        ask_line(caller, notices, &ended_line(line), number, line)?;
         number += 1;
         rest = after;
     }
-    ask_line(caller, &last_line(rest), number)?;
+    ask_line(caller, notices, &last_line(rest), number, rest)?;
     Ok(())
 }

@@ -4,8 +4,10 @@
 
 mod asking;
 mod lines;
+mod notices;
 mod planning;
 mod setup;
 
+pub use notices::{NoNotices, SetupNotices};
 pub use planning::{NoPlan, read_whole_plan};
 pub use setup::run_setup;

@@ -1,6 +1,7 @@
 use book_store::Store;
+use book_words::Refused;
 use disk_core::MemoryDisk;
-use setup_run::run_setup;
+use setup_run::{NoNotices, SetupNotices, run_setup};
 use std::alloc::Global;
 use store_runs::{Offer, Stop};
 
@@ -31,7 +32,7 @@ pub(crate) fn run_over(
     let Ok(store) = Store::mount(alloc, disk, 1_000_000) else {
         return None;
     };
-    match run_setup(store, setup) {
+    match run_setup(store, setup, &mut NoNotices) {
         Ok(store) => Some((Way::SetUp, store)),
         Err(end) => Some((way_of(&end.stop), end.store)),
     }
@@ -42,4 +43,34 @@ pub(crate) fn ends(alloc: Global, setup: &[u8]) -> Option<(Way, u32)> {
     let disk = MemoryDisk::new(alloc, Vec::new(alloc), Vec::new(alloc));
     let (way, store) = run_over(alloc, disk, setup)?;
     Some((way, store.len()))
+}
+
+// The lines that were refused: their numbers, those of their refusals, how many bytes they have.
+struct Told {
+    lines: Vec<(u64, u8, usize)>,
+}
+
+impl SetupNotices for Told {
+    fn refused(&mut self, number: u64, line: &[u8], refused: &Refused) {
+        let _ = self
+            .lines
+            .push((number, refused.refusal.number(), line.len()));
+    }
+}
+
+/// Which lines of a setup over an empty book are refused.
+pub(crate) fn refusals(alloc: Global, setup: &[u8]) -> Option<Vec<(u64, u8, usize)>> {
+    let disk = MemoryDisk::new(alloc, Vec::new(alloc), Vec::new(alloc));
+    let Ok(store) = Store::mount(alloc, disk, 1_000_000) else {
+        return None;
+    };
+    let mut told = Told {
+        lines: Vec::new(alloc),
+    };
+    let store = match run_setup(store, setup, &mut told) {
+        Ok(store) => store,
+        Err(end) => end.store,
+    };
+    let _ = store.close();
+    Some(told.lines)
 }

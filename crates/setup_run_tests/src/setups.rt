@@ -1,4 +1,4 @@
-use crate::runs::{Way, ends};
+use crate::runs::{Way, ends, refusals};
 use std::alloc::{AllocError, Global};
 
 // A setup over an empty book, how it ends, and how many rows it leaves.
@@ -65,6 +65,41 @@ fn wrong_setup(alloc: Global) -> Option<usize> {
 #[test]
 fn setups_over_an_empty_book(rt: HostRuntime) -> Result<(), AllocError> {
     assert_eq!(rt; wrong_setup(rt.alloc()), None);
+    Ok(())
+}
+
+// A setup over an empty book, and the lines of it that are refused, each with the refusal's number
+// and how many bytes it has.
+static REFUSED: [(&[u8], &[(u64, u8, usize)]); 4] = [
+    (b"day 2025-03-03\nproduct rice250 250\n", &[]),
+    // acts and questions, one of them at a last line that lacks its LF
+    (
+        b"\nday 2025-03-03\nsheet A\nproduct rice250 1\nsample A",
+        &[(3, 14, 7), (4, 11, 17), (5, 14, 8)],
+    ),
+    // what a desk asks a second time is told again; before its last request it is refused
+    (
+        b"@101 1 day 2025-03-03\n@101 1 day 2025-03-03\n@101 2 day 2025-03-04\n@101 1 day 2025-03-03\n",
+        &[(4, 2, 21)],
+    ),
+    // none behind a bad line
+    (b"close A\nwat\nclose B\n", &[(1, 6, 7)]),
+];
+
+// The first setup of which other lines are told.
+fn wrong_refusals(alloc: Global) -> Option<usize> {
+    for place in 0..REFUSED.len() {
+        let (setup, lines) = &REFUSED[place];
+        if !refusals(alloc, setup).is_some_and(|told| told.as_slice() == *lines) {
+            return Some(place);
+        }
+    }
+    None
+}
+
+#[test]
+fn refused_lines_are_told(rt: HostRuntime) -> Result<(), AllocError> {
+    assert_eq!(rt; wrong_refusals(rt.alloc()), None);
     Ok(())
 }
 

@@ -1,0 +1,122 @@
+use crate::meanings::meaning;
+use batch_reports::refusal_text;
+use book_words::{Act, Entry, Refusal, Refused};
+use command_line::{Command, Wants};
+use setup_run::SetupNotices;
+use std::alloc::Global;
+use std::io::Eprint;
+
+// A new day that is more days than this ahead of the one before is told.
+const FAR_AHEAD: i32 = 31;
+
+// So many rows left are told as soon as there are no more, where there were more.
+const FEW_ROWS: u32 = 50_000;
+
+// Of a book's rows, the last one in so many are told at each run that adds some.
+const LAST_PART: u32 = 100;
+
+/// What people should know of a run. A refused line of a setup is told always, all else where
+/// standard error is a terminal, and of commands that add rows.
+#[derive(Drop)]
+pub struct RunNotices<E: Eprint + Drop> {
+    errors: E,
+    alloc: Global,
+    at_terminal: bool,
+    adds_rows: bool,
+    has_book: bool,
+    limit: u32,
+}
+
+impl<E: Eprint + Drop> RunNotices<E> {
+    /// What there is to say of a run that words ask for.
+    pub fn new(errors: E, alloc: Global, at_terminal: bool, wanted: &Wants) -> Self {
+        RunNotices {
+            errors,
+            alloc,
+            at_terminal,
+            adds_rows: adds_rows(wanted.command),
+            has_book: wanted.book.is_some(),
+            limit: wanted.limit,
+        }
+    }
+
+    /// Says that the rows of a run are kept in memory alone, where it has no book.
+    pub fn say_memory(&self) {
+        if self.at_terminal && self.adds_rows && !self.has_book {
+            let _ = eprintln!(&self.errors;
+                "hall: without --book the rows are in memory alone, and gone at the end"
+            );
+        }
+    }
+
+    /// Says what should be known of the rows of a book behind a run, of which the first were held
+    /// before it.
+    pub fn say_rows(&self, held: u32, rows: &[Entry]) {
+        if self.at_terminal && self.adds_rows {
+            say_days(&self.errors, held as usize, rows);
+            say_left(&self.errors, held, rows.len() as u32, self.limit);
+        }
+    }
+}
+
+// Whether a command adds rows that are meant to be kept.
+fn adds_rows(command: Command) -> bool {
+    matches!(
+        command,
+        Command::Run | Command::Serve | Command::Import | Command::Migrate | Command::Follow
+    )
+}
+
+// Says which days behind the first rows are far ahead of the day before them.
+fn say_days<E: Eprint>(errors: &E, held: usize, rows: &[Entry]) {
+    let mut newest = None;
+    for (place, row) in rows.iter().enumerate() {
+        if let Act::NewDay { day } = row.act {
+            if place >= held {
+                say_day(errors, place.saturating_add(1), newest, day);
+            }
+            newest = Some(day);
+        }
+    }
+}
+
+// Says that the day of a row is far ahead of the one before.
+fn say_day<E: Eprint>(errors: &E, row: usize, before: Option<i32>, day: i32) {
+    let ahead = day.saturating_sub(before.unwrap_or(day));
+    if ahead > FAR_AHEAD {
+        let _ = eprintln!(errors;
+            "hall: row {row}: the day is {ahead} days ahead of the one before, and it stands"
+        );
+    }
+}
+
+// Says how many rows are left, where these are the last part of all, or have become few.
+fn say_left<E: Eprint>(errors: &E, held: u32, count: u32, limit: u32) {
+    let left = limit.saturating_sub(count);
+    let became_few = left <= FEW_ROWS && limit.saturating_sub(held) > FEW_ROWS;
+    if became_few || left <= limit / LAST_PART {
+        let _ = eprintln!(errors;
+            "hall: {left} rows are left of {limit}: a full book takes no act, not even a verdict"
+        );
+    }
+}
+
+// Whether a line was refused because it was done at an earlier start.
+fn is_done(refusal: &Refusal) -> bool {
+    matches!(refusal, Refusal::RequestOld { .. })
+}
+
+impl<E: Eprint + Drop> SetupNotices for RunNotices<E> {
+    fn refused(&mut self, number: u64, line: &[u8], refused: &Refused) {
+        let mut text = Vec::new(self.alloc);
+        if is_done(&refused.refusal) || refusal_text(refused, &mut text).is_err() {
+            return;
+        }
+        let text = str::from_utf8(&text).unwrap_or("").trim_end();
+        let meaning = meaning(&refused.refusal);
+        let _ = eprintln!(&self.errors;
+            "hall: line {number} of the setup, {}: {text}: {meaning}",
+            line.escape_ascii()
+        );
+    }
+}
