@@ -54,7 +54,8 @@ impl<E: Eprint + Drop> RunNotices<E> {
     pub fn say_rows(&self, held: u32, rows: &[Entry]) {
         if self.at_terminal && self.adds_rows {
             say_days(&self.errors, held as usize, rows);
-            say_left(&self.errors, held, rows.len() as u32, self.limit);
+            let count = u32::try_from(rows.len()).unwrap_or(u32::MAX);
+            say_left(&self.errors, held, count, self.limit);
         }
     }
 }
