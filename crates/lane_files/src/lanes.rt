@@ -1,14 +1,17 @@
 use crate::late_file::LateFile;
+use crate::told_lines::ToldLines;
 use crate::types::{FileCell, FileGate};
 use disk_core::{StdSink, StdSource};
-use lane_worker::{LineCell, LineGate};
+use lane_worker::LineGate;
 use std::alloc::{AllocError, Global};
 use std::fs::{File, OpenOptions};
+use std::io::Eprint;
 use std::rt::Files;
 
 /// The cell of a lane's number over a file in a folder: it reads `cell-N.txt`. The file is opened
-/// when it is first read; where that fails, and at each call from then on, the cell fails.
-pub fn file_cell<'a, R: Files<File = File>>(
+/// when it is first read; where that fails, and at each call from then on, the cell fails. Standard
+/// error is told why, each line that isn't a weight, and the cell's end.
+pub fn file_cell<'a, R: Files<File = File> + Eprint>(
     alloc: Global,
     rt: &'a R,
     folder: &str,
@@ -17,13 +20,15 @@ pub fn file_cell<'a, R: Files<File = File>>(
     let path = format!(in alloc; "{folder}/cell-{number}.txt")?;
     let mut reading = OpenOptions::new();
     reading.read(true);
-    Ok(LineCell::new(StdSource::new(LateFile::new(rt, path, reading))))
+    let told = format!(in alloc; "{path}")?;
+    let file = LateFile::new(rt, path, reading);
+    Ok(ToldLines::new(StdSource::new(file), rt, told))
 }
 
 /// The gate of a lane's number over a file in a folder: it writes behind what `gate-N.txt` has,
 /// which is made where it isn't there. The file is opened when it is first written; where that
 /// fails, and at each call from then on, the gate fails.
-pub fn file_gate<'a, R: Files<File = File>>(
+pub fn file_gate<'a, R: Files<File = File> + Eprint>(
     alloc: Global,
     rt: &'a R,
     folder: &str,

@@ -1,7 +1,7 @@
 use file_disk::above_streams;
 use std::fs::{File, OpenOptions};
 use std::io;
-use std::io::{ErrorKind, Read, Write};
+use std::io::{Eprint, ErrorKind, Read, Write};
 use std::marker::Model;
 use std::rt::Files;
 
@@ -15,16 +15,18 @@ enum Opening {
 
 /// A file that is opened when it is first read or written, and not before: opening a named pipe
 /// waits for who opens its other end. A file that can't be opened then is not tried again, and each
-/// call fails.
+/// call fails. Standard error is told its path and why it can't be opened, read or written, once
+/// for calls that fail one after another.
 #[derive(Drop)]
-pub struct LateFile<'a, R: Files<File = File>> {
+pub struct LateFile<'a, R: Files<File = File> + Eprint> {
     rt: &'a R,
     path: String,
     options: OpenOptions,
     opening: Opening,
+    told: bool,
 }
 
-impl<'a, R: Files<File = File>> Model for LateFile<'a, R> {
+impl<'a, R: Files<File = File> + Eprint> Model for LateFile<'a, R> {
     ghost use Rattle.lane_files.specs.LateFile.{LateFile as Late, is_shut};
 
     ghost Value = { Late };
@@ -32,7 +34,7 @@ impl<'a, R: Files<File = File>> Model for LateFile<'a, R> {
     ghost view = { λ f. record { is_shut = is_shut f.opening } };
 }
 
-impl<'a, R: Files<File = File>> LateFile<'a, R> {
+impl<'a, R: Files<File = File> + Eprint> LateFile<'a, R> {
     ghost use Rattle.std.specs.Prelude.{◌≡◌, ◌≤◌, true, false, length, IfOk, IsErr};
 
     /// The file at a path, to be opened so. It isn't opened yet.
@@ -44,6 +46,7 @@ impl<'a, R: Files<File = File>> LateFile<'a, R> {
             path,
             options,
             opening: Opening::Untried,
+            told: false,
         }
     }
 
@@ -54,7 +57,10 @@ impl<'a, R: Files<File = File>> LateFile<'a, R> {
         if let Opening::Untried = self.opening {
             self.opening = match open_file(self.rt, &self.options, self.path.as_str()) {
                 Ok(file) => Opening::Open(file),
-                Err(_) => Opening::Shut,
+                Err(error) => {
+                    say_why(self.rt, "open", self.path.as_str(), &error);
+                    Opening::Shut
+                }
             };
         }
     }
@@ -67,7 +73,11 @@ impl<'a, R: Files<File = File>> LateFile<'a, R> {
     {
         self.open();
         match &mut self.opening {
-            Opening::Open(file) => file.read(into),
+            Opening::Open(file) => {
+                let count = file.read(into);
+                tell(self.rt, "read", self.path.as_str(), &mut self.told, &count);
+                count
+            }
             _ => Err(ErrorKind::NotFound.into()),
         }
     }
@@ -80,7 +90,11 @@ impl<'a, R: Files<File = File>> LateFile<'a, R> {
     {
         self.open();
         match &mut self.opening {
-            Opening::Open(file) => file.write(bytes),
+            Opening::Open(file) => {
+                let count = file.write(bytes);
+                tell(self.rt, "write", self.path.as_str(), &mut self.told, &count);
+                count
+            }
             _ => Err(ErrorKind::NotFound.into()),
         }
     }
@@ -91,13 +105,32 @@ fn open_file<R: Files<File = File>>(rt: &R, options: &OpenOptions, path: &str) -
     above_streams(options.open(rt, path)?)
 }
 
-impl<'a, R: Files<File = File>> Read for LateFile<'a, R> {
+// Says why a file can't be opened, read or written.
+fn say_why<R: Eprint>(rt: &R, what: &str, path: &str, error: &io::Error) {
+    let _ = eprintln!(rt; "hall: can't {what} {path}: {error}");
+}
+
+// Says why a call failed, where the one before didn't. One that is interrupted is made again.
+fn tell<R: Eprint>(rt: &R, what: &str, path: &str, told: &mut bool, count: &io::Result<usize>) {
+    match count {
+        Ok(_) => *told = false,
+        Err(error) if error.kind() == ErrorKind::Interrupted => {}
+        Err(error) => {
+            if !*told {
+                say_why(rt, what, path, error);
+            }
+            *told = true;
+        }
+    }
+}
+
+impl<'a, R: Files<File = File> + Eprint> Read for LateFile<'a, R> {
     fn read(&mut self, buf: &mut [u8]) -> io::Result<usize> {
         self.read_file(buf)
     }
 }
 
-impl<'a, R: Files<File = File>> Write for LateFile<'a, R> {
+impl<'a, R: Files<File = File> + Eprint> Write for LateFile<'a, R> {
     fn write(&mut self, buf: &[u8]) -> io::Result<usize> {
         self.write_file(buf)
     }

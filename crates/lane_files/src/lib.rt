@@ -3,17 +3,30 @@
 //! as a serial line.
 //!
 //! Promised: a file that can't be opened fails at each call, and each call that fails counts one
-//! fault.
+//! fault. A cell that tells gives what it would give else.
 //!
-//! Trusted: the system's calls, that they read, open and write what they say. A file tells no
+//! Tested: what standard error is told of files and lines, and that two halls don't use one folder.
+//!
+//! Trusted: the system's calls, that they read, open, lock and write what they say. A file tells no
 //! bytes, so no clause speaks of what stands in it; what the lines of a cell say and what a gate
 //! writes is promised of `LineCell` and `LineGate`.
 #![tactic(auto)]
 
+mod folder_lock;
+mod kept_source;
 mod lanes;
 mod late_file;
+mod newest_lines;
+mod reason;
+mod teller;
+mod told_cell;
+mod told_lines;
 mod types;
 
+pub use folder_lock::{FolderLock, lock_folder};
+pub use kept_source::KeptSource;
 pub use lanes::{file_cell, file_gate};
 pub use late_file::LateFile;
+pub use told_cell::ToldCell;
+pub use told_lines::ToldLines;
 pub use types::{FileCell, FileGate};
