@@ -15,6 +15,8 @@ import subprocess
 import sys
 import tempfile
 
+import lane_reasons
+
 HERE = os.path.dirname(os.path.realpath(__file__))
 LONG = b"#" * 201 + b"\n"
 HEADER = b"desk,request,command\n"
@@ -228,12 +230,14 @@ def main():
         others = [line for tables, terminal in ((SETUPS, False), (TERMINALS, True))
                   for steps in tables for line in in_turn(program, folder, steps, terminal)]
         others += with_files(program, folder)
-    for line in others:
+    of_lanes = list(lane_reasons.told_otherwise(program))
+    for line in others + of_lanes:
         print(line)
     steps = sum(map(len, SETUPS + TERMINALS)) + len(UNWRITABLE) + 1
     print(f"{len(ROWS) + len(TOML)} bad lines and plans, {wrong} told otherwise")
     print(f"{steps} runs of other kinds, {len(others)} told otherwise")
-    return wrong + len(others) > 0
+    print(f"{lane_reasons.COUNT} runs of lanes, {len(of_lanes)} told otherwise")
+    return wrong + len(others) + len(of_lanes) > 0
 
 
 if __name__ == "__main__":

@@ -4,7 +4,7 @@ ghost use Rattle.hall_limits.specs.declared.TheConstants.{MAX_LANE};
 use crate::open_door;
 use command_line::Wants;
 use hall_limits::MAX_LANE;
-use lane_files::{FileCell, FileGate, file_cell, file_gate};
+use lane_files::{FileCell, FileGate, FolderLock, ToldCell, file_cell, file_gate, lock_folder};
 use lane_worker::{EitherCell, PairLane};
 use remote_cell::RemoteCell;
 use std::alloc::AllocError;
@@ -13,8 +13,11 @@ use tcp_door::{Manners, TcpDoor};
 /// How many connections the cell of a lane takes from its scale.
 const MAX_CELL_CONNECTIONS: u32 = 1_000;
 
+/// A cell that hears its scale at a port.
+type PortCell<'a> = ToldCell<RemoteCell<TcpDoor<HostRuntime>>, &'a HostRuntime>;
+
 /// A cell that reads a file, or that hears its scale at a port.
-type HallCell<'a> = EitherCell<FileCell<'a, HostRuntime>, RemoteCell<TcpDoor<HostRuntime>>>;
+type HallCell<'a> = EitherCell<FileCell<'a, HostRuntime>, PortCell<'a>>;
 
 /// A lane of the program. Its gate is a file.
 pub(crate) type HallLane<'a> = PairLane<HallCell<'a>, FileGate<'a, HostRuntime>>;
@@ -32,7 +35,25 @@ fn open_cell<'a>(
     };
     let port = first.saturating_add(u16::from(place));
     let door = open_door(*rt, port, MAX_CELL_CONNECTIONS, Manners::SCALE);
-    Ok(EitherCell::Other(RemoteCell::new(door)))
+    let name = format!(in rt.alloc(); "port {port}")?;
+    Ok(EitherCell::Other(ToldCell::new(RemoteCell::new(door), rt, name)))
+}
+
+// The folder of the lanes' files.
+fn folder_of(wanted: &Wants) -> &str {
+    match &wanted.cells {
+        Some(path) => path.as_str(),
+        None => ".",
+    }
+}
+
+/// Locks the folder of the lanes' files, where there are lanes. None where another hall has it, which
+/// standard error says.
+pub(crate) fn lock_cells(rt: &HostRuntime, wanted: &Wants) -> Option<FolderLock> {
+    if wanted.lanes == 0 {
+        return Some(FolderLock::none());
+    }
+    lock_folder(rt.alloc(), rt, folder_of(wanted))
 }
 
 /// The lanes that the words ask for: their gates are files of the folder, and so are their cells,
@@ -43,10 +64,7 @@ pub(crate) fn open_lanes<'a>(
 ) -> Result<Vec<HallLane<'a>>, AllocError>
     ensures { IfOk result (λ lanes. length lanes.items ≤ MAX_LANE) }
 {
-    let folder = match &wanted.cells {
-        Some(path) => path.as_str(),
-        None => ".",
-    };
+    let folder = folder_of(wanted);
     let count = wanted.lanes.min(MAX_LANE);
     let mut lanes = Vec::with_capacity(rt.alloc(), usize::from(count))?;
     for place in 0..count {

@@ -11,7 +11,7 @@ ghost use Rattle.command_line.specs.Words.{bytes_of, wanted_of};
 ghost use Rattle.text_streams.specs.Streams.{output_at};
 ghost use Rattle.hall_top.specs.Endings.{LacksMemory, SaysLast};
 
-use crate::lanes::open_lanes;
+use crate::lanes::{lock_cells, open_lanes};
 use bad_lines::{KeptInput, KeptOutput, Kind, explain};
 use book_snapshot::ROW_BYTES;
 use command_line::{Command, Wants, WantsError, wants};
@@ -264,6 +264,9 @@ fn main(rt: HostRuntime) -> ExitCode {
     let is_plan = matches!(wanted.command, Command::Serve);
     let mut read = KeptInput::new(alloc, rt.stdin(), kind_of(wanted.command));
     let mut input = StdSource::new(WatchedPlan::new(&mut read, rt, is_plan));
+    let Some(_lock) = lock_cells(&rt, &wanted) else {
+        return end_unopened(alloc, Ending::Unopened(MountError::DiskFault), &mut output);
+    };
     let Ok(lanes) = open_lanes(&rt, &wanted) else {
         return end_without_memory(alloc, &mut output);
     };
