@@ -4,6 +4,8 @@ import os
 import resource
 import subprocess
 import sys
+import threading
+import time
 
 program, work = sys.argv[1:]
 os.chdir(work)
@@ -198,6 +200,29 @@ need(ran.stdout.endswith(b"disk fault\n") and 30 < rows < 40 and len(content("bo
      f"{rows} rows are answered below the limit")
 need(ask("check", "book")[0] == b"rows %d whole\n" % rows, "other rows stand below the limit")
 need(ask("run", "book", days)[1] == 0, "without the limit the book doesn't go on")
+
+# Streams that a parent left nonblocking.
+inner, outer = os.pipe()
+told, said = os.pipe()
+os.set_blocking(inner, False)
+os.set_blocking(said, False)
+process = subprocess.Popen([program, "run"], stdin=inner, stdout=said, stderr=subprocess.PIPE)
+os.close(inner)
+os.close(said)
+time.sleep(0.3)
+os.write(outer, DAY)
+need(os.read(told, 99) == b"1 ok\n", "the first line isn't answered")
+time.sleep(0.5)
+questions = threading.Thread(target=lambda: [os.write(outer, b"summary\n" * 100)
+                                             for _ in range(100)] + [os.close(outer)])
+questions.start()
+time.sleep(0.7)
+with os.fdopen(told, "rb") as answers:
+    lines = answers.read().splitlines()
+questions.join(60)
+_, errors = process.communicate(timeout=60)
+need((process.returncode, errors) == (0, b""), f"nonblocking: {process.returncode} {errors}")
+need(len(lines) % 10_001 == 0 and len(lines) > 10_001, f"{len(lines)} lines of answers")
 
 # A file that may not be read or written, where the user isn't root; root may all.
 if os.geteuid() != 0:

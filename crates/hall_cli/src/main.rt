@@ -3,6 +3,7 @@
 #![tactic(auto)]
 
 mod lanes;
+mod waiting;
 
 ghost use Rattle.std.specs.Prelude.{◌≡◌, ◌↔◌, ◌≤◌, [], false, None, length, IfOk};
 ghost use Rattle.std.specs.Process.{exit_status};
@@ -12,6 +13,7 @@ ghost use Rattle.text_streams.specs.Streams.{output_at};
 ghost use Rattle.hall_top.specs.Endings.{LacksMemory, SaysLast};
 
 use crate::lanes::{lock_cells, open_lanes};
+use crate::waiting::Waiting;
 use bad_lines::{KeptInput, KeptOutput, Kind, explain};
 use book_snapshot::ROW_BYTES;
 use command_line::{Command, Wants, WantsError, wants};
@@ -251,7 +253,7 @@ fn kind_of(command: Command) -> Kind {
 
 fn main(rt: HostRuntime) -> ExitCode {
     let alloc = rt.alloc();
-    let mut said = KeptOutput::new(rt.stdout());
+    let mut said = KeptOutput::new(Waiting::to_write(rt.stdout()));
     let mut output = StdSink::new(&mut said);
     let Ok(words) = words(&rt) else {
         return end_without_memory(alloc, &mut output);
@@ -262,7 +264,7 @@ fn main(rt: HostRuntime) -> ExitCode {
         Err(WantsError::Usage) => return end_unopened(alloc, Ending::Usage, &mut output),
     };
     let is_plan = matches!(wanted.command, Command::Serve);
-    let mut read = KeptInput::new(alloc, rt.stdin(), kind_of(wanted.command));
+    let mut read = KeptInput::new(alloc, Waiting::to_read(rt.stdin()), kind_of(wanted.command));
     let mut input = StdSource::new(WatchedPlan::new(&mut read, rt, is_plan));
     let Some(_lock) = lock_cells(&rt, &wanted) else {
         return end_unopened(alloc, Ending::Unopened(MountError::DiskFault), &mut output);
