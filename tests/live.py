@@ -10,6 +10,7 @@ import sys
 import threading
 import time
 from collections import Counter
+from contextlib import nullcontext
 
 from clients import (FIRST_DESK, FIRST_DOOR, OPENING, Client, Desk, Gone, Hall, Lane, Link,
                      drawn_act, free_ports, good_gross, need, plan, post)
@@ -17,9 +18,13 @@ from rows import SLOT, slots_behind
 
 LANES, DESKS = 2, 2
 COMMANDS = ("check", "export", "report", "ship")
+# Beside a disk that fails: no pack is weighed there, and a row that is another shows in a shipment.
+COMMANDS_BESIDE_FAILURES = ("check", "export", "report", "ship", "ship", "ship", "ship", "ship")
 IN_USE = re.compile(r"^hall: .*: it is in use; (\d+) rows were read$")
-# Of so many gates that a hall opens one is not made stable, where its disk fails.
+# Of so many gates that a hall opens one is not made stable, where its disk fails. Behind an act
+# that failed no desk asks for so many seconds at most, so that readings fall there too.
 FAIL_EVERY = 7
+HANGS = 0.05
 HEAD = 16
 # Kills of the hall that is read, and how long one without a reader is looked at.
 KILLS, QUIET_SECONDS = 8, 5
@@ -81,11 +86,11 @@ def call(*words):
 
 class Worker(Client):
     """A desk that asks one act after another. Where the disk failed it asks another act under the
-    same number."""
+    same number. Desks with one lock ask in turn."""
 
-    def __init__(self, hall, port, desk, draw):
+    def __init__(self, hall, port, desk, draw, lock):
         super().__init__(hall)
-        self.port, self.desk, self.draw = port, desk, draw
+        self.port, self.desk, self.draw, self.lock = port, desk, draw, lock
         self.failed = 0
 
     def hall_is_gone(self):
@@ -105,11 +110,13 @@ class Worker(Client):
                 return
             request = self.desk.last + 1
             act = drawn_act(self.draw, self.desk.number, [])
-            response = link.ask(post(self.desk.note(request, act)))
-            if response.status == 500:
-                self.failed += 1
-            else:
-                self.desk.hear(request, act, response)
+            with self.lock:
+                response = link.ask(post(self.desk.note(request, act)))
+                if response.status == 500:
+                    self.failed += 1
+                    time.sleep(self.draw.uniform(0, HANGS))
+                else:
+                    self.desk.hear(request, act, response)
             if response.last:
                 return
 
@@ -144,12 +151,14 @@ class Round:
         names = [f"L{lane}-{self.turn}" for lane in range(1, LANES + 1)]
         setup = (OPENING if self.turn == 1 else "") + "".join(f"open {name} P\n" for name in names)
         # A lane whose disk fails ends; where it does the desks work alone.
-        lanes = 0 if self.env or self.device else LANES
+        fails = self.env or self.device
+        lanes = 0 if fails else LANES
+        lock = threading.Lock() if fails else nullcontext()
         hall = Hall(self.program, folder, plan(setup, names[:lanes]), book=self.book, lanes=lanes,
                     doors=DESKS, port=self.port, connections=999_999, env=self.env)
         pieces = [[good_gross(self.draw) for _ in range(4)] for _ in range(2_000)]
         clients = [Lane(hall, lane, pieces) for lane in range(1, lanes + 1)]
-        clients += [Worker(hall, self.port + at, desk, self.draw)
+        clients += [Worker(hall, self.port + at, desk, self.draw, lock)
                     for at, desk in enumerate(self.desks)]
         for client in clients:
             client.start()
@@ -167,7 +176,8 @@ class Round:
 
     def read(self):
         """One reading, at this moment. It isn't longer than what stands in the file behind it."""
-        command = self.draw.choice(COMMANDS)
+        fails = self.env or self.device
+        command = self.draw.choice(COMMANDS_BESIDE_FAILURES if fails else COMMANDS)
         ran = subprocess.run([self.program, command, "--book", self.book], capture_output=True,
                              check=False)
         errors = ran.stderr.decode()
