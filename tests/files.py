@@ -113,8 +113,9 @@ ROWS = 3000
 DIFFERS = ("hall: can't open book: row {} differs from its snapshot; `hall ship --book OLD | hall"
            " follow --book NEW` makes a book of the snapshot's rows; then `hall audit` both\n")
 WEIGHINGS = b"".join(b"weigh 1 26%d.%03d\n" % (pack % 10, pack % 997) for pack in range(ROWS - 5))
-need(ask("run", "book", DAY + b"product P 250\ntare P 2025-03-03 10\nopen A P\nstart 1 A\n"
-         + WEIGHINGS)[1] == 0, "no book is made")
+_, status, errors = ask("run", "book", DAY + b"product P 250\ntare P 2025-03-03 10\nopen A P\n"
+                        b"start 1 A\n" + WEIGHINGS)
+need(status == 0, f"no book is made: {status} {errors}")
 whole = content("book")
 PLACE = SLOT * (ROWS + 2)
 TAIL = len(whole) - SLOT

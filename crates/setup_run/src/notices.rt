@@ -12,6 +12,7 @@ pub trait SetupNotices {
 }
 
 /// Who hears nothing.
+#[derive(Drop)]
 pub struct NoNotices;
 
 impl SetupNotices for NoNotices {
