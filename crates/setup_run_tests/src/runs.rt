@@ -46,6 +46,7 @@ pub(crate) fn ends(alloc: Global, setup: &[u8]) -> Option<(Way, u32)> {
 }
 
 // The lines that were refused: their numbers, those of their refusals, how many bytes they have.
+#[derive(Drop)]
 struct Told {
     lines: Vec<(u64, u8, usize)>,
 }
