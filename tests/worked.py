@@ -315,7 +315,7 @@ def pipes(hall):
         os.mkfifo(path)
     told = subprocess.Popen([hall.program, "run", f"--book={hall.book}", "--lanes=1",
                              f"--cells={hall.folder}"], stdin=subprocess.PIPE,
-                            stdout=subprocess.PIPE)
+                            stdout=subprocess.PIPE, stderr=subprocess.DEVNULL)
     told.stdin.write(b"work 1 A\nwork 1 A\n")
     told.stdin.close()
     opened = None
@@ -362,7 +362,8 @@ def ports(hall):
             port = door.getsockname()[1]
         told = subprocess.Popen([hall.program, "run", f"--book={hall.book}", "--lanes=1",
                                  f"--remote={port}", f"--cells={hall.folder}"],
-                                stdin=subprocess.PIPE, stdout=subprocess.PIPE)
+                                stdin=subprocess.PIPE, stdout=subprocess.PIPE,
+                                stderr=subprocess.DEVNULL)
         told.stdin.write(b"work 1 A\n")
         told.stdin.close()
         for text, heard in links:
@@ -382,7 +383,7 @@ def plans(hall):
 
 
 def setups(hall):
-    """What is said of acts of a setup that have no desk."""
+    """What is said of acts of a setup that have no desk, and of those that are refused."""
     for word, given, why in SETUPS:
         told = subprocess.run([hall.program, word], input=given, check=False, capture_output=True,
                               timeout=SECONDS, cwd=hall.folder)

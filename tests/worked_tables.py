@@ -517,9 +517,13 @@ PLANS = [
 SETUPS = [
     ("serve", b'setup = """\n# none\n@164 1 day 2025-03-03\n\nsummary\n\tday 2025-03-04\n'
      b'open A a\n"""\n',
-     "hall: line 5 of the setup has no desk, and acts at each start (@164 1 ..)\n"),
+     "hall: line 5 of the setup has no desk, and acts at each start (@164 1 ..)\n"
+     "hall: line 6 of the setup, open A a: refused 9 ProductUnknown at 2: no product has this"
+     " name\n"),
     ("serve", b"reserve = 1\nsetup = '''\ntare a 2025-03-03 1\n'''\n",
-     "hall: line 1 of the setup has no desk, and acts at each start (@164 1 ..)\n"),
+     "hall: line 1 of the setup has no desk, and acts at each start (@164 1 ..)\n"
+     "hall: line 1 of the setup, tare a 2025-03-03 1: refused 6 DayUnset at 0: a day has to be set"
+     " first\n"),
     ("serve", b'setup = """\n@164 1 day 2025-03-03\n@164 2 product a 250\n"""\n# """\nday\n',
      "hall: bad plan: its line 6 isn't TOML: key with no value, expected `=`\n"),
     ("run", b'setup = """\nday 2025-03-03\n"""\n',
