@@ -182,6 +182,11 @@ class Browser:
         return [entry["message"] for entry in self.driver.get_log("browser")
                 if not any(part in entry["message"] for part in expected)]
 
+    def view(self, width, height):
+        """The page on a screen of this size, without a frame around it."""
+        self.driver.execute_cdp_cmd("Emulation.setDeviceMetricsOverride", {
+            "width": width, "height": height, "deviceScaleFactor": 1, "mobile": False})
+
     def picture(self, path):
         self.driver.save_screenshot(path)
 

@@ -24,6 +24,13 @@ SEED = 45
 PROMPT_CHART = 100
 # How far the parts of a page may be moved while it is looked at, in parts of it.
 CALM = 0.05
+# Sizes of walls, which can't scroll; lanes and batches that all have to be seen on one.
+WALLS = [(1920, 1080), (1280, 720)]
+CARDS = [(1, 1), (2, 3), (4, 3), (4, 6), (16, 16)]
+# How high the word of a held batch and the figures have to be with so many lanes and batches, in
+# parts of the height of the wall; with more they may shrink.
+MOST_READ = (4, 6)
+HELD_HIGH, FIGURES_HIGH = 0.04, 0.018
 # Bytes that a page may load in all.
 PAGE_BYTES = 60_000
 WRONG_TARE, TARE = 19_000, 10_000
@@ -355,6 +362,7 @@ def weigh(day, anna, wall):
     morning = grosses(day.draw, 110)
     noon = [round(day.draw.gauss(261_500, 2_500)) for _ in range(1_000)]
     day.weigh(["MORNING", "NOON"], [slowly(morning, 1, last), slowly(noon, 10)])
+    wall.view(*WALLS[0])
     wall.open("board")
     wall.wait_text("#board", "✗ reject inadequate")
     since = wall.run("return performance.now()")
@@ -378,7 +386,51 @@ def weigh(day, anna, wall):
     wall.picture(f"{day.pictures}/board.png")
     jumps = shifts(wall, since)
     need(jumps <= CALM, f"the board jumps, by {jumps:.3f} of it")
+    check_wall(wall)
     print("screen: the board shows a reject, a held batch and that it is free again", flush=True)
+
+
+def check_wall(wall):
+    """On a wall the whole board is seen, whatever is weighed, and read from far away."""
+    for width, height in WALLS:
+        wall.view(width, height)
+        for lanes, batches in CARDS:
+            lost, held, figures = wall.run(BOARD_OF, lanes, batches)
+            about = f"{lanes} lanes, {batches} batches at {width} x {height}"
+            need(not lost, f"{about}: not seen in whole are {lost}")
+            if (lanes, batches) <= MOST_READ:
+                need(held >= HELD_HIGH * height and figures >= FIGURES_HIGH * height,
+                     f"{about}: letters of {held:.1f} and {figures:.1f} pixels")
+                print(f"screen: {about}: HELD is {held:.0f} pixels high, a figure {figures:.0f}",
+                      flush=True)
+
+
+# Copies the cards of the board until there are so many, sizes it as for another view, and says
+# what lies out of the view or of its place, and how high the letters are.
+BOARD_OF = """
+    const [lanes, batches] = arguments;
+    const board = document.getElementById("board");
+    const copy = (cards, count) => {
+        while (cards.children.length > count) cards.lastChild.remove();
+        while (cards.children.length < count) cards.append(cards.lastChild.cloneNode(true));
+    };
+    copy(board.querySelector(".lanes"), lanes);
+    copy(board.querySelector(".batches"), batches);
+    const mark = board.querySelector(".held");
+    mark.className = "held yes";
+    dispatchEvent(new Event("resize"));
+    const isLost = (one) => {
+        const { bottom, right } = one.getBoundingClientRect();
+        const isAside = right < 0;
+        return !isAside && (bottom > innerHeight || right > innerWidth
+            || one.clientWidth > 0 && one.scrollWidth > one.clientWidth + 1);
+    };
+    const size = (one) => parseFloat(getComputedStyle(one).fontSize);
+    const root = document.documentElement;
+    const lost = [root, ...board.querySelectorAll("*")].filter(isLost)
+        .map((one) => one.outerHTML.slice(0, 80));
+    return [root.scrollHeight > innerHeight ? ["the foot", ...lost] : lost, size(mark),
+        size(board.querySelector("dd"))]"""
 
 
 def shifts(browser, since):

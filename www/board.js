@@ -13,18 +13,52 @@ const MOST_ROWS = 1_000;
 const LAST_PACKS = 6;
 const MOST_BATCHES = 8;
 const MINUTE = 60_000;
+// A view that is taken for a wall, here and in board.css; a smaller one may scroll.
+const wall = matchMedia("(min-width: 64rem) and (min-height: 32rem)");
+// The letters of the board in parts of the width of a wall: they shrink until all is seen.
+const LARGEST = 0.013;
+const SMALLEST = 0.003;
+const SHRINK = 0.96;
+// So many batches stand as cards; more of them stand as strips, one below the other.
+const MOST_CARDS = 3;
 
 const lanes = new Map();
 const sheets = new Map();
 let seen = 0;
 let place;
+// For how many cards, and for which view, the letters were sized.
+let sized = "";
 
 export function build(section) {
   const part = (name) => make("div", { className: name });
-  place = { lanes: part("cards"), batches: part("cards"), balance: part("balance") };
+  place = { section, lanes: part("cards lanes"), batches: part("cards batches"),
+    balance: part("balance") };
   const head = (key) => make("h2", {}, say(key));
   section.append(head("batches"), place.batches, head("lanes"), place.lanes, head("balance"),
     place.balance);
+  const style = make("link", { rel: "stylesheet", href: "board.css" });
+  style.addEventListener("load", fit);
+  document.head.append(style);
+  addEventListener("resize", fit);
+}
+
+// Sizes the letters so that all is seen, since a wall can't scroll. They grow again only for
+// another number of cards or another view, so that nothing jumps.
+function fit() {
+  const { section, lanes, batches } = place;
+  if (!wall.matches) {
+    section.style.fontSize = sized = "";
+    return;
+  }
+  const wanted = [lanes.children.length, batches.children.length, innerWidth, innerHeight].join();
+  if (wanted !== sized) section.style.fontSize = `${LARGEST * innerWidth}px`;
+  sized = wanted;
+  batches.classList.toggle("strips", batches.children.length > MOST_CARDS);
+  const least = SMALLEST * innerWidth;
+  const size = () => parseFloat(section.style.fontSize);
+  while (section.scrollHeight > section.clientHeight && size() > least) {
+    section.style.fontSize = `${size() * SHRINK}px`;
+  }
 }
 
 // Takes the packs of new rows to their lanes. Says which batches they are of.
@@ -102,10 +136,15 @@ function lastReject(number) {
   return make("p", { className: "reject" }, pack ? told() : "");
 }
 
+// A signal as its sign and its last word, which has room in one line.
+function inShort(told) {
+  return signal(told).replace(/ .* /, " ");
+}
+
 function laneCard([number, lane]) {
   lane.times = lane.times.filter((moment) => Date.now() - moment < MINUTE);
   const shown = lane.packs.map((pack) => packs.get(pack));
-  const rows = shown.map((pack) => [pack.number, spellGrams(pack.net), signal(pack.signal)]);
+  const rows = shown.map((pack) => [pack.number, spellGrams(pack.net), inShort(pack.signal)]);
   const minute = say("aMinute", { count: lane.times.length });
   return make("article", { className: "lane" },
     make("h3", {}, `${say("lane", { lane: number })}: ${lane.batch ?? say("idle")}`),
@@ -125,12 +164,18 @@ function draw(summary) {
   place.lanes.replaceChildren(...(laneCards.length ? laneCards : [say("noLanes")]));
   const batchCards = [...sheets.values()].map(batchCard);
   redraw(place.batches, batchCards.length ? batchCards : [say("noBatches")]);
-  const piles = summary.piles.map(({ word: pile, count, gross }) =>
-    [word(pile), count, spellGrams(gross)]);
-  const states = summary.states.map(([name, count]) => `${count} ${word(name)}`).join(", ");
-  redraw(place.balance, [
-    table(`${summary.rows} ${say("rows")}`, [say("pile"), say("packs"), say("gross")], piles),
-    make("p", {}, `${say("batches")}: ${states}`)]);
+  redraw(place.balance, balance(summary));
+  fit();
+}
+
+function balance({ rows, piles, states }) {
+  const counts = states.map(([name, count]) => `${count} ${word(name)}`).join(", ");
+  const heads = [say("pile"), ...piles.map((pile) => word(pile.word))];
+  return [
+    table(`${say("balance")}: ${rows} ${say("rows")}`, heads, [
+      [say("packs"), ...piles.map((pile) => pile.count)],
+      [say("gross"), ...piles.map((pile) => spellGrams(pile.gross))]]),
+    make("p", {}, `${say("batches")}: ${counts}`)];
 }
 
 // Draws anew what differs, so that a link keeps its focus.
