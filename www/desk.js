@@ -353,7 +353,7 @@ function showListed({ day, text }) {
 function showPending(changed) {
   if (changed !== desk) return;
   const [head] = desk ? pending(desk) : [];
-  const tries = head?.tries ?? 0;
+  const tries = head?.tries ? ` (${head.tries})` : "";
   const state = why.get(desk) === "500" ? "diskFailed" : why.has(desk) ? "asksAgain" : "asked";
   place.pending.className = `pending ${head && state}`;
   put(place.pending, head ? say(state, { request: head.request, tries }) : "");

@@ -95,8 +95,8 @@ const WORDS = {
   noRoom: ["This browser keeps nothing for the page, or the link isn't https: acts can't be sent.",
     "Der Browser behält nichts für die Seite, oder es ist kein https: nichts wird gesendet."],
   underWay: ["Under way ..", "Unterwegs .."],
-  asksAgain: ["Request {request}: no answer yet, asked again ({tries}).",
-    "Auftrag {request}: noch keine Antwort, wird wieder gefragt ({tries})."],
+  asksAgain: ["Request {request}: no answer yet, asked again{tries}.",
+    "Auftrag {request}: noch keine Antwort, wird wieder gefragt{tries}."],
   asked: ["Request {request} is asked.", "Auftrag {request} wird gefragt."],
   diskFailed: [
     "The book's disk failed. Call whoever runs the hall. Request {request} is asked again.",
