@@ -39,7 +39,7 @@ async function show() {
     if (link.hash === `#${page}`) link.setAttribute("aria-current", "page");
     else link.removeAttribute("aria-current");
   }
-  document.body.className = page;
+  document.body.className = `on-${page}`;
   document.title = `hall: ${say(page)}`;
   (await load(page)).show?.(batch);
 }
