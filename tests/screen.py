@@ -114,6 +114,9 @@ def check_sizes(anna):
             .filter((one) => !one.name.includes("/hall/") && !one.name.includes("list.txt"))
             .reduce((sum, one) => sum + one.decodedBodySize, 0)""")
         need(10_000 < size <= PAGE_BYTES, f"the page {page} loads {size} bytes")
+        head, whole = anna.run("""return ["header", "html"]
+            .map((one) => document.querySelector(one).clientWidth)""")
+        need(head == whole, f"the head of {page} is {head} pixels wide for {whole}")
         print(f"screen: the page {page} loads {size} bytes", flush=True)
 
 
@@ -269,6 +272,15 @@ def fill(path):
             pass
 
 
+def is_done(anna, form):
+    """Waits for an outcome of an act, or until the page says that the disk failed; says which."""
+    return wait_until(lambda: anna.run("""
+        if (document.querySelector(".pending.diskFailed")) return "failed";
+        const said = document.querySelector(arguments[0]);
+        return said.textContent && /done|refused/.exec(said.className)?.[0]""",
+        f"{form} output"), f"an outcome of {form} on a full disk") == "done"
+
+
 def full_disk(day, anna):
     """While the book's disk is full the page says so; with room again the act is done, once."""
     before = len(day.rows())
@@ -276,13 +288,11 @@ def full_disk(day, anna):
     fill(filler)
     tried = 0
     form = anna.act("product", name="rye500", nominal="500")
-    while not anna.run("return document.querySelector('.pending.diskFailed')"):
+    while is_done(anna, form):
         # the last page of the file may have room for some rows
         tried += 1
         need(tried < 100, "the disk isn't full")
-        anna.told(form, "Done")
         form = anna.act("product", name=f"rye{tried}", nominal="500")
-        time.sleep(0.2)
     anna.wait_text("#desk .pending", "disk failed")
     anna.picture(f"{day.pictures}/disk_failed.png")
     os.remove(filler)
