@@ -1,4 +1,5 @@
-ghost use Rattle.std.specs.Prelude.{◌≡◌, ◌∷◌, ◌==◌, [], true, false, None};
+ghost use Rattle.std.specs.Prelude.{◌≡◌, ◌∷◌, ◌==◌, [], true, false, None, ℕ, List};
+ghost use Rattle.book_words.specs.declared.act.Entry as rows;
 ghost use Rattle.book_words.specs.Desks.{same_act, is_lane_act, is_desk, is_desk_right, is_row_of, last_request, repeated_row, desk_number, request_old, request_reused, request_gap, newest_row, Row};
 ghost use Rattle.book_words.specs.Refusals.{first_refusal};
 
@@ -81,13 +82,13 @@ fn newest_row(state: &State, desk: u16) -> Option<DeskRow>
     Some(DeskRow { number, entry })
 }
 
-// The number of the newest request of a desk; 0 where there is none.
-fn last_request(state: &State, desk: u16) -> u32
-    requires { is_desk desk ≡ true }
-    ensures { result ≡ last_request state.now.entries desk }
+// The number of the request of a desk's newest row; 0 where there is none.
+fn last_request(newest: &Option<DeskRow>) -> u32
+    ensures { (entries : List rows.Entry) (desk : ℕ) → newest.now ≡ newest_row entries desk
+        → result ≡ last_request entries desk }
 {
-    match newest_row(state, desk) {
-        Some(newest) => newest.entry.request,
+    match newest {
+        Some(row) => row.entry.request,
         None => 0,
     }
 }
@@ -108,13 +109,12 @@ pub fn repeated_row(state: &State, ask: &Ask, act: &Act) -> Option<u32>
     }
 }
 
-// The request is 0, or before the newest one of the desk.
-fn request_old(state: &State, ask: &Ask) -> Option<Refusal>
-    requires desk { is_desk ask.now.desk ≡ true }
+// The request is 0, or before the newest one of the desk, whose number is `last`.
+fn request_old(last: u32, ask: &Ask) -> Option<Refusal>
     requires given { (ask.now.desk == 0) ≡ false }
-    ensures { result ≡ request_old state.now.entries ask.now }
+    ensures { (entries : List rows.Entry) → last ≡ last_request entries ask.now.desk
+        → result ≡ request_old entries ask.now }
 {
-    let last = last_request(state, ask.desk);
     if ask.request == 0 || ask.request < last {
         Some(Refusal::RequestOld { last })
     } else {
@@ -123,15 +123,17 @@ fn request_old(state: &State, ask: &Ask) -> Option<Refusal>
 }
 
 // The newest request of the desk has this number, and another act.
-fn request_reused(state: &State, ask: &Ask, act: &Act) -> Option<Refusal>
-    requires desk { is_desk ask.now.desk ≡ true }
+fn request_reused(newest: &Option<DeskRow>, ask: &Ask, act: &Act) -> Option<Refusal>
     requires given { (ask.now.desk == 0) ≡ false }
-    ensures { result ≡ request_reused state.now.entries ask.now act.now }
+    ensures { (entries : List rows.Entry) → newest.now ≡ newest_row entries ask.now.desk
+        → result ≡ request_reused entries ask.now act.now }
 {
     if ask.request == 0 {
         return None;
     }
-    let newest = newest_row(state, ask.desk)?;
+    let Some(newest) = newest else {
+        return None;
+    };
     if newest.entry.request == ask.request && !is_same_act(&newest.entry.act, act) {
         Some(Refusal::RequestReused { row: newest.number })
     } else {
@@ -139,13 +141,12 @@ fn request_reused(state: &State, ask: &Ask, act: &Act) -> Option<Refusal>
     }
 }
 
-// The request isn't the one after the newest of the desk.
-fn request_gap(state: &State, ask: &Ask) -> Option<Refusal>
-    requires desk { is_desk ask.now.desk ≡ true }
+// The request isn't the one after the newest of the desk, whose number is `last`.
+fn request_gap(last: u32, ask: &Ask) -> Option<Refusal>
     requires given { (ask.now.desk == 0) ≡ false }
-    ensures { result ≡ request_gap state.now.entries ask.now }
+    ensures { (entries : List rows.Entry) → last ≡ last_request entries ask.now.desk
+        → result ≡ request_gap entries ask.now }
 {
-    let last = last_request(state, ask.desk);
     if u64::from(ask.request) > u64::from(last) + 1 {
         Some(Refusal::RequestGap { last })
     } else {
@@ -163,7 +164,9 @@ pub fn refuse_request(state: &State, ask: &Ask, act: &Act) -> Option<Refusal>
     if ask.desk == 0 {
         return None;
     }
-    request_old(state, ask)
-        .or(request_reused(state, ask, act))
-        .or(request_gap(state, ask))
+    let newest = newest_row(state, ask.desk);
+    let last = last_request(&newest);
+    request_old(last, ask)
+        .or(request_reused(&newest, ask, act))
+        .or(request_gap(last, ask))
 }

@@ -9,49 +9,23 @@ use hall_limits::{MAX_DOOR, MAX_LANE, MAX_ROWS, MAX_TRIAL};
 pub fn find_command(word: &str) -> Option<Command>
     ensures { result ≡ command_of word.now }
 {
-    if word == "run" {
-        return Some(Command::Run);
+    match word {
+        "run" => Some(Command::Run),
+        "serve" => Some(Command::Serve),
+        "report" => Some(Command::Report),
+        "export" => Some(Command::Export),
+        "check" => Some(Command::Check),
+        "import" => Some(Command::Import),
+        "trial" => Some(Command::Trial),
+        "migrate" => Some(Command::Migrate),
+        "ship" => Some(Command::Ship),
+        "follow" => Some(Command::Follow),
+        "paper" => Some(Command::Paper),
+        "prove" => Some(Command::Prove),
+        "list" => Some(Command::List),
+        "audit" => Some(Command::Audit),
+        _ => None,
     }
-    if word == "serve" {
-        return Some(Command::Serve);
-    }
-    if word == "report" {
-        return Some(Command::Report);
-    }
-    if word == "export" {
-        return Some(Command::Export);
-    }
-    if word == "check" {
-        return Some(Command::Check);
-    }
-    if word == "import" {
-        return Some(Command::Import);
-    }
-    if word == "trial" {
-        return Some(Command::Trial);
-    }
-    if word == "migrate" {
-        return Some(Command::Migrate);
-    }
-    if word == "ship" {
-        return Some(Command::Ship);
-    }
-    if word == "follow" {
-        return Some(Command::Follow);
-    }
-    if word == "paper" {
-        return Some(Command::Paper);
-    }
-    if word == "prove" {
-        return Some(Command::Prove);
-    }
-    if word == "list" {
-        return Some(Command::List);
-    }
-    if word == "audit" {
-        return Some(Command::Audit);
-    }
-    None
 }
 
 /// What stands behind the word of a command.
