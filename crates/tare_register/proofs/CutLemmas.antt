@@ -1,6 +1,6 @@
 -- Where an order is cut: what one entry tells of those before it and behind it, and an entry put at
 -- the cut.
-use Rattle.std.proofs.Common.{◌≡◌, ℕ, zero, suc, ◌<◌, true, false, not, List, [], ◌∷◌, ◌++◌, length, get_or, take, drop, refl, sym, subst, inl, inr, arith}
+use Rattle.std.proofs.Common.{◌≡◌, ℕ, true, false, not, List, [], ◌∷◌, ◌++◌, take, drop, refl, sym, subst, inl, inr, arith}
 use Rattle.std.proofs.lemmas.Int.{ints}
 use Rattle.std.proofs.lemmas.Bool.{cases_Bool, and_parts, and_from, not-true, both_ways}
 use Rattle.std.proofs.lemmas.Bool.Decides.{nat_tests}
@@ -8,7 +8,7 @@ use Rattle.std.proofs.lemmas.List.{take-append-drop}
 use Rattle.std.specs.List.{insert}
 use Rattle.tare_register.specs.declared.types.ProductTare.{ProductTare}
 use Rattle.tare_register.specs.declared.types.ProductDay.{ProductDay}
-use Rattle.tare_register.specs.InOrder.{IsInOrder, IsCut, is_up_to, key_of, no_entry, leads, none_up_to, all_up_to}
+use Rattle.tare_register.specs.InOrder.{IsInOrder, IsCut, is_up_to, key_of, leads, none_up_to, all_up_to}
 
 -- what is up to the key of an entry is up to each key that the entry is up to
 pub up_to_chain : (entry other : ProductTare) (key : ProductDay)
@@ -31,36 +31,6 @@ none_after entry (x ∷ xs) key all h =
       | inl earlier ↦ absurd (both_ways (is_up_to key entry) h (up_to_chain entry x key parts.0 earlier))
       | inr later ↦ rw later refl
     ]) (none_after entry xs key parts.1 h)
-
--- an entry that leads some is up to the key of each
-all_at : (entry : ProductTare) (xs : List ProductTare) (i : ℕ) → i < length xs
-    → leads entry xs ≡ true → is_up_to (key_of (get_or xs i no_entry)) entry ≡ true
-all_at entry [] i within all = absurd (omega (arith, within))
-all_at entry (x ∷ xs) zero within all = (and_parts (is_up_to (key_of x) entry) (leads entry xs) all).0
-all_at entry (x ∷ xs) (suc i) within all =
-    all_at entry xs i (omega (arith, within))
-    (and_parts (is_up_to (key_of x) entry) (leads entry xs) all).1
-
--- where the entry at a place is up to a key, all before it are
-pub cut_before : (xs : List ProductTare) (i : ℕ) (key : ProductDay) → IsInOrder xs → i < length xs
-    → is_up_to key (get_or xs i no_entry) ≡ true →
-    all_up_to key (take (suc i) xs) ≡ true
-cut_before [] i key order within h = refl
-cut_before (x ∷ xs) zero key order within h = and_from (is_up_to key x) true h refl
-cut_before (x ∷ xs) (suc i) key order within h =
-    let inside : i < length xs = omega (arith, within) in
-    and_from (is_up_to key x) (all_up_to key (take (suc i) xs))
-    (up_to_chain x (get_or xs i no_entry) key (all_at x xs i inside order.0) h)
-    (cut_before xs i key order.1 inside h)
-
--- where it isn't, none behind it is
-pub cut_behind : (xs : List ProductTare) (i : ℕ) (key : ProductDay) → IsInOrder xs → i < length xs
-    → is_up_to key (get_or xs i no_entry) ≡ false →
-    none_up_to key (drop i xs) ≡ true
-cut_behind [] i key order within h = absurd (omega (arith, within))
-cut_behind (x ∷ xs) zero key order within h =
-    and_from (not (is_up_to key x)) (none_up_to key xs) (rw h refl) (none_after x xs key order.0 h)
-cut_behind (x ∷ xs) (suc i) key order within h = cut_behind xs i key order.1 (omega (arith, within)) h
 
 -- an entry is up to the keys of those that aren't up to its own
 up_to_before : (entry : ProductTare) (xs : List ProductTare) → none_up_to (key_of entry) xs ≡ true

@@ -137,7 +137,7 @@ last_decides xs last key order reached =
           (sym latest_nothing)
     ]
 
-in_order_front : (xs ys : List ProductTare) → IsInOrder (xs ++ ys) → IsInOrder xs
+pub in_order_front : (xs ys : List ProductTare) → IsInOrder (xs ++ ys) → IsInOrder xs
 in_order_front [] ys order = tt
 in_order_front (x ∷ xs) ys order = (front xs order.0, in_order_front xs ys order.1)
   where
@@ -147,7 +147,7 @@ in_order_front (x ∷ xs) ys order = (front xs order.0, in_order_front xs ys ord
         let parts = and_parts (is_up_to (key_of z) x) (leads x (zs ++ ys)) all in
         rw parts.0 (front zs parts.1)
 
-in_order_back : (xs ys : List ProductTare) → IsInOrder (xs ++ ys) → IsInOrder ys
+pub in_order_back : (xs ys : List ProductTare) → IsInOrder (xs ++ ys) → IsInOrder ys
 in_order_back [] ys order = order
 in_order_back (x ∷ xs) ys order = in_order_back xs ys order.1
 

@@ -1,9 +1,9 @@
 -- The order in which the register looks entries up: by product, in it by day, and those of one
 -- product and day as they were put.
-use Rattle.std.specs.Prelude.{◌≡◌, ℕ, ℤ, pos, IsTrue, not, ◌-◌, min, ◌<◌, ◌≤◌, Bool, ◌&&◌, ◌||◌, ◌==◌, List, [], ◌∷◌, map, length, take, drop, nat_lt, int_le, slice_index_or, vec_len, vec_capacity}
+use Rattle.std.specs.Prelude.{◌≡◌, ℕ, ℤ, pos, IsTrue, not, ◌^◌, ◌<◌, ◌≤◌, Bool, ◌&&◌, ◌||◌, ◌==◌, List, [], ◌∷◌, map, length, take, drop, nat_lt, int_le, slice_index_or}
 use Rattle.std.specs.List.{All, list_all}
-use Rattle.std.specs.declared.vec.Vec.{Vec}
-use Rattle.std.specs.declared.alloc.Global.{Global}
+use Rattle.balanced_tree.specs.declared.tree.Tree.{Tree}
+use Rattle.balanced_tree.specs.Trees.{items, IsBalanced}
 use Rattle.tare_register.specs.declared.types.ProductTare.{ProductTare}
 use Rattle.tare_register.specs.declared.types.ProductDay.{ProductDay}
 use Rattle.tare_register.specs.Tares.{tares_of, deciding_tare, next_day, entry_of}
@@ -58,13 +58,15 @@ no_entry = entry_of 0 (pos 0) (pos 0)
 abbrev pub entries_at : List ProductTare → List ℕ → List ProductTare
 entries_at entries places = map (λ place. slice_index_or entries place no_entry) places
 
--- the places of all entries, in order
-pub record IsIndex (entries : List ProductTare) (places : List ℕ) : Type 0 where
-  pub within : All (λ place. place < length entries) places
-  pub in_order : IsInOrder (entries_at entries places)
-  pub same : SaysSame (entries_at entries places) entries
+-- a tree of the places of entries, in order
+pub record IsOrder (entries : List ProductTare) (order : Tree ℕ) : Type 0 where
+  pub balanced : IsBalanced order
+  pub few : length (items order) < 2 ^ 32
+  pub within : All (λ place. place < length entries) (items order)
+  pub in_order : IsInOrder (entries_at entries (items order))
 
--- how many entries more have room for themselves and for their places
-abbrev pub spare_of : Vec ProductTare Global → Vec ℕ Global → ℕ
-spare_of entries places =
-    min (vec_capacity entries - vec_len entries) (vec_capacity places - vec_len places)
+-- the tree of the places of all entries
+pub record IsIndex (entries : List ProductTare) (order : Tree ℕ) : Type 0 where
+  pub placed : IsOrder entries order
+  pub long : length (items order) ≡ length entries
+  pub same : SaysSame (entries_at entries (items order)) entries

@@ -1,25 +1,25 @@
-ghost use Rattle.std.specs.Prelude.{◌≡◌, ◌+◌, ◌<◌, ◌≤◌, [], ◌∷◌, ◌++◌, OnOk, IsOk};
-ghost use Rattle.tare_register.specs.InOrder.{is_up_to, key_of, IsCut, IsIndex, entries_at, spare_of};
+ghost use Rattle.std.specs.Prelude.{◌≡◌, ◌+◌, ◌^◌, ◌<◌, ◌≤◌, [], ◌∷◌, ◌++◌, OnOk, vec_len, vec_capacity};
+ghost use Rattle.balanced_tree.specs.Trees.{items, height_of};
+ghost use Rattle.tare_register.specs.InOrder.{is_up_to, key_of, IsCut, IsOrder, IsIndex, entries_at};
 
 use crate::types::{NoMemory, ProductDay, ProductTare};
+use balanced_tree::{Node, Tree, insert};
+use std::mem;
 
-/// How many of the entries are up to a product and day, where `places` are theirs in order. It
-/// takes as many steps as the logarithm of their number.
-pub fn count_up_to(entries: &[ProductTare], places: &[usize], key: &ProductDay) -> usize
-    requires index { IsIndex entries.now places.now }
-    ensures { IsCut key.now result (entries_at entries.now places.now) }
+/// How many of the entries are up to a product and day, where `order` has the places of some of
+/// them in order. It takes as many steps as the logarithm of their number.
+pub fn count_up_to(entries: &[ProductTare], order: &Tree<u32>, key: &ProductDay) -> u32
+    requires order { IsOrder entries.now order.now }
+    ensures { IsCut key.now result (entries_at entries.now (items order.now)) }
 {
-    let mut low = 0;
-    let mut high = places.len();
-    while low < high {
-        let middle = low + (high - low) / 2;
-        if is_up_to(&entries[places[middle]], key) {
-            low = middle + 1;
-        } else {
-            high = middle;
-        }
+    let Some(root) = order.root() else {
+        return 0;
+    };
+    if is_up_to(&entries[root.item as usize], key) {
+        root.left.count() + 1 + count_up_to(entries, &root.right, key)
+    } else {
+        count_up_to(entries, &root.left, key)
     }
-    low
 }
 
 // Whether the entry is for a product of a smaller number, or for that product and dated by that
@@ -40,41 +40,40 @@ fn key_of(entry: &ProductTare) -> ProductDay
     }
 }
 
-/// Puts an entry after the others, and its place into their order. There is room for both.
-pub fn enter(entries: &mut Vec<ProductTare>, places: &mut Vec<usize>, entry: &ProductTare)
-    requires index { IsIndex entries.old.items places.old.items }
-    requires room { 0 < spare_of entries.old places.old }
-    ensures index { IsIndex entries.new.items places.new.items }
+/// Puts an entry after the others, and its place into their order. There is room for it, and a
+/// node for its place.
+pub fn enter(
+    entries: &mut Vec<ProductTare>,
+    order: &mut Tree<u32>,
+    nodes: &mut Vec<Box<Node<u32>>>,
+    entry: &ProductTare,
+)
+    requires index { IsIndex entries.old.items order.old }
+    requires few { vec_len entries.old + 1 < 2 ^ 32 }
+    requires room { vec_len entries.old < vec_capacity entries.old }
+    requires spare { 0 < vec_len nodes.old }
+    ensures index { IsIndex entries.new.items order.new }
     ensures entries { entries.new.items ≡ entries.old.items ++ entry.now ∷ [] }
-    ensures spare { spare_of entries.new places.new + 1 ≡ spare_of entries.old places.old }
+    ensures capacity { vec_capacity entries.new ≡ vec_capacity entries.old }
+    ensures nodes { vec_len nodes.new + 1 ≡ vec_len nodes.old }
 {
-    let count = count_up_to(entries, places, &key_of(entry));
-    let Ok(()) = places.insert(count, entries.len()) else {
+    let count = count_up_to(entries, order, &key_of(entry));
+    let Some(mut node) = nodes.pop() else {
         unreachable!()
     };
+    node.item = entries.len() as u32;
+    *order = insert(mem::replace(order, Tree::Leaf), count, node);
     entries.push_reserved(*entry);
 }
 
-/// Makes room for `more` further entries and their places; where there is room, nothing is done.
-pub fn make_room(
-    entries: &mut Vec<ProductTare>,
-    places: &mut Vec<usize>,
-    more: usize,
-) -> Result<(), NoMemory>
-    ensures ok { OnOk result (more ≤ spare_of entries.new places.new) }
-    ensures room { more ≤ spare_of entries.old places.old → IsOk result }
-    ensures kept { more ≤ spare_of entries.old places.old
-        → spare_of entries.new places.new ≡ spare_of entries.old places.old }
-    ensures spare { spare_of entries.old places.old ≤ spare_of entries.new places.new }
-    ensures entries { entries.new.items ≡ entries.old.items }
-    ensures places { places.new.items ≡ places.old.items }
+/// Makes the spare nodes at least `spare`. Where memory is refused some may have been added.
+pub fn make_nodes(nodes: &mut Vec<Box<Node<u32>>>, spare: u32) -> Result<(), NoMemory>
+    ensures ok { OnOk result (spare ≤ vec_len nodes.new) }
+    ensures more { vec_len nodes.old ≤ vec_len nodes.new }
 {
-    let spare = entries.capacity() - entries.len();
-    let spare_places = places.capacity() - places.len();
-    if more <= spare && more <= spare_places {
-        return Ok(());
+    let alloc = *nodes.allocator();
+    while nodes.len() < spare as usize {
+        nodes.push(Box::new(alloc, Node::new(0))?)?;
     }
-    entries.reserve(more)?;
-    places.reserve(more)?;
     Ok(())
 }

@@ -2,35 +2,38 @@ ghost use Rattle.std.specs.Prelude.{◌≡◌, ◌+◌, ◌<◌, ◌≤◌, [], 
 ghost use Rattle.tare_register.specs.Tares.{entry_of, tare_of, span_of, DecidesWithin, HasOneTareWithin};
 
 use crate::deciding::{find_deciding, find_next_day};
-use crate::order::{enter, make_room};
+use crate::order::{enter, make_nodes};
 use crate::types::{DatedTare, NoMemory, ProductDay, ProductTare, Span};
-use std::alloc::Global;
+use balanced_tree::{Node, Tree};
+use std::alloc::{AllocError, Global};
 use std::marker::Model;
 
 /// The tares of all products, in the order in which they were put.
 ///
 /// A contract sees the list of entries, and beside it the number of places that are reserved for
-/// more. `at` and `span` take as many steps as the logarithm of the number of entries. So does
-/// `put`, which then moves 8 bytes for each entry of a product of a greater number, and for each of
-/// its own product and a later day, in one block: 80 kilobytes at most where 10 000 entries are
-/// held. An entry takes 32 bytes.
+/// more. `at`, `span` and `put` take as many steps as the logarithm of the number of entries. An
+/// entry takes 24 bytes and a node of 40.
 #[derive(Drop)]
 pub struct Tares {
     entries: Vec<ProductTare>,
     // The places of the entries in the order of products and days; of those for one product and day
     // in the order in which they were put.
-    places: Vec<usize>,
+    order: Tree<u32>,
+    // Spare nodes: one for each place that is reserved.
+    nodes: Vec<Box<Node<u32>>>,
+    // How many entries more are sure to find room.
+    spare: u32,
 }
 
 impl Model for Tares {
     ghost use Rattle.tare_register.specs.Tares.{Register};
-    ghost use Rattle.tare_register.specs.InOrder.{IsIndex, spare_of};
+    ghost use Rattle.tare_register.specs.Kept.{IsKept};
 
     ghost Value = { Register };
 
-    ghost view = { λ t. record { entries = t.entries.items; spare = spare_of t.entries t.places } };
+    ghost view = { λ t. record { entries = t.entries.items; spare = t.spare } };
 
-    ghost invariant = { λ t. IsIndex t.entries.items t.places.items };
+    ghost invariant = { IsKept };
 }
 
 impl Tares {
@@ -40,14 +43,17 @@ impl Tares {
     {
         Tares {
             entries: Vec::new(alloc),
-            places: Vec::new(alloc),
+            order: Tree::Leaf,
+            nodes: Vec::new(alloc),
+            spare: 0,
         }
     }
 
     /// Puts a tare after the others: `tare` milligrams for `product` from `day` on, a day since
     /// 1970-01-01.
     ///
-    /// It is refused only for want of memory, and never while a place is reserved.
+    /// It is refused only for want of memory and where there are 2^32 - 1 entries, and never while a
+    /// place is reserved.
     pub fn put(&mut self, product: u32, day: i32, tare: i64) -> Result<(), NoMemory>
         ensures ok { OnOk result
             (self.new.entries ≡ self.old.entries ++ entry_of product day tare ∷ []) }
@@ -60,19 +66,42 @@ impl Tares {
             product,
             dated: DatedTare { day, tare },
         };
-        make_room(&mut self.entries, &mut self.places, 1)?;
-        enter(&mut self.entries, &mut self.places, &entry);
+        self.make_room(1)?;
+        enter(&mut self.entries, &mut self.order, &mut self.nodes, &entry);
+        self.spare -= 1;
         Ok(())
     }
 
-    /// Reserves places for `more` further entries.
+    /// Reserves places for `more` further entries, and takes memory for the lacking ones alone. It
+    /// is refused only for want of memory, and where there would be more than 2^32 - 1 entries.
     pub fn reserve(&mut self, more: u32) -> Result<(), NoMemory>
         ensures ok { OnOk result (more ≤ self.new.spare) }
         ensures room { more ≤ self.old.spare → IsOk result }
         ensures spare { self.old.spare ≤ self.new.spare }
         ensures entries { self.new.entries ≡ self.old.entries }
     {
-        make_room(&mut self.entries, &mut self.places, more as usize)?;
+        self.make_room(more)?;
+        Ok(())
+    }
+
+    // Reserves places for `more` further entries; where there is room, nothing is done.
+    fn make_room(&mut self, more: u32) -> Result<(), NoMemory>
+        ensures ok { OnOk result (more ≤ self.new.spare) }
+        ensures room { more ≤ self.old.spare → IsOk result }
+        ensures kept { more ≤ self.old.spare → self.new.spare ≡ self.old.spare }
+        ensures spare { self.old.spare ≤ self.new.spare }
+        ensures entries { self.new.entries ≡ self.old.entries }
+    {
+        if more <= self.spare {
+            return Ok(());
+        }
+        let most = u32::MAX - more;
+        if self.entries.len() > most as usize {
+            return Err(AllocError);
+        }
+        self.entries.reserve(more as usize)?;
+        make_nodes(&mut self.nodes, more)?;
+        self.spare = more;
         Ok(())
     }
 
@@ -83,7 +112,7 @@ impl Tares {
         ensures { result ≡ tare_of self.now.entries product day }
     {
         let key = ProductDay { product, day };
-        Some(find_deciding(&self.entries, &self.places, &key)?.tare)
+        Some(find_deciding(&self.entries, &self.order, &key)?.tare)
     }
 
     /// The days whose tare an entry of `product` put now for `day` decides: from that day to the
@@ -97,7 +126,7 @@ impl Tares {
         let key = ProductDay { product, day };
         Span {
             from: day,
-            until: find_next_day(&self.entries, &self.places, &key),
+            until: find_next_day(&self.entries, &self.order, &key),
         }
     }
 }
