@@ -1,6 +1,6 @@
 #!/bin/sh
-# Fills registers with tares of 100 products, day by day or in the order that moves most places
-# (each before all that are held), and then asks one for the tare of a drawn product on a drawn day.
+# Fills registers with tares of 100 products, day by day or backwards (each before all that are
+# held), and then asks one for the tare of a drawn product on a drawn day.
 # Figures are processor time, so that they can be had beside other work.
 #
 # usage: bench/tares.sh [CRATES [LOOK_UPS]]     CRATES is another folder of crates, as an older
@@ -28,5 +28,5 @@ for entries in 1000 10000; do
     one=$(best "$entries" 0 1 0)
     echo "$entries entries: $asked look-ups $(($(best "$entries" "$asked" 1 0) - one)) ms;" \
         "500000 puts $(best "$entries" 0 "$rounds" 0) ms," \
-        "in the worst order $(best "$entries" 0 "$rounds" 1) ms"
+        "backwards $(best "$entries" 0 "$rounds" 1) ms"
 done
