@@ -62,7 +62,8 @@ module _ (entries : List ProductTare) (order : Tree ℕ) (index : IsIndex entrie
       let found = slice_get-get_or places (count - 1) 0 (omega (arith, more, cut.within, long)) in
       cc (found, past)
 
-  module _ (key : ProductDay) (count place : ℕ) (cut : IsCut key count (entries_at entries places)) where
+  module _ (key : ProductDay) (count place : ℕ)
+      (cut : IsCut key count (entries_at entries places)) where
     last_read : 0 < count → slice_get places (count - 1) ≡ Some place →
         cond ((entry_at place).product == key.product) (Some (entry_at place).dated) None
         ≡ deciding_tare (tares_of entries key.product) key.day

@@ -12,7 +12,7 @@ use std::marker::Model;
 ///
 /// A contract sees the list of entries, and beside it the number of places that are reserved for
 /// more. `at`, `span` and `put` take as many steps as the logarithm of the number of entries. An
-/// entry takes 24 bytes and a node of 40.
+/// entry takes 24 bytes and a node of 40 bytes.
 #[derive(Drop)]
 pub struct Tares {
     entries: Vec<ProductTare>,
@@ -52,8 +52,8 @@ impl Tares {
     /// Puts a tare after the others: `tare` milligrams for `product` from `day` on, a day since
     /// 1970-01-01.
     ///
-    /// It is refused only for want of memory and where there are 2^32 - 1 entries, and never while a
-    /// place is reserved.
+    /// It is refused only for want of memory and where there are 2^32 - 1 entries, and never while
+    /// a place is reserved.
     pub fn put(&mut self, product: u32, day: i32, tare: i64) -> Result<(), NoMemory>
         ensures ok { OnOk result
             (self.new.entries ≡ self.old.entries ++ entry_of product day tare ∷ []) }
