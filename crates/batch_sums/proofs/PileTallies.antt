@@ -1,5 +1,5 @@
 -- The sums of the packs of all batches, a pile each.
-use Rattle.std.proofs.Common.{◌≡◌, ℕ, ◌<◌, ◌≤◌, Bool, true, false, cond, List, [], ◌∷◌, length, map, get_or, refl, ap, sym, ◌∙◌, arith}
+use Rattle.std.proofs.Common.{◌≡◌, ℕ, ◌+◌, ◌<◌, ◌≤◌, Bool, true, false, not, cond, List, [], ◌∷◌, length, map, get_or, refl, ap, sym, ◌∙◌, arith}
 use Rattle.std.specs.Prelude.{pos, ◌≤ℤ◌}
 use Rattle.std.specs.List.{sum_by, count_by, All}
 use Rattle.std.proofs.lemmas.List.Sums.{sum_by-cons, sum_by-le, count_by-le-length}
@@ -9,12 +9,13 @@ use Rattle.pack_judge.specs.declared.types.Pile.{Pile}
 use Rattle.pack_judge.specs.declared.types.Pile.TheVariants.{Passed, Rejected, Sampled, Voided}
 use Rattle.batch_sums.specs.declared.batch.PileSums.{PileSums}
 use Rattle.batch_sums.specs.declared.types.Held.{Held}
-use Rattle.batch_sums.specs.Totals.{in_pile, gross_sum}
+use Rattle.batch_sums.specs.Totals.{is_counted, in_pile, left_out, gross_sum}
 use Rattle.pack_judge.specs.Piles.{same_pile}
 use Rattle.batch_sums.specs.Groups.{Face, at_least_0}
 use Rattle.batch_sums.specs.Running.{sum_in, shown_tallies, CountsOneMore, WeighsMore}
 use Rattle.batch_sums.specs.Kept.{seen, IsTallied}
 use Rattle.batch_sums.specs.Asked.{piles_of}
+use Rattle.batch_sums.specs.Invariant.{outside}
 use Rattle.batch_sums.proofs.PackSums.{length_more, gross_more}
 use Rattle.batch_sums.proofs.GroupChanges.{same_self}
 use Rattle.batch_sums.proofs.OnePackMore.{Joins}
@@ -42,7 +43,53 @@ module _ (some : List Face) (pile : Pile) where
       (map (seen some) held) true h.gross _ refl (gross_lying held)
       ∙ ap pos (sym (sum_by-cons (weighed pile) h held))
 
+-- a pack that doesn't count for the population was rejected or voided
+one_outside : (pile : Pile)
+    → cond (not (is_counted pile)) 1 0
+    ≡ cond (same_pile pile Rejected) 1 0 + cond (same_pile pile Voided) 1 0
+one_outside Passed = refl
+one_outside Rejected = refl
+one_outside Sampled = refl
+one_outside Voided = refl
+
+outside_lying : (held : List Held)
+    → outside held
+    ≡ count_by (λ h. same_pile h.pile Rejected) held + count_by (λ h. same_pile h.pile Voided) held
+outside_lying [] = refl
+outside_lying (h ∷ held) =
+    omega (
+      arith,
+      outside_lying held,
+      one_outside h.pile,
+      sum_by-cons (λ p. cond (not (is_counted p.pile)) 1 0) h held,
+      sum_by-cons (counted Rejected) h held,
+      sum_by-cons (counted Voided) h held,
+    )
+
+pub few_outside : (held : List Held) → outside held ≤ length held
+few_outside held = count_by-le-length (λ h. not (is_counted h.pile)) held
+
+-- as many are left out as a caller sees
+pub outside_seen : (some : List Face) (held : List Held)
+    → left_out (map (seen some) held) ≡ outside held
+outside_seen some [] = refl
+outside_seen some (h ∷ held) =
+    omega (
+      arith,
+      outside_seen some held,
+      sum_by-cons (λ p. cond (not (is_counted p.pile)) 1 0) h held,
+      sum_by-cons (λ p. cond (not (is_counted p.pile)) 1 0) (seen some h) (map (seen some) held),
+    )
+
 module _ (sums : PileSums) (held : List Held) (tallied : IsTallied sums held) where
+  pub left_lying : sums.rejected.count + sums.voided.count ≡ outside held
+  left_lying = omega (
+    arith,
+    tallied.count Rejected,
+    tallied.count Voided,
+    outside_lying held,
+  )
+
   pub told_piles : (some : List Face) → piles_of (map (seen some) held) ≡ shown_tallies sums
   told_piles some =
       cc (

@@ -1,6 +1,6 @@
 -- Packs as a caller sees them, and the totals of a batch: filters and sums over the packs that were
 -- added. All masses are mg.
-use Rattle.std.specs.Prelude.{ℕ, ℤ, ◌-ℤ◌, Bool, true, false, ◌==◌, List, length, filter, count_by, int_lt, Option, option_map}
+use Rattle.std.specs.Prelude.{ℕ, ℤ, ◌-ℤ◌, Bool, true, false, not, ◌==◌, List, length, filter, count_by, int_lt, Option, option_map}
 use Rattle.std.specs.List.{slice_get}
 use Rattle.annex_tables.specs.declared.types.Limits.{Limits}
 use Rattle.pack_judge.specs.declared.types.Pile.{Pile}
@@ -36,6 +36,10 @@ in_pile pile packs = pile_members (λ pack. pack.pile) pile packs
 -- those of some packs that count for the population
 abbrev pub population : List Pack → List Pack
 population packs = filter (λ pack. is_counted pack.pile) packs
+
+-- how many of some packs don't
+abbrev pub left_out : List Pack → ℕ
+left_out packs = count_by (λ pack. not (is_counted pack.pile)) packs
 
 -- the sum of their grosses
 abbrev pub gross_sum : List Pack → ℤ

@@ -131,6 +131,14 @@ impl PileSums {
         }
     }
 
+    /// How many of the packs don't count for the population.
+    pub fn left_out(&self) -> u32
+        requires { self.now.rejected.count + self.now.voided.count < 2 ^ 32 }
+        ensures { result ≡ self.now.rejected.count + self.now.voided.count }
+    {
+        self.rejected.count + self.voided.count
+    }
+
     /// The tallies of the packs, a pile each.
     pub fn tallies(&self) -> Piles
         requires { (pile : Pile) → (sum_in self.now pile).gross < 2 ^ 63 }

@@ -1,4 +1,4 @@
-ghost use Rattle.std.specs.Prelude.{◌≡◌, ℕ, ◌+◌, ◌^◌, ◌<◌, ◌≤◌, vec_len, vec_capacity, OnOk};
+ghost use Rattle.std.specs.Prelude.{◌≡◌, ℕ, ◌+◌, ◌^◌, ◌<◌, ◌≤◌, max, vec_len, vec_capacity, OnOk};
 ghost use Rattle.indexmap.specs.IndexSet.{spare};
 ghost use Rattle.batch_sums.specs.Invariant.{HasGrown};
 
@@ -36,29 +36,30 @@ pub fn reserve_places(
     Ok(())
 }
 
-/// Adds so many nodes to the spare ones for grosses, with places for those of so many packs to come
-/// back to, and makes those for groups at least `spare`.
+/// Makes the spare nodes for grosses at least `grosses`, with places for those of so many packs to
+/// come back to, and those for groups at least `groups`.
 pub fn reserve_nodes(
     gross_nodes: &mut Vec<Box<Node<Gross>>>,
     order_nodes: &mut Vec<Box<Node<u32>>>,
     packs: usize,
-    more: u32,
-    spare: u32,
+    grosses: u32,
+    groups: u32,
 ) -> Result<(), NoMemory>
     requires few { packs < 2 ^ 32 }
-    ensures ok_gross { OnOk result (vec_len gross_nodes.new ≡ vec_len gross_nodes.old + more) }
-    ensures ok_order { OnOk result (spare ≤ vec_len order_nodes.new) }
+    ensures ok_gross { OnOk result (grosses ≤ vec_len gross_nodes.new) }
+    ensures ok_order { OnOk result (groups ≤ vec_len order_nodes.new) }
     ensures gross { vec_len gross_nodes.old ≤ vec_len gross_nodes.new }
-    ensures most { vec_len gross_nodes.new ≤ vec_len gross_nodes.old + more }
+    ensures most { vec_len gross_nodes.new ≤ max (vec_len gross_nodes.old) grosses }
     ensures order { vec_len order_nodes.old ≤ vec_len order_nodes.new }
     ensures back { (used : ℕ) → used ≤ packs
         → vec_len gross_nodes.old + used ≤ vec_capacity gross_nodes.old
         → vec_len gross_nodes.new + used ≤ vec_capacity gross_nodes.new }
 {
     let alloc = *gross_nodes.allocator();
-    gross_nodes.reserve(packs + more as usize)?;
-    add_nodes(alloc, gross_nodes, Gross::default(), more)?;
-    let lacking = (spare as usize).saturating_sub(order_nodes.len());
+    let lacking = (grosses as usize).saturating_sub(gross_nodes.len());
+    gross_nodes.reserve(packs + lacking)?;
+    add_nodes(alloc, gross_nodes, Gross::default(), lacking as u32)?;
+    let lacking = (groups as usize).saturating_sub(order_nodes.len());
     add_nodes(alloc, order_nodes, 0, lacking as u32)?;
     Ok(())
 }

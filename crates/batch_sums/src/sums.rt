@@ -1,6 +1,6 @@
-ghost use Rattle.std.specs.Prelude.{◌≡◌, ℕ, List, pos, find, map, ◌==◌, ◌*◌, Some, IsTrue, true, false, ◌≤ℤ◌, ◌+◌, ◌-◌, ◌<◌, ◌≤◌, [], ◌∷◌, ◌++◌, length, IsOk, IfOk, OnOk, OnErr, if◌then◌else◌};
+ghost use Rattle.std.specs.Prelude.{◌≡◌, ℕ, List, pos, find, map, ◌==◌, ◌*◌, max, Some, IsTrue, true, false, ◌≤ℤ◌, ◌+◌, ◌-◌, ◌<◌, ◌≤◌, [], ◌∷◌, ◌++◌, length, IsOk, IfOk, OnOk, OnErr, if◌then◌else◌};
 ghost use Rattle.batch_sums.specs.Kept.{counted_number};
-ghost use Rattle.batch_sums.specs.Totals.{is_counted, population, of_batch, kept_totals, kept_limits};
+ghost use Rattle.batch_sums.specs.Totals.{is_counted, population, left_out, of_batch, kept_totals, kept_limits};
 ghost use Rattle.batch_sums.specs.Asked.{numbers_of, piles_of, concerned_in, chosen_batches, IsLeast, IsLeastWith};
 ghost use Rattle.batch_sums.specs.Changes.{is_added, moved, corrected, concerned, group_count, IsUpTo, IsTareOf, HasFewPerGroup};
 
@@ -95,6 +95,7 @@ impl BatchSums {
         ensures packs { self.new.packs ≡ self.old.packs }
         ensures room { 0 < self.old.spare → IsOk result }
         ensures spare { self.old.spare ≤ self.new.spare + 1 }
+        ensures nodes { self.new.nodes ≤ max self.old.nodes (left_out self.old.packs + 1) }
     {
         self.reserve(1)?;
         let batch = self.batches.len() as u32;
@@ -105,13 +106,14 @@ impl BatchSums {
         Ok(batch)
     }
 
-    /// Reserves places for `more` further packs and batches. It takes nodes for the lacking places
-    /// alone, so that memory doesn't grow with each call.
+    /// Reserves places for `more` further packs and batches. It takes the nodes that lack alone, so
+    /// that memory doesn't grow with each call, nor with each batch.
     pub fn reserve(&mut self, more: u32) -> Result<(), NoMemory>
         ensures ok { OnOk result (more ≤ self.new.spare) }
         ensures spare { self.old.spare ≤ self.new.spare }
         ensures room { more ≤ self.old.spare → IsOk result }
         ensures nodes { self.new.nodes ≤ self.old.nodes + (more - self.old.spare) }
+        ensures lacking { self.new.nodes ≤ max self.old.nodes (left_out self.old.packs + more) }
         ensures batches { self.new.batches ≡ self.old.batches }
         ensures packs { self.new.packs ≡ self.old.packs }
     {
@@ -133,7 +135,7 @@ impl BatchSums {
             &mut self.gross_nodes,
             &mut self.order_nodes,
             self.packs.len(),
-            more - self.spare,
+            self.piles.left_out() + more,
             more,
         )?;
         self.spare = more;
