@@ -47,7 +47,8 @@ pub fn draw_first(
 {
     let plan = plan_or_none(population.len() as u32, mode);
     let first = draw(alloc, word, population, plan.first)?;
-    Ok(Sample::new(mode, plan, first))
+    let sample = Sample::new(alloc, mode, plan, first)?;
+    Ok(sample)
 }
 
 /// Draws the second sample of a batch by `word`, from the packs of its population that its first

@@ -1,7 +1,8 @@
-ghost use Rattle.std.specs.Prelude.{◌≡◌, None, option_copied};
+ghost use Rattle.std.specs.Prelude.{◌≡◌, None, IfOk, option_copied};
 
 use annex_tables::{Mode, Plan};
-use sample_draw::Picks;
+use sample_draw::{NoMemory, Picks};
+use std::alloc::Global;
 use std::marker::Model;
 
 /// What a pack weighed in the test, and what it weighed empty, in mg.
@@ -47,8 +48,15 @@ impl Measured {
 
 /// The samples of a batch: the mode and the plan of its test, the packs of the first sample, and
 /// those of the second where one was drawn.
+///
+/// It is a pointer, so that what keeps a place for it takes little memory where there is none.
 #[derive(Debug, Drop)]
 pub struct Sample {
+    parts: Box<Parts>,
+}
+
+#[derive(Debug, Drop)]
+struct Parts {
     mode: Mode,
     plan: Plan,
     first: Picks,
@@ -61,55 +69,67 @@ impl Model for Sample {
 
     ghost Value = { samples.Sample };
 
-    ghost view = { λ s.
-        record { mode = s.mode; plan = s.plan; first = s.first; second = s.second } };
+    ghost view = { λ s. record {
+      mode = s.parts.value.mode;
+      plan = s.parts.value.plan;
+      first = s.parts.value.first;
+      second = s.parts.value.second;
+    } };
 }
 
 impl Sample {
-    /// The first sample of a batch.
-    pub fn new(mode: Mode, plan: Plan, first: Picks) -> Sample
-        ensures { result ≡ record { mode = mode; plan = plan; first = first; second = None } }
+    /// The first sample of a batch, for which it takes the memory.
+    pub(crate) fn new(
+        alloc: Global,
+        mode: Mode,
+        plan: Plan,
+        first: Picks,
+    ) -> Result<Sample, NoMemory>
+        ensures { IfOk result (λ sample.
+            sample ≡ record { mode = mode; plan = plan; first = first; second = None }) }
     {
-        Sample {
+        let parts = Parts {
             mode,
             plan,
             first,
             second: None,
-        }
+        };
+        let parts = Box::new(alloc, parts)?;
+        Ok(Sample { parts })
     }
 
     /// Whether the packs are kept or destroyed.
     pub fn mode(&self) -> Mode
         ensures { result ≡ self.now.mode }
     {
-        self.mode
+        self.parts.mode
     }
 
     /// The plan of the test.
     pub fn plan(&self) -> &Plan
         ensures { result.now ≡ self.now.plan }
     {
-        &self.plan
+        &self.parts.plan
     }
 
     /// The packs of the first sample, in drawing order.
     pub fn first(&self) -> &Picks
         ensures { result.now ≡ self.now.first }
     {
-        &self.first
+        &self.parts.first
     }
 
     /// The packs of the second sample, in drawing order, where one was drawn.
     pub fn second(&self) -> Option<&Picks>
         ensures { option_copied result ≡ self.now.second }
     {
-        self.second.as_ref()
+        self.parts.second.as_ref()
     }
 
     /// Takes the packs of the second sample, in drawing order.
     pub(crate) fn take_second(&mut self, picks: Picks)
         ensures { self.new ≡ record self.old { second = Some picks } }
     {
-        self.second = Some(picks);
+        self.parts.second = Some(picks);
     }
 }
