@@ -82,7 +82,7 @@ outside_seen some (h ∷ held) =
     )
 
 module _ (sums : PileSums) (held : List Held) (tallied : IsTallied sums held) where
-  pub left_lying : sums.rejected.count + sums.voided.count ≡ outside held
+  pub left_lying : sums.counts.rejected + sums.counts.voided ≡ outside held
   left_lying = omega (
     arith,
     tallied.count Rejected,

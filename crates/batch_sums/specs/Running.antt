@@ -6,19 +6,23 @@ use Rattle.pack_judge.specs.declared.types.Tally.{Tally}
 use Rattle.batch_sums.specs.declared.types.Piles.{Piles}
 use Rattle.batch_sums.specs.declared.types.Totals.{Totals}
 use Rattle.batch_sums.specs.declared.batch.Batch.{Batch}
-use Rattle.batch_sums.specs.declared.batch.PileSum.{PileSum}
 use Rattle.batch_sums.specs.declared.batch.PileSums.{PileSums}
 use Rattle.batch_sums.specs.declared.group.Group.{Group}
 use Rattle.batch_sums.specs.Groups.{threshold}
 use Rattle.batch_sums.specs.Totals.{is_counted}
 use Rattle.pack_judge.specs.Piles.{same_pile}
 
+-- how many packs a pile has, and the sum of their grosses in mg
+pub record PileSum : Type 0 where
+  pub count : ℕ
+  pub gross : ℕ
+
 -- the sums of a pile
 abbrev pub sum_in : PileSums → Pile → PileSum
-sum_in sums Passed = sums.passed
-sum_in sums Rejected = sums.rejected
-sum_in sums Sampled = sums.sampled
-sum_in sums Voided = sums.voided
+sum_in sums Passed = record { count = sums.counts.passed; gross = sums.grosses.passed }
+sum_in sums Rejected = record { count = sums.counts.rejected; gross = sums.grosses.rejected }
+sum_in sums Sampled = record { count = sums.counts.sampled; gross = sums.grosses.sampled }
+sum_in sums Voided = record { count = sums.counts.voided; gross = sums.grosses.voided }
 
 -- what a batch keeps of a pile
 abbrev pub pile_sum : Batch → Pile → PileSum
@@ -93,12 +97,12 @@ pub record IsCorrected (before after : Batch) (old new : Group) : Type 0 where
 
 -- the sums of a batch are so small that they can be told
 pub record IsBounded (batch : Batch) : Type 0 where
-  pub passed : batch.piles.passed.gross < 2 ^ 61
-  pub rejected : batch.piles.rejected.gross < 2 ^ 61
-  pub sampled : batch.piles.sampled.gross < 2 ^ 61
-  pub voided : batch.piles.voided.gross < 2 ^ 61
+  pub passed : batch.piles.grosses.passed < 2 ^ 61
+  pub rejected : batch.piles.grosses.rejected < 2 ^ 61
+  pub sampled : batch.piles.grosses.sampled < 2 ^ 61
+  pub voided : batch.piles.grosses.voided < 2 ^ 61
   pub tares : batch.tares < 2 ^ 61
-  pub count : batch.piles.passed.count + batch.piles.sampled.count < 2 ^ 32
+  pub count : batch.piles.counts.passed + batch.piles.counts.sampled < 2 ^ 32
 
 abbrev pub shown_tally : PileSum → Tally
 shown_tally sum = record { count = sum.count; gross = pos sum.gross }
@@ -107,22 +111,22 @@ shown_tally sum = record { count = sum.count; gross = pos sum.gross }
 abbrev pub shown_tallies : PileSums → Piles
 shown_tallies sums =
     record {
-      passed = shown_tally sums.passed;
-      rejected = shown_tally sums.rejected;
-      sampled = shown_tally sums.sampled;
-      voided = shown_tally sums.voided;
+      passed = shown_tally (sum_in sums Passed);
+      rejected = shown_tally (sum_in sums Rejected);
+      sampled = shown_tally (sum_in sums Sampled);
+      voided = shown_tally (sum_in sums Voided);
     }
 
 -- the sums of a batch as totals
 abbrev pub shown : Batch → Totals
 shown batch =
     record {
-      passed = shown_tally batch.piles.passed;
-      rejected = shown_tally batch.piles.rejected;
-      sampled = shown_tally batch.piles.sampled;
-      voided = shown_tally batch.piles.voided;
-      population = batch.piles.passed.count + batch.piles.sampled.count;
-      net = pos (batch.piles.passed.gross + batch.piles.sampled.gross) -ℤ pos batch.tares;
+      passed = shown_tally (pile_sum batch Passed);
+      rejected = shown_tally (pile_sum batch Rejected);
+      sampled = shown_tally (pile_sum batch Sampled);
+      voided = shown_tally (pile_sum batch Voided);
+      population = batch.piles.counts.passed + batch.piles.counts.sampled;
+      net = pos (batch.piles.grosses.passed + batch.piles.grosses.sampled) -ℤ pos batch.tares;
       nonstandard = batch.nonstandard;
       inadequate = batch.inadequate;
     }

@@ -37,7 +37,7 @@ in_pile pile packs = pile_members (λ pack. pack.pile) pile packs
 abbrev pub population : List Pack → List Pack
 population packs = filter (λ pack. is_counted pack.pile) packs
 
--- how many of some packs don't
+-- how many of some packs don't count for it
 abbrev pub left_out : List Pack → ℕ
 left_out packs = count_by (λ pack. not (is_counted pack.pile)) packs
 

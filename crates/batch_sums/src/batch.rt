@@ -12,30 +12,41 @@ use hall_limits::{MAX_POPULATION, MAX_TARE};
 use pack_judge::{Pile, Tally};
 use std::sync::ledger::Ledger;
 
-/// How many packs a pile has, and the sum of their grosses in mg.
+/// How many packs each pile has.
 #[derive(Clone, Copy)]
-pub struct PileSum {
-    pub count: u32,
-    pub gross: u64,
+pub struct PileCounts {
+    pub passed: u32,
+    pub rejected: u32,
+    pub sampled: u32,
+    pub voided: u32,
 }
 
-/// The sums of some packs, a pile each. All masses are in mg.
+/// The sum of the grosses of each pile's packs, in mg.
+#[derive(Clone, Copy)]
+pub struct PileGrosses {
+    pub passed: u64,
+    pub rejected: u64,
+    pub sampled: u64,
+    pub voided: u64,
+}
+
+/// The sums of some packs, a pile each. Counts and grosses lie apart, so that no room is lost
+/// between them.
 #[derive(Clone, Copy)]
 pub struct PileSums {
-    pub passed: PileSum,
-    pub rejected: PileSum,
-    pub sampled: PileSum,
-    pub voided: PileSum,
+    pub counts: PileCounts,
+    pub grosses: PileGrosses,
 }
 
-/// A batch and the sums of its packs. All masses are in mg.
+/// A batch and the sums of its packs. All masses are in mg. Numbers of four bytes lie in pairs, so
+/// that no room is lost between fields.
 #[derive(Clone, Copy)]
 pub struct Batch {
     pub product: u32,
-    pub limits: Limits,
     // How many packs of all batches there were when its newest one had been added: 0 where it has
     // none.
     pub reach: u32,
+    pub limits: Limits,
     pub piles: PileSums,
     // The sum of the tares of the population.
     pub tares: u64,
@@ -54,37 +65,37 @@ pub fn counts_for_population(pile: Pile) -> bool
     }
 }
 
-impl PileSum {
-    /// The number of packs and the sum of their grosses in mg.
-    pub fn tally(&self) -> Tally
-        requires { self.now.gross < 2 ^ 63 }
-        ensures { result ≡ record { count = self.now.count; gross = pos self.now.gross } }
-    {
-        Tally {
-            count: self.count,
-            gross: self.gross as i64,
-        }
+// The number of packs of a pile and the sum of their grosses in mg.
+fn tally_of(count: u32, gross: u64) -> Tally
+    requires { gross < 2 ^ 63 }
+    ensures { result ≡ record { count = count; gross = pos gross } }
+{
+    Tally {
+        count,
+        gross: gross as i64,
     }
+}
 
-    fn enter(&mut self, gross: u32)
-        requires count { self.old.count < 2 ^ 32 - 1 }
-        requires gross { self.old.gross < 2 ^ 63 }
-        ensures count { self.new.count ≡ self.old.count + 1 }
-        ensures gross { self.new.gross ≡ self.old.gross + gross }
-    {
-        self.count += 1;
-        self.gross += gross as u64;
-    }
+// A pack comes into a pile.
+fn come(packs: &mut u32, sum: &mut u64, gross: u32)
+    requires count { packs.old < 2 ^ 32 - 1 }
+    requires gross { sum.old < 2 ^ 63 }
+    ensures count { packs.new ≡ packs.old + 1 }
+    ensures gross { sum.new ≡ sum.old + gross }
+{
+    *packs += 1;
+    *sum += gross as u64;
+}
 
-    fn leave(&mut self, gross: u32)
-        requires count { 0 < self.old.count }
-        requires gross { gross ≤ self.old.gross }
-        ensures count { self.new.count + 1 ≡ self.old.count }
-        ensures gross { self.new.gross + gross ≡ self.old.gross }
-    {
-        self.count -= 1;
-        self.gross -= gross as u64;
-    }
+// A pack goes out of a pile.
+fn go(packs: &mut u32, sum: &mut u64, gross: u32)
+    requires count { 0 < packs.old }
+    requires gross { gross ≤ sum.old }
+    ensures count { packs.new + 1 ≡ packs.old }
+    ensures gross { sum.new + gross ≡ sum.old }
+{
+    *packs -= 1;
+    *sum -= gross as u64;
 }
 
 impl PileSums {
@@ -92,12 +103,19 @@ impl PileSums {
     pub fn new() -> PileSums
         ensures { (pile : Pile) → sum_in result pile ≡ record { count = 0; gross = 0 } }
     {
-        let none = PileSum { count: 0, gross: 0 };
         PileSums {
-            passed: none,
-            rejected: none,
-            sampled: none,
-            voided: none,
+            counts: PileCounts {
+                passed: 0,
+                rejected: 0,
+                sampled: 0,
+                voided: 0,
+            },
+            grosses: PileGrosses {
+                passed: 0,
+                rejected: 0,
+                sampled: 0,
+                voided: 0,
+            },
         }
     }
 
@@ -108,11 +126,12 @@ impl PileSums {
         ensures count { CountsOneMore self.old self.new pile }
         ensures gross { WeighsMore self.old self.new pile gross }
     {
+        let (counts, grosses) = (&mut self.counts, &mut self.grosses);
         match pile {
-            Pile::Passed => self.passed.enter(gross),
-            Pile::Rejected => self.rejected.enter(gross),
-            Pile::Sampled => self.sampled.enter(gross),
-            Pile::Voided => self.voided.enter(gross),
+            Pile::Passed => come(&mut counts.passed, &mut grosses.passed, gross),
+            Pile::Rejected => come(&mut counts.rejected, &mut grosses.rejected, gross),
+            Pile::Sampled => come(&mut counts.sampled, &mut grosses.sampled, gross),
+            Pile::Voided => come(&mut counts.voided, &mut grosses.voided, gross),
         }
     }
 
@@ -123,20 +142,21 @@ impl PileSums {
         ensures count { CountsOneMore self.new self.old pile }
         ensures gross { WeighsMore self.new self.old pile gross }
     {
+        let (counts, grosses) = (&mut self.counts, &mut self.grosses);
         match pile {
-            Pile::Passed => self.passed.leave(gross),
-            Pile::Rejected => self.rejected.leave(gross),
-            Pile::Sampled => self.sampled.leave(gross),
-            Pile::Voided => self.voided.leave(gross),
+            Pile::Passed => go(&mut counts.passed, &mut grosses.passed, gross),
+            Pile::Rejected => go(&mut counts.rejected, &mut grosses.rejected, gross),
+            Pile::Sampled => go(&mut counts.sampled, &mut grosses.sampled, gross),
+            Pile::Voided => go(&mut counts.voided, &mut grosses.voided, gross),
         }
     }
 
     /// How many of the packs don't count for the population.
     pub fn left_out(&self) -> u32
-        requires { self.now.rejected.count + self.now.voided.count < 2 ^ 32 }
-        ensures { result ≡ self.now.rejected.count + self.now.voided.count }
+        requires { self.now.counts.rejected + self.now.counts.voided < 2 ^ 32 }
+        ensures { result ≡ self.now.counts.rejected + self.now.counts.voided }
     {
-        self.rejected.count + self.voided.count
+        self.counts.rejected + self.counts.voided
     }
 
     /// The tallies of the packs, a pile each.
@@ -145,10 +165,10 @@ impl PileSums {
         ensures { result ≡ shown_tallies self.now }
     {
         Piles {
-            passed: self.passed.tally(),
-            rejected: self.rejected.tally(),
-            sampled: self.sampled.tally(),
-            voided: self.voided.tally(),
+            passed: tally_of(self.counts.passed, self.grosses.passed),
+            rejected: tally_of(self.counts.rejected, self.grosses.rejected),
+            sampled: tally_of(self.counts.sampled, self.grosses.sampled),
+            voided: tally_of(self.counts.voided, self.grosses.voided),
         }
     }
 }
@@ -166,8 +186,8 @@ impl Batch {
     {
         Batch {
             product,
-            limits: *limits,
             reach: 0,
+            limits: *limits,
             piles: PileSums::new(),
             tares: 0,
             nonstandard: 0,
@@ -177,10 +197,10 @@ impl Batch {
 
     /// How many packs count for the population.
     pub fn population(&self) -> u32
-        requires { self.now.piles.passed.count + self.now.piles.sampled.count < 2 ^ 32 }
-        ensures { result ≡ self.now.piles.passed.count + self.now.piles.sampled.count }
+        requires { self.now.piles.counts.passed + self.now.piles.counts.sampled < 2 ^ 32 }
+        ensures { result ≡ self.now.piles.counts.passed + self.now.piles.counts.sampled }
     {
-        self.piles.passed.count + self.piles.sampled.count
+        self.piles.counts.passed + self.piles.counts.sampled
     }
 
     /// The totals of the batch.
@@ -188,14 +208,14 @@ impl Batch {
         requires { IsBounded self.now }
         ensures { result ≡ shown self.now }
     {
-        let piles = &self.piles;
+        let PileSums { counts, grosses } = self.piles;
         Totals {
-            passed: piles.passed.tally(),
-            rejected: piles.rejected.tally(),
-            sampled: piles.sampled.tally(),
-            voided: piles.voided.tally(),
+            passed: tally_of(counts.passed, grosses.passed),
+            rejected: tally_of(counts.rejected, grosses.rejected),
+            sampled: tally_of(counts.sampled, grosses.sampled),
+            voided: tally_of(counts.voided, grosses.voided),
             population: self.population(),
-            net: (piles.passed.gross + piles.sampled.gross) as i64 - self.tares as i64,
+            net: (grosses.passed + grosses.sampled) as i64 - self.tares as i64,
             nonstandard: self.nonstandard,
             inadequate: self.inadequate,
         }

@@ -1,14 +1,14 @@
 use Rattle.pack_judge.specs.declared.types.Pile.TheVariants.{Passed, Rejected, Sampled, Voided}
 use Rattle.batch_sums.proofs.batch.PileSums.tallies.Goals as goal
 
-pub tally-requires : goal.tally-requires
-tally-requires c = c.requires Passed
+pub tally_of-requires : goal.tally_of-requires
+tally_of-requires c = c.requires Passed
 
-pub tally-requires-2 : goal.tally-requires-2
-tally-requires-2 c = c.requires Rejected
+pub tally_of-requires-2 : goal.tally_of-requires-2
+tally_of-requires-2 c = c.requires Rejected
 
-pub tally-requires-3 : goal.tally-requires-3
-tally-requires-3 c = c.requires Sampled
+pub tally_of-requires-3 : goal.tally_of-requires-3
+tally_of-requires-3 c = c.requires Sampled
 
-pub tally-requires-4 : goal.tally-requires-4
-tally-requires-4 c = c.requires Voided
+pub tally_of-requires-4 : goal.tally_of-requires-4
+tally_of-requires-4 c = c.requires Voided
