@@ -1,5 +1,5 @@
-ghost use Rattle.std.specs.Prelude.{◌≡◌, ℕ, ◌+◌, ◌^◌, ◌<◌, ◌≤◌, max, vec_len, vec_capacity, OnOk};
-ghost use Rattle.indexmap.specs.IndexSet.{spare};
+ghost use Rattle.std.specs.Prelude.{◌≡◌, ℕ, ◌+◌, ◌^◌, ◌<◌, ◌≤◌, max, [], ◌∷◌, ◌++◌, nat_eq, vec_len, vec_capacity, OnOk};
+ghost use Rattle.indexmap.specs.IndexSet.{spare, insert_key};
 ghost use Rattle.batch_sums.specs.Invariant.{HasGrown};
 
 use crate::batch::Batch;
@@ -34,6 +34,22 @@ pub fn reserve_places(
     packs.reserve(more)?;
     numbers.reserve(more)?;
     Ok(())
+}
+
+/// Puts a pack behind the others, and its number behind theirs. There is room for both.
+pub fn push_pack(packs: &mut Vec<Held>, numbers: &mut IndexSet<u32>, held: Held)
+    requires packs { vec_len packs.old < vec_capacity packs.old }
+    requires numbers { 0 < spare numbers.old }
+    ensures items { packs.new.items ≡ packs.old.items ++ held ∷ [] }
+    ensures len { vec_len packs.new ≡ vec_len packs.old + 1 }
+    ensures capacity { vec_capacity packs.new ≡ vec_capacity packs.old }
+    ensures keys { numbers.new.keys ≡ insert_key nat_eq numbers.old.keys held.number }
+    ensures spare { spare numbers.old ≤ spare numbers.new + 1 }
+{
+    packs.push_reserved(held);
+    let Ok(_) = numbers.insert(held.number) else {
+        unreachable!()
+    };
 }
 
 /// Makes the spare nodes for grosses at least `grosses`, with places for those of so many packs to

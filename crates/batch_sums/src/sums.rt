@@ -9,7 +9,7 @@ use crate::days::days_of;
 use crate::grosses::Gross;
 use crate::group::{Group, Key};
 use crate::order::{Stretch, find_or_open, stretch_of};
-use crate::pool::{reserve_nodes, reserve_places};
+use crate::pool::{push_pack, reserve_nodes, reserve_places};
 use crate::steps::{STEPS_PER_GROUP, Steps};
 use crate::types::{Held, NoMemory, Pack, Piles, Totals};
 use annex_tables::Limits;
@@ -99,9 +99,7 @@ impl BatchSums {
     {
         self.reserve(1)?;
         let batch = self.batches.len() as u32;
-        let Ok(()) = self.batches.push(Batch::new(product, &limits)) else {
-            unreachable!()
-        };
+        self.batches.push_reserved(Batch::new(product, &limits));
         self.spare -= 1;
         Ok(batch)
     }
@@ -207,13 +205,8 @@ impl BatchSums {
             day,
             batch,
         };
-        let group = find_or_open(
-            &mut self.groups,
-            &mut self.order,
-            &mut self.order_nodes,
-            key,
-            tare,
-        );
+        let (groups, nodes) = (&mut self.groups, &mut self.order_nodes);
+        let group = find_or_open(groups, &mut self.order, nodes, key, tare);
         let held = Held {
             number: pack,
             group,
@@ -221,12 +214,7 @@ impl BatchSums {
             gross,
             pile,
         };
-        let Ok(_) = self.numbers.insert(pack) else {
-            unreachable!()
-        };
-        let Ok(()) = self.packs.push(held) else {
-            unreachable!()
-        };
+        push_pack(&mut self.packs, &mut self.numbers, held);
         let batch = &mut self.batches[batch as usize];
         let group = &mut self.groups[group as usize];
         batch.reach = self.packs.len() as u32;

@@ -16,8 +16,8 @@ invariant_of-self c =
     let room = c.self.invariant.room in
     let made = c.new.ensures in
     let spare = ap (λ (s : Sums). s.spare) c.self.view_is in
-    let pushed : c.push.new.self.items ≡ sums.batches.items ++ c.new.result ∷ [] =
-    c.in-Ok.ensures.items in
+    let pushed : c.push_reserved.new.self.items ≡ sums.batches.items ++ c.new.result ∷ [] =
+    c.push_reserved.ensures.items in
     record {
       settled = record {
         sound = subst (λ bs. Sound bs sums.groups.items sums.packs.items) (sym pushed)
@@ -40,8 +40,8 @@ invariant_of-self c =
         batches = omega (
           arith,
           room.batches,
-          c.in-Ok.ensures.len,
-          c.in-Ok.ensures.capacity,
+          c.push_reserved.ensures.len,
+          c.push_reserved.ensures.capacity,
           c.in_ok-reserve.ensures.ok,
           spare,
         );
@@ -54,7 +54,7 @@ invariant_of-self c =
         few_batches = omega (
           arith,
           room.few_batches,
-          c.in-Ok.ensures.len,
+          c.push_reserved.ensures.len,
           c.in_ok-reserve.ensures.ok,
           spare,
         );

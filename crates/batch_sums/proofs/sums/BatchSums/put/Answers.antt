@@ -248,30 +248,30 @@ invariant_of-self c =
       gross = c.args.gross;
       pile = c.args.pile;
     } in
-    let pushed : c.push.new.self.items ≡ held ++ h ∷ [] = c.in-Ok-push.ensures.items in
+    let pushed : c.push_pack.new.packs.items ≡ held ++ h ∷ [] = c.push_pack.ensures.items in
     let none : list_any (λ other. eqb c.args.pack other) sums.numbers.keys ≡ false =
     ap (λ ns. list_any (λ other. eqb c.args.pack other) ns) settled.numbered
     ∙ sym (added_is (faces gs) c.args.pack held)
     ∙ ap (λ (s : Sums). is_added s.packs c.args.pack) c.self.view_is ∙ c.requires.new in
-    let ins : inside c.push.new.self.items ≡ inside held + cond (is_counted c.args.pile) 1 0 =
+    let ins : inside c.push_pack.new.packs.items ≡ inside held + cond (is_counted c.args.pile) 1 0 =
     ap inside pushed ∙ sum_by_push (λ p. cond (is_counted p.pile) 1 0) held h in
-    let outs : outside c.push.new.self.items ≡ outside held
+    let outs : outside c.push_pack.new.packs.items ≡ outside held
     + cond (not (is_counted c.args.pile)) 1 0 = ap outside pushed
     ∙ sum_by_push (λ p. cond (not (is_counted p.pile)) 1 0) held h in
     record {
       settled = subst (λ hs. Rattle.batch_sums.specs.Invariant.IsSettled
           (set bs c.args.batch c.enter.new.self)
           (set c.find_or_open-group.new.groups.items c.find_or_open-group.result c.enter-2.new.self)
-          c.find_or_open-group.new.order hs c.insert.new.self.keys) (sym pushed)
+          c.find_or_open-group.new.order hs c.push_pack.new.numbers.keys) (sym pushed)
           (settled_put bs gs held c.find_or_open-group.new.groups.items c.find_or_open-group.result
           key c.args.tare done c.index_mut-group.result.now c.index_mut-group.ensures.value
           c.index_mut-batch.result.now home h refl c.requires.gross few c.enter.new.self
           (entered_from c.index_mut-batch.result.now c.len.result c.enter.new.self c.args.pile
           c.args.gross c.args.tare c.enter.ensures.entered) c.enter-2.new.self
           c.enter-2.ensures.grosses c.enter-2.ensures.face c.enter-2.ensures.judged
-          c.find_or_open-group.new.order c.insert.new.self.keys sums.numbers.keys
+          c.find_or_open-group.new.order c.push_pack.new.numbers.keys sums.numbers.keys
           c.find_or_open-group.ensures.balanced c.find_or_open-group.ensures.index settled.small
-          settled.numbered settled.apart none c.in-Ok.ensures.keys
+          settled.numbered settled.apart none c.push_pack.ensures.keys
           (chained_with bs gs held c.find_or_open-group.new.groups.items c.find_or_open-group.result
           key c.args.tare done c.index_mut-group.result.now c.index_mut-group.ensures.value
           c.index_mut-batch.result.now home h refl c.requires.gross few c.enter.new.self
@@ -283,7 +283,7 @@ invariant_of-self c =
             arith,
             c.enter.ensures.reach,
             c.len.ensures,
-            c.in-Ok-push.ensures.len,
+            c.push_pack.ensures.len,
             sums.packs.ok.0,
           )) settled.chained));
       tallied = subst (λ hs. Rattle.batch_sums.specs.Kept.IsTallied c.enter-3.new.self hs) (sym pushed)
@@ -307,10 +307,10 @@ invariant_of-self c =
           room.packs,
           spare,
           c.requires.room,
-          c.in-Ok-push.ensures.len,
-          c.in-Ok-push.ensures.capacity,
+          c.push_pack.ensures.len,
+          c.push_pack.ensures.capacity,
         );
-        numbers = omega (arith, room.numbers, spare, c.requires.room, c.in-Ok.ensures.spare);
+        numbers = omega (arith, room.numbers, spare, c.requires.room, c.push_pack.ensures.spare);
         nodes = omega (
           arith,
           room.nodes,
@@ -329,7 +329,7 @@ invariant_of-self c =
           c.find_or_open-group.ensures.nodes,
         );
         few_batches = omega (arith, room.few_batches, spare, c.requires.room);
-        few_packs = omega (arith, room.few_packs, spare, c.requires.room, c.in-Ok-push.ensures.len);
+        few_packs = omega (arith, room.few_packs, spare, c.requires.room, c.push_pack.ensures.len);
       };
     }
 
@@ -374,7 +374,7 @@ returns-clause-packs c =
       gross = c.args.gross;
       pile = c.args.pile;
     } in
-    let pushed : c.push.new.self.items ≡ held ++ h ∷ [] = c.in-Ok-push.ensures.items in
+    let pushed : c.push_pack.new.packs.items ≡ held ++ h ∷ [] = c.push_pack.ensures.items in
     ap (λ hs. map
     (seen (faces (set c.find_or_open-group.new.groups.items c.find_or_open-group.result
     c.enter-2.new.self))) hs) pushed
