@@ -25,3 +25,4 @@ pub mod PileTallies
 pub mod NumberPlaces
 pub mod PackWalks
 pub mod ChosenBatches
+pub mod DayEnds

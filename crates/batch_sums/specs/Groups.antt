@@ -1,5 +1,6 @@
 -- Groups of packs: one for each batch and day.
-use Rattle.std.specs.Prelude.{◌^◌, ◌≡◌, ℕ, ℤ, pos, negsuc, ◌+◌, ◌*◌, ◌+ℤ◌, List, count_by, nat_lt, int_lt, max, if◌then◌else◌, map, slice_index_or}
+use Rattle.std.specs.Prelude.{◌^◌, ◌≡◌, ℕ, ℤ, pos, negsuc, ◌+◌, ◌*◌, ◌≤◌, ◌+ℤ◌, List, count_by, nat_lt, int_lt, max, if◌then◌else◌, map, slice_index_or}
+use Rattle.std.specs.List.{All}
 use Rattle.annex_tables.specs.declared.types.Limits.{Limits}
 use Rattle.hall_limits.specs.declared.TheConstants.{MAX_GROSS}
 use Rattle.batch_sums.specs.Rising.{mass_of}
@@ -54,6 +55,10 @@ nth_face some group = slice_index_or some group no_face
 -- where the group at a place stands in the order of keys
 abbrev pub nth_rank : List Face → ℕ → ℕ
 nth_rank some group = rank_of (nth_face some group).key
+
+-- groups of batches from a number on
+abbrev pub IsFrom : ℕ → List Face → List ℕ → Type 0
+IsFrom batch some groups = All (λ group. batch ≤ (nth_face some group).key.batch) groups
 
 -- how many groups of an order stand before those of a product on a day
 abbrev pub groups_before : List Face → List ℕ → ℕ → ℕ → ℕ

@@ -1,9 +1,9 @@
-ghost use Rattle.std.specs.Prelude.{◌≡◌, ◌<◌, ◌≤◌, ◌+◌, ◌^◌, ◌==◌, ◌⊎◌, length, vec_len, vec_capacity, nat_lt, count_by, IfSome, IfNone};
+ghost use Rattle.std.specs.Prelude.{◌≡◌, ◌<◌, ◌≤◌, ◌+◌, ◌^◌, ◌==◌, ◌⊎◌, length, vec_len, vec_capacity, nat_lt, count_by, Some, IfSome, IfNone};
 ghost use Rattle.batch_sums.specs.Kept.{IsIndex, IsKey, HasKey, IsOpened};
-ghost use Rattle.std.specs.List.{All};
+ghost use Rattle.std.specs.List.{All, between, slice_get};
 ghost use Rattle.balanced_tree.specs.Trees.{items, height_of, IsBalanced};
 ghost use Rattle.batch_sums.specs.Rising.{IsRising};
-ghost use Rattle.batch_sums.specs.Groups.{rank_of, nth_rank, faces, IsStretch};
+ghost use Rattle.batch_sums.specs.Groups.{rank_of, nth_rank, nth_face, faces, IsFrom, IsStretch};
 
 use crate::days::Days;
 use crate::group::{Group, Key};
@@ -61,6 +61,57 @@ pub fn stretch_of(order: &Tree<u32>, groups: &[Group], product: u32, days: Days)
     Stretch {
         first,
         end: place_of(order, groups, &until).max(first),
+    }
+}
+
+// The place at which the next day begins, or another product, behind that of a group and no later
+// than an end. No lesser batch is passed over, since the batches of a day rise.
+fn next_day(order: &Tree<u32>, groups: &[Group], group: u32, place: u32, end: u32) -> u32
+    requires balanced { IsBalanced order.now }
+    requires index { IsIndex (faces groups.now) (items order.now) }
+    requires few { length groups.now < 2 ^ 32 }
+    requires placed { slice_get (items order.now) place ≡ Some group }
+    requires before { place < end }
+    ensures forward { place < result }
+    ensures end { result ≤ end }
+    ensures passed { IsFrom (nth_face (faces groups.now) group).key.batch (faces groups.now)
+        (between (place + 1) result (items order.now)) }
+{
+    let key = groups[group as usize].key;
+    let next = Key {
+        product: key.product,
+        day: key.day + 1,
+        batch: 0,
+    };
+    place_of(order, groups, &next).max(place + 1).min(end)
+}
+
+/// Where to look behind the place of a group, and no later than an end, for a batch that is less
+/// than the least one known: at the next place, or, where the group's batch isn't less, at the next
+/// day.
+pub fn next_lesser(
+    order: &Tree<u32>,
+    groups: &[Group],
+    group: u32,
+    place: u32,
+    end: u32,
+    least: Option<u32>,
+) -> u32
+    requires balanced { IsBalanced order.now }
+    requires index { IsIndex (faces groups.now) (items order.now) }
+    requires few { length groups.now < 2 ^ 32 }
+    requires placed { slice_get (items order.now) place ≡ Some group }
+    requires before { place < end }
+    ensures forward { place < result }
+    ensures end { result ≤ end }
+    ensures some { IfSome least (λ least. IsFrom least (faces groups.now)
+        (between (place + 1) result (items order.now))) }
+    ensures none { IfNone least (result ≡ place + 1) }
+{
+    let batch = groups[group as usize].key.batch;
+    match least {
+        Some(least) if least <= batch => next_day(order, groups, group, place, end),
+        _ => place + 1,
     }
 }
 

@@ -8,7 +8,7 @@ use crate::batch::{Batch, PileSums, counts_for_population};
 use crate::days::days_of;
 use crate::grosses::Gross;
 use crate::group::{Group, Key};
-use crate::order::{Stretch, find_or_open, stretch_of};
+use crate::order::{Stretch, find_or_open, next_lesser, stretch_of};
 use crate::pool::{push_pack, reserve_nodes, reserve_places};
 use crate::steps::{STEPS_PER_GROUP, Steps};
 use crate::types::{Held, NoMemory, Pack, Piles, Totals};
@@ -328,8 +328,9 @@ impl BatchSums {
 
     /// The least number of a batch of a product that is chosen and has a pack on a day of a span,
     /// whatever its pile, and `None` where no batch is so; `chosen` has a flag for each batch. It
-    /// takes no memory, and walks over the groups of the product in the span, those of one batch
-    /// and day.
+    /// takes no memory. Of the batches of the product on each day of the span, by their rising
+    /// numbers, it looks at those up to the first that is chosen, or that isn't less than one found
+    /// before.
     pub fn first_concerned(&self, product: u32, span: &Span, chosen: &[bool]) -> Option<u32>
         requires { length chosen.now ≡ length self.now.batches }
         ensures { IsLeast
@@ -337,12 +338,14 @@ impl BatchSums {
     {
         let Stretch { first, end } = stretch_of(&self.order, &self.groups, product, days_of(span));
         let mut least = None;
-        for position in first..end {
-            let Some(group) = self.order.get(position) else {
+        let mut place = first;
+        while place < end {
+            let Some(group) = self.order.get(place) else {
                 unreachable!()
             };
             let batch = self.groups[group as usize].key.batch;
             least = lesser(least, batch, chosen[batch as usize]);
+            place = next_lesser(&self.order, &self.groups, group, place, end, least);
         }
         least
     }

@@ -1,4 +1,5 @@
 use Rattle.std.proofs.Common.{◌≡◌, ◌+◌, ◌*◌, ◌<◌, max, inl, inr, false, List, [], ◌∷◌, ◌++◌, length, get_or, Some, refl, ap, sym, subst, ◌∙◌, arith}
+use Rattle.std.specs.Prelude.{IfSome}
 use Rattle.std.specs.List.{slice_get, between}
 use Rattle.std.proofs.lemmas.Bool.{cases_Bool}
 use Rattle.std.proofs.lemmas.List.{length-map}
@@ -6,11 +7,12 @@ use Rattle.std.proofs.lemmas.List.Edits.{between_more}
 use Rattle.std.proofs.lemmas.Option.{slice_get_read, slice_get_within, slice_get-get_or, none-some, get_or_from_slice_get, unwrap_or-slice_get}
 use Rattle.balanced_tree.specs.Trees.{items}
 use Rattle.batch_sums.specs.declared.group.Group.{Group}
-use Rattle.batch_sums.specs.Groups.{Face, face_of, faces, nth_face, nth_rank}
+use Rattle.batch_sums.specs.Groups.{Face, face_of, faces, nth_face, nth_rank, IsFrom}
 use Rattle.batch_sums.specs.Kept.{terms_of}
 use Rattle.batch_sums.specs.Totals.{Sums}
 use Rattle.batch_sums.specs.Asked.{IsLeast}
 use Rattle.batch_sums.proofs.ChosenBatches.{flag, chosen_homes, homes_chosen, homes_left, least_same, concerning}
+use Rattle.batch_sums.proofs.DayEnds.{walked_on}
 use Rattle.batch_sums.proofs.NewGroups.{All-found}
 use Rattle.batch_sums.proofs.OrderLemmas.{below, below-le-length}
 use Rattle.batch_sums.proofs.SoundLemmas.{face-found}
@@ -37,10 +39,10 @@ unreachable-requires c =
     (below (nth_rank (faces some))
     ((c.args.product * 4294967296 + c.days_of.result.until) * 4294967296 + 0) order))
     c.deref.ensures.value in
-    let inside : c.loop-position.position < length order =
+    let inside : c.loop-place.place < length order =
     omega (
       arith,
-      c.loop-position-test.true,
+      c.loop-place-test.true,
       end_is,
       first_is,
       below-le-length (nth_rank (faces gs))
@@ -49,7 +51,7 @@ unreachable-requires c =
           ((c.args.product * 4294967296 + c.days_of.result.until) * 4294967296 + 0) order,
     ) in
     none-some _ (sym c.in_default.is ∙ c.get.ensures
-    ∙ slice_get-get_or order c.loop-position.position 0 inside)
+    ∙ slice_get-get_or order c.loop-place.place 0 inside)
 
 pub index-requires : goal.index-requires
 index-requires c =
@@ -57,10 +59,10 @@ index-requires c =
     let settled = c.self.invariant.settled in
     let gs = sums.groups.items in
     let order = items sums.order in
-    let placed : slice_get order c.loop-position.position ≡ Some c.in-Some.group = sym c.get.ensures
+    let placed : slice_get order c.loop-place.place ≡ Some c.in-Some.group = sym c.get.ensures
     ∙ c.in-Some.is in
     let among : c.in-Some.group < length (faces gs) =
-    All-found (λ place. place < length (faces gs)) order c.loop-position.position
+    All-found (λ place. place < length (faces gs)) order c.loop-place.place
     c.in-Some.group settled.index.within placed in
     let within : c.in-Some.group < length gs = omega (arith, among, length-map gs face_of) in
     omega (arith, within, sums.groups.ok.0)
@@ -71,10 +73,10 @@ bounds-chosen-batch c =
     let settled = c.self.invariant.settled in
     let gs = sums.groups.items in
     let order = items sums.order in
-    let placed : slice_get order c.loop-position.position ≡ Some c.in-Some.group = sym c.get.ensures
+    let placed : slice_get order c.loop-place.place ≡ Some c.in-Some.group = sym c.get.ensures
     ∙ c.in-Some.is in
     let among : c.in-Some.group < length (faces gs) =
-    All-found (λ place. place < length (faces gs)) order c.loop-position.position
+    All-found (λ place. place < length (faces gs)) order c.loop-place.place
     c.in-Some.group settled.index.within placed in
     let within : c.in-Some.group < length gs = omega (arith, among, length-map gs face_of) in
     let at : slice_get gs c.in-Some.group ≡ Some c.index.result.now =
@@ -90,38 +92,41 @@ bounds-chosen-batch c =
       c.requires,
     )
 
-pub loop-position-preserved : goal.loop-position-preserved
-loop-position-preserved c =
+pub loop-place-preserved : goal.loop-place-preserved
+loop-place-preserved c =
     let sums = c.self.inside in
     let settled = c.self.invariant.settled in
     let gs = sums.groups.items in
     let order = items sums.order in
-    let placed : slice_get order c.loop-position.position ≡ Some c.in-Some.group = sym c.get.ensures
+    let placed : slice_get order c.loop-place.place ≡ Some c.in-Some.group = sym c.get.ensures
     ∙ c.in-Some.is in
     let among : c.in-Some.group < length (faces gs) =
-    All-found (λ place. place < length (faces gs)) order c.loop-position.position
+    All-found (λ place. place < length (faces gs)) order c.loop-place.place
     c.in-Some.group settled.index.within placed in
     let within : c.in-Some.group < length gs = omega (arith, among, length-map gs face_of) in
     let at : slice_get gs c.in-Some.group ≡ Some c.index.result.now =
     slice_get_read gs (length gs) c.in-Some.group c.index.result.now refl within
     c.index.ensures in
-    let more : between c.stretch_of-first.result.first (c.loop-position.position + 1) order
-    ≡ between c.stretch_of-first.result.first c.loop-position.position order ++ c.in-Some.group
+    let more : between c.stretch_of-first.result.first (c.loop-place.place + 1) order
+    ≡ between c.stretch_of-first.result.first c.loop-place.place order ++ c.in-Some.group
     ∷ [] =
-    between_more order c.stretch_of-first.result.first c.loop-position.position c.in-Some.group
-    (omega (arith, c.loop-position.auto))
-    (slice_get_within order c.loop-position.position c.in-Some.group placed)
-    ∙ ap (λ x. between c.stretch_of-first.result.first c.loop-position.position order ++ x ∷ [])
-    (get_or_from_slice_get order c.loop-position.position c.in-Some.group c.in-Some.group
+    between_more order c.stretch_of-first.result.first c.loop-place.place c.in-Some.group
+    (c.loop-place.invariant.first)
+    (slice_get_within order c.loop-place.place c.in-Some.group placed)
+    ∙ ap (λ x. between c.stretch_of-first.result.first c.loop-place.place order ++ x ∷ [])
+    (get_or_from_slice_get order c.loop-place.place c.in-Some.group c.in-Some.group
     placed) in
     let fs = faces gs in
     let chosen = c.args.chosen.now in
-    let before = between c.stretch_of-first.result.first c.loop-position.position order in
+    let before = between c.stretch_of-first.result.first c.loop-place.place order in
     let batch : (nth_face fs c.in-Some.group).key.batch ≡ c.index.result.now.key.batch =
     ap (λ (f : Face). f.key.batch) (face-found gs c.in-Some.group c.index.result.now at) in
     let flagged : flag chosen (nth_face fs c.in-Some.group).key.batch
     ≡ get_or chosen c.index.result.now.key.batch false = ap (flag chosen) batch
     ∙ unwrap_or-slice_get chosen c.index.result.now.key.batch false in
+    let walked : IsLeast (chosen_homes chosen fs
+    (between c.stretch_of-first.result.first (c.loop-place.place + 1) order))
+    c.lesser-least.result =
     elim (cases_Bool (get_or chosen c.index.result.now.key.batch false)) [
       | inl is ↦
           let homes = ap (chosen_homes chosen fs) more
@@ -129,14 +134,25 @@ loop-position-preserved c =
           ∙ ap (λ n. chosen_homes chosen fs before ++ n ∷ []) batch in
           subst (λ ns. IsLeast ns c.lesser-least.result) (sym homes)
           (c.lesser-least.ensures.chosen is
-          (chosen_homes chosen fs before) c.loop-position.invariant)
+          (chosen_homes chosen fs before) c.loop-place.invariant.least)
       | inr other ↦
           let homes = ap (chosen_homes chosen fs) more
           ∙ homes_left chosen fs before c.in-Some.group (flagged ∙ other) in
           subst (λ ns. IsLeast ns c.lesser-least.result) (sym homes)
           (subst (λ least. IsLeast (chosen_homes chosen fs before) least)
-          (sym (c.lesser-least.ensures.others other)) c.loop-position.invariant)
-    ]
+          (sym (c.lesser-least.ensures.others other)) c.loop-place.invariant.least)
+    ] in
+    let same = ap faces c.deref-in-loop-place.ensures.value in record {
+      first = omega (arith, c.loop-place.invariant.first, c.next_lesser-place.ensures.forward);
+      end = c.next_lesser-place.ensures.end;
+      least = walked_on chosen fs order c.stretch_of-first.result.first c.loop-place.place
+          c.next_lesser-place.result c.lesser-least.result c.loop-place.invariant.first
+          c.next_lesser-place.ensures.forward walked
+          (subst (λ (some : List Face). IfSome c.lesser-least.result (λ known. IsFrom known some
+          (between (c.loop-place.place + 1) c.next_lesser-place.result order))) same
+          c.next_lesser-place.ensures.some)
+          c.next_lesser-place.ensures.none;
+    }
 
 pub returns : goal.returns
 returns c =
@@ -160,18 +176,18 @@ returns c =
     (below (nth_rank (faces some))
     ((c.args.product * 4294967296 + c.days_of.result.until) * 4294967296 + 0) order))
     c.deref.ensures.value in
-    let at : c.loop-position.position ≡ c.stretch_of-first.result.end =
-    omega (arith, c.loop-position-test.false, c.loop-position.auto, end_is) in
+    let at : c.loop-place.place ≡ c.stretch_of-first.result.end =
+    omega (arith, c.loop-place-test.false, c.loop-place.invariant.end, end_is) in
     let fs = faces gs in
     rw (← c.self.view_is) (least_same
     (chosen_homes c.args.chosen.now fs
     (between c.stretch_of-first.result.first c.stretch_of-first.result.end order)) _
-    c.loop-position.least
+    c.loop-place.least
     (concerning sums.batches.items gs sums.packs.items settled.sound settled.used order
     settled.index c.args.product c.days_of.result.from c.days_of.result.until
     c.stretch_of-first.result.first c.stretch_of-first.result.end c.days_of.ensures.small.0
     c.days_of.ensures.small.1 first_is end_is c.args.span.now c.days_of.ensures.covers
     c.args.chosen.now)
     (subst (λ place. IsLeast (chosen_homes c.args.chosen.now fs
-    (between c.stretch_of-first.result.first place order)) c.loop-position.least) at
-    c.loop-position.invariant))
+    (between c.stretch_of-first.result.first place order)) c.loop-place.least) at
+    c.loop-place.invariant.least))
