@@ -139,13 +139,15 @@ itself (Some number) h = refl
 -- what is kept at the number of a lane's batch has the number of the batch's product
 pub product_on_lane : (entries : List Entry) (known : Known) → IsIndexOf entries known
     → AreNamed entries → (lane number : ℕ) → lane_batch_number entries lane ≡ Some number
-    → (kept : Option (Name × BatchTerms)) → kept ≡ slice_get known.batches number
-    → option_map (λ (batch : Name × BatchTerms). batch.1.product) kept
+    → (kept : Option BatchTerms)
+    → kept ≡ option_map (λ (batch : Name × BatchTerms). batch.1) (slice_get known.batches number)
+    → option_map (λ (terms : BatchTerms). terms.product) kept
     ≡ option_and_then (batch_product_number entries) (lane_batch entries lane)
 product_on_lane entries known is named lane number at kept told =
-    ap (option_map (λ (batch : Name × BatchTerms). batch.1.product))
-    (told
-    ∙ ap (λ batches. slice_get batches number) is.batches
+    ap (option_map (λ (terms : BatchTerms). terms.product)) told
+    ∙ ap (λ (o : Option (Name × BatchTerms)). option_map (λ (terms : BatchTerms). terms.product)
+    (option_map (λ (batch : Name × BatchTerms). batch.1) o))
+    (ap (λ batches. slice_get batches number) is.batches
     ∙ slice_get-map (λ (name : Name). (name, terms_of_batch entries name))
     (said batch_opened entries) number
     ∙ ap (option_map (λ (name : Name). (name, terms_of_batch entries name)))
@@ -153,9 +155,30 @@ product_on_lane entries known is named lane number at kept told =
     ∙ either (lane_batch entries lane) refl
   where
     either : (o : Option Name) → lane_batch entries lane ≡ o
-        → option_map (λ (batch : Name × BatchTerms). batch.1.product)
-        (option_map (λ (name : Name). (name, terms_of_batch entries name)) o)
+        → option_map (λ (terms : BatchTerms). terms.product)
+        (option_map (λ (batch : Name × BatchTerms). batch.1)
+        (option_map (λ (name : Name). (name, terms_of_batch entries name)) o))
         ≡ option_and_then (batch_product_number entries) o
     either None on = refl
     either (Some batch) on = itself (batch_product_number entries batch)
         (product_numbered entries named batch ∙ named.on_lane lane batch on)
+
+-- so do the terms that are kept there, in the order of the numbers
+pub terms_on_lane : (entries : List Entry) (known : Known) → IsIndexOf entries known
+    → AreNamed entries → (lane : ℕ) (terms : List BatchTerms)
+    → ((place : ℕ) → slice_get terms place
+    ≡ option_map (λ (batch : Name × BatchTerms). batch.1) (slice_get known.batches place))
+    → (kept : Option BatchTerms)
+    → kept ≡ option_and_then (slice_get terms) (lane_batch_number entries lane)
+    → option_map (λ (terms : BatchTerms). terms.product) kept
+    ≡ option_and_then (batch_product_number entries) (lane_batch entries lane)
+terms_on_lane entries known is named lane terms each kept = either (lane_batch_number entries lane) refl
+  where
+    either : (o : Option ℕ) → lane_batch_number entries lane ≡ o
+        → kept ≡ option_and_then (slice_get terms) o
+        → option_map (λ (terms : BatchTerms). terms.product) kept
+        ≡ option_and_then (batch_product_number entries) (lane_batch entries lane)
+    either None at told = ap (option_map (λ (terms : BatchTerms). terms.product)) told
+        ∙ ap (option_and_then (batch_product_number entries)) (no_lane entries named lane at)
+    either (Some number) at told =
+        product_on_lane entries known is named lane number at kept (told ∙ each number)

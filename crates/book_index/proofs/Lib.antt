@@ -1,9 +1,9 @@
 pub mod SameNames
 pub mod Places
+pub mod Zips
 pub mod LookUps
 pub mod LegalNames
 pub mod EntrySteps
 pub mod FirstNumbers
-pub mod MapLemmas
 pub mod LaneLemmas
 pub mod StateCounts

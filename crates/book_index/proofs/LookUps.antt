@@ -1,7 +1,6 @@
 -- What an index tells of a name is what the acts of its list say.
 use Rattle.std.proofs.Common.{◌≡◌, pos, true, false, List, Option, Some, None, is_some, option_map, refl, sym, ◌∙◌, ap}
 use Rattle.std.specs.Option.{unwrap_or}
-use Rattle.std.specs.Map.{lookup}
 use Rattle.book_words.specs.declared.name.Name.{Name}
 use Rattle.book_words.specs.declared.act.Unit as units
 use Rattle.book_words.specs.declared.act.BatchState.TheVariants.{Running}
@@ -12,8 +11,7 @@ use Rattle.book_index.specs.declared.types.ProductTerms.{ProductTerms}
 use Rattle.book_index.specs.declared.types.BatchTerms.{BatchTerms}
 use Rattle.book_index.specs.Known.{Known, names_of}
 use Rattle.book_index.specs.Listed.{IsIndexOf, terms_of_product, terms_of_batch, batch_product_number}
-use Rattle.book_index.proofs.SameNames.{is_one}
-use Rattle.book_index.proofs.Places.{names_kept, found}
+use Rattle.book_index.proofs.Places.{names_kept, kept_at, found}
 use Rattle.book_words.proofs.SaidNames.{nominal_where_put, unit_where_put, product_where_opened, density_where_opened}
 
 -- what is kept with a name is what is said of it, where it is kept just where something is said
@@ -27,14 +25,14 @@ kept_is_said (Some place) f x None other there is = absurd (let h : true ≡ fal
 
 -- what an index has of a product
 product_kept : (entries : List Entry) (known : Known) (name : Name) → IsIndexOf entries known
-    → lookup (is_one name) known.products
+    → kept_at name known.products
     ≡ option_map (λ _. terms_of_product entries name) (product_number entries name)
-product_kept entries known name is = ap (lookup (is_one name)) is.products
+product_kept entries known name is = ap (kept_at name) is.products
     ∙ found (terms_of_product entries) name (said product_named entries)
 
 pub nominal_told : (entries : List Entry) (known : Known) (name : Name)
     (result : Option ProductTerms) → IsIndexOf entries known
-    → result ≡ lookup (is_one name) known.products
+    → result ≡ kept_at name known.products
     → option_map (λ (terms : ProductTerms). terms.nominal) result ≡ nominal_of entries name
 nominal_told entries known name result is told =
     ap (option_map (λ (terms : ProductTerms). terms.nominal)) (told ∙ product_kept entries known name is)
@@ -43,7 +41,7 @@ nominal_told entries known name result is told =
     (sym (nominal_where_put entries name)) refl
 
 pub unit_told : (entries : List Entry) (known : Known) (name : Name) (result : Option ProductTerms)
-    → IsIndexOf entries known → result ≡ lookup (is_one name) known.products
+    → IsIndexOf entries known → result ≡ kept_at name known.products
     → option_map (λ (terms : ProductTerms). terms.unit) result ≡ unit_of entries name
 unit_told entries known name result is told =
     ap (option_map (λ (terms : ProductTerms). terms.unit)) (told ∙ product_kept entries known name is)
@@ -53,13 +51,13 @@ unit_told entries known name result is told =
 
 -- what an index has of a batch
 batch_kept : (entries : List Entry) (known : Known) (name : Name) → IsIndexOf entries known
-    → lookup (is_one name) known.batches
+    → kept_at name known.batches
     ≡ option_map (λ _. terms_of_batch entries name) (batch_number entries name)
-batch_kept entries known name is = ap (lookup (is_one name)) is.batches
+batch_kept entries known name is = ap (kept_at name) is.batches
     ∙ found (terms_of_batch entries) name (said batch_opened entries)
 
 pub density_told : (entries : List Entry) (known : Known) (name : Name) (result : Option BatchTerms)
-    → IsIndexOf entries known → result ≡ lookup (is_one name) known.batches
+    → IsIndexOf entries known → result ≡ kept_at name known.batches
     → option_map (λ (terms : BatchTerms). terms.density) result ≡ density_of entries name
 density_told entries known name result is told =
     ap (option_map (λ (terms : BatchTerms). terms.density)) (told ∙ batch_kept entries known name is)
@@ -70,7 +68,7 @@ density_told entries known name result is told =
 -- where a state is said of batches alone
 pub state_told : (entries : List Entry) (known : Known) (name : Name) (result : Option BatchTerms)
     → IsIndexOf entries known → is_some (state_of entries name) ≡ is_some (product_of entries name)
-    → result ≡ lookup (is_one name) known.batches
+    → result ≡ kept_at name known.batches
     → option_map (λ (terms : BatchTerms). terms.state) result ≡ state_of entries name
 state_told entries known name result is only told =
     ap (option_map (λ (terms : BatchTerms). terms.state)) (told ∙ batch_kept entries known name is)
@@ -82,7 +80,7 @@ state_told entries known name result is only told =
 pub batch_product_told : (entries : List Entry) (known : Known) (name : Name)
     (result : Option BatchTerms) → IsIndexOf entries known
     → is_some (batch_product_number entries name) ≡ is_some (product_of entries name)
-    → result ≡ lookup (is_one name) known.batches
+    → result ≡ kept_at name known.batches
     → option_map (λ (terms : BatchTerms). terms.product) result ≡ batch_product_number entries name
 batch_product_told entries known name result is only told =
     ap (option_map (λ (terms : BatchTerms). terms.product)) (told ∙ batch_kept entries known name is)

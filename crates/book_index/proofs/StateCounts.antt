@@ -3,7 +3,6 @@ use Rattle.std.proofs.Common.{◌≡◌, ℕ, ◌+◌, ◌≤◌, Bool, true, fa
 use Rattle.std.proofs.lemmas.List.{take_more}
 use Rattle.std.proofs.lemmas.List.Sums.{sum_by_push}
 use Rattle.std.proofs.lemmas.Option.{slice_get-map, slice_get_within, get_or_from_slice_get}
-use Rattle.std.specs.Map.{values_of}
 use Rattle.std.specs.Option.{option_map_or, unwrap_or}
 use Rattle.std.specs.List.{fold}
 use Rattle.book_words.specs.declared.name.Name.{Name}
@@ -28,7 +27,7 @@ is_in state batch = same_state batch.1.state state
 
 -- one batch more
 pub counted_more : (state : BatchState) (batches : List (Name × BatchTerms)) (place : ℕ)
-    (terms : BatchTerms) → slice_get (values_of batches) place ≡ Some terms
+    (terms : BatchTerms) → slice_get (map (λ (batch : Name × BatchTerms). batch.1) batches) place ≡ Some terms
     → count_by (is_in state) (take (place + 1) batches)
     ≡ count_by (is_in state) (take place batches)
     + (if same_state terms.state state then 1 else 0)

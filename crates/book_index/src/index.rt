@@ -1,4 +1,4 @@
-ghost use Rattle.std.specs.Prelude.{◌≡◌, ◌+◌, ◌<◌, ◌≤◌, [], ◌∷◌, ◌++◌, List, length, true, false, None, Some, map, option_map, slice_get, OnOk, OnErr, IsOk, IfSome, ◌^◌, count_by, if◌then◌else◌};
+ghost use Rattle.std.specs.Prelude.{◌≡◌, ◌+◌, ◌<◌, ◌≤◌, [], ◌∷◌, ◌++◌, List, length, true, false, None, Some, map, option_map, slice_get, OnOk, OnErr, IsOk, count_by, if◌then◌else◌};
 ghost use Rattle.std.specs.Option.{option_and_then};
 ghost use Rattle.book_words.specs.declared.act.Entry.{Entry};
 ghost use Rattle.book_words.specs.declared.act.BatchState.TheVariants as state;
@@ -17,8 +17,8 @@ ghost use Rattle.book_index.specs.Listed as listed;
 use crate::types::{BatchTerms, NoMemory, ProductTerms, States};
 use book_words::{Act, BatchState, Entry, Name};
 use hall_limits::{MAX_DESK, MAX_LANE, MIN_DESK};
-use indexmap::IndexMap;
-use std::alloc::{AllocError, Global};
+use name_table::NameTable;
+use std::alloc::Global;
 use std::marker::Model;
 
 // How many lanes there are.
@@ -30,8 +30,11 @@ const DESKS: usize = (MAX_DESK - MIN_DESK + 1) as usize;
 /// What the book knows by name, lane, day or desk.
 #[derive(Drop)]
 pub struct Index {
-    products: IndexMap<Name, ProductTerms>,
-    batches: IndexMap<Name, BatchTerms>,
+    products: NameTable,
+    batches: NameTable,
+    // The terms of the products and of the batches, in the same order.
+    product_terms: Vec<ProductTerms>,
+    batch_terms: Vec<BatchTerms>,
     // Whether each batch is closed, in the order of the batches.
     closed: Vec<bool>,
     // The number of the batch of each lane, from lane 1 on.
@@ -60,8 +63,10 @@ impl Index {
         ensures { IsIndexOf [] result }
     {
         Index {
-            products: IndexMap::new(alloc),
-            batches: IndexMap::new(alloc),
+            products: NameTable::new(alloc),
+            batches: NameTable::new(alloc),
+            product_terms: Vec::new(alloc),
+            batch_terms: Vec::new(alloc),
             closed: Vec::new(alloc),
             lanes: [None; LANES],
             day: None,
@@ -85,7 +90,7 @@ impl Index {
         ensures unit { (entries : List Entry) → IsIndexOf entries self.now
             → option_map (λ terms. terms.unit) result ≡ unit_of entries product.now }
     {
-        self.products.get(product).copied()
+        terms_at(&self.product_terms, self.product_number(product))
     }
 
     /// The number of a product: its place in the order in which they were put, from 0.
@@ -94,7 +99,7 @@ impl Index {
         ensures number { (entries : List Entry) → IsIndexOf entries self.now
             → result ≡ order.product_number entries product.now }
     {
-        number_at(self.products.get_index_of(product))
+        self.products.number(product)
     }
 
     /// The name of the product of a number.
@@ -102,8 +107,7 @@ impl Index {
         ensures { (entries : List Entry) → IsIndexOf entries self.now
             → result ≡ slice_get (said order.product_named entries) number }
     {
-        let (name, _) = self.products.get_index(number as usize)?;
-        Some(*name)
+        self.products.name(number)
     }
 
     /// The terms of a batch.
@@ -116,7 +120,7 @@ impl Index {
         ensures state { (entries : List Entry) → IsIndexOf entries self.now → IsLegal entries
             → option_map (λ terms. terms.state) result ≡ state_of entries batch.now }
     {
-        self.batches.get(batch).copied()
+        terms_at(&self.batch_terms, self.batch_number(batch))
     }
 
     /// The number of a batch: its place in the order in which they were opened, from 0.
@@ -125,7 +129,7 @@ impl Index {
         ensures number { (entries : List Entry) → IsIndexOf entries self.now
             → result ≡ order.batch_number entries batch.now }
     {
-        number_at(self.batches.get_index_of(batch))
+        self.batches.number(batch)
     }
 
     /// The name of the batch of a number.
@@ -133,8 +137,7 @@ impl Index {
         ensures { (entries : List Entry) → IsIndexOf entries self.now
             → result ≡ slice_get (said batch_opened entries) number }
     {
-        let (name, _) = self.batches.get_index(number as usize)?;
-        Some(*name)
+        self.batches.name(number)
     }
 
     /// The batch that a lane has.
@@ -162,9 +165,7 @@ impl Index {
             → option_map (λ terms. terms.product) result
             ≡ option_and_then (batch_product_number entries) (lane_batch entries lane) }
     {
-        let number = self.lane_batch_number(lane)?;
-        let (_, terms) = self.batches.get_index(number as usize)?;
-        Some(*terms)
+        terms_at(&self.batch_terms, self.lane_batch_number(lane))
     }
 
     // The number of the batch that a lane has.
@@ -234,8 +235,8 @@ impl Index {
         ensures { result ≡ count_by (λ batch. same_state batch.1.state state) self.now.batches }
     {
         let mut count = 0;
-        for place in 0..self.batches.len() {
-            let terms = self.batches[place];
+        for place in 0..self.batch_terms.len() {
+            let terms = self.batch_terms[place];
             count += one_if_same(terms.state, state);
         }
         count
@@ -253,12 +254,10 @@ impl Index {
         if more <= self.spare {
             return Ok(());
         }
-        let most = u32::MAX - more;
-        if self.products.len() > most as usize || self.batches.len() > most as usize {
-            return Err(AllocError);
-        }
-        self.products.reserve(more as usize)?;
-        self.batches.reserve(more as usize)?;
+        self.products.reserve(more)?;
+        self.batches.reserve(more)?;
+        self.product_terms.reserve(more as usize)?;
+        self.batch_terms.reserve(more as usize)?;
         self.closed.reserve(more as usize)?;
         self.spare = more;
         Ok(())
@@ -333,10 +332,11 @@ impl Index {
         ensures { self.new ≡ with_product name.now terms.now self.old }
     {
         self.spare -= 1;
-        if self.products.contains_key(name) {
+        if self.products.number(name).is_some() {
             return;
         }
-        let Ok(_) = self.products.insert(*name, *terms) else {
+        self.products.push(name);
+        let Ok(()) = self.product_terms.push(*terms) else {
             unreachable!()
         };
     }
@@ -347,10 +347,11 @@ impl Index {
         ensures { self.new ≡ with_batch name.now terms.now self.old }
     {
         self.spare -= 1;
-        if self.batches.contains_key(name) {
+        if self.batches.number(name).is_some() {
             return;
         }
-        let Ok(_) = self.batches.insert(*name, *terms) else {
+        self.batches.push(name);
+        let Ok(()) = self.batch_terms.push(*terms) else {
             unreachable!()
         };
         let Ok(()) = self.closed.push(is_closed(terms.state)) else {
@@ -362,11 +363,12 @@ impl Index {
     fn set_state(&mut self, batch: &Name, state: BatchState)
         ensures { self.new ≡ with_batch_state batch.now state self.old }
     {
-        let Some(place) = self.batches.get_index_of(batch) else {
+        let Some(number) = self.batches.number(batch) else {
             return;
         };
-        let terms = self.batches[place];
-        self.batches[place] = BatchTerms { state, ..terms };
+        let place = number as usize;
+        let terms = self.batch_terms[place];
+        self.batch_terms[place] = BatchTerms { state, ..terms };
         self.closed[place] = is_closed(state);
     }
 
@@ -393,13 +395,12 @@ impl Index {
     }
 }
 
-// The number that is a place, where there is one.
-fn number_at(place: Option<usize>) -> Option<u32>
-    requires { IfSome place (λ place. place < 2 ^ 32) }
-    ensures { result ≡ place }
+// The terms of a number, where there is one.
+fn terms_at<T: Copy>(terms: &[T], number: Option<u32>) -> Option<T>
+    ensures { result ≡ option_and_then (slice_get terms.now) number }
 {
-    match place {
-        Some(place) => Some(place as u32),
+    match number {
+        Some(number) => terms.get(number as usize).copied(),
         None => None,
     }
 }

@@ -1,4 +1,4 @@
-ghost use Rattle.std.specs.Prelude.{◌≡◌, ◌+◌, ◌<◌, ◌≤◌, [], ◌∷◌, ◌++◌, vec_len, None, slice_get, OnOk, IsOk};
+ghost use Rattle.std.specs.Prelude.{◌≡◌, ◌+◌, ◌<◌, ◌≤◌, ◌^◌, [], ◌∷◌, ◌++◌, length, vec_len, None, slice_get, OnOk, IsOk};
 ghost use Rattle.book_words.specs.Order as numbers;
 ghost use Rattle.name_table.specs.Search.{AreApart};
 
@@ -61,10 +61,11 @@ impl NameTable {
         self.names.get(number as usize).copied()
     }
 
-    /// Reserves places for `more` further names. It takes nodes for the lacking places alone, so that
-    /// memory doesn't grow with each call.
+    /// Reserves places for `more` further names. It takes nodes for the lacking places alone, so
+    /// that memory doesn't grow with each call.
     pub fn reserve(&mut self, more: u32) -> Result<(), AllocError>
         ensures ok { OnOk result (more ≤ self.new.spare) }
+        ensures few { OnOk result (length self.new.names + more < 2 ^ 32) }
         ensures names { self.new.names ≡ self.old.names }
         ensures spare { self.old.spare ≤ self.new.spare }
         ensures room { more ≤ self.old.spare → IsOk result }

@@ -1,12 +1,12 @@
 -- The book of a session may be shared among threads. A type in which a tree of the running totals
--- stands has a lemma here, since the search doesn't open all of them at once.
+-- or of the names stands has a lemma here, since the search doesn't open all of them at once.
 use denote.RattleType.{RattleType}
 use denote.Param.Send.{IsSend, IsSync, sendable}
 use Rattle.std.proofs.Crossing as heap
 use Rattle.std.specs.declared.sync.ledger.Ledger as ledger
 use Rattle.balanced_tree.proofs.tree.Tree.TheLaws.TheKnot as tree
 use Rattle.disk_core.specs.declared.disk.Disk as disk
-use Rattle.book_index.proofs.index.Index.TheSendSync as index
+use Rattle.book_index.specs.contracts.index.Index as Index
 use Rattle.book_packs.specs.contracts.packs.Packs as Packs
 use Rattle.book_samples.proofs.samples.Samples.TheSendSync as samples
 use Rattle.book_state.specs.contracts.state.State as State
@@ -19,11 +19,14 @@ use Rattle.turn_pass.proofs.turn.Turn.TheSendSync as turn
 use Rattle.shared_book.specs.contracts.locked.LockedBook as LockedBook
 use Rattle.shared_book.specs.contracts.shared.Shared as Shared
 
+index_send : IsSend Index.the_row
+index_send = search (heap.crosses, tree.crosses, sendable) depth 60 fits 20000
+
 packs_send : IsSend Packs.the_row
 packs_send = search (heap.crosses, tree.crosses, sendable) depth 60 fits 20000
 
 state_send : IsSend State.the_row
-state_send = search (packs_send, index.the_send, samples.the_send, heap.crosses, sendable) depth 60
+state_send = search (packs_send, index_send, samples.the_send, heap.crosses, sendable) depth 60
     fits 20000
 
 book_send : IsSend Book.the_row

@@ -1,41 +1,23 @@
-use Rattle.std.proofs.Common.{rules, ◌≡◌, ◌∙◌, None, Some, sym, ap, option_map, slice_get}
+use Rattle.std.proofs.Common.{slice_get, option_map, ap, ◌∙◌}
 use Rattle.std.specs.Option.{option_and_then}
+use Rattle.book_words.specs.declared.name.Name.{Name}
 use Rattle.book_index.specs.declared.types.BatchTerms.{BatchTerms}
 use Rattle.book_index.specs.Known.{Known}
-use Rattle.book_index.specs.Listed.{batch_product_number}
+use Rattle.book_index.proofs.Zips.{terms_at}
 use Rattle.book_index.proofs.LegalNames.{legal_named}
-use Rattle.book_index.proofs.LaneLemmas.{no_lane, product_on_lane}
+use Rattle.book_index.proofs.LaneLemmas.{terms_on_lane}
 use Rattle.book_index.proofs.index.Index.lane_terms.Goals as goal
-
-pub returns-in_err-number : goal.returns-in_err-number
-returns-in_err-number c = record {
-  product = λ entries is legal.
-      let none : c.from_residual.result ≡ None = search rules in
-      ap (option_map (λ (terms : BatchTerms). terms.product)) none
-      ∙ ap (option_and_then (batch_product_number entries))
-      (no_lane entries (legal_named entries legal) c.args.lane
-      (sym (c.in_err-number.ensures entries is legal)));
-}
-
-pub returns-in_err-terms : goal.returns-in_err-terms
-returns-in_err-terms c = record {
-  product = λ entries is legal.
-      let none : c.from_residual-in_err-terms.result ≡ None = search rules in
-      ap (option_map (λ (terms : BatchTerms). terms.product)) none
-      ∙ product_on_lane entries c.args.self.now is
-      (legal_named entries legal) c.args.lane c.in_ok-number.number
-      (sym (c.in_ok-number.ensures entries is legal)) None
-      (c.in_err-terms.ensures.entry ∙ ap
-      (λ (known : Known). slice_get known.batches c.in_ok-number.number) c.self.view_is);
-}
 
 pub returns : goal.returns
 returns c = record {
   product = λ entries is legal.
-      product_on_lane entries c.args.self.now is
-      (legal_named entries legal) c.args.lane c.in_ok-number.number
-      (sym (c.in_ok-number.ensures entries is legal))
-      (Some (c.in_ok-terms.field-0-0.now, c.in_ok-terms.terms.now))
-      (c.in_ok-terms.ensures.entry ∙ ap
-      (λ (known : Known). slice_get known.batches c.in_ok-number.number) c.self.view_is);
+      let terms = c.self.inside.batch_terms.items in
+      terms_on_lane entries c.args.self.now is (legal_named entries legal) c.args.lane terms
+      (λ place. terms_at c.self.inside.batches.names terms c.self.invariant.batches place
+      ∙ ap (λ (known : Known). option_map (λ (batch : Name × BatchTerms). batch.1)
+      (slice_get known.batches place)) c.self.view_is)
+      c.terms_at.result
+      (c.terms_at.ensures
+      ∙ ap (λ ts. option_and_then (slice_get ts) c.lane_batch_number.result) c.deref.ensures.value
+      ∙ ap (option_and_then (slice_get terms)) (c.lane_batch_number.ensures entries is legal));
 }

@@ -1,18 +1,23 @@
-use Rattle.std.proofs.Common.{◌-◌, ap, sym, ◌∙◌}
+use Rattle.std.proofs.Common.{◌≡◌, ◌-◌, zip, true, false, is_some, ap, sym, ◌∙◌}
+use Rattle.book_words.specs.Order.{place_of}
 use Rattle.book_index.specs.contracts.index.Index.{the_view}
+use Rattle.book_index.specs.Known.{names_of}
 use Rattle.book_index.specs.Changes.{with_product}
-use Rattle.book_index.proofs.MapLemmas.{named_there, named_new, put_new}
+use Rattle.book_index.proofs.Zips.{names_zip, named_there, named_new}
 use Rattle.book_index.proofs.index.Index.put_product.Goals as goal
 
-pub returns-then-contains_key : goal.returns-then-contains_key
-returns-then-contains_key c =
+pub returns-then-is_some : goal.returns-then-is_some
+returns-then-is_some c =
     let index = c.self.inside in
+    let names = index.products.names in
+    let kept = index.product_terms.items in
     let name = c.args.name.now in
     let terms = c.args.terms.now in
+    let there : is_some (place_of (names_of (zip names kept)) name) ≡ true =
+    ap (λ ns. is_some (place_of ns name)) (names_zip names kept c.self.invariant.products)
+    ∙ ap is_some (sym c.number.ensures.number) ∙ sym c.is_some.ensures ∙ c.if-is_some.true in
     (λ i. record (the_view index) {
-      products =
-          sym (named_there name terms index.products.entries
-          (sym c.contains_key.ensures ∙ c.if-contains_key.true)) i;
+      products = sym (named_there name terms (zip names kept) there) i;
       spare = index.spare - 1;
     })
     ∙ ap (with_product name terms) c.self.view_is
@@ -22,8 +27,9 @@ returns c =
     let index = c.self.inside in
     let name = c.args.name.now in
     let terms = c.args.terms.now in
-    let new = sym c.contains_key.ensures ∙ c.if-contains_key.false in
-    let put = put_new index.products name terms c.insert.new.self.entries new
-    c.in-Ok.ensures.entries ∙ sym (named_new name terms index.products.entries new) in
+    let new : is_some (place_of index.products.names name) ≡ false =
+    ap is_some (sym c.number.ensures.number) ∙ sym c.is_some.ensures ∙ c.if-is_some.false in
+    let put = named_new name terms index.products.names index.product_terms.items
+    c.self.invariant.products new _ _ c.push.ensures.names c.in-Ok.ensures.items in
     (λ i. record (the_view index) { products = put i; spare = index.spare - 1 })
     ∙ ap (with_product name terms) c.self.view_is
