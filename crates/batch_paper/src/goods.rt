@@ -54,7 +54,7 @@ pub fn tare_for(state: &State, batch: &Name, product: &Name, day: i32) -> DatedT
     requires { product_of state.now.entries batch.now ≡ Some product.now }
     ensures { result ≡ tare_for state.now.entries batch.now day }
 {
-    let _ = batch;
+    let _ = batch; // the clauses alone speak of it
     DatedTare {
         day,
         tare: state.tare(product, day).unwrap_or(0),

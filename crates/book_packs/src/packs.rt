@@ -134,8 +134,8 @@ impl Packs {
 
     /// The number of the first closed batch, in the order of opening, of which a tare of a product
     /// from a day on would change a net; `None` where there is none. `closed` has a flag for each
-    /// batch. It takes no memory, and walks over the groups of the product on the days that the
-    /// tare decides, those of one batch and day.
+    /// batch. It takes no memory. Of the batches of the product on each day that the tare decides, by
+    /// their rising numbers, it looks at those up to the first closed one.
     pub fn frozen(&self, product: u32, day: i32, tare: i64, closed: &[bool]) -> Option<u32>
         requires { length closed.now ≡ length self.now.batches }
         ensures { (entries : List Entry) (name : Name) → IsPacksOf entries self.now

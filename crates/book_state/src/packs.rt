@@ -51,7 +51,7 @@ impl State {
         ensures { result ≡ option_map (λ reading. reading.number)
             (population.unsettled_reading self.now.entries lane) }
     {
-        let _ = &self.packs;
+        let _ = &self.packs; // so that what is known of it is known at both ends
         if !is_lane(lane) {
             return None;
         }

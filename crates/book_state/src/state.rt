@@ -84,7 +84,7 @@ impl State {
         ensures value { result ≡ told.entry_numbered self.now.entries number }
         ensures legal { IsLegal self.now.entries }
     {
-        let _ = &self.entries;
+        let _ = &self.entries; // so that what is known of it is known at both ends
         if number == 0 {
             return None;
         }
