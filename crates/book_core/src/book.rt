@@ -283,7 +283,7 @@ impl Book {
         let Some(Pending { drawn, .. }) = self.pending.take() else {
             unreachable!()
         };
-        let entry = *ready.entry();
+        let entry = ready.entry();
         let reply = reply_new(&self.state, &entry.act, entry.signal);
         self.state.enter(entry, drawn);
         Answered {

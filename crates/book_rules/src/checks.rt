@@ -149,7 +149,7 @@ pub fn lane_busy(state: &State, lane: u8) -> Option<Refusal>
 pub fn lane_idle(state: &State, lane: u8) -> Option<Refusal>
     ensures { result ≡ lane_idle state.now.entries lane }
 {
-    refuse_if(state.lane(lane).is_none(), Refusal::LaneIdle)
+    refuse_if(state.is_idle(lane), Refusal::LaneIdle)
 }
 
 /// There is no tare for the batch's product on the newest day.

@@ -1,5 +1,5 @@
 -- What is known of the batch of a lane by the numbers of the batch and of its product.
-use Rattle.std.proofs.Common.{◌≡◌, ℕ, ℤ, ◌<◌, List, length, Option, Some, None, refl, sym, ◌∙◌, ap}
+use Rattle.std.proofs.Common.{◌≡◌, ℕ, ℤ, ◌<◌, List, length, Bool, true, false, not, Option, Some, None, is_some, is_none, refl, sym, ◌∙◌, ap}
 use Rattle.std.specs.Option.{option_and_then}
 use Rattle.book_words.specs.declared.name.Name.{Name}
 use Rattle.book_words.specs.declared.act.Entry.{Entry}
@@ -10,6 +10,8 @@ use Rattle.book_words.specs.Readings.{tare_of_reading}
 use Rattle.book_words.specs.Answers.{IsLegal}
 use Rattle.book_packs.specs.Stand.{Standing, IsPacksOf}
 use Rattle.book_index.specs.Listed.{batch_product_number}
+use Rattle.book_index.proofs.LegalNames.{legal_named}
+use Rattle.book_index.proofs.LaneLemmas.{no_lane}
 use Rattle.book_state.proofs.Batches.{number_within}
 use Rattle.book_state.proofs.NumberedNames.{no_product}
 use Rattle.book_state.proofs.EntryFacts.{batchless}
@@ -61,3 +63,23 @@ pub batch_on : (entries : List Entry) (batch : Option Name) (number : ℕ)
     × (batch ≡ Some name)
 batch_on entries None number is = absurd (cc)
 batch_on entries (Some name) number is = (name, refl)
+
+-- a lane has no batch where it has no batch's number
+pub idle_by_number : (entries : List Entry) (lane : ℕ) (number : Option ℕ) (idle : Bool)
+    → IsLegal entries → is_some number ≡ not idle
+    → number ≡ option_and_then (batch_number entries) (lane_batch entries lane)
+    → idle ≡ is_none (lane_batch entries lane)
+idle_by_number entries lane None idle legal told is = each idle told
+    ∙ ap (λ (o : Option Name). is_none o)
+    (no_lane entries (legal_named entries legal) lane (sym is))
+  where
+    each : (b : Bool) → false ≡ not b → b ≡ true
+    each true h = refl
+    each false h = h
+idle_by_number entries lane (Some number) idle legal told is = each idle told
+    ∙ sym (ap (λ (o : Option Name). is_none o)
+    (batch_on entries (lane_batch entries lane) number is).1)
+  where
+    each : (b : Bool) → true ≡ not b → b ≡ false
+    each true h = h
+    each false h = refl

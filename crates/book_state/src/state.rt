@@ -111,18 +111,18 @@ impl State {
     }
 
     /// Enters a lawful entry that there is room for, with what its act draws. It takes no memory.
-    pub fn enter(&mut self, entry: Entry, drawn: Drawn)
+    pub fn enter(&mut self, entry: &Entry, drawn: Drawn)
         requires room { 0 < self.old.spare }
-        requires lawful { IsLawful self.old.entries entry }
-        requires drawn { drawn ≡ drawn_by self.old.entries entry.act }
-        ensures entries { self.new.entries ≡ self.old.entries ++ entry ∷ [] }
+        requires lawful { IsLawful self.old.entries entry.now }
+        requires drawn { drawn ≡ drawn_by self.old.entries entry.now.act }
+        ensures entries { self.new.entries ≡ self.old.entries ++ entry.now ∷ [] }
         ensures spare { self.new.spare + 1 ≡ self.old.spare }
     {
         let row = self.entries.len() as u32 + 1;
-        enter_packs(&mut self.packs, &self.index, &self.entries, &entry, &drawn);
-        enter_samples(&mut self.samples, &self.index, &self.entries, &entry, drawn);
-        self.index.enter(row, &entry);
-        self.entries.push_reserved(entry);
+        enter_packs(&mut self.packs, &self.index, &self.entries, entry, &drawn);
+        enter_samples(&mut self.samples, &self.index, &self.entries, entry, drawn);
+        self.index.enter(row, entry);
+        self.entries.push_reserved(*entry);
         self.spare -= 1;
     }
 

@@ -17,26 +17,26 @@ pub invariant_of-self : goal.invariant_of-self
 invariant_of-self c =
     let list : c.self.inside.entries.items ≡ c.args.self.now.entries =
     ap (λ (v : StateView). v.entries) c.self.view_is in
-    let lawful : IsLawful c.self.inside.entries.items c.args.entry =
-    subst (λ (es : List Entry). IsLawful es c.args.entry) (sym list) c.requires.lawful in
+    let lawful : IsLawful c.self.inside.entries.items c.args.entry.now =
+    subst (λ (es : List Entry). IsLawful es c.args.entry.now) (sym list) c.requires.lawful in
     let kept = c.self.invariant in
-    let items : c.push_reserved.new.self.items ≡ c.self.inside.entries.items ++ c.args.entry ∷ [] =
+    let items : c.push_reserved.new.self.items ≡ c.self.inside.entries.items ++ c.args.entry.now ∷ [] =
     c.push_reserved.ensures.items in
     let count : c.len.result ≡ length c.self.inside.entries.items = search rules in
     let row : c.len.result + 1 ≡ length c.self.inside.entries.items + 1 = ap (λ n. n + 1) count in
     let room : 0 < c.self.inside.spare =
     subst (λ n. 0 < n) (sym (ap (λ (v : StateView). v.spare) c.self.view_is)) c.requires.room in
-    let packs : IsPacksOf (c.self.inside.entries.items ++ c.args.entry ∷ []) c.enter_packs.new.packs =
-    subst (λ (es : List Entry). IsPacksOf (es ++ c.args.entry ∷ []) c.enter_packs.new.packs)
+    let packs : IsPacksOf (c.self.inside.entries.items ++ c.args.entry.now ∷ []) c.enter_packs.new.packs =
+    subst (λ (es : List Entry). IsPacksOf (es ++ c.args.entry.now ∷ []) c.enter_packs.new.packs)
     c.deref.ensures.value c.enter_packs.ensures.kept in
-    let samples : IsSamplesOf (c.self.inside.entries.items ++ c.args.entry ∷ [])
+    let samples : IsSamplesOf (c.self.inside.entries.items ++ c.args.entry.now ∷ [])
     c.enter_samples.new.samples =
-    subst (λ (es : List Entry). IsSamplesOf (es ++ c.args.entry ∷ []) c.enter_samples.new.samples)
+    subst (λ (es : List Entry). IsSamplesOf (es ++ c.args.entry.now ∷ []) c.enter_samples.new.samples)
     c.deref-2.ensures.value c.enter_samples.ensures.kept in
     record {
       stand = record {
         legal = subst IsLegal (sym items)
-            (legal-push c.self.inside.entries.items c.args.entry kept.stand.legal lawful);
+            (legal-push c.self.inside.entries.items c.args.entry.now kept.stand.legal lawful);
         index = subst (λ (es : List Entry). IsIndexOf es c.enter.new.self) (sym items)
             (c.enter.ensures.entered c.self.inside.entries.items kept.stand.index kept.stand.legal
             lawful row);
