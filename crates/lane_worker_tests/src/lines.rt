@@ -1,10 +1,11 @@
-use crate::halls::{copy, open_hall};
+use crate::halls::open_hall;
 use CellNext::{Bad, End, Gross};
 use book_words::Name;
 use disk_core::{Failed, MemorySink, MemorySource, Source};
 use lane_worker::{
     Cell, CellNext, EitherCell, LaneEnd, LaneStop, LineCell, LineGate, ListCell, PairLane, run_lane,
 };
+use memory_hall::copy;
 use std::alloc::Global;
 use std::test::Fail;
 
