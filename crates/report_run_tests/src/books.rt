@@ -1,10 +1,8 @@
 use book_store::{OneCaller, Store};
-use book_words::{Act, Ask, Caller, Name, Prior, Unit, Want};
+use book_words::{Act, Name, Prior, Unit};
 use disk_core::QuietDisk;
+use memory_hall::{MARCH_3, enter, enter_acts, rice_acts};
 use std::alloc::Global;
-
-// The day 2025-03-03, counted from 1970-01-01.
-const MARCH_3: i32 = 20_150;
 
 // The room of a disk, in bytes.
 const DISK_ROOM: usize = 1_000_000;
@@ -26,36 +24,6 @@ pub(crate) enum Worked {
     Two,
     /// A batch of rice with many packs.
     Long,
-}
-
-// Asks for an act as a script does.
-fn enter(hall: &mut Hall, act: Act) -> Option<()> {
-    let ask = Ask {
-        desk: 0,
-        request: 0,
-        want: Want::Act(act),
-    };
-    hall.ask(&ask).ok()?;
-    Some(())
-}
-
-// Opens a batch of rice in bags of 10 g.
-fn open_rice(hall: &mut Hall) -> Option<()> {
-    let rice = Name::new(b"rice250".as_slice())?;
-    let put = Act::PutProduct {
-        name: rice,
-        nominal: 250_000,
-        unit: Unit::Mass,
-    };
-    enter(hall, put)?;
-    put_tare(hall, 10_000)?;
-    let batch = Name::new(b"A".as_slice())?;
-    let open = Act::OpenBatch {
-        batch,
-        product: rice,
-        density: 0,
-    };
-    enter(hall, open)
 }
 
 // Puts the tare of the bags.
@@ -91,11 +59,10 @@ fn open_two(hall: &mut Hall) -> Option<()> {
         },
         Act::StartLane { lane: 1, batch },
     ];
-    for act in &acts {
-        enter(hall, *act)?;
-    }
+    enter_acts(hall, &acts)?;
     weigh(hall, 1_074_100, Prior::Nothing)?;
-    open_rice(hall)
+    let [_, product, tare, open, _] = rice_acts()?;
+    enter_acts(hall, &[product, tare, open])
 }
 
 // Weighs a pack on lane 1.
@@ -129,17 +96,14 @@ fn weigh_many(hall: &mut Hall) -> Option<()> {
 
 // Enters what the book has.
 fn fill(hall: &mut Hall, worked: Worked) -> Option<()> {
-    enter(hall, Act::NewDay { day: MARCH_3 })?;
-    if matches!(worked, Worked::Two) {
-        return open_two(hall);
-    }
-    open_rice(hall)?;
-    let batch = Name::new(b"A".as_slice())?;
-    enter(hall, Act::StartLane { lane: 1, batch })?;
+    let rice = rice_acts()?;
+    let first = if matches!(worked, Worked::Two) { 1 } else { 5 };
+    enter_acts(hall, rice.get(..first).unwrap_or(&[]))?;
     match worked {
+        Worked::Opened => Some(()),
         Worked::Corrected => correct(hall),
+        Worked::Two => open_two(hall),
         Worked::Long => weigh_many(hall),
-        _ => Some(()),
     }
 }
 
