@@ -1,23 +1,15 @@
 use disk_core::ListDoor;
 use lane_worker::{Cell, CellNext};
+use memory_hall::door_of;
 use remote_cell::RemoteCell;
-use std::alloc::{AllocError, Global};
+use std::alloc::Global;
 
 /// A cell over a door in memory.
 pub(crate) type TestCell = RemoteCell<ListDoor>;
 
 /// A cell to whose door connections with these bytes come, of which these calls fail.
-pub(crate) fn cell_of(
-    alloc: Global,
-    connections: &[&[u8]],
-    fails: &[u32],
-) -> Result<TestCell, AllocError> {
-    let mut all = Vec::new(alloc);
-    for bytes in connections {
-        all.push(Vec::from_slice(alloc, bytes)?)?;
-    }
-    let fails = Vec::from_slice(alloc, fails)?;
-    Ok(RemoteCell::new(ListDoor::new(alloc, all, fails)))
+pub(crate) fn cell_of(alloc: Global, connections: &[&[u8]], fails: &[u32]) -> TestCell {
+    RemoteCell::new(door_of(alloc, connections, fails))
 }
 
 /// Whether a cell gives these items next, one after another.

@@ -1,17 +1,10 @@
 use crate::cells::cell_of;
-use book_store::{OneCaller, Store};
-use book_words::{Act, Ask, Caller, Name, Unit, Want};
-use disk_core::MemoryDisk;
+use book_words::Name;
 use lane_worker::{LaneEnd, LaneStop, ListGate, PairLane, run_lane};
+use memory_hall::open_book;
 use remote_cell::MAX_TURNS;
 use std::alloc::{AllocError, Global};
 use std::test::Fail;
-
-// The day 2025-03-03, counted from 1970-01-01.
-const MARCH_3: i32 = 20_150;
-
-/// A caller of a book over a disk in memory.
-pub(crate) type Hall = OneCaller<MemoryDisk>;
 
 // The bad line at which a lane ends over a cell to which these connections come, if it isn't done,
 // how often its gate opens, and how many rows the book then has.
@@ -44,60 +37,12 @@ const CASES: &[Case] = &[
     },
 ];
 
-// The opening acts.
-fn opening_acts(batch: Name) -> Option<[Act; 4]> {
-    let rice = Name::new(b"rice250".as_slice())?;
-    Some([
-        Act::NewDay { day: MARCH_3 },
-        Act::PutProduct {
-            name: rice,
-            nominal: 250_000,
-            unit: Unit::Mass,
-        },
-        Act::PutTare {
-            product: rice,
-            day: MARCH_3,
-            tare: 10_000,
-        },
-        Act::OpenBatch {
-            batch,
-            product: rice,
-            density: 0,
-        },
-    ])
-}
-
-// Asks for the opening acts.
-fn open_batch(hall: &mut Hall, batch: Name) -> Option<()> {
-    for act in &opening_acts(batch)? {
-        let ask = Ask {
-            desk: 0,
-            request: 0,
-            want: Want::Act(*act),
-        };
-        hall.ask(&ask).ok()?;
-    }
-    Some(())
-}
-
-/// A hall with the opening rows. The worker of lane 1 speaks.
-pub(crate) fn open_hall(alloc: Global, batch: Name) -> Option<Hall> {
-    let disk = MemoryDisk::new(alloc, Vec::new(alloc), Vec::new(alloc));
-    let Ok(store) = Store::mount(alloc, disk, 1_000) else {
-        return None;
-    };
-    let mut hall = OneCaller::new(store, 0);
-    let _ = open_batch(&mut hall, batch);
-    hall.turn(1);
-    Some(hall)
-}
-
 // Whether a case comes out right.
 fn comes_out(alloc: Global, case: &Case) -> Option<bool> {
     let batch = Name::new(b"A".as_slice())?;
-    let cell = cell_of(alloc, case.connections, &[]).ok()?;
+    let cell = cell_of(alloc, case.connections, &[]);
     let mut lane = PairLane::new(cell, ListGate::new(alloc, Vec::new(alloc)));
-    let mut hall = open_hall(alloc, batch)?;
+    let mut hall = open_book(alloc, &[], 4, 1)?;
     let end = run_lane(&mut hall, &mut lane, 1, batch);
     let store = hall.back();
     let rows = store.len();
@@ -134,9 +79,9 @@ fn long_session(alloc: Global) -> Result<Vec<u8>, AllocError> {
 fn stop_of_long(alloc: Global) -> Option<LaneStop> {
     let batch = Name::new(b"A".as_slice())?;
     let session = long_session(alloc).ok()?;
-    let cell = cell_of(alloc, &[session.as_slice()], &[]).ok()?;
+    let cell = cell_of(alloc, &[session.as_slice()], &[]);
     let mut lane = PairLane::new(cell, ListGate::new(alloc, Vec::new(alloc)));
-    let mut hall = open_hall(alloc, batch)?;
+    let mut hall = open_book(alloc, &[], 4, 1)?;
     let end = run_lane(&mut hall, &mut lane, 1, batch);
     let _ = hall.back().close();
     Some(end.stop)

@@ -1,6 +1,6 @@
-use crate::lanes::open_hall;
 use book_words::Name;
 use lane_worker::{LaneEnd, LaneStop, ListGate, PairLane, run_lane};
+use memory_hall::open_book;
 use remote_cell::RemoteCell;
 use std::alloc::Global;
 use std::io::{Read, Write};
@@ -18,7 +18,7 @@ fn say(rt: HostRuntime, port: u16, bytes: &[u8]) -> Result<TcpStream, Fail> {
 // How a lane ends whose scale comes to a door.
 fn end_over(alloc: Global, door: TcpDoor<HostRuntime>) -> Option<LaneEnd> {
     let batch = Name::new(b"A".as_slice())?;
-    let mut hall = open_hall(alloc, batch)?;
+    let mut hall = open_book(alloc, &[], 4, 1)?;
     let mut lane = PairLane::new(RemoteCell::new(door), ListGate::new(alloc, Vec::new(alloc)));
     let end = run_lane(&mut hall, &mut lane, 1, batch);
     let _ = hall.back().close();
