@@ -1,5 +1,6 @@
-use crate::halls::{CALLS, door_of, open_hall, serve};
+use crate::halls::{CALLS, open_hall, serve};
 use disk_core::ListDoor;
+use memory_hall::door_of;
 use office_door::{DoorEnd, DoorStop};
 use std::alloc::Global;
 use std::test::Fail;
@@ -162,7 +163,7 @@ fn has_written(door: &ListDoor, texts: &[&[u8]; 3]) -> bool {
 
 // Whether a session in which a call of the door fails is seen so.
 fn door_fails_right(alloc: Global, call: u32, seen: &Seen) -> Option<bool> {
-    let mut door = door_of(alloc, &SESSION, &[call]).ok()?;
+    let mut door = door_of(alloc, &SESSION, &[call]);
     let hall = open_hall(alloc, &[])?;
     let (end, rows, _) = serve(alloc, hall, &mut door);
     let wanted = DoorEnd {
@@ -195,7 +196,7 @@ const DISK_FAILS: [[&[u8]; 3]; 3] = [
 
 // Whether a session in which a call of the disk fails is seen so.
 fn disk_fails_right(alloc: Global, call: u32, texts: &[&[u8]; 3]) -> Option<bool> {
-    let mut door = door_of(alloc, &SESSION, &[]).ok()?;
+    let mut door = door_of(alloc, &SESSION, &[]);
     let hall = open_hall(alloc, &[call])?;
     let (end, rows, faults) = serve(alloc, hall, &mut door);
     let wanted = DoorEnd {

@@ -1,4 +1,5 @@
-use crate::halls::{door_of, empty_hall, open_hall, serve};
+use crate::halls::{empty_hall, open_hall, serve};
+use memory_hall::door_of;
 use office_door::{DoorEnd, DoorStop};
 use std::alloc::Global;
 use std::test::Fail;
@@ -54,7 +55,7 @@ fn is_done(end: DoorEnd, served: u32) -> bool {
 
 // The second copy of a request acts no more, and is told what the first was.
 fn twice_right(alloc: Global) -> Option<bool> {
-    let mut door = door_of(alloc, &[TWICE], &[]).ok()?;
+    let mut door = door_of(alloc, &[TWICE], &[]);
     let hall = open_hall(alloc, &[])?;
     let (end, rows, _) = serve(alloc, hall, &mut door);
     Some(is_done(end, 2) && rows == 2 && door.written(0) == Some(ROW_TWICE))
@@ -62,7 +63,7 @@ fn twice_right(alloc: Global) -> Option<bool> {
 
 // Two lengths that are the same are one.
 fn length_right(alloc: Global) -> Option<bool> {
-    let mut door = door_of(alloc, &[LENGTH_TWICE], &[]).ok()?;
+    let mut door = door_of(alloc, &[LENGTH_TWICE], &[]);
     let hall = open_hall(alloc, &[])?;
     let (end, rows, _) = serve(alloc, hall, &mut door);
     Some(is_done(end, 1) && rows == 2 && door.written(0) == Some(ROW))
@@ -82,7 +83,7 @@ fn cut_response(size: usize) -> &'static [u8] {
 // A request that is cut is at fault, and no part of it acts.
 fn cut_right(alloc: Global, size: usize) -> Option<bool> {
     let part = ONE.get(..size)?;
-    let mut door = door_of(alloc, &[part], &[]).ok()?;
+    let mut door = door_of(alloc, &[part], &[]);
     let hall = open_hall(alloc, &[])?;
     let (end, rows, _) = serve(alloc, hall, &mut door);
     let served = if size == 0 { 0 } else { 1 };
@@ -101,7 +102,7 @@ fn wrong_cut(alloc: Global) -> Option<usize> {
 
 // A lane that there isn't is refused over a book without a row.
 fn lane_right(alloc: Global) -> Option<bool> {
-    let mut door = door_of(alloc, &[LANE_17], &[]).ok()?;
+    let mut door = door_of(alloc, &[LANE_17], &[]);
     let hall = empty_hall(alloc, &[])?;
     let (end, rows, _) = serve(alloc, hall, &mut door);
     Some(is_done(end, 1) && rows == 0 && door.written(0) == Some(NO_LANE))
