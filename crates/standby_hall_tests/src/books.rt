@@ -1,9 +1,7 @@
-use book_words::{Act, Entry, Name, Prior, Unit};
+use book_words::{Act, Entry, Prior};
+use memory_hall::rice_acts;
 use pack_judge::Signal;
 use std::fmt;
-
-/// 2025-03-03 in days since 1970-01-01.
-const MARCH_3: i32 = 20_150;
 
 /// How many rows the worked book has.
 pub(crate) const ROWS: u32 = 5;
@@ -43,32 +41,15 @@ pub(crate) fn weighed(gross: i64, prior: Prior) -> Entry {
     }
 }
 
-fn named(bytes: &[u8]) -> Result<Name, fmt::Error> {
-    Name::new(bytes).ok_or(fmt::Error)
-}
-
 /// The entries of the worked book, and a pack of 251 g behind them.
 pub(crate) fn worked() -> Result<[Entry; 6], fmt::Error> {
-    let rice = named(b"rice250".as_slice())?;
-    let batch = named(b"A".as_slice())?;
+    let [day, product, tare, open, start] = rice_acts().ok_or(fmt::Error)?;
     Ok([
-        by_hall(Act::NewDay { day: MARCH_3 }),
-        by_hall(Act::PutProduct {
-            name: rice,
-            nominal: 250_000,
-            unit: Unit::Mass,
-        }),
-        by_hall(Act::PutTare {
-            product: rice,
-            day: MARCH_3,
-            tare: 10_000,
-        }),
-        by_hall(Act::OpenBatch {
-            batch,
-            product: rice,
-            density: 0,
-        }),
-        by_hall(Act::StartLane { lane: 1, batch }),
+        by_hall(day),
+        by_hall(product),
+        by_hall(tare),
+        by_hall(open),
+        by_hall(start),
         weighed(251_000, Prior::Nothing),
     ])
 }

@@ -3,13 +3,9 @@ ghost use Rattle.book_store.specs.Stores.{IsSound};
 use book_store::Store;
 use book_words::Entry;
 use disk_core::{Disk, MemoryDisk, MemorySink, MemorySource, Partly};
+use memory_hall::{copy, disk_of};
 use standby_hall::{FollowError, follow, ship_entries};
 use std::alloc::Global;
-
-/// A copy of some items; of none where there is no memory, so that the test then fails.
-pub(crate) fn copy<T: Copy>(alloc: Global, items: &[T]) -> Vec<T> {
-    Vec::from_slice(alloc, items).unwrap_or(Vec::new(alloc))
-}
 
 /// A copy of a book. It is closed, and never let go.
 pub(crate) struct BookCopy<D: Disk> {
@@ -75,8 +71,7 @@ pub(crate) fn open_copy(
     rows: usize,
     fails: &[u32],
 ) -> Option<BookCopy<MemoryDisk>> {
-    let disk = MemoryDisk::new(alloc, Vec::new(alloc), copy(alloc, fails));
-    let Ok(store) = Store::mount(alloc, disk, 1) else {
+    let Ok(store) = Store::mount(alloc, disk_of(alloc, &[], fails), 1) else {
         return None;
     };
     let mut copied = BookCopy { store };

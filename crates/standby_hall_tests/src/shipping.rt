@@ -1,7 +1,8 @@
 use crate::books::{ROWS, after_three, weighed, worked};
-use crate::copies::{copy, open_copy};
+use crate::copies::open_copy;
 use book_words::{Entry, Prior};
 use disk_core::Partly;
+use memory_hall::copy;
 use std::alloc::Global;
 use std::test::Fail;
 
