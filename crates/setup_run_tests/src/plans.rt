@@ -1,7 +1,8 @@
 use crate::runs::{Way, run_over};
-use book_words::{Act, Entry, Name, Unit};
+use book_words::{Act, Entry};
 use disk_core::{MemoryDisk, MemorySource};
 use hall_plan::Plan;
+use memory_hall::rice_acts;
 use setup_run::{NoPlan, read_whole_plan};
 use std::alloc::{AllocError, Global};
 
@@ -27,33 +28,6 @@ tare rice250 2025-03-03 10
 open A rice250
 ";
 
-// The day 2025-03-03, counted from 1970-01-01.
-const MARCH_3: i32 = 20_150;
-
-// What the setup of a day records.
-fn acts_of_rice() -> Option<[Act; 4]> {
-    let rice = Name::new(b"rice250".as_slice())?;
-    let batch = Name::new(b"A".as_slice())?;
-    Some([
-        Act::NewDay { day: MARCH_3 },
-        Act::PutProduct {
-            name: rice,
-            nominal: 250_000,
-            unit: Unit::Mass,
-        },
-        Act::PutTare {
-            product: rice,
-            day: MARCH_3,
-            tare: 10_000,
-        },
-        Act::OpenBatch {
-            batch,
-            product: rice,
-            density: 0,
-        },
-    ])
-}
-
 // Whether a script of the hall's own recorded these acts, and no more.
 fn records(rows: &[Entry], acts: &[Act]) -> bool {
     if rows.len() != acts.len() {
@@ -77,11 +51,12 @@ fn read(alloc: Global, plan: &[u8], fails: &[u32], lanes: u8) -> Option<Result<P
 // Reads the plan of a day, and sets a hall up by it: for how many rows it wants room, and whether
 // its rows are right.
 fn set_up(alloc: Global) -> Option<(u32, bool)> {
+    let [day, product, tare, open, _] = rice_acts()?;
     let plan = read(alloc, DAY_OF_RICE.as_bytes(), &[], 1)?.ok()?;
     let disk = MemoryDisk::new(alloc, Vec::new(alloc), Vec::new(alloc));
     let (way, store) = run_over(alloc, disk, plan.setup.as_bytes())?;
     let (_, rows) = store.close();
-    let right = way == Way::SetUp && records(rows.as_slice(), &acts_of_rice()?);
+    let right = way == Way::SetUp && records(rows.as_slice(), &[day, product, tare, open]);
     Some((plan.reserve, right))
 }
 
