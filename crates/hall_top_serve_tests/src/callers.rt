@@ -1,11 +1,11 @@
 //! A hall whose lanes and doors meet before they ask.
 use crate::devices::{Meeting, MeetingCell, MeetingDoor};
-use crate::halls::{copy, word};
 use crate::texts::push_request;
 use disk_core::{MemorySink, QuietDisk, QuietSource};
 use hall_limits::{MAX_DOOR, MAX_LANE};
 use hall_top::{Ended, NoNotices, hall};
 use lane_worker::{ListGate, PairLane};
+use memory_hall::{copy, words_of};
 use std::alloc::Global;
 use std::sync::Wait;
 use std::thread::Threads;
@@ -80,7 +80,7 @@ pub fn serve<'a, R: Threads + Wait + Sync>(
     callers: &Callers,
 ) -> Option<MeetingEnd<'a>> {
     let room = Vec::with_capacity(alloc, ROOM).ok()?;
-    let words = word(alloc, "serve");
+    let words = words_of(alloc, &["serve"]);
     let mut input = QuietSource::new(copy(alloc, callers.plan.as_bytes()));
     let mut output = MemorySink::new(alloc, Vec::new(alloc));
     let mut lanes = lanes_at(alloc, meeting, callers.lanes);

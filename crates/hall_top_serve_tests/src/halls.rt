@@ -1,13 +1,11 @@
 use disk_core::{ListDoor, MemoryDisk, MemorySink, QuietSource};
 use hall_limits::{MAX_DOOR, MAX_LANE};
 use hall_top::{Ended, NoNotices, hall};
-use lane_worker::{CellNext, ListCell, ListGate, PairLane};
+use lane_worker::CellNext;
+use memory_hall::{MemoryLane, copy, disk_of, doors_of, lanes_of, words_of};
 use std::alloc::Global;
 use std::sync::Wait;
 use std::thread::Threads;
-
-/// A lane in memory.
-pub type MemoryLane = PairLane<ListCell, ListGate>;
 
 /// What a call leaves of a hall in memory.
 pub type MemoryEnd = Ended<MemoryDisk, MemoryLane, ListDoor>;
@@ -67,49 +65,6 @@ pub const CALM: Case = Case {
     rows: 0,
 };
 
-/// A copy of some items; of none where there is no memory, so that the test then fails.
-pub fn copy<T: Copy>(alloc: Global, items: &[T]) -> Vec<T> {
-    Vec::from_slice(alloc, items).unwrap_or(Vec::new(alloc))
-}
-
-/// One word, as those of a call.
-pub fn word(alloc: Global, word: &str) -> Vec<String> {
-    let mut words = Vec::new(alloc);
-    if let Ok(word) = String::from_str(alloc, word) {
-        let _ = words.push(word);
-    }
-    words
-}
-
-// The lanes of a case.
-fn lanes_of(alloc: Global, case: &Case) -> Vec<MemoryLane> {
-    let mut lanes = Vec::new(alloc);
-    for items in case.cells {
-        let cell = ListCell::new(copy(alloc, items), copy(alloc, case.cell_fails));
-        let gate = ListGate::new(alloc, copy(alloc, case.gate_fails));
-        let _ = lanes.push(PairLane::new(cell, gate));
-    }
-    lanes
-}
-
-// A door to connections that send these bytes, of which these calls fail.
-fn door_to(alloc: Global, sent: &[&[u8]], fails: &[u32]) -> ListDoor {
-    let mut connections = Vec::new(alloc);
-    for bytes in sent {
-        let _ = connections.push(copy(alloc, bytes));
-    }
-    ListDoor::new(alloc, connections, copy(alloc, fails))
-}
-
-// The doors of a case.
-fn doors_of(alloc: Global, case: &Case) -> Vec<ListDoor> {
-    let mut doors = Vec::new(alloc);
-    for sent in case.doors {
-        let _ = doors.push(door_to(alloc, sent, case.door_fails));
-    }
-    doors
-}
-
 /// Does what a word says over an empty disk, with the plan, the lanes and the doors of a case.
 pub fn play<R: Threads + Wait + Sync>(
     rt: &R,
@@ -118,12 +73,12 @@ pub fn play<R: Threads + Wait + Sync>(
     case: &Case,
     output: &mut MemorySink,
 ) -> MemoryEnd {
-    let words = word(alloc, asked);
+    let words = words_of(alloc, &[asked]);
     let mut input = QuietSource::new(copy(alloc, case.plan.as_bytes()));
-    let disk = MemoryDisk::new(alloc, Vec::new(alloc), Vec::new(alloc));
-    let mut lanes = lanes_of(alloc, case);
+    let disk = disk_of(alloc, &[], &[]);
+    let mut lanes = lanes_of(alloc, case.cells, case.cell_fails, case.gate_fails);
     lanes.truncate(usize::from(MAX_LANE));
-    let mut doors = doors_of(alloc, case);
+    let mut doors = doors_of(alloc, case.doors, case.door_fails);
     doors.truncate(usize::from(MAX_DOOR));
     hall(
         rt,
