@@ -3,11 +3,8 @@ ghost use Rattle.std.specs.Prelude.{◌≡◌, false};
 use disk_core::{MemoryDisk, MemorySink, QuietSource, Sink, Source};
 use hall_limits::MAX_LANE;
 use hall_top::{Ended, hall_alone};
-use lane_worker::{ListCell, ListGate, PairLane};
+use memory_hall::{MemoryLane, copy, words_of};
 use std::alloc::Global;
-
-/// A lane in memory.
-pub type MemoryLane = PairLane<ListCell, ListGate>;
 
 /// A door; none is handed in.
 pub type NoDoor = u8;
@@ -15,25 +12,9 @@ pub type NoDoor = u8;
 /// What a run leaves.
 pub type MemoryEnd = Ended<MemoryDisk, MemoryLane, NoDoor>;
 
-/// A copy of some items; of none where there is no memory, so that the test then fails.
-pub fn copy<T: Copy>(alloc: Global, items: &[T]) -> Vec<T> {
-    Vec::from_slice(alloc, items).unwrap_or(Vec::new(alloc))
-}
-
 /// The call that fails, counted from 1; none at 0.
 pub fn only(alloc: Global, call: u32) -> Vec<u32> {
     copy(alloc, &[call])
-}
-
-// The words of a run.
-fn words_of(alloc: Global, words: &[&str]) -> Vec<String> {
-    let mut all = Vec::new(alloc);
-    for word in words {
-        if let Ok(word) = String::from_str(alloc, word) {
-            let _ = all.push(word);
-        }
-    }
-    all
 }
 
 /// Does what the words say over a disk, with these lanes.

@@ -1,7 +1,8 @@
-use crate::halls::{MemoryEnd, MemoryLane, book_of, copy, run};
-use disk_core::{MemoryDisk, MemorySink, QuietSource};
+use crate::halls::{MemoryEnd, book_of, run};
+use disk_core::{MemorySink, QuietSource};
 use lane_worker::CellNext::{Bad, Gross, Spent};
-use lane_worker::{CellNext, LaneStop, ListCell, ListGate, PairLane};
+use lane_worker::{CellNext, LaneStop};
+use memory_hall::{copy, disk_of, lanes_of};
 use std::alloc::Global;
 use std::test::Fail;
 
@@ -318,17 +319,6 @@ batches running 1 ended 0 drawn 0 closed 0
     },
 ];
 
-// The lanes of a case.
-fn lanes_of(alloc: Global, case: &Case) -> Vec<MemoryLane> {
-    let mut lanes = Vec::new(alloc);
-    for items in case.cells {
-        let cell = ListCell::new(copy(alloc, items), copy(alloc, case.cell_fails));
-        let gate = ListGate::new(alloc, copy(alloc, case.gate_fails));
-        let _ = lanes.push(PairLane::new(cell, gate));
-    }
-    lanes
-}
-
 // Whether the gates of the lanes of a run opened for these packs.
 fn are_opened(ended: &MemoryEnd, opened: &[&[u32]]) -> bool {
     for (lane, packs) in ended.lanes.iter().zip(opened) {
@@ -363,8 +353,8 @@ fn ends_so(ended: &MemoryEnd, printed: &[u8], case: &Case) -> bool {
 fn is_right(alloc: Global, bytes: &[u8], case: &Case) -> bool {
     let mut input = QuietSource::new(copy(alloc, case.script.as_bytes()));
     let mut output = MemorySink::new(alloc, copy(alloc, case.output_fails));
-    let disk = MemoryDisk::new(alloc, copy(alloc, bytes), copy(alloc, case.disk_fails));
-    let lanes = lanes_of(alloc, case);
+    let disk = disk_of(alloc, bytes, case.disk_fails);
+    let lanes = lanes_of(alloc, case.cells, case.cell_fails, case.gate_fails);
     let ended = run(alloc, &["run"], &mut input, &mut output, disk, lanes);
     ends_so(&ended, output.bytes(), case)
 }

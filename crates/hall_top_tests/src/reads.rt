@@ -1,5 +1,6 @@
 use crate::halls::ends_of;
-use disk_core::{Failed, MemoryDisk, MemorySink, Source};
+use disk_core::{Failed, MemorySink, Source};
+use memory_hall::disk_of;
 use std::alloc::Global;
 use std::test::Fail;
 
@@ -86,7 +87,7 @@ fn is_right(alloc: Global, input: &Input, ends: (u8, usize)) -> bool {
         ended: false,
     };
     let mut output = MemorySink::new(alloc, Vec::new(alloc));
-    let disk = MemoryDisk::new(alloc, Vec::new(alloc), Vec::new(alloc));
+    let disk = disk_of(alloc, &[], &[]);
     let (status, rows) = ends_of(alloc, &[command], &mut input, &mut output, disk);
     (status, rows) == (ends.0, 0) && output.bytes().len() == ends.1 && input.room >= 65_536
 }

@@ -1,9 +1,10 @@
-use crate::halls::{book_of, copy, ends_of, only};
+use crate::halls::{book_of, ends_of, only};
 use crate::texts::{
     CLOSED, FIVE_ROWS, LISTED, OLD_JOURNAL, ONE_SHIPPED, PAPER, PAPER_READ, REGISTER, SHEET,
     THREE_ANSWERED, THREE_PACKS, TWO, TWO_ACTS, TWO_ANSWERED, TWO_TRIED,
 };
-use disk_core::{MemoryDisk, MemorySink, MemorySource, QuietSink, QuietSource};
+use disk_core::{MemorySink, MemorySource, QuietSink, QuietSource};
+use memory_hall::{copy, disk_of};
 use std::alloc::Global;
 use std::test::Fail;
 
@@ -174,7 +175,7 @@ fn is_right(alloc: Global, bytes: &[u8], case: &Run) -> bool {
     let (words, input, (read, write, call), printed, status, rows) = *case;
     let mut input = MemorySource::new(copy(alloc, input), only(alloc, read));
     let mut output = MemorySink::new(alloc, only(alloc, write));
-    let disk = MemoryDisk::new(alloc, copy(alloc, bytes), only(alloc, call));
+    let disk = disk_of(alloc, bytes, &[call]);
     let ends = ends_of(alloc, words, &mut input, &mut output, disk);
     ends == (status, rows) && output.bytes() == printed.as_bytes()
 }
@@ -253,7 +254,7 @@ fn is_cut(alloc: Global, bytes: &[u8], case: &Cut) -> bool {
         return false;
     };
     let mut output = QuietSink::new(buffer);
-    let disk = MemoryDisk::new(alloc, copy(alloc, bytes), Vec::new(alloc));
+    let disk = disk_of(alloc, bytes, &[]);
     let ends = ends_of(alloc, words, &mut input, &mut output, disk);
     ends == (status, rows) && output.bytes() == printed.as_bytes()
 }
