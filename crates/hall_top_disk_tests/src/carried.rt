@@ -1,5 +1,6 @@
-use crate::halls::{KEEPS, ask, calls_of, crashed, disk_of};
+use crate::halls::{KEEPS, ask, calls_of, crashed};
 use disk_core::MemoryDisk;
+use memory_hall::disk_of;
 use std::alloc::Global;
 use std::test::Fail;
 

@@ -3,13 +3,11 @@ ghost use Rattle.std.specs.Prelude.{◌≤◌, length};
 use disk_core::{Keep, ListDoor, MemoryDisk, MemorySink, QuietSource};
 use hall_limits::{MAX_DOOR, MAX_LANE};
 use hall_top::{Ended, NoNotices, hall, hall_alone};
-use lane_worker::{CellNext, ListCell, ListGate, PairLane};
+use lane_worker::CellNext;
+use memory_hall::{MemoryLane, copy, disk_of, doors_of, lanes_of, words_of};
 use std::alloc::Global;
 use std::sync::Wait;
 use std::thread::Threads;
-
-/// A lane in memory.
-pub type MemoryLane = PairLane<ListCell, ListGate>;
 
 /// What a call leaves of a hall in memory.
 pub type MemoryEnd = Ended<MemoryDisk, MemoryLane, ListDoor>;
@@ -37,33 +35,6 @@ const ACTS: [&[u8]; 3] = [
 {\"act\":\"product\",\"desk\":101,\"request\":3,\"name\":\"d\",\"nominal\":250000}",
 ];
 
-/// A copy of some items; of none where there is no memory, so that the test then fails.
-pub fn copy<T: Copy>(alloc: Global, items: &[T]) -> Vec<T> {
-    Vec::from_slice(alloc, items).unwrap_or(Vec::new(alloc))
-}
-
-/// A disk of these bytes, of which these calls fail.
-pub fn disk_of(alloc: Global, bytes: &[u8], fails: &[u32]) -> MemoryDisk {
-    MemoryDisk::new(alloc, copy(alloc, bytes), copy(alloc, fails))
-}
-
-// One word, as those of a call.
-fn word(alloc: Global, word: &str) -> Vec<String> {
-    let mut words = Vec::new(alloc);
-    if let Ok(word) = String::from_str(alloc, word) {
-        let _ = words.push(word);
-    }
-    words
-}
-
-// A lane whose cell gives one weight.
-fn lanes(alloc: Global) -> Vec<MemoryLane> {
-    let cell = ListCell::new(copy(alloc, &[CellNext::Gross(260_000)]), Vec::new(alloc));
-    let mut lanes = Vec::new(alloc);
-    let _ = lanes.push(PairLane::new(cell, ListGate::new(alloc, Vec::new(alloc))));
-    lanes
-}
-
 // A door to one connection, on which the desk asks each act twice.
 fn doors(alloc: Global) -> Vec<ListDoor> {
     let mut sent = Vec::new(alloc);
@@ -71,19 +42,15 @@ fn doors(alloc: Global) -> Vec<ListDoor> {
         let _ = sent.extend_from_slice(act);
         let _ = sent.extend_from_slice(act);
     }
-    let mut connections = Vec::new(alloc);
-    let _ = connections.push(sent);
-    let mut doors = Vec::new(alloc);
-    let _ = doors.push(ListDoor::new(alloc, connections, Vec::new(alloc)));
-    doors
+    doors_of(alloc, &[&[sent.as_slice()]], &[])
 }
 
-/// Serves the plan over a disk, with the lane and the door.
+/// Serves the plan over a disk, with a lane whose cell gives one weight, and with the door.
 pub fn serve<R: Threads + Wait + Sync>(rt: &R, alloc: Global, disk: MemoryDisk) -> MemoryEnd {
-    let words = word(alloc, "serve");
+    let words = words_of(alloc, &["serve"]);
     let mut input = QuietSource::new(copy(alloc, PLAN));
     let mut output = MemorySink::new(alloc, Vec::new(alloc));
-    let mut lanes = lanes(alloc);
+    let mut lanes = lanes_of(alloc, &[&[CellNext::Gross(260_000)]], &[], &[]);
     lanes.truncate(usize::from(MAX_LANE));
     let mut doors = doors(alloc);
     doors.truncate(usize::from(MAX_DOOR));
@@ -107,7 +74,7 @@ pub fn ask(
     script: &[u8],
     disk: MemoryDisk,
 ) -> (MemoryEnd, MemorySink) {
-    let words = word(alloc, command);
+    let words = words_of(alloc, &[command]);
     let mut input = QuietSource::new(copy(alloc, script));
     let mut output = MemorySink::new(alloc, Vec::new(alloc));
     let lanes: Vec<MemoryLane> = Vec::new(alloc);

@@ -1,8 +1,6 @@
 use book_words::{Act, Entry, Name, Prior, Unit};
+use memory_hall::{MARCH_3, rice_acts};
 use pack_judge::Signal;
-
-// 2025-03-03 in days since 1970-01-01.
-const MARCH_3: i32 = 20_150;
 
 /// How many rows there are before the lane and the door are at work.
 pub const FRONT_ROWS: usize = 6;
@@ -82,25 +80,15 @@ fn by_lane(batch: Name) -> [Entry; 4] {
 impl Offered {
     /// What is offered, written down by hand.
     pub fn new() -> Option<Offered> {
-        let rice = Name::new(b"rice250".as_slice())?;
         let batch = Name::new(b"A".as_slice())?;
-        let tare = Act::PutTare {
-            product: rice,
-            day: MARCH_3,
-            tare: 10_000,
-        };
-        let open = Act::OpenBatch {
-            batch,
-            product: rice,
-            density: 0,
-        };
+        let [day, rice, tare, open, start] = rice_acts()?;
         Some(Offered {
             front: [
-                entry_by(0, Act::NewDay { day: MARCH_3 }),
-                entry_by(0, product(rice)),
+                entry_by(0, day),
+                entry_by(0, rice),
                 entry_by(0, tare),
                 entry_by(0, open),
-                entry_by(0, Act::StartLane { lane: 1, batch }),
+                entry_by(0, start),
                 entry_by(0, Act::NewDay { day: MARCH_3 + 1 }),
             ],
             lane: by_lane(batch),

@@ -1,5 +1,6 @@
-use crate::halls::{KEEPS, MOUNT_CALLS, MemoryEnd, SETUP_ROWS, ask, crashed, disk_of, set_up};
+use crate::halls::{KEEPS, MOUNT_CALLS, MemoryEnd, SETUP_ROWS, ask, crashed, set_up};
 use disk_core::{Keep, MemoryDisk};
+use memory_hall::disk_of;
 use std::alloc::Global;
 use std::test::Fail;
 

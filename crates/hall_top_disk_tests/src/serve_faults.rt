@@ -1,11 +1,12 @@
 use crate::halls::{
-    KEEPS, MOUNT_CALLS, MemoryEnd, SETUP_ROWS, ask, calls_of, crashed, disk_of, serve, set_up,
+    KEEPS, MOUNT_CALLS, MemoryEnd, SETUP_ROWS, ask, calls_of, crashed, serve, set_up,
 };
 use crate::offered::{ALL_ROWS, Offered, number_of};
 use crate::replies::faults_told;
 use book_words::Entry;
 use disk_core::MemoryDisk;
 use lane_worker::LaneStop;
+use memory_hall::disk_of;
 use std::alloc::Global;
 use std::sync::Wait;
 use std::test::Fail;
