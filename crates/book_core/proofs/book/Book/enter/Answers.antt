@@ -11,8 +11,8 @@ use Rattle.book_core.proofs.book.Book.enter.Goals as goal
 
 pub reply_new-reply-requires-clause-free : goal.reply_new-reply-requires-clause-free
 reply_new-reply-requires-clause-free c =
-    allowed c.self.inside.state.entries c.entry.result.now
-    (subst (λ (e : Entry). IsLawful c.self.inside.state.entries e) (sym c.entry.ensures)
+    allowed c.self.inside.state.entries c.entry-entry.result.now
+    (subst (λ (e : Entry). IsLawful c.self.inside.state.entries e) (sym c.entry-entry.ensures)
     (held_is c.self.inside.state c.self.inside.limit c.self.inside.pending c.in-Some.field-0
     c.args.ready c.self.invariant (sym c.take.ensures.value ∙ c.in-Some.is)
     (ap (λ (b : BookView). b.pending) c.self.view_is ∙ c.requires)).lawful)
@@ -25,7 +25,7 @@ enter-requires-clause-room c =
 
 pub enter-requires-clause-lawful : goal.enter-requires-clause-lawful
 enter-requires-clause-lawful c =
-    subst (λ (e : Entry). IsLawful c.self.inside.state.entries e) (sym c.entry.ensures)
+    subst (λ (e : Entry). IsLawful c.self.inside.state.entries e) (sym c.entry-entry.ensures)
     (held_is c.self.inside.state c.self.inside.limit c.self.inside.pending c.in-Some.field-0
     c.args.ready c.self.invariant (sym c.take.ensures.value ∙ c.in-Some.is)
     (ap (λ (b : BookView). b.pending) c.self.view_is ∙ c.requires)).lawful
@@ -38,7 +38,7 @@ invariant_of-self c =
     entered c.enter.new.self c.self.inside.state.entries c.args.ready.entry c.self.inside.limit
     c.take.new.self
     (c.enter.ensures.entries ∙ ap (λ (e : Entry). c.self.inside.state.entries ++ e ∷ [])
-    c.entry.ensures) c.take.ensures.after
+    c.entry-entry.ensures) c.take.ensures.after
     c.self.invariant.legal is.lawful c.self.invariant.most
 
 pub returns-clause-lawful : goal.returns-clause-lawful
@@ -63,7 +63,7 @@ returns-clause-legal c =
     (ap (λ (b : BookView). b.pending) c.self.view_is ∙ c.requires) in
     subst IsLegal
     (sym (c.enter.ensures.entries ∙ ap
-    (λ (e : Entry). c.self.inside.state.entries ++ e ∷ []) c.entry.ensures))
+    (λ (e : Entry). c.self.inside.state.entries ++ e ∷ []) c.entry-entry.ensures))
     (legal-push c.self.inside.state.entries c.args.ready.entry c.self.invariant.legal is.lawful)
 
 pub returns-clause-answer : goal.returns-clause-answer
@@ -72,6 +72,6 @@ returns-clause-answer c =
     c.args.ready c.self.invariant (sym c.take.ensures.value ∙ c.in-Some.is)
     (ap (λ (b : BookView). b.pending) c.self.view_is ∙ c.requires) in
     entered_answer c.self.inside.state c.args.self.now.entries c.args.ready c.in-Some.field-0.drawn
-    c.entry.result.now c.number.result c.reply_new-reply.result is
-    (ap (λ (b : BookView). b.entries) c.self.view_is) c.entry.ensures c.number.ensures
+    c.entry-entry.result.now c.number.result c.reply_new-reply.result is
+    (ap (λ (b : BookView). b.entries) c.self.view_is) c.entry-entry.ensures c.number.ensures
     c.reply_new-reply.ensures
