@@ -2,7 +2,8 @@
 # Opens 160 000 batches of one product by a script, and prints the seconds that `hall run` takes for
 # each list of names: drawn ones, ascending and descending ones, and names of 32 bytes that are
 # alike but for the last six, the dearest to compare. Best of three, to a file; each act has to be
-# answered by ok. No list of names should take much longer than another: who opens batches picks them.
+# answered by ok. Who opens batches picks their names, so no list should take much longer than
+# another.
 #
 # usage: bench/names.sh [BATCHES]
 set -eu
