@@ -1,6 +1,6 @@
 use disk_core::ListDoor;
 use lane_worker::{Cell, CellNext};
-use memory_hall::door_of;
+use memory_hall::copy;
 use remote_cell::RemoteCell;
 use std::alloc::Global;
 
@@ -9,7 +9,11 @@ pub(crate) type TestCell = RemoteCell<ListDoor>;
 
 /// A cell to whose door connections with these bytes come, of which these calls fail.
 pub(crate) fn cell_of(alloc: Global, connections: &[&[u8]], fails: &[u32]) -> TestCell {
-    RemoteCell::new(door_of(alloc, connections, fails))
+    let mut all = Vec::new(alloc);
+    for bytes in connections {
+        let _ = all.push(copy(alloc, bytes));
+    }
+    RemoteCell::new(ListDoor::new(alloc, all, copy(alloc, fails)))
 }
 
 /// Whether a cell gives these items next, one after another.

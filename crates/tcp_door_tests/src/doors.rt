@@ -5,13 +5,13 @@ use crate::steps::first_wrong;
 use std::test::Fail;
 use tcp_door::{Manners, Opening};
 
-// Manners whose times a test can wait for.
+// Manners whose times a test can wait for, and that a busy machine doesn't miss.
 const QUICK: Manners = Manners {
     opening: Opening::Line,
     yields: 100,
-    silence: Some(600),
-    request: 300,
-    response: 300,
+    silence: Some(1_800),
+    request: 900,
+    response: 900,
 };
 
 // As those, to a client that opens with a head.
@@ -79,7 +79,7 @@ const CASES: &[Case] = &[
             Write(b"xyz"),
             Ended(false),
             Read(b"...."),
-            Took(500, 5_000),
+            Took(1_500, 15_000),
             Ended(true),
             Hear(0, b"xyz."),
         ],
@@ -96,10 +96,10 @@ const CASES: &[Case] = &[
             Write(b"xyz"),
             Send(0, b"b"),
             Read(b"b..."),
-            Pass(200),
+            Pass(600),
             Send(0, b"c"),
             Read(b"c..."),
-            Pass(200),
+            Pass(600),
             Send(0, b"d"),
             Lose,
         ],
@@ -142,7 +142,7 @@ const CASES: &[Case] = &[
             Connect,
             Send(2, b"cd\n"),
             Read(b"...."),
-            Took(80, 500),
+            Took(80, 1_500),
             Ended(true),
             Next(true),
             Read(b"cd\n."),
@@ -158,7 +158,7 @@ const CASES: &[Case] = &[
             Next(true),
             Read(b"1\n.."),
             Write(b"xyz"),
-            Pass(900),
+            Pass(2_700),
             Send(0, b"2 3\n"),
             Read(b"2 3\n"),
             Write(b"ack\n"),
