@@ -56,21 +56,30 @@ pub(crate) fn lock_cells(rt: &HostRuntime, wanted: &Wants) -> Option<FolderLock>
     lock_folder(rt.alloc(), rt, folder_of(wanted))
 }
 
-/// The lanes that the words ask for: their gates are files of the folder, and so are their cells,
-/// unless the words have a port for them.
+// The lane at a place: its gate is a file of the folder, and so is its cell, unless the words have a
+// port for it.
+fn open_lane<'a>(
+    rt: &'a HostRuntime,
+    wanted: &Wants,
+    place: u8,
+) -> Result<HallLane<'a>, AllocError> {
+    let folder = folder_of(wanted);
+    let cell = open_cell(rt, wanted, folder, place)?;
+    let gate = file_gate(rt.alloc(), rt, folder, place.saturating_add(1))?;
+    Ok(PairLane::new(cell, gate))
+}
+
+/// The lanes that the words ask for.
 pub(crate) fn open_lanes<'a>(
     rt: &'a HostRuntime,
     wanted: &Wants,
 ) -> Result<Vec<HallLane<'a>>, AllocError>
     ensures { IfOk result (λ lanes. length lanes.items ≤ MAX_LANE) }
 {
-    let folder = folder_of(wanted);
     let count = wanted.lanes.min(MAX_LANE);
     let mut lanes = Vec::with_capacity(rt.alloc(), usize::from(count))?;
     for place in 0..count {
-        let cell = open_cell(rt, wanted, folder, place)?;
-        let gate = file_gate(rt.alloc(), rt, folder, place.saturating_add(1))?;
-        lanes.push(PairLane::new(cell, gate))?;
+        lanes.push(open_lane(rt, wanted, place)?)?;
     }
     Ok(lanes)
 }

@@ -12,7 +12,7 @@ ghost use Rattle.command_line.specs.Words.{bytes_of, wanted_of};
 ghost use Rattle.text_streams.specs.Streams.{output_at};
 ghost use Rattle.hall_top.specs.Endings.{LacksMemory, SaysLast};
 
-use crate::lanes::{lock_cells, open_lanes};
+use crate::lanes::{HallLane, lock_cells, open_lanes};
 use crate::waiting::Waiting;
 use bad_lines::{KeptInput, KeptOutput, Kind, explain};
 use book_snapshot::ROW_BYTES;
@@ -26,7 +26,7 @@ use run_notices::RunNotices;
 use setup_watch::WatchedPlan;
 use std::alloc::{AllocError, Global};
 use std::env;
-use std::io::{ErrorKind, IsTerminal};
+use std::io::{ErrorKind, IsTerminal, Write};
 use std::process::ExitCode;
 use std::rt::Env;
 use std::sync::Wait;
@@ -251,44 +251,122 @@ fn kind_of(command: Command) -> Kind {
     }
 }
 
-fn main(rt: HostRuntime) -> ExitCode {
-    let alloc = rt.alloc();
-    let mut said = KeptOutput::new(Waiting::to_write(rt.stdout()));
-    let mut output = StdSink::new(&mut said);
-    let Ok(words) = words(&rt) else {
-        return end_without_memory(alloc, &mut output);
-    };
-    let wanted = match wants(alloc, &words) {
-        Ok(wanted) => wanted,
-        Err(WantsError::NoMemory) => return end_without_memory(alloc, &mut output),
-        Err(WantsError::Usage) => return end_unopened(alloc, Ending::Usage, &mut output),
-    };
-    let is_plan = matches!(wanted.command, Command::Serve);
-    let mut read = KeptInput::new(alloc, Waiting::to_read(rt.stdin()), kind_of(wanted.command));
-    let mut input = StdSource::new(WatchedPlan::new(&mut read, rt, is_plan));
-    let Some(_lock) = lock_cells(&rt, &wanted) else {
-        return end_unopened(alloc, Ending::Unopened(MountError::DiskFault), &mut output);
-    };
-    let Ok(lanes) = open_lanes(&rt, &wanted) else {
-        return end_without_memory(alloc, &mut output);
-    };
-    let Ok(doors) = open_doors(rt, &wanted) else {
-        return end_without_memory(alloc, &mut output);
-    };
+// What a call asks for, and the handles that it is done with.
+#[derive(Drop)]
+struct Call<'a, R> {
+    threads: &'a R,
+    rt: &'a HostRuntime,
+    words: &'a [String],
+    wanted: &'a Wants,
+}
+
+// Does a call over the disk of the book that it asks for, with these lanes and doors.
+fn with_doors<S: Source, K: Sink, R: AllocGlobal + Threads + Wait + Sync>(
+    call: &Call<R>,
+    input: &mut S,
+    output: &mut K,
+    lanes: Vec<HallLane>,
+    doors: Vec<TcpDoor<HostRuntime>>,
+) -> ExitCode
+    requires few { length lanes.items ≤ MAX_LANE }
+    requires few_doors { length doors.items ≤ MAX_DOOR }
+    requires unended { S.ended input.old ≡ false }
+{
+    let rt = *call.rt;
     let at_terminal = rt.stderr().is_terminal();
-    let mut notices = RunNotices::new(rt, alloc, at_terminal, &wanted);
+    let mut notices = RunNotices::new(rt, rt.alloc(), at_terminal, call.wanted);
     notices.say_memory();
-    let opened = open_disk(rt, &wanted, at_terminal);
-    let status = over_book(
-        &rt,
-        &words,
-        &mut input,
-        &mut output,
+    let opened = open_disk(rt, call.wanted, at_terminal);
+    over_book(
+        call.threads,
+        call.words,
+        input,
+        output,
         &mut notices,
         opened,
         lanes,
         doors,
-    );
-    explain(&rt, alloc, &read, &said);
+    )
+}
+
+// Does a call with these lanes, and with the doors that it asks for.
+fn with_lanes<S: Source, K: Sink, R: AllocGlobal + Threads + Wait + Sync>(
+    call: &Call<R>,
+    input: &mut S,
+    output: &mut K,
+    lanes: Vec<HallLane>,
+) -> ExitCode
+    requires few { length lanes.items ≤ MAX_LANE }
+    requires unended { S.ended input.old ≡ false }
+{
+    match open_doors(*call.rt, call.wanted) {
+        Ok(doors) => with_doors(call, input, output, lanes, doors),
+        Err(_) => end_without_memory(call.rt.alloc(), output),
+    }
+}
+
+// Does a call with the lanes that it asks for, unless another hall has their folder.
+fn with_folder<S: Source, K: Sink, R: AllocGlobal + Threads + Wait + Sync>(
+    call: &Call<R>,
+    input: &mut S,
+    output: &mut K,
+) -> ExitCode
+    requires unended { S.ended input.old ≡ false }
+{
+    let Some(_lock) = lock_cells(call.rt, call.wanted) else {
+        return end_unopened(
+            call.rt.alloc(),
+            Ending::Unopened(MountError::DiskFault),
+            output,
+        );
+    };
+    match open_lanes(call.rt, call.wanted) {
+        Ok(lanes) => with_lanes(call, input, output, lanes),
+        Err(_) => end_without_memory(call.rt.alloc(), output),
+    }
+}
+
+// Does a call whose input is standard input. Standard error says which line is bad, and why.
+fn do_call<W: Write + Drop, R: AllocGlobal + Threads + Wait + Sync>(
+    call: &Call<R>,
+    said: &mut KeptOutput<W>,
+) -> ExitCode {
+    let rt = *call.rt;
+    let is_plan = matches!(call.wanted.command, Command::Serve);
+    let kind = kind_of(call.wanted.command);
+    let mut read = KeptInput::new(rt.alloc(), Waiting::to_read(rt.stdin()), kind);
+    let mut input = StdSource::new(WatchedPlan::new(&mut read, rt, is_plan));
+    let status = with_folder(call, &mut input, &mut StdSink::new(&mut *said));
+    explain(&rt, rt.alloc(), &read, said);
     status
+}
+
+// Does what the words say, where they are words of the program.
+fn do_words<W: Write + Drop, R: AllocGlobal + Threads + Wait + Sync>(
+    threads: &R,
+    rt: &HostRuntime,
+    words: &[String],
+    said: &mut KeptOutput<W>,
+) -> ExitCode {
+    match wants(rt.alloc(), words) {
+        Ok(wanted) => {
+            let call = Call {
+                threads,
+                rt,
+                words,
+                wanted: &wanted,
+            };
+            do_call(&call, said)
+        }
+        Err(WantsError::NoMemory) => end_without_memory(rt.alloc(), &mut StdSink::new(said)),
+        Err(WantsError::Usage) => end_unopened(rt.alloc(), Ending::Usage, &mut StdSink::new(said)),
+    }
+}
+
+fn main(rt: HostRuntime) -> ExitCode {
+    let mut said = KeptOutput::new(Waiting::to_write(rt.stdout()));
+    match words(&rt) {
+        Ok(words) => do_words(&rt, &rt, &words, &mut said),
+        Err(_) => end_without_memory(rt.alloc(), &mut StdSink::new(&mut said)),
+    }
 }
