@@ -1,4 +1,4 @@
-use crate::halls::{MemoryEnd, book_of, run};
+use crate::halls::{MemoryEnd, book_of, only, run};
 use disk_core::{MemorySink, QuietSource};
 use lane_worker::CellNext::{Bad, Gross, Spent};
 use lane_worker::{CellNext, LaneStop};
@@ -7,7 +7,7 @@ use std::alloc::Global;
 use std::test::Fail;
 
 // How a work ended, told in plain numbers.
-#[derive(Clone, Copy, PartialEq, Eq)]
+#[derive(Clone, Copy, PartialEq)]
 enum Stopped {
     Done,
     Cell,
@@ -35,19 +35,15 @@ fn told(stop: &LaneStop) -> Stopped {
     }
 }
 
+// Which call fails, counted from 1, and 0 for none: of each cell, of each gate, of the disk, where
+// those of the opening rows count, and of the output.
+type Fails = (u32, u32, u32, u32);
+
 // A run with lanes: what is handed in, and what comes of it.
-#[derive(Clone, Copy)]
 struct Case {
     // What the cell of each lane gives.
     cells: &'static [&'static [CellNext]],
-    // The calls of each cell that fail.
-    cell_fails: &'static [u32],
-    // The calls of each gate that fail.
-    gate_fails: &'static [u32],
-    // The calls of the disk that fail, those of the opening rows among them.
-    disk_fails: &'static [u32],
-    // The calls of the output that fail.
-    output_fails: &'static [u32],
+    fails: Fails,
     script: &'static str,
     // What is printed.
     printed: &'static str,
@@ -60,21 +56,6 @@ struct Case {
     ends: &'static [(u32, Stopped)],
 }
 
-// A case in which nothing fails, to be filled.
-const CALM: Case = Case {
-    cells: &[],
-    cell_fails: &[],
-    gate_fails: &[],
-    disk_fails: &[],
-    output_fails: &[],
-    script: "",
-    printed: "",
-    status: 0,
-    rows: 0,
-    opened: &[],
-    ends: &[],
-};
-
 // A day with a pack that was weighed on lane 1 and may have left.
 const BEFORE: &[u8] = b"day 2025-03-03\nproduct rice250 250\ntare rice250 2025-03-03 10\n\
 open A rice250\nstart 1 A\nweigh 1 251.000\n";
@@ -83,6 +64,7 @@ open A rice250\nstart 1 A\nweigh 1 251.000\n";
 const BEHIND: [Case; 3] = [
     Case {
         cells: &[&[Gross(260_000)]],
+        fails: (0, 0, 0, 0),
         script: "work 1 A\n",
         printed: "\
 lane 1 opened 1 done
@@ -94,15 +76,15 @@ sampled 0 gross 0.000
 voided 1 gross 251.000
 batches running 1 ended 0 drawn 0 closed 0
 ",
+        status: 0,
         rows: 10,
         opened: &[&[9]],
         ends: &[(1, Stopped::Done)],
-        ..CALM
     },
     // the gate stays shut, and the pack is rejected
     Case {
         cells: &[&[Gross(260_000)]],
-        gate_fails: &[1],
+        fails: (0, 1, 0, 0),
         script: "work 1 A\npack 9\n",
         printed: "\
 lane 1 opened 0 gate
@@ -119,11 +101,11 @@ batches running 1 ended 0 drawn 0 closed 0
         rows: 10,
         opened: &[&[]],
         ends: &[(0, Stopped::Gate)],
-        ..CALM
     },
     // the cell has reached its bound
     Case {
         cells: &[&[Gross(260_000), Spent]],
+        fails: (0, 0, 0, 0),
         script: "work 1 A\n",
         printed: "\
 lane 1 opened 1 turns
@@ -139,15 +121,15 @@ batches running 1 ended 0 drawn 0 closed 0
         rows: 10,
         opened: &[&[9]],
         ends: &[(1, Stopped::Turns)],
-        ..CALM
     },
 ];
 
-// Runs in which lanes end early, and the run goes on; and those that a lane stops.
-const EARLY: [Case; 8] = [
+// Runs in which lanes end early, and the run goes on.
+const EARLY: [Case; 5] = [
     // refused, and then a line that isn't a weight: the least status of both
     Case {
         cells: &[&[Bad { line: 3 }]],
+        fails: (0, 0, 0, 0),
         script: "\
 day 2025-03-03
 work 1 A
@@ -177,12 +159,11 @@ batches running 1 ended 0 drawn 0 closed 0
         rows: 6,
         opened: &[&[]],
         ends: &[(0, Stopped::Refused(14, 1)), (0, Stopped::Bad(3))],
-        ..CALM
     },
     // two lanes, one after the other; the first cell fails at its second call
     Case {
         cells: &[&[Gross(260_000), Gross(261_000)], &[Gross(262_000)]],
-        cell_fails: &[2],
+        fails: (2, 0, 0, 0),
         script: "\
 day 2025-03-03
 product rice250 250
@@ -212,85 +193,32 @@ batches running 1 ended 0 drawn 0 closed 0
         rows: 13,
         opened: &[&[6, 12], &[9]],
         ends: &[(1, Stopped::Cell), (1, Stopped::Cell), (1, Stopped::Done)],
-        ..CALM
     },
     // a lane that wasn't handed in: a fault of the script comes before a lane's
     Case {
         cells: &[&[]],
+        fails: (0, 0, 0, 0),
         script: "work 1 A\nwork 2 A\nsummary\n",
         printed: "lane 1 opened 0 refused 6 at 0\nbad line 2\n",
         status: 3,
+        rows: 0,
         opened: &[&[]],
         ends: &[(0, Stopped::Refused(6, 0))],
-        ..CALM
     },
     Case {
+        cells: &[],
+        fails: (0, 0, 0, 0),
         script: "work 1 A\n",
         printed: "bad line 1\n",
         status: 3,
-        ..CALM
-    },
-    // the disk fails at the lane's first weighing, its last call: the line comes, and then the fault
-    Case {
-        cells: &[&[Gross(260_000), Gross(261_000)]],
-        disk_fails: &[28],
-        script: "\
-day 2025-03-03
-product rice250 250
-tare rice250 2025-03-03 10
-open A rice250
-work 1 A
-summary
-",
-        printed: "1 ok\n2 ok\n3 ok\n4 ok\nlane 1 opened 0 disk\ndisk fault\n",
-        status: 6,
-        rows: 5,
-        opened: &[&[]],
-        ends: &[(0, Stopped::Disk)],
-        ..CALM
-    },
-    // the same, and the output fails at the lane's line
-    Case {
-        cells: &[&[Gross(260_000), Gross(261_000)]],
-        disk_fails: &[28],
-        output_fails: &[5],
-        script: "\
-day 2025-03-03
-product rice250 250
-tare rice250 2025-03-03 10
-open A rice250
-work 1 A
-summary
-",
-        printed: "1 ok\n2 ok\n3 ok\n4 ok\n",
-        status: 5,
-        rows: 5,
-        opened: &[&[]],
-        ends: &[(0, Stopped::Disk)],
-        ..CALM
-    },
-    // the output fails at the line of a lane that is done
-    Case {
-        cells: &[&[Gross(260_000)]],
-        output_fails: &[5],
-        script: "\
-day 2025-03-03
-product rice250 250
-tare rice250 2025-03-03 10
-open A rice250
-work 1 A
-summary
-",
-        printed: "1 ok\n2 ok\n3 ok\n4 ok\n",
-        status: 5,
-        rows: 7,
-        opened: &[&[6]],
-        ends: &[(1, Stopped::Done)],
-        ..CALM
+        rows: 0,
+        opened: &[],
+        ends: &[],
     },
     // an empty cell
     Case {
         cells: &[&[], &[]],
+        fails: (0, 0, 0, 0),
         script: "\
 day 2025-03-03
 product rice250 250
@@ -312,10 +240,68 @@ sampled 0 gross 0.000
 voided 0 gross 0.000
 batches running 1 ended 0 drawn 0 closed 0
 ",
+        status: 0,
         rows: 6,
         opened: &[&[], &[]],
         ends: &[(0, Stopped::Done)],
-        ..CALM
+    },
+];
+
+// Runs that a lane stops.
+const STOPPING: [Case; 3] = [
+    // the disk fails at the lane's first weighing, its last call: the line comes, and then the fault
+    Case {
+        cells: &[&[Gross(260_000), Gross(261_000)]],
+        fails: (0, 0, 28, 0),
+        script: "\
+day 2025-03-03
+product rice250 250
+tare rice250 2025-03-03 10
+open A rice250
+work 1 A
+summary
+",
+        printed: "1 ok\n2 ok\n3 ok\n4 ok\nlane 1 opened 0 disk\ndisk fault\n",
+        status: 6,
+        rows: 5,
+        opened: &[&[]],
+        ends: &[(0, Stopped::Disk)],
+    },
+    // the same, and the output fails at the lane's line
+    Case {
+        cells: &[&[Gross(260_000), Gross(261_000)]],
+        fails: (0, 0, 28, 5),
+        script: "\
+day 2025-03-03
+product rice250 250
+tare rice250 2025-03-03 10
+open A rice250
+work 1 A
+summary
+",
+        printed: "1 ok\n2 ok\n3 ok\n4 ok\n",
+        status: 5,
+        rows: 5,
+        opened: &[&[]],
+        ends: &[(0, Stopped::Disk)],
+    },
+    // the output fails at the line of a lane that is done
+    Case {
+        cells: &[&[Gross(260_000)]],
+        fails: (0, 0, 0, 5),
+        script: "\
+day 2025-03-03
+product rice250 250
+tare rice250 2025-03-03 10
+open A rice250
+work 1 A
+summary
+",
+        printed: "1 ok\n2 ok\n3 ok\n4 ok\n",
+        status: 5,
+        rows: 7,
+        opened: &[&[6]],
+        ends: &[(1, Stopped::Done)],
     },
 ];
 
@@ -352,27 +338,41 @@ fn ends_so(ended: &MemoryEnd, printed: &[u8], case: &Case) -> bool {
 // Whether a case over a disk of these bytes comes out so.
 fn is_right(alloc: Global, bytes: &[u8], case: &Case) -> bool {
     let mut input = QuietSource::new(copy(alloc, case.script.as_bytes()));
-    let mut output = MemorySink::new(alloc, copy(alloc, case.output_fails));
-    let disk = disk_of(alloc, bytes, case.disk_fails);
-    let lanes = lanes_of(alloc, case.cells, case.cell_fails, case.gate_fails);
+    let (cell, gate, disk, write) = case.fails;
+    let mut output = MemorySink::new(alloc, only(alloc, write));
+    let disk = disk_of(alloc, bytes, &[disk]);
+    let lanes = lanes_of(alloc, case.cells, &[cell], &[gate]);
     let ended = run(alloc, &["run"], &mut input, &mut output, disk, lanes);
     ends_so(&ended, output.bytes(), case)
 }
 
-// The place of the first case that comes out otherwise over a disk of these bytes.
-fn wrong_work(alloc: Global, bytes: &[u8], cases: &[Case]) -> Option<usize> {
+// The place of the first case that comes out otherwise over the disk that these scripts leave.
+fn wrong_work(alloc: Global, scripts: &[&[u8]], cases: &[Case]) -> Option<usize> {
+    let bytes = book_of(alloc, scripts);
     for (place, case) in cases.iter().enumerate() {
-        if !is_right(alloc, bytes, case) {
+        if !is_right(alloc, &bytes, case) {
             return Some(place);
         }
     }
     None
 }
 
+// A test has one table: the proof of a body that holds several grows faster than they do.
+
 #[test]
-fn lanes_at_work(rt: HostRuntime) -> Result<(), Fail> {
-    let before = book_of(rt.alloc(), &[BEFORE]);
-    assert_eq!(rt; wrong_work(rt.alloc(), &before, &BEHIND), None);
+fn lanes_over_a_day(rt: HostRuntime) -> Result<(), Fail> {
+    assert_eq!(rt; wrong_work(rt.alloc(), &[BEFORE], &BEHIND), None);
+    Ok(())
+}
+
+#[test]
+fn lanes_that_end_early(rt: HostRuntime) -> Result<(), Fail> {
     assert_eq!(rt; wrong_work(rt.alloc(), &[], &EARLY), None);
+    Ok(())
+}
+
+#[test]
+fn lanes_that_stop_a_run(rt: HostRuntime) -> Result<(), Fail> {
+    assert_eq!(rt; wrong_work(rt.alloc(), &[], &STOPPING), None);
     Ok(())
 }
