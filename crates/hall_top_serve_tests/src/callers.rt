@@ -50,7 +50,7 @@ fn lanes_at<'a>(alloc: Global, meeting: &'a Meeting, count: u8) -> Vec<MeetingLa
 fn requests_of(alloc: Global, desk: u16, count: u32) -> Vec<u8> {
     let (mut sent, mut body) = (Vec::new(alloc), Vec::new(alloc));
     for place in 0..count {
-        let _ = push_request(&mut sent, &mut body, desk, place.saturating_add(1));
+        push_request(&mut sent, &mut body, desk, place.saturating_add(1));
     }
     sent
 }

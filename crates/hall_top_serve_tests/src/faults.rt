@@ -137,12 +137,17 @@ batches running 0 ended 0 drawn 0 closed 0
     },
 ];
 
+// Whether a case comes out as it says.
+fn is_right<R: Threads + Wait + Sync>(rt: &R, alloc: Global, case: &Case) -> bool {
+    let mut output = output_of(alloc, case);
+    let ended = play(rt, alloc, "serve", case, &mut output);
+    ends_so(&ended, output.bytes(), case)
+}
+
 // The place of the first case that comes out otherwise.
-fn wrong_case<R: Threads + Wait + Sync>(rt: &R, alloc: Global, cases: &[Case]) -> Option<usize> {
-    for (place, case) in cases.iter().enumerate() {
-        let mut output = output_of(alloc, case);
-        let ended = play(rt, alloc, "serve", case, &mut output);
-        if !ends_so(&ended, output.bytes(), case) {
+fn wrong_case<R: Threads + Wait + Sync>(rt: &R, alloc: Global) -> Option<usize> {
+    for (place, case) in FAULTS.iter().enumerate() {
+        if !is_right(rt, alloc, case) {
             return Some(place);
         }
     }
@@ -151,6 +156,6 @@ fn wrong_case<R: Threads + Wait + Sync>(rt: &R, alloc: Global, cases: &[Case]) -
 
 #[test]
 fn faults(rt: HostRuntime) -> Result<(), Fail> {
-    assert_eq!(rt; wrong_case(&rt, rt.alloc(), &FAULTS), None);
+    assert_eq!(rt; wrong_case(&rt, rt.alloc()), None);
     Ok(())
 }

@@ -65,25 +65,24 @@ pub const CALM: Case = Case {
     rows: 0,
 };
 
-/// Does what a word says over an empty disk, with the plan, the lanes and the doors of a case.
-pub fn play<R: Threads + Wait + Sync>(
+// Does what these words say.
+fn call<R: Threads + Wait + Sync>(
     rt: &R,
     alloc: Global,
-    asked: &str,
+    words: &[String],
     case: &Case,
     output: &mut MemorySink,
 ) -> MemoryEnd {
-    let words = words_of(alloc, &[asked]);
     let mut input = QuietSource::new(copy(alloc, case.plan.as_bytes()));
-    let disk = disk_of(alloc, &[], &[]);
     let mut lanes = lanes_of(alloc, case.cells, case.cell_fails, case.gate_fails);
     lanes.truncate(usize::from(MAX_LANE));
     let mut doors = doors_of(alloc, case.doors, case.door_fails);
     doors.truncate(usize::from(MAX_DOOR));
+    let disk = disk_of(alloc, &[], &[]);
     hall(
         rt,
         alloc,
-        &words,
+        words,
         &mut input,
         output,
         &mut NoNotices,
@@ -93,6 +92,18 @@ pub fn play<R: Threads + Wait + Sync>(
     )
 }
 
+/// Does what a word says over an empty disk, with the plan, the lanes and the doors of a case.
+pub fn play<R: Threads + Wait + Sync>(
+    rt: &R,
+    alloc: Global,
+    asked: &str,
+    case: &Case,
+    output: &mut MemorySink,
+) -> MemoryEnd {
+    let words = words_of(alloc, &[asked]);
+    call(rt, alloc, &words, case, output)
+}
+
 /// An output, of which the calls of a case fail.
 pub fn output_of(alloc: Global, case: &Case) -> MemorySink {
     MemorySink::new(alloc, copy(alloc, case.output_fails))
@@ -100,9 +111,19 @@ pub fn output_of(alloc: Global, case: &Case) -> MemorySink {
 
 /// Whether a case ended so, with what was printed, and its lanes and doors were handed back.
 pub fn ends_so(ended: &MemoryEnd, printed: &[u8], case: &Case) -> bool {
-    printed == case.printed.as_bytes()
-        && ended.status == case.status
-        && ended.rows.as_slice().len() == case.rows
-        && ended.lanes.len() == case.cells.len()
-        && ended.doors.len() == case.doors.len()
+    let found = (
+        printed,
+        ended.status,
+        ended.rows.as_slice().len(),
+        ended.lanes.len(),
+        ended.doors.len(),
+    );
+    found
+        == (
+            case.printed.as_bytes(),
+            case.status,
+            case.rows,
+            case.cells.len(),
+            case.doors.len(),
+        )
 }

@@ -1,4 +1,4 @@
-use crate::halls::{CALM, Case, ONE_LANE, SUMMARY, ends_so, output_of, play};
+use crate::halls::{CALM, Case, MemoryEnd, ONE_LANE, SUMMARY, ends_so, output_of, play};
 use lane_worker::CellNext::Gross;
 use std::alloc::Global;
 use std::sync::Wait;
@@ -44,22 +44,40 @@ rows 8\nreadings 2 gross 501.999\npassed 2 gross 501.999\nrejected 0 gross 0.000
 sampled 0 gross 0.000\nvoided 0 gross 0.000\nbatches running 1 ended 0 drawn 0 closed 0\n",
 ];
 
-// Whether a lane and a door come out so. The door's response names a row that was there as it asked.
-fn is_right<R: Threads + Wait + Sync>(rt: &R, alloc: Global) -> bool {
-    let mut output = output_of(alloc, &BOTH);
-    let ended = play(rt, alloc, "serve", &BOTH, &mut output);
-    let ([lane], [door]) = (ended.lanes.as_slice(), ended.doors.as_slice()) else {
-        return false;
-    };
-    let written = door.written(0).unwrap_or(b"");
-    ends_so(&ended, output.bytes(), &BOTH)
-        && lane.gate.opened() == [6, 7].as_slice()
-        && RESPONSES.iter().any(|text| text.as_bytes() == written)
+// The rows for which the gate of the first lane opened.
+fn opened(ended: &MemoryEnd) -> &[u32] {
+    match ended.lanes.first() {
+        Some(lane) => lane.gate.opened(),
+        None => &[],
+    }
+}
+
+// Whether the first door wrote one of the responses, which names a row that was there as it asked.
+fn is_answered(ended: &MemoryEnd) -> bool {
+    match ended.doors.first() {
+        Some(door) => is_response(door.written(0).unwrap_or(b"")),
+        None => false,
+    }
+}
+
+fn is_response(written: &[u8]) -> bool {
+    RESPONSES.iter().any(|text| text.as_bytes() == written)
+}
+
+// Whether a lane and a door came out so.
+fn is_right(ended: &MemoryEnd, printed: &[u8], case: &Case) -> bool {
+    ends_so(ended, printed, case) && opened(ended) == [6, 7].as_slice() && is_answered(ended)
+}
+
+fn serves<R: Threads + Wait + Sync>(rt: &R, alloc: Global, case: &Case) -> bool {
+    let mut output = output_of(alloc, case);
+    let ended = play(rt, alloc, "serve", case, &mut output);
+    is_right(&ended, output.bytes(), case)
 }
 
 #[test]
 fn a_lane_and_a_door(rt: HostRuntime) -> Result<(), Fail> {
-    assert!(rt; is_right(&rt, rt.alloc()));
+    assert!(rt; serves(&rt, rt.alloc(), &BOTH));
     Ok(())
 }
 
@@ -70,11 +88,19 @@ const CHECK: Case = Case {
     ..CALM
 };
 
+// Whether another command came out so.
+fn is_checked(ended: &MemoryEnd, printed: &[u8], case: &Case) -> bool {
+    ends_so(ended, printed, case) && ended.door_ends.as_slice().is_empty()
+}
+
+fn checks<R: Threads + Wait + Sync>(rt: &R, alloc: Global, case: &Case) -> bool {
+    let mut output = output_of(alloc, case);
+    let ended = play(rt, alloc, "check", case, &mut output);
+    is_checked(&ended, output.bytes(), case)
+}
+
 #[test]
 fn another_command(rt: HostRuntime) -> Result<(), Fail> {
-    let mut output = output_of(rt.alloc(), &CHECK);
-    let ended = play(&rt, rt.alloc(), "check", &CHECK, &mut output);
-    assert!(rt; ends_so(&ended, output.bytes(), &CHECK));
-    assert!(rt; ended.door_ends.as_slice().is_empty());
+    assert!(rt; checks(&rt, rt.alloc(), &CHECK));
     Ok(())
 }
