@@ -5,7 +5,7 @@ use std::sync::Wait;
 use std::test::Fail;
 use std::thread::Threads;
 
-const FAULTS: [Case; 8] = [
+const FAULTS: &[Case] = &[
     // the cell fails at its first call
     Case {
         plan: ONE_LANE,

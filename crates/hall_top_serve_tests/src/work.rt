@@ -6,7 +6,7 @@ use std::test::Fail;
 use std::thread::Threads;
 
 // One lane and one door.
-const BOTH: Case = Case {
+const BOTH: &Case = &Case {
     plan: ONE_LANE,
     cells: &[&[Gross(251_000), Gross(250_999)]],
     doors: &[&[SUMMARY]],
@@ -77,12 +77,12 @@ fn serves<R: Threads + Wait + Sync>(rt: &R, alloc: Global, case: &Case) -> bool 
 
 #[test]
 fn a_lane_and_a_door(rt: HostRuntime) -> Result<(), Fail> {
-    assert!(rt; serves(&rt, rt.alloc(), &BOTH));
+    assert!(rt; serves(&rt, rt.alloc(), BOTH));
     Ok(())
 }
 
 // Another command is done as by itself, and leaves the doors alone.
-const CHECK: Case = Case {
+const CHECK: &Case = &Case {
     doors: &[&[SUMMARY]],
     printed: "rows 0 whole\n",
     ..CALM
@@ -101,6 +101,6 @@ fn checks<R: Threads + Wait + Sync>(rt: &R, alloc: Global, case: &Case) -> bool 
 
 #[test]
 fn another_command(rt: HostRuntime) -> Result<(), Fail> {
-    assert!(rt; checks(&rt, rt.alloc(), &CHECK));
+    assert!(rt; checks(&rt, rt.alloc(), CHECK));
     Ok(())
 }
