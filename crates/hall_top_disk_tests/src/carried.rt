@@ -1,5 +1,5 @@
-use crate::halls::{KEEPS, ask, calls_of, crashed};
-use disk_core::MemoryDisk;
+use crate::halls::{Asked, KEEPS, ask, calls_of, crashed};
+use disk_core::{Keep, MemoryDisk};
 use memory_hall::disk_of;
 use std::alloc::Global;
 use std::test::Fail;
@@ -17,33 +17,52 @@ const JOURNAL: &[u8] = b"AQHBOOK1\0\0\0\0\0\0\0\0\0\0\0\0\0\0\0\0\0\0\0\0\
 // snapshot seven.
 const CALLS: u32 = 4 + 4 * 2 + 7;
 
-// Whether the journal is carried into a disk of these bytes, and its two rows are then there.
-fn is_carried(alloc: Global, bytes: &[u8]) -> bool {
-    let (end, output) = ask(alloc, "migrate", JOURNAL, disk_of(alloc, bytes, &[]));
-    end.status == 0
-        && end.rows.as_slice().len() == 2
-        && output.bytes() == b"rows 2 whole\n".as_slice()
+// Carries the journal into a disk of these bytes, of which these calls fail.
+fn carry(alloc: Global, bytes: &[u8], fails: &[u32]) -> Asked {
+    ask(alloc, "migrate", JOURNAL, disk_of(alloc, bytes, fails))
 }
 
-// Whether it is carried again into what a crash leaves of a disk, in each way of it.
+// Whether the journal was carried, and its two rows are there.
+fn is_whole(asked: &Asked) -> bool {
+    let rows = asked.end.rows.as_slice().len();
+    (asked.end.status, rows) == (0, 2) && asked.output.bytes() == b"rows 2 whole\n".as_slice()
+}
+
+// Whether the journal is carried into a disk of these bytes.
+fn is_carried(alloc: Global, bytes: &[u8]) -> bool {
+    let asked = carry(alloc, bytes, &[]);
+    is_whole(&asked)
+}
+
+// Whether it is carried again into what a crash leaves of a disk.
+fn is_carried_behind(alloc: Global, disk: &MemoryDisk, keep: Keep) -> bool {
+    match crashed(disk, keep) {
+        Some(bytes) => is_carried(alloc, &bytes),
+        None => false,
+    }
+}
+
+// The same, in each way of a crash.
 fn is_carried_again(alloc: Global, disk: &MemoryDisk) -> bool {
     for keep in KEEPS {
-        let Some(bytes) = crashed(disk, keep) else {
-            return false;
-        };
-        if !is_carried(alloc, &bytes) {
+        if !is_carried_behind(alloc, disk, keep) {
             return false;
         }
     }
     true
 }
 
+// Whether a carrying of which a call failed came out as it has to.
+fn failed_so(alloc: Global, asked: &Asked) -> bool {
+    asked.end.status == 6
+        && asked.output.bytes() == b"disk fault\n".as_slice()
+        && is_carried_again(alloc, &asked.end.disk)
+}
+
 // Whether a call that fails as the journal is carried comes out as it has to.
 fn fails_so(alloc: Global, call: u32) -> bool {
-    let (end, output) = ask(alloc, "migrate", JOURNAL, disk_of(alloc, &[], &[call]));
-    end.status == 6
-        && output.bytes() == b"disk fault\n".as_slice()
-        && is_carried_again(alloc, &end.disk)
+    let asked = carry(alloc, &[], &[call]);
+    failed_so(alloc, &asked)
 }
 
 // The first call that comes out otherwise.
@@ -58,8 +77,9 @@ fn wrong_call(alloc: Global) -> Option<u32> {
 
 // Whether the journal is carried by so many calls, and carried again.
 fn is_carried_twice(alloc: Global) -> bool {
-    let (end, _) = ask(alloc, "migrate", JOURNAL, disk_of(alloc, &[], &[]));
-    calls_of(&end.disk) == CALLS && is_carried(alloc, end.disk.bytes())
+    let asked = carry(alloc, &[], &[]);
+    let disk = &asked.end.disk;
+    calls_of(disk) == CALLS && is_carried(alloc, disk.bytes())
 }
 
 #[test]

@@ -12,6 +12,13 @@ use std::thread::Threads;
 /// What a call leaves of a hall in memory.
 pub type MemoryEnd = Ended<MemoryDisk, MemoryLane, ListDoor>;
 
+/// What a command leaves of it, and what it printed.
+#[derive(Drop)]
+pub struct Asked {
+    pub end: MemoryEnd,
+    pub output: MemorySink,
+}
+
 /// How many rows the disk of the setup has.
 pub const SETUP_ROWS: usize = 5;
 
@@ -25,21 +32,22 @@ open A rice250\nstart 1 A\n";
 // The plan of the hall: a row, and then the work of a lane.
 const PLAN: &[u8] = b"setup = \"day 2025-03-04\\n\"\n[[lane]]\nnumber = 1\nbatch = \"A\"\n";
 
-// The acts of the desk.
-const ACTS: [&[u8]; 3] = [
-    b"POST /acts HTTP/1.1\r\nContent-Length: 68\r\n\r\n\
-{\"act\":\"product\",\"desk\":101,\"request\":1,\"name\":\"b\",\"nominal\":250000}",
-    b"POST /acts HTTP/1.1\r\nContent-Length: 68\r\n\r\n\
-{\"act\":\"product\",\"desk\":101,\"request\":2,\"name\":\"c\",\"nominal\":250000}",
-    b"POST /acts HTTP/1.1\r\nContent-Length: 68\r\n\r\n\
-{\"act\":\"product\",\"desk\":101,\"request\":3,\"name\":\"d\",\"nominal\":250000}",
-];
+// The acts of the desk, each twice.
+const ACTS: [&[u8]; 6] = [ACT_B, ACT_B, ACT_C, ACT_C, ACT_D, ACT_D];
 
-// A door to one connection, on which the desk asks each act twice.
+const ACT_B: &[u8] = b"POST /acts HTTP/1.1\r\nContent-Length: 68\r\n\r\n\
+{\"act\":\"product\",\"desk\":101,\"request\":1,\"name\":\"b\",\"nominal\":250000}";
+
+const ACT_C: &[u8] = b"POST /acts HTTP/1.1\r\nContent-Length: 68\r\n\r\n\
+{\"act\":\"product\",\"desk\":101,\"request\":2,\"name\":\"c\",\"nominal\":250000}";
+
+const ACT_D: &[u8] = b"POST /acts HTTP/1.1\r\nContent-Length: 68\r\n\r\n\
+{\"act\":\"product\",\"desk\":101,\"request\":3,\"name\":\"d\",\"nominal\":250000}";
+
+// A door to one connection, on which the desk asks its acts.
 fn doors(alloc: Global) -> Vec<ListDoor> {
     let mut sent = Vec::new(alloc);
     for act in &ACTS {
-        let _ = sent.extend_from_slice(act);
         let _ = sent.extend_from_slice(act);
     }
     doors_of(alloc, &[&[sent.as_slice()]], &[])
@@ -68,29 +76,29 @@ pub fn serve<R: Threads + Wait + Sync>(rt: &R, alloc: Global, disk: MemoryDisk) 
 }
 
 /// Does a command over a disk, and tells what is left and what is printed.
-pub fn ask(
-    alloc: Global,
-    command: &str,
-    script: &[u8],
-    disk: MemoryDisk,
-) -> (MemoryEnd, MemorySink) {
+pub fn ask(alloc: Global, command: &str, script: &[u8], disk: MemoryDisk) -> Asked {
     let words = words_of(alloc, &[command]);
     let mut input = QuietSource::new(copy(alloc, script));
     let mut output = MemorySink::new(alloc, Vec::new(alloc));
     let lanes: Vec<MemoryLane> = Vec::new(alloc);
     let doors: Vec<ListDoor> = Vec::new(alloc);
-    let ended = hall_alone(alloc, &words, &mut input, &mut output, disk, lanes, doors);
-    (ended, output)
+    let end = hall_alone(alloc, &words, &mut input, &mut output, disk, lanes, doors);
+    Asked { end, output }
+}
+
+// The bytes of the disk of the setup; none where it came out otherwise.
+fn bytes_set(end: &MemoryEnd) -> &[u8] {
+    if (end.status, end.rows.as_slice().len()) == (0, SETUP_ROWS) {
+        end.disk.bytes()
+    } else {
+        &[]
+    }
 }
 
 /// The disk of the setup; an empty one where it came out otherwise.
 pub fn set_up(alloc: Global) -> Vec<u8> {
-    let (ended, _) = ask(alloc, "run", SETUP, disk_of(alloc, &[], &[]));
-    if ended.status == 0 && ended.rows.as_slice().len() == SETUP_ROWS {
-        copy(alloc, ended.disk.bytes())
-    } else {
-        Vec::new(alloc)
-    }
+    let asked = ask(alloc, "run", SETUP, disk_of(alloc, &[], &[]));
+    copy(alloc, bytes_set(&asked.end))
 }
 
 /// How many calls a disk was asked.

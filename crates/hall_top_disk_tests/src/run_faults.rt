@@ -1,4 +1,4 @@
-use crate::halls::{KEEPS, MOUNT_CALLS, MemoryEnd, SETUP_ROWS, ask, crashed, set_up};
+use crate::halls::{Asked, KEEPS, MOUNT_CALLS, MemoryEnd, SETUP_ROWS, ask, crashed, set_up};
 use disk_core::{Keep, MemoryDisk};
 use memory_hall::disk_of;
 use std::alloc::Global;
@@ -125,28 +125,68 @@ fn rows_after(end: &MemoryEnd, rows: (usize, usize)) -> (usize, usize) {
     }
 }
 
+// Whether two disks are the same.
+fn is_same(one: &Found, other: &Found) -> bool {
+    one.rows == other.rows && one.bytes.as_slice() == other.bytes.as_slice()
+}
+
 // Whether a disk is among some.
-fn is_known(disks: &[Found], bytes: &[u8], rows: (usize, usize)) -> bool {
+fn is_known(disks: &[Found], wanted: &Found) -> bool {
     for found in disks {
-        if found.rows == rows && found.bytes.as_slice() == bytes {
+        if is_same(found, wanted) {
             return true;
         }
     }
     false
 }
 
-// Adds what a crash leaves of a disk, in each way of it, that isn't among some. Says whether there
-// was memory for all.
+// Adds a disk, unless it is among some. Says whether there was memory for it.
+fn push_new(disks: &mut Vec<Found>, found: Found) -> bool {
+    if is_known(disks, &found) {
+        true
+    } else {
+        disks.push(found).is_ok()
+    }
+}
+
+// Adds what a crash leaves of a disk, unless it is among some. Says whether there was memory.
+fn push_crashed(
+    disks: &mut Vec<Found>,
+    disk: &MemoryDisk,
+    keep: Keep,
+    rows: (usize, usize),
+) -> bool {
+    match crashed(disk, keep) {
+        Some(bytes) => push_new(disks, Found { bytes, rows }),
+        None => false,
+    }
+}
+
+// The same, in each way of a crash.
 fn push_left(disks: &mut Vec<Found>, disk: &MemoryDisk, rows: (usize, usize)) -> bool {
     for keep in KEEPS {
-        let Some(bytes) = crashed(disk, keep) else {
-            return false;
-        };
-        if !is_known(disks, &bytes, rows) && disks.push(Found { bytes, rows }).is_err() {
+        if !push_crashed(disks, disk, keep, rows) {
             return false;
         }
     }
     true
+}
+
+// Adds what a run over a disk left, and tells whether it failed; none where it came out otherwise
+// than it has to.
+fn push_asked(
+    asked: &Asked,
+    whole: &MemoryEnd,
+    found: &Found,
+    left: &mut Vec<Found>,
+) -> Option<bool> {
+    let end = &asked.end;
+    let printed = before_fault(asked.output.bytes());
+    let failed = printed.len() < asked.output.bytes().len();
+    let right = end.status == if failed { 6 } else { 0 }
+        && is_right(end, printed, found.rows, whole)
+        && push_left(left, &end.disk, rows_after(end, found.rows));
+    right.then_some(failed)
 }
 
 // Runs the day over a disk of which a call fails, adds what it leaves, and tells whether it failed;
@@ -158,14 +198,8 @@ fn run_day(
     call: u32,
     left: &mut Vec<Found>,
 ) -> Option<bool> {
-    let (end, output) = ask(alloc, "run", DAY, disk_of(alloc, &found.bytes, &[call]));
-    let printed = before_fault(output.bytes());
-    let failed = printed.len() < output.bytes().len();
-    let status = if failed { 6 } else { 0 };
-    let right = end.status == status
-        && is_right(&end, printed, found.rows, whole)
-        && push_left(left, &end.disk, rows_after(&end, found.rows));
-    right.then_some(failed)
+    let asked = ask(alloc, "run", DAY, disk_of(alloc, &found.bytes, &[call]));
+    push_asked(&asked, whole, found, left)
 }
 
 // Runs the day over a disk, each of its calls failing in turn, up to the run that makes no such
@@ -194,32 +228,58 @@ fn run_disks(alloc: Global, whole: &MemoryEnd, disks: &[Found], left: &mut Vec<F
     true
 }
 
-// Whether the day runs over each of some disks, and nothing fails.
-fn run_calm(alloc: Global, whole: &MemoryEnd, disks: &[Found]) -> bool {
+// Whether the day runs over a disk, and nothing fails.
+fn is_calm(alloc: Global, whole: &MemoryEnd, found: &Found) -> bool {
     let mut left = Vec::new(alloc);
+    run_day(alloc, whole, found, 0, &mut left) == Some(false)
+}
+
+// The same over each of some disks.
+fn run_calm(alloc: Global, whole: &MemoryEnd, disks: &[Found]) -> bool {
     for found in disks {
-        if run_day(alloc, whole, found, 0, &mut left) != Some(false) {
+        if !is_calm(alloc, whole, found) {
             return false;
         }
     }
     true
 }
 
-// What the first run's disks were, and those behind it, where each came out as it has to: how many
-// calls the first made.
+// Whether the second run over each of these disks came out as it has to, and the third over each
+// that the second left.
+fn run_twice(alloc: Global, whole: &MemoryEnd, once: &[Found]) -> bool {
+    let mut twice = Vec::new(alloc);
+    run_disks(alloc, whole, once, &mut twice) && run_calm(alloc, whole, &twice)
+}
+
+// How many calls the first run over a disk makes, where it and those behind it came out as they
+// have to.
+fn run_over(alloc: Global, whole: &MemoryEnd, first: &Found) -> Option<u32> {
+    let mut once = Vec::new(alloc);
+    let calls = run_calls(alloc, whole, first, &mut once);
+    if run_twice(alloc, whole, &once) {
+        calls
+    } else {
+        None
+    }
+}
+
+// The same, where all that they may offer is told as it has to be.
+fn run_told(alloc: Global, first: &Found) -> Option<u32> {
+    let asked = ask(alloc, "run", LONG_DAY, disk_of(alloc, &first.bytes, &[]));
+    if asked.output.bytes() == LONG_TOLD {
+        run_over(alloc, &asked.end, first)
+    } else {
+        None
+    }
+}
+
+// The same over the disk of the setup.
 fn run_thrice(alloc: Global) -> Option<u32> {
-    let bytes = set_up(alloc);
-    let (whole, output) = ask(alloc, "run", LONG_DAY, disk_of(alloc, &bytes, &[]));
     let first = Found {
-        bytes,
+        bytes: set_up(alloc),
         rows: (SETUP_ROWS, SETUP_ROWS),
     };
-    let (mut once, mut twice) = (Vec::new(alloc), Vec::new(alloc));
-    let calls = run_calls(alloc, &whole, &first, &mut once)?;
-    let right = output.bytes() == LONG_TOLD
-        && run_disks(alloc, &whole, &once, &mut twice)
-        && run_calm(alloc, &whole, &twice);
-    right.then_some(calls)
+    run_told(alloc, &first)
 }
 
 // A run ends where its disk fails, so that two calls fail in two runs, one over what a crash left
@@ -238,23 +298,37 @@ const ACT_TOLD: &[u8] = b"2 ok\nrows 2\nreadings 0 gross 0.000\npassed 0 gross 0
 rejected 0 gross 0.000\nsampled 0 gross 0.000\nvoided 0 gross 0.000\n\
 batches running 0 ended 0 drawn 0 closed 0\n";
 
-// Whether the act is asked again over what a crash leaves, a book of so many rows, and then has row
-// 2.
-fn is_told_again(alloc: Global, disk: &MemoryDisk, keep: Keep, held: u32) -> bool {
-    let Some(bytes) = crashed(disk, keep) else {
-        return false;
-    };
-    let (end, output) = ask(alloc, "run", ACT, disk_of(alloc, &bytes, &[]));
-    output.bytes() == ACT_TOLD && (end.status, end.held) == (0, held)
+// Whether the act over a book of so many rows has row 2.
+fn has_row(asked: &Asked, held: u32) -> bool {
+    asked.output.bytes() == ACT_TOLD && (asked.end.status, asked.end.held) == (0, held)
 }
 
-// Whether the act fails, and is asked again over what a crash leaves: its row or not.
+// Whether the act is asked again over a disk with so many rows, and then has row 2.
+fn is_told(alloc: Global, bytes: &[u8], held: u32) -> bool {
+    let asked = ask(alloc, "run", ACT, disk_of(alloc, bytes, &[]));
+    has_row(&asked, held)
+}
+
+// The same over what a crash leaves.
+fn is_told_again(alloc: Global, disk: &MemoryDisk, keep: Keep, held: u32) -> bool {
+    match crashed(disk, keep) {
+        Some(bytes) => is_told(alloc, &bytes, held),
+        None => false,
+    }
+}
+
+// Whether the act failed, and is asked again over what a crash leaves: its row or not.
+fn failed_and_acts(alloc: Global, asked: &Asked) -> bool {
+    asked.end.status == 6
+        && asked.output.bytes() == b"1 ok\ndisk fault\n".as_slice()
+        && is_told_again(alloc, &asked.end.disk, Keep::Earlier, 1)
+        && is_told_again(alloc, &asked.end.disk, Keep::Written, 2)
+}
+
+// The same of an act of which the last call fails.
 fn fails_and_acts(alloc: Global) -> bool {
-    let (end, output) = ask(alloc, "run", DAY_AND_ACT, disk_of(alloc, &[], &[12]));
-    end.status == 6
-        && output.bytes() == b"1 ok\ndisk fault\n".as_slice()
-        && is_told_again(alloc, &end.disk, Keep::Earlier, 1)
-        && is_told_again(alloc, &end.disk, Keep::Written, 2)
+    let asked = ask(alloc, "run", DAY_AND_ACT, disk_of(alloc, &[], &[12]));
+    failed_and_acts(alloc, &asked)
 }
 
 // Mounting an empty disk makes four calls, the day four, and the act a write, a sync, a write and

@@ -4,7 +4,7 @@ use crate::halls::{
 use crate::offered::{ALL_ROWS, Offered, number_of};
 use crate::replies::faults_told;
 use book_words::Entry;
-use disk_core::MemoryDisk;
+use disk_core::{Keep, MemoryDisk};
 use lane_worker::LaneStop;
 use memory_hall::disk_of;
 use std::alloc::Global;
@@ -31,35 +31,47 @@ struct Table {
     offered: Offered,
 }
 
-// Whether a desk asks its acts again over the book that a hall left with these rows: they are
-// there and at most so many more, each of what was offered, and each act of the desk then has one
-// row.
-fn stands(offered: &Offered, rows: &[Entry], again: &MemoryEnd, more: usize) -> bool {
+// What a hall left in a book: these rows, and at most so many more, each of what was offered.
+#[derive(Drop)]
+struct Kept<'a> {
+    offered: &'a Offered,
+    rows: &'a [Entry],
+    more: usize,
+}
+
+// Whether a desk asks its acts again over that book: the rows are there, and each act of the desk
+// then has one row.
+fn stands(kept: &Kept, again: &MemoryEnd) -> bool {
     let held = again.held as usize;
+    let least = kept.rows.len();
     let all = again.rows.as_slice();
     let (found, added) = all.split_at(all.len().min(held));
     again.status == 0
-        && rows.len() <= held
-        && held <= rows.len().saturating_add(more)
-        && found.starts_with(rows)
-        && offered.allows(found)
-        && offered.are_missing(added, found)
+        && least <= held
+        && held <= least.saturating_add(kept.more)
+        && found.starts_with(kept.rows)
+        && kept.offered.allows(found)
+        && kept.offered.are_missing(added, found)
 }
 
-// Whether what a crash leaves of the disk of a hall, in each way of it, has the book.
-fn is_left(
-    alloc: Global,
-    offered: &Offered,
-    disk: &MemoryDisk,
-    rows: &[Entry],
-    more: usize,
-) -> bool {
+// Whether a disk has the book.
+fn is_kept(alloc: Global, kept: &Kept, bytes: &[u8]) -> bool {
+    let asked = ask(alloc, "run", AGAIN, disk_of(alloc, bytes, &[]));
+    stands(kept, &asked.end)
+}
+
+// Whether what a crash leaves of the disk of a hall has it.
+fn is_left_by(alloc: Global, kept: &Kept, disk: &MemoryDisk, keep: Keep) -> bool {
+    match crashed(disk, keep) {
+        Some(bytes) => is_kept(alloc, kept, &bytes),
+        None => false,
+    }
+}
+
+// The same, in each way of a crash.
+fn is_left(alloc: Global, kept: &Kept, disk: &MemoryDisk) -> bool {
     for keep in KEEPS {
-        let Some(bytes) = crashed(disk, keep) else {
-            return false;
-        };
-        let (again, _) = ask(alloc, "run", AGAIN, disk_of(alloc, &bytes, &[]));
-        if !stands(offered, rows, &again, more) {
+        if !is_left_by(alloc, kept, disk, keep) {
             return false;
         }
     }
@@ -77,29 +89,63 @@ fn count_made(fails: &[u32], calls: u32) -> usize {
     made
 }
 
-// How often the lane and the desk were told that the disk failed, where both were told their rows
-// and nothing else, and the gate opened for the pack that has a row.
-fn faults_seen(offered: &Offered, rows: &[Entry], ended: &MemoryEnd) -> Option<usize> {
-    let lane = ended.lanes.first()?;
-    let weighed = number_of(rows, &offered.lane[2]);
-    let opened = match lane.gate.opened() {
-        [] => None,
-        [pack] => Some(*pack as usize),
-        _ => return None,
-    };
-    if opened != weighed {
-        return None;
+// The packs for which the gate of the lane opened.
+fn packs_opened(ended: &MemoryEnd) -> Option<&[u32]> {
+    match ended.lanes.first() {
+        Some(lane) => Some(lane.gate.opened()),
+        None => None,
     }
-    let written = str::from_utf8(ended.doors.first()?.written(0)?).ok()?;
-    let told = [
-        number_of(rows, &offered.desk[0]),
-        number_of(rows, &offered.desk[1]),
-        number_of(rows, &offered.desk[2]),
+}
+
+// Whether the gate opened for the pack that has this row.
+fn opens_for(ended: &MemoryEnd, row: Option<usize>) -> bool {
+    match (packs_opened(ended), row) {
+        (Some([]), None) => true,
+        (Some([pack]), Some(row)) => *pack as usize == row,
+        _ => false,
+    }
+}
+
+// What the desk was told; nothing where there is no such text.
+fn written(ended: &MemoryEnd) -> &str {
+    match ended.doors.first() {
+        Some(door) => str::from_utf8(door.written(0).unwrap_or(&[])).unwrap_or(""),
+        None => "",
+    }
+}
+
+// How often the desk was told that the disk failed, where it was told its rows and nothing else.
+fn desk_faults(offered: &Offered, rows: &[Entry], ended: &MemoryEnd) -> Option<usize> {
+    let [first, second, third] = &offered.desk;
+    let numbers = [
+        number_of(rows, first),
+        number_of(rows, second),
+        number_of(rows, third),
     ];
-    let faults = faults_told(written, told)?;
-    match ended.lane_ends.as_slice().first()?.stop {
-        LaneStop::Done => Some(faults),
-        LaneStop::DiskFault => faults.checked_add(1),
+    faults_told(written(ended), &numbers)
+}
+
+// How often the lane was told that the disk failed, where it was told its rows and nothing else.
+fn lane_faults(ended: &MemoryEnd) -> Option<usize> {
+    match ended.lane_ends.as_slice().first() {
+        Some(end) => match end.stop {
+            LaneStop::Done => Some(0),
+            LaneStop::DiskFault => Some(1),
+            _ => None,
+        },
+        None => None,
+    }
+}
+
+// How often either was told so, where the gate opened for the pack that has a row.
+fn faults_seen(offered: &Offered, rows: &[Entry], ended: &MemoryEnd) -> Option<usize> {
+    let weighed = number_of(rows, &offered.lane[2]);
+    match (
+        desk_faults(offered, rows, ended),
+        lane_faults(ended),
+        opens_for(ended, weighed),
+    ) {
+        (Some(desk), Some(lane), true) => desk.checked_add(lane),
         _ => None,
     }
 }
@@ -116,6 +162,32 @@ fn ends_right(offered: &Offered, rows: &[Entry], ended: &MemoryEnd, made: usize)
     right && ended.status == wanted && offered.allows(rows)
 }
 
+// The rows of the book of a hall; those of the setup where its disk wasn't opened as one.
+fn rows_of<'a>(offered: &'a Offered, ended: &'a MemoryEnd) -> &'a [Entry] {
+    if ended.held == 0 {
+        &offered.front[..SETUP_ROWS]
+    } else {
+        ended.rows.as_slice()
+    }
+}
+
+// Whether a hall over a disk of which these calls fail, and what is left of it, came out as it has
+// to.
+fn failed_so(alloc: Global, offered: &Offered, ended: &MemoryEnd, fails: &[u32]) -> bool {
+    let rows = rows_of(offered, ended);
+    let calls = calls_of(&ended.disk);
+    let made = count_made(fails, calls);
+    let more = made.min(1);
+    let kept = Kept {
+        offered,
+        rows,
+        more,
+    };
+    ends_right(offered, rows, ended, made)
+        && (made > 0 || calls == CALLS)
+        && is_left(alloc, &kept, &ended.disk)
+}
+
 // A hall over a disk of which these calls fail. Tells whether its lane and its door were at work;
 // none where it, or what is left of it, came out otherwise than it has to.
 fn serve_failing<R: Threads + Wait + Sync>(
@@ -125,17 +197,7 @@ fn serve_failing<R: Threads + Wait + Sync>(
     fails: &[u32],
 ) -> Option<bool> {
     let ended = serve(rt, alloc, disk_of(alloc, &table.bytes, fails));
-    let offered = &table.offered;
-    let rows = if ended.held == 0 {
-        &offered.front[..SETUP_ROWS]
-    } else {
-        ended.rows.as_slice()
-    };
-    let calls = calls_of(&ended.disk);
-    let made = count_made(fails, calls);
-    let right = ends_right(offered, rows, &ended, made)
-        && (made > 0 || calls == CALLS)
-        && is_left(alloc, offered, &ended.disk, rows, made.min(1));
+    let right = failed_so(alloc, &table.offered, &ended, fails);
     right.then_some(!ended.lane_ends.as_slice().is_empty())
 }
 
@@ -168,14 +230,32 @@ fn wrong_call<R: Threads + Wait + Sync>(rt: &R, alloc: Global, table: &Table) ->
     None
 }
 
+// The same, behind a hall of which no call fails; 0 where that one comes out otherwise.
+fn wrong_over<R: Threads + Wait + Sync>(rt: &R, alloc: Global, table: &Table) -> Option<u32> {
+    if serve_failing(rt, alloc, table, &[]) == Some(true) {
+        wrong_call(rt, alloc, table)
+    } else {
+        Some(0)
+    }
+}
+
+// The same over the disk of the setup; 0 also where there is nothing to offer.
+fn first_wrong<R: Threads + Wait + Sync>(rt: &R, alloc: Global) -> Option<u32> {
+    match Offered::new() {
+        Some(offered) => wrong_over(
+            rt,
+            alloc,
+            &Table {
+                bytes: set_up(alloc),
+                offered,
+            },
+        ),
+        None => Some(0),
+    }
+}
+
 #[test]
 fn each_call_fails_and_each_two(rt: HostRuntime) -> Result<(), Fail> {
-    let alloc = rt.alloc();
-    let table = Table {
-        bytes: set_up(alloc),
-        offered: Offered::new().ok_or(std::fmt::Error)?,
-    };
-    assert_eq!(rt; serve_failing(&rt, alloc, &table, &[]), Some(true));
-    assert_eq!(rt; wrong_call(&rt, alloc, &table), None);
+    assert_eq!(rt; first_wrong(&rt, rt.alloc()), None);
     Ok(())
 }
