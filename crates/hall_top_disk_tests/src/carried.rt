@@ -24,8 +24,8 @@ fn carry(alloc: Global, bytes: &[u8], fails: &[u32]) -> Asked {
 
 // Whether the journal was carried, and its two rows are there.
 fn is_whole(asked: &Asked) -> bool {
-    let rows = asked.end.rows.as_slice().len();
-    (asked.end.status, rows) == (0, 2) && asked.output.bytes() == b"rows 2 whole\n".as_slice()
+    let rows = asked.rows.as_slice().len();
+    (asked.status, rows) == (0, 2) && asked.output.bytes() == b"rows 2 whole\n".as_slice()
 }
 
 // Whether the journal is carried into a disk of these bytes.
@@ -54,9 +54,9 @@ fn is_carried_again(alloc: Global, disk: &MemoryDisk) -> bool {
 
 // Whether a carrying of which a call failed came out as it has to.
 fn failed_so(alloc: Global, asked: &Asked) -> bool {
-    asked.end.status == 6
+    asked.status == 6
         && asked.output.bytes() == b"disk fault\n".as_slice()
-        && is_carried_again(alloc, &asked.end.disk)
+        && is_carried_again(alloc, &asked.disk)
 }
 
 // Whether a call that fails as the journal is carried comes out as it has to.
@@ -78,7 +78,7 @@ fn wrong_call(alloc: Global) -> Option<u32> {
 // Whether the journal is carried by so many calls, and carried again.
 fn is_carried_twice(alloc: Global) -> bool {
     let asked = carry(alloc, &[], &[]);
-    let disk = &asked.end.disk;
+    let disk = &asked.disk;
     calls_of(disk) == CALLS && is_carried(alloc, disk.bytes())
 }
 

@@ -1,5 +1,6 @@
 ghost use Rattle.std.specs.Prelude.{◌≤◌, length};
 
+use book_words::Entry;
 use disk_core::{Keep, ListDoor, MemoryDisk, MemorySink, QuietSource};
 use hall_limits::{MAX_DOOR, MAX_LANE};
 use hall_top::{Ended, NoNotices, hall, hall_alone};
@@ -12,10 +13,13 @@ use std::thread::Threads;
 /// What a call leaves of a hall in memory.
 pub type MemoryEnd = Ended<MemoryDisk, MemoryLane, ListDoor>;
 
-/// What a command leaves of it, and what it printed.
+/// What a command without lanes and doors leaves of it, and what it printed.
 #[derive(Drop)]
 pub struct Asked {
-    pub end: MemoryEnd,
+    pub status: u8,
+    pub disk: MemoryDisk,
+    pub held: u32,
+    pub rows: Vec<Entry>,
     pub output: MemorySink,
 }
 
@@ -83,13 +87,20 @@ pub fn ask(alloc: Global, command: &str, script: &[u8], disk: MemoryDisk) -> Ask
     let lanes: Vec<MemoryLane> = Vec::new(alloc);
     let doors: Vec<ListDoor> = Vec::new(alloc);
     let end = hall_alone(alloc, &words, &mut input, &mut output, disk, lanes, doors);
-    Asked { end, output }
+    let rows = copy(alloc, end.rows.as_slice());
+    Asked {
+        status: end.status,
+        disk: end.disk,
+        held: end.held,
+        rows,
+        output,
+    }
 }
 
 // The bytes of the disk of the setup; none where it came out otherwise.
-fn bytes_set(end: &MemoryEnd) -> &[u8] {
-    if (end.status, end.rows.as_slice().len()) == (0, SETUP_ROWS) {
-        end.disk.bytes()
+fn bytes_set(asked: &Asked) -> &[u8] {
+    if (asked.status, asked.rows.as_slice().len()) == (0, SETUP_ROWS) {
+        asked.disk.bytes()
     } else {
         &[]
     }
@@ -98,7 +109,7 @@ fn bytes_set(end: &MemoryEnd) -> &[u8] {
 /// The disk of the setup; an empty one where it came out otherwise.
 pub fn set_up(alloc: Global) -> Vec<u8> {
     let asked = ask(alloc, "run", SETUP, disk_of(alloc, &[], &[]));
-    copy(alloc, bytes_set(&asked.end))
+    copy(alloc, bytes_set(&asked))
 }
 
 /// How many calls a disk was asked.

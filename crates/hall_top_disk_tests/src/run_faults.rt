@@ -1,4 +1,4 @@
-use crate::halls::{Asked, KEEPS, MOUNT_CALLS, MemoryEnd, SETUP_ROWS, ask, crashed, set_up};
+use crate::halls::{Asked, KEEPS, MOUNT_CALLS, SETUP_ROWS, ask, crashed, set_up};
 use disk_core::{Keep, MemoryDisk};
 use memory_hall::disk_of;
 use std::alloc::Global;
@@ -100,25 +100,25 @@ fn rows_behind(held: usize, answers: usize) -> usize {
 }
 
 // Whether a run over a disk that may hold so many rows ended as it has to.
-fn is_right(end: &MemoryEnd, printed: &[u8], rows: (usize, usize), whole: &MemoryEnd) -> bool {
-    let held = end.held as usize;
+fn is_right(asked: &Asked, printed: &[u8], rows: (usize, usize), whole: &Asked) -> bool {
+    let held = asked.held as usize;
     let Some(told) = TOLD.get(held.wrapping_sub(5)) else {
         return held == 0 && printed.is_empty();
     };
-    let there = end.rows.as_slice();
+    let there = asked.rows.as_slice();
     rows.0 <= held
         && held <= rows.1
         && is_front(printed, *told)
         && there.len() == rows_behind(held, answers_in(printed))
         && whole.rows.as_slice().starts_with(there)
-        && (end.status == 6 || printed.ends_with(told.1))
+        && (asked.status == 6 || printed.ends_with(told.1))
 }
 
 // How many rows a disk may hold behind a run, where it might hold so many before. A fault may leave
 // one more than was answered.
-fn rows_after(end: &MemoryEnd, rows: (usize, usize)) -> (usize, usize) {
-    let there = end.rows.as_slice().len();
-    match (end.held, end.status) {
+fn rows_after(asked: &Asked, rows: (usize, usize)) -> (usize, usize) {
+    let there = asked.rows.as_slice().len();
+    match (asked.held, asked.status) {
         (0, _) => rows,
         (_, 0) => (there, there),
         _ => (there, there.saturating_add(1)),
@@ -174,18 +174,12 @@ fn push_left(disks: &mut Vec<Found>, disk: &MemoryDisk, rows: (usize, usize)) ->
 
 // Adds what a run over a disk left, and tells whether it failed; none where it came out otherwise
 // than it has to.
-fn push_asked(
-    asked: &Asked,
-    whole: &MemoryEnd,
-    found: &Found,
-    left: &mut Vec<Found>,
-) -> Option<bool> {
-    let end = &asked.end;
+fn push_asked(asked: &Asked, whole: &Asked, found: &Found, left: &mut Vec<Found>) -> Option<bool> {
     let printed = before_fault(asked.output.bytes());
     let failed = printed.len() < asked.output.bytes().len();
-    let right = end.status == if failed { 6 } else { 0 }
-        && is_right(end, printed, found.rows, whole)
-        && push_left(left, &end.disk, rows_after(end, found.rows));
+    let right = asked.status == if failed { 6 } else { 0 }
+        && is_right(asked, printed, found.rows, whole)
+        && push_left(left, &asked.disk, rows_after(asked, found.rows));
     right.then_some(failed)
 }
 
@@ -193,7 +187,7 @@ fn push_asked(
 // none where it came out otherwise than it has to.
 fn run_day(
     alloc: Global,
-    whole: &MemoryEnd,
+    whole: &Asked,
     found: &Found,
     call: u32,
     left: &mut Vec<Found>,
@@ -204,12 +198,7 @@ fn run_day(
 
 // Runs the day over a disk, each of its calls failing in turn, up to the run that makes no such
 // call. Adds what these leave, and tells how many failed.
-fn run_calls(
-    alloc: Global,
-    whole: &MemoryEnd,
-    found: &Found,
-    left: &mut Vec<Found>,
-) -> Option<u32> {
+fn run_calls(alloc: Global, whole: &Asked, found: &Found, left: &mut Vec<Found>) -> Option<u32> {
     for call in 1..MOST_CALLS {
         if !run_day(alloc, whole, found, call, left)? {
             return Some(call.saturating_sub(1));
@@ -219,7 +208,7 @@ fn run_calls(
 }
 
 // The same over each of some disks. Tells whether all came out as they have to.
-fn run_disks(alloc: Global, whole: &MemoryEnd, disks: &[Found], left: &mut Vec<Found>) -> bool {
+fn run_disks(alloc: Global, whole: &Asked, disks: &[Found], left: &mut Vec<Found>) -> bool {
     for found in disks {
         if run_calls(alloc, whole, found, left).is_none() {
             return false;
@@ -229,13 +218,13 @@ fn run_disks(alloc: Global, whole: &MemoryEnd, disks: &[Found], left: &mut Vec<F
 }
 
 // Whether the day runs over a disk, and nothing fails.
-fn is_calm(alloc: Global, whole: &MemoryEnd, found: &Found) -> bool {
+fn is_calm(alloc: Global, whole: &Asked, found: &Found) -> bool {
     let mut left = Vec::new(alloc);
     run_day(alloc, whole, found, 0, &mut left) == Some(false)
 }
 
 // The same over each of some disks.
-fn run_calm(alloc: Global, whole: &MemoryEnd, disks: &[Found]) -> bool {
+fn run_calm(alloc: Global, whole: &Asked, disks: &[Found]) -> bool {
     for found in disks {
         if !is_calm(alloc, whole, found) {
             return false;
@@ -246,14 +235,14 @@ fn run_calm(alloc: Global, whole: &MemoryEnd, disks: &[Found]) -> bool {
 
 // Whether the second run over each of these disks came out as it has to, and the third over each
 // that the second left.
-fn run_twice(alloc: Global, whole: &MemoryEnd, once: &[Found]) -> bool {
+fn run_twice(alloc: Global, whole: &Asked, once: &[Found]) -> bool {
     let mut twice = Vec::new(alloc);
     run_disks(alloc, whole, once, &mut twice) && run_calm(alloc, whole, &twice)
 }
 
 // How many calls the first run over a disk makes, where it and those behind it came out as they
 // have to.
-fn run_over(alloc: Global, whole: &MemoryEnd, first: &Found) -> Option<u32> {
+fn run_over(alloc: Global, whole: &Asked, first: &Found) -> Option<u32> {
     let mut once = Vec::new(alloc);
     let calls = run_calls(alloc, whole, first, &mut once);
     if run_twice(alloc, whole, &once) {
@@ -267,7 +256,7 @@ fn run_over(alloc: Global, whole: &MemoryEnd, first: &Found) -> Option<u32> {
 fn run_told(alloc: Global, first: &Found) -> Option<u32> {
     let asked = ask(alloc, "run", LONG_DAY, disk_of(alloc, &first.bytes, &[]));
     if asked.output.bytes() == LONG_TOLD {
-        run_over(alloc, &asked.end, first)
+        run_over(alloc, &asked, first)
     } else {
         None
     }
@@ -300,7 +289,7 @@ batches running 0 ended 0 drawn 0 closed 0\n";
 
 // Whether the act over a book of so many rows has row 2.
 fn has_row(asked: &Asked, held: u32) -> bool {
-    asked.output.bytes() == ACT_TOLD && (asked.end.status, asked.end.held) == (0, held)
+    asked.output.bytes() == ACT_TOLD && (asked.status, asked.held) == (0, held)
 }
 
 // Whether the act is asked again over a disk with so many rows, and then has row 2.
@@ -319,10 +308,10 @@ fn is_told_again(alloc: Global, disk: &MemoryDisk, keep: Keep, held: u32) -> boo
 
 // Whether the act failed, and is asked again over what a crash leaves: its row or not.
 fn failed_and_acts(alloc: Global, asked: &Asked) -> bool {
-    asked.end.status == 6
+    asked.status == 6
         && asked.output.bytes() == b"1 ok\ndisk fault\n".as_slice()
-        && is_told_again(alloc, &asked.end.disk, Keep::Earlier, 1)
-        && is_told_again(alloc, &asked.end.disk, Keep::Written, 2)
+        && is_told_again(alloc, &asked.disk, Keep::Earlier, 1)
+        && is_told_again(alloc, &asked.disk, Keep::Written, 2)
 }
 
 // The same of an act of which the last call fails.

@@ -1,5 +1,5 @@
 use crate::halls::{
-    KEEPS, MOUNT_CALLS, MemoryEnd, SETUP_ROWS, ask, calls_of, crashed, serve, set_up,
+    Asked, KEEPS, MOUNT_CALLS, MemoryEnd, SETUP_ROWS, ask, calls_of, crashed, serve, set_up,
 };
 use crate::offered::{ALL_ROWS, Offered, number_of};
 use crate::replies::faults_told;
@@ -41,7 +41,7 @@ struct Kept<'a> {
 
 // Whether a desk asks its acts again over that book: the rows are there, and each act of the desk
 // then has one row.
-fn stands(kept: &Kept, again: &MemoryEnd) -> bool {
+fn stands(kept: &Kept, again: &Asked) -> bool {
     let held = again.held as usize;
     let least = kept.rows.len();
     let all = again.rows.as_slice();
@@ -57,7 +57,7 @@ fn stands(kept: &Kept, again: &MemoryEnd) -> bool {
 // Whether a disk has the book.
 fn is_kept(alloc: Global, kept: &Kept, bytes: &[u8]) -> bool {
     let asked = ask(alloc, "run", AGAIN, disk_of(alloc, bytes, &[]));
-    stands(kept, &asked.end)
+    stands(kept, &asked)
 }
 
 // Whether what a crash leaves of the disk of a hall has it.
