@@ -1,6 +1,6 @@
-use crate::journals::{TestJournal, mount, mount_bytes};
+use crate::journals::{TestJournal, mount_bytes, mount_failing};
 use crate::rows::full_row;
-use disk_core::{Disk, Failed, Keep, MemoryDisk, NoMemory};
+use disk_core::{Disk, Failed, Keep, MemoryDisk};
 use std::alloc::Global;
 use std::test::Fail;
 
@@ -8,8 +8,9 @@ use std::test::Fail;
 pub(crate) const KEEPS: [Keep; 4] = [Keep::Earlier, Keep::Written, Keep::Fill(0), Keep::Fill(1)];
 
 /// What a crash leaves after so many calls.
-pub(crate) fn image(disk: &MemoryDisk, after: usize, keep: Keep) -> Result<Vec<u8>, NoMemory> {
+pub(crate) fn image(disk: &MemoryDisk, after: usize, keep: Keep) -> Option<Vec<u8>> {
     disk.crash(after.min(disk.calls_made()).min(1000) as u32, keep)
+        .ok()
 }
 
 /// How many rows are mounted of these bytes.
@@ -17,17 +18,20 @@ pub(crate) fn rows_of(alloc: Global, bytes: Vec<u8>) -> Option<u32> {
     Some(mount_bytes(alloc, bytes)?.journal.count())
 }
 
-/// How many rows each way of a crash leaves after so many calls.
-pub(crate) fn rows_left(
-    alloc: Global,
-    disk: &MemoryDisk,
-    after: usize,
-) -> Result<[Option<u32>; 4], NoMemory> {
-    let mut rows = [None; 4];
-    for (row, keep) in rows.iter_mut().zip(KEEPS) {
-        *row = rows_of(alloc, image(disk, after, keep)?);
-    }
-    Ok(rows)
+// How many rows a crash leaves after so many calls.
+fn rows_after(alloc: Global, disk: &MemoryDisk, after: usize, keep: Keep) -> Option<u32> {
+    rows_of(alloc, image(disk, after, keep)?)
+}
+
+/// The same for each way of a crash.
+pub(crate) fn rows_left(alloc: Global, disk: &MemoryDisk, after: usize) -> [Option<u32>; 4] {
+    let [earlier, written, zeros, ones] = KEEPS;
+    [
+        rows_after(alloc, disk, after, earlier),
+        rows_after(alloc, disk, after, written),
+        rows_after(alloc, disk, after, zeros),
+        rows_after(alloc, disk, after, ones),
+    ]
 }
 
 // Which call fails, whether the journal hangs then, how many calls are made in all, and how many
@@ -46,36 +50,34 @@ fn goes_on<D: Disk>(kept: &mut TestJournal<D>, hanging: bool) -> bool {
         && kept.journal.hanging() == hanging
         && kept.add(&full_row(9)) == Ok(2)
         && !kept.journal.hanging()
-        && kept.row(1).map(|row| row[95]) == Ok(7)
-        && kept.row(2).map(|row| row[95]) == Ok(9)
+        && kept.byte(1, 95) == Some(7)
+        && kept.byte(2, 95) == Some(9)
 }
 
 // The calls that a disk was asked, and the rows that a crash leaves after the one that failed, if
 // the journal goes on.
-fn go_on(
-    alloc: Global,
-    failing: u32,
-    hanging: bool,
-) -> Result<Option<(usize, [Option<u32>; 4])>, NoMemory> {
-    let disk = MemoryDisk::new(alloc, Vec::new(alloc), vec![in alloc; failing]?);
-    let Some(mut kept) = mount(disk) else {
-        return Ok(None);
-    };
-    let right = goes_on(&mut kept, hanging);
+fn go_on(alloc: Global, failing: u32, hanging: bool) -> Option<(usize, [Option<u32>; 4])> {
+    let mut kept = mount_failing(alloc, &[failing])?;
+    if !goes_on(&mut kept, hanging) {
+        return None;
+    }
     let disk = kept.journal.give_back();
-    let rows = rows_left(alloc, &disk, failing as usize)?;
-    Ok(if right {
-        Some((disk.calls_made(), rows))
-    } else {
-        None
-    })
+    Some((disk.calls_made(), rows_left(alloc, &disk, failing as usize)))
+}
+
+// Whether a journal goes on in each case.
+fn goes_on_always(alloc: Global) -> bool {
+    for (failing, hanging, calls, rows) in FAILING {
+        if go_on(alloc, failing, hanging) != Some((calls, rows)) {
+            return false;
+        }
+    }
+    true
 }
 
 #[test]
 fn a_journal_goes_on_after_a_failure_of_either_write(rt: HostRuntime) -> Result<(), Fail> {
-    for (failing, hanging, calls, rows) in FAILING {
-        assert!(rt; go_on(rt.alloc(), failing, hanging)? == Some((calls, rows)));
-    }
+    assert!(rt; goes_on_always(rt.alloc()));
     Ok(())
 }
 
@@ -127,90 +129,107 @@ fn answers<D: Disk>(kept: &mut TestJournal<D>) -> bool {
 }
 
 // Whether a crash after each call leaves so many rows.
-fn leaves(
-    alloc: Global,
-    disk: &MemoryDisk,
-    keep: Keep,
-    rows: &[u32; 26],
-) -> Result<bool, NoMemory> {
+fn leaves(alloc: Global, disk: &MemoryDisk, keep: Keep, rows: &[u32; 26]) -> bool {
     for (after, count) in rows.iter().enumerate() {
-        if rows_of(alloc, image(disk, after, keep)?) != Some(*count) {
-            return Ok(false);
+        if rows_after(alloc, disk, after, keep) != Some(*count) {
+            return false;
         }
     }
-    Ok(true)
+    true
 }
 
-// Whether each way of a crash leaves what it may of the appends, of which the fourth fails.
-fn leaves_each_way(alloc: Global) -> Result<bool, NoMemory> {
-    let disk = MemoryDisk::new(alloc, Vec::new(alloc), vec![in alloc; 19u32]?);
-    let Some(mut kept) = mount(disk) else {
-        return Ok(false);
-    };
-    let mut right = answers(&mut kept);
-    let disk = kept.journal.give_back();
+// The same for each way of a crash.
+fn leaves_each_way(alloc: Global, disk: &MemoryDisk) -> bool {
     for (keep, rows) in &ROWS_AFTER {
-        right = right && leaves(alloc, &disk, *keep, rows)?;
+        if !leaves(alloc, disk, *keep, rows) {
+            return false;
+        }
     }
-    Ok(right && disk.calls_made() == 25)
+    true
+}
+
+// The disk of these appends, of which the fourth fails, if each is answered so.
+fn answered(alloc: Global) -> Option<MemoryDisk> {
+    let mut kept = mount_failing(alloc, &[19])?;
+    if answers(&mut kept) {
+        Some(kept.journal.give_back())
+    } else {
+        None
+    }
+}
+
+// Whether each way of a crash leaves what it may of them.
+fn leaves_acknowledged(alloc: Global) -> bool {
+    match answered(alloc) {
+        Some(disk) => disk.calls_made() == 25 && leaves_each_way(alloc, &disk),
+        None => false,
+    }
 }
 
 #[test]
 fn a_crash_after_any_call_leaves_what_was_acknowledged(rt: HostRuntime) -> Result<(), Fail> {
-    assert!(rt; leaves_each_way(rt.alloc())?);
+    assert!(rt; leaves_acknowledged(rt.alloc()));
     Ok(())
+}
+
+// Whether a crash after any call leaves so many rows.
+fn leaves_rows(alloc: Global, disk: &MemoryDisk, count: u32) -> bool {
+    for after in 0..disk.calls_made().saturating_add(1) {
+        if rows_left(alloc, disk, after) != [Some(count); 4] {
+            return false;
+        }
+    }
+    true
 }
 
 // Whether the rows after a second crash, inside the mount that follows the first, are those after
 // the first.
-fn crash_twice(alloc: Global, left: Vec<u8>) -> Result<bool, NoMemory> {
-    let Some(kept) = mount_bytes(alloc, left) else {
-        return Ok(false);
-    };
-    let rows = [Some(kept.journal.count()); 4];
-    let disk = kept.journal.give_back();
-    let mut right = true;
-    for after in 0..disk.calls_made().saturating_add(1) {
-        right = right && rows_left(alloc, &disk, after)? == rows;
-    }
-    Ok(right)
+fn crash_twice(alloc: Global, disk: &MemoryDisk, after: usize, keep: Keep) -> Option<bool> {
+    let kept = mount_bytes(alloc, image(disk, after, keep)?)?;
+    let count = kept.journal.count();
+    Some(leaves_rows(alloc, &kept.journal.give_back(), count))
 }
 
 // The same for each way of the first crash.
-fn crash_each_way(alloc: Global, disk: &MemoryDisk, after: usize) -> Result<bool, NoMemory> {
-    let mut right = true;
+fn crash_each_way(alloc: Global, disk: &MemoryDisk, after: usize) -> bool {
     for keep in KEEPS {
-        right = right && crash_twice(alloc, image(disk, after, keep)?)?;
+        if crash_twice(alloc, disk, after, keep) != Some(true) {
+            return false;
+        }
     }
-    Ok(right)
+    true
 }
 
 // The disk of three appends, with a snapshot behind each.
-fn three_kept(alloc: Global) -> Result<Option<MemoryDisk>, NoMemory> {
-    let Some(mut kept) = mount_bytes(alloc, Vec::new(alloc)) else {
-        return Ok(None);
-    };
+fn three_kept(alloc: Global) -> Option<MemoryDisk> {
+    let mut kept = mount_bytes(alloc, Vec::new(alloc))?;
     for byte in 2..5u8 {
         let _ = kept.add(&full_row(byte));
-        let _ = kept.keep_rows(alloc)?;
+        let _ = kept.keep_rows(alloc);
     }
-    Ok(Some(kept.journal.give_back()))
+    Some(kept.journal.give_back())
 }
 
-// How many calls that disk was asked, if no second crash takes anything away.
-fn crash_after_each(alloc: Global) -> Result<Option<usize>, NoMemory> {
-    let Some(disk) = three_kept(alloc)? else {
-        return Ok(None);
-    };
-    let mut right = true;
+// Whether no second crash takes anything away, after whichever call of a disk the first is.
+fn crash_after_each(alloc: Global, disk: &MemoryDisk) -> bool {
     for after in 0..disk.calls_made() {
-        right = right && crash_each_way(alloc, &disk, after)?;
+        if !crash_each_way(alloc, disk, after) {
+            return false;
+        }
     }
-    Ok(if right { Some(disk.calls_made()) } else { None })
+    true
+}
+
+// The same of that disk, which is asked more than 30 calls.
+fn takes_nothing(alloc: Global) -> bool {
+    match three_kept(alloc) {
+        Some(disk) => disk.calls_made() > 30 && crash_after_each(alloc, &disk),
+        None => false,
+    }
 }
 
 #[test]
 fn a_second_crash_takes_nothing_away(rt: HostRuntime) -> Result<(), Fail> {
-    assert!(rt; crash_after_each(rt.alloc())?.is_some_and(|calls| calls > 30));
+    assert!(rt; takes_nothing(rt.alloc()));
     Ok(())
 }

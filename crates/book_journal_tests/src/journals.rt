@@ -5,7 +5,7 @@ ghost use Rattle.book_journal.specs.Journal.{IsSound};
 
 use book_journal::{BLOCKS_CONTENT, Dense, Journal, Kept, ROW_BYTES};
 use book_snapshot::{MAX_CONTENT, squeeze};
-use disk_core::{Disk, Failed, MemoryDisk, NoMemory};
+use disk_core::{Disk, Failed, MemoryDisk};
 use hall_limits::MAX_ROWS;
 use hall_units::put_u32;
 use std::alloc::Global;
@@ -43,8 +43,8 @@ fn holds(kept: Kept, piece: u64) -> bool
         && BLOCKS_CONTENT as u64 * piece < kept.bytes
 }
 
-/// Mounts a disk, again and again where it fails.
-pub(crate) fn mount(disk: MemoryDisk) -> Option<TestJournal<MemoryDisk>> {
+// Mounts a disk, again and again where it fails.
+fn mount(disk: MemoryDisk) -> Option<TestJournal<MemoryDisk>> {
     let mut disk = disk;
     for _turn in 0..3 {
         match Journal::mount(disk) {
@@ -58,6 +58,12 @@ pub(crate) fn mount(disk: MemoryDisk) -> Option<TestJournal<MemoryDisk>> {
         }
     }
     None
+}
+
+/// Mounts an empty disk of which these calls fail.
+pub(crate) fn mount_failing(alloc: Global, fails: &[u32]) -> Option<TestJournal<MemoryDisk>> {
+    let fails = Vec::from_slice(alloc, fails).unwrap_or(Vec::new(alloc));
+    mount(MemoryDisk::new(alloc, Vec::new(alloc), fails))
 }
 
 /// Mounts these bytes.
@@ -83,6 +89,14 @@ impl<D: Disk> TestJournal<D> {
         self.journal.row(number)
     }
 
+    /// A byte of a row, where it is read.
+    pub(crate) fn byte(&mut self, number: u32, place: usize) -> Option<u8> {
+        match self.row(number) {
+            Ok(row) => row.get(place).copied(),
+            Err(_) => None,
+        }
+    }
+
     /// Keeps a snapshot with this content.
     pub(crate) fn keep(&mut self, content: &Dense) -> Result<(), Failed> {
         let size = content.as_slice().len() as u64;
@@ -104,32 +118,42 @@ impl<D: Disk> TestJournal<D> {
         }
     }
 
-    /// Keeps a snapshot of its rows, where each of them could be read.
-    pub(crate) fn keep_rows(&mut self, alloc: Global) -> Result<Result<(), Failed>, NoMemory> {
-        let mut content = Dense::new(alloc);
+    // Whether a row could be read, and its dense form was appended.
+    fn squeezes(&mut self, number: u32, content: &mut Dense) -> bool {
+        match self.row(number) {
+            Ok(row) => squeeze_row(&row, content),
+            Err(_) => false,
+        }
+    }
+
+    // The same of all rows.
+    fn squeezes_all(&mut self, content: &mut Dense) -> bool {
         for number in 1..self.journal.count().saturating_add(1) {
-            match self.row(number) {
-                Ok(row) => squeeze_row(&row, &mut content)?,
-                Err(failed) => return Ok(Err(failed)),
+            if !self.squeezes(number, content) {
+                return false;
             }
         }
-        Ok(self.keep(&content))
+        true
+    }
+
+    /// Whether a snapshot of its rows is kept: each of them could be read.
+    pub(crate) fn keep_rows(&mut self, alloc: Global) -> bool {
+        let mut content = Dense::new(alloc);
+        self.squeezes_all(&mut content) && self.keep(&content).is_ok()
     }
 }
 
-/// Appends the dense form of a row, where it has a kind.
-pub(crate) fn squeeze_row(row: &Row, content: &mut Dense) -> Result<(), NoMemory> {
-    if row[1] != 0 {
-        squeeze(row, content)?;
-    }
-    Ok(())
+/// Appends the dense form of a row, where it has a kind; tells whether there was memory.
+pub(crate) fn squeeze_row(row: &Row, content: &mut Dense) -> bool {
+    row[1] == 0 || squeeze(row, content).is_ok()
+}
+
+/// A copy of some bytes; of none where there is no memory, so that the test then fails.
+pub(crate) fn copy(alloc: Global, bytes: &[u8]) -> Vec<u8> {
+    Vec::from_slice(alloc, bytes).unwrap_or(Vec::new(alloc))
 }
 
 /// What the disk of a journal reads.
-pub(crate) fn bytes_of(
-    alloc: Global,
-    journal: TestJournal<MemoryDisk>,
-) -> Result<Vec<u8>, NoMemory> {
-    let disk = journal.journal.give_back();
-    Vec::from_slice(alloc, disk.bytes())
+pub(crate) fn bytes_of(alloc: Global, journal: TestJournal<MemoryDisk>) -> Vec<u8> {
+    copy(alloc, journal.journal.give_back().bytes())
 }

@@ -1,20 +1,25 @@
-use crate::appends::image;
-use crate::journals::{TestJournal, bytes_of, mount_bytes, squeeze_row};
+use crate::appends::{image, rows_of};
+use crate::journals::{TestJournal, bytes_of, copy, mount_bytes, squeeze_row};
 use crate::rows::{full_row, worked_rows};
 use book_journal::{BLOCKS_CONTENT, Dense, Kept};
-use disk_core::{Disk, Keep, MemoryDisk, NoMemory};
+use disk_core::{Disk, Keep, MemoryDisk};
 use std::alloc::Global;
 use std::test::Fail;
 
-// The bytes of a journal of the worked rows on an empty disk, with a snapshot.
-fn worked(alloc: Global) -> Result<Vec<u8>, NoMemory> {
-    let Some(mut kept) = mount_bytes(alloc, Vec::new(alloc)) else {
-        return Ok(Vec::new(alloc));
-    };
+// Appends the worked rows and keeps a snapshot of them.
+fn add_worked<D: Disk>(alloc: Global, kept: &mut TestJournal<D>) {
     for row in &worked_rows() {
         let _ = kept.add(row);
     }
-    let _ = kept.keep_rows(alloc)?;
+    let _ = kept.keep_rows(alloc);
+}
+
+// The bytes of a journal of the worked rows on an empty disk, with a snapshot.
+fn worked(alloc: Global) -> Vec<u8> {
+    let Some(mut kept) = mount_bytes(alloc, Vec::new(alloc)) else {
+        return Vec::new(alloc);
+    };
+    add_worked(alloc, &mut kept);
     bytes_of(alloc, kept)
 }
 
@@ -57,7 +62,7 @@ fn first_wrong(bytes: &[u8]) -> usize {
 
 #[test]
 fn a_snapshot_stands_behind_the_closed_gate(rt: HostRuntime) -> Result<(), Fail> {
-    assert!(rt; first_wrong(&worked(rt.alloc())?) == 1_056);
+    assert!(rt; first_wrong(&worked(rt.alloc())) == 1_056);
     Ok(())
 }
 
@@ -67,13 +72,14 @@ fn add_full<D: Disk>(
     kept: &mut TestJournal<D>,
     bytes: std::ops::Range<u8>,
     content: &mut Dense,
-) -> Result<bool, NoMemory> {
-    let mut right = true;
+) -> bool {
     for byte in bytes {
-        right = right && kept.add(&full_row(byte)).is_ok();
-        squeeze_row(&full_row(byte), content)?;
+        let row = full_row(byte);
+        if kept.add(&row).is_err() || !squeeze_row(&row, content) {
+            return false;
+        }
     }
-    Ok(right)
+    true
 }
 
 // Whether the content is read back in two pieces.
@@ -86,20 +92,30 @@ fn reads_pieces<D: Disk>(kept: &mut TestJournal<D>, content: &Dense) -> bool {
         && content.as_slice().get(3_948..) == second.get(..1_572)
 }
 
-// The snapshot of sixty rows as it is found, and how many calls finding and reading it takes.
-fn in_pieces(alloc: Global) -> Result<Option<(Option<Kept>, usize)>, NoMemory> {
-    let Some(mut kept) = mount_bytes(alloc, Vec::new(alloc)) else {
-        return Ok(None);
-    };
-    let mut content = Dense::new(alloc);
-    let right = add_full(&mut kept, 1..61, &mut content)? && kept.keep(&content).is_ok();
-    let Some(mut kept) = mount_bytes(alloc, bytes_of(alloc, kept)?) else {
-        return Ok(None);
-    };
-    let right = right && reads_pieces(&mut kept, &content);
+// A journal of sixty rows and their snapshot, as it is mounted.
+fn sixty(alloc: Global, content: &mut Dense) -> Option<TestJournal<MemoryDisk>> {
+    let mut kept = mount_bytes(alloc, Vec::new(alloc))?;
+    if !add_full(&mut kept, 1..61, content) || kept.keep(content).is_err() {
+        return None;
+    }
+    mount_bytes(alloc, bytes_of(alloc, kept))
+}
+
+// The snapshot that was found, and how many calls the disk was asked.
+fn found_of(kept: TestJournal<MemoryDisk>) -> (Option<Kept>, usize) {
     let found = kept.journal.kept();
-    let calls = kept.journal.give_back().calls_made();
-    Ok(if right { Some((found, calls)) } else { None })
+    (found, kept.journal.give_back().calls_made())
+}
+
+// The snapshot of sixty rows as it is found, and how many calls finding and reading it takes.
+fn in_pieces(alloc: Global) -> Option<(Option<Kept>, usize)> {
+    let mut content = Dense::new(alloc);
+    let mut kept = sixty(alloc, &mut content)?;
+    if reads_pieces(&mut kept, &content) {
+        Some(found_of(kept))
+    } else {
+        None
+    }
 }
 
 #[test]
@@ -108,7 +124,7 @@ fn a_snapshot_is_read_in_pieces(rt: HostRuntime) -> Result<(), Fail> {
         rows: 60,
         bytes: 5_520,
     };
-    assert!(rt; in_pieces(rt.alloc())? == Some((Some(found), 7 + 2)));
+    assert!(rt; in_pieces(rt.alloc()) == Some((Some(found), 7 + 2)));
     Ok(())
 }
 
@@ -155,21 +171,32 @@ fn mounted(alloc: Global, bytes: Vec<u8>) -> Option<(u32, bool)> {
     Some((kept.journal.count(), kept.journal.kept().is_some()))
 }
 
-// The disk of that session, if all of it is right.
-fn session(alloc: Global) -> Result<Option<MemoryDisk>, NoMemory> {
-    let Some(mut kept) = mount_bytes(alloc, Vec::new(alloc)) else {
-        return Ok(None);
-    };
+// Whether that session is answered so.
+fn is_answered<D: Disk>(alloc: Global, kept: &mut TestJournal<D>) -> bool {
     let mut content = Dense::new(alloc);
-    let right = add_full(&mut kept, 2..4, &mut content)?
+    add_full(kept, 2..4, &mut content)
         && kept.keep(&content).is_ok()
-        && kept.add(&full_row(4)) == Ok(3);
-    let disk = kept.journal.give_back();
-    Ok(if right && disk.calls_made() == 25 {
-        Some(disk)
+        && kept.add(&full_row(4)) == Ok(3)
+}
+
+// The disk of that session.
+fn session(alloc: Global) -> Option<MemoryDisk> {
+    let mut kept = mount_bytes(alloc, Vec::new(alloc))?;
+    if is_answered(alloc, &mut kept) {
+        Some(kept.journal.give_back())
     } else {
         None
-    })
+    }
+}
+
+// What is mounted after a crash.
+fn mounted_after(
+    alloc: Global,
+    disk: &MemoryDisk,
+    after: usize,
+    keep: Keep,
+) -> Option<(u32, bool)> {
+    mounted(alloc, image(disk, after, keep)?)
 }
 
 // Whether a crash leaves so many rows, and a snapshot or none.
@@ -179,29 +206,37 @@ fn leaves(
     keep: Keep,
     rows: &[u32; 14],
     snapshots: &[bool; 14],
-) -> Result<bool, NoMemory> {
-    let mut right = true;
-    for (after, wanted) in (12..26).zip(rows.iter().copied().zip(snapshots.iter().copied())) {
-        right = right && mounted(alloc, image(disk, after, keep)?) == Some(wanted);
+) -> bool {
+    for place in 0..14usize {
+        let seen = mounted_after(alloc, disk, place + 12, keep);
+        if seen != Some((rows[place], snapshots[place])) {
+            return false;
+        }
     }
-    Ok(right)
+    true
 }
 
 // The same for each way of a crash.
-fn leaves_each_way(alloc: Global) -> Result<bool, NoMemory> {
-    let Some(disk) = session(alloc)? else {
-        return Ok(false);
-    };
-    let mut right = true;
+fn leaves_each_way(alloc: Global, disk: &MemoryDisk) -> bool {
     for (keep, rows, snapshots) in &AFTER {
-        right = right && leaves(alloc, &disk, *keep, rows, snapshots)?;
+        if !leaves(alloc, disk, *keep, rows, snapshots) {
+            return false;
+        }
     }
-    Ok(right)
+    true
+}
+
+// The same of the disk of that session, which is asked 25 calls.
+fn leaves_session(alloc: Global) -> bool {
+    match session(alloc) {
+        Some(disk) => disk.calls_made() == 25 && leaves_each_way(alloc, &disk),
+        None => false,
+    }
 }
 
 #[test]
 fn a_crash_leaves_the_rows_with_a_snapshot_or_without(rt: HostRuntime) -> Result<(), Fail> {
-    assert!(rt; leaves_each_way(rt.alloc())?);
+    assert!(rt; leaves_session(rt.alloc()));
     Ok(())
 }
 
@@ -216,29 +251,34 @@ fn changed(bytes: Vec<u8>, changes: &[(usize, u8)]) -> Vec<u8> {
     bytes
 }
 
-// Whether a snapshot is found under a mark, behind which a sixth row is appended: the disk then has
-// the mark 0, six rows and no snapshot.
-fn found_under(alloc: Global, mark: u8) -> Result<Option<bool>, NoMemory> {
-    let bytes = changed(worked(alloc)?, &[(8, mark)]);
-    let Some(mut kept) = mount_bytes(alloc, bytes) else {
-        return Ok(None);
-    };
+// Whether these bytes have the mark 0, six rows and no snapshot.
+fn is_unmarked(alloc: Global, bytes: Vec<u8>) -> bool {
+    bytes.get(8).copied() == Some(0) && mounted(alloc, bytes) == Some((6, false))
+}
+
+// Whether a snapshot is found under a mark, behind which a sixth row is appended: the disk is then
+// unmarked.
+fn found_under(alloc: Global, mark: u8) -> Option<bool> {
+    let mut kept = mount_bytes(alloc, changed(worked(alloc), &[(8, mark)]))?;
     let found = kept.journal.kept().is_some();
     let right = kept.journal.count() == 5 && kept.add(&full_row(9)) == Ok(6);
-    let bytes = bytes_of(alloc, kept)?;
-    let right = right && bytes.get(8).copied() == Some(0);
-    Ok(if right && mounted(alloc, bytes) == Some((6, false)) {
+    if is_unmarked(alloc, bytes_of(alloc, kept)) && right {
         Some(found)
     } else {
         None
-    })
+    }
 }
 
 #[test]
 fn a_torn_mark_stands_for_no_snapshot(rt: HostRuntime) -> Result<(), Fail> {
-    for mark in [0u8, 1, 2, 255] {
-        assert!(rt; found_under(rt.alloc(), mark)? == Some(mark == 1));
-    }
+    let alloc = rt.alloc();
+    let found = [
+        found_under(alloc, 0),
+        found_under(alloc, 1),
+        found_under(alloc, 2),
+        found_under(alloc, 255),
+    ];
+    assert!(rt; found == [Some(false), Some(true), Some(false), Some(false)]);
     Ok(())
 }
 
@@ -249,52 +289,55 @@ fn is_taken<D: Disk>(kept: &mut TestJournal<D>) -> bool {
         && kept.journal.count() == 5
         && kept.blocks(0, &mut into) == Ok(171)
         && into[0] == 99
-        && kept.row(1).map(|row| row[0]) == Ok(0)
+        && kept.byte(1, 0) == Some(0)
         && kept.add(&full_row(9)) == Ok(6)
 }
 
 // The rows behind that, of which the first slot is closed: where the mark is gone there are none.
-fn taken(alloc: Global) -> Result<Option<u32>, NoMemory> {
-    let bytes = changed(worked(alloc)?, &[(96, 0), (192, 7), (770, 99)]);
-    let Some(mut kept) = mount_bytes(alloc, bytes) else {
-        return Ok(None);
-    };
+fn taken(alloc: Global) -> Option<u32> {
+    let bytes = changed(worked(alloc), &[(96, 0), (192, 7), (770, 99)]);
+    let mut kept = mount_bytes(alloc, bytes)?;
     if !is_taken(&mut kept) {
-        return Ok(None);
+        return None;
     }
-    Ok(mounted(alloc, bytes_of(alloc, kept)?).map(|(count, _)| count))
+    rows_of(alloc, bytes_of(alloc, kept))
 }
 
 #[test]
 fn a_snapshot_of_other_rows_is_mounted_as_it_is(rt: HostRuntime) -> Result<(), Fail> {
-    assert!(rt; taken(rt.alloc())? == Some(0));
+    assert!(rt; taken(rt.alloc()) == Some(0));
     Ok(())
 }
 
 // The bytes of the worked rows with their snapshot, and foreign ones and the tail again behind.
-fn with_foreign(alloc: Global) -> Result<Vec<u8>, NoMemory> {
-    let mut bytes = worked(alloc)?;
-    let tail = Vec::from_slice(alloc, bytes.get(960..).unwrap_or(&[]))?;
-    bytes.extend_from_slice(&[7; 96])?;
-    bytes.extend_from_slice(&tail)?;
-    Ok(bytes)
+fn with_foreign(alloc: Global) -> Vec<u8> {
+    let mut bytes = worked(alloc);
+    let tail = copy(alloc, bytes.get(960..).unwrap_or(&[]));
+    let _ = bytes.extend_from_slice(&[7; 96]);
+    let _ = bytes.extend_from_slice(&tail);
+    bytes
+}
+
+// What that disk reads when a snapshot of its five rows was kept, where none was found.
+fn kept_anew(alloc: Global) -> Option<Vec<u8>> {
+    let mut kept = mount_bytes(alloc, with_foreign(alloc))?;
+    if kept.journal.kept().is_some() || kept.journal.count() != 5 || !kept.keep_rows(alloc) {
+        return None;
+    }
+    Some(bytes_of(alloc, kept))
 }
 
 // Whether all but the mark stays where a snapshot is wanted behind foreign bytes.
-fn leaves_foreign(alloc: Global) -> Result<bool, NoMemory> {
-    let bytes = with_foreign(alloc)?;
-    let Some(mut kept) = mount_bytes(alloc, bytes.clone()?) else {
-        return Ok(false);
-    };
-    let right = kept.journal.kept().is_none()
-        && kept.journal.count() == 5
-        && kept.keep_rows(alloc)? == Ok(());
-    let unmarked = changed(bytes, &[(8, 0)]);
-    Ok(right && bytes_of(alloc, kept)?.as_slice() == unmarked.as_slice())
+fn leaves_foreign(alloc: Global) -> bool {
+    let unmarked = changed(with_foreign(alloc), &[(8, 0)]);
+    match kept_anew(alloc) {
+        Some(bytes) => bytes.as_slice() == unmarked.as_slice(),
+        None => false,
+    }
 }
 
 #[test]
 fn foreign_bytes_at_the_end_are_left(rt: HostRuntime) -> Result<(), Fail> {
-    assert!(rt; leaves_foreign(rt.alloc())?);
+    assert!(rt; leaves_foreign(rt.alloc()));
     Ok(())
 }
