@@ -54,7 +54,7 @@ const HANGS: (Told, bool) = (Told::DiskFault, true);
 // Which calls fail, and what adopting the sixth entry three times is told, and whether an entry
 // hangs then. The sixth row is written by the calls 25 to 28. Behind itself it isn't lawful, since
 // it says nothing of the gate.
-const ADOPTIONS: [(&[u32], Lines); 5] = [
+static ADOPTIONS: [(&[u32], Lines); 5] = [
     (&[], [ADDED, REFUSED, REFUSED]),
     (&[25], [FAILED, ADDED, REFUSED]),
     (&[26], [FAILED, ADDED, REFUSED]),
@@ -68,15 +68,34 @@ fn is_told(alloc: Global, entries: &[Entry; 20], fails: &[u32], wanted: &Lines) 
     lines == Some(*wanted) && holds(alloc, &disk, entries, 6)
 }
 
+// The same in each case.
+fn are_told(alloc: Global, entries: &[Entry; 20]) -> bool {
+    for place in 0..ADOPTIONS.len() {
+        let (fails, wanted) = &ADOPTIONS[place];
+        if !is_told(alloc, entries, fails, wanted) {
+            return false;
+        }
+    }
+    true
+}
+
+// Whether each of those entries is refused.
+fn are_refused(alloc: Global, entries: &[Entry; 20]) -> bool {
+    for entry in &unlawful(entries) {
+        if !is_refused(alloc, entries, *entry) {
+            return false;
+        }
+    }
+    true
+}
+
+// All of these.
+fn adopts(alloc: Global, entries: &[Entry; 20]) -> bool {
+    is_adopted(alloc, entries) && are_refused(alloc, entries) && are_told(alloc, entries)
+}
+
 #[test]
 fn a_list_is_adopted(rt: HostRuntime) -> Result<(), Fail> {
-    let entries = long_run()?;
-    assert!(rt; is_adopted(rt.alloc(), &entries));
-    for entry in unlawful(&entries) {
-        assert!(rt; is_refused(rt.alloc(), &entries, entry));
-    }
-    for (fails, wanted) in &ADOPTIONS {
-        assert!(rt; is_told(rt.alloc(), &entries, fails, wanted));
-    }
+    assert!(rt; adopts(rt.alloc(), &long_run()?));
     Ok(())
 }

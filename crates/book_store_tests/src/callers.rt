@@ -63,21 +63,27 @@ fn asked(want: Want) -> Ask {
     }
 }
 
+// What a want is told.
+fn told<D: Disk>(caller: &mut OneCaller<D>, want: Want) -> Told {
+    read_answer(&caller.ask(&asked(want)))
+}
+
+// Whose a row is.
+fn by_of<D: Disk>(store: &Store<D>, number: u32) -> Option<u16> {
+    Some(store.entry(number)?.by)
+}
+
 // Asks two acts and a question.
 fn speak<D: Disk>(caller: &mut OneCaller<D>, first: Act, second: Act) -> Spoken {
-    let one = read_answer(&caller.ask(&asked(Want::Act(first))));
-    let view = read_answer(&caller.ask(&asked(Want::Question(Question::Summary))));
+    let one = told(caller, Want::Act(first));
+    let view = told(caller, Want::Question(Question::Summary));
     caller.turn(SECOND);
-    let two = read_answer(&caller.ask(&asked(Want::Act(second))));
-    let again = read_answer(&caller.ask(&asked(Want::Act(second))));
-    let store = caller.store();
+    let two = told(caller, Want::Act(second));
+    let again = told(caller, Want::Act(second));
     Spoken {
         told: [one, view, two, again],
         faults: caller.faults(),
-        by: [
-            store.entry(1).map(|entry| entry.by),
-            store.entry(2).map(|entry| entry.by),
-        ],
+        by: [by_of(caller.store(), 1), by_of(caller.store(), 2)],
         rows: 0,
     }
 }
@@ -95,11 +101,18 @@ fn speak_over(alloc: Global, fails: &[u32], entries: &[Entry; 20]) -> Option<Spo
     Some(Spoken { rows, ..spoken })
 }
 
+// Whether each case comes out so.
+fn are_spoken(alloc: Global, entries: &[Entry; 20]) -> bool {
+    for (fails, wanted) in &CASES {
+        if speak_over(alloc, fails, entries) != Some(*wanted) {
+            return false;
+        }
+    }
+    true
+}
+
 #[test]
 fn one_caller_and_its_faults(rt: HostRuntime) -> Result<(), Fail> {
-    let entries = long_run()?;
-    for (fails, wanted) in &CASES {
-        assert!(rt; speak_over(rt.alloc(), fails, &entries) == Some(*wanted));
-    }
+    assert!(rt; are_spoken(rt.alloc(), &long_run()?));
     Ok(())
 }

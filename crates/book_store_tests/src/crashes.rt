@@ -7,19 +7,30 @@ use std::test::Fail;
 
 // The first call behind which a crash leaves other rows than the acknowledged ones and at most the
 // next: mounting makes four calls, and each act four.
-fn wrong_crash(alloc: Global, entries: &[Entry]) -> Option<u32> {
-    let used = use_bytes(alloc, &[], entries, WHOLE);
-    if !used.seen.right || used.seen.held != 0 || calls_of(&used.disk) != CALLS {
-        return Some(CALLS);
-    }
+fn wrong_crash(alloc: Global, disk: &MemoryDisk, entries: &[Entry]) -> Option<u32> {
     for after in 0..CALLS + 1 {
         let least = (after.saturating_sub(4) / 4).min(ROWS);
-        let rows = (least, least.saturating_add(1));
-        if !survives(alloc, &used.disk, after, entries, WHOLE, rows) {
+        if !survives(
+            alloc,
+            disk,
+            after,
+            entries,
+            WHOLE,
+            (least, least.saturating_add(1)),
+        ) {
             return Some(after);
         }
     }
     None
+}
+
+// Whether there is none in the long run over an empty disk.
+fn survives_each(alloc: Global, entries: &[Entry]) -> bool {
+    let used = use_bytes(alloc, &[], entries, WHOLE);
+    used.seen.right
+        && used.seen.held == 0
+        && calls_of(&used.disk) == CALLS
+        && wrong_crash(alloc, &used.disk, entries).is_none()
 }
 
 // Whether a run over a disk of which these calls fail makes each of them, and what is asked again
@@ -57,14 +68,12 @@ fn wrong_call(alloc: Global, entries: &[Entry]) -> Option<u32> {
 
 #[test]
 fn a_crash_after_each_call(rt: HostRuntime) -> Result<(), Fail> {
-    let entries = long_run()?;
-    assert_eq!(rt; wrong_crash(rt.alloc(), &entries), None);
+    assert!(rt; survives_each(rt.alloc(), &long_run()?));
     Ok(())
 }
 
 #[test]
 fn each_call_fails_and_each_two(rt: HostRuntime) -> Result<(), Fail> {
-    let entries = long_run()?;
-    assert_eq!(rt; wrong_call(rt.alloc(), &entries), None);
+    assert!(rt; wrong_call(rt.alloc(), &long_run()?).is_none());
     Ok(())
 }

@@ -171,18 +171,33 @@ fn bytes_of(alloc: Global, entries: &[Entry], way: Way) -> Vec<u8> {
     }
 }
 
-// The two rows with their snapshot, and without the mark. Of seventeen rows the last is damaged
-// where its day, at place 14 of its slot, is the one before the first.
+// Whether each byte of the two rows with their snapshot is seen.
+fn are_kept_seen(alloc: Global, bytes: &[u8], entries: &[Entry]) -> bool {
+    bytes.len() == 672 && wrong_byte(alloc, bytes, &BY_SNAPSHOT, entries).is_none()
+}
+
+// Whether it is seen without the mark.
+fn are_slots_seen(alloc: Global, bytes: &[u8], entries: &[Entry]) -> bool {
+    wrong_byte(alloc, &changed(alloc, bytes, 8, 255), &BY_SLOTS, entries).is_none()
+}
+
+// Whether of seventeen rows the last is damaged where its day, at place 14 of its slot, is the one
+// before the first.
+fn is_day_seen(alloc: Global, entries: &[Entry]) -> bool {
+    let days = bytes_of(alloc, entries, TWO_DAYS);
+    is_opened_so(alloc, &days, (17 * 96 + 14, 254), entries, Damaged(17))
+}
+
+// All of these.
+fn are_seen(alloc: Global, entries: &[Entry]) -> bool {
+    let bytes = bytes_of(alloc, entries, TWO_ROWS);
+    are_kept_seen(alloc, &bytes, entries)
+        && are_slots_seen(alloc, &bytes, entries)
+        && is_day_seen(alloc, entries)
+}
+
 #[test]
 fn each_byte_of_a_book(rt: HostRuntime) -> Result<(), Fail> {
-    let alloc = rt.alloc();
-    let entries = long_run()?;
-    let bytes = bytes_of(alloc, &entries, TWO_ROWS);
-    assert!(rt; bytes.len() == 672);
-    assert_eq!(rt; wrong_byte(alloc, &bytes, &BY_SNAPSHOT, &entries), None);
-    let unmarked = changed(alloc, &bytes, 8, 255);
-    assert_eq!(rt; wrong_byte(alloc, &unmarked, &BY_SLOTS, &entries), None);
-    let days = bytes_of(alloc, &entries, TWO_DAYS);
-    assert!(rt; is_opened_so(alloc, &days, (17 * 96 + 14, 254), &entries, Damaged(17)));
+    assert!(rt; are_seen(rt.alloc(), &long_run()?));
     Ok(())
 }

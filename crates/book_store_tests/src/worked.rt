@@ -24,7 +24,7 @@ const PASSED: (Told, bool) = (Told::Row(6, Some(Signal::Pass)), false);
 // Which calls fail, and what the sixth act, another in its place and this one again are told, and
 // whether an entry hangs then. Mounting makes four calls and each act four, so that the calls 25 to
 // 28 are those of the sixth act. Where it hangs, the next two close its gate.
-const HANGING: [(&[u32], Lines); 10] = [
+static HANGING: [(&[u32], Lines); 10] = [
     (&[25], [FAILED, PASSED, FULL]),
     (&[26], [FAILED, PASSED, FULL]),
     (&[27], [HANGS, PASSED, FULL]),
@@ -46,12 +46,20 @@ fn is_told(alloc: Global, entries: &[Entry; 20], fails: &[u32], wanted: &Lines) 
     lines == Some(*wanted) && holds(alloc, &disk, &rows, 6)
 }
 
+// The same in each case.
+fn are_told(alloc: Global, entries: &[Entry; 20]) -> bool {
+    for place in 0..HANGING.len() {
+        let (fails, wanted) = &HANGING[place];
+        if !is_told(alloc, entries, fails, wanted) {
+            return false;
+        }
+    }
+    true
+}
+
 #[test]
 fn another_act_behind_one_that_hangs(rt: HostRuntime) -> Result<(), Fail> {
-    let entries = long_run()?;
-    for (fails, wanted) in &HANGING {
-        assert!(rt; is_told(rt.alloc(), &entries, fails, wanted));
-    }
+    assert!(rt; are_told(rt.alloc(), &long_run()?));
     Ok(())
 }
 
@@ -72,24 +80,33 @@ fn bytes_of(alloc: Global, entries: &[Entry], way: Way) -> Vec<u8> {
 
 // How many calls a weighing behind five rows makes over its snapshot more than opening that. The
 // mark says that the disk ends with a snapshot, which the weighing makes untrue.
-fn calls_behind(alloc: Global, entries: &[Entry]) -> Option<u32> {
-    let kept = bytes_of(alloc, entries, FIVE_KEPT);
-    let mounted = calls_for(alloc, &kept, entries, LOOK);
-    let used = use_bytes(alloc, &kept, entries, SIX);
-    let marks = (kept.get(8).copied(), used.disk.bytes().get(8).copied());
-    if kept.len() == 1_056 && used.seen.right && marks == (Some(1), Some(0)) {
-        calls_of(&used.disk).checked_sub(mounted)
+fn calls_behind(alloc: Global, entries: &[Entry], kept: &[u8]) -> u32 {
+    let used = use_bytes(alloc, kept, entries, SIX);
+    if used.seen.right && used.disk.bytes().get(8).copied() == Some(0) {
+        calls_of(&used.disk).saturating_sub(calls_for(alloc, kept, entries, LOOK))
     } else {
-        None
+        0
     }
+}
+
+// Whether the disk of five rows with their snapshot is marked, and a weighing makes six such calls.
+fn makes_six(alloc: Global, entries: &[Entry]) -> bool {
+    let kept = bytes_of(alloc, entries, FIVE_KEPT);
+    kept.len() == 1_056
+        && kept.get(8).copied() == Some(1)
+        && calls_behind(alloc, entries, &kept) == 6
+}
+
+// Whether five rows and six take so many calls.
+fn take_calls(alloc: Global, entries: &[Entry]) -> bool {
+    calls_for(alloc, &[], entries, FIVE) == 24
+        && calls_for(alloc, &[], entries, SIX) == 28
+        && makes_six(alloc, entries)
 }
 
 #[test]
 fn a_weighing_and_its_calls(rt: HostRuntime) -> Result<(), Fail> {
-    let entries = long_run()?;
-    assert!(rt; calls_for(rt.alloc(), &[], &entries, FIVE) == 24);
-    assert!(rt; calls_for(rt.alloc(), &[], &entries, SIX) == 28);
-    assert!(rt; calls_behind(rt.alloc(), &entries) == Some(6));
+    assert!(rt; take_calls(rt.alloc(), &long_run()?));
     Ok(())
 }
 
@@ -129,17 +146,28 @@ fn are_many(used: &Used<MemoryDisk>) -> bool {
     used.seen.right && used.seen.held == 663
 }
 
-// 4 096 bytes, and as many for each of the three calls that the content takes, are 16 384; 663
-// slots of 96 bytes are 63 648.
+// Whether they are mounted by few calls where there is a snapshot: 4 096 bytes, and as many for
+// each of the three calls that the content takes, are 16 384.
+fn mounts_snapshot(alloc: Global, entries: &[Entry]) -> bool {
+    let used = mount_many(alloc, entries, MANY_KEPT);
+    are_many(&used) && calls_of(&used.disk) <= 23 && used.disk.asked_bytes() <= 16_384
+}
+
+// Whether their slots are read where there is none: 663 of 96 bytes are 63 648.
+fn mounts_slots(alloc: Global, entries: &[Entry]) -> bool {
+    let used = mount_many(alloc, entries, MANY);
+    are_many(&used) && 63_648 <= used.disk.asked_bytes()
+}
+
+// Whether they are mounted so either way, and each act made four calls where room was taken.
+fn mounts_many(alloc: Global, entries: &[Entry]) -> bool {
+    mounts_snapshot(alloc, entries)
+        && mounts_slots(alloc, entries)
+        && calls_for(alloc, &[], entries, MANY_RESERVED) == 4 + 4 * 663
+}
+
 #[test]
 fn many_rows_are_mounted_by_few_calls(rt: HostRuntime) -> Result<(), Fail> {
-    let alloc = rt.alloc();
-    let entries = many_entries(alloc, &long_run()?);
-    let by_snapshot = mount_many(alloc, &entries, MANY_KEPT);
-    assert!(rt; are_many(&by_snapshot) && calls_of(&by_snapshot.disk) <= 23);
-    assert!(rt; by_snapshot.disk.asked_bytes() <= 16_384);
-    let by_slots = mount_many(alloc, &entries, MANY);
-    assert!(rt; are_many(&by_slots) && 63_648 <= by_slots.disk.asked_bytes());
-    assert!(rt; calls_for(alloc, &[], &entries, MANY_RESERVED) == 4 + 4 * 663);
+    assert!(rt; mounts_many(rt.alloc(), &many_entries(rt.alloc(), &long_run()?)));
     Ok(())
 }
