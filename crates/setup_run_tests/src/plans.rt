@@ -48,15 +48,20 @@ fn read(alloc: Global, plan: &[u8], fails: &[u32], lanes: u8) -> Option<Result<P
     Some(read_whole_plan(alloc, &mut input, lanes))
 }
 
+// Whether a setup over an empty disk records these acts.
+fn sets_up(alloc: Global, setup: &[u8], acts: &[Act]) -> Option<bool> {
+    let disk = MemoryDisk::new(alloc, Vec::new(alloc), Vec::new(alloc));
+    let (way, store) = run_over(alloc, disk, setup)?;
+    let (_, rows) = store.close();
+    Some(way == Way::SetUp && records(rows.as_slice(), acts))
+}
+
 // Reads the plan of a day, and sets a hall up by it: for how many rows it wants room, and whether
 // its rows are right.
 fn set_up(alloc: Global) -> Option<(u32, bool)> {
     let [day, product, tare, open, _] = rice_acts()?;
     let plan = read(alloc, DAY_OF_RICE.as_bytes(), &[], 1)?.ok()?;
-    let disk = MemoryDisk::new(alloc, Vec::new(alloc), Vec::new(alloc));
-    let (way, store) = run_over(alloc, disk, plan.setup.as_bytes())?;
-    let (_, rows) = store.close();
-    let right = way == Way::SetUp && records(rows.as_slice(), &[day, product, tare, open]);
+    let right = sets_up(alloc, plan.setup.as_bytes(), &[day, product, tare, open])?;
     Some((plan.reserve, right))
 }
 
@@ -71,17 +76,31 @@ fn refused(alloc: Global, plan: &[u8], fails: &[u32], lanes: u8) -> Option<Optio
     Some(read(alloc, plan, fails, lanes)?.err())
 }
 
+// A plan, the reads that fail, a number of lanes, and why there is no plan. One read gives the
+// whole plan of a day, and the next its end.
+static PLANS: [(&str, &[u32], u8, Option<NoPlan>); 6] = [
+    (DAY_OF_RICE, &[], 2, Some(NoPlan::BadPlan)),
+    ("setup", &[], 0, Some(NoPlan::BadPlan)),
+    ("", &[], 0, None),
+    (DAY_OF_RICE, &[1], 1, Some(NoPlan::ReadFault)),
+    (DAY_OF_RICE, &[2], 1, Some(NoPlan::ReadFault)),
+    (DAY_OF_RICE, &[3], 1, None),
+];
+
+// The first plan of which something else is said.
+fn wrong_plan(alloc: Global) -> Option<usize> {
+    for place in 0..PLANS.len() {
+        let (plan, fails, lanes, why) = &PLANS[place];
+        if refused(alloc, plan.as_bytes(), fails, *lanes) != Some(*why) {
+            return Some(place);
+        }
+    }
+    None
+}
+
 #[test]
 fn an_input_is_no_plan(rt: HostRuntime) -> Result<(), AllocError> {
-    let alloc = rt.alloc();
-    let day = DAY_OF_RICE.as_bytes();
-    assert!(rt; refused(alloc, day, &[], 2) == Some(Some(NoPlan::BadPlan)));
-    assert!(rt; refused(alloc, b"setup", &[], 0) == Some(Some(NoPlan::BadPlan)));
-    assert!(rt; refused(alloc, b"", &[], 0) == Some(None));
-    // one read gives the whole plan, and the next its end
-    assert!(rt; refused(alloc, day, &[1], 1) == Some(Some(NoPlan::ReadFault)));
-    assert!(rt; refused(alloc, day, &[2], 1) == Some(Some(NoPlan::ReadFault)));
-    assert!(rt; refused(alloc, day, &[3], 1) == Some(None));
+    assert!(rt; wrong_plan(rt.alloc()).is_none());
     Ok(())
 }
 
@@ -91,9 +110,14 @@ fn comment_refused(alloc: Global, count: usize) -> Option<Option<NoPlan>> {
     refused(alloc, &comment, &[], 0)
 }
 
+// Whether 65 536 bytes are a plan, and one more is none.
+fn has_65_536_bytes(alloc: Global) -> bool {
+    comment_refused(alloc, 65_536) == Some(None)
+        && comment_refused(alloc, 65_537) == Some(Some(NoPlan::BadPlan))
+}
+
 #[test]
 fn a_plan_has_65_536_bytes(rt: HostRuntime) -> Result<(), AllocError> {
-    assert!(rt; comment_refused(rt.alloc(), 65_536) == Some(None));
-    assert!(rt; comment_refused(rt.alloc(), 65_537) == Some(Some(NoPlan::BadPlan)));
+    assert!(rt; has_65_536_bytes(rt.alloc()));
     Ok(())
 }

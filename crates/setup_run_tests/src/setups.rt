@@ -64,7 +64,7 @@ fn wrong_setup(alloc: Global) -> Option<usize> {
 
 #[test]
 fn setups_over_an_empty_book(rt: HostRuntime) -> Result<(), AllocError> {
-    assert_eq!(rt; wrong_setup(rt.alloc()), None);
+    assert!(rt; wrong_setup(rt.alloc()).is_none());
     Ok(())
 }
 
@@ -99,7 +99,7 @@ fn wrong_refusals(alloc: Global) -> Option<usize> {
 
 #[test]
 fn refused_lines_are_told(rt: HostRuntime) -> Result<(), AllocError> {
-    assert_eq!(rt; wrong_refusals(rt.alloc()), None);
+    assert!(rt; wrong_refusals(rt.alloc()).is_none());
     Ok(())
 }
 
@@ -138,6 +138,6 @@ fn wrong_comment(alloc: Global) -> Option<usize> {
 
 #[test]
 fn a_line_has_200_bytes(rt: HostRuntime) -> Result<(), AllocError> {
-    assert_eq!(rt; wrong_comment(rt.alloc()), None);
+    assert!(rt; wrong_comment(rt.alloc()).is_none());
     Ok(())
 }
