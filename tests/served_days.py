@@ -2,11 +2,13 @@
 tests/memory.sh.
 """
 
+import contextlib
 import os
 import re
 import shutil
+import socket
 
-from clients import FIRST_DOOR, Hall, free_ports, get, need, plan, post
+from clients import FIRST_DOOR, Hall, Wrong, free_ports, get, need, plan, post
 from meeting import Meeting
 from refusals import ASKED_AGAIN, LONGEST, NO_MEMORY, PROGRAM, THREAD, UNOPENED, Place
 from rows import Piles
@@ -113,13 +115,23 @@ class ServedDay:
         way, told = self.attempt(f"{kind}-{number}-{count}", kind, number, count)
         return way != DONE or told.refused < count
 
+    def free_port(self, number):
+        """A port of this process's own where no hall listens: one that waits in vain takes a minute."""
+        for place in range(number, number + 40):
+            port = self.port + place % 40
+            with socket.socket() as probe, contextlib.suppress(OSError):
+                probe.setsockopt(socket.SOL_SOCKET, socket.SO_REUSEADDR, 1)
+                probe.bind(("127.0.0.1", port))
+                return port
+        raise Wrong("a hall listens at each of 40 ports")
+
     def attempt(self, name, kind, number, count=1):
         place = Place(self.program, self.shim, f"{self.folder}/{name}")
         if self.book:
             shutil.copyfile(self.book, place.book)
         setup = "".join(f"{line}\n" for line, _ in self.opening)
         hall = Hall(self.program, place.folder, plan(setup, ["A"] * len(self.grosses)),
-                    book=place.book, lanes=len(self.grosses), doors=1, port=self.port + number % 40,
+                    book=place.book, lanes=len(self.grosses), doors=1, port=self.free_port(number),
                     env=place.refusing(kind, number, count))
         meeting = Meeting(hall, self.grosses.items(), self.requests())
         try:
