@@ -117,13 +117,13 @@ class ServedDay:
 
     def free_port(self, number):
         """A port of this process's own where no hall listens: one that waits in vain takes a minute."""
-        for place in range(number, number + 40):
+        for place in (number, number + 20):
             port = self.port + place % 40
             with socket.socket() as probe, contextlib.suppress(OSError):
                 probe.setsockopt(socket.SOL_SOCKET, socket.SO_REUSEADDR, 1)
                 probe.bind(("127.0.0.1", port))
                 return port
-        raise Wrong("a hall listens at each of 40 ports")
+        raise Wrong("halls wait at the ports of this run and of the twentieth behind it")
 
     def attempt(self, name, kind, number, count=1):
         place = Place(self.program, self.shim, f"{self.folder}/{name}")
