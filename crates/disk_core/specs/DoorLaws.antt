@@ -2,13 +2,13 @@
 use Rattle.std.proofs.Common.{◌≡◌, ℕ, List, ◌++◌, length, drop, Option, Some, None, option_map, refl, sym, ◌∙◌, ap, append_assoc}
 use Rattle.std.proofs.lemmas.List.{append_cancel_right}
 use lib.Seq.{drop-append_seam}
-use Rattle.disk_core.specs.Doors.{Connection, Connections, left_of, written_of, left_now, written_now, taken_from, written_to, with_taken, with_written}
+use Rattle.disk_core.specs.Doors.{Connection, Connections, connection_left, connection_written, left_now, written_now, add_taken, add_written, with_taken, with_written}
 use Rattle.disk_core.specs.ListDoors.{unread, unwritten, all_unread, all_unwritten}
 
 -- what the present connection has left and had taken is known by what it had in all
-read_on : (old new : Connection) (bytes : List ℕ) → unread new ≡ unread old
-    → old.left ≡ bytes ++ new.left → new ≡ taken_from bytes old
-read_on old new bytes same parts =
+reading_keeps : (old new : Connection) (bytes : List ℕ) → unread new ≡ unread old
+    → old.left ≡ bytes ++ new.left → new ≡ add_taken bytes old
+reading_keeps old new bytes same parts =
     let whole : new.taken ++ new.left ≡ old.taken ++ old.left =
     ap (λ (c : Connection). c.left) same in
     let left : new.left ≡ drop (length bytes) old.left =
@@ -21,14 +21,14 @@ read_on old new bytes same parts =
 
 read_present : (old new : Option Connection) (bytes : List ℕ)
     → option_map unread new ≡ option_map unread old
-    → left_of old ≡ bytes ++ left_of new
-    → new ≡ option_map (taken_from bytes) old
+    → connection_left old ≡ bytes ++ connection_left new
+    → new ≡ option_map (add_taken bytes) old
 read_present None None bytes same parts = refl
 read_present None (Some new) bytes same parts = absurd cc
 read_present (Some old) None bytes same parts = absurd cc
 read_present (Some old) (Some new) bytes same parts =
     let kept : unread new ≡ unread old = cc in
-    ap (λ (c : Connection). Some c) (read_on old new bytes kept parts)
+    ap (λ (c : Connection). Some c) (reading_keeps old new bytes kept parts)
 
 pub read_adds : (old new : Connections) (bytes : List ℕ) → all_unread new ≡ all_unread old
     → left_now old ≡ bytes ++ left_now new → Some new ≡ Some (with_taken bytes old)
@@ -39,8 +39,8 @@ read_adds old new bytes same parts =
 
 write_present : (old new : Option Connection) (bytes : List ℕ)
     → option_map unwritten new ≡ option_map unwritten old
-    → written_of new ≡ written_of old ++ bytes
-    → new ≡ option_map (written_to bytes) old
+    → connection_written new ≡ connection_written old ++ bytes
+    → new ≡ option_map (add_written bytes) old
 write_present None None bytes same grown = refl
 write_present None (Some new) bytes same grown = absurd cc
 write_present (Some old) None bytes same grown = absurd cc

@@ -50,30 +50,30 @@ AdmitsNext was now (Ok found) = (now ≡ option_map next_connections was)
 AdmitsNext was now (Err error) = now ≡ was
 
 -- what a connection has left, and what was written to it; nothing where there is none
-abbrev pub left_of : Option Connection → List ℕ
-left_of connection = option_map_or (λ (c : Connection). c.left) connection []
+abbrev pub connection_left : Option Connection → List ℕ
+connection_left connection = option_map_or (λ (c : Connection). c.left) connection []
 
-abbrev pub written_of : Option Connection → List ℕ
-written_of connection = option_map_or (λ (c : Connection). c.written) connection []
+abbrev pub connection_written : Option Connection → List ℕ
+connection_written connection = option_map_or (λ (c : Connection). c.written) connection []
 
 -- the same of the present connection
 abbrev pub left_now : Connections → List ℕ
-left_now all = left_of all.present
+left_now all = connection_left all.present
 
 abbrev pub written_now : Connections → List ℕ
-written_now all = written_of all.present
+written_now all = connection_written all.present
 
 -- a connection from which some bytes more were taken
-abbrev pub taken_from : List ℕ → Connection → Connection
-taken_from bytes c = record c { left = drop (length bytes) c.left; taken = c.taken ++ bytes }
+abbrev pub add_taken : List ℕ → Connection → Connection
+add_taken bytes c = record c { left = drop (length bytes) c.left; taken = c.taken ++ bytes }
 
 -- a connection to which some bytes more were written
-abbrev pub written_to : List ℕ → Connection → Connection
-written_to bytes c = record c { written = c.written ++ bytes }
+abbrev pub add_written : List ℕ → Connection → Connection
+add_written bytes c = record c { written = c.written ++ bytes }
 
 -- the connections when some bytes more were taken from the present one, or written to it
 abbrev pub with_taken : List ℕ → Connections → Connections
-with_taken bytes all = record all { present = option_map (taken_from bytes) all.present }
+with_taken bytes all = record all { present = option_map (add_taken bytes) all.present }
 
 abbrev pub with_written : List ℕ → Connections → Connections
-with_written bytes all = record all { present = option_map (written_to bytes) all.present }
+with_written bytes all = record all { present = option_map (add_written bytes) all.present }

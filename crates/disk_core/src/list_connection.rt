@@ -1,5 +1,5 @@
 ghost use Rattle.std.specs.Prelude.{◌≡◌, ◌⊎◌, ◌+◌, ◌<◌, ◌≤◌, [], ◌++◌, length, map, take, option_map, option_to_list, vec_len, vec_capacity, vec_items, IsNone, OnOk, OnErr};
-ghost use Rattle.disk_core.specs.Doors.{first_connection, behind_first, left_of, written_of};
+ghost use Rattle.disk_core.specs.Doors.{first_connection, behind_first, connection_left, connection_written};
 ghost use Rattle.disk_core.specs.ListDoors.{said_on, room_of, unread, unwritten};
 
 use crate::source::fill_front;
@@ -90,11 +90,12 @@ impl ListConnection {
 }
 
 /// Gives the next bytes of a connection; where there is none it gives none.
-pub(crate) fn give_from(connection: &mut Option<ListConnection>, into: &mut [u8]) -> usize
+pub(crate) fn give_connection(connection: &mut Option<ListConnection>, into: &mut [u8]) -> usize
     ensures bound { result ≤ length into.new }
-    ensures given { left_of (said_on connection.old)
-        ≡ take result into.new ++ left_of (said_on connection.new) }
-    ensures end { result ≡ 0 → 0 < length into.new → left_of (said_on connection.new) ≡ [] }
+    ensures given { connection_left (said_on connection.old)
+        ≡ take result into.new ++ connection_left (said_on connection.new) }
+    ensures end { result ≡ 0 → 0 < length into.new
+        → connection_left (said_on connection.new) ≡ [] }
     ensures rest { option_map unread (said_on connection.new)
         ≡ option_map unread (said_on connection.old) }
 {
@@ -106,13 +107,16 @@ pub(crate) fn give_from(connection: &mut Option<ListConnection>, into: &mut [u8]
 
 /// Writes to a connection. It fails where there is none and the bytes aren't empty, and where there
 /// is no memory.
-pub(crate) fn write_to(connection: &mut Option<ListConnection>, bytes: &[u8]) -> Result<(), Failed>
-    ensures ok { OnOk result (written_of (said_on connection.new)
-        ≡ written_of (said_on connection.old) ++ bytes.now) }
+pub(crate) fn write_connection(
+    connection: &mut Option<ListConnection>,
+    bytes: &[u8],
+) -> Result<(), Failed>
+    ensures ok { OnOk result (connection_written (said_on connection.new)
+        ≡ connection_written (said_on connection.old) ++ bytes.now) }
     ensures err { OnErr result (said_on connection.new ≡ said_on connection.old) }
     ensures cause { OnErr result ((IsNone connection.old × (0 < length bytes.now))
         ⊎ (room_of connection.old
-        < length (written_of (said_on connection.old)) + length bytes.now)) }
+        < length (connection_written (said_on connection.old)) + length bytes.now)) }
     ensures rest { option_map unwritten (said_on connection.new)
         ≡ option_map unwritten (said_on connection.old) }
 {

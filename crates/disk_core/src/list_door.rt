@@ -1,7 +1,9 @@
 ghost use Rattle.std.specs.Prelude.{◌↔◌, Contains, IsTrue};
 
 use crate::door::Door;
-use crate::list_connection::{ListConnection, begin_first, give_from, put_behind, write_to};
+use crate::list_connection::{
+    ListConnection, begin_first, give_connection, put_behind, write_connection,
+};
 use crate::sink::Sink;
 use crate::source::{Source, is_end};
 use crate::types::Failed;
@@ -187,7 +189,7 @@ impl Source for ListDoor {
         if self.is_listed() {
             return Err(self.fault());
         }
-        let count = give_from(&mut self.present, into);
+        let count = give_connection(&mut self.present, into);
         self.ended = is_end(count, into);
         Ok(count)
     }
@@ -235,7 +237,7 @@ impl Sink for ListDoor {
         if self.is_listed() {
             return Err(self.fault());
         }
-        if write_to(&mut self.present, bytes).is_err() {
+        if write_connection(&mut self.present, bytes).is_err() {
             return Err(self.fault());
         }
         Ok(bytes.len())

@@ -114,7 +114,7 @@ impl MemoryDisk {
 }
 
 // Writes bytes over what was written, or over what was there at first where nothing was.
-fn write_over(
+fn overwrite_file(
     alloc: Global,
     first: &[u8],
     written: &mut Option<Vec<u8>>,
@@ -225,7 +225,7 @@ impl MemoryDisk {
     {
         let kept = Vec::from_slice(self.alloc, bytes)?;
         self.calls.reserve(1)?;
-        write_over(
+        overwrite_file(
             self.alloc,
             &self.first,
             &mut self.written,

@@ -6,7 +6,7 @@ use Rattle.std.proofs.lemmas.List.Elements.{All-nil, All-push}
 use Rattle.std.proofs.KnownBytes.{Consumes-nil, Consumes-trans}
 use lib.Seq.{drop-drop}
 use Rattle.std.specs.Io.KnownBytes.{Consumes, IsAtEnd}
-use Rattle.disk_core.specs.Doors.{Connection, Connections, left_now, taken_from, written_to, with_taken, with_written}
+use Rattle.disk_core.specs.Doors.{Connection, Connections, left_now, add_taken, add_written, with_taken, with_written}
 use Rattle.office_wire.specs.declared.types.Frame.TheVariants.{Whole}
 use Rattle.office_wire.specs.declared.types.Framed.{Framed}
 use Rattle.office_wire.specs.Frames.{IsFrame}
@@ -20,7 +20,7 @@ use Rattle.office_door.specs.Steps.{HeldView, HasRead, IsHeard}
 -- ---- connections
 
 talk_none : (present : Option Connection)
-    → option_map (written_to []) (option_map (taken_from []) present) ≡ present
+    → option_map (add_written []) (option_map (add_taken []) present) ≡ present
 talk_none None = refl
 talk_none (Some c) = λ i. Some (record {
   left = c.left;
@@ -34,9 +34,9 @@ with_talk_none None = refl
 with_talk_none (Some all) = λ i. Some (record all { present = sym (talk_none all.present) i })
 
 talk_taken : (taken written more : List ℕ) (present : Option Connection)
-    → option_map (taken_from more)
-    (option_map (written_to written) (option_map (taken_from taken) present))
-    ≡ option_map (written_to written) (option_map (taken_from (taken ++ more)) present)
+    → option_map (add_taken more)
+    (option_map (add_written written) (option_map (add_taken taken) present))
+    ≡ option_map (add_written written) (option_map (add_taken (taken ++ more)) present)
 talk_taken taken written more None = refl
 talk_taken taken written more (Some c) =
     let left : drop (length more) (drop (length taken) c.left)
@@ -58,9 +58,9 @@ with_talk_taken taken written more (Some all) =
     λ i. Some (record all { present = talk_taken taken written more all.present i })
 
 talk_written : (taken written more : List ℕ) (present : Option Connection)
-    → option_map (written_to more)
-    (option_map (written_to written) (option_map (taken_from taken) present))
-    ≡ option_map (written_to (written ++ more)) (option_map (taken_from taken) present)
+    → option_map (add_written more)
+    (option_map (add_written written) (option_map (add_taken taken) present))
+    ≡ option_map (add_written (written ++ more)) (option_map (add_taken taken) present)
 talk_written taken written more None = refl
 talk_written taken written more (Some c) = λ i. Some (record {
   left = drop (length taken) c.left;

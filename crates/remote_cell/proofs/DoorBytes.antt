@@ -8,7 +8,7 @@ use Rattle.device_facts.specs.Count.{CountsFault}
 use Rattle.disk_core.specs.declared.source.Source as source
 use Rattle.disk_core.specs.declared.sink.Sink as sink
 use Rattle.disk_core.specs.declared.types.Partly.{Partly}
-use Rattle.disk_core.specs.Doors.{Connection, Connections, left_now, taken_from, with_taken, with_written}
+use Rattle.disk_core.specs.Doors.{Connection, Connections, left_now, add_taken, with_taken, with_written}
 use Rattle.remote_cell.specs.declared.reading.LineEnd.TheVariants.{Whole}
 use Rattle.remote_cell.specs.declared.wire_lines.TheConstants.{MAX_LINE}
 use Rattle.remote_cell.specs.Lines.{has_end}
@@ -17,7 +17,7 @@ use Rattle.remote_cell.specs.Steps.{ReadsByte, ReadsLine, IsSent, Sends}
 
 -- ---- reads
 
-no_more : (present : Option Connection) → option_map (taken_from []) present ≡ present
+no_more : (present : Option Connection) → option_map (add_taken []) present ≡ present
 no_more None = refl
 no_more (Some c) = λ i. Some (record {
   left = c.left;
@@ -31,8 +31,8 @@ taken_none None = refl
 taken_none (Some all) = λ i. Some (record all { present = no_more all.present i })
 
 more_taken : (first second : List ℕ) (present : Option Connection)
-    → option_map (taken_from second) (option_map (taken_from first) present)
-    ≡ option_map (taken_from (first ++ second)) present
+    → option_map (add_taken second) (option_map (add_taken first) present)
+    ≡ option_map (add_taken (first ++ second)) present
 more_taken first second None = refl
 more_taken first second (Some c) =
     let left : drop (length second) (drop (length first) c.left)

@@ -7,7 +7,7 @@ use Rattle.std.proofs.lemmas.Bool.Decides.{nat_tests}
 use Rattle.std.proofs.lemmas.List.{take-append-drop}
 use Rattle.std.proofs.lemmas.List.Elements.{All-push, All-same, filter_map-append}
 use Rattle.device_facts.specs.Prefix.{IsPrefixOf}
-use Rattle.disk_core.specs.Doors.{Connection, Connections, served, new_connection, next_connections, left_now, taken_from, written_to, with_taken, with_written}
+use Rattle.disk_core.specs.Doors.{Connection, Connections, served, new_connection, next_connections, left_now, add_taken, add_written, with_taken, with_written}
 use Rattle.lane_worker.specs.declared.types.CellNext.{CellNext}
 use Rattle.lane_worker.specs.CellLines.{next_line}
 use Rattle.remote_cell.specs.declared.items.Item.{Item}
@@ -155,7 +155,7 @@ abbrev pub failed : {E : Type 0} → Result ⊤ E → ℕ
 failed (Ok sent) = 0
 failed (Err error) = 1
 
-written_good : (bytes : List ℕ) (c : Connection) → IsGood c → IsGood (written_to bytes c)
+written_good : (bytes : List ℕ) (c : Connection) → IsGood c → IsGood (add_written bytes c)
 written_good bytes c good = record { lines = good.lines; part = good.part }
 
 whole_written : (h : Hearing) (taken : ℕ) (c : Connection) → h.owes ≡ true → h.connected ≡ true
@@ -185,7 +185,7 @@ writes h p None w bytes result owes connected sent knows =
     never h.connected connected knows.present
 writes h p (Some c) w bytes (Ok done) owes connected sent knows =
     let on : IsPresent h (before p) c = knows.present in
-    let d : Connection = written_to bytes c in
+    let d : Connection = add_written bytes c in
     let whole : c.written ++ bytes ≡ acknowledged_on (before p) c =
     ap (λ (l : List ℕ). c.written ++ l) sent ∙ whole_written h (before p) c owes connected on in (
       knows_same h (paid h true) p c d w refl refl (λ is. (refl, is)) knows (record {
@@ -198,7 +198,7 @@ writes h p (Some c) w bytes (Ok done) owes connected sent knows =
     )
 writes h p (Some c) w bytes (Err error) owes connected sent knows =
     let on : IsPresent h (before p) c = knows.present in
-    let d : Connection = written_to bytes c in
+    let d : Connection = add_written bytes c in
     let whole = whole_written h (before p) c owes connected on in (
       knows_same h (paid h false) p c d w refl refl (λ is. (refl, is)) knows (record {
         begins = part_begins c.written bytes (acknowledgement h.receiver)
@@ -239,7 +239,7 @@ unpaid h taken c owes connected on =
     ∙ on.answered connected
 
 part_good : (c : Connection) (line : List ℕ) → has_end line ≡ false → length line ≤ MAX_LINE
-    → part_of c.taken ≡ [] → IsGood c → IsGood (taken_from line c)
+    → part_of c.taken ≡ [] → IsGood c → IsGood (add_taken line c)
 part_good c line plain few at good =
     let part : part_of (c.taken ++ line) ≡ line =
     part_plain c.taken line plain ∙ ap (λ (l : List ℕ). l ++ line) at in
@@ -304,7 +304,7 @@ cuts h p None w line faults over owes connected plain few knows cut =
     never h.connected connected knows.present
 cuts h p (Some c) w line faults over owes connected plain few knows cut =
     let on : IsPresent h (before p) c = knows.present in
-    let d : Connection = taken_from line c in
+    let d : Connection = add_taken line c in
     let same = lines_plain c.taken line plain in
     let written = unpaid h (before p) c owes connected on
     ∙ sym (same_answered (before p) c d same) in (
@@ -331,7 +331,7 @@ too_long h p None w line over connected plain long knows =
     never h.connected connected knows.present
 too_long h p (Some c) w line over connected plain long knows =
     let on : IsPresent h (before p) c = knows.present in
-    let d : Connection = taken_from line c in
+    let d : Connection = add_taken line c in
     let same = lines_plain c.taken line plain in
     let part : part_of (c.taken ++ line) ≡ line =
     part_plain c.taken line plain ∙ ap (λ (l : List ℕ). l ++ line) (on.at_line over connected) in
@@ -421,7 +421,7 @@ tells_line h number item Ahead text all how ends is = tt
 
 line_good : (c : Connection) (text : List ℕ) → part_of c.taken ≡ [] → has_end text ≡ false
     → length text ≤ MAX_LINE → is_some (line_said text) ≡ true → IsGood c
-    → IsGood (taken_from (text ++ 10 ∷ []) c)
+    → IsGood (add_taken (text ++ 10 ∷ []) c)
 line_good c text at plain few says good = record {
   lines = All-same IsGoodLine (whole_lines (c.taken ++ (text ++ 10 ∷ [])))
       (whole_lines c.taken ++ text ∷ []) (lines_ended c.taken text at plain)
@@ -435,12 +435,12 @@ says_line : (h : Hearing) (p : List Connection) (c : Connection) (w : List (List
     → h.over ≡ None → h.owes ≡ false → h.connected ≡ true → has_end text ≡ false
     → length text ≤ MAX_LINE → Knows h (all_of p (Some c) w)
     → (k : Hearing) → k ≡ heard_line h (heard h.receiver number) item
-    → Knows k (all_of p (Some (taken_from (text ++ 10 ∷ []) c)) w)
+    → Knows k (all_of p (Some (add_taken (text ++ 10 ∷ []) c)) w)
     × HasTaken true true (taken_of (heard h.receiver number) item) 1 0 (all_of p (Some c) w)
-    (all_of p (Some (taken_from (text ++ 10 ∷ []) c)) w)
+    (all_of p (Some (add_taken (text ++ 10 ∷ []) c)) w)
 says_line h p c w text number item said over owes connected plain few knows k is =
     let on : IsPresent h (before p) c = knows.present in
-    let d : Connection = taken_from (text ++ 10 ∷ []) c in
+    let d : Connection = add_taken (text ++ 10 ∷ []) c in
     let how : hears.Heard = heard h.receiver number in
     let line : Line = (number, item) in
     let known : HeardLine h how item = heard_as h how item owes in
@@ -498,13 +498,13 @@ says_line h p c w text number item said over owes connected plain few knows k is
 says_nothing : (h : Hearing) (p : List Connection) (c : Connection) (w : List (List ℕ))
     (text : List ℕ) → line_said text ≡ None → h.over ≡ None → h.connected ≡ true
     → has_end text ≡ false → Knows h (all_of p (Some c) w)
-    → Knows (spoilt h) (all_of p (Some (taken_from (text ++ 10 ∷ []) c)) w)
-    × Tells h.receiver (bad_behind h) (all_of p (Some (taken_from (text ++ 10 ∷ []) c)) w)
+    → Knows (spoilt h) (all_of p (Some (add_taken (text ++ 10 ∷ []) c)) w)
+    × Tells h.receiver (bad_behind h) (all_of p (Some (add_taken (text ++ 10 ∷ []) c)) w)
     × HasTaken true true [] 1 0 (all_of p (Some c) w)
-    (all_of p (Some (taken_from (text ++ 10 ∷ []) c)) w)
+    (all_of p (Some (add_taken (text ++ 10 ∷ []) c)) w)
 says_nothing h p c w text said over connected plain knows =
     let on : IsPresent h (before p) c = knows.present in
-    let d : Connection = taken_from (text ++ 10 ∷ []) c in
+    let d : Connection = add_taken (text ++ 10 ∷ []) c in
     let texts : whole_lines d.taken ≡ whole_lines c.taken ++ text ∷ [] =
     lines_ended c.taken text (on.at_line over connected) plain in
     let lines : lines_on d ≡ lines_on c =
@@ -567,7 +567,7 @@ hears_text h p (Some c) w text None is over owes connected plain few knows =
     says_nothing h p c w text is over connected plain knows
 hears_text h p (Some c) w text (Some line) is over owes connected plain few knows =
     let on : IsPresent h (before p) c = knows.present in
-    let d : Connection = taken_from (text ++ 10 ∷ []) c in
+    let d : Connection = add_taken (text ++ 10 ∷ []) c in
     let how : hears.Heard = heard h.receiver line.0 in
     let known : HeardLine h how line.1 = heard_as h how line.1 owes in
     let both = says_line h p c w text line.0 line.1 is over owes connected plain few knows

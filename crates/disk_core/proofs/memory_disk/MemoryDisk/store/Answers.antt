@@ -14,8 +14,8 @@ invariant_of-self-2 c =
     let pushed : c.push.new.self.items ≡ calls ++ call ∷ [] =
     (rw c.unwrap.ensures at c.push.ensures.items)
     ∙ ap (λ (l : List DiskCall). l ++ call ∷ []) c.in_ok-reserve.ensures.items in
-    ap (λ (f : List ℕ). content f c.write_over.new.written) (sym c.deref.ensures.value)
-    ∙ c.in_ok-write_over.ensures.ok
+    ap (λ (f : List ℕ). content f c.overwrite_file.new.written) (sym c.deref.ensures.value)
+    ∙ c.in_ok-overwrite_file.ensures.ok
     ∙ ap (λ (f : List ℕ). overwritten
     (content f c.self.inside.written) c.args.place c.args.bytes.now) c.deref.ensures.value
     ∙ ap (λ (o : List ℕ). overwritten o c.args.place c.args.bytes.now) c.self.invariant
