@@ -9,7 +9,7 @@ use Rattle.book_words.specs.Readings.{placed_reading, readings, reading_of, is_o
 use Rattle.book_words.specs.Population.{is_counted, population}
 use Rattle.book_laws.proofs.ReadingLaws.{reading_of-at}
 use Rattle.paper_form.specs.declared.types.Pack as packs
-use Rattle.batch_paper.specs.Written.{pack_of, pack_where, pack_at, packs_of}
+use Rattle.batch_paper.specs.Written.{reading_pack, pack_where, pack_at, packs_of}
 
 -- the packs of a batch among so many rows behind some
 abbrev packs_from : List Entry → Name → ℕ → ℕ → List packs.Pack
@@ -22,16 +22,16 @@ packs_behind entries batch before = packs_from entries batch before (length entr
 
 where_counted : (batch : Name) (some : List Reading)
     → filter_map (pack_where batch) some
-    ≡ map pack_of (filter (λ (r : Reading). is_of_batch batch r && is_counted r) some)
+    ≡ map reading_pack (filter (λ (r : Reading). is_of_batch batch r && is_counted r) some)
 where_counted batch [] = refl
 where_counted batch (r ∷ rs) = each (is_of_batch batch r && is_counted r) (where_counted batch rs)
   where
     each : (b : Bool) → filter_map (pack_where batch) rs
-        ≡ map pack_of (filter (λ (q : Reading). is_of_batch batch q && is_counted q) rs)
-        → cons_option (cond b (Some (pack_of r)) None) (filter_map (pack_where batch) rs)
-        ≡ map pack_of (cond b (r ∷ filter (λ (q : Reading). is_of_batch batch q && is_counted q) rs)
+        ≡ map reading_pack (filter (λ (q : Reading). is_of_batch batch q && is_counted q) rs)
+        → cons_option (cond b (Some (reading_pack r)) None) (filter_map (pack_where batch) rs)
+        ≡ map reading_pack (cond b (r ∷ filter (λ (q : Reading). is_of_batch batch q && is_counted q) rs)
         (filter (λ (q : Reading). is_of_batch batch q && is_counted q) rs))
-    each true h = ap (λ ps. pack_of r ∷ ps) h
+    each true h = ap (λ ps. reading_pack r ∷ ps) h
     each false h = h
 
 -- behind no row these are the packs of the population

@@ -37,7 +37,7 @@ use Rattle.paper_form.specs.declared.types.Pick.{Pick}
 use Rattle.paper_form.specs.Papers.{PaperData}
 use Rattle.paper_check.specs.Judging.{nets_of, contents_of_picks, below_count, defective_picks, sample_in, contents_check_in, mean_check_in, fails_in_nets, judged}
 use Rattle.paper_check.specs.Faults.{has_tare_of, tare_fault, strays_at, stray_line, needs_second, unmeasured_line, given_second_fault, second_fault, samples_fault, draw_fault, after_first, second_line, first_line, draw_line, verdict_line, earlier_line, packs_line, tares_line}
-use Rattle.batch_paper.specs.Written.{pack_of, packs_of, tares_of, weighed_of, pick_of, first_picks, second_picks, draw_by, paper_by}
+use Rattle.batch_paper.specs.Written.{reading_pack, packs_of, tares_of, weighed_of, pick_of, first_picks, second_picks, draw_by, product_paper}
 use Rattle.batch_paper.proofs.TareLines.{none_at, no_tare_missing, no_tare_needless}
 use Rattle.batch_paper.proofs.PaperNets.{IsCounted, same_nets, same_sum, same_count, contents_among_picks}
 use Rattle.batch_paper.proofs.ClosedBatches.{first_counted, second_counted, IsTested, tested, planned}
@@ -51,7 +51,7 @@ take_mapped f (suc n) [] = refl
 take_mapped f (suc n) (x ∷ some) = ap (λ ys. f x ∷ ys) (take_mapped f n some)
 
 pub twice_mapped : (some : List Reading)
-    → map (λ (pack : packs.Pack). pack.number) (map pack_of some) ≡ numbers_of some
+    → map (λ (pack : packs.Pack). pack.number) (map reading_pack some) ≡ numbers_of some
 twice_mapped [] = refl
 twice_mapped (r ∷ rs) = ap (λ ns. r.number ∷ ns) (twice_mapped rs)
 
@@ -144,7 +144,7 @@ keep_middle true b false x y h = absurd (cc)
 module _ (entries : List Entry) (batch product : Name) (legal : IsLegal entries)
     (drawing : Drawing) (drawn : drawing_of entries batch ≡ Some drawing) where
   abbrev paper : PaperData
-  paper = paper_by entries batch product
+  paper = product_paper entries batch product
 
   abbrev some : List Reading
   some = population entries batch
@@ -232,7 +232,7 @@ module _ (entries : List Entry) (batch product : Name) (legal : IsLegal entries)
       (density_of_batch entries batch) sample.plan.k1000) mean_contents
 
   number : length paper.packs ≡ length some
-  number = length-map some pack_of
+  number = length-map some reading_pack
 
   nets : nets_of paper.tares paper.packs ≡ map (net_of_reading entries) some
   nets = same_nets entries batch legal
@@ -400,15 +400,15 @@ undrawn_empty entries batch legal closed none =
 -- the verdict that the paper of a closed batch gives is that of the book
 pub judged_as_book : (entries : List Entry) (batch product : Name) → IsLegal entries
     → state_of entries batch ≡ Some Closed
-    → judged (paper_by entries batch product) ≡ verdict_of entries batch
+    → judged (product_paper entries batch product) ≡ verdict_of entries batch
 judged_as_book entries batch product legal closed = each (drawing_of entries batch) refl
   where
     each : (o : Option Drawing) → drawing_of entries batch ≡ o
-        → judged (paper_by entries batch product) ≡ verdict_of entries batch
+        → judged (product_paper entries batch product) ≡ verdict_of entries batch
     each (Some drawing) is = judged_right entries batch product legal drawing is
     each None is =
         ap (λ (o : Option Drawing). option_map_or (λ (d : draws.Draw). verdict_by_fails
-        (fails_in_nets (paper_by entries batch product) d
+        (fails_in_nets (product_paper entries batch product) d
         (nets_of (tares_of entries batch) (packs_of entries batch)))) (option_map draw_by o) Empty)
         is
         ∙ sym (ap (λ (rs : List Reading). cond (length rs == 0) Empty (verdict_by_fails
@@ -417,9 +417,9 @@ judged_as_book entries batch product legal closed = each (drawing_of entries bat
 
 -- no tare is missing or needless
 pub tares_right : (entries : List Entry) (batch product : Name)
-    → tare_fault (paper_by entries batch product) ≡ None
+    → tare_fault (product_paper entries batch product) ≡ None
 tares_right entries batch product =
-    let paper : PaperData = paper_by entries batch product in
+    let paper : PaperData = product_paper entries batch product in
     ap (λ (o : Option ℕ). option_or (option_map (λ place. tares_line + place) o)
     (option_map (λ place. packs_line paper + place)
     (position (λ (pack : packs.Pack). not (has_tare_of paper.tares pack)) paper.packs)))
@@ -429,14 +429,14 @@ tares_right entries batch product =
 
 -- the samples are those that the words draw, whole and measured as far as needed
 pub draws_as_book : (entries : List Entry) (batch product : Name) → IsLegal entries
-    → state_of entries batch ≡ Some Closed → draw_fault (paper_by entries batch product) ≡ None
+    → state_of entries batch ≡ Some Closed → draw_fault (product_paper entries batch product) ≡ None
 draws_as_book entries batch product legal closed = each (drawing_of entries batch) refl
   where
     each : (o : Option Drawing) → drawing_of entries batch ≡ o
-        → draw_fault (paper_by entries batch product) ≡ None
+        → draw_fault (product_paper entries batch product) ≡ None
     each (Some drawing) is =
         draws_right entries batch product legal drawing is (tested entries legal batch closed)
     each None is =
-        let paper : PaperData = paper_by entries batch product in
+        let paper : PaperData = product_paper entries batch product in
         ap (λ (o : Option Drawing). option_and_then (λ (d : draws.Draw). samples_fault paper d
         (plan_of (length paper.packs) d.mode)) (option_map draw_by o)) is

@@ -27,7 +27,7 @@ use Rattle.paper_form.specs.declared.types.Weighed.{Weighed}
 use Rattle.paper_form.specs.declared.types.Pick.{Pick}
 use Rattle.paper_form.specs.Papers.{PaperData}
 use Rattle.paper_check.specs.Judging.{tare_on, net_on, nets_of, pack_with, contents_by, contents_of_pick, contents_of_picks}
-use Rattle.batch_paper.specs.Written.{pack_of, packs_of, tare_for, tares_of, days_of, weighed_of, pick_of, paper_by}
+use Rattle.batch_paper.specs.Written.{reading_pack, packs_of, tare_for, tares_of, days_of, weighed_of, pick_of, product_paper}
 use Rattle.batch_paper.proofs.TareLines.{IsTaredBy, tares_found}
 
 -- ---- a reading of the population
@@ -60,7 +60,7 @@ each_own entries batch legal k d less =
 -- the tare of such a reading is that of its batch on the day that its line has
 own_tare : (entries : List Entry) (batch : Name) (reading : Reading) → IsOwn batch reading
     → tare_of_reading entries reading.batch reading.day
-    ≡ tare_of_batch entries batch ((pack_of reading).day)
+    ≡ tare_of_batch entries batch ((reading_pack reading).day)
 own_tare entries batch reading own =
     ap (λ (b : Option Name). tare_of_reading entries b reading.day) own.of_batch
     ∙ ap (λ (d : Option ℤ). option_and_then (tare_of_batch entries batch) d) own.on_day
@@ -71,8 +71,8 @@ own_tare entries batch reading own =
 -- the lines of tares give a reading's line its tare
 abbrev HasLine : List Entry → Name → List DatedTare → Reading → Type 0
 HasLine entries batch tares reading =
-    tare_on tares ((pack_of reading).day)
-    ≡ Some ((tare_for entries batch ((pack_of reading).day)).tare)
+    tare_on tares ((reading_pack reading).day)
+    ≡ Some ((tare_for entries batch ((reading_pack reading).day)).tare)
 
 pub of_mapped : {A B : Type 0} (P : B → Type 0) (f : A → B) (some : List A) → All P (map f some)
     → All (λ x. P (f x)) some
@@ -84,12 +84,12 @@ of_mapped P f (x ∷ some) all =
 each_has_line : (entries : List Entry) (batch : Name)
     → All (HasLine entries batch (tares_of entries batch)) (population entries batch)
 each_has_line entries batch =
-    of_mapped (IsTaredBy entries batch (tares_of entries batch)) pack_of (population entries batch)
+    of_mapped (IsTaredBy entries batch (tares_of entries batch)) reading_pack (population entries batch)
     (tares_found entries batch (packs_of entries batch))
 
 own_net : (entries : List Entry) (batch : Name) (tares : List DatedTare) (reading : Reading)
     (gross : ℤ) → HasLine entries batch tares reading → IsOwn batch reading
-    → net_on tares ((pack_of reading).day) gross
+    → net_on tares ((reading_pack reading).day) gross
     ≡ Some (gross -ℤ unwrap_or (tare_of_reading entries reading.batch reading.day) (pos 0))
 own_net entries batch tares reading gross line own =
     ap (option_map (λ (tare : ℤ). gross -ℤ tare)) line
@@ -113,10 +113,10 @@ pub same_nets : (entries : List Entry) (batch : Name) → IsLegal entries
     → nets_of (tares_of entries batch) (packs_of entries batch)
     ≡ map (net_of_reading entries) (population entries batch)
 same_nets entries batch legal =
-    all_there (λ (pack : packs.Pack). net_on (tares_of entries batch) pack.day pack.gross) pack_of
+    all_there (λ (pack : packs.Pack). net_on (tares_of entries batch) pack.day pack.gross) reading_pack
     (net_of_reading entries) (population entries batch)
     (All-weaker (λ (r : Reading). HasLine entries batch (tares_of entries batch) r × IsOwn batch r)
-    (λ (r : Reading). net_on (tares_of entries batch) ((pack_of r).day) r.gross
+    (λ (r : Reading). net_on (tares_of entries batch) ((reading_pack r).day) r.gross
     ≡ Some (net_of_reading entries r)) (λ reading at.
     own_net entries batch (tares_of entries batch) reading reading.gross at.0 at.1)
     (population entries batch)
@@ -168,15 +168,15 @@ found_still test keep reading (r ∷ rs) found kept =
     each false false t k rest = rest (sym (ap (λ b. cond b (Some r) (find test rs)) t) ∙ found)
 
 find_mapped : (pack : ℕ) (some : List Reading)
-    → pack_with (map pack_of some) pack
-    ≡ option_map pack_of (find (λ (r : Reading). r.number == pack) some)
+    → pack_with (map reading_pack some) pack
+    ≡ option_map reading_pack (find (λ (r : Reading). r.number == pack) some)
 find_mapped pack [] = refl
 find_mapped pack (r ∷ rs) = each (r.number == pack) (find_mapped pack rs)
   where
-    each : (b : Bool) → pack_with (map pack_of rs) pack
-        ≡ option_map pack_of (find (λ (q : Reading). q.number == pack) rs)
-        → cond b (Some (pack_of r)) (pack_with (map pack_of rs) pack)
-        ≡ option_map pack_of (cond b (Some r) (find (λ (q : Reading). q.number == pack) rs))
+    each : (b : Bool) → pack_with (map reading_pack rs) pack
+        ≡ option_map reading_pack (find (λ (q : Reading). q.number == pack) rs)
+        → cond b (Some (reading_pack r)) (pack_with (map reading_pack rs) pack)
+        ≡ option_map reading_pack (cond b (Some r) (find (λ (q : Reading). q.number == pack) rs))
     each true h = refl
     each false h = h
 
@@ -191,7 +191,7 @@ pack_found entries batch pack is =
 
 module _ (entries : List Entry) (batch product : Name) (legal : IsLegal entries) where
   abbrev paper : PaperData
-  paper = paper_by entries batch product
+  paper = product_paper entries batch product
 
   of_counted : (P : Reading → Type 0) → All P (population entries batch) → (pack : ℕ)
       → (is : IsCounted entries batch pack) → P is.reading
@@ -206,7 +206,7 @@ module _ (entries : List Entry) (batch product : Name) (legal : IsLegal entries)
   kept pack is gross =
       ap (option_and_then (λ (p : packs.Pack). net_on (tares_of entries batch) p.day gross))
       (find_mapped pack (population entries batch)
-      ∙ ap (option_map pack_of) (pack_found entries batch pack is))
+      ∙ ap (option_map reading_pack) (pack_found entries batch pack is))
       ∙ own_net entries batch (tares_of entries batch) is.reading gross
       (of_counted (HasLine entries batch (tares_of entries batch))
       (each_has_line entries batch) pack is)
@@ -222,7 +222,7 @@ module _ (entries : List Entry) (batch product : Name) (legal : IsLegal entries)
 
   -- the contents of a drawn pack
   pub same_contents : (mode : Mode) (pack : ℕ) → IsCounted entries batch pack
-      → contents_of_pick (paper_by entries batch product) mode (pick_of entries mode pack)
+      → contents_of_pick (product_paper entries batch product) mode (pick_of entries mode pack)
       ≡ contents_of_pack entries mode pack
   same_contents mode pack is =
       measured_contents mode pack is (measured_of entries pack)
@@ -231,7 +231,7 @@ module _ (entries : List Entry) (batch product : Name) (legal : IsLegal entries)
 
   -- those of several
   pub contents_among_picks : (mode : Mode) (some : List ℕ) → All (IsCounted entries batch) some
-      → contents_of_picks (paper_by entries batch product) mode (map (pick_of entries mode) some)
+      → contents_of_picks (product_paper entries batch product) mode (map (pick_of entries mode) some)
       ≡ contents_among entries mode some
   contents_among_picks mode [] all = refl
   contents_among_picks mode (pack ∷ some) all =

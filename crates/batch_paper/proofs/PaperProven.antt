@@ -24,7 +24,7 @@ use Rattle.paper_form.specs.Ranges.{IsPaper, is_word, is_measured}
 use Rattle.paper_form.proofs.RoundTrip.{paper_read}
 use Rattle.batch_paper.specs.Outcomes.{IsPaperOf}
 use Rattle.batch_paper.specs.Ranges.{IsWordOf}
-use Rattle.batch_paper.specs.Written.{pack_of, pick_of, draw_by, first_word, first_picks, second_picks, paper_by}
+use Rattle.batch_paper.specs.Written.{reading_pack, pick_of, draw_by, first_word, first_picks, second_picks, product_paper}
 use Rattle.batch_paper.proofs.ClosedBatches.{tested}
 use Rattle.batch_paper.proofs.PaperForm.{verdict_said}
 use Rattle.batch_paper.proofs.PaperJudged.{first_is, second_is, some_packs, undrawn_empty, none_unmeasured, measured_first, judged_as_book, tares_right, draws_as_book}
@@ -57,7 +57,7 @@ module _ (entries : List Entry) (batch product : Name) (legal : IsLegal entries)
     (closed : state_of entries batch ≡ Some Closed)
     (known : product_of entries batch ≡ Some product) where
   abbrev paper : PaperData
-  paper = paper_by entries batch product
+  paper = product_paper entries batch product
 
   abbrev second : Option ℕ
   second = last_said (second_word batch) entries
@@ -85,10 +85,10 @@ module _ (entries : List Entry) (batch product : Name) (legal : IsLegal entries)
   drawn_or_empty : (o : Option Drawing) → drawing_of entries batch ≡ o
       → is_none (option_map draw_by o) ≡ (length paper.packs == 0)
   drawn_or_empty None is =
-      sym (ap (λ (rs : List Reading). length (map pack_of rs) == 0)
+      sym (ap (λ (rs : List Reading). length (map reading_pack rs) == 0)
       (undrawn_empty entries batch legal closed is))
   drawn_or_empty (Some drawing) is =
-      sym (ap (λ n. n == 0) (length-map (population entries batch) pack_of)
+      sym (ap (λ n. n == 0) (length-map (population entries batch) reading_pack)
       ∙ some_packs entries batch product legal drawing is)
 
   measured : (o : Option Sample) → sample_of entries batch ≡ o
@@ -162,7 +162,7 @@ module _ (entries : List Entry) (batch product : Name) (legal : IsLegal entries)
       record {
         closed = closed;
         paper = paper;
-        written = ap (option_map (paper_by entries batch)) known;
+        written = ap (option_map (product_paper entries batch)) known;
         text = text;
         short = short;
         whole = whole;

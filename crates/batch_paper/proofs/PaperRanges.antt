@@ -30,7 +30,7 @@ use Rattle.paper_form.specs.declared.types.Pick.{Pick}
 use Rattle.paper_form.specs.declared.types.Line.TheVariants as line
 use Rattle.paper_form.specs.Papers.{PaperData, is_tare_in_range, is_weighed_in_range}
 use Rattle.batch_paper.specs.Ranges.{is_nominal_right, is_pack_right, is_pick_weighed, is_line_right}
-use Rattle.batch_paper.specs.Written.{goods_of, pack_of, packs_of, tare_for, days_of, tares_of, weighed_of, pick_of, paper_by, sample_lines}
+use Rattle.batch_paper.specs.Written.{goods_of, reading_pack, packs_of, tare_for, days_of, tares_of, weighed_of, pick_of, product_paper, sample_lines}
 use Rattle.batch_paper.proofs.DayOrder.{day_on, IsFit, each_fits}
 
 within : (least most x : ℤ) → IsBetween least most x → is_within least most x ≡ true
@@ -67,9 +67,9 @@ each_fit entries batch legal =
 pub packs_right : (entries : List Entry) (batch : Name) → IsLegal entries
     → AllPass is_pack_right (packs_of entries batch)
 packs_right entries batch legal =
-    All-map (λ (p : packs.Pack). is_pack_right p ≡ true) pack_of (population entries batch)
+    All-map (λ (p : packs.Pack). is_pack_right p ≡ true) reading_pack (population entries batch)
     (All-weaker IsFit
-    (λ (r : Reading). is_pack_right (pack_of r) ≡ true) (λ r fit. and_from _ _ fit.0 fit.1)
+    (λ (r : Reading). is_pack_right (reading_pack r) ≡ true) (λ r fit. and_from _ _ fit.0 fit.1)
     (population entries batch)
     (each_fit entries batch legal))
 
@@ -100,7 +100,7 @@ tares_fit entries batch legal =
     (λ day fit. tare_fits entries batch day legal fit) (days_of (packs_of entries batch))
     (All-dedup int_eq IsFitDay (map (λ (p : packs.Pack). p.day) (packs_of entries batch))
     (All-map IsFitDay (λ (p : packs.Pack). p.day) (packs_of entries batch)
-    (All-map (λ (p : packs.Pack). IsFitDay p.day) pack_of (population entries batch)
+    (All-map (λ (p : packs.Pack). IsFitDay p.day) reading_pack (population entries batch)
     (All-weaker IsFit
     (λ (r : Reading). IsFitDay (day_on r)) (λ r fit. fit.0) (population entries batch)
     (each_fit entries batch legal)))))

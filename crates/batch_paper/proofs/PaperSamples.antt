@@ -24,7 +24,7 @@ use Rattle.paper_form.specs.declared.types.Line.TheVariants as line
 use Rattle.paper_form.specs.declared.types.Pick.{Pick}
 use Rattle.paper_form.specs.Papers.{line_text}
 use Rattle.batch_paper.specs.declared.picks.Part.TheVariants.{First, Second}
-use Rattle.batch_paper.specs.Written.{first_word, draw_by, pick_line, first_picks, second_picks, paper_by, sample_lines}
+use Rattle.batch_paper.specs.Written.{first_word, draw_by, pick_line, first_picks, second_picks, product_paper, sample_lines}
 use Rattle.batch_paper.proofs.ClosedBatches.{second_draw, some_of_two}
 
 -- ---- the words
@@ -130,14 +130,14 @@ module _ (entries : List Entry) (batch product : Name) (legal : IsLegal entries)
       ap (option_map draw_by) from.drawn ∙ ap Some same_draw
 
   same_lines : (sample : Sample) → sample_of entries batch ≡ Some sample
-      → sample_lines (paper_by entries batch product)
+      → sample_lines (product_paper entries batch product)
       ≡ (line.Mode (mode_of sample) ∷ []) ++ map (pick_line First) (first_picks entries sample)
       ++ words
       ++ map (pick_line Second) (second_picks entries sample)
   same_lines sample is =
       ap (λ (o : Option draws.Draw). map (λ draw. line.Mode draw) (option_to_list o)
-      ++ map (pick_line First) (paper_by entries batch product).first ++ words
-      ++ map (pick_line Second) (paper_by entries batch product).second) (drawn_mode sample is)
+      ++ map (pick_line First) (product_paper entries batch product).first ++ words
+      ++ map (pick_line Second) (product_paper entries batch product).second) (drawn_mode sample is)
       ∙ ap (λ (o : Option Sample). (line.Mode (mode_of sample) ∷ [])
       ++ map (pick_line First) (option_map_or (first_picks entries) o []) ++ words
       ++ map (pick_line Second) (option_map_or (second_picks entries) o [])) is
@@ -147,7 +147,7 @@ module _ (entries : List Entry) (batch product : Name) (legal : IsLegal entries)
       ++ flat_map line_text (map (pick_line First) (first_picks entries sample))
       ++ flat_map line_text words
       ++ flat_map line_text (map (pick_line Second) (second_picks entries sample))
-      ≡ start ++ flat_map line_text (sample_lines (paper_by entries batch product))
+      ≡ start ++ flat_map line_text (sample_lines (product_paper entries batch product))
   drawn_behind sample start is =
       pieces start (line_text (line.Mode (mode_of sample)))
       (flat_map line_text (map (pick_line First) (first_picks entries sample)))
@@ -167,7 +167,7 @@ module _ (entries : List Entry) (batch product : Name) (legal : IsLegal entries)
       ++ flat_map line_text (map (pick_line First) (first_picks entries sample))
       ++ flat_map line_text (map (λ word. line.Word word) (option_to_list two))
       ++ flat_map line_text (map (pick_line Second) (second_picks entries sample))
-      ≡ start ++ flat_map line_text (sample_lines (paper_by entries batch product))
+      ≡ start ++ flat_map line_text (sample_lines (product_paper entries batch product))
   drawn_told sample start one two is one_is two_is =
       ap (λ (o : Option ℕ). start
       ++ line_text (line.Mode (record { mode = sample.mode; word = unwrap_or o 0 }))
@@ -186,7 +186,7 @@ module _ (entries : List Entry) (batch product : Name) (legal : IsLegal entries)
   follows (Some word) said there = seconds_follow entries legal batch word said
 
   -- where none was drawn there is none
-  pub no_lines : sample_of entries batch ≡ None → sample_lines (paper_by entries batch product) ≡ []
+  pub no_lines : sample_of entries batch ≡ None → sample_lines (product_paper entries batch product) ≡ []
   no_lines is =
       let undrawn : drawing_of entries batch ≡ None =
       none_mapped (λ (d : Drawing). sample_by d second) (drawing_of entries batch) is in
@@ -194,8 +194,8 @@ module _ (entries : List Entry) (batch product : Name) (legal : IsLegal entries)
       none_said second (drawing_of entries batch) (follows second refl) undrawn in
       ap (λ (o : Option Drawing). map (λ draw. line.Mode draw)
       (option_to_list (option_map draw_by o))
-      ++ map (pick_line First) (paper_by entries batch product).first ++ words
-      ++ map (pick_line Second) (paper_by entries batch product).second) undrawn
+      ++ map (pick_line First) (product_paper entries batch product).first ++ words
+      ++ map (pick_line Second) (product_paper entries batch product).second) undrawn
       ∙ ap (λ (o : Option Sample). map (pick_line First) (option_map_or (first_picks entries) o [])
       ++ words ++ map (pick_line Second) (option_map_or (second_picks entries) o [])) is
       ∙ ap (λ (o : Option ℕ). map (λ word. line.Word word) (option_to_list o) ++ []) unsaid

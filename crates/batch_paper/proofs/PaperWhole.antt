@@ -41,7 +41,7 @@ use Rattle.paper_form.specs.Papers.{PaperData, paper_text, is_row, is_density, a
 use Rattle.paper_form.specs.Form.{is_empty_right, is_pick_right}
 use Rattle.paper_form.specs.Ranges.{IsListed}
 use Rattle.batch_paper.specs.Ranges.{is_pick_weighed}
-use Rattle.batch_paper.specs.Written.{is_close_of, closing_row, goods_of, pack_of, packs_of, tare_for, days_of, tares_of, weighed_of, pick_of, draw_by, first_picks, second_picks, paper_by}
+use Rattle.batch_paper.specs.Written.{is_close_of, closing_row, goods_of, reading_pack, packs_of, tare_for, days_of, tares_of, weighed_of, pick_of, draw_by, first_picks, second_picks, product_paper}
 use Rattle.batch_paper.proofs.DayOrder.{day_on, RiseWithin, span, lower, rise-filter, last_day, days_rise, IsFit}
 use Rattle.batch_paper.proofs.PaperNets.{of_mapped, both, IsCounted, pack_found}
 use Rattle.batch_paper.proofs.PaperJudged.{twice_mapped}
@@ -119,7 +119,7 @@ twice entries batch [] = refl
 twice entries batch (d ∷ some) = ap (λ ns. unsigned_abs d ∷ ns) (twice entries batch some)
 
 pack_days : (some : List Reading)
-    → map (λ (p : packs.Pack). p.day) (map pack_of some) ≡ map day_on some
+    → map (λ (p : packs.Pack). p.day) (map reading_pack some) ≡ map day_on some
 pack_days [] = refl
 pack_days (r ∷ rs) = ap (λ ds. day_on r ∷ ds) (pack_days rs)
 
@@ -184,9 +184,9 @@ each_row entries batch legal =
 pub packs_fit : (entries : List Entry) (batch : Name) → IsLegal entries
     → AllPass is_pack_in_range (packs_of entries batch)
 packs_fit entries batch legal =
-    All-map (λ (p : packs.Pack). is_pack_in_range p ≡ true) pack_of (population entries batch)
+    All-map (λ (p : packs.Pack). is_pack_in_range p ≡ true) reading_pack (population entries batch)
     (All-weaker (λ (r : Reading). (is_row r.number ≡ true) × IsFit r)
-    (λ (r : Reading). is_pack_in_range (pack_of r) ≡ true)
+    (λ (r : Reading). is_pack_in_range (reading_pack r) ≡ true)
     (λ r at. and_from (is_row r.number && is_within (pos 0) MAX_DAY (day_on r))
     (is_within (pos 0) MAX_GROSS r.gross)
     (and_from (is_row r.number) (is_within (pos 0) MAX_DAY (day_on r)) at.0 at.1.0) at.1.1)
@@ -290,7 +290,7 @@ module _ (entries : List Entry) (batch product : Name) (legal : IsLegal entries)
     (closed : state_of entries batch ≡ Some Closed)
     (known : product_of entries batch ≡ Some product) where
   abbrev paper : PaperData
-  paper = paper_by entries batch product
+  paper = product_paper entries batch product
 
   abbrev sampled : Option Sample
   sampled = sample_of entries batch
@@ -324,7 +324,7 @@ module _ (entries : List Entry) (batch product : Name) (legal : IsLegal entries)
               (packs_fit entries batch legal);
           ascend = packs_ascend entries batch;
           few = subst
-              (λ n. n ≤ MAX_POPULATION) (sym (length-map (population entries batch) pack_of))
+              (λ n. n ≤ MAX_POPULATION) (sym (length-map (population entries batch) reading_pack))
               (population_few entries legal batch);
         };
         first = list_all_of is_pick_in_range (option_map_or (first_picks entries) sampled [])

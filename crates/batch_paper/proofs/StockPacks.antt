@@ -15,7 +15,7 @@ use Rattle.book_laws.proofs.ReadingLaws.{IsOneOf, each_is_one, of_reading}
 use Rattle.book_state.specs.declared.types.KnownPack.{KnownPack}
 use Rattle.book_state.specs.Told.{known_record, known_reading, known_pack}
 use Rattle.paper_form.specs.declared.types.Pack as packs
-use Rattle.batch_paper.specs.Written.{is_stock, pack_of, pack_where, pack_at}
+use Rattle.batch_paper.specs.Written.{is_stock, reading_pack, pack_where, pack_at}
 
 -- what is known of a reading
 record Tells (entries : List Entry) (reading : Reading) (known : KnownPack) : Type 0 where
@@ -65,11 +65,11 @@ stock_pack entries batch number known h = each (reading_of entries number) refl 
         ap (option_and_then (pack_where batch)) is
         ∙ ap (λ (o : Option Name). cond
         (option_map_or (λ (name : Name). same_name name batch) o false
-        && is_counted reading) (Some (pack_of reading)) None) told.batch
-        ∙ ap (λ b. cond (same_name known.batch batch && b) (Some (pack_of reading)) None)
+        && is_counted reading) (Some (reading_pack reading)) None) told.batch
+        ∙ ap (λ b. cond (same_name known.batch batch && b) (Some (reading_pack reading)) None)
         (counted_is_in_stock entries reading)
         ∙ ap (λ pile. cond (same_name known.batch batch && is_stock pile)
-        (Some (pack_of reading)) None)
+        (Some (reading_pack reading)) None)
         told.pile
         ∙ ap (λ (pack : packs.Pack). cond (same_name known.batch batch && is_stock known.pile)
         (Some pack) None)

@@ -62,8 +62,8 @@ goods_of entries batch product =
     }
 
 -- a reading as a pack of the population
-abbrev pub pack_of : Reading → packs.Pack
-pack_of reading =
+abbrev pub reading_pack : Reading → packs.Pack
+reading_pack reading =
     record {
       number = reading.number;
       day = unwrap_or reading.day (pos 0);
@@ -77,7 +77,7 @@ is_stock pile = same_pile pile Passed || same_pile pile Sampled
 -- the pack of a reading, where it counts for a batch
 abbrev pub pack_where : Name → Reading → Option packs.Pack
 pack_where batch reading =
-    if is_of_batch batch reading && is_counted reading then Some (pack_of reading) else None
+    if is_of_batch batch reading && is_counted reading then Some (reading_pack reading) else None
 
 -- the pack of a number, where it is one of the population of a batch
 abbrev pub pack_at : List Entry → Name → ℕ → Option packs.Pack
@@ -85,7 +85,7 @@ pack_at entries batch number = option_and_then (pack_where batch) (reading_of en
 
 -- the packs of the population of a batch
 abbrev pub packs_of : List Entry → Name → List packs.Pack
-packs_of entries batch = map pack_of (population entries batch)
+packs_of entries batch = map reading_pack (population entries batch)
 
 -- the tare of a batch's product on a day, as the tares of the list now are
 abbrev pub tare_for : List Entry → Name → ℤ → DatedTare
@@ -127,8 +127,8 @@ abbrev pub second_picks : List Entry → Sample → List Pick
 second_picks entries sample = map (pick_of entries sample.mode) (second_packs sample)
 
 -- the paper of a batch of a product
-abbrev pub paper_by : List Entry → Name → Name → PaperData
-paper_by entries batch product =
+abbrev pub product_paper : List Entry → Name → Name → PaperData
+product_paper entries batch product =
     record {
       goods = goods_of entries batch product;
       tares = tares_of entries batch;
@@ -142,7 +142,7 @@ paper_by entries batch product =
 
 -- the paper of a batch, where it is one
 abbrev pub paper_of : List Entry → Name → Option PaperData
-paper_of entries batch = option_map (paper_by entries batch) (product_of entries batch)
+paper_of entries batch = option_map (product_paper entries batch) (product_of entries batch)
 
 -- the line of a pack of a sample
 abbrev pub pick_line : Part → Pick → lines.Line

@@ -12,7 +12,7 @@ ghost use Rattle.book_words.specs.Samples.{second_word};
 ghost use Rattle.book_words.specs.Verdicts.{second_packs};
 ghost use Rattle.paper_form.specs.Papers.{line_text, paper_text, is_tare_in_range};
 ghost use Rattle.batch_paper.specs.Ranges.{IsWordOf, is_pack_right};
-ghost use Rattle.batch_paper.specs.Written.{first_word, first_picks, second_picks, pick_line, tare_for, tare_lines, pack_lines, sample_lines, paper_by};
+ghost use Rattle.batch_paper.specs.Written.{first_word, first_picks, second_picks, pick_line, tare_for, tare_lines, pack_lines, sample_lines, product_paper};
 ghost use Rattle.batch_paper.specs.Outcomes.{IsPaperOf};
 ghost use Rattle.batch_paper.specs.declared.picks.Part.TheVariants as part;
 ghost use Rattle.batch_paper.specs.declared.types.PaperError.TheVariants as error;
@@ -129,7 +129,7 @@ fn write_samples(
     requires second { words.now.second ≡ last_said (second_word batch.now) state.now.entries }
     requires legal { IsLegal state.now.entries }
     ensures { (product : names.Name) → OnOk result (to.new.items ≡ to.old.items
-        ++ flat_map line_text (sample_lines (paper_by state.now.entries batch.now product))) }
+        ++ flat_map line_text (sample_lines (product_paper state.now.entries batch.now product))) }
 {
     if let Some(sample) = state.sample(batch) {
         write_drawn(to, state, sample, words)?;
@@ -147,7 +147,7 @@ fn write_text(
     requires known { product_of state.now.entries batch.now ≡ Some product.now }
     requires legal { IsLegal state.now.entries }
     ensures text { IfOk result (λ text. text.items
-        ≡ paper_text (paper_by state.now.entries batch.now product.now)) }
+        ≡ paper_text (product_paper state.now.entries batch.now product.now)) }
     ensures short { IfOk result (λ text. length text.items ≤ MAX_PAPER) }
     ensures words { IfOk result (λ _. IsWordOf (last_said (first_word batch.now) state.now.entries)
         × IsWordOf (last_said (second_word batch.now) state.now.entries)) }

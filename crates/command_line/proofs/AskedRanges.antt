@@ -17,7 +17,7 @@ use Rattle.command_line.specs.Taken.{IsInRange}
 use Rattle.command_line.specs.Words.{Item, Wanted, are_given, batch_in, command_of, form_of, given_items, given_number, in_range, items_in}
 use Rattle.command_line.specs.Words.{number_in, placed_items, read_items, stands_alone, taken_items, value_of, values_in}
 use Rattle.command_line.proofs.GivenValues.{value_some}
-use Rattle.command_line.specs.Words.{values_of, wanted_by, wanted_of, wanted_values, with_item}
+use Rattle.command_line.specs.Words.{named_values, command_wanted, wanted_of, wanted_values, with_item}
 
 -- ---- steps that may find nothing
 
@@ -217,7 +217,7 @@ by_values : (command : Command) (items : List Item) (wanted : Wanted)
     → (command ≡ Paper → (text : List ℕ) × (value_of items (codes "batch") ≡ Some text))
     → wanted_values command (value_of items) ≡ Some wanted → IsInRange wanted
 by_values command items wanted given named is =
-    map_gives IsInRange _ (values_of (value_of items)) wanted is (λ values values_are.
+    map_gives IsInRange _ (named_values (value_of items)) wanted is (λ values values_are.
     let within = values_within (value_of items (codes "batch")) (value_of items (codes "limit"))
     (value_of items (codes "lanes")) (value_of items (codes "doors"))
     (value_of items (codes "port")) (value_of items (codes "connections"))
@@ -246,7 +246,7 @@ by_values command items wanted given named is =
     })
 
 by_command : (command : Command) (words : List (List ℕ)) (wanted : Wanted)
-    → wanted_by command words ≡ Some wanted → IsInRange wanted
+    → command_wanted command words ≡ Some wanted → IsInRange wanted
 by_command command words wanted is =
     then_gives (IsInRange wanted) (λ items. wanted_values command (value_of items))
     (items_in (form_of command) words) wanted is (λ items items_are here.
@@ -259,5 +259,5 @@ pub asked_in_range : (words : List (List ℕ)) (wanted : Wanted) → wanted_of w
     → IsInRange wanted
 asked_in_range [] wanted is = absurd cc
 asked_in_range (word ∷ words) wanted is =
-    then_gives (IsInRange wanted) (λ command. wanted_by command words) (command_of word) wanted is
+    then_gives (IsInRange wanted) (λ command. command_wanted command words) (command_of word) wanted is
     (λ command named here. by_command command words wanted here)

@@ -9,8 +9,8 @@ use Rattle.command_line.specs.declared.types.WantsError.TheVariants.{NoMemory, U
 use Rattle.command_line.specs.declared.values.Values.{Values}
 use Rattle.command_line.specs.Taken.{are_words_taken, bytes_in, is_read, texts_of}
 use Rattle.command_line.specs.Words.{Form, Item, Wanted, are_given, are_taken, command_of, form_of, gives, is_among}
-use Rattle.command_line.specs.Words.{items_in, read_items, taken_items, value_of, values_in, values_of}
-use Rattle.command_line.specs.Words.{wanted_by, wanted_of, wanted_values, with_item}
+use Rattle.command_line.specs.Words.{items_in, read_items, taken_items, value_of, values_in, named_values}
+use Rattle.command_line.specs.Words.{command_wanted, wanted_of, wanted_values, with_item}
 
 -- ---- whether items are taken
 
@@ -135,7 +135,7 @@ Gives left name text = (items : List Item) → left ≡ Some items → text ≡ 
 
 -- what is read of the items that words are
 abbrev pub read_of : Option (List Item) → Option Values
-read_of = option_and_then (λ items. values_of (value_of items))
+read_of = option_and_then (λ items. named_values (value_of items))
 
 -- texts that are the values of their names say what these say
 pub texts_read : (value : List ℕ → Option (List ℕ))
@@ -146,7 +146,7 @@ pub texts_read : (value : List ℕ → Option (List ℕ))
     → count ≡ value (codes "count") → remote ≡ value (codes "remote")
     → after ≡ value (codes "after") → rows ≡ value (codes "rows")
     → values_in batch limit lanes doors port connections number count remote after rows
-    ≡ values_of value
+    ≡ named_values value
 texts_read value batch limit lanes doors port connections number count remote after rows
     b l n d p s u c r a o = rw (b, l, n, d, p, s, u, c, r, a, o) refl
 
@@ -200,11 +200,11 @@ some_mapped f (Some x) = refl
 values_asked : (command : Command) (left : Option (List Item)) → is_some (read_of left)
     ≡ is_some (option_and_then (λ items. wanted_values command (value_of items)) left)
 values_asked command None = refl
-values_asked command (Some items) = some_mapped _ (values_of (value_of items))
+values_asked command (Some items) = some_mapped _ (named_values (value_of items))
 
 -- words of a command's form are read where the command asks for something by them
 pub read_asked : (command : Command) (form : Form) (words : List (List ℕ)) → form ≡ form_of command
-    → is_read form words ≡ is_some (wanted_by command words)
+    → is_read form words ≡ is_some (command_wanted command words)
 read_asked command form words is = rw is (values_asked command (items_in (form_of command) words))
 
 lacks_some : {A : Type 0} (found : Option A) → is_some found ≡ false → found ≡ None
@@ -227,7 +227,7 @@ pub none_asked : (words : List (List ℕ)) (word : List ℕ) (rest : List (List 
     → words ≡ word ∷ rest → command_of word ≡ Some command
     → is_some (items_in (form_of command) rest) ≡ false → wanted_of words ≡ None
 none_asked words word rest command begins named lacks =
-    ap wanted_of begins ∙ ap (option_and_then (λ c. wanted_by c rest)) named
+    ap wanted_of begins ∙ ap (option_and_then (λ c. command_wanted c rest)) named
     ∙ ap (option_and_then (λ items. wanted_values command (value_of items)))
     (lacks_some (items_in (form_of command) rest) lacks)
 
@@ -241,7 +241,7 @@ AreGiven left value = (items : List Item) → left ≡ Some items → value ≡ 
 
 -- a command asks for nothing where a value that it was given can't be read
 pub values_none : (command : Command) (left : Option (List Item)) (value : List ℕ → Option (List ℕ))
-    → AreGiven left value → values_of value ≡ None → asked_by command left ≡ None
+    → AreGiven left value → named_values value ≡ None → asked_by command left ≡ None
 values_none command None value given none = refl
 values_none command (Some items) value given none =
     ap (wanted_values command) (sym (given items refl)) ∙ rw none refl
@@ -249,7 +249,7 @@ values_none command (Some items) value given none =
 -- what a command asks for is what was read of the values that it was given
 pub asks_read : (command : Command) (left : Option (List Item)) (value : List ℕ → Option (List ℕ))
     (values : Values) (book cells : Option (List ℕ)) → is_some left ≡ true → AreGiven left value
-    → values_of value ≡ Some values → book ≡ value (codes "book") → cells ≡ value (codes "cells")
+    → named_values value ≡ Some values → book ≡ value (codes "book") → cells ≡ value (codes "cells")
     → asked_by command left ≡ Some (record {
       command = command;
       book = book;
@@ -278,7 +278,7 @@ no_usage words asked wanted same is =
 -- words are no faulty ones where the values that their command was given are read
 pub not_faulty : (words : Option Wanted) (command : Command) (left : Option (List Item))
     (value : List ℕ → Option (List ℕ)) (values : Values) → words ≡ asked_by command left
-    → is_some left ≡ true → AreGiven left value → values_of value ≡ Some values
+    → is_some left ≡ true → AreGiven left value → named_values value ≡ Some values
     → (NoMemory ≡ Usage) ↔ (words ≡ None)
 not_faulty words command left value values same some given read =
     no_usage words (asked_by command left) _ same

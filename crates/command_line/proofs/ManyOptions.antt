@@ -8,7 +8,7 @@ use Rattle.std.proofs.lemmas.List.{append-nil, append_assoc}
 use Rattle.clap.specs.Simple.{App, Shape, built, filled_from, is_simple, with_rule}
 use Rattle.clap.specs.Takes.{default_passes, is_valid}
 use Rattle.clap.specs.Walk.{Held, Row, Rule, Text, finished, has_long, has_row, is_early_multiple, settled, with_default}
-use Rattle.command_line.specs.Options.{app_by, rule_by, with_values}
+use Rattle.command_line.specs.Options.{app_by, rule_by, with_options}
 use Rattle.command_line.specs.Words.{is_among}
 use Rattle.command_line.proofs.OneWord.{Knows, built_rule}
 
@@ -103,7 +103,7 @@ finished_as names held =
 
 -- ---- one value after another
 
-pub values_none : (spelled : Bool) (app : App) → with_values spelled app [] ≡ app
+pub values_none : (spelled : Bool) (app : App) → with_options spelled app [] ≡ app
 values_none spelled app = λ i. record app {
   top = record app.top {
     rules = append-nil app.top.rules i;
@@ -111,8 +111,8 @@ values_none spelled app = λ i. record app {
 }
 
 pub values_more : (spelled : Bool) (app : App) (name : Text) (names : List Text)
-    → with_values spelled (with_rule app (rule_by spelled name)) names
-    ≡ with_values spelled app (name ∷ names)
+    → with_options spelled (with_rule app (rule_by spelled name)) names
+    ≡ with_options spelled app (name ∷ names)
 values_more spelled app name names = λ i. record app {
   top = record app.top {
     rules = append_assoc

@@ -12,8 +12,8 @@ rule_by true name = record (new_rule name) { long = Some name; action = Some Set
 rule_by false name = record (new_rule name) { action = Some Set }
 
 -- a command with a value more for each of these names
-abbrev pub with_values : Bool → App → List (List ℕ) → App
-with_values spelled app names =
+abbrev pub with_options : Bool → App → List (List ℕ) → App
+with_options spelled app names =
     on_top (λ shape. record shape { rules = shape.rules ++ map (rule_by spelled) names }) app
 
 -- a command without values, help flag or version, and without a program's name among the words
@@ -23,7 +23,7 @@ bare_app = on_top (λ shape. record shape { no_binary_name = true; disable_help_
 
 -- a command with a value for each of these names
 abbrev pub app_by : Bool → List (List ℕ) → App
-app_by spelled names = with_values spelled bare_app names
+app_by spelled names = with_options spelled bare_app names
 
 abbrev pub app_for : Form → App
 app_for (options names) = app_by true names

@@ -9,7 +9,7 @@ use Rattle.command_line.specs.declared.table.TheConstants.{MAX_DOOR_CONNECTIONS,
 use Rattle.command_line.specs.declared.types.Command.TheVariants.{Paper, Trial}
 use Rattle.command_line.specs.declared.types.Wants.{Wants}
 use Rattle.command_line.specs.Words.{Form, Wanted, are_taken, items_in, read_items, value_of}
-use Rattle.command_line.specs.Words.{values_of}
+use Rattle.command_line.specs.Words.{named_values}
 use Rattle.command_line.specs.Words.{options, needed, places}
 
 -- the bytes of a text that may be there
@@ -21,10 +21,10 @@ abbrev pub texts_of : List (Bor (List ℕ)) → List (List ℕ)
 texts_of texts = map (λ text. text.now) texts
 
 -- what a form is
-abbrev pub form_in : Told → Form
-form_in (told.Options names) = options (texts_of names.now)
-form_in (told.Needed names) = needed (texts_of names.now)
-form_in (told.Places names) = places (texts_of names.now)
+abbrev pub form_seen : Told → Form
+form_seen (told.Options names) = options (texts_of names.now)
+form_seen (told.Needed names) = needed (texts_of names.now)
+form_seen (told.Places names) = places (texts_of names.now)
 
 -- the words are items of these names, and none comes twice
 abbrev pub are_words_taken : List (List ℕ) → List (List ℕ) → Bool
@@ -33,7 +33,7 @@ are_words_taken names words = option_map_or (are_taken names) (read_items None w
 -- the words are in a form, and their values can be read
 abbrev pub is_read : Form → List (List ℕ) → Bool
 is_read form words =
-    is_some (option_and_then (λ items. values_of (value_of items)) (items_in form words))
+    is_some (option_and_then (λ items. named_values (value_of items)) (items_in form words))
 
 -- what is answered
 abbrev pub seen : Wants → Wanted

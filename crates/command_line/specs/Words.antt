@@ -221,8 +221,8 @@ values_in batch limit lanes doors port connections number count remote after row
     (number_in LIMIT limit)) (batch_in batch)
 
 -- the same by a value for each name
-abbrev pub values_of : (List ℕ → Option (List ℕ)) → Option Values
-values_of value = values_in (value (codes "batch")) (value (codes "limit")) (value (codes "lanes"))
+abbrev pub named_values : (List ℕ → Option (List ℕ)) → Option Values
+named_values value = values_in (value (codes "batch")) (value (codes "limit")) (value (codes "lanes"))
     (value (codes "doors")) (value (codes "port")) (value (codes "connections"))
     (value (codes "number")) (value (codes "count")) (value (codes "remote"))
     (value (codes "after")) (value (codes "rows"))
@@ -244,14 +244,14 @@ wanted_values command value = option_map (λ values. record {
   remote = values.remote;
   after = values.after;
   rows = values.rows;
-}) (values_of value)
+}) (named_values value)
 
 -- what a command asks for by the words after it
-abbrev pub wanted_by : Command → List (List ℕ) → Option Wanted
-wanted_by command words = option_and_then (λ items. wanted_values command (value_of items))
+abbrev pub command_wanted : Command → List (List ℕ) → Option Wanted
+command_wanted command words = option_and_then (λ items. wanted_values command (value_of items))
     (items_in (form_of command) words)
 
 -- what the words ask for: a command, and then its items
 abbrev pub wanted_of : List (List ℕ) → Option Wanted
 wanted_of [] = None
-wanted_of (word ∷ words) = option_and_then (λ command. wanted_by command words) (command_of word)
+wanted_of (word ∷ words) = option_and_then (λ command. command_wanted command words) (command_of word)

@@ -2,7 +2,7 @@ ghost use Rattle.std.specs.Prelude.{◌≡◌, ◌↔◌, Some, None, is_some, t
 ghost use Rattle.std.specs.Prelude.{IfOk, IfErr, MatchOption};
 ghost use Rattle.command_line.specs.declared.types.WantsError.TheVariants.{Usage};
 ghost use Rattle.clap.specs.Words.{first_value, found_of};
-ghost use Rattle.command_line.specs.Words.{bytes_of, form_of, items_in, values_of, wanted_by, wanted_of};
+ghost use Rattle.command_line.specs.Words.{bytes_of, form_of, items_in, named_values, command_wanted, wanted_of};
 ghost use Rattle.command_line.specs.Taken.{IsInRange, bytes_in, seen};
 
 use crate::given::{has_form, is_asked};
@@ -57,7 +57,7 @@ pub fn wants(alloc: Global, words: &[String]) -> Result<Wants, WantsError>
 
 // The values that `clap` read.
 fn values_in(matches: &ArgMatches) -> Option<Values>
-    ensures { result ≡ values_of (first_value (found_of matches.now)) }
+    ensures { result ≡ named_values (first_value (found_of matches.now)) }
 {
     read_values(&Texts {
         batch: matches.get_str("batch"),
@@ -77,7 +77,7 @@ fn values_in(matches: &ArgMatches) -> Option<Values>
 // What is answered where there is no memory for words in the form of a command: `NoMemory`, where
 // their values can be read.
 fn without_memory(command: Command, words: &[String]) -> WantsError
-    ensures { (result ≡ Usage) ↔ (wanted_by command (bytes_of words.now) ≡ None) }
+    ensures { (result ≡ Usage) ↔ (command_wanted command (bytes_of words.now) ≡ None) }
 {
     if is_asked(command, words) {
         WantsError::NoMemory
@@ -89,7 +89,7 @@ fn without_memory(command: Command, words: &[String]) -> WantsError
 // The command and the words after it, where they are in its form. `clap` takes more words than these.
 fn read_words<'a>(words: &'a [String]) -> Option<(Command, &'a [String])>
     ensures { MatchOption result (wanted_of (bytes_of words.now) ≡ None)
-        (λ found. (wanted_of (bytes_of words.now) ≡ wanted_by found.0 (bytes_of found.1.now))
+        (λ found. (wanted_of (bytes_of words.now) ≡ command_wanted found.0 (bytes_of found.1.now))
         × (is_some (items_in (form_of found.0) (bytes_of found.1.now)) ≡ true)) }
 {
     let (word, rest) = words.split_first()?;

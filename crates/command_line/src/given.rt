@@ -1,9 +1,9 @@
 ghost use Rattle.std.specs.Prelude.{◌≡◌, ◌&&◌, List, Some, None, not, is_some};
 ghost use Rattle.std.specs.List.{list_any};
 ghost use Rattle.command_line.specs.Words.{bytes_of, gives, is_among, Item as Given};
-ghost use Rattle.command_line.specs.Words.{form_of, items_in, read_items, value_of, wanted_by};
+ghost use Rattle.command_line.specs.Words.{form_of, items_in, read_items, value_of, command_wanted};
 ghost use Rattle.command_line.specs.Words.{options, needed, places, are_given};
-ghost use Rattle.command_line.specs.Taken.{are_words_taken, bytes_in, form_in, is_read, texts_of};
+ghost use Rattle.command_line.specs.Taken.{are_words_taken, bytes_in, form_seen, is_read, texts_of};
 
 use crate::items::{Item, first_item};
 use crate::places::{are_placed, placed_value};
@@ -21,7 +21,7 @@ pub fn has_form(command: Command, words: &[String]) -> bool
 // Whether the words are items of a form.
 #[tactic(auto, using(crate::proofs::GivenValues::taken_there))]
 fn are_items(form: Form, words: &[String]) -> bool
-    ensures { result ≡ is_some (items_in (form_in form) (bytes_of words.now)) }
+    ensures { result ≡ is_some (items_in (form_seen form) (bytes_of words.now)) }
 {
     match form {
         Form::Options(names) => are_taken(names, words),
@@ -33,7 +33,7 @@ fn are_items(form: Form, words: &[String]) -> bool
 /// Whether the words after a command's are in its grammar, their values among it.
 #[tactic(auto, using(crate::proofs::GivenValues::read_asked))]
 pub fn is_asked(command: Command, words: &[String]) -> bool
-    ensures { result ≡ is_some (wanted_by command (bytes_of words.now)) }
+    ensures { result ≡ is_some (command_wanted command (bytes_of words.now)) }
 {
     match form_of(command) {
         Form::Options(names) => are_options_read(names, words),

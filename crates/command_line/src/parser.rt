@@ -3,7 +3,7 @@ ghost use Rattle.clap.specs.Words.{app_of, first_value, found_of, kind_of};
 ghost use Rattle.command_line.specs.declared.types.WantsError.TheVariants.{NoMemory};
 ghost use Rattle.clap.specs.Simple.{with_rule};
 ghost use Rattle.command_line.specs.Options.{app_by, app_for, rule_by};
-ghost use Rattle.command_line.specs.Taken.{form_in, texts_of};
+ghost use Rattle.command_line.specs.Taken.{form_seen, texts_of};
 ghost use Rattle.command_line.specs.Words.{Item, bytes_of, form_of, items_in, value_of};
 
 use crate::table::{Form, form_of};
@@ -34,7 +34,7 @@ pub fn parse<'a>(
 
 // What `clap` is told of a form.
 fn told_form<'a>(alloc: Global, form: Form) -> Result<clap::Command<'a>, AllocError>
-    ensures { IfOk result (λ told. app_of told ≡ app_for (form_in form)) }
+    ensures { IfOk result (λ told. app_of told ≡ app_for (form_seen form)) }
 {
     match form {
         Form::Options(names) | Form::Needed(names) => told_names(alloc, names, true),

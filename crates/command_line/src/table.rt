@@ -1,5 +1,5 @@
 ghost use Rattle.std.specs.Prelude.{◌≡◌};
-ghost use Rattle.command_line.specs.Taken.{form_in};
+ghost use Rattle.command_line.specs.Taken.{form_seen};
 ghost use Rattle.command_line.specs.Words.{command_of, form_of};
 
 use crate::types::Command;
@@ -41,7 +41,7 @@ pub enum Form {
 
 /// What stands behind the word of a command.
 pub fn form_of(command: Command) -> Form
-    ensures { form_in result ≡ form_of command }
+    ensures { form_seen result ≡ form_of command }
 {
     match command {
         Command::Run => Form::Options(&["book", "limit", "lanes", "cells", "remote"]),

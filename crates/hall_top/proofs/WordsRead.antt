@@ -8,7 +8,7 @@ use Rattle.command_line.specs.declared.types.Command.{Command}
 use Rattle.command_line.specs.declared.types.Wants.{Wants}
 use Rattle.command_line.specs.declared.types.WantsError.{WantsError}
 use Rattle.command_line.specs.declared.types.WantsError.TheVariants.{Usage, NoMemory}
-use Rattle.command_line.specs.Words.{Item, Wanted, command_of, commands, items_in, form_of, value_of, values_of, wanted_values, wanted_by, wanted_of}
+use Rattle.command_line.specs.Words.{Item, Wanted, command_of, commands, items_in, form_of, value_of, named_values, wanted_values, command_wanted, wanted_of}
 use Rattle.command_line.specs.Taken.{seen}
 use Rattle.disk_core.specs.declared.disk.Disk as disk
 use Rattle.book_journal.proofs.Moments.{unmoved_none}
@@ -73,7 +73,7 @@ map_has P f (Some x) found each is = subst P (some_same (f x) found is) (each x)
 
 -- what a command asks for is that command
 wanted_command : (command : Command) (words : List (List ℕ)) (wanted : Wanted)
-    → wanted_by command words ≡ Some wanted → wanted.command ≡ command
+    → command_wanted command words ≡ Some wanted → wanted.command ≡ command
 wanted_command command words wanted = by_items (items_in (form_of command) words)
   where
     by_items : (items : Option (List Item))
@@ -81,7 +81,7 @@ wanted_command command words wanted = by_items (items_in (form_of command) words
         → wanted.command ≡ command
     by_items None same = absurd (cc)
     by_items (Some is) same = map_has (λ (w : Wanted). w.command ≡ command) _
-        (values_of (value_of is)) wanted (λ values. refl) same
+        (named_values (value_of is)) wanted (λ values. refl) same
 
 -- words whose first isn't `serve` don't ask for it
 pub asks_alone : (words : List (List ℕ)) (wanted : Wanted) → begins_serve words ≡ false
@@ -98,7 +98,7 @@ asks_alone (word ∷ words) wanted other asks = by_command (command_of word) ref
         go false serves = serves
 
     by_command : (found : Option Command) → command_of word ≡ found
-        → option_and_then (λ command. wanted_by command words) found ≡ Some wanted
+        → option_and_then (λ command. command_wanted command words) found ≡ Some wanted
         → is_serve wanted.command ≡ false
     by_command None is same = absurd (cc)
     by_command (Some command) is same =

@@ -39,8 +39,8 @@ abbrev pub next_in : Reader (Bor (List ℕ)) → Option Read
 next_in reader = next_record default_config (reader_state reader) [] [] (left reader)
 
 -- so many of the next records of a reader
-abbrev pub records_at : ℕ → Reader (Bor (List ℕ)) → List (List (List ℕ))
-records_at count reader = records_from default_config count (reader_state reader) (left reader)
+abbrev pub next_records : ℕ → Reader (Bor (List ℕ)) → List (List (List ℕ))
+next_records count reader = records_from default_config count (reader_state reader) (left reader)
 
 -- the next record may be there, or is the one by which there are too many
 pub record IsReading (records : Records) : Type 0 where
@@ -50,7 +50,7 @@ pub record IsReading (records : Records) : Type 0 where
 -- what is left of an import
 abbrev pub left_in : Records → Import
 left_in records =
-    read_records records.number (records_at (LAST_RECORD + 2 - records.number) records.reader)
+    read_records records.number (next_records (LAST_RECORD + 2 - records.number) records.reader)
 
 -- what reading on says of the records that were left and of those that are left behind it
 abbrev pub HasRead : Records → Result (Option Command) ImportError → Records → Type 0

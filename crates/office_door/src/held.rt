@@ -1,5 +1,5 @@
 use disk_core::{Door, Failed};
-use office_wire::{Frame, REQUEST_ROOM, Routes, frame_with};
+use office_wire::{Frame, REQUEST_ROOM, Routes, frame_with_routes};
 use std::alloc::{AllocError, Global};
 use std::marker::Model;
 
@@ -55,7 +55,7 @@ impl Held {
     pub fn frame(&self, routes: &Routes, alloc: Global) -> Frame
         ensures { TellsFrame self.now.bytes self.now.ended result }
     {
-        frame_with(routes, alloc, &self.buffer[..self.count], self.ended)
+        frame_with_routes(routes, alloc, &self.buffer[..self.count], self.ended)
     }
 
     /// Takes the first so many bytes away.

@@ -13,7 +13,7 @@ use Rattle.office_wire.specs.declared.types.Frame.{Frame}
 use Rattle.office_wire.specs.declared.types.Frame.TheVariants.{Whole, More, Nothing}
 use Rattle.office_wire.specs.HeadSize.{is_newline, lines_size, head_size}
 use Rattle.office_wire.specs.Headers.{Header, is_coded, size_given}
-use Rattle.office_wire.specs.Frames.{IsFrame, IsFrameFrom, IsFrameOf, IsHeadOf, headers_of, allowed_size, size_of, body_size, last_fault, whole_request, part_of_body, frame_by_size, frame_by_head, frame_at_end, frame_without_head}
+use Rattle.office_wire.specs.Frames.{IsFrame, IsFrameWithHead, IsSplitFrame, IsHeadOf, headers_of, allowed_size, size_of, body_size, last_fault, whole_request, part_of_body, frame_by_size, frame_by_head, frame_at_end, frame_without_head}
 use Rattle.office_wire.proofs.FrameKinds.{more_not_whole, nothing_not_whole, whole_not_more, nothing_not_more}
 use Rattle.office_wire.proofs.HeadGrowth.{head_within, head_still}
 
@@ -25,9 +25,9 @@ taken_by More = 0
 taken_by Nothing = 0
 
 -- the size that a result has
-abbrev size_in : Result (Option ℕ) Bad → ℕ
-size_in (Ok given) = body_size given
-size_in (Err fault) = 0
+abbrev header_size : Result (Option ℕ) Bad → ℕ
+header_size (Ok given) = body_size given
+header_size (Err fault) = 0
 
 abbrev is_error : Result (Option ℕ) Bad → Bool
 is_error (Ok given) = false
@@ -116,7 +116,7 @@ headless_still bytes more ended framed none is = by (nat_le MAX_HEAD (length byt
       le-leb MAX_HEAD (length (bytes ++ more)) (omega (arith, both, long)) in
       let same : head_size (take MAX_HEAD (bytes ++ more)) ≡ None =
       ap head_size (take-append-le MAX_HEAD bytes more long) ∙ none in
-      subst (λ found. IsFrameFrom found (bytes ++ more) ended (Whole framed)) (sym same)
+      subst (λ found. IsFrameWithHead found (bytes ++ more) ended (Whole framed)) (sym same)
       (sym (ap (λ full. if full then last_fault MAX_HEAD bad.Head
       else (if ended then frame_at_end (bytes ++ more) else More)) still ∙ e))
 
@@ -125,7 +125,7 @@ pub frame_still : (bytes more : List ℕ) (ended : Bool) (framed : Framed)
     → IsFrame bytes false (Whole framed) → IsFrame (bytes ++ more) ended (Whole framed)
 frame_still bytes more ended framed is = by (head_size (take MAX_HEAD bytes)) refl is where
   by : (found : Option ℕ) → head_size (take MAX_HEAD bytes) ≡ found
-      → IsFrameFrom found bytes false (Whole framed) → IsFrame (bytes ++ more) ended (Whole framed)
+      → IsFrameWithHead found bytes false (Whole framed) → IsFrame (bytes ++ more) ended (Whole framed)
   by None h e = headless_still bytes more ended framed h (sym e)
   by (Some size) h x =
       let inside = found_within bytes size h in
@@ -133,11 +133,11 @@ frame_still bytes more ended framed is = by (head_size (take MAX_HEAD bytes)) re
       take-append-le size bytes more inside.1 in
       let behind : drop size (bytes ++ more) ≡ drop size bytes ++ more =
       drop-append-le size bytes more inside.1 in
-      subst (λ found. IsFrameFrom found (bytes ++ more) ended (Whole framed))
+      subst (λ found. IsFrameWithHead found (bytes ++ more) ended (Whole framed))
       (sym (found_still bytes more size h))
-      (subst (λ (t : List ℕ). IsFrameOf t (drop size (bytes ++ more)) ended (Whole framed))
+      (subst (λ (t : List ℕ). IsSplitFrame t (drop size (bytes ++ more)) ended (Whole framed))
       (sym text)
-      (subst (λ (r : List ℕ). IsFrameOf (take size bytes) r ended (Whole framed)) (sym behind) (
+      (subst (λ (r : List ℕ). IsSplitFrame (take size bytes) r ended (Whole framed)) (sym behind) (
         x.0,
         x.1,
         sym (headed_still x.0 (length (take size bytes)) (drop size bytes) more ended
@@ -164,7 +164,7 @@ head_unique text (Some a) (Some b) x y =
 pub frame_unique : (bytes : List ℕ) (ended : Bool) (a b : Frame)
     → IsFrame bytes ended a → IsFrame bytes ended b → a ≡ b
 frame_unique bytes ended a b x y = by (head_size (take MAX_HEAD bytes)) x y where
-  by : (found : Option ℕ) → IsFrameFrom found bytes ended a → IsFrameFrom found bytes ended b
+  by : (found : Option ℕ) → IsFrameWithHead found bytes ended a → IsFrameWithHead found bytes ended b
       → a ≡ b
   by None x y = x ∙ sym y
   by (Some size) x y =
@@ -244,7 +244,7 @@ pub frame_taken : (bytes : List ℕ) (ended : Bool) (framed : Framed)
     → IsFrame bytes ended (Whole framed) → (1 ≤ framed.taken) × (framed.taken ≤ length bytes)
 frame_taken bytes ended framed is = by (head_size (take MAX_HEAD bytes)) refl is where
   by : (found : Option ℕ) → head_size (take MAX_HEAD bytes) ≡ found
-      → IsFrameFrom found bytes ended (Whole framed)
+      → IsFrameWithHead found bytes ended (Whole framed)
       → (1 ≤ framed.taken) × (framed.taken ≤ length bytes)
   by None h e = headless_taken bytes ended framed (sym e)
   by (Some size) h x =
@@ -262,13 +262,13 @@ allowed_bounded : (said : Option (Option ℕ)) (given : Option ℕ) → allowed_
     → body_size given ≤ MAX_BODY
 allowed_bounded None given is = absurd (err_not_ok bad.Length given is)
 allowed_bounded (Some None) given is =
-    let none : 0 ≡ body_size given = ap size_in is in
+    let none : 0 ≡ body_size given = ap header_size is in
     omega (arith, none)
 allowed_bounded (Some (Some size)) given is = by (nat_le size MAX_BODY) refl is where
   by : (small : Bool) → nat_le size MAX_BODY ≡ small
       → (if small then Ok (Some size) else Err bad.Large) ≡ Ok given → body_size given ≤ MAX_BODY
   by true h e =
-      let same : size ≡ body_size given = ap size_in e in
+      let same : size ≡ body_size given = ap header_size e in
       let fits = leb-true size MAX_BODY h in
       omega (arith, same, fits)
   by false h e = absurd (err_not_ok bad.Large given e)
@@ -329,7 +329,7 @@ pub more_wanted : (bytes : List ℕ) (ended : Bool) → IsFrame bytes ended More
     → (length bytes < REQUEST_ROOM) × (ended ≡ false)
 more_wanted bytes ended is = by (head_size (take MAX_HEAD bytes)) refl is where
   by : (found : Option ℕ) → head_size (take MAX_HEAD bytes) ≡ found
-      → IsFrameFrom found bytes ended More → (length bytes < REQUEST_ROOM) × (ended ≡ false)
+      → IsFrameWithHead found bytes ended More → (length bytes < REQUEST_ROOM) × (ended ≡ false)
   by None h e =
       let less = headless_more bytes ended (sym e) in
       (omega (arith, less.0), less.1)
@@ -366,7 +366,7 @@ nothing_there bytes short all =
     let none : head_size (take MAX_HEAD bytes) ≡ None =
     ap head_size whole ∙ no_head_in_newlines bytes all in
     let fewer : nat_le MAX_HEAD (length bytes) ≡ false = lt-leb MAX_HEAD (length bytes) short in
-    subst (λ found. IsFrameFrom found bytes true Nothing) (sym none)
+    subst (λ found. IsFrameWithHead found bytes true Nothing) (sym none)
     (sym (ap (λ full. if full then last_fault MAX_HEAD bad.Head else frame_at_end bytes) fewer
     ∙ ap (λ here. if here then Nothing else last_fault (length bytes) bad.Head) all))
 
@@ -408,7 +408,7 @@ nothing_alone bytes ended is = by (head_size (take MAX_HEAD bytes)) is where
   by_full false h true e =
       (refl, leb-false MAX_HEAD (length bytes) h, by_all (list_all is_newline bytes) refl e)
 
-  by : (found : Option ℕ) → IsFrameFrom found bytes ended Nothing
+  by : (found : Option ℕ) → IsFrameWithHead found bytes ended Nothing
       → (ended ≡ true) × (length bytes < MAX_HEAD) × (list_all is_newline bytes ≡ true)
   by None e = by_full (nat_le MAX_HEAD (length bytes)) refl ended (sym e)
   by (Some size) x =

@@ -11,12 +11,12 @@ use Rattle.office_wire.specs.declared.types.Frame.TheVariants.{Whole, More, Noth
 use Rattle.office_wire.specs.declared.request_heads.Said.{Said}
 use Rattle.office_wire.specs.HeadSize.{head_size}
 use Rattle.office_wire.specs.Routes.{route_of}
-use Rattle.office_wire.specs.Frames.{IsFrame, IsFrameFrom, IsFrameOf, IsHeadOf, MayTell, MayFrame, MayTellBy, MayFrameBy, TellsFrame, TellsFrameBy, TellsFrameOfBy, ask_at, body_size, last_fault, whole_request, part_of_body, frame_by_size, frame_by_head, frame_without_head}
+use Rattle.office_wire.specs.Frames.{IsFrame, IsFrameWithHead, IsSplitFrame, IsHeadOf, MayTell, MayFrame, MayTellRouted, MayFrameRouted, TellsFrame, TellsRoutedFrame, TellsSplitRoutedFrame, office_ask, body_size, last_fault, whole_request, part_of_body, frame_by_size, frame_by_head, frame_without_head}
 use Rattle.office_wire.specs.HeadParts.{Says, SaysHeadOf}
 use Rattle.office_wire.proofs.FrameKinds.{more_not_whole, nothing_not_whole, whole_not_more, nothing_not_more, same_framed}
 
 -- a frame may be told as it is
-pub told_same : (routed : Bool) (frame told : Frame) → told ≡ frame → MayFrameBy routed frame told
+pub told_same : (routed : Bool) (frame told : Frame) → told ≡ frame → MayFrameRouted routed frame told
 told_same routed (Whole framed) told is = (framed.what, inl (inl refl), is)
 told_same routed More told is = is
 told_same routed Nothing told is = is
@@ -24,29 +24,29 @@ told_same routed Nothing told is = is
 -- bytes that hold no head text
 pub tells_without_head : (routed : Bool) (bytes : List ℕ) (ended : Bool) (told : Frame)
     → head_size (take MAX_HEAD bytes) ≡ None → told ≡ frame_without_head bytes ended
-    → TellsFrameBy routed bytes ended told
+    → TellsRoutedFrame routed bytes ended told
 tells_without_head routed bytes ended told none is = (
   frame_without_head bytes ended,
-  subst (λ found. IsFrameFrom found bytes ended (frame_without_head bytes ended)) (sym none) refl,
+  subst (λ found. IsFrameWithHead found bytes ended (frame_without_head bytes ended)) (sym none) refl,
   told_same routed (frame_without_head bytes ended) told is,
 )
 
 -- bytes that hold one
 pub tells_with_head : (routed : Bool) (bytes text rest : List ℕ) (size : ℕ) (ended : Bool) (told : Frame)
     → head_size (take MAX_HEAD bytes) ≡ Some size → text ≡ take size bytes → rest ≡ drop size bytes
-    → TellsFrameOfBy routed text rest ended told → TellsFrameBy routed bytes ended told
+    → TellsSplitRoutedFrame routed text rest ended told → TellsRoutedFrame routed bytes ended told
 tells_with_head routed bytes text rest size ended told found front back tells = (
   tells.0,
-  subst (λ place. IsFrameFrom place bytes ended tells.0) (sym found)
-      (subst (λ (t : List ℕ). IsFrameOf t (drop size bytes) ended tells.0) front
-      (subst (λ (r : List ℕ). IsFrameOf text r ended tells.0) back tells.1)),
+  subst (λ place. IsFrameWithHead place bytes ended tells.0) (sym found)
+      (subst (λ (t : List ℕ). IsSplitFrame t (drop size bytes) ended tells.0) front
+      (subst (λ (r : List ℕ). IsSplitFrame text r ended tells.0) back tells.1)),
   tells.2,
 )
 
 -- a head text that isn't a head
 pub tells_no_head : (routed : Bool) (text rest : List ℕ) (ended : Bool) (told : Frame)
     → IsHeadOf text None → told ≡ last_fault (length text) bad.Head
-    → TellsFrameOfBy routed text rest ended told
+    → TellsSplitRoutedFrame routed text rest ended told
 tells_no_head routed text rest ended told none is = (
   last_fault (length text) bad.Head,
   (None, none, refl),
@@ -57,12 +57,12 @@ tells_no_head routed text rest ended told none is = (
 pub tells_head : (routed : Bool) (text rest : List ℕ) (ended : Bool) (told : Frame) (said : Said)
     → SaysHeadOf text said
     → ((head : RequestHead) → Says said head
-    → MayFrameBy routed (frame_by_size said.size head (length text) rest ended) told)
-    → TellsFrameOfBy routed text rest ended told
+    → MayFrameRouted routed (frame_by_size said.size head (length text) rest ended) told)
+    → TellsSplitRoutedFrame routed text rest ended told
 tells_head routed text rest ended told said of tells = (
   frame_by_head (Some of.0) (length text) rest ended,
   (Some of.0, of.1, refl),
-  subst (λ size. MayFrameBy routed (frame_by_size size of.0 (length text) rest ended) told) of.2.size
+  subst (λ size. MayFrameRouted routed (frame_by_size size of.0 (length text) rest ended) told) of.2.size
       (tells of.0 of.2),
 )
 
@@ -70,9 +70,9 @@ tells_head routed text rest ended told said of tells = (
 pub tells_fault : (routed : Bool) (said : Result (Option ℕ) Bad) (fault : Bad) (head : RequestHead) (size : ℕ)
     (rest : List ℕ) (ended : Bool) (told : Frame)
     → said ≡ Err fault → told ≡ last_fault size fault
-    → MayFrameBy routed (frame_by_size said head size rest ended) told
+    → MayFrameRouted routed (frame_by_size said head size rest ended) told
 tells_fault routed said fault head size rest ended told is same =
-    subst (λ s. MayFrameBy routed (frame_by_size s head size rest ended) told) (sym is)
+    subst (λ s. MayFrameRouted routed (frame_by_size s head size rest ended) told) (sym is)
     (told_same routed (last_fault size fault) told same)
 
 -- a body that is there
@@ -80,37 +80,37 @@ pub tells_whole : (routed : Bool) (said : Result (Option ℕ) Bad) (given : Opti
     (rest body : List ℕ) (ended : Bool) (told : Frame)
     → said ≡ Ok given → nat_le (body_size given) (length rest) ≡ true
     → body ≡ take (body_size given) rest
-    → MayFrameBy routed (whole_request head size given body) told
-    → MayFrameBy routed (frame_by_size said head size rest ended) told
+    → MayFrameRouted routed (whole_request head size given body) told
+    → MayFrameRouted routed (frame_by_size said head size rest ended) told
 tells_whole routed said given head size rest body ended told is there front tells =
-    subst (λ s. MayFrameBy routed (frame_by_size s head size rest ended) told) (sym is)
-    (subst (λ all. MayFrameBy routed (if all then whole_request head size given (take (body_size given) rest)
+    subst (λ s. MayFrameRouted routed (frame_by_size s head size rest ended) told) (sym is)
+    (subst (λ all. MayFrameRouted routed (if all then whole_request head size given (take (body_size given) rest)
     else part_of_body size rest ended) told) (sym there)
-    (subst (λ (b : List ℕ). MayFrameBy routed (whole_request head size given b) told) front tells))
+    (subst (λ (b : List ℕ). MayFrameRouted routed (whole_request head size given b) told) front tells))
 
 -- a body that isn't there
 pub tells_part : (routed : Bool) (said : Result (Option ℕ) Bad) (given : Option ℕ) (head : RequestHead) (size : ℕ)
     (rest : List ℕ) (ended : Bool) (told : Frame)
     → said ≡ Ok given → nat_le (body_size given) (length rest) ≡ false
     → told ≡ part_of_body size rest ended
-    → MayFrameBy routed (frame_by_size said head size rest ended) told
+    → MayFrameRouted routed (frame_by_size said head size rest ended) told
 tells_part routed said given head size rest ended told is there same =
-    subst (λ s. MayFrameBy routed (frame_by_size s head size rest ended) told) (sym is)
-    (subst (λ all. MayFrameBy routed (if all then whole_request head size given (take (body_size given) rest)
+    subst (λ s. MayFrameRouted routed (frame_by_size s head size rest ended) told) (sym is)
+    (subst (λ all. MayFrameRouted routed (if all then whole_request head size given (take (body_size given) rest)
     else part_of_body size rest ended) told) (sym there)
     (told_same routed (part_of_body size rest ended) told same))
 
 -- a request
 pub tells_request : (routed : Bool) (said : Said) (head : RequestHead) (size : ℕ) (given : Option ℕ) (body : List ℕ)
     (what : OfficeAsk) (told : Frame)
-    → Says said head → MayTellBy routed (ask_at (route_of said.target.now) said.method.now given body) what
+    → Says said head → MayTellRouted routed (office_ask (route_of said.target.now) said.method.now given body) what
     → told ≡ Whole (record { taken = size + length body; what = what; last = said.last })
-    → MayFrameBy routed (whole_request head size given body) told
+    → MayFrameRouted routed (whole_request head size given body) told
 tells_request routed said head size given body what told says asks is = (
   what,
-  subst (λ (method : List ℕ). MayTellBy routed (ask_at (route_of head.target) method given body) what)
+  subst (λ (method : List ℕ). MayTellRouted routed (office_ask (route_of head.target) method given body) what)
       says.method
-      (subst (λ (target : List ℕ). MayTellBy routed (ask_at (route_of target) said.method.now given body)
+      (subst (λ (target : List ℕ). MayTellRouted routed (office_ask (route_of target) said.method.now given body)
       what) says.target asks),
   is ∙ (λ i. Whole (record { taken = size + length body; what = what; last = says.last i })),
 )
@@ -118,14 +118,14 @@ tells_request routed said head size given body what told says asks is = (
 -- ---- with routes and without
 
 -- with routes it is told as `MayFrame` says
-pub may_routed : (frame told : Frame) → MayFrameBy true frame told → MayFrame frame told
+pub may_routed : (frame told : Frame) → MayFrameRouted true frame told → MayFrame frame told
 may_routed (Whole framed) told (what, inl may, is) = (what, may, is)
 may_routed (Whole framed) told (what, inr none, is) = absurd (true≢false none.0)
 may_routed More told is = is
 may_routed Nothing told is = is
 
 -- what is told with routes may also be told without
-pub may_unrouted : (frame told : Frame) → MayFrameBy true frame told → MayFrameBy false frame told
+pub may_unrouted : (frame told : Frame) → MayFrameRouted true frame told → MayFrameRouted false frame told
 may_unrouted (Whole framed) told (what, inl may, is) = (what, inl may, is)
 may_unrouted (Whole framed) told (what, inr none, is) = absurd (true≢false none.0)
 may_unrouted More told is = is

@@ -7,7 +7,7 @@ use Rattle.office_routes.specs.declared.spot.Spot.{Spot}
 use Rattle.office_routes.specs.declared.spot.Spot.TheVariants.{Acts, Summary, Sheet, Sample, Pack, Lane}
 use Rattle.office_routes.specs.Spots.{with_text, found_word, found_part, found_detail, found_at, find}
 use Rattle.office_wire.specs.declared.types.Route.{Route}
-use Rattle.office_wire.specs.Routes.{word_route, part_route, detail_route, sheet_route, sample_route, pack_route, lane_route, segments, route_at}
+use Rattle.office_wire.specs.Routes.{word_route, part_route, detail_route, sheet_route, sample_route, pack_route, lane_route, segments, segments_route}
 use Rattle.office_wire.specs.Spots.{spot_route}
 
 abbrev pub found_route : Option (Spot × List ℕ) → Option Route
@@ -65,7 +65,7 @@ detail_is word part detail =
     by true = with_text_is Sample no_sample part
     by false = refl
 
-route_at_is : (segments : List (List ℕ)) → found_route (found_at segments) ≡ route_at segments
+route_at_is : (segments : List (List ℕ)) → found_route (found_at segments) ≡ segments_route segments
 route_at_is [] = refl
 route_at_is ((byte ∷ first) ∷ others) = refl
 route_at_is ([] ∷ []) = refl
@@ -76,5 +76,5 @@ route_at_is ([] ∷ word ∷ part ∷ detail ∷ more ∷ others) = refl
 
 -- what the routes find at a path is what is found there
 pub route_found : (path : List ℕ) (found : Option (Spot × List ℕ)) → found ≡ find path
-    → found_route found ≡ route_at (segments path)
+    → found_route found ≡ segments_route (segments path)
 route_found path found is = ap found_route is ∙ route_at_is (segments path)

@@ -152,5 +152,5 @@ abbrev pub json_in : List ℕ → Option Data
 json_in body = if is_utf8 body then read body else None
 
 -- what the body of a request asks for, where it is an act of a desk
-abbrev pub ask_in : List ℕ → Option Ask
-ask_in body = option_and_then ask_of (json_in body)
+abbrev pub desk_ask : List ℕ → Option Ask
+desk_ask body = option_and_then ask_of (json_in body)

@@ -21,7 +21,7 @@ use Rattle.office_wire.specs.declared.types.Frame.{Frame}
 use Rattle.office_wire.specs.declared.types.Frame.TheVariants.{Whole, More, Nothing}
 use Rattle.office_wire.specs.HeadSize.{is_newline, head_size}
 use Rattle.office_wire.specs.Headers.{Header, is_coded, is_closing, size_given}
-use Rattle.office_wire.specs.Acts.{ask_in}
+use Rattle.office_wire.specs.Acts.{desk_ask}
 use Rattle.office_wire.specs.Routes.{route_of}
 
 -- ---- what is asked
@@ -39,15 +39,15 @@ body_ask (Some ask) = asked.Ask ask
 -- what an act with this length and this body asks
 abbrev pub act_ask : Option ℕ → List ℕ → OfficeAsk
 act_ask None body = asked.Bad bad.NoLength
-act_ask (Some size) body = body_ask (ask_in body)
+act_ask (Some size) body = body_ask (desk_ask body)
 
 -- what is asked at a route by a method, with this length and this body
-abbrev pub ask_at : Option Route → List ℕ → Option ℕ → List ℕ → OfficeAsk
-ask_at None method given body = asked.Bad bad.Path
-ask_at (Some route.Acts) method given body =
+abbrev pub office_ask : Option Route → List ℕ → Option ℕ → List ℕ → OfficeAsk
+office_ask None method given body = asked.Bad bad.Path
+office_ask (Some route.Acts) method given body =
     if bytes_eq method (codes "POST") then act_ask given body
     else asked.Bad (bad.Method true)
-ask_at (Some (route.Question question)) method given body =
+office_ask (Some (route.Question question)) method given body =
     if bytes_eq method (codes "GET") then asked.Ask (question_ask question)
     else asked.Bad (bad.Method false)
 
@@ -92,7 +92,7 @@ last_fault taken fault =
 abbrev pub whole_request : RequestHead → ℕ → Option ℕ → List ℕ → Frame
 whole_request head size given body = Whole (record {
   taken = size + length body;
-  what = ask_at (route_of head.target) head.method given body;
+  what = office_ask (route_of head.target) head.method given body;
   last = is_last head;
 })
 
@@ -128,20 +128,20 @@ frame_without_head bytes ended =
     else More)
 
 -- a head text and the bytes behind it
-abbrev pub IsFrameOf : List ℕ → List ℕ → Bool → Frame → Type 0
-IsFrameOf text rest ended frame =
+abbrev pub IsSplitFrame : List ℕ → List ℕ → Bool → Frame → Type 0
+IsSplitFrame text rest ended frame =
     (head : Option RequestHead) × IsHeadOf text head
     × (frame ≡ frame_by_head head (length text) rest ended)
 
 -- bytes whose head text has so many bytes, where they hold one
-abbrev pub IsFrameFrom : Option ℕ → List ℕ → Bool → Frame → Type 0
-IsFrameFrom None bytes ended frame = frame ≡ frame_without_head bytes ended
-IsFrameFrom (Some size) bytes ended frame =
-    IsFrameOf (take size bytes) (drop size bytes) ended frame
+abbrev pub IsFrameWithHead : Option ℕ → List ℕ → Bool → Frame → Type 0
+IsFrameWithHead None bytes ended frame = frame ≡ frame_without_head bytes ended
+IsFrameWithHead (Some size) bytes ended frame =
+    IsSplitFrame (take size bytes) (drop size bytes) ended frame
 
 -- what bytes begin with; a head text lies within the first 8 192 of them
 abbrev pub IsFrame : List ℕ → Bool → Frame → Type 0
-IsFrame bytes ended frame = IsFrameFrom (head_size (take MAX_HEAD bytes)) bytes ended frame
+IsFrame bytes ended frame = IsFrameWithHead (head_size (take MAX_HEAD bytes)) bytes ended frame
 
 -- ---- want of memory
 
@@ -167,9 +167,9 @@ MayFrame (Whole framed) told =
 MayFrame frame told = told ≡ frame
 
 -- a head text and the bytes behind it, as they may be told
-abbrev pub TellsFrameOf : List ℕ → List ℕ → Bool → Frame → Type 0
-TellsFrameOf text rest ended told =
-    (frame : Frame) × IsFrameOf text rest ended frame × MayFrame frame told
+abbrev pub TellsSplitFrame : List ℕ → List ℕ → Bool → Frame → Type 0
+TellsSplitFrame text rest ended told =
+    (frame : Frame) × IsSplitFrame text rest ended frame × MayFrame frame told
 
 -- what bytes begin with, as it may be told
 abbrev pub TellsFrame : List ℕ → Bool → Frame → Type 0
@@ -178,22 +178,22 @@ TellsFrame bytes ended told = (frame : Frame) × IsFrame bytes ended frame × Ma
 -- ---- want of memory for the routes
 
 -- what is asked may be told so with routes or without: without them, that there was no memory
-abbrev pub MayTellBy : Bool → OfficeAsk → OfficeAsk → Type 0
-MayTellBy routed meant told = MayTell meant told ⊎ ((routed ≡ false) × (told ≡ asked.NoMemory))
+abbrev pub MayTellRouted : Bool → OfficeAsk → OfficeAsk → Type 0
+MayTellRouted routed meant told = MayTell meant told ⊎ ((routed ≡ false) × (told ≡ asked.NoMemory))
 
 -- a frame may be told so with routes or without
-abbrev pub MayFrameBy : Bool → Frame → Frame → Type 0
-MayFrameBy routed (Whole framed) told =
-    (what : OfficeAsk) × MayTellBy routed framed.what what
+abbrev pub MayFrameRouted : Bool → Frame → Frame → Type 0
+MayFrameRouted routed (Whole framed) told =
+    (what : OfficeAsk) × MayTellRouted routed framed.what what
     × (told ≡ Whole (record framed { what = what }))
-MayFrameBy routed frame told = told ≡ frame
+MayFrameRouted routed frame told = told ≡ frame
 
 -- a head text and the bytes behind it, as they may be told with routes or without
-abbrev pub TellsFrameOfBy : Bool → List ℕ → List ℕ → Bool → Frame → Type 0
-TellsFrameOfBy routed text rest ended told =
-    (frame : Frame) × IsFrameOf text rest ended frame × MayFrameBy routed frame told
+abbrev pub TellsSplitRoutedFrame : Bool → List ℕ → List ℕ → Bool → Frame → Type 0
+TellsSplitRoutedFrame routed text rest ended told =
+    (frame : Frame) × IsSplitFrame text rest ended frame × MayFrameRouted routed frame told
 
 -- what bytes begin with, as it may be told with routes or without
-abbrev pub TellsFrameBy : Bool → List ℕ → Bool → Frame → Type 0
-TellsFrameBy routed bytes ended told =
-    (frame : Frame) × IsFrame bytes ended frame × MayFrameBy routed frame told
+abbrev pub TellsRoutedFrame : Bool → List ℕ → Bool → Frame → Type 0
+TellsRoutedFrame routed bytes ended told =
+    (frame : Frame) × IsFrame bytes ended frame × MayFrameRouted routed frame told

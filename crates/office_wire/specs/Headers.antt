@@ -31,12 +31,12 @@ abbrev pub gives_size : Header → Bool
 gives_size header = is_named (codes "content-length") header
 
 -- the length in a value: 1 to 10 digits
-abbrev pub size_in : List ℕ → Option ℕ
-size_in value = bounded_number 10 (10 ^ 10 - 1) value
+abbrev pub header_size : List ℕ → Option ℕ
+header_size value = bounded_number 10 (10 ^ 10 - 1) value
 
 -- what the first header that gives a length says
 abbrev pub first_size : List Header → Option (Option ℕ)
-first_size headers = option_map (λ header. size_in header.1) (find gives_size headers)
+first_size headers = option_map (λ header. header_size header.1) (find gives_size headers)
 
 -- just this length
 abbrev pub is_size : ℕ → Option ℕ → Bool
@@ -45,7 +45,7 @@ is_size size (Some given) = given == size
 
 -- a header gives this length, or none
 abbrev pub agrees : ℕ → Header → Bool
-agrees size header = not (gives_size header) || is_size size (size_in header.1)
+agrees size header = not (gives_size header) || is_size size (header_size header.1)
 
 -- the length of a body by what the first says, where all agree
 abbrev pub agreed_size : List Header → Option (Option ℕ) → Option (Option ℕ)

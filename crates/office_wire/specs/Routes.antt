@@ -62,12 +62,12 @@ detail_route word part detail =
     else None
 
 -- what is found at the segments of a path; before its first `/` there is nothing
-abbrev pub route_at : List (List ℕ) → Option Route
-route_at ([] ∷ word ∷ []) = word_route word
-route_at ([] ∷ word ∷ part ∷ []) = part_route word part
-route_at ([] ∷ word ∷ part ∷ detail ∷ []) = detail_route word part detail
-route_at _ = None
+abbrev pub segments_route : List (List ℕ) → Option Route
+segments_route ([] ∷ word ∷ []) = word_route word
+segments_route ([] ∷ word ∷ part ∷ []) = part_route word part
+segments_route ([] ∷ word ∷ part ∷ detail ∷ []) = detail_route word part detail
+segments_route _ = None
 
 -- what is found at a target
 abbrev pub route_of : List ℕ → Option Route
-route_of target = route_at (segments (path_of target))
+route_of target = segments_route (segments (path_of target))

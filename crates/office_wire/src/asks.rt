@@ -1,6 +1,6 @@
 ghost use Rattle.std.specs.Prelude.{◌≡◌, ℕ, List, Option, Some};
 ghost use Rattle.office_wire.specs.declared.types.Route.TheVariants as route;
-ghost use Rattle.office_wire.specs.Frames.{question_ask, act_ask, ask_at, MayTell};
+ghost use Rattle.office_wire.specs.Frames.{question_ask, act_ask, office_ask, MayTell};
 
 use crate::body::desk_ask;
 use crate::methods::is_method;
@@ -11,14 +11,14 @@ use std::alloc::Global;
 
 /// What is asked at a route by a method, with the length of the body where one is given. It takes
 /// memory for an act alone.
-pub fn ask_at(
+pub fn office_ask(
     alloc: Global,
     route: Option<Route>,
     method: &[u8],
     given: Option<usize>,
     body: &[u8],
 ) -> OfficeAsk
-    ensures { MayTell (ask_at route method.now given body.now) result }
+    ensures { MayTell (office_ask route method.now given body.now) result }
 {
     let Some(route) = route else {
         return OfficeAsk::Bad(Bad::Path);
@@ -31,7 +31,7 @@ pub fn ask_at(
 
 // What is asked where acts are posted.
 fn posted_ask(alloc: Global, method: &[u8], given: Option<usize>, body: &[u8]) -> OfficeAsk
-    ensures { MayTell (ask_at (Some route.Acts) method.now given body.now) result }
+    ensures { MayTell (office_ask (Some route.Acts) method.now given body.now) result }
 {
     if is_method(alloc, method, &Method::POST) {
         act_ask(alloc, given, body)
@@ -43,7 +43,7 @@ fn posted_ask(alloc: Global, method: &[u8], given: Option<usize>, body: &[u8]) -
 // What is asked where the answer to a question is got.
 fn got_ask(alloc: Global, method: &[u8], question: Question) -> OfficeAsk
     ensures { (given : Option ℕ) (body : List ℕ)
-        → result ≡ ask_at (Some (route.Question question)) method.now given body }
+        → result ≡ office_ask (Some (route.Question question)) method.now given body }
 {
     if is_method(alloc, method, &Method::GET) {
         OfficeAsk::Ask(question_ask(question))

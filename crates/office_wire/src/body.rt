@@ -1,5 +1,5 @@
 ghost use Rattle.std.specs.Prelude.{◌≡◌, IfOk};
-ghost use Rattle.office_wire.specs.Acts.{ask_in};
+ghost use Rattle.office_wire.specs.Acts.{desk_ask};
 
 use crate::acts::ask_of;
 use book_words::Ask;
@@ -9,7 +9,7 @@ use std::alloc::{AllocError, Global};
 /// What the body of a request asks for; `None` where it isn't an act of a desk. The error is want
 /// of memory.
 pub fn desk_ask(alloc: Global, body: &[u8]) -> Result<Option<Ask>, AllocError>
-    ensures { IfOk result (λ ask. ask ≡ ask_in body.now) }
+    ensures { IfOk result (λ ask. ask ≡ desk_ask body.now) }
 {
     let Ok(text) = str::from_utf8(body) else {
         return Ok(None);

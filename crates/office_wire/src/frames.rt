@@ -1,10 +1,10 @@
 ghost use Rattle.std.specs.Prelude.{◌≡◌, ◌≤◌, false, is_some, length, take};
 ghost use Rattle.httparse.specs.Grammar.{RequestHead};
-ghost use Rattle.office_wire.specs.Frames.{frame_at_end, frame_by_size, frame_without_head, last_fault, part_of_body, whole_request, ask_at, MayTellBy, MayFrameBy, TellsFrame, TellsFrameBy, TellsFrameOfBy};
+ghost use Rattle.office_wire.specs.Frames.{frame_at_end, frame_by_size, frame_without_head, last_fault, part_of_body, whole_request, office_ask, MayTellRouted, MayFrameRouted, TellsFrame, TellsRoutedFrame, TellsSplitRoutedFrame};
 ghost use Rattle.office_wire.specs.HeadParts.{Says};
 ghost use Rattle.office_wire.specs.Routes.{route_of};
 
-use crate::asks::ask_at;
+use crate::asks::office_ask;
 use crate::head_size::{are_newlines, head_size};
 use crate::limits::MAX_HEAD;
 use crate::request_heads::{Said, read_head};
@@ -17,30 +17,30 @@ use std::alloc::Global;
 /// its first fault of form. `ended` says that the input has no more bytes. It makes the routes of
 /// the office, which take memory; where there is none, this is what is told in place of an ask.
 pub fn frame(alloc: Global, buffer: &[u8], ended: bool) -> Frame
-    ensures { TellsFrameBy false buffer.now ended result }
+    ensures { TellsRoutedFrame false buffer.now ended result }
 {
     match Routes::new(alloc) {
-        Ok(routes) => frame_by(Some(&routes), alloc, buffer, ended),
-        Err(_) => frame_by(None, alloc, buffer, ended),
+        Ok(routes) => frame_if_routed(Some(&routes), alloc, buffer, ended),
+        Err(_) => frame_if_routed(None, alloc, buffer, ended),
     }
 }
 
 /// The same with routes that are there. It takes memory for the body of an act, and for a method of
 /// more than 15 bytes, which needn't be there.
-pub fn frame_with(routes: &Routes, alloc: Global, buffer: &[u8], ended: bool) -> Frame
+pub fn frame_with_routes(routes: &Routes, alloc: Global, buffer: &[u8], ended: bool) -> Frame
     ensures { TellsFrame buffer.now ended result }
 {
-    frame_by(Some(routes), alloc, buffer, ended)
+    frame_if_routed(Some(routes), alloc, buffer, ended)
 }
 
 // What bytes begin with, by the routes of the office, where there was memory for them.
-fn frame_by(routes: Option<&Routes>, alloc: Global, buffer: &[u8], ended: bool) -> Frame
-    ensures { TellsFrameBy (is_some routes.entry) buffer.now ended result }
+fn frame_if_routed(routes: Option<&Routes>, alloc: Global, buffer: &[u8], ended: bool) -> Frame
+    ensures { TellsRoutedFrame (is_some routes.entry) buffer.now ended result }
 {
     match head_size(first_bytes(buffer)) {
         Some(size) => {
             let (text, rest) = buffer.split_at(size);
-            frame_of(routes, alloc, text, rest, ended)
+            split_frame(routes, alloc, text, rest, ended)
         }
         None => frame_without_head(buffer, ended),
     }
@@ -92,9 +92,15 @@ fn last_fault(taken: usize, fault: Bad) -> Frame
 }
 
 // What a head text and the bytes behind it are.
-fn frame_of(routes: Option<&Routes>, alloc: Global, text: &[u8], rest: &[u8], ended: bool) -> Frame
+fn split_frame(
+    routes: Option<&Routes>,
+    alloc: Global,
+    text: &[u8],
+    rest: &[u8],
+    ended: bool,
+) -> Frame
     requires { length text.now ≤ MAX_HEAD }
-    ensures { TellsFrameOfBy (is_some routes.entry) text.now rest.now ended result }
+    ensures { TellsSplitRoutedFrame (is_some routes.entry) text.now rest.now ended result }
 {
     match read_head(text) {
         Some(said) => frame_by_size(routes, alloc, &said, text.len(), rest, ended),
@@ -113,7 +119,7 @@ fn frame_by_size(
 ) -> Frame
     requires { size ≤ MAX_HEAD }
     ensures { (head : RequestHead) → Says said.now head
-        → MayFrameBy (is_some routes.entry) (frame_by_size said.now.size head size rest.now ended) result }
+        → MayFrameRouted (is_some routes.entry) (frame_by_size said.now.size head size rest.now ended) result }
 {
     match said.size {
         Err(fault) => last_fault(size, fault),
@@ -136,7 +142,7 @@ fn whole_request(
 ) -> Frame
     requires { size ≤ MAX_HEAD }
     ensures { (head : RequestHead) → Says said.now head
-        → MayFrameBy (is_some routes.entry) (whole_request head size given body.now) result }
+        → MayFrameRouted (is_some routes.entry) (whole_request head size given body.now) result }
 {
     Frame::Whole(Framed {
         taken: size + body.len(),
@@ -153,13 +159,13 @@ fn asked(
     given: Option<usize>,
     body: &[u8],
 ) -> OfficeAsk
-    ensures { MayTellBy (is_some routes.entry)
-        (ask_at (route_of said.now.target.now) said.now.method.now given body.now) result }
+    ensures { MayTellRouted (is_some routes.entry)
+        (office_ask (route_of said.now.target.now) said.now.method.now given body.now) result }
 {
     match routes {
         Some(routes) => {
             let route = route_of(routes, said.target);
-            ask_at(alloc, route, said.method, given, body)
+            office_ask(alloc, route, said.method, given, body)
         }
         None => OfficeAsk::NoMemory,
     }

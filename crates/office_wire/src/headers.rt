@@ -1,7 +1,7 @@
 ghost use Rattle.std.specs.Prelude.{◌≡◌, All, length, map};
 ghost use Rattle.std.specs.List.{list_all};
 ghost use Rattle.httparse.specs.Spans.{IsHeaderWithin, header_bytes};
-ghost use Rattle.office_wire.specs.Headers.{is_named, is_coded, ends_connection, is_closing, size_in, first_size, agrees, size_given};
+ghost use Rattle.office_wire.specs.Headers.{is_named, is_coded, ends_connection, is_closing, header_size, first_size, agrees, size_given};
 
 use hall_units::read_bounded;
 use httparse::spans::HeaderSpan;
@@ -59,7 +59,7 @@ fn first_size(text: &[u8], headers: &[HeaderSpan]) -> Option<Option<u64>>
 {
     for header in headers {
         if is_named(text, header, b"content-length") {
-            return Some(size_in(text, header));
+            return Some(header_size(text, header));
         }
     }
     None
@@ -71,7 +71,7 @@ fn all_agree(text: &[u8], headers: &[HeaderSpan], size: u64) -> bool
     ensures { result ≡ list_all (agrees size) (map (header_bytes text.now) headers.now) }
 {
     for header in headers {
-        if is_named(text, header, b"content-length") && size_in(text, header) != Some(size) {
+        if is_named(text, header, b"content-length") && header_size(text, header) != Some(size) {
             return false;
         }
     }
@@ -95,9 +95,9 @@ fn ends_connection(text: &[u8], header: &HeaderSpan) -> bool
 }
 
 // The length in the value of a header.
-fn size_in(text: &[u8], header: &HeaderSpan) -> Option<u64>
+fn header_size(text: &[u8], header: &HeaderSpan) -> Option<u64>
     requires { IsHeaderWithin (length text.now) header.now }
-    ensures { result ≡ size_in (header_bytes text.now header.now).1 }
+    ensures { result ≡ header_size (header_bytes text.now header.now).1 }
 {
     read_bounded(SIZE_DIGITS, MAX_SIZE, header.value.of(text))
 }

@@ -20,7 +20,7 @@ mod routes;
 mod types;
 
 pub use body::desk_ask;
-pub use frames::{frame, frame_with};
+pub use frames::{frame, frame_with_routes};
 pub use limits::{MAX_BODY, MAX_HEAD, MAX_HEADERS, REQUEST_ROOM};
 pub use office_routes::Routes;
 pub use replies::{REPLY_ROOM, bad_into, reply_into};

@@ -1,6 +1,6 @@
 use book_words::{Act, Ask, Name, Question, Unit, Want};
 use office_wire::{
-    Bad, Frame, Framed, MAX_HEAD, MAX_HEADERS, OfficeAsk, Routes, frame, frame_with,
+    Bad, Frame, Framed, MAX_HEAD, MAX_HEADERS, OfficeAsk, Routes, frame, frame_with_routes,
 };
 use std::alloc::{AllocError, Global};
 use std::fmt;
@@ -184,7 +184,7 @@ fn question(taken: usize, question: Question, last: bool) -> Frame {
 // The first request of the table whose fault isn't told so.
 fn wrong_fault(routes: &Routes, alloc: Global) -> Option<&'static [u8]> {
     for (bytes, bad, last) in &FAULTS {
-        if frame_with(routes, alloc, bytes, false) != fault(bytes.len(), *bad, *last) {
+        if frame_with_routes(routes, alloc, bytes, false) != fault(bytes.len(), *bad, *last) {
             return Some(bytes);
         }
     }
@@ -195,7 +195,7 @@ fn wrong_fault(routes: &Routes, alloc: Global) -> Option<&'static [u8]> {
 fn wrong_last(routes: &Routes, alloc: Global) -> Option<&'static [u8]> {
     for (bytes, last) in &LASTS {
         let asked = question(bytes.len(), Question::Summary, *last);
-        if frame_with(routes, alloc, bytes, false) != asked {
+        if frame_with_routes(routes, alloc, bytes, false) != asked {
             return Some(bytes);
         }
     }
@@ -234,7 +234,7 @@ Accept: */*\r\n\r\n",
         ),
     ];
     for (bytes, asked) in &rows {
-        if frame_with(routes, alloc, bytes, true) != question(bytes.len(), *asked, false) {
+        if frame_with_routes(routes, alloc, bytes, true) != question(bytes.len(), *asked, false) {
             return Some(bytes);
         }
     }
@@ -256,8 +256,8 @@ fn cut_post(size: usize) -> Frame {
 fn wrong_cut(routes: &Routes, alloc: Global) -> Option<usize> {
     for size in 0..POST.len() {
         let part = POST.split_at(size).0;
-        let cut = frame_with(routes, alloc, part, true);
-        if frame_with(routes, alloc, part, false) != Frame::More || cut != cut_post(size) {
+        let cut = frame_with_routes(routes, alloc, part, true);
+        if frame_with_routes(routes, alloc, part, false) != Frame::More || cut != cut_post(size) {
             return Some(size);
         }
     }

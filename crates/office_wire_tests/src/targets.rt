@@ -1,5 +1,5 @@
 use book_words::{Ask, Name, Question, Want};
-use office_wire::{Bad, Frame, OfficeAsk, Routes, frame_with};
+use office_wire::{Bad, Frame, OfficeAsk, Routes, frame_with_routes};
 use std::alloc::{AllocError, Global};
 use std::test::Fail;
 
@@ -70,7 +70,7 @@ fn asked(
     target: &[u8],
 ) -> Result<Option<OfficeAsk>, AllocError> {
     let bytes = request(alloc, method, target)?;
-    match frame_with(routes, alloc, &bytes, false) {
+    match frame_with_routes(routes, alloc, &bytes, false) {
         Frame::Whole(framed) if framed.taken == bytes.len() && !framed.last => {
             Ok(Some(framed.what))
         }

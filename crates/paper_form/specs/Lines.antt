@@ -242,8 +242,8 @@ abbrev pub verdict_line : List (List ℕ) → Option lines.Line
 verdict_line fields = option_map (λ verdict. line.Verdict verdict) (verdict_in fields)
 
 -- the line of a first word and the other fields
-abbrev pub line_by : List ℕ → List (List ℕ) → Option lines.Line
-line_by word others =
+abbrev pub fields_line : List ℕ → List (List ℕ) → Option lines.Line
+fields_line word others =
     if bytes_eq word (codes "first") then first_line others
     else (if bytes_eq word (codes "pack") then pack_line others
     else (if bytes_eq word (codes "tare") then tare_line others
@@ -258,7 +258,7 @@ line_by word others =
 -- the line of some fields
 abbrev pub line_of_fields : List (List ℕ) → Option lines.Line
 line_of_fields [] = None
-line_of_fields (word ∷ others) = line_by word others
+line_of_fields (word ∷ others) = fields_line word others
 
 -- what a line says, which comes without its LF
 abbrev pub line_of : List ℕ → Option lines.Line

@@ -1,6 +1,6 @@
 ghost use Rattle.std.specs.Prelude.{◌≡◌, true, IfSome};
 ghost use Rattle.paper_form.specs.Ranges.{is_line_in_range};
-ghost use Rattle.paper_form.specs.Lines.{fields_left, title_line, goods_line, tare_line, pack_line, mode_line, word_line, line_by, line_of};
+ghost use Rattle.paper_form.specs.Lines.{fields_left, title_line, goods_line, tare_line, pack_line, mode_line, word_line, fields_line, line_of};
 
 use crate::fields::{first_field, last_labelled, next_field, only_field};
 use crate::goods::read_goods;
@@ -74,7 +74,7 @@ fn read_word(left: &[u8]) -> Option<Line>
 
 // The line of a first word and what is left of the line behind it.
 fn read_behind(word: &[u8], left: &[u8]) -> Option<Line>
-    ensures value { result ≡ line_by word.now (fields_left left.now) }
+    ensures value { result ≡ fields_line word.now (fields_left left.now) }
     ensures range { IfSome result (λ line. is_line_in_range line ≡ true) }
 {
     if word == b"first".as_slice() {

@@ -8,7 +8,7 @@ use Rattle.device_facts.specs.Prefix.{IsPrefixOf}
 use Rattle.remote_cell.specs.declared.items.Item.{Item}
 use Rattle.remote_cell.specs.declared.receiver.Heard.{Heard}
 use Rattle.remote_cell.specs.declared.receiver.Heard.TheVariants.{Take, Again, Ahead}
-use Rattle.remote_cell.specs.Exchanges.{Line, heard, taken_of, acknowledgements, said_by, is_said, Event, Says, LineArrives, AcknowledgementArrives, Exchange, begun, with_said, with_line, with_acknowledgement, with_event, exchanged_from, exchanged, IsFaithful}
+use Rattle.remote_cell.specs.Exchanges.{Line, heard, heard_items, acknowledgements, said_by, is_said, Event, Says, LineArrives, AcknowledgementArrives, Exchange, begun, with_said, with_line, with_acknowledgement, with_event, exchanged_from, exchanged, IsFaithful}
 
 -- ---- lists
 
@@ -125,7 +125,7 @@ sent_more Ahead was now sent grows all =
 -- the items taken are the first ones still
 taken_more : (items taken : List Item) (line : Line) (how : Heard) → IsLineOf items line
     → heard (length taken) line.0 ≡ how → IsPrefixOf taken items
-    → IsPrefixOf (taken ++ taken_of how line.1) items
+    → IsPrefixOf (taken ++ heard_items how line.1) items
 taken_more items taken line Take of is begins =
     let next : length taken ≡ of.place =
     omega (arith, is_take (length taken) line.0 is, of.number) in
@@ -140,7 +140,7 @@ holds_heard : (items : List Item) (x : Exchange) (line : Line) → IsLineOf item
     → Holds items x → Holds items (with_line x (Some line))
 holds_heard items x line of holds =
     let how : Heard = heard (length x.taken) line.0 in
-    let more : List Item = taken_of how line.1 in
+    let more : List Item = heard_items how line.1 in
     let grows : length x.taken ≤ length (x.taken ++ more) =
     omega (arith, length-append x.taken more) in
     record {

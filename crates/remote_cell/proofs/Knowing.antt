@@ -16,10 +16,10 @@ use Rattle.remote_cell.specs.declared.receiver.Heard as hears
 use Rattle.remote_cell.specs.declared.receiver.Heard.TheVariants.{Take, Again, Ahead}
 use Rattle.remote_cell.specs.declared.hearing.Hearing.{Hearing}
 use Rattle.remote_cell.specs.declared.wire_lines.TheConstants.{MAX_LINE}
-use Rattle.remote_cell.specs.Exchanges.{Line, heard, taken_of, taken_behind, acknowledgements}
+use Rattle.remote_cell.specs.Exchanges.{Line, heard, heard_items, line_items, acknowledgements}
 use Rattle.remote_cell.specs.Lines.{has_end, whole_lines, part_of}
 use Rattle.remote_cell.specs.WireLines.{line_said, acknowledgement}
-use Rattle.remote_cell.specs.Told.{IsGood, IsGoodLine, texts_on, lines_on, given_on, acknowledged_behind, acknowledged_on, AreAnswered, is_done, undone, those_left, left_undone, silent, numbered, owed, IsPresent, Knows}
+use Rattle.remote_cell.specs.Told.{IsGood, IsGoodLine, texts_on, lines_on, given_items, line_acknowledgements, connection_acknowledgements, AreAnswered, is_done, undone, those_left, left_undone, silent, numbered, owed, IsPresent, Knows}
 use Rattle.remote_cell.specs.Heard.{HasTaken, EndsWith, LastSays, Tells, items_of}
 use Rattle.remote_cell.specs.Steps.{IsSent, bad_behind, spoilt, heard_line, item_given, heard_text, item_heard}
 use Rattle.remote_cell.proofs.ExchangeLaw.{is_take}
@@ -32,7 +32,7 @@ all_of p present w = record { past = p; present = present; waiting = w }
 
 -- how many items were taken on the connections before the present one
 abbrev before : List Connection → ℕ
-before p = length (given_on p)
+before p = length (given_items p)
 
 never : {P : Type 0} (b : Bool) → b ≡ true → b ≡ false → P
 never b yes_is no_is = absurd (true≢false (sym yes_is ∙ no_is))
@@ -53,12 +53,12 @@ lines_more c d texts is =
     ap (filter_map line_said) is ∙ filter_map-append line_said (whole_lines c.taken) texts
 
 given_step : (p : List Connection) (c d : Connection) (given : List Item)
-    → taken_behind (before p) (lines_on d) ≡ taken_behind (before p) (lines_on c) ++ given
-    → given_on (p ++ d ∷ []) ≡ given_on (p ++ c ∷ []) ++ given
+    → line_items (before p) (lines_on d) ≡ line_items (before p) (lines_on c) ++ given
+    → given_items (p ++ d ∷ []) ≡ given_items (p ++ c ∷ []) ++ given
 given_step p c d given is =
     given_more p d
-    ∙ ap (λ (l : List Item). given_on p ++ l) is
-    ∙ sym (append_assoc (given_on p) (taken_behind (before p) (lines_on c)) given)
+    ∙ ap (λ (l : List Item). given_items p ++ l) is
+    ∙ sym (append_assoc (given_items p) (line_items (before p) (lines_on c)) given)
     ∙ ap (λ (l : List Item). l ++ given) (sym (given_more p c))
 
 texts_step : (p : List Connection) (c d : Connection) (texts : List (List ℕ))
@@ -73,7 +73,7 @@ texts_step p c d texts is =
 taken_step : (now : Bool) (p : List Connection) (c d : Connection) (w : List (List ℕ))
     (given : List Item) (texts : List (List ℕ)) (turns faults : ℕ) → turns ≡ length texts
     → whole_lines d.taken ≡ whole_lines c.taken ++ texts
-    → taken_behind (before p) (lines_on d) ≡ taken_behind (before p) (lines_on c) ++ given
+    → line_items (before p) (lines_on d) ≡ line_items (before p) (lines_on c) ++ given
     → left_undone now (all_of p (Some d) w) ≤ undone 0 p + faults
     → length p + faults ≤ length (those_left now (all_of p (Some d) w))
     → HasTaken true now given turns faults (all_of p (Some c) w) (all_of p (Some d) w)
@@ -103,8 +103,8 @@ same_step : (now : Bool) (p : List Connection) (c d : Connection) (w : List (Lis
     → HasTaken true now [] 0 faults (all_of p (Some c) w) (all_of p (Some d) w)
 same_step now p c d w faults same few leave =
     taken_step now p c d w [] [] 0 faults refl (same ∙ sym (append-nil (whole_lines c.taken)))
-    (ap (taken_behind (before p)) (same_lines c d same)
-    ∙ sym (append-nil (taken_behind (before p) (lines_on c)))) few leave
+    (ap (line_items (before p)) (same_lines c d same)
+    ∙ sym (append-nil (line_items (before p) (lines_on c)))) few leave
 
 -- the connection that was present was left undone, or will be
 left_one : (p : List Connection) (d : Connection) (w : List (List ℕ))
@@ -130,8 +130,8 @@ knows_same : (h k : Hearing) (p : List Connection) (c d : Connection) (w : List 
     → Knows h (all_of p (Some c) w) → IsPresent k (before p) d → Knows k (all_of p (Some d) w)
 knows_same h k p c d w same taken on knows present =
     let step = same_step true p c d w 0 same (kept_one p d w 0) (kept_none p d w) in
-    let given : given_on (p ++ d ∷ []) ≡ given_on (p ++ c ∷ []) =
-    step.given_is ∙ append-nil (given_on (p ++ c ∷ [])) in
+    let given : given_items (p ++ d ∷ []) ≡ given_items (p ++ c ∷ []) =
+    step.given_is ∙ append-nil (given_items (p ++ c ∷ [])) in
     let texts : texts_on (p ++ d ∷ []) ≡ texts_on (p ++ c ∷ []) =
     texts_step p c d [] (same ∙ sym (append-nil (whole_lines c.taken)))
     ∙ append-nil (texts_on (p ++ c ∷ [])) in
@@ -159,7 +159,7 @@ written_good : (bytes : List ℕ) (c : Connection) → IsGood c → IsGood (add_
 written_good bytes c good = record { lines = good.lines; part = good.part }
 
 whole_written : (h : Hearing) (taken : ℕ) (c : Connection) → h.owes ≡ true → h.connected ≡ true
-    → IsPresent h taken c → c.written ++ acknowledgement h.receiver ≡ acknowledged_on taken c
+    → IsPresent h taken c → c.written ++ acknowledgement h.receiver ≡ connection_acknowledgements taken c
 whole_written h taken c owes connected on =
     ap (λ (b : Bool). c.written ++ cond b (acknowledgement h.receiver) []) (sym owes)
     ∙ on.answered connected
@@ -186,7 +186,7 @@ writes h p None w bytes result owes connected sent knows =
 writes h p (Some c) w bytes (Ok done) owes connected sent knows =
     let on : IsPresent h (before p) c = knows.present in
     let d : Connection = add_written bytes c in
-    let whole : c.written ++ bytes ≡ acknowledged_on (before p) c =
+    let whole : c.written ++ bytes ≡ connection_acknowledgements (before p) c =
     ap (λ (l : List ℕ). c.written ++ l) sent ∙ whole_written h (before p) c owes connected on in (
       knows_same h (paid h true) p c d w refl refl (λ is. (refl, is)) knows (record {
         begins = ([], sym whole ∙ sym (append-nil (c.written ++ bytes)));
@@ -202,7 +202,7 @@ writes h p (Some c) w bytes (Err error) owes connected sent knows =
     let whole = whole_written h (before p) c owes connected on in (
       knows_same h (paid h false) p c d w refl refl (λ is. (refl, is)) knows (record {
         begins = part_begins c.written bytes (acknowledgement h.receiver)
-            (acknowledged_on (before p) c) sent.0 whole sent.2;
+            (connection_acknowledgements (before p) c) sent.0 whole sent.2;
         answered = λ is. absurd (true≢false (sym is));
         good = λ is. written_good bytes c (on.good is);
         at_line = λ over is. absurd (true≢false (sym is));
@@ -232,7 +232,7 @@ abbrev pub leaving : Hearing → Hearing
 leaving h = record h { connected = false }
 
 unpaid : (h : Hearing) (taken : ℕ) (c : Connection) → h.owes ≡ false → h.connected ≡ true
-    → IsPresent h taken c → c.written ≡ acknowledged_on taken c
+    → IsPresent h taken c → c.written ≡ connection_acknowledgements taken c
 unpaid h taken c owes connected on =
     sym (append-nil c.written)
     ∙ ap (λ (b : Bool). c.written ++ cond b (acknowledgement h.receiver) []) (sym owes)
@@ -251,8 +251,8 @@ part_good c line plain few at good =
 
 -- an acknowledged connection is acknowledged still
 same_answered : (taken : ℕ) (c d : Connection) → whole_lines d.taken ≡ whole_lines c.taken
-    → acknowledged_on taken d ≡ acknowledged_on taken c
-same_answered taken c d same = ap (acknowledged_behind taken) (same_lines c d same)
+    → connection_acknowledgements taken d ≡ connection_acknowledgements taken c
+same_answered taken c d same = ap (line_acknowledgements taken) (same_lines c d same)
 
 present_same : (h k : Hearing) (taken : ℕ) (c d : Connection)
     → whole_lines d.taken ≡ whole_lines c.taken → d.written ≡ c.written → owed k ≡ owed h
@@ -273,7 +273,7 @@ present_same h k taken c d same written owes connected good at on =
     }
 
 done_is : (n : ℕ) (d : Connection) → length d.left ≡ 0
-    → length d.written ≡ length (acknowledged_on n d) → is_done n d ≡ true
+    → length d.written ≡ length (connection_acknowledgements n d) → is_done n d ≡ true
 done_is n d left written = grind (arith, nat_tests, left, written)
 
 -- so many reads failed where a line was cut
@@ -281,7 +281,7 @@ abbrev pub Cuts : Connections → ℕ → Type 0
 Cuts all faults = ((left_now all ≡ []) × (faults ≡ 0)) ⊎ (faults ≡ 1)
 
 cut_few : (p : List Connection) (d : Connection) (w : List (List ℕ)) (faults : ℕ)
-    → d.written ≡ acknowledged_on (before p) d → Cuts (all_of p (Some d) w) faults
+    → d.written ≡ connection_acknowledgements (before p) d → Cuts (all_of p (Some d) w) faults
     → left_undone false (all_of p (Some d) w) ≤ undone 0 p + faults
 cut_few p d w faults written (inl ended) =
     let is = done_is (before p) d (ap length ended.0) (ap length written) in
@@ -360,12 +360,12 @@ may_items (Some item) = items_of item
 
 -- what is known behind a line that was heard so
 record HeardLine (h : Hearing) (how : hears.Heard) (item : Item) : Type 0 where
-  taken : (heard_line h how item).receiver ≡ h.receiver + length (taken_of how item)
+  taken : (heard_line h how item).receiver ≡ h.receiver + length (heard_items how item)
   lines : (heard_line h how item).lines ≡ next_line h.lines
   connected : (heard_line h how item).connected ≡ h.connected
   owes : owed (heard_line h how item)
-      ≡ flat_map acknowledgement (acknowledgements how (h.receiver + length (taken_of how item)))
-  gives : may_items (item_given how item) ≡ taken_of how item
+      ≡ flat_map acknowledgement (acknowledgements how (h.receiver + length (heard_items how item)))
+  gives : may_items (item_given how item) ≡ heard_items how item
 
 owes_one : (n m : ℕ) → n ≡ m → acknowledgement n ≡ acknowledgement m ++ []
 owes_one n m is = sym (append-nil (acknowledgement n))
@@ -436,7 +436,7 @@ says_line : (h : Hearing) (p : List Connection) (c : Connection) (w : List (List
     → length text ≤ MAX_LINE → Knows h (all_of p (Some c) w)
     → (k : Hearing) → k ≡ heard_line h (heard h.receiver number) item
     → Knows k (all_of p (Some (add_taken (text ++ 10 ∷ []) c)) w)
-    × HasTaken true true (taken_of (heard h.receiver number) item) 1 0 (all_of p (Some c) w)
+    × HasTaken true true (heard_items (heard h.receiver number) item) 1 0 (all_of p (Some c) w)
     (all_of p (Some (add_taken (text ++ 10 ∷ []) c)) w)
 says_line h p c w text number item said over owes connected plain few knows k is =
     let on : IsPresent h (before p) c = knows.present in
@@ -449,29 +449,29 @@ says_line h p c w text number item said over owes connected plain few knows k is
     let lines : lines_on d ≡ lines_on c ++ line ∷ [] =
     lines_more c d (text ∷ []) texts
     ∙ ap (λ (o : Option Line). lines_on c ++ cons_option o []) said in
-    let taken : h.receiver ≡ before p + length (taken_behind (before p) (lines_on c)) =
+    let taken : h.receiver ≡ before p + length (line_items (before p) (lines_on c)) =
     knows.taken_is ∙ ap length (given_more p c)
-    ∙ length-append (given_on p) (taken_behind (before p) (lines_on c)) in
-    let given : taken_behind (before p) (lines_on d)
-    ≡ taken_behind (before p) (lines_on c) ++ taken_of how item =
-    ap (taken_behind (before p)) lines
+    ∙ length-append (given_items p) (line_items (before p) (lines_on c)) in
+    let given : line_items (before p) (lines_on d)
+    ≡ line_items (before p) (lines_on c) ++ heard_items how item =
+    ap (line_items (before p)) lines
     ∙ one_given (before p) h.receiver (lines_on c) line taken in
-    let answers : acknowledged_on (before p) d ≡ acknowledged_on (before p) c
-    ++ flat_map acknowledgement (acknowledgements how (h.receiver + length (taken_of how item))) =
-    ap (acknowledged_behind (before p)) lines
+    let answers : connection_acknowledgements (before p) d ≡ connection_acknowledgements (before p) c
+    ++ flat_map acknowledgement (acknowledgements how (h.receiver + length (heard_items how item))) =
+    ap (line_acknowledgements (before p)) lines
     ∙ one_acknowledged (before p) h.receiver (lines_on c) line taken in
-    let step : HasTaken true true (taken_of how item) 1 0 (all_of p (Some c) w)
-    (all_of p (Some d) w) = taken_step true p c d w (taken_of how item) (text ∷ []) 1 0 refl texts
+    let step : HasTaken true true (heard_items how item) 1 0 (all_of p (Some c) w)
+    (all_of p (Some d) w) = taken_step true p c d w (heard_items how item) (text ∷ []) 1 0 refl texts
     given (kept_one p d w 0) (kept_none p d w) in
     let behind : owed k ≡ flat_map acknowledgement (acknowledgements how
-    (h.receiver + length (taken_of how item))) = ap owed is ∙ known.owes in
-    let whole : c.written ++ owed k ≡ acknowledged_on (before p) d =
+    (h.receiver + length (heard_items how item))) = ap owed is ∙ known.owes in
+    let whole : c.written ++ owed k ≡ connection_acknowledgements (before p) d =
     ap (λ (l : List ℕ). l ++ owed k) (unpaid h (before p) c owes connected on)
-    ∙ ap (λ (l : List ℕ). acknowledged_on (before p) c ++ l) behind ∙ sym answers in (
+    ∙ ap (λ (l : List ℕ). connection_acknowledgements (before p) c ++ l) behind ∙ sym answers in (
       record {
         taken_is = ap (λ (x : Hearing). x.receiver) is ∙ known.taken
-            ∙ ap (λ (n : ℕ). n + length (taken_of how item)) knows.taken_is
-            ∙ sym (length-append (given_on (p ++ c ∷ [])) (taken_of how item))
+            ∙ ap (λ (n : ℕ). n + length (heard_items how item)) knows.taken_is
+            ∙ sym (length-append (given_items (p ++ c ∷ [])) (heard_items how item))
             ∙ ap length (sym step.given_is);
         lines_are = λ still. omega (
           arith,
@@ -511,17 +511,17 @@ says_nothing h p c w text said over connected plain knows =
     lines_more c d (text ∷ []) texts
     ∙ ap (λ (o : Option Line). lines_on c ++ cons_option o []) said
     ∙ append-nil (lines_on c) in
-    let given : taken_behind (before p) (lines_on d)
-    ≡ taken_behind (before p) (lines_on c) ++ [] =
-    ap (taken_behind (before p)) lines
-    ∙ sym (append-nil (taken_behind (before p) (lines_on c))) in
-    let answers : acknowledged_on (before p) d ≡ acknowledged_on (before p) c =
-    ap (acknowledged_behind (before p)) lines in
+    let given : line_items (before p) (lines_on d)
+    ≡ line_items (before p) (lines_on c) ++ [] =
+    ap (line_items (before p)) lines
+    ∙ sym (append-nil (line_items (before p) (lines_on c))) in
+    let answers : connection_acknowledgements (before p) d ≡ connection_acknowledgements (before p) c =
+    ap (line_acknowledgements (before p)) lines in
     let step : HasTaken true true [] 1 0 (all_of p (Some c) w) (all_of p (Some d) w) =
     taken_step true p c d w [] (text ∷ []) 1 0 refl texts given (kept_one p d w 0) (kept_none p d w) in (
       record {
         taken_is = knows.taken_is
-            ∙ ap length (sym (step.given_is ∙ append-nil (given_on (p ++ c ∷ []))));
+            ∙ ap length (sym (step.given_is ∙ append-nil (given_items (p ++ c ∷ []))));
         lines_are = λ is. over_none (bad_behind h) is;
         answered = knows.answered;
         good = λ is. over_none (bad_behind h) is;
@@ -618,7 +618,7 @@ joins h all bytes others waits over owes knows next is =
     let same : next ≡ all_of s (Some new) others =
     is ∙ ap (λ (ws : List (List ℕ)).
     next_connections (record { past = all.past; present = all.present; waiting = ws })) waits in
-    let given : given_on (s ++ new ∷ []) ≡ given_on s ++ [] = given_more s new in
+    let given : given_items (s ++ new ∷ []) ≡ given_items s ++ [] = given_more s new in
     let texts : texts_on (s ++ new ∷ []) ≡ texts_on s ++ [] = texts_more s new in
     let nothing : owed (joining h) ≡ [] =
     ap (λ (b : Bool). cond b (acknowledgement h.receiver) []) owes in
@@ -626,7 +626,7 @@ joins h all bytes others waits over owes knows next is =
     (sym same) (
       record {
         taken_is = knows.taken_is
-            ∙ ap length (sym (given ∙ append-nil (given_on s)));
+            ∙ ap length (sym (given ∙ append-nil (given_items s)));
         lines_are = λ still. knows.lines_are still
             ∙ ap (λ (l : List (List ℕ)). numbered (length l))
             (sym (texts ∙ append-nil (texts_on s)));
@@ -666,7 +666,7 @@ ends h all waits connected over knows next is =
     subst (λ (x : Connections). Knows (spoilt h) x × Tells h.receiver (bad_behind h) x
     × HasTaken false false [] 0 0 all x) (sym same) (
       record {
-        taken_is = knows.taken_is ∙ ap (λ (l : List Connection). length (given_on l)) (sym still);
+        taken_is = knows.taken_is ∙ ap (λ (l : List Connection). length (given_items l)) (sym still);
         lines_are = λ none. over_none (bad_behind h) none;
         answered = all_answered h all.past all.present all.waiting knows;
         good = λ none. over_none (bad_behind h) none;
@@ -681,7 +681,7 @@ ends h all waits connected over knows next is =
         ),
       )),
       record {
-        given_is = ap given_on still ∙ sym (append-nil (given_on s));
+        given_is = ap given_items still ∙ sym (append-nil (given_items s));
         turns_are = omega (
           arith,
           ap (λ (l : List Connection). length (texts_on l)) still,
@@ -696,7 +696,7 @@ ends h all waits connected over knows next is =
 pub none_taken : (connected : Bool) (all : Connections)
     → HasTaken connected connected [] 0 0 all all
 none_taken connected all = record {
-  given_is = sym (append-nil (given_on (served all)));
+  given_is = sym (append-nil (given_items (served all)));
   turns_are = omega arith;
   undone_few = omega arith;
   faults_leave = omega arith;

@@ -5,77 +5,77 @@ use Rattle.std.proofs.lemmas.Grind.{flat_map-append}
 use Rattle.device_facts.specs.Prefix.{IsPrefixOf}
 use Rattle.disk_core.specs.Doors.{Connection}
 use Rattle.remote_cell.specs.declared.items.Item.{Item}
-use Rattle.remote_cell.specs.Exchanges.{Line, heard, taken_of, taken_behind, acknowledgements}
+use Rattle.remote_cell.specs.Exchanges.{Line, heard, heard_items, line_items, acknowledgements}
 use Rattle.remote_cell.specs.Lines.{whole_lines}
 use Rattle.remote_cell.specs.WireLines.{acknowledgement}
-use Rattle.remote_cell.specs.Told.{texts_on, lines_on, given_on, acknowledged_behind, acknowledged_on, AreAnswered, is_done, undone}
+use Rattle.remote_cell.specs.Told.{texts_on, lines_on, given_items, line_acknowledgements, connection_acknowledgements, AreAnswered, is_done, undone}
 
 -- how many are taken behind lines
 abbrev count : ℕ → List Line → ℕ
-count n lines = n + length (taken_behind n lines)
+count n lines = n + length (line_items n lines)
 
 -- ---- lines more
 
 given_both : (n : ℕ) (xs ys : List Line)
-    → taken_behind n (xs ++ ys) ≡ taken_behind n xs ++ taken_behind (count n xs) ys
+    → line_items n (xs ++ ys) ≡ line_items n xs ++ line_items (count n xs) ys
 given_both n [] ys =
     let same : n ≡ n + 0 = omega arith in
-    ap (λ (k : ℕ). taken_behind k ys) same
+    ap (λ (k : ℕ). line_items k ys) same
 given_both n (line ∷ xs) ys =
-    let t : List Item = taken_of (heard n line.0) line.1 in
+    let t : List Item = heard_items (heard n line.0) line.1 in
     let m : ℕ = n + length t in
-    let same : count m xs ≡ n + length (t ++ taken_behind m xs) =
-    omega (arith, length-append t (taken_behind m xs)) in
+    let same : count m xs ≡ n + length (t ++ line_items m xs) =
+    omega (arith, length-append t (line_items m xs)) in
     ap (λ (l : List Item). t ++ l) (given_both m xs ys)
-    ∙ ap (λ (k : ℕ). t ++ (taken_behind m xs ++ taken_behind k ys)) same
-    ∙ sym (append_assoc t (taken_behind m xs)
-    (taken_behind (n + length (t ++ taken_behind m xs)) ys))
+    ∙ ap (λ (k : ℕ). t ++ (line_items m xs ++ line_items k ys)) same
+    ∙ sym (append_assoc t (line_items m xs)
+    (line_items (n + length (t ++ line_items m xs)) ys))
 
-acknowledged_both : (n : ℕ) (xs ys : List Line) → acknowledged_behind n (xs ++ ys)
-    ≡ acknowledged_behind n xs ++ acknowledged_behind (count n xs) ys
+acknowledged_both : (n : ℕ) (xs ys : List Line) → line_acknowledgements n (xs ++ ys)
+    ≡ line_acknowledgements n xs ++ line_acknowledgements (count n xs) ys
 acknowledged_both n [] ys =
     let same : n ≡ n + 0 = omega arith in
-    ap (λ (k : ℕ). acknowledged_behind k ys) same
+    ap (λ (k : ℕ). line_acknowledgements k ys) same
 acknowledged_both n (line ∷ xs) ys =
-    let t : List Item = taken_of (heard n line.0) line.1 in
+    let t : List Item = heard_items (heard n line.0) line.1 in
     let m : ℕ = n + length t in
     let a : List ℕ = flat_map acknowledgement (acknowledgements (heard n line.0) m) in
-    let same : count m xs ≡ n + length (t ++ taken_behind m xs) =
-    omega (arith, length-append t (taken_behind m xs)) in
+    let same : count m xs ≡ n + length (t ++ line_items m xs) =
+    omega (arith, length-append t (line_items m xs)) in
     ap (λ (l : List ℕ). a ++ l) (acknowledged_both m xs ys)
-    ∙ ap (λ (k : ℕ). a ++ (acknowledged_behind m xs ++ acknowledged_behind k ys)) same
-    ∙ sym (append_assoc a (acknowledged_behind m xs)
-    (acknowledged_behind (n + length (t ++ taken_behind m xs)) ys))
+    ∙ ap (λ (k : ℕ). a ++ (line_acknowledgements m xs ++ line_acknowledgements k ys)) same
+    ∙ sym (append_assoc a (line_acknowledgements m xs)
+    (line_acknowledgements (n + length (t ++ line_items m xs)) ys))
 
 count_both : (n : ℕ) (xs ys : List Line) → count n (xs ++ ys) ≡ count (count n xs) ys
 count_both n xs ys = omega (
   arith,
   ap length (given_both n xs ys),
-  length-append (taken_behind n xs) (taken_behind (count n xs) ys),
+  length-append (line_items n xs) (line_items (count n xs) ys),
 )
 
 -- one line more
 pub one_given : (n m : ℕ) (lines : List Line) (line : Line) → m ≡ count n lines
-    → taken_behind n (lines ++ line ∷ [])
-    ≡ taken_behind n lines ++ taken_of (heard m line.0) line.1
+    → line_items n (lines ++ line ∷ [])
+    ≡ line_items n lines ++ heard_items (heard m line.0) line.1
 one_given n m lines line is =
     given_both n lines (line ∷ [])
-    ∙ ap (λ (l : List Item). taken_behind n lines ++ l)
-    (append-nil (taken_of (heard (count n lines) line.0) line.1))
-    ∙ ap (λ (k : ℕ). taken_behind n lines ++ taken_of (heard k line.0) line.1) (sym is)
+    ∙ ap (λ (l : List Item). line_items n lines ++ l)
+    (append-nil (heard_items (heard (count n lines) line.0) line.1))
+    ∙ ap (λ (k : ℕ). line_items n lines ++ heard_items (heard k line.0) line.1) (sym is)
 
 pub one_acknowledged : (n m : ℕ) (lines : List Line) (line : Line) → m ≡ count n lines
-    → acknowledged_behind n (lines ++ line ∷ []) ≡ acknowledged_behind n lines
+    → line_acknowledgements n (lines ++ line ∷ []) ≡ line_acknowledgements n lines
     ++ flat_map acknowledgement (acknowledgements (heard m line.0)
-    (m + length (taken_of (heard m line.0) line.1)))
+    (m + length (heard_items (heard m line.0) line.1)))
 one_acknowledged n m lines line is =
     acknowledged_both n lines (line ∷ [])
-    ∙ ap (λ (l : List ℕ). acknowledged_behind n lines ++ l)
+    ∙ ap (λ (l : List ℕ). line_acknowledgements n lines ++ l)
     (append-nil (flat_map acknowledgement (acknowledgements (heard (count n lines) line.0)
-    (count n lines + length (taken_of (heard (count n lines) line.0) line.1)))))
-    ∙ ap (λ (k : ℕ). acknowledged_behind n lines
+    (count n lines + length (heard_items (heard (count n lines) line.0) line.1)))))
+    ∙ ap (λ (k : ℕ). line_acknowledgements n lines
     ++ flat_map acknowledgement (acknowledgements (heard k line.0)
-    (k + length (taken_of (heard k line.0) line.1)))) (sym is)
+    (k + length (heard_items (heard k line.0) line.1)))) (sym is)
 
 -- ---- connections more
 
@@ -88,15 +88,15 @@ lines_one_more p c =
     flat_map-append lines_on p (c ∷ [])
     ∙ ap (λ (l : List Line). all_lines p ++ l) (append-nil (lines_on c))
 
-from_none : (p : List Connection) → count 0 (all_lines p) ≡ length (given_on p)
+from_none : (p : List Connection) → count 0 (all_lines p) ≡ length (given_items p)
 from_none p = omega arith
 
-pub given_more : (p : List Connection) (c : Connection) → given_on (p ++ c ∷ [])
-    ≡ given_on p ++ taken_behind (length (given_on p)) (lines_on c)
+pub given_more : (p : List Connection) (c : Connection) → given_items (p ++ c ∷ [])
+    ≡ given_items p ++ line_items (length (given_items p)) (lines_on c)
 given_more p c =
-    ap (taken_behind 0) (lines_one_more p c)
+    ap (line_items 0) (lines_one_more p c)
     ∙ given_both 0 (all_lines p) (lines_on c)
-    ∙ ap (λ (k : ℕ). given_on p ++ taken_behind k (lines_on c)) (from_none p)
+    ∙ ap (λ (k : ℕ). given_items p ++ line_items k (lines_on c)) (from_none p)
 
 pub texts_more : (p : List Connection) (c : Connection)
     → texts_on (p ++ c ∷ []) ≡ texts_on p ++ whole_lines c.taken
@@ -109,23 +109,23 @@ count_first : (n : ℕ) (x : Connection) (p : List Connection)
 count_first n x p = count_both n (lines_on x) (all_lines p)
 
 answered_behind : (n : ℕ) (p : List Connection) (c : Connection) → AreAnswered n p
-    → IsPrefixOf c.written (acknowledged_on (count n (all_lines p)) c)
+    → IsPrefixOf c.written (connection_acknowledgements (count n (all_lines p)) c)
     → AreAnswered n (p ++ c ∷ [])
 answered_behind n [] c all begins =
     let same : n + 0 ≡ n = omega arith in
-    (subst (λ (k : ℕ). IsPrefixOf c.written (acknowledged_on k c)) same begins, tt)
+    (subst (λ (k : ℕ). IsPrefixOf c.written (connection_acknowledgements k c)) same begins, tt)
 answered_behind n (x ∷ p) c all begins = (
   all.0,
   answered_behind (count n (lines_on x)) p c all.1
-      (subst (λ (k : ℕ). IsPrefixOf c.written (acknowledged_on k c)) (count_first n x p) begins),
+      (subst (λ (k : ℕ). IsPrefixOf c.written (connection_acknowledgements k c)) (count_first n x p) begins),
 )
 
 pub answered_more : (p : List Connection) (c : Connection) → AreAnswered 0 p
-    → IsPrefixOf c.written (acknowledged_on (length (given_on p)) c)
+    → IsPrefixOf c.written (connection_acknowledgements (length (given_items p)) c)
     → AreAnswered 0 (p ++ c ∷ [])
 answered_more p c all begins =
     answered_behind 0 p c all
-    (subst (λ (k : ℕ). IsPrefixOf c.written (acknowledged_on k c)) (sym (from_none p)) begins)
+    (subst (λ (k : ℕ). IsPrefixOf c.written (connection_acknowledgements k c)) (sym (from_none p)) begins)
 
 abbrev one_undone : ℕ → Connection → ℕ
 one_undone n c = cond (is_done n c) 0 1
@@ -144,7 +144,7 @@ undone_behind n (x ∷ p) c =
     )
 
 pub undone_more : (p : List Connection) (c : Connection)
-    → undone 0 (p ++ c ∷ []) ≡ undone 0 p + cond (is_done (length (given_on p)) c) 0 1
+    → undone 0 (p ++ c ∷ []) ≡ undone 0 p + cond (is_done (length (given_items p)) c) 0 1
 undone_more p c =
     undone_behind 0 p c
     ∙ ap (λ (k : ℕ). undone 0 p + one_undone k c) (from_none p)

@@ -17,7 +17,7 @@ use Rattle.remote_cell.specs.declared.reading.LineEnd.TheVariants.{Whole, TooLon
 use Rattle.remote_cell.specs.declared.turns.TheConstants.{MAX_TURNS}
 use Rattle.remote_cell.specs.Exchanges.{Line, heard}
 use Rattle.remote_cell.specs.WireLines.{line_said, acknowledgement}
-use Rattle.remote_cell.specs.Told.{Port, Site, site, IsSound, Knows, given_on, silent}
+use Rattle.remote_cell.specs.Told.{Port, Site, site, IsSound, Knows, given_items, silent}
 use Rattle.remote_cell.specs.Heard.{FailedSoOften, HasTaken, IfBoth, Goes, items_of, over_behind, LastSays, Tells, ResultTells, HasHeard}
 use Rattle.remote_cell.specs.Steps.{Sends, ReadsLine, bad_behind, spoilt, heard_line, item_given, heard_text, item_heard, Acknowledged, is_answered, AnsweredIf, IsReady, Gives, TurnsTo}
 use Rattle.remote_cell.proofs.Knowing.{paid, failed, writes, still_says, leaving, Cuts, cuts, too_long, MayTell, may_items, hears_text, joining, joins, ends, none_taken, knows_none}
@@ -77,8 +77,8 @@ taken_both : (x y z : Bool) (g h given : List Item) (s t turns j k faults : ℕ)
     → HasTaken x y g s j a b → HasTaken y z h t k b c → HasTaken x z given turns faults a c
 taken_both x y z g h given s t turns j k faults given_is turns_is faults_is a b c p q = record {
   given_is = q.given_is ∙ ap (λ (l : List Item). l ++ h) p.given_is
-      ∙ append_assoc (given_on (served a)) g h
-      ∙ ap (λ (l : List Item). given_on (served a) ++ l) (sym given_is);
+      ∙ append_assoc (given_items (served a)) g h
+      ∙ ap (λ (l : List Item). given_items (served a) ++ l) (sym given_is);
   turns_are = omega (arith, p.turns_are, q.turns_are, turns_is);
   undone_few = omega (arith, p.undone_few, q.undone_few, faults_is);
   faults_leave = omega (arith, p.faults_leave, q.faults_leave, faults_is);

@@ -19,21 +19,21 @@ heard taken number =
     if number == taken + 1 then Take else (if nat_le number taken then Again else Ahead)
 
 -- the items that this takes: the line's, or none
-abbrev pub taken_of : Heard → Item → List Item
-taken_of Take item = item ∷ []
-taken_of other item = []
+abbrev pub heard_items : Heard → Item → List Item
+heard_items Take item = item ∷ []
+heard_items other item = []
 
 -- what is taken of lines, in order, by who has taken so many items before them
-abbrev pub taken_behind : ℕ → List Line → List Item
-taken_behind taken [] = []
-taken_behind taken (line ∷ lines) =
-    taken_of (heard taken line.0) line.1
-    ++ taken_behind (taken + length (taken_of (heard taken line.0) line.1)) lines
+abbrev pub line_items : ℕ → List Line → List Item
+line_items taken [] = []
+line_items taken (line ∷ lines) =
+    heard_items (heard taken line.0) line.1
+    ++ line_items (taken + length (heard_items (heard taken line.0) line.1)) lines
 
 -- what is taken of lines: the items, in order, whose number is one more than that of the items
 -- before them
 abbrev pub taken : List Line → List Item
-taken lines = taken_behind 0 lines
+taken lines = line_items 0 lines
 
 -- what is acknowledged where so many items are taken: all up to that number, but for a line that
 -- was passed over
@@ -66,8 +66,8 @@ is_said s number = option_map_or (λ (line : Line). line.0 == number) (said_by s
 
 -- the scale behind an acknowledgement: what it says counts as acknowledged where the number is
 -- that of what it says, and nothing changes otherwise
-abbrev pub acknowledged_by : Sending → ℕ → Sending
-acknowledged_by s number = if is_said s number then record s { acknowledged = number } else s
+abbrev pub after_acknowledgement : Sending → ℕ → Sending
+after_acknowledgement s number = if is_said s number then record s { acknowledged = number } else s
 
 -- ---- the line between them
 
@@ -112,13 +112,13 @@ abbrev pub with_line : Exchange → Option Line → Exchange
 with_line x None = x
 with_line x (Some line) =
     with_heard x (heard (length x.taken) line.0)
-    (taken_of (heard (length x.taken) line.0) line.1)
+    (heard_items (heard (length x.taken) line.0) line.1)
 
 -- an acknowledgement arrived, if it is one
 abbrev pub with_acknowledgement : Exchange → Option ℕ → Exchange
 with_acknowledgement x None = x
 with_acknowledgement x (Some number) =
-    record x { sending = acknowledged_by x.sending number }
+    record x { sending = after_acknowledgement x.sending number }
 
 -- what comes of one event
 abbrev pub with_event : Exchange → Event → Exchange

@@ -12,7 +12,7 @@ use Rattle.remote_cell.specs.declared.turns.TheConstants.{MAX_TURNS}
 use Rattle.remote_cell.specs.Exchanges.{Line}
 use Rattle.remote_cell.specs.Lines.{whole_lines, part_of}
 use Rattle.remote_cell.specs.WireLines.{line_said}
-use Rattle.remote_cell.specs.Told.{Site, IsSound, texts_on, given_on, those_left, left_undone, numbered}
+use Rattle.remote_cell.specs.Told.{Site, IsSound, texts_on, given_items, those_left, left_undone, numbered}
 
 -- ---- counts
 
@@ -31,7 +31,7 @@ turns_of all = length (texts_on (served all)) + length (served all)
 -- each of which left a connection, and no more connections were left before they were done
 pub record HasTaken (was_connected now_connected : Bool) (given : List Item) (turns faults : ℕ)
     (was now : Connections) : Type 0 where
-  pub given_is : given_on (served now) ≡ given_on (served was) ++ given
+  pub given_is : given_items (served now) ≡ given_items (served was) ++ given
   pub turns_are : turns_of now ≡ turns_of was + turns
   pub undone_few : left_undone now_connected now ≤ left_undone was_connected was + faults
   pub faults_leave : length (those_left was_connected was) + faults

@@ -81,9 +81,9 @@ abbrev pub spoilt : Hearing → Hearing
 spoilt h = record h { over = Some (bad_behind h) }
 
 -- what is given for an item
-abbrev pub given_as : Item → CellNext
-given_as (Gross gross) = cell.Gross gross
-given_as End = cell.End
+abbrev pub next_given : Item → CellNext
+next_given (Gross gross) = cell.Gross gross
+next_given End = cell.End
 
 abbrev pub with_given : Hearing → Item → Hearing
 with_given h (Gross gross) = h
@@ -98,7 +98,7 @@ heard_line h Ahead item = record h { lines = next_line h.lines }
 
 -- what such a line gives
 abbrev pub item_given : hears.Heard → Item → Option CellNext
-item_given Take item = Some (given_as item)
+item_given Take item = Some (next_given item)
 item_given other item = None
 
 -- the same of a line of bytes

@@ -6,7 +6,7 @@ use Rattle.disk_core.specs.Doors.{Connection, Connections, served}
 use Rattle.remote_cell.specs.declared.items.Item.{Item}
 use Rattle.remote_cell.specs.declared.hearing.Hearing.{Hearing}
 use Rattle.remote_cell.specs.declared.wire_lines.TheConstants.{MAX_LINE}
-use Rattle.remote_cell.specs.Exchanges.{Line, heard, taken_of, taken_behind, taken, acknowledgements}
+use Rattle.remote_cell.specs.Exchanges.{Line, heard, heard_items, line_items, taken, acknowledgements}
 use Rattle.remote_cell.specs.Lines.{whole_lines, part_of}
 use Rattle.remote_cell.specs.WireLines.{line_said, acknowledgement}
 
@@ -21,8 +21,8 @@ abbrev pub lines_on : Connection → List Line
 lines_on c = filter_map line_said (whole_lines c.taken)
 
 -- the items taken of some connections, one after another
-abbrev pub given_on : List Connection → List Item
-given_on connections = taken (flat_map lines_on connections)
+abbrev pub given_items : List Connection → List Item
+given_items connections = taken (flat_map lines_on connections)
 
 -- a line is of one of the two forms, and isn't too long
 abbrev pub IsGoodLine : List ℕ → Type 0
@@ -37,34 +37,34 @@ pub record IsGood (c : Connection) : Type 0 where
 
 -- the acknowledgements of lines, in order, by who has taken so many items before them: of all items
 -- taken by then, but none for a line that is passed over
-abbrev pub acknowledged_behind : ℕ → List Line → List ℕ
-acknowledged_behind taken [] = []
-acknowledged_behind taken (line ∷ lines) =
+abbrev pub line_acknowledgements : ℕ → List Line → List ℕ
+line_acknowledgements taken [] = []
+line_acknowledgements taken (line ∷ lines) =
     flat_map acknowledgement (acknowledgements (heard taken line.0)
-    (taken + length (taken_of (heard taken line.0) line.1)))
-    ++ acknowledged_behind (taken + length (taken_of (heard taken line.0) line.1)) lines
+    (taken + length (heard_items (heard taken line.0) line.1)))
+    ++ line_acknowledgements (taken + length (heard_items (heard taken line.0) line.1)) lines
 
-abbrev pub acknowledged_on : ℕ → Connection → List ℕ
-acknowledged_on taken c = acknowledged_behind taken (lines_on c)
+abbrev pub connection_acknowledgements : ℕ → Connection → List ℕ
+connection_acknowledgements taken c = line_acknowledgements taken (lines_on c)
 
 -- to each of some connections its acknowledgements were written, or the first of these bytes
 abbrev pub AreAnswered : ℕ → List Connection → Type 0
 AreAnswered taken [] = Unit {0}
 AreAnswered taken (c ∷ connections) =
-    IsPrefixOf c.written (acknowledged_on taken c)
-    × AreAnswered (taken + length (taken_behind taken (lines_on c))) connections
+    IsPrefixOf c.written (connection_acknowledgements taken c)
+    × AreAnswered (taken + length (line_items taken (lines_on c))) connections
 
 -- a connection is done: its bytes were taken to their end, and its acknowledgements were written
 abbrev pub is_done : ℕ → Connection → Bool
 is_done taken c =
-    nat_eq (length c.left) 0 && nat_eq (length c.written) (length (acknowledged_on taken c))
+    nat_eq (length c.left) 0 && nat_eq (length c.written) (length (connection_acknowledgements taken c))
 
 -- how many of some connections aren't done
 abbrev pub undone : ℕ → List Connection → ℕ
 undone taken [] = 0
 undone taken (c ∷ connections) =
     cond (is_done taken c) 0 1
-    + undone (taken + length (taken_behind taken (lines_on c))) connections
+    + undone (taken + length (line_items taken (lines_on c))) connections
 
 -- the connections that were left, or are to be left: all but one that goes on
 abbrev pub those_left : Bool → Connections → List Connection
@@ -116,8 +116,8 @@ owed h = if h.owes then acknowledgement h.receiver else []
 -- what is known of the present connection: what was written to it is what its lines ask for, but
 -- for what is owed, and only a whole number of lines was taken
 pub record IsPresent (h : Hearing) (taken : ℕ) (c : Connection) : Type 0 where
-  pub begins : IsPrefixOf c.written (acknowledged_on taken c)
-  pub answered : h.connected ≡ true → c.written ++ owed h ≡ acknowledged_on taken c
+  pub begins : IsPrefixOf c.written (connection_acknowledgements taken c)
+  pub answered : h.connected ≡ true → c.written ++ owed h ≡ connection_acknowledgements taken c
   pub good : h.over ≡ None → IsGood c
   pub at_line : h.over ≡ None → h.connected ≡ true → part_of c.taken ≡ []
 
@@ -127,11 +127,11 @@ KnowsPresent h taken (Some c) = IsPresent h taken c
 
 -- what a cell knows is what its door tells
 pub record Knows (h : Hearing) (all : Connections) : Type 0 where
-  pub taken_is : h.receiver ≡ length (given_on (served all))
+  pub taken_is : h.receiver ≡ length (given_items (served all))
   pub lines_are : h.over ≡ None → h.lines ≡ numbered (length (texts_on (served all)))
   pub answered : AreAnswered 0 all.past
   pub good : h.over ≡ None → All IsGood all.past
-  pub present : KnowsPresent h (length (given_on all.past)) all.present
+  pub present : KnowsPresent h (length (given_items all.past)) all.present
 
 -- so it is where the door tells its connections; a connection that isn't to be left goes on, and
 -- only such a one may be owed an acknowledgement

@@ -22,7 +22,7 @@ impl Hearing {
     ghost use Rattle.std.specs.Prelude.{◌≡◌, Some};
     ghost use Rattle.remote_cell.specs.WireLines.{line_said};
     ghost use Rattle.remote_cell.specs.Told.{silent};
-    ghost use Rattle.remote_cell.specs.Steps.{spoilt, bad_behind, given_as, with_given, heard_line, item_given, heard_text, item_heard};
+    ghost use Rattle.remote_cell.specs.Steps.{spoilt, bad_behind, next_given, with_given, heard_line, item_given, heard_text, item_heard};
 
     /// Nothing was heard yet.
     pub fn new() -> Self
@@ -82,7 +82,7 @@ impl Hearing {
     // Gives an item; behind the end the same is given at each call.
     fn give(&mut self, item: Item) -> CellNext
         ensures after { self.new ≡ with_given self.old item }
-        ensures item { result ≡ given_as item }
+        ensures item { result ≡ next_given item }
     {
         match item {
             Item::Gross(gross) => CellNext::Gross(gross),

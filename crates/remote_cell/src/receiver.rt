@@ -28,7 +28,7 @@ impl Model for Receiver {
 
 impl Receiver {
     ghost use Rattle.std.specs.Prelude.{◌≡◌, ◌+◌, length};
-    ghost use Rattle.remote_cell.specs.Exchanges.{heard, taken_of};
+    ghost use Rattle.remote_cell.specs.Exchanges.{heard, heard_items};
 
     /// A receiver that has taken nothing yet. It takes no memory.
     pub fn new() -> Self
@@ -48,7 +48,7 @@ impl Receiver {
     /// taken, and was taken before exactly where it isn't more than that.
     pub fn line(&mut self, number: u32, item: Item) -> Heard
         ensures heard { result ≡ heard self.old number }
-        ensures taken { self.new ≡ self.old + length (taken_of result item) }
+        ensures taken { self.new ≡ self.old + length (heard_items result item) }
     {
         if number <= self.taken {
             return Heard::Again;

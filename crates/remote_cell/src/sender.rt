@@ -22,7 +22,7 @@ impl Model for Sender {
 
 impl Sender {
     ghost use Rattle.std.specs.Prelude.{◌≡◌};
-    ghost use Rattle.remote_cell.specs.Exchanges.{Sending, said_by, is_said, acknowledged_by};
+    ghost use Rattle.remote_cell.specs.Exchanges.{Sending, said_by, is_said, after_acknowledgement};
 
     /// A sender of these items, of which none was acknowledged. It takes no memory.
     pub fn new(items: Items) -> Self
@@ -47,7 +47,7 @@ impl Sender {
     /// counts as acknowledged. Nothing changes otherwise.
     pub fn ack(&mut self, number: u32) -> bool
         ensures said { result ≡ is_said self.old number }
-        ensures acknowledged { self.new ≡ acknowledged_by self.old number }
+        ensures acknowledged { self.new ≡ after_acknowledgement self.old number }
     {
         match self.say() {
             Some((said, _)) if said == number => {

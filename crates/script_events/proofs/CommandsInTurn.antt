@@ -4,7 +4,7 @@ use Rattle.book_words.specs.declared.act.Entry.{Entry}
 use Rattle.script_lines.specs.declared.command.Command.{Command}
 use Rattle.store_runs.specs.Books.{BookState}
 use Rattle.script_events.specs.Commands.{lines_asking, after_commands, AreAnswered}
-use Rattle.script_events.specs.Transcript.{Event, event_at, after_command, after_events, AreEventsOf}
+use Rattle.script_events.specs.Transcript.{Event, command_event, after_command, after_events, AreEventsOf}
 use Rattle.script_events.proofs.AcknowledgedRows.{lines_done, are_left}
 
 -- commands, and then more
@@ -17,7 +17,7 @@ after-append book (command ∷ first) more = after-append (after_command book co
 abbrev events_asked : BookState → List Command → List Event
 events_asked book [] = []
 events_asked book (command ∷ commands) =
-    event_at book command ∷ events_asked (after_command book command) commands
+    command_event book command ∷ events_asked (after_command book command) commands
 
 asked_right : (book : BookState) (commands : List Command)
     → AreEventsOf book (lines_asking commands) (events_asked book commands)

@@ -94,8 +94,8 @@ abbrev pub works_of : ℕ → List Event → List Work
 works_of lane events = flat_map (works_in lane) events
 
 -- the event of a command at a book, and the book behind it
-abbrev pub event_at : BookState → Command → Event
-event_at book command = Asked (exchange_at book command)
+abbrev pub command_event : BookState → Command → Event
+command_event book command = Asked (exchange_at book command)
 
 abbrev pub after_command : BookState → Command → BookState
-after_command book command = after_event book (event_at book command)
+after_command book command = after_event book (command_event book command)

@@ -23,7 +23,7 @@ use Rattle.script_events.specs.Acknowledged.{AreLeft}
 use Rattle.script_events.specs.Asking.{Exchange, exchange_at}
 use Rattle.script_session.specs.LaneMoves.{EachWorked}
 use Rattle.script_session.specs.Outside.{LogView, Outside}
-use Rattle.script_events.specs.Transcript.{Event, Asked, Worked, Job, IsJobAt, text_of, after_events, AreEventsOf, texts, event_at, after_command}
+use Rattle.script_events.specs.Transcript.{Event, Asked, Worked, Job, IsJobAt, text_of, after_events, AreEventsOf, texts, command_event, after_command}
 use Rattle.script_session.specs.Ends.{HaveToldWorks, AreTold, next_exchange, IsTextCut, IsLineCut, IsWorkStopped, StopsAtLine, HasAnswered}
 use Rattle.script_events.specs.Unanswered.{MayStopAt}
 use Rattle.script_events.proofs.AcknowledgedRows.{AreDone, lines_done, done_more, are_left}
@@ -140,7 +140,7 @@ pub answered_command : (book left : BookState) (here : Outside) (now : Stream) (
     → HasAnswered book here (with_output here now) left (Asks command ∷ [])
 answered_command book left here now command after wrote =
     record {
-      events = event_at book command ∷ [];
+      events = command_event book command ∷ [];
       right = (refl, refl);
       wrote = subst (WroteAll here.output now)
           (sym (append-nil (outcome_text (exchange_at book command).answer))) wrote;
@@ -293,7 +293,7 @@ stops_cut book left here now number command stop after cut =
       cut = cut.1;
       worked = works_asked here now (exchange_at book command);
       rows_left =
-          are_left book (event_at book command ∷ []) left.entries ((command, refl), tt)
+          are_left book (command_event book command ∷ []) left.entries ((command, refl), tt)
           (ap (λ (b : BookState). b.entries) after);
     })
 

@@ -36,7 +36,7 @@ use Rattle.serve_run.specs.declared.stop.ServeStop.{ServeStop}
 use Rattle.serve_run.specs.declared.stop.ServeStop.TheVariants.{BadPlan, Early, Ran}
 use Rattle.serve_run.specs.Jobs.{Handed, jobs_of}
 use Rattle.serve_run.specs.Keeping.{RanOver, ServeGoes}
-use Rattle.serve_run.specs.Plans.{EndsPlan, IsFinished, RunsPlan, handed_at}
+use Rattle.serve_run.specs.Plans.{EndsPlan, IsFinished, RunsPlan, end_handed}
 use Rattle.serve_run.specs.Preparing.{IsPreparedFor, IsUnpreparedFor, StopsPlan, WhyUnprepared, stop_without}
 use Rattle.serve_run.specs.Serving.{CountsJobs, ExplainsServe, HasRunPlan, Moment, SaysJobs, SparesJobs, moment, serve_text, some_lack}
 use Rattle.serve_run.proofs.RunLemmas.{rests_kept, run_kept}
@@ -104,7 +104,7 @@ module _ {L O : Type 0} (lane_at : Known → L → lanes.Site) (door_at : Known 
         moment_before = moment before out_before (g.faults (disk_of store)) given
 
         abbrev moment_now : Moment L O
-        moment_now = moment now out_now (g.faults (disk_of end.store)) (handed_at end)
+        moment_now = moment now out_now (g.faults (disk_of end.store)) (end_handed end)
 
         runs_whole : (stop : JobsStop)
             → RunsPlan g lane_at door_at left prepared.lanes given out_before out_now end stop
@@ -224,7 +224,7 @@ module _ {D L O : Type 0} (g : disk.Ghosts D) (lane_at : Known → L → lanes.S
   new = g.faults (disk_of end.store)
 
   abbrev lack : Bool
-  lack = some_lack (handed_at end)
+  lack = some_lack (end_handed end)
 
   abbrev text : List ℕ
   text = serve_text jobs.jobs.items (entries_of jobs.store)
@@ -273,8 +273,8 @@ module _ {D L O : Type 0} (g : disk.Ghosts D) (lane_at : Known → L → lanes.S
     faults = at_least old new jobs.faults lack before now text fin.kept fin.rests.counts first often
         jobs.faults often rests_in;
     says = subst (λ (es : List Entry). SaysJobs before now (serve_text jobs.jobs.items es)
-        jobs.faults (handed_at end) fin.stop) (sym fin.rests.same)
+        jobs.faults (end_handed end) fin.stop) (sym fin.rests.same)
         (says_jobs old new jobs.faults lack before now text fin.kept fin.rests.counts
-        (handed_at end) refl fin.stop fin.says);
+        (end_handed end) refl fin.stop fin.says);
     over = runs_over;
   }

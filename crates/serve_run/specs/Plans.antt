@@ -34,8 +34,8 @@ use Rattle.serve_run.specs.Rooms.{IsEmpty, HasRoomFor}
 use Rattle.serve_run.specs.Serving.{SaysJobs, serve_text, some_lack}
 
 -- the lanes and doors of an end, and how they ended
-abbrev pub handed_at : {D L O : Type 0} → ServeEnd D L O → Handed L O
-handed_at end =
+abbrev pub end_handed : {D L O : Type 0} → ServeEnd D L O → Handed L O
+end_handed end =
     record {
       lanes = end.lanes.items;
       lane_ends = end.lane_ends;
@@ -54,9 +54,9 @@ pub record RunsPlan {D L O : Type 0} (disk : disk.Ghosts D) (lane_at : Known →
         (entries_of end.store) failed (jobs_of plan given.lanes given.doors) jobs
     pub history : OneHistory lane_at door_at (limit_of store) (spare_of store) (entries_of store)
         (entries_of end.store) failed (jobs_of plan given.lanes given.doors) jobs
-    pub back : handed_at end ≡ handed_back jobs
+    pub back : end_handed end ≡ handed_back jobs
     pub faults : counted (disk.faults (disk_of store)) failed ≤ disk.faults (disk_of end.store)
-    pub says : SaysJobs before now (serve_text jobs (entries_of end.store)) failed (handed_at end)
+    pub says : SaysJobs before now (serve_text jobs (entries_of end.store)) failed (end_handed end)
         stop
     pub over : RanOver disk store end.store stop
 
@@ -65,7 +65,7 @@ pub record IsUnbegun {D L O : Type 0} (store : Store D) (given : Handed L O)
     (before now : Stream) (end : ServeEnd D L O) (stop : Stop) : Type 0 where
   pub why : stop ≡ stops.NoMemory
   pub store_left : end.store ≡ store
-  pub handed : handed_at end ≡ given
+  pub handed : end_handed end ≡ given
   pub silent : now ≡ before
 
 -- the jobs of a plan ran, or there was no memory for it
@@ -115,9 +115,9 @@ pub record IsFinished {D L O : Type 0} (disk : disk.Ghosts D) (opened : ℕ) (jo
     (before now : Stream) (end : ServeEnd D L O) : Type 0 where
   pub stop : JobsStop
   pub stopped : end.stop ≡ Ran stop
-  pub back : handed_at end ≡ handed_back jobs.jobs.items
+  pub back : end_handed end ≡ handed_back jobs.jobs.items
   pub kept : JobsStop
-  pub rests : RestsBehind disk opened jobs.faults (some_lack (handed_at end)) jobs.store end.store
+  pub rests : RestsBehind disk opened jobs.faults (some_lack (end_handed end)) jobs.store end.store
       kept
   pub says : Says before now (serve_text jobs.jobs.items (entries_of jobs.store)) kept stop
 

@@ -14,7 +14,7 @@ ghost use Rattle.serve_run.specs.declared.stop.JobsStop.TheVariants.{WriteFault}
 ghost use Rattle.serve_run.specs.declared.stop.ServeStop.TheVariants.{Early};
 ghost use Rattle.serve_run.specs.Jobs.{handed_in, handed_back};
 ghost use Rattle.serve_run.specs.Keeping.{ServeGoes};
-ghost use Rattle.serve_run.specs.Plans.{handed_at, EndsPlan, IsFinished, IsRoomFor, IsTextRoom};
+ghost use Rattle.serve_run.specs.Plans.{end_handed, EndsPlan, IsFinished, IsRoomFor, IsTextRoom};
 ghost use Rattle.serve_run.specs.Plans.{RestsBehind, Says};
 ghost use Rattle.serve_run.specs.Rooms.{IsEmpty, HasRoomFor, lists_of};
 ghost use Rattle.serve_run.specs.Serving.{door_lacks, lane_lacks, moment, some_lack, ExplainsServe};
@@ -79,7 +79,7 @@ fn end_early<D: Disk, L, O>(
 ) -> ServeEnd<D, L, O>
     ensures stop { result.stop ≡ early.stop }
     ensures store { result.store ≡ early.store }
-    ensures handed { handed_at result ≡ handed_in lanes.items doors.items }
+    ensures handed { end_handed result ≡ handed_in lanes.items doors.items }
 {
     let Unprepared { store, stop } = early;
     ServeEnd {
@@ -100,7 +100,7 @@ fn end_with<D: Disk, L, O>(
 ) -> ServeEnd<D, L, O>
     ensures stop { result.stop ≡ stop }
     ensures store { result.store ≡ store }
-    ensures handed { handed_at result ≡ lists_of handed }
+    ensures handed { end_handed result ≡ lists_of handed }
 {
     ServeEnd {
         stop,
@@ -271,7 +271,7 @@ fn give_back<D: Disk, L, O>(end: JobsEnd<D, L, O>, room: HandedBack<L, O>) -> Se
     requires room { HasRoomFor (length end.jobs.items) room }
     ensures stop { result.stop ≡ Early NoMemory }
     ensures store { result.store ≡ end.store }
-    ensures handed { handed_at result ≡ handed_back end.jobs.items }
+    ensures handed { end_handed result ≡ handed_back end.jobs.items }
 {
     let JobsEnd {
         store,
@@ -331,7 +331,7 @@ pub fn run_serve<
         (moment (input_at S.Source input.old) (output_at K.Sink output.old)
         (D.faults (disk_of store)) (handed_in lanes.items doors.items))
         (moment (input_at S.Source input.new) (output_at K.Sink output.new)
-        (D.faults (disk_of result.store)) (handed_at result))
+        (D.faults (disk_of result.store)) (end_handed result))
         (entries_of result.store) result.stop }
     ensures goes { ServeGoes D.Disk store result.store result.stop }
 {

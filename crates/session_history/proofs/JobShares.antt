@@ -28,7 +28,7 @@ use Rattle.session_jobs.specs.declared.work.DoorJob.{DoorJob}
 use Rattle.session_jobs.specs.declared.work.LaneJob.{LaneJob}
 use Rattle.session_jobs.specs.declared.work.Work.{Work}
 use Rattle.session_jobs.specs.declared.work.Work.TheVariants.{Lane, Door}
-use Rattle.session_jobs.specs.Runs.{BrokeBefore, HasRun, IsDoneBeside, Run, AnyAsks, newcomer}
+use Rattle.session_jobs.specs.Runs.{BrokeBefore, HasRun, IsDoneBesideOthers, Run, AnyAsks, newcomer}
 use Rattle.session_jobs.specs.Works.{IsDoorDone, IsLaneDone, door_site, lane_site, number_of}
 use Rattle.session_history.specs.Deeds.{Deed, Worked, Served, LaneDeed, DoorDeed, Share, HasDone, faults_of}
 use Rattle.session_history.specs.Gates.{OpensRight}
@@ -198,7 +198,7 @@ module _ {L O : Type 0} (weighs : cell.Ghosts L) (lifts : gate.Ghosts L) (reads 
           }
 
     held : (was now : Work L O)
-        → IsDoneBeside room lane_at door_at (newcomer limit before (number_of was)) known was now
+        → IsDoneBesideOthers room lane_at door_at (newcomer limit before (number_of was)) known was now
         → own_rows (number_of was) rows ≡ own_rows (number_of was) before ++ known.mine
         → (did : Deed) × IsHeld known was now did
     held (Lane was) (Lane now) done own =

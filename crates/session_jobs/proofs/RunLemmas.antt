@@ -35,7 +35,7 @@ use Rattle.session_jobs.specs.declared.job.Job.{Job}
 use Rattle.session_jobs.specs.declared.work.Work.{Work}
 use Rattle.session_jobs.specs.Ends.{EndsSession, HasEnded}
 use Rattle.session_jobs.specs.Jobs.{IsReady, IsRun, new_job, with_passes}
-use Rattle.session_jobs.specs.Runs.{newcomer, IsDoneBeside, Run, HasRun, HaveRun, faults_answered}
+use Rattle.session_jobs.specs.Runs.{newcomer, IsDoneBesideOthers, Run, HasRun, HaveRun, faults_answered}
 use Rattle.session_jobs.specs.Works.{number_of, lane_site, door_site}
 use Rattle.session_jobs.proofs.WorkLemmas.{by_stays, forgets}
 
@@ -119,7 +119,7 @@ module _ {N L O : Type 0} (session : session.Ghosts N) (weighs : cell.Ghosts L)
 
   -- a job that was run, and how, by a caller of the session
   abbrev DoneIn : Run L O → Type 0
-  DoneIn r = IsDoneBeside (room_of session) lane_at door_at
+  DoneIn r = IsDoneBesideOthers (room_of session) lane_at door_at
       (newcomer session.limit session.before (number_of r.was)) r.known r.was r.now
 
   -- the runs of works, with the passes of their callers at the end and the works behind
@@ -145,16 +145,16 @@ module _ {N L O : Type 0} (session : session.Ghosts N) (weighs : cell.Ghosts L)
   module _ (seat : BookState Entry) (empty : seat.list ≡ []) where
     one_done : {A B : Type 0} (work : Work L O) (job : Job L O A B) (pass : PassState Entry)
         → IsRun {A = A} {B = B} session lane_at door_at (new_job seat work) job → Some pass ≡ job.seat
-        → IsDoneBeside (room_of session) lane_at door_at
+        → IsDoneBesideOthers (room_of session) lane_at door_at
         (newcomer session.limit session.before (number_of work)) (known_of session pass) work job.work
     one_done work job pass is seated =
         let first : is.first ≡ new_pass seat (number_of work) =
         let same : Some (new_pass seat (number_of work)) ≡ Some is.first = is.seat_before in cc in
         let last : is.last ≡ pass = let same : Some pass ≡ Some is.last = seated ∙ is.seat_behind in cc in
-        subst (λ (k : Known). IsDoneBeside (room_of session) lane_at door_at k
+        subst (λ (k : Known). IsDoneBesideOthers (room_of session) lane_at door_at k
         (known_of session pass) work job.work)
         (ap (known_of session) first ∙ fresh seat (number_of work) empty)
-        (subst (λ (p : PassState Entry). IsDoneBeside (room_of session) lane_at door_at
+        (subst (λ (p : PassState Entry). IsDoneBesideOthers (room_of session) lane_at door_at
         (known_of session is.first) (known_of session p) work job.work) last
         (forgets (HasNoted is.first.notes is.last.notes) (room_of session) lane_at door_at
         (known_of session is.first) (known_of session is.last) work job.work is.done))

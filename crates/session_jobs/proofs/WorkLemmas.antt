@@ -18,7 +18,7 @@ use Rattle.shared_book.specs.Sessions.{weighs}
 use Rattle.session_jobs.specs.declared.work.Work.{Work}
 use Rattle.session_jobs.specs.declared.work.Work.TheVariants.{Lane, Door}
 use Rattle.session_jobs.specs.Works.{lane_site, door_site, IsDone}
-use Rattle.session_jobs.specs.Runs.{BrokeBefore, IsDoneBeside, IsDoneBy, AnyAsks}
+use Rattle.session_jobs.specs.Runs.{BrokeBefore, IsDoneBesideOthers, IsDoneByCaller, AnyAsks}
 
 -- of what the asks of a caller were this may be told instead
 module _ {L O : Type 0} (Reached Told : List Ask → Type 0)
@@ -28,7 +28,7 @@ module _ {L O : Type 0} (Reached Told : List Ask → Type 0)
     (broke : (answered : List Ask) (next : Ask) (why : AskError) → Broke answered next why
     → BrokeBefore Told room first last answered next why) where
   pub beside : (was now : Work L O) → IsDone Reached Broke lane_at door_at first last was now
-      → IsDoneBy Told room lane_at door_at first last was now
+      → IsDoneByCaller Told room lane_at door_at first last was now
   beside (Lane was) (Lane now) done =
       let is = done.works in
       record {
@@ -101,8 +101,8 @@ module _ {L O : Type 0} (Reached Told : List Ask → Type 0)
 -- what they were may be forgotten
 pub forgets : {L O : Type 0} (Reached : List Ask → Type 0) (room : ℕ)
     (lane_at : Known → L → lanes.Site) (door_at : Known → O → doors.Site) (first last : Known)
-    (was now : Work L O) → IsDoneBy Reached room lane_at door_at first last was now
-    → IsDoneBeside room lane_at door_at first last was now
+    (was now : Work L O) → IsDoneByCaller Reached room lane_at door_at first last was now
+    → IsDoneBesideOthers room lane_at door_at first last was now
 forgets Reached room lane_at door_at first last was now =
     beside Reached AnyAsks (BrokeBefore Reached room first last) room lane_at door_at first last
     (λ asks reached. tt)
@@ -118,7 +118,7 @@ forgets Reached room lane_at door_at first last was now =
 pub by_stays : {L O : Type 0} (room : ℕ) (weighs : cell.Ghosts L) (lifts : gate.Ghosts L)
     (reads : source.Ghosts O) (comes : door.Ghosts O) (first last : Known)
     (was now : Work L O)
-    → IsDoneBeside room (lane_site weighs lifts) (door_site reads comes) first last was now
+    → IsDoneBesideOthers room (lane_site weighs lifts) (door_site reads comes) first last was now
     → last.by ≡ first.by
 by_stays room weighs lifts reads comes first last (Lane was) (Lane now) done =
     done.works.added.by

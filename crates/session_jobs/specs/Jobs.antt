@@ -10,7 +10,7 @@ use Rattle.turn_pass.specs.History.{BookState, PassState, newcomer}
 use Rattle.session_jobs.specs.declared.job.Job.{Job}
 use Rattle.session_jobs.specs.declared.session.Crew.{Crew}
 use Rattle.session_jobs.specs.declared.work.Work.{Work}
-use Rattle.session_jobs.specs.Runs.{IsDoneBy}
+use Rattle.session_jobs.specs.Runs.{IsDoneByCaller}
 use Rattle.session_jobs.specs.Works.{number_of}
 
 -- a job has the seat of its caller, a pass of the session
@@ -28,7 +28,7 @@ pub record IsRun {N L O A B : Type 0} (session : session.Ghosts N) (lane_at : Kn
   pub seat_before : was.seat ≡ Some first
   pub seat_behind : now.seat ≡ Some last
   pub of_session : IsPassOf session last
-  pub done : IsDoneBy (HasNoted first.notes last.notes) (room_of session) lane_at door_at
+  pub done : IsDoneByCaller (HasNoted first.notes last.notes) (room_of session) lane_at door_at
       (known_of session first) (known_of session last) was.work now.work
 
 -- a work with a new pass of its number: it has seen what the book seat has appended

@@ -37,19 +37,19 @@ pub record BrokeBefore (Reached : List Ask → Type 0) (room : ℕ) (first last 
 
 -- A work was done by a caller beside others, who ask between its asks. `Reached` says what all asks
 -- of the caller were.
-abbrev pub IsDoneBy : {L O : Type 0} → (List Ask → Type 0) → ℕ → (Known → L → lanes.Site)
+abbrev pub IsDoneByCaller : {L O : Type 0} → (List Ask → Type 0) → ℕ → (Known → L → lanes.Site)
     → (Known → O → doors.Site) → Known → Known → Work L O → Work L O → Type 0
-IsDoneBy Reached room lane_at door_at first last was now =
+IsDoneByCaller Reached room lane_at door_at first last was now =
     IsDone Reached (BrokeBefore Reached room first last) lane_at door_at first last was now
 
 -- the same, where it isn't told what they were
 abbrev pub AnyAsks : List Ask → Type 0
 AnyAsks asks = ⊤
 
-abbrev pub IsDoneBeside : {L O : Type 0} → ℕ → (Known → L → lanes.Site)
+abbrev pub IsDoneBesideOthers : {L O : Type 0} → ℕ → (Known → L → lanes.Site)
     → (Known → O → doors.Site) → Known → Known → Work L O → Work L O → Type 0
-IsDoneBeside room lane_at door_at first last was now =
-    IsDoneBy AnyAsks room lane_at door_at first last was now
+IsDoneBesideOthers room lane_at door_at first last was now =
+    IsDoneByCaller AnyAsks room lane_at door_at first last was now
 
 -- a job that was run: what is known of its caller at the end, and its work before and behind
 pub record Run (L O : Type 0) : Type 0 where
@@ -63,7 +63,7 @@ pub record Run (L O : Type 0) : Type 0 where
 pub record HasRun {L O : Type 0} (lane_at : Known → L → lanes.Site)
     (door_at : Known → O → doors.Site) (limit spare : ℕ) (before rows : List Entry)
     (run : Run L O) : Type 0 where
-  pub done : IsDoneBeside (spare + length before) lane_at door_at
+  pub done : IsDoneBesideOthers (spare + length before) lane_at door_at
       (newcomer limit before (number_of run.was)) run.known run.was run.now
   pub seen : IsPrefixOf run.known.seen rows
   pub own : own_rows (number_of run.was) rows

@@ -9,7 +9,7 @@ ghost use Rattle.standby_hall.specs.Following.{ExplainsFollow, ExplainsAnswer, E
 ghost use Rattle.standby_hall.specs.Rows.{HasReadHead, HasReadAll};
 
 use crate::arriving::fill;
-use crate::head::{HEAD_BYTES, head_in};
+use crate::head::{HEAD_BYTES, parse_head};
 use crate::rows::follow_row;
 use crate::types::{FollowError, FollowStop, ShipHead};
 use book_store::Store;
@@ -35,7 +35,7 @@ fn read_head<S: Source>(input: &mut S) -> Result<ShipHead, FollowStop>
     if count < HEAD_BYTES {
         return Err(FollowStop::Head);
     }
-    match head_in(&bytes) {
+    match parse_head(&bytes) {
         Some(head) => Ok(head),
         None => Err(FollowStop::Head),
     }

@@ -28,7 +28,7 @@ pub(crate) fn spell_head(head: &ShipHead) -> [u8; HEAD_BYTES]
 }
 
 /// The head that bytes are; `None` where they are none.
-pub(crate) fn head_in(bytes: &[u8; HEAD_BYTES]) -> Option<ShipHead>
+pub(crate) fn parse_head(bytes: &[u8; HEAD_BYTES]) -> Option<ShipHead>
     ensures some { IfSome result (λ head. bytes.now ≡ head_bytes head) }
     ensures good { IfSome result IsHead }
     ensures back { (head : Heading) → IsHead head → bytes.now ≡ head_bytes head

@@ -6,7 +6,7 @@ use Rattle.paper_form.specs.declared.types.Pack as packs
 use Rattle.paper_form.specs.declared.types.Line.TheVariants as line
 use Rattle.paper_form.specs.Papers.{line_text, is_tare_in_range}
 use Rattle.batch_paper.specs.Ranges.{is_nominal_right, is_pack_right}
-use Rattle.batch_paper.specs.Written.{packs_of, days_of, tare_for, tare_lines, pack_lines, paper_by}
+use Rattle.batch_paper.specs.Written.{packs_of, days_of, tare_for, tare_lines, pack_lines, product_paper}
 use Rattle.batch_paper.proofs.PaperLines.{grown}
 use Rattle.batch_paper.proofs.PaperRanges.{nominal_right, packs_right, tares_fit}
 use Rattle.batch_paper.proofs.papers.write_text.Goals as goal
@@ -44,7 +44,7 @@ returns-clause-text c =
     let days : c.deref-2.result.now ≡ days_of (packs_of entries batch) =
     c.deref-2.ensures.value ∙ c.in_ok-days.ensures
     ∙ ap days_of (c.deref.ensures.value ∙ c.in_ok-packs.ensures) in
-    grown (paper_by entries batch product) c.new-text.result.items c.write_line.new.to.items
+    grown (product_paper entries batch product) c.new-text.result.items c.write_line.new.to.items
     c.write_line-2.new.to.items c.write_tares.new.to.items c.write_packs.new.to.items
     c.write_samples.new.to.items c.write_line-3.new.to.items
     c.new-text.ensures.items

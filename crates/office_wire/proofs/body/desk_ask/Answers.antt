@@ -6,11 +6,11 @@ use Rattle.std.proofs.lemmas.Str.{IsUtf8-from_is_utf8, is_utf8-from_IsUtf8}
 use Rattle.serde_json.specs.Data.{Data}
 use Rattle.serde_json.specs.Read.{read}
 use Rattle.serde_json.specs.View.{view}
-use Rattle.office_wire.specs.Acts.{ask_of, ask_in}
+use Rattle.office_wire.specs.Acts.{ask_of, desk_ask}
 use Rattle.office_wire.proofs.body.desk_ask.Goals as goal
 
 -- bytes that aren't a text are no act
-no_ask : (body : List ℕ) → ¬ (IsUtf8 body) → None ≡ ask_in body
+no_ask : (body : List ℕ) → ¬ (IsUtf8 body) → None ≡ desk_ask body
 no_ask body not = by_test (is_utf8 body) refl where
   by_test : (test : Bool) → is_utf8 body ≡ test
       → None ≡ option_and_then ask_of (if test then read body else None)
@@ -19,7 +19,7 @@ no_ask body not = by_test (is_utf8 body) refl where
 
 -- the act of a text is that of its JSON
 this_ask : (body : List ℕ) (json : Data) → IsUtf8 body → read body ≡ Some json
-    → ask_of json ≡ ask_in body
+    → ask_of json ≡ desk_ask body
 this_ask body json is reads =
     sym (ap (λ test. option_and_then ask_of (if test then read body else None))
     (is_utf8-from_IsUtf8 body is)

@@ -1,5 +1,5 @@
 use Rattle.std.proofs.Common.{Some, None, ap, ◌∙◌}
-use Rattle.office_wire.specs.Routes.{segments, route_at}
+use Rattle.office_wire.specs.Routes.{segments, segments_route}
 use Rattle.office_wire.specs.Spots.{spot_route}
 use Rattle.office_wire.proofs.RouteLaws.{route_found}
 use Rattle.office_wire.proofs.routes.route_of.Goals as goal
@@ -7,7 +7,7 @@ use Rattle.office_wire.proofs.routes.route_of.Goals as goal
 pub returns-in_err-spot : goal.returns-in_err-spot
 returns-in_err-spot c =
     c.from_residual.ensures ∙ route_found c.path_of.result.now None c.in_err-spot.ensures
-    ∙ ap (λ path. route_at (segments path)) c.path_of.ensures
+    ∙ ap (λ path. segments_route (segments path)) c.path_of.ensures
 
 pub returns : goal.returns
 returns c =
@@ -15,4 +15,4 @@ returns c =
     ∙ ap (λ text. spot_route c.in_ok-spot.spot text) c.as_bytes.ensures.value
     ∙ route_found c.path_of.result.now (Some (c.in_ok-spot.spot, c.in_ok-spot.text.now))
     c.in_ok-spot.ensures
-    ∙ ap (λ path. route_at (segments path)) c.path_of.ensures
+    ∙ ap (λ path. segments_route (segments path)) c.path_of.ensures

@@ -4,7 +4,7 @@ use Rattle.book_store.specs.declared.store.Store.{Store}
 use Rattle.book_store.specs.Stores.{entries_of}
 use Rattle.book_words.specs.Answers.{IsLegal}
 use Rattle.text_streams.specs.Streams.{output_at}
-use Rattle.serve_run.specs.Plans.{RestsBehind, Says, handed_at}
+use Rattle.serve_run.specs.Plans.{RestsBehind, Says, end_handed}
 use Rattle.serve_run.specs.Serving.{serve_text, some_lack}
 use Rattle.serve_run.proofs.serve.finish.Goals as goal
 
@@ -16,7 +16,7 @@ pub returns : goal.returns
 returns g c =
     let disk = g.D.Disk in
     let ended = c.end_with.ensures in
-    let lack : c.some_lack.result ≡ some_lack (handed_at c.end_with.result) =
+    let lack : c.some_lack.result ≡ some_lack (end_handed c.end_with.result) =
     c.some_lack.ensures ∙ ap some_lack (sym ended.handed) in
     let kept = c.keep_rows-kept.result in
     let jobs = c.args.end.jobs.items in

@@ -8,7 +8,7 @@ use Rattle.store_runs.specs.Books.{stored_book}
 use Rattle.text_streams.specs.Streams.{input_at, output_at}
 use Rattle.serve_run.specs.Jobs.{handed_in}
 use Rattle.serve_run.specs.Keeping.{ServeGoes}
-use Rattle.serve_run.specs.Plans.{handed_at}
+use Rattle.serve_run.specs.Plans.{end_handed}
 use Rattle.serve_run.specs.Preparing.{IsPreparedFor, IsUnpreparedFor, WhyUnprepared}
 use Rattle.serve_run.specs.Serving.{moment}
 use Rattle.serve_run.proofs.Serves.{explains_early, explains_jobs, goes_jobs}
@@ -66,7 +66,7 @@ returns-in-Err g c =
     record {
       explained = explains_early lane_at door_at book
           (moment before output (g.D.Disk.faults (disk_of c.args.store)) given)
-          (moment now output (g.D.Disk.faults (disk_of end.store)) (handed_at end))
+          (moment now output (g.D.Disk.faults (disk_of end.store)) (end_handed end))
           (entries_of end.store) end.stop refl ended.handed why;
       goes = subst (λ (s : Store g.row.D.Denot). ServeGoes g.D.Disk c.args.store s end.stop)
           (sym ended.store)

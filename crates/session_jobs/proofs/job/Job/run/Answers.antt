@@ -6,7 +6,7 @@ use Rattle.shared_book.specs.PassLaws.{is_reached}
 use Rattle.shared_book.specs.Passes.{HasNoted, known_of, room_of}
 use Rattle.shared_book.proofs.MetPasses.{met_by_asks, used_by_ask}
 use Rattle.turn_pass.specs.History.{PassState}
-use Rattle.session_jobs.specs.Runs.{IsDoneBy}
+use Rattle.session_jobs.specs.Runs.{IsDoneByCaller}
 use Rattle.session_jobs.specs.Works.{lane_site, door_site}
 use Rattle.session_jobs.proofs.WorkLemmas.{beside, lacked}
 use Rattle.session_jobs.proofs.job.Job.run.Goals as goal
@@ -24,7 +24,7 @@ returns-in-Some g c =
     let door_at = door_site g.O.Source g.O.Door in
     let was = c.args.self.now.work in
     let now = c.run.new.self in
-    let done : IsDoneBy (HasNoted begun.notes last.notes) (room_of s) lane_at door_at
+    let done : IsDoneByCaller (HasNoted begun.notes last.notes) (room_of s) lane_at door_at
     (known_of s begun) (known_of s last) was now =
     beside _ (HasNoted begun.notes last.notes) _ (room_of s) lane_at door_at (known_of s begun)
     (known_of s last) (λ asks reached. reached.count)
@@ -47,9 +47,9 @@ returns-in-Some g c =
         seat_before = sym c.take.ensures.value ∙ c.in-Some.is;
         seat_behind = refl;
         of_session = c.end.ensures.pass;
-        done = subst (λ (p : P). IsDoneBy (HasNoted p.notes c.end.result.notes) (room_of s) lane_at
+        done = subst (λ (p : P). IsDoneByCaller (HasNoted p.notes c.end.result.notes) (room_of s) lane_at
             door_at (known_of s p) (known_of s c.end.result) was now) pass
-            (subst (λ (p : P). IsDoneBy (HasNoted begun.notes p.notes) (room_of s) lane_at door_at
+            (subst (λ (p : P). IsDoneByCaller (HasNoted begun.notes p.notes) (room_of s) lane_at door_at
             (known_of s begun) (known_of s p) was now) (sym ended) done);
       };
     }

@@ -1,5 +1,5 @@
 use Rattle.office_wire.proofs.FrameSteps.{tells_head}
-use Rattle.office_wire.proofs.frames.frame_of.Goals as goal
+use Rattle.office_wire.proofs.frames.split_frame.Goals as goal
 
 pub returns-in-Some : goal.returns-in-Some
 returns-in-Some c =

@@ -2,15 +2,15 @@ use Rattle.std.proofs.Common.{◌≡◌, ◌≤◌, ◌∙◌, ap, sym, take, le
 use Rattle.office_wire.specs.declared.limits.TheConstants.{MAX_HEAD}
 use Rattle.office_wire.specs.HeadSize.{head_size}
 use Rattle.office_wire.proofs.FrameSteps.{tells_with_head, tells_without_head}
-use Rattle.office_wire.proofs.frames.frame_by.Goals as goal
+use Rattle.office_wire.proofs.frames.frame_if_routed.Goals as goal
 
 pub split_at-requires : goal.split_at-requires
 split_at-requires c =
     let inside : c.in-Some.size ≤ length c.first_bytes.result.now = c.in-Some.ensures.within in
     omega (arith, inside, ap length c.first_bytes.ensures, length-take MAX_HEAD c.args.buffer.now)
 
-pub frame_of-requires : goal.frame_of-requires
-frame_of-requires c =
+pub split_frame-requires : goal.split_frame-requires
+split_frame-requires c =
     let inside : c.in-Some.size ≤ length c.first_bytes.result.now = c.in-Some.ensures.within in
     omega (
       arith,
@@ -25,8 +25,8 @@ returns-in-Some c =
     let found : head_size (take MAX_HEAD c.args.buffer.now) ≡ Some c.in-Some.size =
     sym (ap head_size c.first_bytes.ensures) ∙ sym c.head_size.ensures.value ∙ c.in-Some.is in
     tells_with_head _ c.args.buffer.now c.split_at.result.0.now c.split_at.result.1.now
-    c.in-Some.size c.args.ended c.frame_of.result found c.split_at.ensures.front
-    c.split_at.ensures.back c.frame_of.ensures
+    c.in-Some.size c.args.ended c.split_frame.result found c.split_at.ensures.front
+    c.split_at.ensures.back c.split_frame.ensures
 
 pub returns-in-None : goal.returns-in-None
 returns-in-None c =

@@ -3,8 +3,8 @@ use Rattle.std.specs.Int.{w32, from_le_bytes}
 use Rattle.std.proofs.lemmas.Nat.{from_le_bytes-to_le_bytes_4}
 use Rattle.standby_hall.specs.declared.types.ShipHead.{ShipHead as Heading}
 use Rattle.standby_hall.specs.Shipments.{head_bytes}
-use Rattle.standby_hall.proofs.head.head_in.Goals as goal
-use Rattle.standby_hall.proofs.head.head_in.Goals.{else-head-via-then-head+then-head-le-MAX_ROWS+else-eq, else-head-via-then-head+else-head-le-MAX_ROWS, else-head-via-else-head}
+use Rattle.standby_hall.proofs.head.parse_head.Goals as goal
+use Rattle.standby_hall.proofs.head.parse_head.Goals.{else-head-via-then-head+then-head-le-MAX_ROWS+else-eq, else-head-via-then-head+else-head-le-MAX_ROWS, else-head-via-else-head}
 
 pub returns-clause-back : goal.returns-clause-back
 returns-clause-back c = λ head good is.

@@ -1,6 +1,0 @@
-use Rattle.office_wire.proofs.FrameSteps.{may_routed}
-use Rattle.office_wire.proofs.frames.frame_with.Goals as goal
-
-pub returns : goal.returns
-returns c =
-    let told = c.frame_by.ensures in (told.0, told.1, may_routed told.0 c.frame_by.result told.2)
