@@ -14,23 +14,23 @@ pub(crate) fn image(disk: &MemoryDisk, after: usize, keep: Keep) -> Option<Vec<u
 }
 
 /// How many rows are mounted of these bytes.
-pub(crate) fn rows_of(alloc: Global, bytes: Vec<u8>) -> Option<u32> {
+pub(crate) fn mounted_rows(alloc: Global, bytes: Vec<u8>) -> Option<u32> {
     Some(mount_bytes(alloc, bytes)?.journal.count())
 }
 
 // How many rows a crash leaves after so many calls.
-fn rows_after(alloc: Global, disk: &MemoryDisk, after: usize, keep: Keep) -> Option<u32> {
-    rows_of(alloc, image(disk, after, keep)?)
+fn crash_rows(alloc: Global, disk: &MemoryDisk, after: usize, keep: Keep) -> Option<u32> {
+    mounted_rows(alloc, image(disk, after, keep)?)
 }
 
 /// The same for each way of a crash.
 pub(crate) fn rows_left(alloc: Global, disk: &MemoryDisk, after: usize) -> [Option<u32>; 4] {
     let [earlier, written, zeros, ones] = KEEPS;
     [
-        rows_after(alloc, disk, after, earlier),
-        rows_after(alloc, disk, after, written),
-        rows_after(alloc, disk, after, zeros),
-        rows_after(alloc, disk, after, ones),
+        crash_rows(alloc, disk, after, earlier),
+        crash_rows(alloc, disk, after, written),
+        crash_rows(alloc, disk, after, zeros),
+        crash_rows(alloc, disk, after, ones),
     ]
 }
 
@@ -131,7 +131,7 @@ fn answers<D: Disk>(kept: &mut TestJournal<D>) -> bool {
 // Whether a crash after each call leaves so many rows.
 fn leaves(alloc: Global, disk: &MemoryDisk, keep: Keep, rows: &[u32; 26]) -> bool {
     for (after, count) in rows.iter().enumerate() {
-        if rows_after(alloc, disk, after, keep) != Some(*count) {
+        if crash_rows(alloc, disk, after, keep) != Some(*count) {
             return false;
         }
     }

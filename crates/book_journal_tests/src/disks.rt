@@ -1,4 +1,4 @@
-use crate::appends::rows_of;
+use crate::appends::mounted_rows;
 use crate::journals::copy;
 use book_journal::{Journal, JournalFault, Kept};
 use disk_core::{Disk, MemoryDisk, QuietDisk};
@@ -29,10 +29,10 @@ fn with_byte(bytes: Vec<u8>, place: usize, byte: u8) -> Vec<u8> {
 }
 
 // How many rows are mounted of so many zeros, and of as many bytes of a header and open slots.
-fn rows_at(alloc: Global, size: usize) -> [Option<u32>; 2] {
+fn blank_rows(alloc: Global, size: usize) -> [Option<u32>; 2] {
     [
-        rows_of(alloc, many(alloc, 0, size)),
-        rows_of(alloc, header_and(alloc, &[1; 104], size)),
+        mounted_rows(alloc, many(alloc, 0, size)),
+        mounted_rows(alloc, header_and(alloc, &[1; 104], size)),
     ]
 }
 
@@ -47,7 +47,7 @@ fn rows_wanted(size: usize) -> [Option<u32>; 2] {
 // Whether each short disk is mounted so.
 fn are_mounted(alloc: Global) -> bool {
     for size in 0..200usize {
-        if rows_at(alloc, size) != rows_wanted(size) {
+        if blank_rows(alloc, size) != rows_wanted(size) {
             return false;
         }
     }
@@ -62,7 +62,7 @@ fn a_short_disk_is_made_a_journal(rt: HostRuntime) -> Result<(), Fail> {
 
 // The rows of a disk whose second slot has this gate.
 fn rows_before_gate(alloc: Global, gate: u8) -> Option<u32> {
-    rows_of(
+    mounted_rows(
         alloc,
         with_byte(header_and(alloc, &[1; 192], 999), 192, gate),
     )
@@ -72,7 +72,7 @@ fn rows_before_gate(alloc: Global, gate: u8) -> Option<u32> {
 fn rows_before_cut(alloc: Global) -> Option<u32> {
     let bytes = header_and(alloc, &[1; 490], 999);
     if bytes.len() == 586 {
-        rows_of(alloc, bytes)
+        mounted_rows(alloc, bytes)
     } else {
         None
     }
@@ -100,7 +100,7 @@ const FOREIGN: [(usize, u8, Option<JournalFault>); 4] = [
 ];
 
 // Why a disk isn't mounted of which a byte is this.
-fn refused_with(alloc: Global, place: usize, byte: u8) -> Option<JournalFault> {
+fn byte_refused(alloc: Global, place: usize, byte: u8) -> Option<JournalFault> {
     let bytes = with_byte(header_and(alloc, &[0; 33], 999), place, byte);
     match Journal::mount(MemoryDisk::new(alloc, bytes, Vec::new(alloc))) {
         Ok(_) => None,
@@ -111,7 +111,7 @@ fn refused_with(alloc: Global, place: usize, byte: u8) -> Option<JournalFault> {
 // Whether each foreign disk is told so.
 fn are_refused(alloc: Global) -> bool {
     for (place, byte, why) in FOREIGN {
-        if refused_with(alloc, place, byte) != why {
+        if byte_refused(alloc, place, byte) != why {
             return false;
         }
     }
@@ -149,7 +149,7 @@ fn seen_of(journal: Journal<MemoryDisk>, size: usize) -> Option<Mounted> {
 }
 
 // What these bytes are mounted as, if all of them stay.
-fn mounted_as(alloc: Global, bytes: Vec<u8>) -> Option<Mounted> {
+fn whole_mounted(alloc: Global, bytes: Vec<u8>) -> Option<Mounted> {
     let size = bytes.len();
     match Journal::mount(MemoryDisk::new(alloc, bytes, Vec::new(alloc))) {
         Ok(journal) => seen_of(journal, size),
@@ -165,7 +165,7 @@ fn too_many(alloc: Global) -> Vec<u8> {
 #[test]
 fn no_more_than_a_million_and_one_slots_are_counted(rt: HostRuntime) -> Result<(), Fail> {
     let wanted = Some((1_000_001, None, 3 + 15_626));
-    assert!(rt; mounted_as(rt.alloc(), too_many(rt.alloc())) == wanted);
+    assert!(rt; whole_mounted(rt.alloc(), too_many(rt.alloc())) == wanted);
     Ok(())
 }
 
@@ -193,7 +193,7 @@ fn a_full_journal_is_opened_by_its_snapshot(rt: HostRuntime) -> Result<(), Fail>
         bytes: 1,
     };
     let wanted = Some((1_000_001, Some(kept), 6));
-    assert!(rt; mounted_as(rt.alloc(), full_with_snapshot(rt.alloc())) == wanted);
+    assert!(rt; whole_mounted(rt.alloc(), full_with_snapshot(rt.alloc())) == wanted);
     Ok(())
 }
 

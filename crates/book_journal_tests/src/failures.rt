@@ -29,7 +29,7 @@ fn stand(acknowledged: u32, rows: &[Option<u32>; 4]) -> bool {
 }
 
 // Whether at least two appends are acknowledged, and stand whatever a crash leaves then.
-fn stands_on(alloc: Global, kept: TestJournal<MemoryDisk>) -> bool {
+fn acknowledged_stand(alloc: Global, kept: TestJournal<MemoryDisk>) -> bool {
     let mut kept = kept;
     let acknowledged = acknowledged(alloc, &mut kept);
     let rows = rows_left(alloc, &kept.journal.give_back(), 1000);
@@ -37,17 +37,17 @@ fn stands_on(alloc: Global, kept: TestJournal<MemoryDisk>) -> bool {
 }
 
 // The same of a disk of which two calls fail.
-fn stands(alloc: Global, first: u32, second: u32) -> bool {
+fn two_failures_stand(alloc: Global, first: u32, second: u32) -> bool {
     match mount_failing(alloc, &[first, second]) {
-        Some(kept) => stands_on(alloc, kept),
+        Some(kept) => acknowledged_stand(alloc, kept),
         None => false,
     }
 }
 
 // The same of all later calls, where this is the first that fails.
-fn stands_with(alloc: Global, first: u32) -> bool {
+fn later_failures_stand(alloc: Global, first: u32) -> bool {
     for second in first..52 {
-        if !stands(alloc, first, second) {
+        if !two_failures_stand(alloc, first, second) {
             return false;
         }
     }
@@ -57,7 +57,7 @@ fn stands_with(alloc: Global, first: u32) -> bool {
 // The same of all calls.
 fn stands_always(alloc: Global) -> bool {
     for first in 1..50 {
-        if !stands_with(alloc, first) {
+        if !later_failures_stand(alloc, first) {
             return false;
         }
     }

@@ -1,4 +1,4 @@
-use crate::appends::{image, rows_of};
+use crate::appends::{image, mounted_rows};
 use crate::journals::{TestJournal, bytes_of, copy, mount_bytes, squeeze_row};
 use crate::rows::{full_row, worked_rows};
 use book_journal::{BLOCKS_CONTENT, Dense, Kept};
@@ -102,7 +102,7 @@ fn sixty(alloc: Global, content: &mut Dense) -> Option<TestJournal<MemoryDisk>> 
 }
 
 // The snapshot that was found, and how many calls the disk was asked.
-fn found_of(kept: TestJournal<MemoryDisk>) -> (Option<Kept>, usize) {
+fn snapshot_found(kept: TestJournal<MemoryDisk>) -> (Option<Kept>, usize) {
     let found = kept.journal.kept();
     (found, kept.journal.give_back().calls_made())
 }
@@ -112,7 +112,7 @@ fn in_pieces(alloc: Global) -> Option<(Option<Kept>, usize)> {
     let mut content = Dense::new(alloc);
     let mut kept = sixty(alloc, &mut content)?;
     if reads_pieces(&mut kept, &content) {
-        Some(found_of(kept))
+        Some(snapshot_found(kept))
     } else {
         None
     }
@@ -190,7 +190,7 @@ fn session(alloc: Global) -> Option<MemoryDisk> {
 }
 
 // What is mounted after a crash.
-fn mounted_after(
+fn crash_mounted(
     alloc: Global,
     disk: &MemoryDisk,
     after: usize,
@@ -208,7 +208,7 @@ fn leaves(
     snapshots: &[bool; 14],
 ) -> bool {
     for place in 0..14usize {
-        let seen = mounted_after(alloc, disk, place + 12, keep);
+        let seen = crash_mounted(alloc, disk, place + 12, keep);
         if seen != Some((rows[place], snapshots[place])) {
             return false;
         }
@@ -258,7 +258,7 @@ fn is_unmarked(alloc: Global, bytes: Vec<u8>) -> bool {
 
 // Whether a snapshot is found under a mark, behind which a sixth row is appended: the disk is then
 // unmarked.
-fn found_under(alloc: Global, mark: u8) -> Option<bool> {
+fn marked_found(alloc: Global, mark: u8) -> Option<bool> {
     let mut kept = mount_bytes(alloc, changed(worked(alloc), &[(8, mark)]))?;
     let found = kept.journal.kept().is_some();
     let right = kept.journal.count() == 5 && kept.add(&full_row(9)) == Ok(6);
@@ -273,10 +273,10 @@ fn found_under(alloc: Global, mark: u8) -> Option<bool> {
 fn a_torn_mark_stands_for_no_snapshot(rt: HostRuntime) -> Result<(), Fail> {
     let alloc = rt.alloc();
     let found = [
-        found_under(alloc, 0),
-        found_under(alloc, 1),
-        found_under(alloc, 2),
-        found_under(alloc, 255),
+        marked_found(alloc, 0),
+        marked_found(alloc, 1),
+        marked_found(alloc, 2),
+        marked_found(alloc, 255),
     ];
     assert!(rt; found == [Some(false), Some(true), Some(false), Some(false)]);
     Ok(())
@@ -300,7 +300,7 @@ fn taken(alloc: Global) -> Option<u32> {
     if !is_taken(&mut kept) {
         return None;
     }
-    rows_of(alloc, bytes_of(alloc, kept))
+    mounted_rows(alloc, bytes_of(alloc, kept))
 }
 
 #[test]

@@ -64,7 +64,7 @@ fn another_act_behind_one_that_hangs(rt: HostRuntime) -> Result<(), Fail> {
 }
 
 // How many calls a disk of these bytes is asked, if all is right.
-fn calls_for(alloc: Global, bytes: &[u8], entries: &[Entry], way: Way) -> u32 {
+fn opening_calls(alloc: Global, bytes: &[u8], entries: &[Entry], way: Way) -> u32 {
     let used = use_bytes(alloc, bytes, entries, way);
     if used.seen.right {
         calls_of(&used.disk)
@@ -80,10 +80,10 @@ fn bytes_of(alloc: Global, entries: &[Entry], way: Way) -> Vec<u8> {
 
 // How many calls a weighing behind five rows makes over its snapshot more than opening that. The
 // mark says that the disk ends with a snapshot, which the weighing makes untrue.
-fn calls_behind(alloc: Global, entries: &[Entry], kept: &[u8]) -> u32 {
+fn weighing_calls(alloc: Global, entries: &[Entry], kept: &[u8]) -> u32 {
     let used = use_bytes(alloc, kept, entries, SIX);
     if used.seen.right && used.disk.bytes().get(8).copied() == Some(0) {
-        calls_of(&used.disk).saturating_sub(calls_for(alloc, kept, entries, LOOK))
+        calls_of(&used.disk).saturating_sub(opening_calls(alloc, kept, entries, LOOK))
     } else {
         0
     }
@@ -94,13 +94,13 @@ fn makes_six(alloc: Global, entries: &[Entry]) -> bool {
     let kept = bytes_of(alloc, entries, FIVE_KEPT);
     kept.len() == 1_056
         && kept.get(8).copied() == Some(1)
-        && calls_behind(alloc, entries, &kept) == 6
+        && weighing_calls(alloc, entries, &kept) == 6
 }
 
 // Whether five rows and six take so many calls.
 fn take_calls(alloc: Global, entries: &[Entry]) -> bool {
-    calls_for(alloc, &[], entries, FIVE) == 24
-        && calls_for(alloc, &[], entries, SIX) == 28
+    opening_calls(alloc, &[], entries, FIVE) == 24
+        && opening_calls(alloc, &[], entries, SIX) == 28
         && makes_six(alloc, entries)
 }
 
@@ -163,7 +163,7 @@ fn mounts_slots(alloc: Global, entries: &[Entry]) -> bool {
 fn mounts_many(alloc: Global, entries: &[Entry]) -> bool {
     mounts_snapshot(alloc, entries)
         && mounts_slots(alloc, entries)
-        && calls_for(alloc, &[], entries, MANY_RESERVED) == 4 + 4 * 663
+        && opening_calls(alloc, &[], entries, MANY_RESERVED) == 4 + 4 * 663
 }
 
 #[test]

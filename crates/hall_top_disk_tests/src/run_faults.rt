@@ -91,7 +91,7 @@ fn answers_in(printed: &[u8]) -> usize {
 }
 
 // How many rows there are behind so many answers over a disk of so many rows.
-fn rows_behind(held: usize, answers: usize) -> usize {
+fn answered_rows(held: usize, answers: usize) -> usize {
     if held < 9 {
         held.max(5usize.saturating_add(answers))
     } else {
@@ -109,14 +109,14 @@ fn is_right(asked: &Asked, printed: &[u8], rows: (usize, usize), whole: &Asked) 
     rows.0 <= held
         && held <= rows.1
         && is_front(printed, *told)
-        && there.len() == rows_behind(held, answers_in(printed))
+        && there.len() == answered_rows(held, answers_in(printed))
         && whole.rows.as_slice().starts_with(there)
         && (asked.status == 6 || printed.ends_with(told.1))
 }
 
 // How many rows a disk may hold behind a run, where it might hold so many before. A fault may leave
 // one more than was answered.
-fn rows_after(asked: &Asked, rows: (usize, usize)) -> (usize, usize) {
+fn left_rows(asked: &Asked, rows: (usize, usize)) -> (usize, usize) {
     let there = asked.rows.as_slice().len();
     match (asked.held, asked.status) {
         (0, _) => rows,
@@ -179,7 +179,7 @@ fn push_asked(asked: &Asked, whole: &Asked, found: &Found, left: &mut Vec<Found>
     let failed = printed.len() < asked.output.bytes().len();
     let right = asked.status == if failed { 6 } else { 0 }
         && is_right(asked, printed, found.rows, whole)
-        && push_left(left, &asked.disk, rows_after(asked, found.rows));
+        && push_left(left, &asked.disk, left_rows(asked, found.rows));
     right.then_some(failed)
 }
 

@@ -162,7 +162,7 @@ fn found_of(alloc: Global, ended: &MeetingEnd<'_>) -> Found {
 }
 
 // What is found of a hall of all these callers; nothing where there is no memory for it.
-fn found_in<R: Threads + Wait + Sync>(rt: &R, alloc: Global) -> Option<Found> {
+fn hall_found<R: Threads + Wait + Sync>(rt: &R, alloc: Global) -> Option<Found> {
     let meeting = Meeting::new(32);
     let ended = serve(rt, alloc, &meeting, &ALL)?;
     Some(found_of(alloc, &ended))
@@ -170,6 +170,6 @@ fn found_in<R: Threads + Wait + Sync>(rt: &R, alloc: Global) -> Option<Found> {
 
 #[test]
 fn sixteen_lanes_and_sixteen_doors(rt: HostRuntime) -> Result<(), Fail> {
-    assert_eq!(rt; found_in(&rt, rt.alloc()), Some(RIGHT));
+    assert_eq!(rt; hall_found(&rt, rt.alloc()), Some(RIGHT));
     Ok(())
 }

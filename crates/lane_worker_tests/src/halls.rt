@@ -48,7 +48,7 @@ pub(crate) fn open_hall(alloc: Global, fails: &[u32]) -> Option<MemoryCaller> {
 }
 
 // The lane that a worker is given.
-fn lane_for(alloc: Global, given: &Given) -> MemoryLane {
+fn given_lane(alloc: Global, given: &Given) -> MemoryLane {
     lane_of(alloc, given.items, given.cell_fails, given.gate_fails)
 }
 
@@ -91,8 +91,8 @@ pub(crate) fn work_twice(
 ) -> Option<[Seen; 2]> {
     let batch = Name::new(given.batch)?;
     let mut hall = open_hall(alloc, fails)?;
-    let mut lane = lane_for(alloc, given);
-    let mut empty = lane_for(alloc, &NONE);
+    let mut lane = given_lane(alloc, given);
+    let mut empty = given_lane(alloc, &NONE);
     let seen = [
         look(&mut hall, &mut lane, given.number, batch, opened),
         look(&mut hall, &mut empty, 1, batch, &[]),

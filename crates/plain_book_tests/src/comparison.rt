@@ -71,7 +71,7 @@ fn ask_last(pair: &mut Pair, met: &mut Met, batches: &[Name]) -> Result<(), Stop
 }
 
 // Gives both books what is drawn by a word.
-fn compare_on(
+fn fill_both(
     alloc: Global,
     pair: &mut Pair,
     met: &mut Met,
@@ -83,7 +83,7 @@ fn compare_on(
 }
 
 // Compares two books on the asks that are drawn by a word.
-fn compare_by(alloc: Global, word: u64, names: &Names, met: &mut Met) -> Result<(), Stop> {
+fn compare_asks(alloc: Global, word: u64, names: &Names, met: &mut Met) -> Result<(), Stop> {
     let course = match word {
         0 => &LONG,
         1..=5 => &SHORT,
@@ -94,7 +94,7 @@ fn compare_by(alloc: Global, word: u64, names: &Names, met: &mut Met) -> Result<
     }
     let mut pair = Pair::new(alloc, course.limit);
     let mut draws = Draws::begin(word, course.many, names);
-    let compared = compare_on(alloc, &mut pair, met, &mut draws, course.asks);
+    let compared = fill_both(alloc, &mut pair, met, &mut draws, course.asks);
     pair.close(compared)
 }
 
@@ -103,7 +103,7 @@ fn a_plain_reading_of_the_rules_gives_the_same_answers(rt: HostRuntime) -> Resul
     let names = Names::new()?;
     let mut met = Met::nothing();
     for word in 0..WORDS {
-        let compared = compare_by(rt.alloc(), word, &names, &mut met);
+        let compared = compare_asks(rt.alloc(), word, &names, &mut met);
         assert!(rt; compared.is_ok(), "by {word}: {compared:?}");
     }
     assert_eq!(rt; met.missing(), None);

@@ -162,7 +162,7 @@ fn test(alloc: Global, pair: &mut Pair, met: &mut Met, batch: Name, lows: u32) -
 }
 
 // Gives both books a batch, from its opening to its verdict.
-fn compare_on(
+fn lead_both(
     alloc: Global,
     pair: &mut Pair,
     met: &mut Met,
@@ -177,9 +177,9 @@ fn compare_on(
 }
 
 // Compares two books on a batch.
-fn compare(alloc: Global, names: &Names, lot: &Lot, met: &mut Met) -> Result<(), Stop> {
+fn compare_batches(alloc: Global, names: &Names, lot: &Lot, met: &mut Met) -> Result<(), Stop> {
     let mut pair = Pair::new(alloc, LIMIT);
-    let compared = compare_on(alloc, &mut pair, met, names, lot);
+    let compared = lead_both(alloc, &mut pair, met, names, lot);
     pair.close(compared)
 }
 
@@ -191,7 +191,7 @@ fn a_plain_reading_of_each_plan_gives_the_same_answers(rt: HostRuntime) -> Resul
     let names = Names::new()?;
     let mut met = Met::nothing();
     for lot in &LOTS {
-        let compared = compare(rt.alloc(), &names, lot, &mut met);
+        let compared = compare_batches(rt.alloc(), &names, lot, &mut met);
         assert!(rt; compared.is_ok(), "{compared:?}");
     }
     assert!(rt; met.counts[DRAWS..] == [3, 0, 3]);
