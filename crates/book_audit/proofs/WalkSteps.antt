@@ -17,14 +17,14 @@ use Rattle.book_store.proofs.OneMoreRow.{none_legal}
 use Rattle.book_audit.specs.Slots.{slots_of, BeginWith, IsDamagedBehind, AreCutShort}
 use Rattle.book_audit.specs.declared.slots.Walk.{Walk}
 use Rattle.book_audit.specs.declared.slots.Walk.TheVariants.{On, End, Damaged}
-use Rattle.book_audit.specs.Walking.{slots_behind, StandsAt, EntersRow, IsEntered, WalksTo, walk_behind, at_end}
+use Rattle.book_audit.specs.Walking.{slots_behind, SlotsStand, EntersRow, IsEntered, WalksTo, walk_behind, at_end}
 
 -- before the first slot
-pub stands_first : (bytes : List ℕ) → StandsAt bytes []
+pub stands_first : (bytes : List ℕ) → SlotsStand bytes []
 stands_first bytes = record { split = refl; can = tt; legal = none_legal }
 
 -- at a slot that is cut or closed nothing is left
-pub stands_end : (bytes : List ℕ) (entries : List Entry) → StandsAt bytes entries
+pub stands_end : (bytes : List ℕ) (entries : List Entry) → SlotsStand bytes entries
     → starts_open (drop (gate_behind (length entries)) bytes) ≡ false
     → BeginWith (slots_of bytes) entries []
 stands_end bytes entries stands shut = subst (BeginWith (slots_of bytes) entries)
@@ -32,7 +32,7 @@ stands_end bytes entries stands shut = subst (BeginWith (slots_of bytes) entries
     stands
 
 -- all slots that count are entered
-pub stands_full : (bytes : List ℕ) (entries : List Entry) → StandsAt bytes entries
+pub stands_full : (bytes : List ℕ) (entries : List Entry) → SlotsStand bytes entries
     → MAX_SLOTS ≤ length entries → BeginWith (slots_of bytes) entries []
 stands_full bytes entries stands full =
     let none : MAX_SLOTS - length entries ≡ 0 = omega (arith, full) in
@@ -44,7 +44,7 @@ stands_full bytes entries stands full =
 module _ (bytes slot : List ℕ) (entries : List Entry) (long : length slot ≡ ROW_BYTES)
     (few : length entries ≤ MAX_ROWS) (gate : get_or slot 0 0 ≡ OPEN)
     (here : IsPrefixOf slot (drop (gate_behind (length entries)) bytes))
-    (stands : StandsAt bytes entries) where
+    (stands : SlotsStand bytes entries) where
   abbrev there : List ℕ
   there = drop (gate_behind (length entries)) bytes
 
@@ -76,7 +76,7 @@ module _ (bytes slot : List ℕ) (entries : List Entry) (long : length slot ≡ 
       (drop-drop ROW_BYTES (gate_behind (length entries)) bytes
       ∙ ap (λ (n : ℕ). drop n bytes) place)
 
-  pub stands_on : (new : List Entry) → IsEntered slot entries new → IsLegal new → StandsAt bytes new
+  pub stands_on : (new : List Entry) → IsEntered slot entries new → IsLegal new → SlotsStand bytes new
   stands_on new is legal =
       let entry = is.entry in
       let rest = slots_behind (length entries + 1) bytes in
@@ -107,7 +107,7 @@ module _ (bytes slot : List ℕ) (entries : List Entry) (long : length slot ≡ 
 -- where the slot isn't open nothing is left
 pub stands_shut : (bytes slot : List ℕ) (entries : List Entry) → length slot ≡ ROW_BYTES
     → get_or slot 0 0 ≢ OPEN → IsPrefixOf slot (drop (gate_behind (length entries)) bytes)
-    → StandsAt bytes entries → BeginWith (slots_of bytes) entries []
+    → SlotsStand bytes entries → BeginWith (slots_of bytes) entries []
 stands_shut bytes slot entries long shut here stands =
     stands_end bytes entries stands
     (subst (λ (l : List ℕ). starts_open l ≡ false) (sym here.1)
@@ -122,7 +122,7 @@ stands_shut bytes slot entries long shut here stands =
 module _ (bytes slot : List ℕ) (old new : List Entry) (long : length slot ≡ ROW_BYTES)
     (few : length old ≤ MAX_ROWS) (gate : get_or slot 0 0 ≡ OPEN) (legal : IsLegal new)
     (here : IsPrefixOf slot (drop (gate_behind (length old)) bytes))
-    (stands : StandsAt bytes old) where
+    (stands : SlotsStand bytes old) where
   pub walks_behind : (entered : Bool) → EntersRow slot old new entered
       → WalksTo bytes new (walk_behind entered)
   walks_behind true is = stands_on bytes slot old long few gate here stands new is legal

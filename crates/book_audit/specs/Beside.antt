@@ -39,16 +39,16 @@ IsBeside entries says held (beside.Differs row rows) =
     DiffersAt entries says held row × (rows ≡ says)
 
 -- the same of the snapshot that fits a disk, if one does
-abbrev pub StandsBeside : List Entry → Option Kept → List ℕ → Beside → Type 0
-StandsBeside entries None bytes told = told ≡ beside.None
-StandsBeside entries (Some kept) bytes told =
+abbrev pub SnapshotStands : List Entry → Option Kept → List ℕ → Beside → Type 0
+SnapshotStands entries None bytes told = told ≡ beside.None
+SnapshotStands entries (Some kept) bytes told =
     IsBeside entries kept.rows (snapshot_content kept.rows kept.bytes bytes) told
 
 -- The snapshot beside the slots of a disk, which give these entries, is told so.
 pub record SnapshotIs (entries : List Entry) (bytes : List ℕ) (told : Beside) : Type 0 where
   pub kept : Option Kept
   pub snapshot : IsSnapshotOf bytes kept
-  pub beside : StandsBeside entries kept bytes told
+  pub beside : SnapshotStands entries kept bytes told
 
 -- how far a walk found that it agrees: to so many rows, whose dense forms have so many bytes
 pub record IsAgreed (entries : List Entry) (says : ℕ) (held : List ℕ)

@@ -24,12 +24,12 @@ abbrev pub slots_behind : ℕ → List ℕ → List (List ℕ)
 slots_behind count bytes = open_rows (MAX_SLOTS - count) (drop (gate_behind count) bytes)
 
 -- the slots begin with the rows of these entries
-abbrev pub StandsAt : List ℕ → List Entry → Type 0
-StandsAt bytes entries =
+abbrev pub SlotsStand : List ℕ → List Entry → Type 0
+SlotsStand bytes entries =
     BeginWith (slots_of bytes) entries (slots_behind (length entries) bytes)
 
 abbrev pub WalksTo : List ℕ → List Entry → Walk → Type 0
-WalksTo bytes entries On = StandsAt bytes entries
+WalksTo bytes entries On = SlotsStand bytes entries
 WalksTo bytes entries End = SlotsGive bytes entries true
 WalksTo bytes entries Damaged = SlotsGive bytes entries false
 

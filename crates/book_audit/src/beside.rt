@@ -9,7 +9,7 @@ ghost use Rattle.book_journal.specs.Ends.{IsSized};
 ghost use Rattle.book_journal.specs.Mounting.{IsSnapshotOf};
 ghost use Rattle.book_store.specs.Opening.{CountsReading};
 ghost use Rattle.book_store.specs.Mounting.{IsPassing};
-ghost use Rattle.book_audit.specs.Beside.{IsBeside, IsAgreed, AgreesAll, StandsBeside};
+ghost use Rattle.book_audit.specs.Beside.{IsBeside, IsAgreed, AgreesAll, SnapshotStands};
 
 use crate::content::read_content;
 use crate::types::Beside;
@@ -116,7 +116,7 @@ pub(crate) fn compare_snapshot<D: Disk>(
     requires legal { IsLegal book.now.entries }
     requires sized { IsSized kept }
     ensures beside { WhereTold (D.reads disk.old) (λ bytes. IsSnapshotOf bytes kept →
-        IfOk result (StandsBeside book.now.entries kept bytes)) }
+        IfOk result (SnapshotStands book.now.entries kept bytes)) }
     ensures unmoved { IsUnmoved D.Disk disk.old disk.new }
     ensures cause { CountsReading (D.faults disk.old) (D.faults disk.new) result }
     ensures passing { IfErr result IsPassing }

@@ -10,7 +10,7 @@ ghost use Rattle.book_store.specs.Mounting.{IsPassing};
 ghost use Rattle.book_journal.specs.Rows.{gate_behind};
 ghost use Rattle.book_audit.specs.declared.slots.Walk.TheVariants as walk;
 ghost use Rattle.book_audit.specs.Slots.{SlotsGive};
-ghost use Rattle.book_audit.specs.Walking.{EntersRow, StandsAt, WalksTo, walk_behind, at_end};
+ghost use Rattle.book_audit.specs.Walking.{EntersRow, SlotsStand, WalksTo, walk_behind, at_end};
 
 use book_core::{Book, ReplayError};
 use book_journal::{MAX_SLOTS, ROW_BYTES};
@@ -65,7 +65,7 @@ fn behind(entered: bool) -> Walk
 fn enter_slot(slot: &[u8; ROW_BYTES], book: &mut Book) -> Result<Walk, MountError>
     requires few { length book.old.entries ≤ MAX_ROWS }
     requires legal { IsLegal book.old.entries }
-    ensures walks { (bytes : List ℕ) → StandsAt bytes book.old.entries →
+    ensures walks { (bytes : List ℕ) → SlotsStand bytes book.old.entries →
         IsPrefixOf slot.now (drop (gate_behind (length book.old.entries)) bytes) →
         IfOk result (WalksTo bytes book.new.entries) }
     ensures count { IfOk result (λ stands. stands ≡ walk.On →
@@ -85,7 +85,7 @@ fn enter_slot(slot: &[u8; ROW_BYTES], book: &mut Book) -> Result<Walk, MountErro
 fn enter_slots(piece: &[u8], book: &mut Book) -> Result<Walk, MountError>
     requires few { length book.old.entries ≤ MAX_ROWS }
     requires legal { IsLegal book.old.entries }
-    ensures walks { (bytes : List ℕ) → StandsAt bytes book.old.entries →
+    ensures walks { (bytes : List ℕ) → SlotsStand bytes book.old.entries →
         IsPrefixOf piece.now (drop (gate_behind (length book.old.entries)) bytes) →
         IfOk result (WalksTo bytes book.new.entries) }
     ensures through { IfOk result (λ stands. stands ≡ walk.On →
@@ -119,7 +119,7 @@ fn at_end(stands: Walk) -> Walk
 fn read_piece<D: Disk>(disk: &mut D, book: &mut Book) -> Result<Walk, MountError>
     requires few { length book.old.entries ≤ MAX_ROWS }
     requires legal { IsLegal book.old.entries }
-    ensures walks { WhereTold (D.reads disk.old) (λ bytes. StandsAt bytes book.old.entries →
+    ensures walks { WhereTold (D.reads disk.old) (λ bytes. SlotsStand bytes book.old.entries →
         IfOk result (WalksTo bytes book.new.entries)) }
     ensures count { IfOk result (λ stands. stands ≡ walk.On →
         length book.old.entries + 1 ≤ length book.new.entries) }

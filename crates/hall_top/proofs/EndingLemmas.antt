@@ -31,13 +31,13 @@ use Rattle.prove_run.specs.declared.types.ProveEnd.{ProveEnd}
 use Rattle.prove_run.specs.declared.types.ProveEnd.TheVariants as proving
 use Rattle.standby_hall.specs.declared.types.FollowStop.{FollowStop}
 use Rattle.standby_hall.specs.declared.types.FollowStop.TheVariants as why_is
-use Rattle.standby_hall.specs.Following.{EndsBehind, ExplainsFollowRun, stop_behind}
+use Rattle.standby_hall.specs.Following.{EndsBehind, ExplainsFollowRun, shipment_stop}
 use Rattle.hall_top.specs.declared.ended.Outcome.{Outcome}
 use Rattle.hall_top.specs.declared.ending.Ending.{Ending}
 use Rattle.hall_top.specs.declared.ending.Ending.TheVariants.{Usage, Unopened, Stopped, Served}
 use Rattle.hall_top.specs.Endings.{early_status, least_status, is_early, is_cut, are_spent, status_of, status_of_stop, status_of_why, status_behind, status_of_jobs, status_of_serve, last_status, SaysLast, is_status}
 use Rattle.book_migration.specs.Migration.{ExplainsMigration}
-use Rattle.hall_top.specs.Calls.{ExplainsAs, ExplainsCommand, SaysAll, SaysWhole, input_of, CarriesJournal, FollowsShipment, EndsCarrying, LanesRest, ExplainsSaying, ExplainsPrinting, ExplainsExport, IsImport, IsTrial, stream_call, SaysBehind, ExplainsCarrying, ExplainsMigrate, ExplainsFollow, ExplainsPaper, ProvesInput, ExplainsProve, stop_at, EndsAs, ending_of}
+use Rattle.hall_top.specs.Calls.{ExplainsAs, ExplainsCommand, SaysAll, SaysWhole, input_of, CarriesJournal, FollowsShipment, EndsCarrying, LanesRest, ExplainsSaying, ExplainsPrinting, ExplainsExport, IsImport, IsTrial, stream_call, SaysBehind, ExplainsCarrying, ExplainsMigrate, ExplainsFollow, ExplainsPaper, ProvesInput, ExplainsProve, prove_stop, EndsAs, ending_of}
 use Rattle.book_audit.specs.declared.types.AuditEnd.{AuditEnd}
 use Rattle.book_audit.specs.declared.types.AuditEnd.TheVariants as audits
 
@@ -155,7 +155,7 @@ proving_counts T input input_now output output_now count stop proves =
     subst (λ (s : Stop). CountsStep {T = T} count count (Err s)) (sym proves.same)
     (by_end proves.ending)
   where
-    by_end : (end : ProveEnd) → CountsStep {T = T} count count (Err (stop_at end))
+    by_end : (end : ProveEnd) → CountsStep {T = T} count count (Err (prove_stop end))
     by_end proving.Proved = refl
     by_end (proving.BadLine line) = refl
     by_end proving.ReadFault = refl
@@ -243,7 +243,7 @@ follows_unwritten : (held : List Entry) (before now : Stream) (rows : List Entry
     → ExplainsFollowRun held before now rows WriteFault → ⊥
 follows_unwritten held before now rows (result, ends, explained) = by_result result ends
   where
-    by_stop : (why : FollowStop) → WriteFault ≡ stop_behind why → ⊥
+    by_stop : (why : FollowStop) → WriteFault ≡ shipment_stop why → ⊥
     by_stop why_is.ReadFault same = absurd (cc)
     by_stop why_is.Head same = absurd (cc)
     by_stop (why_is.Gap row) same = absurd (cc)

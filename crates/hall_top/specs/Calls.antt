@@ -252,17 +252,17 @@ ExplainsPaper (Some batch) book call stop = IsPaper batch book call stop
 ExplainsPaper None book call stop = ⊥
 
 -- how a run stops that proved its input so
-abbrev pub stop_at : ProveEnd → Stop
-stop_at proving.Proved = Finished
-stop_at (proving.BadLine line) = BadLine line
-stop_at proving.ReadFault = ReadFault
-stop_at proving.WriteFault = WriteFault
-stop_at proving.NoMemory = NoMemory
+abbrev pub prove_stop : ProveEnd → Stop
+prove_stop proving.Proved = Finished
+prove_stop (proving.BadLine line) = BadLine line
+prove_stop proving.ReadFault = ReadFault
+prove_stop proving.WriteFault = WriteFault
+prove_stop proving.NoMemory = NoMemory
 
 -- an input was proved as the paper that it is, or that stopped so
 pub record ProvesInput (input input_now output output_now : Stream) (stop : Stop) : Type 0 where
   pub ending : ProveEnd
-  pub same : stop ≡ stop_at ending
+  pub same : stop ≡ prove_stop ending
   pub proves : ExplainsProving input input_now output output_now ending
 
 -- no lane was worked by it, and the rows are those that the disk held

@@ -7,7 +7,7 @@ ghost use Rattle.list_run.specs.Texts.{list_text};
 ghost use Rattle.report_run.specs.Reports.{HasEachReading, IsReadBack, book_register};
 ghost use Rattle.book_words.specs.Answers.{IsLegal};
 ghost use Rattle.standby_hall.specs.Shipments.{shipment};
-ghost use Rattle.hall_top.specs.Calls.{reported, stop_at, ProvesInput, SaysAll};
+ghost use Rattle.hall_top.specs.Calls.{reported, prove_stop, ProvesInput, SaysAll};
 
 use book_store::Store;
 use book_words::Name;
@@ -130,8 +130,8 @@ pub fn list<K: Sink, D: Disk>(
 }
 
 // How a run stops that proved its input so.
-fn stop_at(end: ProveEnd) -> Stop
-    ensures { result ≡ stop_at end }
+fn prove_stop(end: ProveEnd) -> Stop
+    ensures { result ≡ prove_stop end }
 {
     match end {
         ProveEnd::Proved => Stop::Finished,
@@ -155,7 +155,7 @@ pub fn prove<S: Source, K: Sink, D: Disk>(
     ensures store { result.store ≡ store }
 {
     RunEnd {
-        stop: stop_at(prove_input(alloc, input, output)),
+        stop: prove_stop(prove_input(alloc, input, output)),
         store,
     }
 }

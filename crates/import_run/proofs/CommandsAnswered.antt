@@ -23,7 +23,7 @@ use Rattle.script_events.proofs.AcknowledgedRows.{lines_done, are_left}
 use Rattle.script_session.proofs.AnsweredLines.{answered_none, answered_more, stops_after}
 use Rattle.import_run.specs.Answered.{alone, AreFirstAnswered, StopsAtCommand, HasAnsweredTo}
 use Rattle.import_run.specs.Ends.{StopsAtError, EndsImport}
-use Rattle.import_run.specs.Reading.{stop_of}
+use Rattle.import_run.specs.Reading.{import_stop}
 
 -- ---- no lane is handed in
 
@@ -164,7 +164,7 @@ module _ (book after : BookState) (before now : Stream) (rows : List Entry)
   }
 
   pub stops_reading : (why : ImportError) → (why ≡ error.NoMemory) ⊎ (left ≡ stopped why)
-      → EndsImport book before now rows import (stop_of why)
+      → EndsImport book before now rows import (import_stop why)
   stops_reading (error.Bad number) (inl is) = absurd (cc)
   stops_reading (error.Bad number) (inr is) = at_error (error.Bad number) is
   stops_reading error.TooMany (inl is) = absurd (cc)
@@ -219,7 +219,7 @@ stops_asking book old_after before old now rows import left behind command stop 
 
 -- and the store goes on as it did
 pub goes_stopped : {D : Type 0} (g : disk.Ghosts D) (why : ImportError) (old new : Store D)
-    → Goes {T = ⊤} g (Ok tt) old new → Goes {T = ⊤} g (Err (stop_of why)) old new
+    → Goes {T = ⊤} g (Ok tt) old new → Goes {T = ⊤} g (Err (import_stop why)) old new
 goes_stopped g (error.Bad number) old new goes =
     goes_with g tt (Err (BadLine number)) old new goes goes.cause (λ is. absurd (cc))
 goes_stopped g error.TooMany old new goes =

@@ -11,10 +11,10 @@ use Rattle.import_table.specs.declared.types.ImportError.{ImportError}
 use Rattle.import_table.specs.declared.types.ImportError.TheVariants as error
 
 -- how an error of an import stops its run
-abbrev pub stop_of : ImportError → Stop
-stop_of (error.Bad number) = BadLine number
-stop_of error.TooMany = Spent
-stop_of error.NoMemory = NoMemory
+abbrev pub import_stop : ImportError → Stop
+import_stop (error.Bad number) = BadLine number
+import_stop error.TooMany = Spent
+import_stop error.NoMemory = NoMemory
 
 -- how a run stops whose import wasn't read whole: too many bytes are the bad line 0
 abbrev pub stop_unread : Unread → Stop

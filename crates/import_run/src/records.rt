@@ -10,7 +10,7 @@ ghost use Rattle.script_session.specs.Ends.{StopsAtLine};
 ghost use Rattle.script_session.specs.Ends.{HasAnswered};
 ghost use Rattle.import_run.specs.Answered.{alone, HasAnsweredTo};
 ghost use Rattle.import_run.specs.Ends.{EndsImport};
-ghost use Rattle.import_run.specs.Reading.{stop_of};
+ghost use Rattle.import_run.specs.Reading.{import_stop};
 
 use disk_core::{Disk, Sink};
 use import_table::{ImportError, ImportReader};
@@ -24,8 +24,8 @@ use store_runs::Stop;
 type NoLane = PairLane<ListCell, ListGate>;
 
 // How an error of an import stops its run.
-fn stop_of(error: ImportError) -> Stop
-    ensures { result ≡ stop_of error }
+fn import_stop(error: ImportError) -> Stop
+    ensures { result ≡ import_stop error }
 {
     match error {
         ImportError::Bad { record } => Stop::BadLine(u64::from(record)),
@@ -74,7 +74,7 @@ fn answer_records<K: Sink, D: Disk>(
         match import.next() {
             Ok(Some(command)) => answer(session, &command, output)?,
             Ok(None) => return Ok(()),
-            Err(error) => return Err(stop_of(error)),
+            Err(error) => return Err(import_stop(error)),
         }
     }
 }
@@ -98,6 +98,6 @@ pub fn answer_import<K: Sink, D: Disk>(
 {
     match ImportReader::new(alloc, bytes) {
         Ok(mut import) => answer_records(session, &mut import, output),
-        Err(error) => Err(stop_of(error)),
+        Err(error) => Err(import_stop(error)),
     }
 }

@@ -22,7 +22,7 @@ use Rattle.lane_worker.specs.declared.ending.WeighingEnd.{WeighingEnd}
 use Rattle.lane_worker.specs.declared.ending.WeighingEnd.TheVariants as ends
 use Rattle.lane_worker.specs.declared.ending.LaneStop.{LaneStop}
 use Rattle.lane_worker.specs.declared.ending.LaneEnd.{LaneEnd}
-use Rattle.lane_worker.specs.Endings.{stop_by, stop_at, faults_at}
+use Rattle.lane_worker.specs.Endings.{weighing_stop, ask_stop, faults_at}
 use Rattle.lane_worker.specs.Works.{Site, HasAdded, BreaksOff, asks_of_work, IsWork}
 use Rattle.store_runs.specs.declared.stop.Stop.{Stop}
 use Rattle.store_runs.specs.declared.stop.Stop.TheVariants.{NoMemory}
@@ -169,7 +169,7 @@ module _ {D : Type 0} (g : disk.Ghosts D) (reads_image : (d : D) → WhereTold (
 
   pub goes_broken : (lane : ℕ) → old.by ≡ lane → (answered : List Ask) (next : Ask) (why : AskError)
       → Broke g old new answered next why
-      → new.faults ≡ min (old.faults + faults_at (stop_at why)) FAULTS_END
+      → new.faults ≡ min (old.faults + faults_at (ask_stop why)) FAULTS_END
       → Goes g (step_behind lane next why) old.store new.store
   goes_broken lane by answered next (error.Refused refused) broke faults =
       goes_finished (answered ++ next ∷ []) (both_asked answered next (error.Refused refused) broke)
@@ -236,34 +236,34 @@ module _ {D : Type 0} (g : disk.Ghosts D) (reads_image : (d : D) → WhereTold (
     (step : Result ⊤ Stop) (calm : old.faults ≡ 0) (by : old.by ≡ lane)
     (is : IsWork (IsReachedBy g old new) (Broke g old new) (site_with (known_of old) was)
     (site_with (known_of new) now) lane batch end)
-    (goes_so : (ending : WeighingEnd) → end.stop ≡ stop_by ending → step ≡ Ok tt)
-    (stops_so : (next : Ask) (why : AskError) → end.stop ≡ stop_at why
+    (goes_so : (ending : WeighingEnd) → end.stop ≡ weighing_stop ending → step ≡ Ok tt)
+    (stops_so : (next : Ask) (why : AskError) → end.stop ≡ ask_stop why
     → (why ≡ error.DiskFault → new.failed ≡ Some next) → step ≡ step_behind lane next why) where
   abbrev asks : List Ask
   asks = asks_of_work lane batch is.work
 
-  none_at : (ending : WeighingEnd) → faults_at (stop_by ending) ≡ 0
+  none_at : (ending : WeighingEnd) → faults_at (weighing_stop ending) ≡ 0
   none_at ends.End = refl
   none_at (ends.Bad line) = refl
   none_at ends.Spent = refl
   none_at ends.CellFailed = refl
   none_at ends.GateFailed = refl
 
-  few_at : (why : AskError) → faults_at (stop_at why) ≤ 1
+  few_at : (why : AskError) → faults_at (ask_stop why) ≤ 1
   few_at (error.Refused refused) = omega arith
   few_at error.DiskFault = omega arith
   few_at error.NoMemory = omega arith
 
-  calm_after : (ending : WeighingEnd) → end.stop ≡ stop_by ending → new.faults ≡ 0
+  calm_after : (ending : WeighingEnd) → end.stop ≡ weighing_stop ending → new.faults ≡ 0
   calm_after ending told =
       omega (arith, calm, is.faults, ap faults_at told, none_at ending)
 
-  faults_after : (why : AskError) → end.stop ≡ stop_at why
-      → new.faults ≡ min (old.faults + faults_at (stop_at why)) FAULTS_END
+  faults_after : (why : AskError) → end.stop ≡ ask_stop why
+      → new.faults ≡ min (old.faults + faults_at (ask_stop why)) FAULTS_END
   faults_after why told =
       subst (λ (s : LaneStop). new.faults ≡ min (old.faults + faults_at s) FAULTS_END) told is.faults
 
-  few_after : (why : AskError) → end.stop ≡ stop_at why → new.faults ≤ 1
+  few_after : (why : AskError) → end.stop ≡ ask_stop why → new.faults ≤ 1
   few_after why told = omega (arith, calm, faults_after why told, few_at why)
 
   step_after : (broke : BreaksOff (Broke g old new) asks is.work end.stop)
@@ -339,7 +339,7 @@ module _ {D : Type 0} (g : disk.Ghosts D) (reads_image : (d : D) → WhereTold (
       is.stops
 
   -- a run goes on behind it only where no fault was answered
-  calm_by : (why : AskError) (next : Ask) → end.stop ≡ stop_at why
+  calm_by : (why : AskError) (next : Ask) → end.stop ≡ ask_stop why
       → OnOk (step_behind lane next why) (new.faults ≡ 0)
   calm_by (error.Refused refused) next told = omega (arith, calm, faults_after (error.Refused refused) told)
   calm_by error.DiskFault next told = tt

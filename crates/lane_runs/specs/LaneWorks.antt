@@ -19,7 +19,7 @@ use Rattle.lane_worker.specs.declared.gate.Gate as gate
 use Rattle.lane_worker.specs.Asks.{passed_packs}
 use Rattle.lane_worker.specs.Cells.{Gave}
 use Rattle.lane_worker.specs.Gates.{with_packs}
-use Rattle.lane_worker.specs.Endings.{stop_by, stop_at, last_items, cell_failed, gate_failed, FailsIf}
+use Rattle.lane_worker.specs.Endings.{weighing_stop, ask_stop, last_items, cell_failed, gate_failed, FailsIf}
 use Rattle.lane_worker.specs.Works.{Work, AreOpened, asks_of_work}
 use Rattle.store_runs.specs.declared.stop.Offer.TheVariants as offering
 use Rattle.store_runs.specs.declared.stop.Stop.{Stop}
@@ -83,7 +83,7 @@ pub record IsFinished (asks : List Ask) (work : Work) (stop : LaneStop) (step : 
     : Type 0 where
   pub ending : WeighingEnd
   pub ended : work.ending ≡ Some ending
-  pub told : stop ≡ stop_by ending
+  pub told : stop ≡ weighing_stop ending
   pub whole : asks ≡ work.answered
   pub goes_on : step ≡ Ok tt
 
@@ -92,7 +92,7 @@ pub record IsBrokenOff (book : BookState) (lane : ℕ) (asks : List Ask) (work :
     (stop : LaneStop) (step : Result ⊤ Stop) : Type 0 where
   pub next : Ask
   pub why : AskError
-  pub told : stop ≡ stop_at why
+  pub told : stop ≡ ask_stop why
   pub first : IsPrefixOf (work.answered ++ next ∷ []) asks
   pub cause : MayHaveError book lane next why
   pub goes_on : step ≡ step_behind lane next why

@@ -2,7 +2,7 @@ ghost use Rattle.std.specs.Prelude.{◌≡◌, ⊤, Option, Some, Result, OnOk};
 ghost use Rattle.book_words.specs.declared.act.Ask.{Ask as Asked};
 ghost use Rattle.book_words.specs.declared.caller.AskError.{AskError};
 ghost use Rattle.book_words.specs.declared.caller.AskError.TheVariants as error;
-ghost use Rattle.lane_worker.specs.Endings.{stop_at, stop_by};
+ghost use Rattle.lane_worker.specs.Endings.{ask_stop, weighing_stop};
 ghost use Rattle.lane_worker.specs.declared.ending.WeighingEnd.{WeighingEnd as Ended};
 ghost use Rattle.store_runs.specs.Books.{stored_book};
 ghost use Rattle.store_runs.specs.Runs.{Goes};
@@ -23,8 +23,8 @@ pub struct Worked {
 // How a run goes on behind a work: it stops where the disk failed at this ask, and where there was
 // no memory.
 fn step_behind(failed: Option<Ask>, number: u8, stop: LaneStop) -> Result<(), Stop>
-    ensures goes_on { (ending : Ended) → stop ≡ stop_by ending → result ≡ Ok tt }
-    ensures stops { (next : Asked) (why : AskError) → stop ≡ stop_at why
+    ensures goes_on { (ending : Ended) → stop ≡ weighing_stop ending → result ≡ Ok tt }
+    ensures stops { (next : Asked) (why : AskError) → stop ≡ ask_stop why
         → (why ≡ error.DiskFault → failed ≡ Some next)
         → result ≡ step_behind number next why }
 {

@@ -18,7 +18,7 @@ use Rattle.book_words.specs.Signals.{recorded_signal}
 use Rattle.book_words.specs.Views.{lane_view}
 use Rattle.lane_worker.specs.Asks.{act_ask, lane_ask, stop_found}
 use Rattle.lane_worker.specs.Replies.{stop_told}
-use Rattle.lane_worker.specs.Endings.{stop_at, faults_at}
+use Rattle.lane_worker.specs.Endings.{ask_stop, faults_at}
 use Rattle.lane_worker.specs.Works.{StandBehind, HasAdded}
 use Rattle.lane_worker.specs.Steps.{IsCalm}
 use Rattle.lane_worker.proofs.RightReplies.{act_taken, act_refused, lane_told}
@@ -233,14 +233,14 @@ faults_finished was mid now ask answered calm asked =
     let counts : now.faults ≡ min (mid.faults + 0) FAULTS_END = asked.faults in
     omega (arith, calm, counts)
 
-told_at : (why : AskError) → faults_told (Err why) ≡ faults_at (stop_at why)
+told_at : (why : AskError) → faults_told (Err why) ≡ faults_at (ask_stop why)
 told_at (error.Refused refused) = refl
 told_at error.DiskFault = refl
 told_at error.NoMemory = refl
 
-pub faults_broken : (was mid now : Known) (ask : Ask) (why : AskError) → IsCalm was mid → IsAsked mid now ask (Err why) → now.faults ≡ min (was.faults + faults_at (stop_at why)) FAULTS_END
+pub faults_broken : (was mid now : Known) (ask : Ask) (why : AskError) → IsCalm was mid → IsAsked mid now ask (Err why) → now.faults ≡ min (was.faults + faults_at (ask_stop why)) FAULTS_END
 faults_broken was mid now ask why calm asked =
-    let counts : now.faults ≡ min (mid.faults + faults_at (stop_at why)) FAULTS_END =
+    let counts : now.faults ≡ min (mid.faults + faults_at (ask_stop why)) FAULTS_END =
     asked.faults ∙ ap (λ n. min (mid.faults + n) FAULTS_END) (told_at why) in
     omega (arith, calm, counts)
 

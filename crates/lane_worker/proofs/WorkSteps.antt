@@ -32,7 +32,7 @@ use Rattle.lane_worker.specs.declared.progress.Progress.{Progress}
 use Rattle.lane_worker.specs.Asks.{act_ask, lane_ask, stop_found, prior_behind, weighing_asks, starting_asks, stopping_asks, passed_pack, passed_packs}
 use Rattle.lane_worker.specs.Gates.{with_packs, HasPassed}
 use Rattle.lane_worker.specs.Replies.{pack_told}
-use Rattle.lane_worker.specs.Endings.{stop_by, stop_at, faults_at, last_items, cell_failed, gate_failed, FailsIf}
+use Rattle.lane_worker.specs.Endings.{weighing_stop, ask_stop, faults_at, last_items, cell_failed, gate_failed, FailsIf}
 use Rattle.lane_worker.specs.Works.{Site, Work, HasAdded, HasGiven, AreOpened, HasOpened, NamesAsked, asks_of_work, IsWork}
 use Rattle.lane_worker.specs.Steps.{row_asks, with_caller, IsCalm, IsStopped, TakesItem, Weighs, HasWeighed, HasEnded, broken_end}
 use Rattle.lane_worker.proofs.RightReplies.{weighing_told, passed_row}
@@ -44,14 +44,14 @@ use Rattle.lane_worker.proofs.OpenedPacks.{packs_more, packs_none, passed_push, 
 -- ---- the end
 
 -- only the end of the cell is `Done`
-done_by : (ending : WeighingEnd) → stop_by ending ≡ Done → ending ≡ ends.End
+done_by : (ending : WeighingEnd) → weighing_stop ending ≡ Done → ending ≡ ends.End
 done_by ends.End is = refl
 done_by (ends.Bad line) is = absurd (cc)
 done_by ends.Spent is = absurd (cc)
 done_by ends.CellFailed is = absurd (cc)
 done_by ends.GateFailed is = absurd (cc)
 
-not_done : (why : AskError) → stop_at why ≡ Done → ⊥
+not_done : (why : AskError) → ask_stop why ≡ Done → ⊥
 not_done (error.Refused refused) is = cc
 not_done error.DiskFault is = cc
 not_done error.NoMemory is = cc
@@ -64,7 +64,7 @@ one_more answered asks next first same =
 
 -- a refusal names what was seen when the question of the lane was answered
 names_asked : (was mid now : Known) (asked : List Entry) (rows : List Row) (next : Ask) (why : AskError)
-    → HasAdded was mid asked rows → IsAsked mid now next (Err why) → NamesAsked asked (stop_at why)
+    → HasAdded was mid asked rows → IsAsked mid now next (Err why) → NamesAsked asked (ask_stop why)
 names_asked was mid now asked rows next (error.Refused refused) has answer =
     let right = answer.says.right in
     let new = cons_option (added_by_ask mid.limit right.before mid.by next) [] in
@@ -112,7 +112,7 @@ pub finishes : (Reached : List Ask → Type 0) (Broke : List Ask → Ask → Ask
     → HasAdded was.caller now.caller work.asked (work.rows ++ row ∷ []) → IsCalm was.caller mid → HasGiven was now work.grosses work.ending → HasOpened was now (work.rows ++ row ∷ []) work.opened work.ending
     → count ≡ length work.opened → work.ending ≡ Some ending → IsAsked mid now.caller last (Ok answered)
     → asks_of_work lane batch (record work { rows = work.rows ++ row ∷ [] }) ≡ lane_ask lane ∷ row_asks (work.rows ++ row ∷ []) → Reached (lane_ask lane ∷ row_asks (work.rows ++ row ∷ []))
-    → IsWork Reached Broke was now lane batch (record { opened = count; stop = stop_by ending })
+    → IsWork Reached Broke was now lane batch (record { opened = count; stop = weighing_stop ending })
 finishes Reached Broke was now mid lane batch work row count ending last answered added calm given opened is ended asked whole later = record {
   work = record work { rows = work.rows ++ row ∷ []; answered = lane_ask lane ∷ row_asks (work.rows ++ row ∷ []) };
   added = added;
@@ -125,19 +125,19 @@ finishes Reached Broke was now mid lane batch work row count ending last answere
   accepted = refl;
   done = (
     λ is. (ended ∙ ap (λ (e : WeighingEnd). Some e) (done_by ending is), whole),
-    λ both. ap stop_by (same_Some ending ends.End (sym ended ∙ both.0)),
+    λ both. ap weighing_stop (same_Some ending ends.End (sym ended ∙ both.0)),
   );
   stops = inl (record { ending = ending; ended = ended; told = refl; whole = whole; later = later });
 }
   where
-    no_refusal : (e : WeighingEnd) → NamesAsked work.asked (stop_by e)
+    no_refusal : (e : WeighingEnd) → NamesAsked work.asked (weighing_stop e)
     no_refusal ends.End = tt
     no_refusal (ends.Bad line) = tt
     no_refusal ends.Spent = tt
     no_refusal ends.CellFailed = tt
     no_refusal ends.GateFailed = tt
 
-    by_ending : (e : WeighingEnd) → now.caller.faults ≡ min (was.caller.faults + 0) FAULTS_END → now.caller.faults ≡ min (was.caller.faults + faults_at (stop_by e)) FAULTS_END
+    by_ending : (e : WeighingEnd) → now.caller.faults ≡ min (was.caller.faults + 0) FAULTS_END → now.caller.faults ≡ min (was.caller.faults + faults_at (weighing_stop e)) FAULTS_END
     by_ending ends.End h = h
     by_ending (ends.Bad line) h = h
     by_ending ends.Spent h = h
@@ -479,7 +479,7 @@ pub last_stop : (Before Reached : List Ask → Type 0) (Broke : List Ask → Ask
     → (has : HasEnded Before was mid lane batch ending progress)
     → IsAsked mid.caller now (act_ask (StopLane lane progress.prior)) (Ok answered) → IsTaken mid.caller now (StopLane lane progress.prior) answered
     → Reached (has.done.answered ++ act_ask (StopLane lane progress.prior) ∷ [])
-    → IsWork Reached Broke was (with_caller mid now) lane batch (record { opened = progress.opened; stop = stop_by ending })
+    → IsWork Reached Broke was (with_caller mid now) lane batch (record { opened = progress.opened; stop = weighing_stop ending })
 last_stop Before Reached Broke was mid now lane batch ending progress answered has asked taken later =
     let done = has.done in
     let is = has.weighing in

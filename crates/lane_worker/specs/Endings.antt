@@ -11,18 +11,18 @@ use Rattle.lane_worker.specs.declared.ending.LaneStop.{LaneStop}
 use Rattle.lane_worker.specs.declared.ending.LaneStop.TheVariants as stop
 
 -- the stop of a worker all of whose asks were answered
-abbrev pub stop_by : WeighingEnd → LaneStop
-stop_by End = stop.Done
-stop_by (Bad line) = stop.Bad line
-stop_by Spent = stop.Turns
-stop_by CellFailed = stop.Cell
-stop_by GateFailed = stop.Gate
+abbrev pub weighing_stop : WeighingEnd → LaneStop
+weighing_stop End = stop.Done
+weighing_stop (Bad line) = stop.Bad line
+weighing_stop Spent = stop.Turns
+weighing_stop CellFailed = stop.Cell
+weighing_stop GateFailed = stop.Gate
 
 -- the stop of a worker whose ask wasn't answered
-abbrev pub stop_at : AskError → LaneStop
-stop_at (error.Refused refused) = stop.Refused refused
-stop_at error.DiskFault = stop.DiskFault
-stop_at error.NoMemory = stop.NoMemory
+abbrev pub ask_stop : AskError → LaneStop
+ask_stop (error.Refused refused) = stop.Refused refused
+ask_stop error.DiskFault = stop.DiskFault
+ask_stop error.NoMemory = stop.NoMemory
 
 -- how many faults of the disk a stop tells
 abbrev pub faults_at : LaneStop → ℕ

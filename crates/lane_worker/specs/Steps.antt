@@ -18,7 +18,7 @@ use Rattle.lane_worker.specs.declared.progress.Progress.{Progress}
 use Rattle.lane_worker.specs.Asks.{lane_ask, stop_found, is_among, prior_behind, starting_asks, stopping_asks, weighing_asks, passed_pack, passed_packs}
 use Rattle.lane_worker.specs.Cells.{IsNext, items_behind}
 use Rattle.lane_worker.specs.Gates.{with_packs}
-use Rattle.lane_worker.specs.Endings.{stop_at, gate_failed, FailsIf}
+use Rattle.lane_worker.specs.Endings.{ask_stop, gate_failed, FailsIf}
 use Rattle.lane_worker.specs.Works.{Site, Work, HasAdded, HasGiven, AreOpened, IsWork}
 
 -- the asks of some rows
@@ -31,7 +31,7 @@ IsCalm was now = min now.faults FAULTS_END ≡ min was.faults FAULTS_END
 
 -- the end of a work that breaks off
 abbrev pub broken_end : ℕ → AskError → LaneEnd
-broken_end opened why = record { opened = opened; stop = stop_at why }
+broken_end opened why = record { opened = opened; stop = ask_stop why }
 
 -- a worker was told what the lane does, and the lane has no batch any more: these rows stand, and a
 -- start of the lane is the next ask, whatever follows

@@ -22,7 +22,7 @@ use Rattle.lane_worker.specs.declared.gate.Gate as gate
 use Rattle.lane_worker.specs.Asks.{work_asks, passed_packs}
 use Rattle.lane_worker.specs.Cells.{Gave}
 use Rattle.lane_worker.specs.Gates.{with_packs}
-use Rattle.lane_worker.specs.Endings.{stop_by, stop_at, faults_at, last_items, cell_failed, gate_failed, FailsIf}
+use Rattle.lane_worker.specs.Endings.{weighing_stop, ask_stop, faults_at, last_items, cell_failed, gate_failed, FailsIf}
 
 -- a worker at one moment: what is known of its caller, what the cell has left and for which packs
 -- the gate opened, where they tell, and how often each failed
@@ -102,7 +102,7 @@ pub record Finishes (Reached : List Ask → Type 0) (asks : List Ask) (work : Wo
     (stop : LaneStop) : Type 0 where
   pub ending : WeighingEnd
   pub ended : work.ending ≡ Some ending
-  pub told : stop ≡ stop_by ending
+  pub told : stop ≡ weighing_stop ending
   pub whole : asks ≡ work.answered
   pub later : Reached work.answered
 
@@ -119,7 +119,7 @@ pub record BreaksOff (Broke : List Ask → Ask → AskError → Type 0) (asks : 
     (stop : LaneStop) : Type 0 where
   pub next : Ask
   pub why : AskError
-  pub told : stop ≡ stop_at why
+  pub told : stop ≡ ask_stop why
   pub first : IsPrefixOf (work.answered ++ next ∷ []) asks
   pub broke : Broke work.answered next why
 

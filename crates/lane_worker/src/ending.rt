@@ -1,5 +1,5 @@
 ghost use Rattle.std.specs.Prelude.{◌≡◌};
-ghost use Rattle.lane_worker.specs.Endings.{stop_by, stop_at};
+ghost use Rattle.lane_worker.specs.Endings.{weighing_stop, ask_stop};
 
 use book_words::{AskError, Refused};
 
@@ -47,8 +47,8 @@ pub struct LaneEnd {
 }
 
 // The stop of a worker that was answered to its last ask.
-pub(crate) fn stop_by(ending: WeighingEnd) -> LaneStop
-    ensures { result ≡ stop_by ending }
+pub(crate) fn weighing_stop(ending: WeighingEnd) -> LaneStop
+    ensures { result ≡ weighing_stop ending }
 {
     match ending {
         WeighingEnd::End => LaneStop::Done,
@@ -60,8 +60,8 @@ pub(crate) fn stop_by(ending: WeighingEnd) -> LaneStop
 }
 
 // The stop of a worker whose ask wasn't answered.
-pub(crate) fn stop_at(why: AskError) -> LaneStop
-    ensures { result ≡ stop_at why }
+pub(crate) fn ask_stop(why: AskError) -> LaneStop
+    ensures { result ≡ ask_stop why }
 {
     match why {
         AskError::Refused(refused) => LaneStop::Refused(refused),

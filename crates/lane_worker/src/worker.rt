@@ -4,7 +4,7 @@ ghost use Rattle.lane_worker.specs.Works.{site, BreaksAt, IsWork};
 ghost use Rattle.lane_worker.specs.Steps.{broken_end};
 
 use crate::asking::ask_act;
-use crate::ending::{LaneEnd, LaneStop, stop_at, stop_by};
+use crate::ending::{LaneEnd, LaneStop, ask_stop, weighing_stop};
 use crate::lane::Lane;
 use crate::progress::Progress;
 use crate::starting::start_lane;
@@ -37,7 +37,7 @@ fn work_lane<C: Caller, L: Lane>(
         prior: progress.prior,
     };
     ask_act(caller, act)?;
-    Ok(stop_by(ending))
+    Ok(weighing_stop(ending))
 }
 
 /// Works a lane for a batch: it stops the lane where it has a batch, starts it, weighs each pack
@@ -68,7 +68,7 @@ pub fn run_lane<C: Caller, L: Lane>(
         },
         Err(why) => LaneEnd {
             opened: progress.opened,
-            stop: stop_at(why),
+            stop: ask_stop(why),
         },
     }
 }

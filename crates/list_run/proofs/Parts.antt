@@ -5,7 +5,7 @@ use Rattle.std.specs.List.{flat_map}
 use Rattle.book_words.specs.declared.act.Entry.{Entry}
 use Rattle.list_run.specs.declared.types.Line.{Line}
 use Rattle.list_run.specs.declared.types.Section.TheVariants.{Products, Tares, Batches}
-use Rattle.list_run.specs.Listing.{day_line, rows_line, lines_in, lane_lines, desk_lines, named_lines, numbered_lines}
+use Rattle.list_run.specs.Listing.{day_line, rows_line, section_lines, lane_lines, desk_lines, named_lines, numbered_lines}
 use Rattle.list_run.specs.Texts.{line_text, list_text}
 
 -- the text of some lines
@@ -20,15 +20,15 @@ behind some more text is =
 
 pub named_text : (entries : List Entry)
     → text_of (named_lines entries)
-    ≡ line_text (day_line entries) ++ text_of (lines_in Products entries)
-    ++ text_of (lines_in Tares entries) ++ text_of (lines_in Batches entries)
+    ≡ line_text (day_line entries) ++ text_of (section_lines Products entries)
+    ++ text_of (section_lines Tares entries) ++ text_of (section_lines Batches entries)
 named_text entries =
     let day = day_line entries ∷ [] in
-    let one = day ++ lines_in Products entries in
-    let two = one ++ lines_in Tares entries in
-    behind two (lines_in Batches entries) _
-    (behind one (lines_in Tares entries) _
-    (behind day (lines_in Products entries) _ (append-nil (line_text (day_line entries)))))
+    let one = day ++ section_lines Products entries in
+    let two = one ++ section_lines Tares entries in
+    behind two (section_lines Batches entries) _
+    (behind one (section_lines Tares entries) _
+    (behind day (section_lines Products entries) _ (append-nil (line_text (day_line entries)))))
 
 pub numbered_text : (entries : List Entry) (limit : ℕ)
     → text_of (numbered_lines entries limit)

@@ -100,8 +100,8 @@ act_line section.Tares entries act = tare_line entries act
 act_line section.Batches entries act = option_and_then (batch_line entries) (batch_opened act)
 
 -- the lines of a section, in the order of their acts
-abbrev pub lines_in : Section → List Entry → List Line
-lines_in section entries = said (act_line section entries) entries
+abbrev pub section_lines : Section → List Entry → List Line
+section_lines section entries = said (act_line section entries) entries
 
 -- the lines of all lanes, from lane 1 on
 abbrev pub lane_lines : List Entry → List Line
@@ -117,9 +117,9 @@ desk_lines entries =
 abbrev pub named_lines : List Entry → List Line
 named_lines entries =
     day_line entries ∷ []
-    ++ lines_in section.Products entries
-    ++ lines_in section.Tares entries
-    ++ lines_in section.Batches entries
+    ++ section_lines section.Products entries
+    ++ section_lines section.Tares entries
+    ++ section_lines section.Batches entries
 
 -- the lanes that have a batch, the desks that have asked, and the rows
 abbrev pub numbered_lines : List Entry → ℕ → List Line

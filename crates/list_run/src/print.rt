@@ -4,7 +4,7 @@ ghost use Rattle.book_store.specs.Stores.{entries_of};
 ghost use Rattle.text_streams.specs.Streams.{output_at, WroteAll, IsCutIn};
 ghost use Rattle.report_run.specs.Printing.{SaysText, HasPrinted};
 ghost use Rattle.report_run.specs.Reports.{text_if_there};
-ghost use Rattle.list_run.specs.Listing.{lines_in, lane_lines, desk_lines};
+ghost use Rattle.list_run.specs.Listing.{section_lines, lane_lines, desk_lines};
 ghost use Rattle.list_run.specs.Listing.{named_lines, numbered_lines};
 ghost use Rattle.list_run.specs.Ranges.{IsInRange};
 ghost use Rattle.list_run.specs.Texts.{line_text, list_text};
@@ -62,10 +62,10 @@ fn print_section<K: Sink>(
     requires room { BUFFER_BYTES ≤ vec_capacity text.old }
     ensures printed { OnOk result (HasPrinted (output_at K.Sink output.old)
         (output_at K.Sink output.new) text.old.items text.new.items
-        (flat_map line_text (lines_in section state.now.entries))) }
+        (flat_map line_text (section_lines section state.now.entries))) }
     ensures cut { OnErr result (IsCutIn (output_at K.Sink output.old)
         (output_at K.Sink output.new) []
-        (text.old.items ++ flat_map line_text (lines_in section state.now.entries))) }
+        (text.old.items ++ flat_map line_text (section_lines section state.now.entries))) }
     ensures room { vec_capacity text.new ≡ vec_capacity text.old }
 {
     let _rows = state.len();

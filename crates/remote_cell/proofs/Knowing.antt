@@ -19,7 +19,7 @@ use Rattle.remote_cell.specs.declared.wire_lines.TheConstants.{MAX_LINE}
 use Rattle.remote_cell.specs.Exchanges.{Line, heard, heard_items, line_items, acknowledgements}
 use Rattle.remote_cell.specs.Lines.{has_end, whole_lines, part_of}
 use Rattle.remote_cell.specs.WireLines.{line_said, acknowledgement}
-use Rattle.remote_cell.specs.Told.{IsGood, IsGoodLine, texts_on, lines_on, given_items, line_acknowledgements, connection_acknowledgements, AreAnswered, is_done, undone, those_left, left_undone, silent, numbered, owed, IsPresent, Knows}
+use Rattle.remote_cell.specs.Told.{IsGood, IsGoodLine, texts_on, connection_lines, given_items, line_acknowledgements, connection_acknowledgements, AreAnswered, is_done, undone, those_left, left_undone, silent, numbered, owed, IsPresent, Knows}
 use Rattle.remote_cell.specs.Heard.{HasTaken, EndsWith, LastSays, Tells, items_of}
 use Rattle.remote_cell.specs.Steps.{IsSent, bad_behind, spoilt, heard_line, item_given, heard_text, item_heard}
 use Rattle.remote_cell.proofs.ExchangeLaw.{is_take}
@@ -48,17 +48,17 @@ one_most false = omega arith
 
 lines_more : (c d : Connection) (texts : List (List ℕ))
     → whole_lines d.taken ≡ whole_lines c.taken ++ texts
-    → lines_on d ≡ lines_on c ++ filter_map line_said texts
+    → connection_lines d ≡ connection_lines c ++ filter_map line_said texts
 lines_more c d texts is =
     ap (filter_map line_said) is ∙ filter_map-append line_said (whole_lines c.taken) texts
 
 given_step : (p : List Connection) (c d : Connection) (given : List Item)
-    → line_items (before p) (lines_on d) ≡ line_items (before p) (lines_on c) ++ given
+    → line_items (before p) (connection_lines d) ≡ line_items (before p) (connection_lines c) ++ given
     → given_items (p ++ d ∷ []) ≡ given_items (p ++ c ∷ []) ++ given
 given_step p c d given is =
     given_more p d
     ∙ ap (λ (l : List Item). given_items p ++ l) is
-    ∙ sym (append_assoc (given_items p) (line_items (before p) (lines_on c)) given)
+    ∙ sym (append_assoc (given_items p) (line_items (before p) (connection_lines c)) given)
     ∙ ap (λ (l : List Item). l ++ given) (sym (given_more p c))
 
 texts_step : (p : List Connection) (c d : Connection) (texts : List (List ℕ))
@@ -73,7 +73,7 @@ texts_step p c d texts is =
 taken_step : (now : Bool) (p : List Connection) (c d : Connection) (w : List (List ℕ))
     (given : List Item) (texts : List (List ℕ)) (turns faults : ℕ) → turns ≡ length texts
     → whole_lines d.taken ≡ whole_lines c.taken ++ texts
-    → line_items (before p) (lines_on d) ≡ line_items (before p) (lines_on c) ++ given
+    → line_items (before p) (connection_lines d) ≡ line_items (before p) (connection_lines c) ++ given
     → left_undone now (all_of p (Some d) w) ≤ undone 0 p + faults
     → length p + faults ≤ length (those_left now (all_of p (Some d) w))
     → HasTaken true now given turns faults (all_of p (Some c) w) (all_of p (Some d) w)
@@ -93,7 +93,7 @@ taken_step now p c d w given texts turns faults many more same few leave = recor
 
 -- the same whole lines
 same_lines : (c d : Connection) → whole_lines d.taken ≡ whole_lines c.taken
-    → lines_on d ≡ lines_on c
+    → connection_lines d ≡ connection_lines c
 same_lines c d same = ap (filter_map line_said) same
 
 same_step : (now : Bool) (p : List Connection) (c d : Connection) (w : List (List ℕ)) (faults : ℕ)
@@ -104,7 +104,7 @@ same_step : (now : Bool) (p : List Connection) (c d : Connection) (w : List (Lis
 same_step now p c d w faults same few leave =
     taken_step now p c d w [] [] 0 faults refl (same ∙ sym (append-nil (whole_lines c.taken)))
     (ap (line_items (before p)) (same_lines c d same)
-    ∙ sym (append-nil (line_items (before p) (lines_on c)))) few leave
+    ∙ sym (append-nil (line_items (before p) (connection_lines c)))) few leave
 
 -- the connection that was present was left undone, or will be
 left_one : (p : List Connection) (d : Connection) (w : List (List ℕ))
@@ -446,20 +446,20 @@ says_line h p c w text number item said over owes connected plain few knows k is
     let known : HeardLine h how item = heard_as h how item owes in
     let texts : whole_lines d.taken ≡ whole_lines c.taken ++ text ∷ [] =
     lines_ended c.taken text (on.at_line over connected) plain in
-    let lines : lines_on d ≡ lines_on c ++ line ∷ [] =
+    let lines : connection_lines d ≡ connection_lines c ++ line ∷ [] =
     lines_more c d (text ∷ []) texts
-    ∙ ap (λ (o : Option Line). lines_on c ++ cons_option o []) said in
-    let taken : h.receiver ≡ before p + length (line_items (before p) (lines_on c)) =
+    ∙ ap (λ (o : Option Line). connection_lines c ++ cons_option o []) said in
+    let taken : h.receiver ≡ before p + length (line_items (before p) (connection_lines c)) =
     knows.taken_is ∙ ap length (given_more p c)
-    ∙ length-append (given_items p) (line_items (before p) (lines_on c)) in
-    let given : line_items (before p) (lines_on d)
-    ≡ line_items (before p) (lines_on c) ++ heard_items how item =
+    ∙ length-append (given_items p) (line_items (before p) (connection_lines c)) in
+    let given : line_items (before p) (connection_lines d)
+    ≡ line_items (before p) (connection_lines c) ++ heard_items how item =
     ap (line_items (before p)) lines
-    ∙ one_given (before p) h.receiver (lines_on c) line taken in
+    ∙ one_given (before p) h.receiver (connection_lines c) line taken in
     let answers : connection_acknowledgements (before p) d ≡ connection_acknowledgements (before p) c
     ++ flat_map acknowledgement (acknowledgements how (h.receiver + length (heard_items how item))) =
     ap (line_acknowledgements (before p)) lines
-    ∙ one_acknowledged (before p) h.receiver (lines_on c) line taken in
+    ∙ one_acknowledged (before p) h.receiver (connection_lines c) line taken in
     let step : HasTaken true true (heard_items how item) 1 0 (all_of p (Some c) w)
     (all_of p (Some d) w) = taken_step true p c d w (heard_items how item) (text ∷ []) 1 0 refl texts
     given (kept_one p d w 0) (kept_none p d w) in
@@ -507,14 +507,14 @@ says_nothing h p c w text said over connected plain knows =
     let d : Connection = add_taken (text ++ 10 ∷ []) c in
     let texts : whole_lines d.taken ≡ whole_lines c.taken ++ text ∷ [] =
     lines_ended c.taken text (on.at_line over connected) plain in
-    let lines : lines_on d ≡ lines_on c =
+    let lines : connection_lines d ≡ connection_lines c =
     lines_more c d (text ∷ []) texts
-    ∙ ap (λ (o : Option Line). lines_on c ++ cons_option o []) said
-    ∙ append-nil (lines_on c) in
-    let given : line_items (before p) (lines_on d)
-    ≡ line_items (before p) (lines_on c) ++ [] =
+    ∙ ap (λ (o : Option Line). connection_lines c ++ cons_option o []) said
+    ∙ append-nil (connection_lines c) in
+    let given : line_items (before p) (connection_lines d)
+    ≡ line_items (before p) (connection_lines c) ++ [] =
     ap (line_items (before p)) lines
-    ∙ sym (append-nil (line_items (before p) (lines_on c))) in
+    ∙ sym (append-nil (line_items (before p) (connection_lines c))) in
     let answers : connection_acknowledgements (before p) d ≡ connection_acknowledgements (before p) c =
     ap (line_acknowledgements (before p)) lines in
     let step : HasTaken true true [] 1 0 (all_of p (Some c) w) (all_of p (Some d) w) =

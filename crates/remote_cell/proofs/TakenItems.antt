@@ -8,7 +8,7 @@ use Rattle.remote_cell.specs.declared.items.Item.{Item}
 use Rattle.remote_cell.specs.Exchanges.{Line, heard, heard_items, line_items, acknowledgements}
 use Rattle.remote_cell.specs.Lines.{whole_lines}
 use Rattle.remote_cell.specs.WireLines.{acknowledgement}
-use Rattle.remote_cell.specs.Told.{texts_on, lines_on, given_items, line_acknowledgements, connection_acknowledgements, AreAnswered, is_done, undone}
+use Rattle.remote_cell.specs.Told.{texts_on, connection_lines, given_items, line_acknowledgements, connection_acknowledgements, AreAnswered, is_done, undone}
 
 -- how many are taken behind lines
 abbrev count : ℕ → List Line → ℕ
@@ -80,23 +80,23 @@ one_acknowledged n m lines line is =
 -- ---- connections more
 
 abbrev all_lines : List Connection → List Line
-all_lines p = flat_map lines_on p
+all_lines p = flat_map connection_lines p
 
 lines_one_more : (p : List Connection) (c : Connection)
-    → all_lines (p ++ c ∷ []) ≡ all_lines p ++ lines_on c
+    → all_lines (p ++ c ∷ []) ≡ all_lines p ++ connection_lines c
 lines_one_more p c =
-    flat_map-append lines_on p (c ∷ [])
-    ∙ ap (λ (l : List Line). all_lines p ++ l) (append-nil (lines_on c))
+    flat_map-append connection_lines p (c ∷ [])
+    ∙ ap (λ (l : List Line). all_lines p ++ l) (append-nil (connection_lines c))
 
 from_none : (p : List Connection) → count 0 (all_lines p) ≡ length (given_items p)
 from_none p = omega arith
 
 pub given_more : (p : List Connection) (c : Connection) → given_items (p ++ c ∷ [])
-    ≡ given_items p ++ line_items (length (given_items p)) (lines_on c)
+    ≡ given_items p ++ line_items (length (given_items p)) (connection_lines c)
 given_more p c =
     ap (line_items 0) (lines_one_more p c)
-    ∙ given_both 0 (all_lines p) (lines_on c)
-    ∙ ap (λ (k : ℕ). given_items p ++ line_items k (lines_on c)) (from_none p)
+    ∙ given_both 0 (all_lines p) (connection_lines c)
+    ∙ ap (λ (k : ℕ). given_items p ++ line_items k (connection_lines c)) (from_none p)
 
 pub texts_more : (p : List Connection) (c : Connection)
     → texts_on (p ++ c ∷ []) ≡ texts_on p ++ whole_lines c.taken
@@ -105,8 +105,8 @@ texts_more p c =
     ∙ ap (λ (l : List (List ℕ)). texts_on p ++ l) (append-nil (whole_lines c.taken))
 
 count_first : (n : ℕ) (x : Connection) (p : List Connection)
-    → count n (all_lines (x ∷ p)) ≡ count (count n (lines_on x)) (all_lines p)
-count_first n x p = count_both n (lines_on x) (all_lines p)
+    → count n (all_lines (x ∷ p)) ≡ count (count n (connection_lines x)) (all_lines p)
+count_first n x p = count_both n (connection_lines x) (all_lines p)
 
 answered_behind : (n : ℕ) (p : List Connection) (c : Connection) → AreAnswered n p
     → IsPrefixOf c.written (connection_acknowledgements (count n (all_lines p)) c)
@@ -116,7 +116,7 @@ answered_behind n [] c all begins =
     (subst (λ (k : ℕ). IsPrefixOf c.written (connection_acknowledgements k c)) same begins, tt)
 answered_behind n (x ∷ p) c all begins = (
   all.0,
-  answered_behind (count n (lines_on x)) p c all.1
+  answered_behind (count n (connection_lines x)) p c all.1
       (subst (λ (k : ℕ). IsPrefixOf c.written (connection_acknowledgements k c)) (count_first n x p) begins),
 )
 
@@ -136,7 +136,7 @@ undone_behind n [] c =
     let same : n + 0 ≡ n = omega arith in
     omega (arith, ap (λ (k : ℕ). one_undone k c) same)
 undone_behind n (x ∷ p) c =
-    let m : ℕ = count n (lines_on x) in
+    let m : ℕ = count n (connection_lines x) in
     omega (
       arith,
       undone_behind m p c,

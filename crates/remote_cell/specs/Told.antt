@@ -17,12 +17,12 @@ abbrev pub texts_on : List Connection → List (List ℕ)
 texts_on connections = flat_map (λ (c : Connection). whole_lines c.taken) connections
 
 -- what the whole lines of a connection say
-abbrev pub lines_on : Connection → List Line
-lines_on c = filter_map line_said (whole_lines c.taken)
+abbrev pub connection_lines : Connection → List Line
+connection_lines c = filter_map line_said (whole_lines c.taken)
 
 -- the items taken of some connections, one after another
 abbrev pub given_items : List Connection → List Item
-given_items connections = taken (flat_map lines_on connections)
+given_items connections = taken (flat_map connection_lines connections)
 
 -- a line is of one of the two forms, and isn't too long
 abbrev pub IsGoodLine : List ℕ → Type 0
@@ -45,14 +45,14 @@ line_acknowledgements taken (line ∷ lines) =
     ++ line_acknowledgements (taken + length (heard_items (heard taken line.0) line.1)) lines
 
 abbrev pub connection_acknowledgements : ℕ → Connection → List ℕ
-connection_acknowledgements taken c = line_acknowledgements taken (lines_on c)
+connection_acknowledgements taken c = line_acknowledgements taken (connection_lines c)
 
 -- to each of some connections its acknowledgements were written, or the first of these bytes
 abbrev pub AreAnswered : ℕ → List Connection → Type 0
 AreAnswered taken [] = Unit {0}
 AreAnswered taken (c ∷ connections) =
     IsPrefixOf c.written (connection_acknowledgements taken c)
-    × AreAnswered (taken + length (line_items taken (lines_on c))) connections
+    × AreAnswered (taken + length (line_items taken (connection_lines c))) connections
 
 -- a connection is done: its bytes were taken to their end, and its acknowledgements were written
 abbrev pub is_done : ℕ → Connection → Bool
@@ -64,7 +64,7 @@ abbrev pub undone : ℕ → List Connection → ℕ
 undone taken [] = 0
 undone taken (c ∷ connections) =
     cond (is_done taken c) 0 1
-    + undone (taken + length (line_items taken (lines_on c))) connections
+    + undone (taken + length (line_items taken (connection_lines c))) connections
 
 -- the connections that were left, or are to be left: all but one that goes on
 abbrev pub those_left : Bool → Connections → List Connection

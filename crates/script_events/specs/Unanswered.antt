@@ -10,14 +10,14 @@ use Rattle.script_events.specs.declared.asking.Unanswered.TheVariants as unanswe
 use Rattle.script_events.specs.Asking.{Exchange, script_caller}
 
 -- how a run stops where a command isn't answered
-abbrev pub stop_of : Unanswered → Stop
-stop_of (unanswered.DiskFault ask) = DiskFault (offering.Asked script_caller ask)
-stop_of unanswered.NoMemory = NoMemory
+abbrev pub unanswered_stop : Unanswered → Stop
+unanswered_stop (unanswered.DiskFault ask) = DiskFault (offering.Asked script_caller ask)
+unanswered_stop unanswered.NoMemory = NoMemory
 
 -- how a step of a run ends that asks a command
 abbrev pub step_of : {T : Type 0} → Result T Unanswered → Result T Stop
 step_of (Ok done) = Ok done
-step_of (Err why) = Err (stop_of why)
+step_of (Err why) = Err (unanswered_stop why)
 
 -- the disk failed at an exchange that would have added a row, and was offered that
 pub record FailsAt (exchange : Exchange) (offer : Offer) : Type 0 where
@@ -33,4 +33,4 @@ MayStopAt exchange _ = ⊥
 
 -- so may a command stay without an answer
 abbrev pub MayStay : Exchange → Unanswered → Type 0
-MayStay exchange why = MayStopAt exchange (stop_of why)
+MayStay exchange why = MayStopAt exchange (unanswered_stop why)

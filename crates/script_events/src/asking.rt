@@ -30,9 +30,9 @@ pub enum Unanswered {
 
 impl From<Unanswered> for Stop {
     ghost use Rattle.std.specs.Prelude.{◌≡◌};
-    ghost use Rattle.script_events.specs.Unanswered.{stop_of};
+    ghost use Rattle.script_events.specs.Unanswered.{unanswered_stop};
 
-    ghost from_gives = { λ why stop. stop ≡ stop_of why };
+    ghost from_gives = { λ why stop. stop ≡ unanswered_stop why };
 
     fn from(why: Unanswered) -> Stop {
         match why {
@@ -77,7 +77,7 @@ fn weigh_at(book: &Book, lane: u8, gross: i64, prior: Option<Prior>) -> Want
 }
 
 // The stop of a lane, with what the gate did before it.
-fn stop_at(book: &Book, lane: u8, prior: Option<Prior>) -> Want
+fn stop_want(book: &Book, lane: u8, prior: Option<Prior>) -> Want
     ensures { result ≡ want.Act (act.StopLane lane (prior_at book.now.entries lane prior)) }
 {
     Want::Act(Act::StopLane {
@@ -109,7 +109,7 @@ fn want_at(book: &Book, verb: Verb) -> Want
         }),
         Verb::Start { lane, batch } => Want::Act(Act::StartLane { lane, batch }),
         Verb::Weigh { lane, gross, prior } => weigh_at(book, lane, gross, prior),
-        Verb::Stop { lane, prior } => stop_at(book, lane, prior),
+        Verb::Stop { lane, prior } => stop_want(book, lane, prior),
         Verb::Void { pack } => Want::Act(Act::Void { pack }),
         Verb::End { batch } => Want::Act(Act::EndRun { batch }),
         Verb::Draw { batch, mode, word } => Want::Act(Act::Draw { batch, mode, word }),

@@ -37,7 +37,7 @@ use Rattle.serve_run.specs.declared.stop.ServeStop.TheVariants.{BadPlan, Early, 
 use Rattle.serve_run.specs.Jobs.{Handed, jobs_of}
 use Rattle.serve_run.specs.Keeping.{RanOver, ServeGoes}
 use Rattle.serve_run.specs.Plans.{EndsPlan, IsFinished, RunsPlan, end_handed}
-use Rattle.serve_run.specs.Preparing.{IsPreparedFor, IsUnpreparedFor, StopsPlan, WhyUnprepared, stop_without}
+use Rattle.serve_run.specs.Preparing.{IsPreparedFor, IsUnpreparedFor, StopsPlan, WhyUnprepared, unplanned_stop}
 use Rattle.serve_run.specs.Serving.{CountsJobs, ExplainsServe, HasRunPlan, Moment, SaysJobs, SparesJobs, moment, serve_text, some_lack}
 use Rattle.serve_run.proofs.RunLemmas.{rests_kept, run_kept}
 use Rattle.serve_run.proofs.ServeLemmas.{at_least, counts_jobs, finished, rests, says_jobs, spared}
@@ -59,7 +59,7 @@ unprepared g store left plan count before now read (Early stop) stops = record {
 -- an input that gives no plan
 pub planless : {D : Type 0} (g : disk.Ghosts D) (store : Store D) (count : ℕ) (before now : Stream)
     (why : NoPlan) → ReadsNoPlan count before now why
-    → IsUnpreparedFor g store count before now (record { store = store; stop = stop_without why })
+    → IsUnpreparedFor g store count before now (record { store = store; stop = unplanned_stop why })
 planless g store count before now no_plan.BadPlan reads =
     record { goes = refl; why = (refl, reads) }
 planless g store count before now no_plan.ReadFault reads = record {

@@ -23,10 +23,10 @@ use Rattle.serve_run.specs.Serving.{IsStoppedEarly}
 use Rattle.serve_run.specs.Keeping.{ServeGoes}
 
 -- how it stops where there is no plan
-abbrev pub stop_without : NoPlan → ServeStop
-stop_without no_plan.BadPlan = BadPlan
-stop_without no_plan.ReadFault = Early stops.ReadFault
-stop_without no_plan.NoMemory = Early stops.NoMemory
+abbrev pub unplanned_stop : NoPlan → ServeStop
+unplanned_stop no_plan.BadPlan = BadPlan
+unplanned_stop no_plan.ReadFault = Early stops.ReadFault
+unplanned_stop no_plan.NoMemory = Early stops.NoMemory
 
 -- the setup of a plan was asked over a store, which is sound and goes on, and has room for as many
 -- rows as the plan reserves; and here are its lanes

@@ -3,7 +3,7 @@ ghost use Rattle.std.specs.Prelude.{◌≡◌, ◌≤◌, false, IfErr, IfOk};
 ghost use Rattle.hall_limits.specs.declared.TheConstants.{MAX_LANE};
 ghost use Rattle.book_store.specs.Stores.{IsSound};
 ghost use Rattle.text_streams.specs.Streams.{input_at};
-ghost use Rattle.serve_run.specs.Preparing.{stop_without, IsSetUpFor, StopsPlan};
+ghost use Rattle.serve_run.specs.Preparing.{unplanned_stop, IsSetUpFor, StopsPlan};
 ghost use Rattle.serve_run.specs.Preparing.{IsPreparedFor, IsUnpreparedFor};
 
 use crate::stop::ServeStop;
@@ -27,8 +27,8 @@ pub struct Unprepared<D: Disk> {
 }
 
 // How `serve` stops where there is no plan.
-fn stop_without(why: NoPlan) -> ServeStop
-    ensures { result ≡ stop_without why }
+fn unplanned_stop(why: NoPlan) -> ServeStop
+    ensures { result ≡ unplanned_stop why }
 {
     match why {
         NoPlan::BadPlan => ServeStop::BadPlan,
@@ -84,7 +84,7 @@ pub fn prepare<S: Source, N: SetupNotices, D: Disk>(
         Ok(plan) => set_up(store, plan, notices),
         Err(why) => Err(Unprepared {
             store,
-            stop: stop_without(why),
+            stop: unplanned_stop(why),
         }),
     }
 }

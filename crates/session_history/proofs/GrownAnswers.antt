@@ -16,7 +16,7 @@ use Rattle.book_words.proofs.RightAnswers.{right_in_longer, right_names}
 use Rattle.lane_worker.specs.declared.ending.WeighingEnd.{WeighingEnd}
 use Rattle.lane_worker.specs.declared.ending.WeighingEnd.TheVariants as ends
 use Rattle.lane_worker.specs.declared.ending.LaneStop.TheVariants as lane_stop
-use Rattle.lane_worker.specs.Endings.{stop_at, stop_by}
+use Rattle.lane_worker.specs.Endings.{ask_stop, weighing_stop}
 use Rattle.office_door.specs.Exchanges.{Exchange, IsAnswered, IsAnsweredIn, IsLost, IsTold, NeverFall}
 use Rattle.office_door.proofs.Prefixes.{prefix_on}
 use Rattle.office_wire.specs.declared.types.OfficeAsk.{OfficeAsk}
@@ -188,14 +188,14 @@ module _ (limit by room : ℕ) (before : List Entry) (last : Known) (answered : 
 
   pub error_names : (why : AskError)
       → BrokeBefore AnyAsks room (newcomer limit before by) last answered next why
-      → NamesOwnRows before last.mine (stop_at why)
+      → NamesOwnRows before last.mine (ask_stop why)
   error_names (error.Refused refused) broke = refused_names refused broke
   error_names error.DiskFault broke = tt
   error_names error.NoMemory broke = tt
 
 -- a work that finished keeps no refusal
 pub finish_names : (before : List Entry) (own : List Row) (ending : WeighingEnd)
-    → NamesOwnRows before own (stop_by ending)
+    → NamesOwnRows before own (weighing_stop ending)
 finish_names before own ends.End = tt
 finish_names before own (ends.Bad line) = tt
 finish_names before own ends.Spent = tt

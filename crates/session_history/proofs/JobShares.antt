@@ -17,7 +17,7 @@ use Rattle.book_laws.proofs.VerdictLaws.{verdicts_stay}
 use Rattle.book_store.specs.Callers.{own_rows}
 use Rattle.lane_worker.specs.declared.cell.Cell as cell
 use Rattle.lane_worker.specs.declared.gate.Gate as gate
-use Rattle.lane_worker.specs.Endings.{faults_at, gate_failed, stop_at}
+use Rattle.lane_worker.specs.Endings.{faults_at, gate_failed, ask_stop}
 use Rattle.lane_worker.specs.Works as lanes
 use Rattle.lane_worker.specs.Works.{IsWork, asks_of_work}
 use Rattle.office_door.specs.Doors as doors
@@ -77,11 +77,11 @@ module _ {L O : Type 0} (weighs : cell.Ghosts L) (lifts : gate.Ghosts L) (reads 
       asks = asks_of_work was.number was.batch done.works.work
 
       -- a worker that found no memory was answered no fault
-      no_faults : (why : AskError) → done.end.stop ≡ stop_at why → why ≡ error.NoMemory
+      no_faults : (why : AskError) → done.end.stop ≡ ask_stop why → why ≡ error.NoMemory
           → known.faults < FAULTS_END
       no_faults why told is =
           let none : faults_at done.end.stop ≡ 0 =
-          ap faults_at (told ∙ ap stop_at is) in
+          ap faults_at (told ∙ ap ask_stop is) in
           omega (arith, done.works.faults, none)
 
       ends_right : EndsRight limit room rows was.number lane_deed
@@ -108,7 +108,7 @@ module _ {L O : Type 0} (weighs : cell.Ghosts L) (lifts : gate.Ghosts L) (reads 
           (λ f. subst (NamesOwnRows before done.works.work.rows) (sym f.told)
           (finish_names before done.works.work.rows f.ending))
           (λ b. subst (NamesOwnRows before done.works.work.rows) (sym b.told)
-          (subst (λ (own : List Row). NamesOwnRows before own (stop_at b.why)) done.works.added.mine
+          (subst (λ (own : List Row). NamesOwnRows before own (ask_stop b.why)) done.works.added.mine
           (error_names limit was.number room before known done.works.work.answered b.next b.why
           b.broke))) done.works.stops
 

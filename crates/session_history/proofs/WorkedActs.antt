@@ -16,7 +16,7 @@ use Rattle.book_words.specs.Desks.{Row}
 use Rattle.book_words.specs.Views.{lane_view}
 use Rattle.lane_worker.specs.declared.ending.LaneStop.{LaneStop}
 use Rattle.lane_worker.specs.Asks.{act_ask, prior_behind, starting_asks, stop_found, stopping_asks, weighing_asks}
-use Rattle.lane_worker.specs.Endings.{stop_at}
+use Rattle.lane_worker.specs.Endings.{ask_stop}
 use Rattle.lane_worker.specs.Works.{Work, Finishes, BreaksOff, asks_of_work}
 use Rattle.session_history.specs.Rows.{gross_told, grosses_told, is_whole}
 
@@ -86,7 +86,7 @@ all_weighed lane batch work accepted whole =
 
 -- ---- how much was answered
 
-broken_off : (why : AskError) → is_whole (stop_at why) ≡ false
+broken_off : (why : AskError) → is_whole (ask_stop why) ≡ false
 broken_off (error.Refused refused) = refl
 broken_off error.DiskFault = refl
 broken_off error.NoMemory = refl

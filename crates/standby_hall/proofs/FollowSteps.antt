@@ -18,7 +18,7 @@ use Rattle.standby_hall.specs.declared.types.FollowStop.{FollowStop}
 use Rattle.standby_hall.specs.declared.types.FollowStop.TheVariants.{ReadFault, Head, Gap, Row, Extra, DiskFault, NoMemory}
 use Rattle.standby_hall.specs.declared.head.TheConstants.{HEAD_BYTES}
 use Rattle.standby_hall.specs.Shipments.{head_bytes, IsHead, shipped}
-use Rattle.standby_hall.specs.Following.{ExplainsFollow, stop_behind}
+use Rattle.standby_hall.specs.Following.{ExplainsFollow, shipment_stop}
 use Rattle.standby_hall.specs.Rows.{TakesUpTo, FailsWithin, HasReadHead, HasReadRows, HasReadAll}
 
 -- ---- the head
@@ -189,7 +189,7 @@ module _ (start now next : Stream) (held rows : List Entry) (head : ShipHead)
 -- ---- the store
 
 -- no stop of following is a good end of a run
-behind_unfinished : (stop : FollowStop) → stop_behind stop ≢ run.Finished
+behind_unfinished : (stop : FollowStop) → shipment_stop stop ≢ run.Finished
 behind_unfinished ReadFault is = absurd cc
 behind_unfinished Head is = absurd cc
 behind_unfinished (Gap row) is = absurd cc
@@ -209,9 +209,9 @@ counts_spared count run.Spent spares = refl
 
 -- a stop at which the disk wasn't asked leaves the store
 pub stays_behind : {D T : Type 0} (g : disk.Ghosts D) (stop : FollowStop) (store : Store D)
-    → SparesDisk (stop_behind stop) → Goes {T = T} g (Err (stop_behind stop)) store store
+    → SparesDisk (shipment_stop stop) → Goes {T = T} g (Err (shipment_stop stop)) store store
 stays_behind g stop store spares =
-    stays g (Err (stop_behind stop)) store
-    (counts_spared (g.faults (disk_of store)) (stop_behind stop) spares)
+    stays g (Err (shipment_stop stop)) store
+    (counts_spared (g.faults (disk_of store)) (shipment_stop stop) spares)
     (λ is. absurd (behind_unfinished stop
-    (let same : stop_behind stop ≡ run.Finished = cc is in same)))
+    (let same : shipment_stop stop ≡ run.Finished = cc is in same)))

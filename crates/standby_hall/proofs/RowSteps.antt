@@ -22,7 +22,7 @@ use Rattle.standby_hall.specs.declared.types.ShipHead.{ShipHead}
 use Rattle.standby_hall.specs.declared.types.FollowStop.{FollowStop}
 use Rattle.standby_hall.specs.declared.types.FollowStop.TheVariants.{ReadFault, Head, Gap, Row, Extra, DiskFault, NoMemory}
 use Rattle.standby_hall.specs.Shipments.{head_bytes, IsHead, rows_from, shipped}
-use Rattle.standby_hall.specs.Following.{Arrival, HasFollowed, FailsInRows, StopsAtRow, ComesToNew, Follows, CountsRead, ExplainsFollow, stop_behind, step_behind}
+use Rattle.standby_hall.specs.Following.{Arrival, HasFollowed, FailsInRows, StopsAtRow, ComesToNew, Follows, CountsRead, ExplainsFollow, shipment_stop, step_behind}
 use Rattle.standby_hall.specs.Rows.{entry_stop, IsNewSlot, StopsSlot, FollowsRow, FailsWithin, StopsAtBad, StopsAtNew, StopsInRow, HasReadRows}
 use Rattle.standby_hall.proofs.RowBytes.{rows_more}
 
@@ -30,7 +30,7 @@ use Rattle.standby_hall.proofs.RowBytes.{rows_more}
 
 -- a stop of carrying is told again
 pub stop_again : (rows : List Entry) (number : ℕ) (entry : Entry) (stop : Stop)
-    → StopsAtEntry rows number entry stop → stop_behind (entry_stop number entry stop) ≡ stop
+    → StopsAtEntry rows number entry stop → shipment_stop (entry_stop number entry stop) ≡ stop
 stop_again rows number entry (run.DiskFault offer) (inl (is, refuses)) = absurd cc
 stop_again rows number entry (run.DiskFault offer) (inr (none, lawful, fails)) =
     ap (λ o. run.DiskFault o) (sym fails)

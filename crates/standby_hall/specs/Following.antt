@@ -173,24 +173,24 @@ ExplainsAnswer held before now rows answer =
 
 -- how a run stops so: at line 0 where it isn't a shipment, at the row that is bad or lacking, or at
 -- the one that would come behind the last
-abbrev pub stop_behind : FollowStop → Stop
-stop_behind ReadFault = run.ReadFault
-stop_behind Head = run.BadLine 0
-stop_behind (Gap row) = run.BadLine row
-stop_behind (Row row) = run.BadLine row
-stop_behind (Extra all) = run.BadLine (all + 1)
-stop_behind (DiskFault entry) = run.DiskFault (offering.Row entry)
-stop_behind NoMemory = run.NoMemory
+abbrev pub shipment_stop : FollowStop → Stop
+shipment_stop ReadFault = run.ReadFault
+shipment_stop Head = run.BadLine 0
+shipment_stop (Gap row) = run.BadLine row
+shipment_stop (Row row) = run.BadLine row
+shipment_stop (Extra all) = run.BadLine (all + 1)
+shipment_stop (DiskFault entry) = run.DiskFault (offering.Row entry)
+shipment_stop NoMemory = run.NoMemory
 
 -- as a step of a run
 abbrev pub step_behind : {T : Type 0} → Result T FollowStop → Result T Stop
 step_behind (Ok done) = Ok done
-step_behind (Err stop) = Err (stop_behind stop)
+step_behind (Err stop) = Err (shipment_stop stop)
 
 -- how a run ends that follows a shipment: where rows were added, a snapshot is kept, or that fails
 abbrev pub EndsBehind : ℕ → List Entry → Result ℕ FollowStop → Stop → Type 0
 EndsBehind held rows (Ok adopted) stop = (stop ≡ run.Finished) ⊎ FailsToKeep held rows stop
-EndsBehind held rows (Err why) stop = stop ≡ stop_behind why
+EndsBehind held rows (Err why) stop = stop ≡ shipment_stop why
 
 abbrev pub ExplainsFollowRun : List Entry → Stream → Stream → List Entry → Stop → Type 0
 ExplainsFollowRun held before now rows stop =

@@ -5,7 +5,7 @@ ghost use Rattle.text_streams.specs.Streams.{Stream, input_at};
 ghost use Rattle.store_runs.specs.declared.stop.Stop.TheVariants.{Finished};
 ghost use Rattle.store_runs.specs.Runs.{Goes, RunGoes, FailsToKeep, SparesDisk};
 ghost use Rattle.standby_hall.specs.Shipments.{IsHead};
-ghost use Rattle.standby_hall.specs.Following.{ExplainsFollow, ExplainsAnswer, ExplainsFollowRun, stop_behind, step_behind, result_with};
+ghost use Rattle.standby_hall.specs.Following.{ExplainsFollow, ExplainsAnswer, ExplainsFollowRun, shipment_stop, step_behind, result_with};
 ghost use Rattle.standby_hall.specs.Rows.{HasReadHead, HasReadAll};
 
 use crate::arriving::fill;
@@ -26,7 +26,7 @@ fn read_head<S: Source>(input: &mut S) -> Result<ShipHead, FollowStop>
     ensures stops { IfErr result (λ stop. (held : List Entry)
         → ExplainsFollow held (input_at S.Source input.old) (input_at S.Source input.new) held
         (Err stop)) }
-    ensures spares { IfErr result (λ stop. SparesDisk (stop_behind stop)) }
+    ensures spares { IfErr result (λ stop. SparesDisk (shipment_stop stop)) }
 {
     let mut bytes = [0; HEAD_BYTES];
     let Ok(count) = fill(input, &mut bytes) else {
@@ -77,7 +77,7 @@ fn see_end<S: Source>(input: &mut S, head: &ShipHead) -> Result<(), FollowStop>
         → HasReadAll start (input_at S.Source input.old) held rows head.now
         → length rows ≡ length held + adopted
         → ExplainsFollow held start (input_at S.Source input.new) rows (result_with adopted result) }
-    ensures spares { IfErr result (λ stop. SparesDisk (stop_behind stop)) }
+    ensures spares { IfErr result (λ stop. SparesDisk (shipment_stop stop)) }
 {
     let mut byte = [0; 1];
     match fill(input, &mut byte) {

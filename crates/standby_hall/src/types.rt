@@ -71,9 +71,9 @@ impl From<FollowStop> for FollowError {
 
 impl From<FollowStop> for Stop {
     ghost use Rattle.std.specs.Prelude.{◌≡◌};
-    ghost use Rattle.standby_hall.specs.Following.{stop_behind};
+    ghost use Rattle.standby_hall.specs.Following.{shipment_stop};
 
-    ghost from_gives = { λ why stop. stop ≡ stop_behind why };
+    ghost from_gives = { λ why stop. stop ≡ shipment_stop why };
 
     fn from(why: FollowStop) -> Stop {
         match why {

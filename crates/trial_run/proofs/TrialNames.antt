@@ -20,7 +20,7 @@ use Rattle.book_core.specs.Steps.{GivesLook}
 use Rattle.script_lines.specs.declared.command.Command.{Command}
 use Rattle.script_lines.specs.declared.command.Verb.TheVariants.{End, Measure, Stop}
 use Rattle.trial_run.specs.declared.commands.TheConstants.{BATCH_PACKS}
-use Rattle.trial_run.specs.TrialScripts.{trial_product, batch_name, word_behind, gross_by, open_commands, weighing, weighings, draw_command, batch_run, packs_of_batch, hall_command, gross_weighed, measure_at, packs_in, packs_told}
+use Rattle.trial_run.specs.TrialScripts.{trial_product, batch_name, word_behind, gross_by, open_commands, weighing, weighings, draw_command, batch_run, packs_of_batch, hall_command, gross_weighed, measure_at, told_packs, packs_told}
 
 -- the product's name
 pub product_named : name_of (codes "trial") ≡ Some trial_product
@@ -195,9 +195,9 @@ measure_past entries pack past =
 
 -- what a look answers
 pub look_found : (question : Question) (answered : Answered) (wanted : Result Answered Refused)
-    → GivesLook question (Ok answered) wanted → packs_in answered.reply ≡ packs_told wanted
+    → GivesLook question (Ok answered) wanted → told_packs answered.reply ≡ packs_told wanted
 look_found question answered (Ok told) is =
-    let same : answered ≡ told = cc (is) in ap (λ (a : Answered). packs_in a.reply) same
+    let same : answered ≡ told = cc (is) in ap (λ (a : Answered). told_packs a.reply) same
 look_found question answered (Err refused) is = absurd (cc (is))
 
 pub look_refused : (question : Question) (given : Refused) (wanted : Result Answered Refused)

@@ -98,12 +98,12 @@ abbrev pub sample_question : Name → Command
 sample_question batch = hall_command (Sample batch)
 
 -- the packs of the first sample that an answer tells; a refusal tells none
-abbrev pub packs_in : Reply → List ℕ
-packs_in (SampleIs view) = view.first
-packs_in _ = []
+abbrev pub told_packs : Reply → List ℕ
+told_packs (SampleIs view) = view.first
+told_packs _ = []
 
 abbrev pub packs_told : Result Answered Refused → List ℕ
-packs_told (Ok answered) = packs_in answered.reply
+packs_told (Ok answered) = told_packs answered.reply
 packs_told (Err refused) = []
 
 -- the packs that were drawn from a batch, in drawing order: those that the question tells

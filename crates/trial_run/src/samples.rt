@@ -2,7 +2,7 @@ ghost use Rattle.std.specs.Prelude.{◌≡◌, IfOk, IfErr};
 ghost use Rattle.store_runs.specs.declared.stop.Stop.TheVariants as stop;
 ghost use Rattle.store_runs.specs.Books.{book_state, stored_book};
 ghost use Rattle.trial_run.specs.Steps.{Asks};
-ghost use Rattle.trial_run.specs.TrialScripts.{gross_weighed, packs_in, drawn_packs, measure_at, measure_commands, in_turn};
+ghost use Rattle.trial_run.specs.TrialScripts.{gross_weighed, told_packs, drawn_packs, measure_at, measure_commands, in_turn};
 
 use crate::asking::ask_one;
 use crate::commands::hall_command;
@@ -68,7 +68,7 @@ pub fn measure_packs<D: Disk>(caller: &mut OneCaller<D>, packs: &[u64]) -> Resul
 
 // The packs of the first sample that an answer tells.
 fn packs_told(alloc: Global, answered: Answered) -> Picks
-    ensures { result ≡ packs_in answered.reply }
+    ensures { result ≡ told_packs answered.reply }
 {
     match answered.reply {
         Reply::SampleIs(view) => view.first,

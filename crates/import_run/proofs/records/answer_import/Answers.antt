@@ -13,6 +13,6 @@ returns-in-Err-clause-stops g c =
     let now = output_at g.K.Sink c.args.output.now in
     let rows = entries_of (store_in c.args.session.now) in
     let import = import_in c.args.bytes.now in
-    subst (EndsImport book now now rows import) (sym c.stop_of.ensures)
+    subst (EndsImport book now now rows import) (sym c.import_stop.ensures)
     (stops_reading book book now now rows import import (answered_nothing book now import) refl
     c.in-Err.error c.in-Err.ensures.error)

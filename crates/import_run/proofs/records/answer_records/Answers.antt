@@ -71,7 +71,7 @@ returns-in-Err-clause-stops g c =
     let before = output_at g.K.Sink c.args.output.now in
     let now = output_at g.K.Sink c.loop-command.output in
     let rows = entries_of (store_in c.loop-command.session) in
-    subst (EndsImport book before now rows c.args.import.now) (sym c.stop_of.ensures)
+    subst (EndsImport book before now rows c.args.import.now) (sym c.import_stop.ensures)
     (stops_reading book (book_in c.loop-command.session) before now rows c.args.import.now
     c.loop-command.import c.loop-command.invariant.answered refl c.in-Err.error
     c.in-Err.ensures.0)
@@ -80,5 +80,5 @@ pub returns-in-Err-clause-goes : goal.returns-in-Err-clause-goes
 returns-in-Err-clause-goes g c =
     let old = store_in c.args.session.now in
     let new = store_in c.loop-command.session in
-    subst (λ (s : Stop). Goes {T = ⊤} g.D.Disk (Err s) old new) (sym c.stop_of.ensures)
+    subst (λ (s : Stop). Goes {T = ⊤} g.D.Disk (Err s) old new) (sym c.import_stop.ensures)
     (goes_stopped g.D.Disk c.in-Err.error old new c.loop-command.invariant.goes)

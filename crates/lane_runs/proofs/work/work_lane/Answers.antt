@@ -4,7 +4,7 @@ use Rattle.book_words.specs.declared.caller.AskError.{AskError}
 use Rattle.book_words.specs.declared.caller.AskError.TheVariants as error
 use Rattle.store_runs.specs.Books.{Store}
 use Rattle.store_runs.specs.Callers.{CallerView, known_of, IsReachedBy}
-use Rattle.lane_worker.specs.Endings.{stop_at}
+use Rattle.lane_worker.specs.Endings.{ask_stop}
 use Rattle.lane_worker.specs.Works.{IsWork}
 use Rattle.store_runs.specs.Books.{stored_book}
 use Rattle.store_runs.specs.Runs.{Goes}
@@ -32,7 +32,7 @@ returns g c =
       later = b.later;
       answer = b.answer;
     }) c.run_lane-end.ensures.works in
-    let stops : (next : Asked) (why : AskError) → end.stop ≡ stop_at why
+    let stops : (next : Asked) (why : AskError) → end.stop ≡ ask_stop why
     → (why ≡ error.DiskFault → new.failed ≡ Some next)
     → step ≡ step_behind c.args.number next why =
     λ next why told failed. c.step_behind-step.ensures.stops next why told

@@ -62,7 +62,7 @@ returns g c =
     let answered = c.in_ok-ask_act.field-0 in
     let asked = c.in_ok-ask_act.ensures.asked in
     record {
-      works = subst (λ (s : LaneStop). IsWork reached (BreaksAt g.C.Caller c.args.caller.now c.ask_act.new.caller) was now c.args.number c.args.batch (record { opened = progress.opened; stop = s })) (sym c.stop_by.ensures)
+      works = subst (λ (s : LaneStop). IsWork reached (BreaksAt g.C.Caller c.args.caller.now c.ask_act.new.caller) was now c.args.number c.args.batch (record { opened = progress.opened; stop = s })) (sym c.weighing_stop.ensures)
           (last_stop (g.C.Caller.later c.args.caller.now c.weigh_packs.new.caller) reached (BreaksAt g.C.Caller c.args.caller.now c.ask_act.new.caller) was mid new c.args.number c.args.batch c.in_ok-ending.ending progress answered has
           asked (act_is_taken mid.caller new (StopLane c.args.number progress.prior) answered asked)
           (g.met.C.Caller.reached.by_both c.args.caller.now c.weigh_packs.new.caller c.ask_act.new.caller _ _ has.weighing.later c.ask_act.ensures.later));

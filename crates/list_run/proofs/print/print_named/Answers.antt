@@ -3,7 +3,7 @@ use Rattle.std.proofs.lemmas.Result.{err_from_is_err_and}
 use Rattle.text_streams.specs.Streams.{output_at, IsCutIn}
 use Rattle.report_run.specs.Printing.{HasPrinted}
 use Rattle.list_run.specs.declared.types.Section.TheVariants.{Products, Tares, Batches}
-use Rattle.list_run.specs.Listing.{day_line, lines_in}
+use Rattle.list_run.specs.Listing.{day_line, section_lines}
 use Rattle.list_run.specs.Texts.{line_text}
 use Rattle.list_run.proofs.Pieces.{both, cut_first, cut_behind}
 use Rattle.list_run.proofs.Parts.{text_of, named_text}
@@ -13,9 +13,9 @@ pub returns-in_err-print_section-clause-cut : goal.returns-in_err-print_section-
 returns-in_err-print_section-clause-cut g c =
     let entries = c.args.state.now.entries in
     let day = line_text (day_line entries) in
-    let products = text_of (lines_in Products entries) in
-    let tares = text_of (lines_in Tares entries) in
-    let batches = text_of (lines_in Batches entries) in
+    let products = text_of (section_lines Products entries) in
+    let tares = text_of (section_lines Tares entries) in
+    let batches = text_of (section_lines Batches entries) in
     let held = c.args.text.now.items in
     let start = output_at g.K.Sink c.args.output.now in
     let now = output_at g.K.Sink c.print_section.new.output in
@@ -34,9 +34,9 @@ pub returns-in_err-print_section-2-clause-cut : goal.returns-in_err-print_sectio
 returns-in_err-print_section-2-clause-cut g c =
     let entries = c.args.state.now.entries in
     let day = line_text (day_line entries) in
-    let products = text_of (lines_in Products entries) in
-    let tares = text_of (lines_in Tares entries) in
-    let batches = text_of (lines_in Batches entries) in
+    let products = text_of (section_lines Products entries) in
+    let tares = text_of (section_lines Tares entries) in
+    let batches = text_of (section_lines Batches entries) in
     let held = c.args.text.now.items in
     let start = output_at g.K.Sink c.args.output.now in
     let mid = output_at g.K.Sink c.print_section.new.output in
@@ -57,9 +57,9 @@ pub returns-in_err-print_section-3-clause-cut : goal.returns-in_err-print_sectio
 returns-in_err-print_section-3-clause-cut g c =
     let entries = c.args.state.now.entries in
     let day = line_text (day_line entries) in
-    let products = text_of (lines_in Products entries) in
-    let tares = text_of (lines_in Tares entries) in
-    let batches = text_of (lines_in Batches entries) in
+    let products = text_of (section_lines Products entries) in
+    let tares = text_of (section_lines Tares entries) in
+    let batches = text_of (section_lines Batches entries) in
     let held = c.args.text.now.items in
     let start = output_at g.K.Sink c.args.output.now in
     let mid = output_at g.K.Sink c.print_section.new.output in
@@ -83,9 +83,9 @@ pub returns-clause-printed : goal.returns-clause-printed
 returns-clause-printed g c =
     let entries = c.args.state.now.entries in
     let day = line_text (day_line entries) in
-    let products = text_of (lines_in Products entries) in
-    let tares = text_of (lines_in Tares entries) in
-    let batches = text_of (lines_in Batches entries) in
+    let products = text_of (section_lines Products entries) in
+    let tares = text_of (section_lines Tares entries) in
+    let batches = text_of (section_lines Batches entries) in
     let held = c.args.text.now.items in
     let start = output_at g.K.Sink c.args.output.now in
     let mid = output_at g.K.Sink c.print_section.new.output in

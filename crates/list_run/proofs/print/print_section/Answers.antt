@@ -9,7 +9,7 @@ use Rattle.report_run.specs.Reports.{text_if_there}
 use Rattle.report_run.proofs.Pieces.{begins, goes_on, cuts}
 use Rattle.book_words.specs.Ranges.{is_act_in_range}
 use Rattle.book_words.proofs.LegalLemmas.{legal_in_range}
-use Rattle.list_run.specs.Listing.{act_line, lines_in}
+use Rattle.list_run.specs.Listing.{act_line, section_lines}
 use Rattle.list_run.specs.Texts.{line_text}
 use Rattle.list_run.proofs.Walks.{section_text, next_line, no_lines}
 use Rattle.list_run.proofs.print.print_section.Goals as goal
@@ -17,7 +17,7 @@ use Rattle.list_run.proofs.print.print_section.Goals as goal
 pub loop-entry-init : goal.loop-entry-init
 loop-entry-init g c = record {
   printing = begins (output_at g.K.Sink c.args.output.now) c.args.text.now.items
-      (flat_map line_text (lines_in c.args.section c.args.state.now.entries));
+      (flat_map line_text (section_lines c.args.section c.args.state.now.entries));
   room = refl;
 }
 
@@ -50,7 +50,7 @@ loop-entry-preserved g c =
           (section_text section entries (drop here.entry-index entries))
           (text_if_there line_text (act_line section entries c.entry-item.result.act))
           (section_text section entries others)
-          (flat_map line_text (lines_in section entries))
+          (flat_map line_text (section_lines section entries))
           (next_line section entries (drop here.entry-index entries) c.entry-item.result others
           is) here.invariant.printing
           (rw c.act_line.ensures.line at c.in_ok-print_some.ensures.printed);
@@ -66,7 +66,7 @@ returns-in_err-print_some-clause-cut g c =
     rw p.1 (cuts (output_at g.K.Sink c.args.output.now) (output_at g.K.Sink here.output)
     (output_at g.K.Sink c.print_some.new.output) c.args.text.now.items here.text.items
     (section_text section entries (drop here.entry-index entries))
-    (flat_map line_text (lines_in section entries)) here.invariant.printing
+    (flat_map line_text (section_lines section entries)) here.invariant.printing
     c.in_err-print_some.ensures.cut)
 
 pub returns-clause-printed : goal.returns-clause-printed
@@ -77,5 +77,5 @@ returns-clause-printed g c =
     let all : length entries ≤ here.entry-index = search rules in
     subst (λ (left : List ℕ). IsPrinting (output_at g.K.Sink c.args.output.now)
     (output_at g.K.Sink here.output) c.args.text.now.items here.text.items left
-    (flat_map line_text (lines_in section entries)))
+    (flat_map line_text (section_lines section entries)))
     (no_lines section entries here.entry-index all) here.invariant.printing

@@ -4,7 +4,7 @@ use Rattle.book_words.specs.declared.act.Entry.{Entry}
 use Rattle.book_store.specs.Stores.{entries_of}
 use Rattle.text_streams.specs.Streams.{input_at}
 use Rattle.store_runs.proofs.StoreSteps.{goes_on, stays, on_unfinished}
-use Rattle.standby_hall.specs.Following.{ExplainsFollow, stop_behind}
+use Rattle.standby_hall.specs.Following.{ExplainsFollow, shipment_stop}
 use Rattle.standby_hall.proofs.FollowSteps.{rows_begin}
 use Rattle.standby_hall.proofs.RowSteps.{row_more, row_stops}
 use Rattle.standby_hall.proofs.following.follow_rows.Goals as goal
@@ -35,7 +35,7 @@ returns-in_err-follow_row-clause-stops g c =
 pub returns-in_err-follow_row-clause-goes : goal.returns-in_err-follow_row-clause-goes
 returns-in_err-follow_row-clause-goes g c =
     let p = err_from_is_err_and c.from_residual.result c.from_residual.ensures.1 in
-    rw (p.1, p.2) (goes_on g.D.Disk tt (Err (stop_behind c.in_err-follow_row.field-0.0))
+    rw (p.1, p.2) (goes_on g.D.Disk tt (Err (shipment_stop c.in_err-follow_row.field-0.0))
     c.args.store.now c.loop-before.store c.follow_row.new.store c.loop-before.invariant.goes
     c.in_err-follow_row.ensures.goes)
 

@@ -5,7 +5,7 @@ use Rattle.book_store.proofs.KeptLemmas.{begins_short}
 use Rattle.text_streams.specs.Streams.{input_at}
 use Rattle.store_runs.proofs.StoreSteps.{goes_on, goes_as}
 use Rattle.standby_hall.specs.declared.types.FollowStop.TheVariants.{Gap}
-use Rattle.standby_hall.specs.Following.{ExplainsFollow, stop_behind}
+use Rattle.standby_hall.specs.Following.{ExplainsFollow, shipment_stop}
 use Rattle.standby_hall.proofs.FollowSteps.{at_gap, stays_behind}
 use Rattle.standby_hall.proofs.following.follow_shipment.Goals as goal
 
@@ -28,7 +28,7 @@ pub returns-in_err-follow_rows-clause-goes : goal.returns-in_err-follow_rows-cla
 returns-in_err-follow_rows-clause-goes g c =
     let p = err_from_is_err_and c.from_residual-in_err-follow_rows.result
     c.from_residual-in_err-follow_rows.ensures.1 in
-    rw (p.1, p.2) (goes_as g.D.Disk (stop_behind c.in_err-follow_rows.field-0.0) c.args.store.now
+    rw (p.1, p.2) (goes_as g.D.Disk (shipment_stop c.in_err-follow_rows.field-0.0) c.args.store.now
     c.follow_rows.new.store c.in_err-follow_rows.ensures.goes)
 
 pub returns-in_err-see_end-clause-explained : goal.returns-in_err-see_end-clause-explained
@@ -48,6 +48,6 @@ returns-in_err-see_end-clause-goes g c =
     let p = err_from_is_err_and c.from_residual-in_err-see_end.result
     c.from_residual-in_err-see_end.ensures.1 in
     let stop = c.in_err-see_end.field-0.0 in
-    rw (p.1, p.2) (goes_on g.D.Disk tt (Err (stop_behind stop)) c.args.store.now
+    rw (p.1, p.2) (goes_on g.D.Disk tt (Err (shipment_stop stop)) c.args.store.now
     c.follow_rows.new.store c.follow_rows.new.store c.in_ok-follow_rows.ensures.goes
     (stays_behind g.D.Disk stop c.follow_rows.new.store c.in_err-see_end.ensures.spares))

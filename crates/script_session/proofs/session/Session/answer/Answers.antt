@@ -10,7 +10,7 @@ use Rattle.store_runs.proofs.StoreSteps.{on_unfinished, goes_with, goes_as}
 use Rattle.script_events.specs.Asking.{exchange_at}
 use Rattle.script_session.specs.Sessions.{book_in, store_in, log_in}
 use Rattle.script_session.specs.Outside.{outside_at}
-use Rattle.script_events.specs.Unanswered.{stop_of}
+use Rattle.script_events.specs.Unanswered.{unanswered_stop}
 use Rattle.script_session.proofs.AnsweredLines.{answered_command, stops_cut, stops_unanswered}
 use Rattle.script_session.proofs.WrittenTexts.{goes_written}
 use Rattle.script_session.proofs.session.Session.answer.Goals as goal
@@ -22,13 +22,13 @@ returns-in_err-answer-clause-stops g c = λ number.
     rw (p.1, p.2) (stops_unanswered (book_in c.args.self.now) left
     (outside_at g.K.Sink g.L.Cell g.L.Gate c.args.output.now c.args.lanes.now
     (log_in c.args.self.now)) number c.args.command.now
-    (stop_of c.in_err-answer.field-0.0) c.in_err-answer.ensures.same
+    (unanswered_stop c.in_err-answer.field-0.0) c.in_err-answer.ensures.same
     c.in_err-answer.ensures.may)
 
 pub returns-in_err-answer-clause-goes : goal.returns-in_err-answer-clause-goes
 returns-in_err-answer-clause-goes g c =
     let p = err_from_is_err_and c.from_residual.result c.from_residual.ensures.1 in
-    rw (p.1, p.2) (goes_as g.D.Disk (stop_of c.in_err-answer.field-0.0)
+    rw (p.1, p.2) (goes_as g.D.Disk (unanswered_stop c.in_err-answer.field-0.0)
     (store_in c.args.self.now) c.ask_command.new.caller.store c.in_err-answer.ensures.goes)
 
 pub returns-clause-stops : goal.returns-clause-stops
