@@ -101,11 +101,11 @@ gives_error may_lack new (error.Refused refused) wanted d told says = says ∙ s
 -- an act that isn't ready is refused, or there is no memory for its entry
 pub error_answer : (book : BookView) (by : ℕ) (ask : Ask) (act : Act) (step : Result Step BookError)
     (e : BookError) → ask.want ≡ want.Act act → step ≡ Err e
-    → GivesUnlessNoMemory book act step (step_for book by ask.desk ask.request act)
+    → GivesUnlessNoMemory book act step (step_for book by ask act)
     → GivesAnswer (MayLackMemory book by ask ask.want) (Err e) (answer book.limit book.entries ask)
 error_answer book by ask act step e wants is exact =
     let d = decision book.limit book.entries ask act in
-    let ready = numbered_entry book.entries by (asked_act ask.desk ask.request act) act in
+    let ready = numbered_entry book.entries by ask act in
     let entry = entry_for book.entries by ask act in
     let given = subst (λ (s : Result Step BookError). GivesUnlessNoMemory book act s
     (decided_step ready d)) is exact in
@@ -133,11 +133,11 @@ error_list_by book act entries ready entry (Err other) (error.Refused refused) h
 -- so the list stays as it is
 pub error_list : (book : BookView) (by : ℕ) (ask : Ask) (act : Act) (step : Result Step BookError)
     (e : BookError) → ask.want ≡ want.Act act → step ≡ Err e
-    → GivesUnlessNoMemory book act step (step_for book by ask.desk ask.request act)
+    → GivesUnlessNoMemory book act step (step_for book by ask act)
     → book.entries ≡ list_behind (Err e) book.entries (added book.limit book.entries by ask)
 error_list book by ask act step e wants is exact =
     let d = decision book.limit book.entries ask act in
-    let ready = numbered_entry book.entries by (asked_act ask.desk ask.request act) act in
+    let ready = numbered_entry book.entries by ask act in
     let given = subst (λ (s : Result Step BookError). GivesUnlessNoMemory book act s
     (decided_step ready d)) is exact in
     error_list_by book act book.entries ready (entry_for book.entries by ask act) d e given
@@ -161,12 +161,12 @@ new_by book act ready given (Err other) h = absurd (cc)
 -- what is ready is the entry of the act, which is decided to be new
 pub ready_is : (book : BookView) (by : ℕ) (ask : Ask) (act : Act) (step : Result Step BookError)
     (new : Step) (given : ReadyEntry) → step ≡ Ok new → new ≡ New given
-    → GivesUnlessNoMemory book act step (step_for book by ask.desk ask.request act)
+    → GivesUnlessNoMemory book act step (step_for book by ask act)
     → (decision book.limit book.entries ask act ≡ Ok None)
     × (given ≡ numbered_entry book.entries by ask act)
 ready_is book by ask act step new given is is_new exact =
     let d = decision book.limit book.entries ask act in
-    let ready = numbered_entry book.entries by (asked_act ask.desk ask.request act) act in
+    let ready = numbered_entry book.entries by ask act in
     let whole : step ≡ Ok (New given) = is ∙ ap (λ (s : Step). Ok s) is_new in
     new_by book act ready given d (subst
     (λ (s : Result Step BookError). GivesUnlessNoMemory book act s (decided_step ready d)) whole
@@ -216,11 +216,11 @@ known_by book act ready answered (Err other) h = absurd (cc)
 -- what is known is decided
 pub known_is : (book : BookView) (by : ℕ) (ask : Ask) (act : Act) (step : Result Step BookError)
     (known : Step) (answered : Answered) → step ≡ Ok known → known ≡ Known answered
-    → GivesUnlessNoMemory book act step (step_for book by ask.desk ask.request act)
+    → GivesUnlessNoMemory book act step (step_for book by ask act)
     → decision book.limit book.entries ask act ≡ Ok (Some answered)
 known_is book by ask act step known answered is is_known exact =
     let d = decision book.limit book.entries ask act in
-    let ready = numbered_entry book.entries by (asked_act ask.desk ask.request act) act in
+    let ready = numbered_entry book.entries by ask act in
     let whole : step ≡ Ok (Known answered) = is ∙ ap (λ (s : Step). Ok s) is_known in
     known_by book act ready answered d
     (subst (λ (s : Result Step BookError). GivesUnlessNoMemory book act s
@@ -246,20 +246,20 @@ known_list book by ask act answered wants is =
     (sym (added_is book.limit by book.entries ask act wants))
 
 -- an error that is decided is what making ready gives
-pub error_gives : (book : BookView) (by desk request : ℕ) (act : Act) (e : BookError)
+pub error_gives : (book : BookView) (by : ℕ) (ask : Ask) (act : Act) (e : BookError)
     → ◌≡◌ {A = Result (Option Answered) BookError} (Err e)
-    (decision book.limit book.entries (asked_act desk request act) act)
-    → GivesUnlessNoMemory book act (Err e) (step_for book by desk request act)
-error_gives book by desk request act error.NoMemory is =
-    absurd (never_lacks book.limit book.entries (asked_act desk request act) act (sym is))
-error_gives book by desk request act (error.Refused refused) is =
-    ap (decided_step (numbered_entry book.entries by (asked_act desk request act) act)) is
+    (decision book.limit book.entries ask act)
+    → GivesUnlessNoMemory book act (Err e) (step_for book by ask act)
+error_gives book by ask act error.NoMemory is =
+    absurd (never_lacks book.limit book.entries ask act (sym is))
+error_gives book by ask act (error.Refused refused) is =
+    ap (decided_step (numbered_entry book.entries by ask act)) is
 
 -- and has the least number of all that hold
-pub error_least : (book : BookView) (desk request : ℕ) (act : Act) (e : BookError)
+pub error_least : (book : BookView) (ask : Ask) (act : Act) (e : BookError)
     → ◌≡◌ {A = Result (Option Answered) BookError} (Err e)
-    (decision book.limit book.entries (asked_act desk request act) act)
-    → TellsLeast book.limit book.entries (asked_act desk request act) act (Err e)
-error_least book desk request act error.NoMemory is = tt
-error_least book desk request act (error.Refused refused) is =
-    least_told book.limit book.entries (asked_act desk request act) act refused (sym is)
+    (decision book.limit book.entries ask act)
+    → TellsLeast book.limit book.entries ask act (Err e)
+error_least book ask act error.NoMemory is = tt
+error_least book ask act (error.Refused refused) is =
+    least_told book.limit book.entries ask act refused (sym is)

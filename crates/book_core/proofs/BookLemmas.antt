@@ -3,6 +3,7 @@ use Rattle.std.proofs.Common.{◌≡◌, ℕ, ◌+◌, ◌<◌, ◌≤◌, List,
 use Rattle.hall_limits.specs.declared.TheConstants.{MAX_ROWS}
 use Rattle.pack_judge.specs.declared.types.Signal.{Signal}
 use Rattle.book_words.specs.declared.act.Act.{Act}
+use Rattle.book_words.specs.declared.act.Ask.{Ask}
 use Rattle.book_words.specs.declared.act.Entry.{Entry}
 use Rattle.book_words.specs.Signals.{recorded_signal}
 use Rattle.book_words.specs.declared.reply.Reply.{Reply}
@@ -12,7 +13,7 @@ use Rattle.book_state.specs.View.{StateView}
 use Rattle.book_state.specs.Prepared.{Drawn, drawn_by}
 use Rattle.book_core.specs.declared.pending.Pending.{Pending}
 use Rattle.book_core.specs.View.{ReadyEntry}
-use Rattle.book_core.specs.Steps.{asked_act, decision}
+use Rattle.book_core.specs.Steps.{decision}
 use Rattle.book_core.specs.ReadyFacts.{IsReadyIn}
 use Rattle.book_core.specs.BookInvariant.{pending_entry, IsKept}
 use Rattle.book_core.proofs.DecisionLemmas.{is_free, has_room, all_rules, lawful_answer}
@@ -66,18 +67,18 @@ entered new entries entry limit pending more none legal lawful most =
     never held h = cc
 
 -- an act that is decided to be new is lawful as the entry that it will be
-pub new_is_lawful : (limit : ℕ) (entries : List Entry) (by desk request : ℕ) (act : Act)
-    (signal : Option Signal) → limit ≤ MAX_ROWS
-    → decision limit entries (asked_act desk request act) act ≡ Ok None
+pub new_is_lawful : (limit : ℕ) (entries : List Entry) (by : ℕ) (ask : Ask) (act : Act)
+    (signal : Option Signal) → limit ≤ MAX_ROWS → decision limit entries ask act ≡ Ok None
     → signal ≡ recorded_signal entries act
-    → IsLawful entries (record { by = by; desk = desk; request = request; act = act; signal = signal })
-new_is_lawful limit entries by desk request act signal most found is =
-    let free = is_free limit entries (asked_act desk request act) act found in
-    let room = has_room limit entries (asked_act desk request act) act free.free in
+    → IsLawful entries
+    (record { by = by; desk = ask.desk; request = ask.request; act = act; signal = signal })
+new_is_lawful limit entries by ask act signal most found is =
+    let free = is_free limit entries ask act found in
+    let room = has_room limit entries ask act free.free in
     record {
       room = omega (arith, room, most);
       new = free.new;
-      rules = all_rules limit entries (asked_act desk request act) act free.free;
+      rules = all_rules limit entries ask act free.free;
       signal = is;
     }
 

@@ -54,10 +54,9 @@ decided_step ready (Err refused) = Err refused
 decided_step ready (Ok (Some answered)) = Ok (Known answered)
 decided_step ready (Ok None) = Ok (New ready)
 
--- what making an act ready gives
-abbrev pub step_for : BookView → ℕ → ℕ → ℕ → Act → Result Step BookError
-step_for book by desk request act =
-    let ask = asked_act desk request act in
+-- what making the act of an ask ready gives
+abbrev pub step_for : BookView → ℕ → Ask → Act → Result Step BookError
+step_for book by ask act =
     decided_step (numbered_entry book.entries by ask act) (decision book.limit book.entries ask act)
 
 -- what a step has made ready

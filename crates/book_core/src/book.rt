@@ -98,7 +98,7 @@ impl Book {
         ensures legal { IsLegal self.new.entries }
     {
         match &ask.want {
-            Want::Act(act) => match self.ready(by, ask.desk, ask.request, act)? {
+            Want::Act(act) => match self.ready(by, ask, act)? {
                 Step::New(ready) => Ok(self.enter(ready)),
                 Step::Known(answered) => Ok(answered),
             },
@@ -106,17 +106,16 @@ impl Book {
         }
     }
 
-    /// Makes an act ready: it is refused, or it repeats the newest act of its desk, or room is
-    /// taken for it and its entry is made. The list stays as it is.
+    /// Makes the act of an ask ready: it is refused, or it repeats the newest act of its desk, or
+    /// room is taken for it and its entry is made. The list stays as it is.
     ///
     /// Of several refusals that hold, the one with the least number is answered, with the length of
     /// the list. Want of memory is answered only for a lawful act, and for a weighing only where no
     /// row is spare.
-    pub fn ready(&mut self, by: u16, desk: u16, request: u32, act: &Act) -> Result<Step, BookError>
+    pub fn ready(&mut self, by: u16, ask: &Ask, act: &Act) -> Result<Step, BookError>
         ensures exact { GivesUnlessNoMemory self.old act.now result
-            (step_for self.old by desk request act.now) }
-        ensures least { TellsLeast self.old.limit self.old.entries (asked_act desk request act.now)
-            act.now result }
+            (step_for self.old by ask.now act.now) }
+        ensures least { TellsLeast self.old.limit self.old.entries ask.now act.now result }
         ensures pending { self.new.pending ≡ made_ready result }
         ensures entries { self.new.entries ≡ self.old.entries }
         ensures limit { self.new.limit ≡ self.old.limit }
@@ -124,25 +123,19 @@ impl Book {
         ensures legal { IsLegal self.new.entries }
     {
         self.pending = None;
-        let ask = Ask {
-            desk,
-            request,
-            want: Want::Act(*act),
-        };
-        match self.decide(self.limit, &ask, act) {
+        match self.decide(self.limit, ask, act) {
             Err(error) => Err(error),
             Ok(Some(answered)) => Ok(Step::Known(answered)),
-            Ok(None) => self.prepare(by, desk, request, act),
+            Ok(None) => self.prepare(by, ask, act),
         }
     }
 
     // Makes an act ready that isn't refused and repeats nothing.
-    fn prepare(&mut self, by: u16, desk: u16, request: u32, act: &Act) -> Result<Step, BookError>
-        requires found { decision self.old.limit self.old.entries (asked_act desk request act.now)
-            act.now ≡ Ok None }
+    fn prepare(&mut self, by: u16, ask: &Ask, act: &Act) -> Result<Step, BookError>
+        requires found { decision self.old.limit self.old.entries ask.now act.now ≡ Ok None }
         requires empty { self.old.pending ≡ None }
-        ensures gives { GivesUnlessNoMemory self.old act.now result (Ok (Step.New
-            (numbered_entry self.old.entries by (asked_act desk request act.now) act.now))) }
+        ensures gives { GivesUnlessNoMemory self.old act.now result
+            (Ok (Step.New (numbered_entry self.old.entries by ask.now act.now))) }
         ensures pending { self.new.pending ≡ made_ready result }
         ensures entries { self.new.entries ≡ self.old.entries }
         ensures limit { self.new.limit ≡ self.old.limit }
@@ -150,8 +143,8 @@ impl Book {
     {
         let entry = Entry {
             by,
-            desk,
-            request,
+            desk: ask.desk,
+            request: ask.request,
             act: *act,
             signal: recorded_signal(&self.state, act),
         };

@@ -39,14 +39,18 @@ pub fn entry_of(act: Act, signal: Signal) -> Entry {
     }
 }
 
-/// Takes an act of a desk.
-pub fn take_from(book: &mut Book, desk: u16, request: u32, act: &Act) {
-    let ask = Ask {
+/// The ask of a desk for an act.
+pub fn asked(desk: u16, request: u32, act: &Act) -> Ask {
+    Ask {
         desk,
         request,
         want: Want::Act(*act),
-    };
-    let _ = book.ask(0, &ask);
+    }
+}
+
+/// Takes an act of a desk.
+pub fn take_from(book: &mut Book, desk: u16, request: u32, act: &Act) {
+    let _ = book.ask(0, &asked(desk, request, act));
 }
 
 /// Takes some acts of the hall itself.

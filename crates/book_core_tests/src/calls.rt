@@ -1,4 +1,4 @@
-use crate::begun::{MARCH_3, entry_of, named, pass, setup, take_all, take_from, weigh};
+use crate::begun::{MARCH_3, asked, entry_of, named, pass, setup, take_all, take_from, weigh};
 use annex_tables::Mode;
 use book_core::{Book, BookError, Step};
 use book_words::{
@@ -26,13 +26,13 @@ fn is_new(step: &Step, row: u32, entry: &Entry) -> bool {
 
 // Whether a weighing on the lane 1 is made ready as this row.
 fn is_ready(book: &mut Book, act: &Act, row: u32) -> Result<bool, BookError> {
-    let step = book.ready(1, 0, 0, act)?;
+    let step = book.ready(1, &asked(0, 0, act), act)?;
     Ok(is_new(&step, row, &entry_of(*act, Signal::Pass)))
 }
 
 // What an act of the lane 1 is told that is made ready and entered.
 fn enter_ready(book: &mut Book, act: &Act) -> Result<Answered, BookError> {
-    match book.ready(1, 0, 0, act)? {
+    match book.ready(1, &asked(0, 0, act), act)? {
         Step::New(ready) => Ok(book.enter(ready)),
         Step::Known(answered) => Ok(answered),
     }
@@ -196,7 +196,7 @@ fn is_right(book: &mut Book, batch: Name, product: Name) -> bool {
 
 // Whether an act of the desk 101, at its request 1, is known to stand in the row 11.
 fn is_known(book: &mut Book, act: &Act, at: u32) -> bool {
-    match book.ready(2, 101, 1, act) {
+    match book.ready(2, &asked(101, 1, act), act) {
         Ok(Step::Known(answered)) => {
             answered.at == at && answered.reply == Reply::Done { row: 11 }
         }

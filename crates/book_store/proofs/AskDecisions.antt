@@ -155,7 +155,7 @@ decides_by book by ask act given None None None most desk new free gives =
 -- what making an act ready says of the ask
 decides : (book : BookView) (by : ℕ) (ask : Ask) (act : Act) (given : Result Step BookError)
     → ask.want ≡ want.Act act → book.limit ≤ MAX_ROWS
-    → GivesUnlessNoMemory book act given (step_for book by ask.desk ask.request act)
+    → GivesUnlessNoMemory book act given (step_for book by ask act)
     → Decides book act (added book.limit book.entries by ask) (answer book.limit book.entries ask) given
 decides book by ask act given wants most gives =
     subst (λ (w : Want). Decides book act (want_added book.limit book.entries by ask w)
@@ -169,7 +169,7 @@ decides book by ask act given wants most gives =
 -- what a step says, case by case
 module _ (book : BookView) (by : ℕ) (ask : Ask) (act : Act) (given : Result Step BookError)
     (wants : ask.want ≡ want.Act act) (most : book.limit ≤ MAX_ROWS)
-    (gives : GivesUnlessNoMemory book act given (step_for book by ask.desk ask.request act)) where
+    (gives : GivesUnlessNoMemory book act given (step_for book by ask act)) where
   abbrev Says : Result Step BookError → Type 0
   Says step = Decides book act (added book.limit book.entries by ask)
       (answer book.limit book.entries ask) step

@@ -47,7 +47,7 @@ impl<D: Disk> Store<D> {
         ensures sound { IsSound D.Disk self.new }
     {
         match &ask.want {
-            Want::Act(act) => match self.book.ready(by, ask.desk, ask.request, act)? {
+            Want::Act(act) => match self.book.ready(by, ask, act)? {
                 Step::New(ready) => match self.enter(ready) {
                     Ok(answered) => Ok(answered),
                     Err(_) => Err(AskError::DiskFault),

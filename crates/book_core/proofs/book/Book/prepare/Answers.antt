@@ -3,7 +3,6 @@ use Rattle.hall_limits.specs.declared.TheConstants.{MAX_ROWS}
 use Rattle.book_words.specs.Signals.{recorded_signal}
 use Rattle.book_words.proofs.AllowedActs.{IsAllowed}
 use Rattle.book_core.specs.View.{BookView}
-use Rattle.book_core.specs.Steps.{asked_act}
 use Rattle.book_core.proofs.DecisionLemmas.{new_is_free}
 use Rattle.book_core.proofs.BookLemmas.{new_is_lawful}
 use Rattle.book_core.proofs.book.Book.prepare.Goals as goal
@@ -11,12 +10,12 @@ use Rattle.book_core.proofs.book.Book.prepare.Goals as goal
 pub recorded_signal-requires : goal.recorded_signal-requires
 recorded_signal-requires c =
     subst (λ (b : BookView). IsAllowed b.entries c.args.act.now) (sym c.self.view_is)
-    (new_is_free c.args.self.now.limit c.args.self.now.entries
-    (asked_act c.args.desk c.args.request c.args.act.now) c.args.act.now c.requires.found)
+    (new_is_free c.args.self.now.limit c.args.self.now.entries c.args.ask.now c.args.act.now
+    c.requires.found)
 
 pub hold-requires-clause-lawful : goal.hold-requires-clause-lawful
 hold-requires-clause-lawful c =
-    new_is_lawful c.args.self.now.limit c.args.self.now.entries c.args.by c.args.desk c.args.request
+    new_is_lawful c.args.self.now.limit c.args.self.now.entries c.args.by c.args.ask.now
     c.args.act.now c.recorded_signal.result
     (subst (λ (b : BookView). b.limit ≤ MAX_ROWS) c.self.view_is c.self.invariant.most) c.requires.found
     (c.recorded_signal.ensures ∙ ap
