@@ -11,9 +11,7 @@ use Rattle.book_store.specs.Images.{HoldsBook}
 use Rattle.book_store.specs.Kept.{CrashLeaves, HasKept}
 use Rattle.book_store.specs.Stores.{disk_of, entries_of, held_of, limit_of, Hangs, HangsWith, HasBook}
 use Rattle.book_store.proofs.KeptLemmas.{same_begins}
-use Rattle.book_store.specs.declared.types.RestError.{RestError}
-use Rattle.book_store.specs.Resting.{HasNothingToKeep, HoldsOwnSnapshot}
-use Rattle.store_runs.specs.Runs.{Goes, HasGrown}
+use Rattle.store_runs.specs.Runs.{Goes}
 use Rattle.store_runs.proofs.StoreSteps.{on_unfinished}
 use Rattle.session_jobs.specs.Sessions.{HoldsOrOneMore, LeavesFrom, KeepsRun, RestsOnDisk}
 
@@ -99,22 +97,11 @@ reserved {D} g old new rows limit held same_disk hangs book hung =
       snapshot = λ finished. absurd (on_unfinished tt finished);
     }
 
--- a snapshot of rows that were added is kept where nothing hangs
-pub keeps_own : {D : Type 0} (g : disk.Ghosts D) (old new : Store D) (opened : ℕ)
-    (result : Result Bool RestError) (kept : Bool) → result ≡ Ok kept
-    → (result ≡ Ok false → HasNothingToKeep old) → (result ≡ Ok true → HoldsOwnSnapshot g new)
-    → ¬ Hangs old → HasGrown opened (entries_of old) → HoldsOwnSnapshot g new
-keeps_own g old new opened result true is idle holds calm grown = holds is
-keeps_own g old new opened result false is idle holds calm grown = nothing (idle is)
-  where
-    nothing : {A : Type 0} → HasNothingToKeep old → A
-    nothing (inl empty) = absurd (omega (arith, grown, ap length empty))
-    nothing (inr hung) = absurd (calm hung)
-
--- what leaves the disk untouched doesn't hold where a snapshot is kept
-pub none_of_these : {A G : Type 0} (failed : ℕ) (lack : Bool) → failed ≡ 0 → lack ≡ false → G
-    → (0 < failed) ⊎ ((lack ≡ true) ⊎ (¬ G)) → A
-none_of_these failed lack none has grown (inl some) = absurd (omega (arith, some, none))
-none_of_these failed lack none has grown (inr (inl lacks)) =
+-- a disk is untouched where nothing was kept, and something was kept only where no job failed and
+-- none lacked memory
+pub unless_kept : {A G : Type 0} (failed : ℕ) (lack : Bool) → failed ≡ 0 → lack ≡ false
+    → (¬ G → A) → (0 < failed) ⊎ ((lack ≡ true) ⊎ (¬ G)) → A
+unless_kept failed lack none has idle (inl some) = absurd (omega (arith, some, none))
+unless_kept failed lack none has idle (inr (inl lacks)) =
     absurd (let never : true ≡ false = sym lacks ∙ has in cc)
-none_of_these failed lack none has grown (inr (inr small)) = absurd (small grown)
+unless_kept failed lack none has idle (inr (inr small)) = idle small

@@ -25,7 +25,7 @@ use Rattle.setup_run.specs.Setups.{IsSetUp}
 use Rattle.store_runs.specs.declared.stop.Stop.{Stop}
 use Rattle.store_runs.specs.declared.stop.Stop.TheVariants as stops
 use Rattle.store_runs.specs.Books.{BookState, stored_book}
-use Rattle.store_runs.specs.Runs.{CountsStep, Goes, HasGrown}
+use Rattle.store_runs.specs.Runs.{CountsStep, Goes, HasAddedRows, HasGrown}
 use Rattle.store_runs.proofs.StoreSteps.{goes_with, stays}
 use Rattle.text_streams.specs.Streams.{Stream}
 use Rattle.serve_run.specs.declared.prepare.Prepared.{Prepared}
@@ -203,7 +203,7 @@ no_more opened rows before few many = ⊎_elim
 module _ {D L O : Type 0} (g : disk.Ghosts D) (lane_at : Known → L → lanes.Site)
     (door_at : Known → O → doors.Site) (store : Store D) (planned : List PlannedLane)
     (given : Handed L O) (before now : Stream) (end : ServeEnd D L O) (jobs : JobsEnd D L O)
-    (opened : ℕ) (held : opened ≡ held_of store) (fin : IsFinished g opened jobs before now end)
+    (held : held_of jobs.store ≡ held_of store) (fin : IsFinished g jobs before now end)
     (ran : HaveRun lane_at door_at (limit_of store) (spare_of store) (entries_of store)
     (entries_of jobs.store) jobs.faults (jobs_of planned given.lanes given.doors) jobs.jobs.items)
     (history : OneHistory lane_at door_at (limit_of store) (spare_of store) (entries_of store)
@@ -246,16 +246,16 @@ module _ {D L O : Type 0} (g : disk.Ghosts D) (lane_at : Known → L → lanes.S
         let all = finished old new jobs.faults lack before now text fin.kept fin.rests.counts first
         often fin.stop fin.says finished_so in
         fin.rests.snapshot all.0 (settled all.1)
-        (subst (λ (es : List Entry). HasGrown opened es) fin.rests.same
+        (subst (λ (es : List Entry). HasGrown (held_of jobs.store) es) fin.rests.same
         (subst (λ (n : ℕ). HasGrown n (entries_of end.store)) (sym held) grown));
     still = λ spares many small.
-        let few : ¬ HasGrown opened (entries_of jobs.store) =
+        let few : ¬ HasAddedRows jobs.store =
         λ grown. small (subst (λ (n : ℕ). HasGrown n (entries_of end.store)) held
-        (subst (λ (es : List Entry). HasGrown opened es) (sym fin.rests.same) grown)) in
+        (subst (λ (es : List Entry). HasGrown (held_of jobs.store) es) (sym fin.rests.same) grown)) in
         ap g.reads (fin.rests.untouched (inr (inr few)))
         ∙ stays (spared old new jobs.faults lack before now text fin.kept fin.rests.counts first
         often fin.stop fin.says spares)
-        (no_more opened (length (entries_of jobs.store)) (length (entries_of store)) few
+        (no_more (held_of jobs.store) (length (entries_of jobs.store)) (length (entries_of store)) few
         (omega (arith, many, held)));
   }
 

@@ -19,7 +19,7 @@ use Rattle.session_jobs.specs.declared.work.Work.{Work}
 use Rattle.session_jobs.specs.Runs.{HaveRun}
 use Rattle.store_runs.specs.declared.stop.Stop.TheVariants as stops
 use Rattle.store_runs.specs.declared.stop.Stop.{Stop}
-use Rattle.store_runs.specs.Runs.{HasGrown}
+use Rattle.store_runs.specs.Runs.{HasAddedRows}
 use Rattle.text_streams.specs.Streams.{Stream, WroteAll, IsCutIn}
 use Rattle.serve_run.specs.declared.lines.TheConstants.{SAY_ROOM}
 use Rattle.serve_run.specs.declared.serve.Room.{Room}
@@ -92,7 +92,7 @@ CountsRest before now failed lack WriteFault = ⊥
 -- A snapshot is kept where nothing failed and rows were added; the rows stay as they are. The disk
 -- is untouched where a caller was answered that it failed, where memory was lacking, and where no
 -- rows were added.
-pub record RestsBehind {D : Type 0} (disk : disk.Ghosts D) (opened failed : ℕ) (lack : Bool)
+pub record RestsBehind {D : Type 0} (disk : disk.Ghosts D) (failed : ℕ) (lack : Bool)
     (old new : Store D) (stop : JobsStop) : Type 0 where
   pub same : entries_of new ≡ entries_of old
   pub limit : limit_of new ≡ limit_of old
@@ -100,9 +100,8 @@ pub record RestsBehind {D : Type 0} (disk : disk.Ghosts D) (opened failed : ℕ)
   pub counts : CountsRest (disk.faults (disk_of old)) (disk.faults (disk_of new)) failed lack stop
   pub kept : (held : List Entry) (start : D)
       → KeepsRun disk held start old → KeepsRun disk held start new
-  pub snapshot : stop ≡ Finished → ¬ Hangs old → HasGrown opened (entries_of old)
-      → HoldsOwnSnapshot disk new
-  pub untouched : (0 < failed) ⊎ ((lack ≡ true) ⊎ (¬ HasGrown opened (entries_of old)))
+  pub snapshot : stop ≡ Finished → ¬ Hangs old → HasAddedRows old → HoldsOwnSnapshot disk new
+  pub untouched : (0 < failed) ⊎ ((lack ≡ true) ⊎ (¬ HasAddedRows old))
       → disk_of new ≡ disk_of old
 
 -- the text went out and it stops so, or it was cut
@@ -111,14 +110,13 @@ Says before now text stop WriteFault = IsCutIn before now [] text
 Says before now text stop said = WroteAll before now text × (said ≡ stop)
 
 -- jobs that ran were finished: what they did is kept, and all was said, or cut
-pub record IsFinished {D L O : Type 0} (disk : disk.Ghosts D) (opened : ℕ) (jobs : JobsEnd D L O)
+pub record IsFinished {D L O : Type 0} (disk : disk.Ghosts D) (jobs : JobsEnd D L O)
     (before now : Stream) (end : ServeEnd D L O) : Type 0 where
   pub stop : JobsStop
   pub stopped : end.stop ≡ Ran stop
   pub back : end_handed end ≡ handed_back jobs.jobs.items
   pub kept : JobsStop
-  pub rests : RestsBehind disk opened jobs.faults (some_lack (end_handed end)) jobs.store end.store
-      kept
+  pub rests : RestsBehind disk jobs.faults (some_lack (end_handed end)) jobs.store end.store kept
   pub says : Says before now (serve_text jobs.jobs.items (entries_of jobs.store)) kept stop
 
 -- there is room for what is said

@@ -24,7 +24,7 @@ use crate::jobs::{HandedBack, hand_back, push_doors, push_lanes, take_room};
 use crate::lines::{compose, take_text};
 use crate::prepare::{Prepared, Unprepared, prepare};
 use crate::stop::{JobsStop, ServeStop};
-use book_store::{RestError, Store};
+use book_store::Store;
 use disk_core::{Disk, Door, Sink, Source};
 use lane_worker::{Lane, LaneEnd, LaneStop};
 use office_door::{DoorEnd, DoorStop};
@@ -34,7 +34,7 @@ use setup_run::SetupNotices;
 use std::alloc::{AllocError, Global};
 use std::sync::Wait;
 use std::thread::Threads;
-use store_runs::Stop;
+use store_runs::{Stop, keep_snapshot};
 use text_streams::write_text;
 
 /// What `serve` leaves.
@@ -154,9 +154,9 @@ fn some_lack<L, O>(handed: &HandedBack<L, O>) -> bool
 }
 
 // Keeps a snapshot behind the jobs, where nothing failed and rows were added to those of before.
-fn keep_rows<D: Disk>(store: &mut Store<D>, opened: u32, faults: u64, lack: bool) -> JobsStop
+fn keep_rows<D: Disk>(store: &mut Store<D>, faults: u64, lack: bool) -> JobsStop
     requires sound { IsSound D.Disk store.old }
-    ensures kept { RestsBehind D.Disk opened faults lack store.old store.new result }
+    ensures kept { RestsBehind D.Disk faults lack store.old store.new result }
 {
     if faults > 0 {
         return JobsStop::DiskFault;
@@ -164,13 +164,10 @@ fn keep_rows<D: Disk>(store: &mut Store<D>, opened: u32, faults: u64, lack: bool
     if lack {
         return JobsStop::NoMemory;
     }
-    if store.len() <= opened {
-        return JobsStop::Finished;
-    }
-    match store.rest() {
-        Ok(_) => JobsStop::Finished,
-        Err(RestError::DiskFault) => JobsStop::DiskFault,
-        Err(RestError::NoMemory) => JobsStop::NoMemory,
+    match keep_snapshot(store) {
+        Ok(()) => JobsStop::Finished,
+        Err(Stop::DiskFault(_)) => JobsStop::DiskFault,
+        Err(_) => JobsStop::NoMemory,
     }
 }
 
@@ -189,7 +186,6 @@ fn say<K: Sink>(output: &mut K, text: &[u8], stop: JobsStop) -> JobsStop
 // What comes behind the jobs: a snapshot of their rows, their lines and the summary.
 fn finish<K: Sink, D: Disk, L, O>(
     end: JobsEnd<D, L, O>,
-    opened: u32,
     room: HandedBack<L, O>,
     text: Vec<u8>,
     output: &mut K,
@@ -199,8 +195,8 @@ fn finish<K: Sink, D: Disk, L, O>(
     requires empty { IsEmpty room }
     requires room { HasRoomFor (length end.jobs.items) room }
     requires text { IsTextRoom text }
-    ensures ends { IsFinished D.Disk opened end (output_at K.Sink output.old)
-        (output_at K.Sink output.new) result }
+    ensures ends { IsFinished D.Disk end (output_at K.Sink output.old) (output_at K.Sink output.new)
+        result }
 {
     let JobsEnd {
         mut store,
@@ -211,7 +207,7 @@ fn finish<K: Sink, D: Disk, L, O>(
     let mut text = text;
     compose(&jobs, store.book(), &mut text);
     let handed = hand_back(jobs, room);
-    let kept = keep_rows(&mut store, opened, faults, some_lack(&handed));
+    let kept = keep_rows(&mut store, faults, some_lack(&handed));
     let stop = say(output, &text, kept);
     end_with(ServeStop::Ran(stop), store, handed)
 }
@@ -256,10 +252,9 @@ fn serve_plan<
     } = room;
     push_lanes(&mut jobs, lanes, planned.as_slice());
     push_doors(&mut jobs, doors);
-    let opened = store.held();
     let end = run_jobs(rt, alloc, store, jobs);
     if end.ran {
-        finish(end, opened, handed, text, output)
+        finish(end, handed, text, output)
     } else {
         give_back(end, handed)
     }

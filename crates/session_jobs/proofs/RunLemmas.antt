@@ -405,6 +405,7 @@ module _ {L O : Type 0} (weighs : cell.Ghosts L) (lifts : gate.Ghosts L) (reads 
         sound = sound;
         balanced = balanced (entries_of store);
         limit = refl;
+        held = refl;
         kept = λ rests held start run. run;
       })
 
@@ -430,5 +431,6 @@ module _ {L O : Type 0} (weighs : cell.Ghosts L) (lifts : gate.Ghosts L) (reads 
         sound = ended.kept.sound;
         balanced = ended.kept.balanced;
         limit = ended.kept.limit ∙ begins.limit;
+        held = ended.kept.held ∙ begins.held;
         kept = λ rests held start run. ended.goes_on held start first begins rests run;
       }

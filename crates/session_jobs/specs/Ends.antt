@@ -9,7 +9,7 @@ use Rattle.book_words.specs.declared.act.Entry.{Entry}
 use Rattle.book_words.specs.Callers.{Known}
 use Rattle.book_store.specs.declared.store.Store.{Store}
 use Rattle.book_words.specs.Balance.{IsBalanced}
-use Rattle.book_store.specs.Stores.{disk_of, entries_of, limit_of, spare_of, Hangs, IsSound}
+use Rattle.book_store.specs.Stores.{disk_of, entries_of, limit_of, spare_of, held_of, Hangs, IsSound}
 use Rattle.lane_worker.specs.Works as lanes
 use Rattle.office_door.specs.Doors as doors
 use Rattle.office_door.specs.Doors.{FailedSoOften}
@@ -61,5 +61,6 @@ pub record EndsSession {D L O : Type 0} (disk : disk.Ghosts D) (lane_at : Known 
   pub sound : IsSound disk end.store
   pub balanced : IsBalanced (entries_of end.store)
   pub limit : limit_of end.store ≡ limit_of store
+  pub held : held_of end.store ≡ held_of store
   pub kept : RestsOnDisk disk store → (held : List Entry) (start : D)
       → KeepsRun disk held start store → KeepsRun disk held start end.store

@@ -2,7 +2,7 @@
 ghost use Rattle.std.specs.Prelude.{◌≡◌, ◌≢◌, ◌+◌, ◌<◌, ◌≤◌, [], AllPairs, IfOk, List, length, map, true, false, vec_len};
 ghost use Rattle.book_words.specs.declared.act.Entry.{Entry as Entered};
 ghost use Rattle.book_words.specs.Balance.{IsBalanced};
-ghost use Rattle.book_store.specs.Stores.{disk_of, entries_of, limit_of, spare_of, Hangs, IsSound};
+ghost use Rattle.book_store.specs.Stores.{disk_of, entries_of, limit_of, spare_of, held_of, Hangs, IsSound};
 ghost use Rattle.office_door.specs.Doors.{FailedSoOften};
 ghost use Rattle.shared_book.specs.Sessions.{KeepsRun, RestsOnDisk};
 ghost use Rattle.session_jobs.specs.declared.work.TheConstants.{MAX_JOBS};
@@ -165,6 +165,7 @@ pub fn run_jobs<
     ensures sound { IsSound D.Disk result.store }
     ensures balanced { IsBalanced (entries_of result.store) }
     ensures limit { limit_of result.store ≡ limit_of store }
+    ensures held { held_of result.store ≡ held_of store }
     ensures kept { RestsOnDisk D.Disk store → (held : List Entered) (start : D)
         → KeepsRun D.Disk held start store → KeepsRun D.Disk held start result.store }
 {

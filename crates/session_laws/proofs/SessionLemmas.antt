@@ -30,14 +30,11 @@ use Rattle.book_store.specs.Kept.{with_offered}
 use Rattle.book_store.proofs.CallerSteps.{refused_adds}
 use Rattle.book_store.proofs.StoreFacts.{one_row}
 use Rattle.book_laws.proofs.MoveLaws.{balanced}
-use Rattle.book_store.specs.Stores.{disk_of, book_of, KeepsBook, entries_of, limit_of, spare_of}
+use Rattle.book_store.specs.Stores.{disk_of, book_of, KeepsBook, entries_of, limit_of, spare_of, held_of}
 use Rattle.book_store.specs.Stores.{Hangs, HasBook, HangsWith, HoldsOrHangs}
 use Rattle.book_store.specs.Stores.{ImagesHoldBook, IsSound}
 use Rattle.book_store.specs.Offers.{Offers, OffersEntry, LeavesDisk, CountsDiskFault, GivesAnswer}
 use Rattle.book_store.specs.Offers.{list_behind}
-use Rattle.book_store.specs.Resting.{CountsRestFault}
-use Rattle.book_store.specs.declared.types.RestError.{RestError}
-use Rattle.book_store.specs.declared.types.RestError.TheVariants as rest
 use Rattle.book_store.proofs.KeptLemmas.{synced_on}
 use Rattle.session_laws.specs.declared.session.Session as session
 use Rattle.session_laws.specs.Sessions.{HoldsOrOneMore, IsOffered, LeavesFrom, LeavesAtEnd}
@@ -153,6 +150,7 @@ module _ {D : Type 0} (g : disk.Ghosts D) where
         rows = refl;
         limit = refl;
         spare = refl;
+        held = refl;
         start = refl;
         faults = refl;
         reads = refl;
@@ -343,6 +341,7 @@ module _ {D : Type 0} (g : disk.Ghosts D) where
           balanced = balanced (entries_of store);
           begins = begins_same s.before (entries_of store) (sym first.rows);
           limit = sym first.limit;
+          held = sym first.held;
           room = omega (arith, first.spare, ap length first.rows);
           fault = inl (first.calm, sym first.faults);
           book = λ rests.
@@ -386,15 +385,16 @@ module _ {D : Type 0} (g : disk.Ghosts D) where
         → Offers g offered old new → (IsSome offered → OnOk result (¬ Hangs new))
         → ImagesHoldBook g new → (Hangs new → (result ≡ Err error.DiskFault) ⊎ Hangs old)
         → CountsDiskFault (g.faults (disk_of old)) (g.faults (disk_of new)) result
-        → limit_of new ≡ limit_of old
+        → limit_of new ≡ limit_of old → held_of new ≡ held_of old
         → spare_of old + length (entries_of old) ≤ spare_of new + length (entries_of new)
         → IsSound g new → IsKeptSince g s old → IsKeptSince g s new
-    kept_asked by ask old new result offered adds is offers settled images hangs cause limit spare
-        sound kept =
+    kept_asked by ask old new result offered adds is offers settled images hangs cause limit held
+        spare sound kept =
         record {
           sound = sound;
           balanced = balanced (entries_of new);
           limit = limit ∙ kept.limit;
+          held = held ∙ kept.held;
           room = omega (arith, kept.room, spare);
           begins = begins_on s.before (entries_of old) (entries_of new) kept.begins
               (asked_begins result (entries_of old) (entries_of new) offered is);
@@ -496,23 +496,16 @@ module _ {D : Type 0} (g : disk.Ghosts D) where
 
   -- ---- a snapshot behind a session
 
-  -- the disk's count behind it: it stayed, or one more was counted
-  rest_counts : (before now : ℕ) (result : Result Bool RestError)
-      → CountsRestFault before now result → (now ≡ before) ⊎ Counted before now 1
-  rest_counts before now (Ok kept) counts = inl counts
-  rest_counts before now (Err rest.DiskFault) counts = inr counts
-  rest_counts before now (Err rest.NoMemory) counts = inl counts
-
   -- a whole run goes on over it
   pub run_rested : (held : List Entry) (start : D) (old new : Store D)
       → book_of new ≡ book_of old → (HasBook g old → KeepsBook g old new)
-      → ImagesHoldBook g new → (result : Result Bool RestError)
-      → CountsRestFault (g.faults (disk_of old)) (g.faults (disk_of new)) result
+      → ImagesHoldBook g new
+      → (g.faults (disk_of new) ≡ g.faults (disk_of old))
+      ⊎ Counted (g.faults (disk_of old)) (g.faults (disk_of new)) 1
       → KeepsRun g held start old → KeepsRun g held start new
-  run_rested held start old new same keeps images result counts run =
+  run_rested held start old new same keeps images counted run =
       let rested = keeps run.has in
       let entries : entries_of new ≡ entries_of old = ap (λ (b : BookView). b.entries) same in
-      let counted = rest_counts (g.faults (disk_of old)) (g.faults (disk_of new)) result counts in
       let front = begins_same (entries_of old) (entries_of new) entries in
       let rises : Rose (g.faults start) (g.faults (disk_of old))
       → Rose (g.faults start) (g.faults (disk_of new)) =

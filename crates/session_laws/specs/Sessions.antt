@@ -16,7 +16,7 @@ use Rattle.book_journal.specs.Mounting.{KeepsFromSync}
 use Rattle.book_store.specs.declared.store.Store.{Store}
 use Rattle.book_store.specs.Images.{HoldsBook}
 use Rattle.book_store.specs.Kept.{with_offered}
-use Rattle.book_store.specs.Stores.{disk_of, entries_of, limit_of, spare_of, Hangs, HasBook}
+use Rattle.book_store.specs.Stores.{disk_of, entries_of, limit_of, spare_of, held_of, Hangs, HasBook}
 use Rattle.book_store.specs.Stores.{HangsWith, HoldsOrHangs, IsSound}
 use Rattle.session_laws.specs.declared.session.Session as session
 
@@ -51,6 +51,7 @@ pub record Begins {D N : Type 0} (disk : disk.Ghosts D) (session : session.Ghost
   pub rows : session.before ≡ entries_of store
   pub limit : session.limit ≡ limit_of store
   pub spare : session.spare ≡ spare_of store
+  pub held : session.held ≡ held_of store
   pub start : session.start ≡ disk.time (disk_of store)
   pub faults : session.faults ≡ disk.faults (disk_of store)
   pub reads : session.reads ≡ disk.reads (disk_of store)
@@ -66,6 +67,7 @@ session_of disk table store =
       before = entries_of store;
       limit = limit_of store;
       spare = spare_of store;
+      held = held_of store;
       start = disk.time (disk_of store);
       faults = disk.faults (disk_of store);
       reads = disk.reads (disk_of store);
@@ -94,15 +96,16 @@ pub record HasBookSince {D N : Type 0} (disk : disk.Ghosts D) (session : session
       → session.past t c ⊎ LeavesFrom session.before (entries_of store) c
 
 -- What is kept of a store from call to call of a session: its list is legal (`sound`) and balanced,
--- goes on from the rows before, and has the limit of then; each row more took at most one of the
--- places for which there was room. Something hangs only where the disk failed. Where its disk had
--- the book, it has it still.
+-- goes on from the rows before, and has the limit of then, and the number of rows that the disk
+-- held as it was mounted; each row more took at most one of the places for which there was room.
+-- Something hangs only where the disk failed. Where its disk had the book, it has it still.
 pub record IsKeptSince {D N : Type 0} (disk : disk.Ghosts D) (session : session.Ghosts N)
     (store : Store D) : Type 0 where
   pub sound : IsSound disk store
   pub balanced : IsBalanced (entries_of store)
   pub begins : IsPrefixOf session.before (entries_of store)
   pub limit : limit_of store ≡ session.limit
+  pub held : held_of store ≡ session.held
   pub room : session.spare + length session.before ≤ spare_of store + length (entries_of store)
   pub fault : (¬ Hangs store × (disk.faults (disk_of store) ≡ session.faults))
       ⊎ Rose session.faults (disk.faults (disk_of store))

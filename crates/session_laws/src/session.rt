@@ -20,6 +20,9 @@ pub trait Session {
     /// For how many rows there was room.
     ghost spare: { ℕ };
 
+    /// How many rows the disk held as it was mounted.
+    ghost held: { ℕ };
+
     /// The time of the disk.
     ghost start: { ℕ };
 
@@ -47,6 +50,8 @@ impl Session for Brand {
     ghost limit = { 0 };
 
     ghost spare = { 0 };
+
+    ghost held = { 0 };
 
     ghost start = { 0 };
 

@@ -30,9 +30,9 @@ returns g c =
         stopped = ended.stop;
         back = ended.handed ∙ c.hand_back-handed.ensures.back;
         kept = kept;
-        rests = subst (λ lacks. RestsBehind disk c.args.opened c.args.end.faults lacks
+        rests = subst (λ lacks. RestsBehind disk c.args.end.faults lacks
             c.args.end.store c.end_with.result.store kept) lack
-            (subst (λ (s : Store g.row.D.Denot). RestsBehind disk c.args.opened c.args.end.faults
+            (subst (λ (s : Store g.row.D.Denot). RestsBehind disk c.args.end.faults
             c.some_lack.result c.args.end.store s kept) (sym ended.store) c.keep_rows-kept.ensures.kept);
         says = subst (λ (text : List ℕ). Says (output_at g.K.Sink c.args.output.now)
             (output_at g.K.Sink c.say-stop.new.output) text kept c.say-stop.result)

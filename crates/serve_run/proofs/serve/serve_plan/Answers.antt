@@ -146,7 +146,7 @@ returns-then-end g c =
       ends = subst (λ stop. EndsPlan g.D.Disk lane_at door_at store planned (handed_in lanes doors)
           before now c.finish.result stop) (sym fin.stopped)
           (runs_plan g.D.Disk lane_at door_at store planned (handed_in lanes doors) before now
-          c.finish.result end c.held-opened.result c.held-opened.ensures fin whole history
+          c.finish.result end ended.held fin whole history
           ended.faults ended.settled ended.limit ended.kept ended.still);
     }
 

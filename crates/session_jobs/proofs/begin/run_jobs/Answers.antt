@@ -12,5 +12,6 @@ returns g c =
       sound = e.sound;
       balanced = e.balanced;
       limit = e.limit;
+      held = e.held;
       kept = e.kept;
     }

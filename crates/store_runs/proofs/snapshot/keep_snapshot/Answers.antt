@@ -1,5 +1,6 @@
 use Rattle.std.proofs.Common.{rules, ◌≡◌, Ok, Err, refl}
 use Rattle.book_store.specs.Stores.{disk_of}
+use Rattle.book_store.proofs.StoreFacts.{keeps_none}
 use Rattle.store_runs.specs.declared.stop.Offer.TheVariants as offering
 use Rattle.store_runs.specs.declared.stop.Stop.TheVariants.{DiskFault, NoMemory}
 use Rattle.store_runs.specs.Runs.{CountsStep, HasAddedRows}
@@ -32,3 +33,7 @@ returns-in-Ok-clause-snapshot g c =
     let r = c.rest.ensures in
     let grown : HasAddedRows c.args.store.now = search rules in
     leaves_snapshot g.D.Disk c.args.store.now c.rest.new.self c.rest.result c.in-Ok.field-0 c.in-Ok.is r.book r.hangs.1 grown r.idle.0 r.holds
+
+pub returns-then-len-held-clause-keeps : goal.returns-then-len-held-clause-keeps
+returns-then-len-held-clause-keeps g c has =
+    keeps_none g.D.Disk g.met.D.Disk.reads_image g.met.D.Disk.only_now c.args.store.now has

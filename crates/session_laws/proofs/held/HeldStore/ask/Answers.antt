@@ -16,7 +16,8 @@ invariant_of-self g c =
     kept_asked g.D.Disk g.N.Session c.args.by c.args.ask.now old c.ask.new.self c.ask.result offered
     refl c.ask.ensures.entries
     c.ask.ensures.offers c.ask.ensures.settled c.ask.ensures.images c.ask.ensures.hangs
-    c.ask.ensures.cause c.ask.ensures.limit c.ask.ensures.spare c.ask.ensures.sound c.self.invariant
+    c.ask.ensures.cause c.ask.ensures.limit c.ask.ensures.held c.ask.ensures.spare
+    c.ask.ensures.sound c.self.invariant
 
 pub returns : goal.returns
 returns g c =
