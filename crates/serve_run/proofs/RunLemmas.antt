@@ -2,6 +2,7 @@
 use Rattle.std.specs.Prelude.{⊤}
 use Rattle.std.proofs.Common.{◌≡◌, ◌⊎◌, inl, inr, ⊎_elim, ℕ, ◌+◌, ◌<◌, ◌≤◌, min, List, [], ◌∷◌, ◌++◌, length, take, Bool, true, false, Option, Some, None, Result, Ok, refl, sym, ap, ◌∙◌, subst, arith, length-append}
 use Rattle.std.proofs.lemmas.List.{take_min}
+use Rattle.device_facts.specs.Count.{Counted}
 use Rattle.device_facts.specs.Prefix.{IsPrefixOf}
 use Rattle.disk_core.specs.declared.disk.Disk as disk
 use Rattle.book_words.specs.declared.act.Entry.{Entry}
@@ -11,9 +12,13 @@ use Rattle.book_store.specs.Images.{HoldsBook}
 use Rattle.book_store.specs.Kept.{CrashLeaves, HasKept}
 use Rattle.book_store.specs.Stores.{disk_of, entries_of, held_of, limit_of, Hangs, HangsWith, HasBook}
 use Rattle.book_store.proofs.KeptLemmas.{same_begins}
-use Rattle.store_runs.specs.Runs.{Goes}
+use Rattle.store_runs.specs.declared.stop.Stop.{Stop}
+use Rattle.store_runs.specs.declared.stop.Stop.TheVariants as stops
+use Rattle.store_runs.specs.Runs.{CountsStop, FailsToKeep, Goes}
 use Rattle.store_runs.proofs.StoreSteps.{on_unfinished}
 use Rattle.session_jobs.specs.Sessions.{HoldsOrOneMore, LeavesFrom, KeepsRun, RestsOnDisk}
+use Rattle.serve_run.specs.declared.stop.JobsStop.TheVariants as jobs_stop
+use Rattle.serve_run.specs.Plans.{unkept, CountsRest}
 
 -- a crash that leaves the first so many rows leaves no more than there are
 leaves : (held rows : List Entry) → length held ≤ length rows → (c : List ℕ)
@@ -105,3 +110,38 @@ unless_kept failed lack none has idle (inl some) = absurd (omega (arith, some, n
 unless_kept failed lack none has idle (inr (inl lacks)) =
     absurd (let never : true ≡ false = sym lacks ∙ has in cc)
 unless_kept failed lack none has idle (inr (inr small)) = idle small
+
+-- ---- no snapshot was kept
+
+-- a stop at which one may fail to be kept, and the disk's count there
+module _ (opened : ℕ) (rows : List Entry) (before now : ℕ) where
+  -- the count stayed, or one more was counted
+  pub unkept_count : (stop : Stop) → FailsToKeep opened rows stop → CountsStop before now stop
+      → (now ≡ before) ⊎ Counted before now 1
+  unkept_count (stops.DiskFault offer) fails counts = inr counts
+  unkept_count stops.NoMemory fails counts = inl counts
+  unkept_count stops.Finished fails counts = absurd fails
+  unkept_count (stops.BadLine line) fails counts = absurd fails
+  unkept_count stops.ReadFault fails counts = absurd fails
+  unkept_count stops.WriteFault fails counts = absurd fails
+  unkept_count stops.Spent fails counts = absurd fails
+
+  pub unkept_rests : (failed : ℕ) (lack : Bool) (stop : Stop) → FailsToKeep opened rows stop
+      → CountsStop before now stop → failed ≡ 0 → CountsRest before now failed lack (unkept stop)
+  unkept_rests failed lack (stops.DiskFault offer) fails counts none = inr counts
+  unkept_rests failed lack stops.NoMemory fails counts none = (counts, none)
+  unkept_rests failed lack stops.Finished fails counts none = absurd fails
+  unkept_rests failed lack (stops.BadLine line) fails counts none = absurd fails
+  unkept_rests failed lack stops.ReadFault fails counts none = absurd fails
+  unkept_rests failed lack stops.WriteFault fails counts none = absurd fails
+  unkept_rests failed lack stops.Spent fails counts none = absurd fails
+
+-- jobs don't finish so
+pub unfinished : (stop : Stop) → unkept stop ≡ jobs_stop.Finished → ⊥
+unfinished (stops.DiskFault offer) is = absurd (cc)
+unfinished stops.NoMemory is = absurd (cc)
+unfinished stops.Finished is = absurd (cc)
+unfinished (stops.BadLine line) is = absurd (cc)
+unfinished stops.ReadFault is = absurd (cc)
+unfinished stops.WriteFault is = absurd (cc)
+unfinished stops.Spent is = absurd (cc)

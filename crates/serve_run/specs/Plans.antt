@@ -89,6 +89,11 @@ CountsRest before now failed lack DiskFault =
     ((0 < failed) × (now ≡ before)) ⊎ Counted before now 1
 CountsRest before now failed lack WriteFault = ⊥
 
+-- how jobs stop behind which no snapshot was kept
+abbrev pub unkept : Stop → JobsStop
+unkept (stops.DiskFault offer) = DiskFault
+unkept _ = NoMemory
+
 -- A snapshot is kept where nothing failed and rows were added; the rows stay as they are. The disk
 -- is untouched where a caller was answered that it failed, where memory was lacking, and where no
 -- rows were added.

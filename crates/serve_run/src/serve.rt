@@ -15,7 +15,7 @@ ghost use Rattle.serve_run.specs.declared.stop.ServeStop.TheVariants.{Early};
 ghost use Rattle.serve_run.specs.Jobs.{handed_in, handed_back};
 ghost use Rattle.serve_run.specs.Keeping.{ServeGoes};
 ghost use Rattle.serve_run.specs.Plans.{end_handed, EndsPlan, IsFinished, IsRoomFor, IsTextRoom};
-ghost use Rattle.serve_run.specs.Plans.{RestsBehind, Says};
+ghost use Rattle.serve_run.specs.Plans.{unkept, RestsBehind, Says};
 ghost use Rattle.serve_run.specs.Rooms.{IsEmpty, HasRoomFor, lists_of};
 ghost use Rattle.serve_run.specs.Serving.{door_lacks, lane_lacks, moment, some_lack, ExplainsServe};
 
@@ -166,8 +166,17 @@ fn keep_rows<D: Disk>(store: &mut Store<D>, faults: u64, lack: bool) -> JobsStop
     }
     match keep_snapshot(store) {
         Ok(()) => JobsStop::Finished,
-        Err(Stop::DiskFault(_)) => JobsStop::DiskFault,
-        Err(_) => JobsStop::NoMemory,
+        Err(stop) => unkept(stop),
+    }
+}
+
+// How jobs stop behind which no snapshot was kept: the disk failed, or there was no memory.
+fn unkept(stop: Stop) -> JobsStop
+    ensures { result ≡ unkept stop }
+{
+    match stop {
+        Stop::DiskFault(_) => JobsStop::DiskFault,
+        _ => JobsStop::NoMemory,
     }
 }
 
