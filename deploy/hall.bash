@@ -2,7 +2,9 @@
 
 _hall() {
     local word=${COMP_WORDS[COMP_CWORD]} before=${COMP_WORDS[COMP_CWORD - 1]}
-    local commands="run serve report export check import trial migrate ship follow paper prove list audit" options
+    local commands="run serve report export check import trial migrate ship follow paper prove"
+    commands="$commands list audit"
+    local options
     COMPREPLY=()
     if [ "$COMP_CWORD" -eq 1 ]; then
         mapfile -t COMPREPLY < <(compgen -W "$commands" -- "$word")
@@ -11,7 +13,8 @@ _hall() {
     case $before in
         --book) mapfile -t COMPREPLY < <(compgen -f -- "$word"); return ;;
         --cells) mapfile -t COMPREPLY < <(compgen -d -- "$word"); return ;;
-        --limit | --lanes | --remote | --doors | --port | --connections | --batch | --after | --rows) return ;;
+        --limit | --lanes | --remote | --doors | --port | --connections) return ;;
+        --batch | --after | --rows) return ;;
     esac
     case ${COMP_WORDS[1]} in
         run) options="--book --limit --lanes --cells --remote" ;;

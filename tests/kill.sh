@@ -1,18 +1,20 @@
 #!/bin/sh
-# Kills `hall run` on a book in a file at drawn moments, a hundred times or for two minutes. The book
-# goes on from run to run. A kill leaves what the system holds of the file, so this shows that the
-# program writes, syncs and answers in the right order; it doesn't cut the power.
+# Kills `hall run` on a book in a file at drawn moments, a hundred times or for two minutes. The
+# book goes on from run to run. A kill leaves what the system holds of the file, so this shows that
+# the program writes, syncs and answers in the right order; it doesn't cut the power.
 #
-# After each kill `hall check` has to find the book whole, with every acknowledged row and at most one
-# more. At the end each acknowledged weighing is asked for by its number: its gross and its signal
-# have to be those that were sent and answered. Status 1 at any difference; the folder then stays.
+# After each kill `hall check` has to find the book whole, with every acknowledged row and at most
+# one more. At the end each acknowledged weighing is asked for by its number: its gross and its
+# signal have to be those that were sent and answered. Status 1 at any difference; the folder then
+# stays.
 #
-# Then `hall serve` in the same way, on a book of its own: three lanes over named pipes weigh, a desk
-# asks at each of two doors, one by connections that stay and one by curl, and the hall is killed
-# fifty times. After each kill every line of a gate has to be a passed row of its lane, in order, and
-# every act that was answered 200 the row that it was told; a gate or a desk may lack the answer to
-# its last row alone; the weighings of a lane are the first of those that were sent; no row stands
-# twice, and no other row is there. The packs are asked for by `hall run`, and read in the register.
+# Then `hall serve` in the same way, on a book of its own: three lanes over named pipes weigh, a
+# desk asks at each of two doors, one by connections that stay and one by curl, and the hall is
+# killed fifty times. After each kill every line of a gate has to be a passed row of its lane, in
+# order, and every act that was answered 200 the row that it was told; a gate or a desk may lack the
+# answer to its last row alone; the weighings of a lane are the first of those that were sent; no
+# row stands twice, and no other row is there. The packs are asked for by `hall run`, and read in
+# the register.
 #
 # usage: tests/kill.sh [FOLDER [SEED [SERVES]]]     the books lie in a new folder below this one
 set -eu
@@ -77,7 +79,7 @@ compare() {
     last=$(acknowledged "$1") || fail "$last"
     held=$(rows)
     [ "$last" -le "$held" ] || fail "row $last was acknowledged, the book holds $held"
-    [ "$held" -le $((last + 1)) ] || fail "row $last was the last acknowledged, the book holds $held"
+    [ "$held" -le $((last + 1)) ] || fail "row $last was the last acknowledged, of $held"
     echo "$last $held"
 }
 
@@ -134,7 +136,8 @@ done
 
 # What the book holds of each acknowledged weighing, and how many rows it says that it has.
 awk '{ print "pack " $1 }' "$work/weighings" >"$work/questions"
-"$program" run --book "$book" <"$work/questions" >"$work/packs" || fail "the questions ended with $?"
+"$program" run --book "$book" <"$work/questions" >"$work/packs" ||
+    fail "the questions ended with $?"
 grep -qx "rows ${found#* }" "$work/packs" || fail "the summary doesn't say rows ${found#* }"
 awk -v packs="$work/packs" '
     (getline line < packs) <= 0 { print "no answer to pack " $1; bad = 1; exit }
@@ -150,25 +153,10 @@ awk -v packs="$work/packs" '
 echo "seed $seed: $((kills + late)) runs of up to $((packs + 4)) rows, some $took ms each"
 echo "$kills kills fell within a run, $early of them before its first answer; $late runs had ended"
 echo "$offered times the book held a row more than was acknowledged"
-echo "the book holds ${found#* } rows; all $(wc -l <"$work/weighings") acknowledged weighings are in it"
+noted=$(wc -l <"$work/weighings")
+echo "the book holds ${found#* } rows; all $noted acknowledged weighings are in it"
 
 mkdir "$work/serve"
-PYTHONPATH=$here/tests timeout 900 python3 -B - "$program" "$work/serve" "$seed" "$serves" <<'PYTHON' ||
-import sys
-
-from rounds import Rounds
-
-program, folder, seed, serves = sys.argv[1:]
-rounds = Rounds(program, folder, int(seed))
-for _ in range(int(serves)):
-    rounds.serve(load=0.5)
-    rounds.book.compare_register()
-book = rounds.book
-acts = sum(len(desk.told) for desk in rounds.desks)
-print(f"seed {seed}: serve was killed {rounds.kills} times, {rounds.early} of them before its first"
-      f" answer; {book.unheard} packs had passed whose line the gate hadn't got")
-print(f"the book holds {book.rows} rows, with all {book.gates} packs that a gate let out, and all"
-      f" {acts} acts that were answered, each once")
-PYTHON
+timeout 900 python3 -B "$here/tests/kill_serve.py" "$program" "$work/serve" "$seed" "$serves" ||
     fail "serve, with the seed $seed"
 rm -rf "$work"

@@ -1,9 +1,10 @@
 #!/usr/bin/env python3
-"""Holds programs that check papers against tests/paper_page.py: on those of examples/papers, on papers
-drawn by a number, on each with one byte turned, on every beginning of a small one, and on each of its
-bytes turned.
+"""Holds programs that check papers against tests/paper_page.py: on those of examples/papers, on
+papers drawn by a number, on each with one byte turned, on every beginning of a small one, and on
+each of its bytes turned.
 
-usage: tests/paper.py [--drawn N] PROGRAM..    a program is its words in one argument, as './hall prove'
+usage: tests/paper.py [--drawn N] PROGRAM..
+       a program is its words in one argument, as './hall prove'
 """
 
 import os

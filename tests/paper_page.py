@@ -4,7 +4,8 @@ import datetime
 import re
 
 NAME = rb"[A-Za-z0-9][A-Za-z0-9._-]{0,31}"
-NUMBER, GRAMS, DAY = rb"[0-9]{1,20}", rb"[0-9]{1,8}(?:\.[0-9]{1,3})?", rb"[0-9]{4}-[0-9]{2}-[0-9]{2}"
+NUMBER, GRAMS = rb"[0-9]{1,20}", rb"[0-9]{1,8}(?:\.[0-9]{1,3})?"
+DAY = rb"[0-9]{4}-[0-9]{2}-[0-9]{2}"
 WEIGHED = rb"gross (%s) empty (%s)" % (GRAMS, GRAMS)
 PARTS = ["contents", "mean", "average", "allowance", "inadequate"]
 LINES = {
@@ -71,7 +72,8 @@ def take(paper, word, found):
         paper["tares"][when] = mass(found[1], 5_000_000)
     elif word == "pack":
         row = number(found[0], 10**6, 1)
-        if len(paper["packs"]) == 10_000 or any(row <= other for other in list(paper["packs"])[-1:]):
+        newest = list(paper["packs"])[-1:]
+        if len(paper["packs"]) == 10_000 or any(row <= other for other in newest):
             raise Bad
         paper["packs"][row] = day(found[1]), mass(found[2], 30_000_000)
     elif word == "mode":

@@ -1,4 +1,5 @@
-"""Lanes whose scales send over lines that lose, repeat, cut and hold back. Run by tests/remote.sh."""
+"""Lanes whose scales send over lines that lose, repeat, cut and hold back, for tests/remote.sh:
+PROGRAM FOLDER WEIGHTS SEED."""
 
 import csv
 import os
@@ -9,17 +10,18 @@ import subprocess
 import sys
 import threading
 import time
+from concurrent.futures import ThreadPoolExecutor
 
 from clients import OPENING, Hall, free_ports, need, plan
 
 HERE = os.path.dirname(os.path.abspath(__file__))
 SENDER = os.path.join(os.path.dirname(HERE), "examples", "scale_sender.py")
 LANES = 2
-# How long a scale waits for an acknowledgement, in seconds: less than the line holds one back never.
+# How long a scale waits for an acknowledgement, in seconds; the line holds one back no longer.
 SECONDS = 0.25
 # How long a hall is left to itself between two kills, in seconds.
 SHORTEST, LONGEST = 0.2, 8.0
-# The least weight of the scales, in mg. All are good packs of 250 g, and no two of a lane are alike.
+# The least weight of the scales, in mg. All are good packs of 250 g; no two of a lane are alike.
 LEAST = 262_000
 
 # How long the scale is silent that makes a pause, in seconds.
@@ -98,7 +100,8 @@ class Line:
             # the draws of a connection follow from the seed and its number
             draw = random.Random(self.draw.random())
             threading.Thread(target=self.say, args=(scale, hall, draw), daemon=True).start()
-            threading.Thread(target=self.acknowledge, args=(hall, scale, random.Random(draw.random())),
+            back = random.Random(draw.random())
+            threading.Thread(target=self.acknowledge, args=(hall, scale, back),
                              daemon=True).start()
 
     def say(self, scale, hall, draw):
@@ -277,7 +280,8 @@ class Storm:
         need(self.hall.wait(60) == 0, f"the hall ended with {self.hall.process.returncode}")
         lines = self.hall.said()
         for lane in range(1, LANES + 1):
-            need(any(re.fullmatch(rf"lane {lane} opened \d+ done", line) for line in lines), str(lines))
+            need(any(re.fullmatch(rf"lane {lane} opened \d+ done", line) for line in lines),
+                 str(lines))
         for line in self.lines:
             line.close()
 
@@ -291,7 +295,8 @@ class Storm:
         with subprocess.Popen([self.program, "export", "--book", self.book], stdout=subprocess.PIPE,
                               encoding="ascii") as export:
             packs = list(csv.DictReader(export.stdout))
-        return [[pack for pack in packs if pack["lane"] == str(lane)] for lane in range(1, LANES + 1)]
+        return [[pack for pack in packs if pack["lane"] == str(lane)]
+                for lane in range(1, LANES + 1)]
 
     def compare(self):
         unheard = unopened = 0
@@ -305,14 +310,17 @@ class Storm:
         """Each hall weighed on where the last acknowledged weight was, in order, and at most one
         weight more than it acknowledged. Says how many such there are."""
         places = {grams(weight): place for place, weight in enumerate(scale.weights)}
-        halls = [[places[pack["gross"]] for pack in packs if pack["batch"] == self.batch(hall, lane)]
+        halls = [[places[pack["gross"]] for pack in packs
+                  if pack["batch"] == self.batch(hall, lane)]
                  for hall in range(1, self.halls + 1)]
         halls = [own for own in halls if own]
         heard = [then[0] - own[0] for own, then in zip(halls, halls[1:] + [[self.count]])]
-        need(halls[0][0] == 0 and all(own == list(range(own[0], own[0] + len(own))) for own in halls),
+        need(halls[0][0] == 0
+             and all(own == list(range(own[0], own[0] + len(own))) for own in halls),
              f"lane {lane} has other packs than the next ones, one behind the other")
         need(all(len(own) - count in (0, 1) for own, count in zip(halls, heard)),
-             f"lane {lane}: halls weighed {[len(own) for own in halls]}, of which {heard} were next")
+             f"lane {lane}: halls weighed {[len(own) for own in halls]}, of which {heard} were"
+             " next")
         need([count for count in heard if count] == scale.told(),
              f"lane {lane}: the scale was told {scale.told()}, and weighed on behind {heard}")
         voided = sum(pack["pile"] != "passed" for pack in packs)
@@ -420,9 +428,9 @@ def pause(program, folder, port):
 
 
 def deaf(program, folder, port):
-    """One that never reads its acknowledgements, while another waits: what the system doesn't hold of
-    them the hall can't write, and leaves the first behind 10 s of that. Says how many lines it took,
-    and for how long the other waited."""
+    """One that never reads its acknowledgements, while another waits: what the system doesn't hold
+    of them the hall can't write, and leaves the first behind 10 s of that. Says how many lines it
+    took, and for how long the other waited."""
     hall = one_lane(program, folder, "deaf", port)
     wait_for_port(hall, port)
     scale = socket.socket()
@@ -478,8 +486,8 @@ def no_end(program, folder, port):
 
 
 def turns(program, folder, port):
-    """A million lines that are ahead, over some connections, since one that isn't answered for 10 s is
-    left: the lane gives up."""
+    """A million lines that are ahead, over some connections, since one that isn't answered for 10 s
+    is left: the lane gives up."""
     hall = one_lane(program, folder, "turns", port)
     wait_for_port(hall, port)
     began = time.monotonic()
@@ -493,3 +501,41 @@ def turns(program, folder, port):
             pass
     ends_as(hall, "lane 1 opened 0 turns", 12)
     return time.monotonic() - began
+
+
+def main():
+    program, folder, weights, seed = sys.argv[1:]
+    print(f"seed {seed}", flush=True)
+    port = free_ports() + 10
+    paused = ThreadPoolExecutor().submit(pause, program, folder, port + 6)
+    os.mkdir(f"{folder}/storm")
+    began = time.monotonic()
+    storm = Storm(program, f"{folder}/storm", int(seed), int(weights))
+    storm.run()
+    seconds = time.monotonic() - began
+    unheard, unopened = storm.compare()
+    for lane, line in enumerate(storm.lines, 1):
+        print(f"line {lane}:", ", ".join(f"{count} {what}" for what, count in line.counts.items()))
+    print(f"{LANES} lanes of {weights} weights, {storm.halls - 1} halls killed, {seconds:.0f} s:"
+          f" each stands once, in order; {unheard} more were weighed and not acknowledged,"
+          f" {unopened} passed without a line of the gate", flush=True)
+
+    paused.result()
+    print(f"a scale that is silent for {PAUSE} s: it goes on over its connection")
+    in_use(program, folder, port)
+    print("a port that another has: the lane ends by its cell, status 10")
+    print(f"one who is silent, and one who stops in mid-line: the next was heard after"
+          f" {silent(program, folder, port + 1):.1f} s", flush=True)
+    said, seconds = deaf(program, folder, port + 2)
+    print(f"one who never reads: heard for {said} lines, and the next after {seconds:.1f} s",
+          flush=True)
+    nonsense(program, folder, port + 3)
+    print("a line that is none: the lane ends, status 10")
+    no_end(program, folder, port + 4)
+    print("a thousand connections without an end: the lane ends, status 10", flush=True)
+    print(f"a million lines that are ahead: the lane gives up after"
+          f" {turns(program, folder, port + 5):.0f} s, status 12")
+
+
+if __name__ == "__main__":
+    main()

@@ -18,7 +18,8 @@ from worked_days import OPENING, SHEET, days, desk_row, many_packs, summary
 WITHOUT_DESK = "hall: line 1 of the setup has no desk, and acts at each start (@164 1 ..)\n"
 
 # What it says of a cell behind its folder: it has ended, or was told that it waits in vain.
-ENDED = re.compile(r"cell-\d\.txt( has ended|: bad line \d, in vain: a character that no weight has)\n")
+ENDED = re.compile(
+    r"cell-\d\.txt( has ended|: bad line \d, in vain: a character that no weight has)\n")
 
 DONE = "done (status 0)"
 LATE = "a job began behind another, and they waited in vain (status 10)"
@@ -116,7 +117,7 @@ class ServedDay:
         return way != DONE or told.refused < count
 
     def free_port(self, number):
-        """A port of this process's own where no hall listens: one that waits in vain takes a minute."""
+        """A port of this process's own where no hall listens: one may wait in vain for a minute."""
         for place in (number, number + 20):
             port = self.port + place % 40
             with socket.socket() as probe, contextlib.suppress(OSError):

@@ -1,15 +1,17 @@
-"""A hall that is taken over from its copy on another host. Run by tests/takeover.sh."""
+"""A hall that is taken over from its copy on another host, for tests/takeover.sh: PROGRAM FOLDER
+TIMES SEED."""
 
 import ctypes
 import os
 import random
 import signal
 import subprocess
+import sys
 import time
 
 import rows
-from clients import (Client, Desk, FIRST_DESK, FIRST_DOOR, Gone, Hall, Lane, Link, OPENING, drawn_act,
-                     free_ports, good_gross, need, plan)
+from clients import (Client, Desk, FIRST_DESK, FIRST_DOOR, Gone, Hall, Lane, Link, OPENING,
+                     drawn_act, free_ports, good_gross, need, plan)
 from there import Helper
 
 HERE = os.path.dirname(os.path.abspath(__file__))
@@ -233,3 +235,26 @@ def ask_from(desk, link, held):
         elif answer.status == 409:
             return len(asked)
     return len(asked)
+
+
+def main():
+    program, folder, times, seed = sys.argv[1:]
+    print(f"seed {seed}", flush=True)
+    behind, worst = 0, 0
+    for turn in range(int(times)):
+        place = f"{folder}/{turn}"
+        os.mkdir(place)
+        this = Round(program, place, f"{seed}-{turn}", free_ports())
+        try:
+            burnt, copied, told, lost, asked = this.run()
+        finally:
+            this.close()
+        behind, worst = behind + lost, max(worst, lost)
+        print(f"first {burnt} rows, copy {copied}: of {told} that were acknowledged {lost} weren't"
+              f" shipped; desks asked {asked} again", flush=True)
+    print(f"{times} take-overs: each copy is a beginning, nothing acted twice;"
+          f" {behind} rows were acknowledged and lost, {worst} at most at once")
+
+
+if __name__ == "__main__":
+    main()

@@ -1,16 +1,18 @@
 #!/bin/sh
-# Two hosts in network namespaces of the test's own, joined by a cable: a hall at the first, with two
-# lanes and two desks at work, whose book examples/standby.sh ships to the second each quarter of a
-# second. At a drawn moment the cable is cut and all that ran at the first host is killed. Then a hall
-# is served at the second host from the copy, and the desks ask again under the same numbers.
+# Two hosts in network namespaces of the test's own, joined by a cable: a hall at the first, with
+# two lanes and two desks at work, whose book examples/standby.sh ships to the second each quarter
+# of a second. At a drawn moment the cable is cut and all that ran at the first host is killed. Then
+# a hall is served at the second host from the copy, and the desks ask again under the same numbers.
 #
-# Compared: the copy is the beginning of the first's book, row by row; the hall that takes over leaves
-# its rows as they are; the last request of each desk that the copy has is told its row again, and no
-# request acts twice. What the first had acknowledged and not yet shipped is counted and printed.
+# Compared: the copy is the beginning of the first's book, row by row; the hall that takes over
+# leaves its rows as they are; the last request of each desk that the copy has is told its row
+# again, and no request acts twice. What the first had acknowledged and not yet shipped is counted
+# and printed.
 #
 # usage: tests/takeover.sh [FOLDER [TIMES [SEED]]]     the books lie in a folder below it; 20 times
 #        HALL names another program than the one that `./hall` builds
-# needs: root, iproute2, Python 3.11. Where namespaces can't be had it is skipped. Done in 3 minutes.
+# needs: root, iproute2, Python 3.11. Where namespaces can't be had it is skipped. Done in 3
+# minutes.
 set -eu
 here=$(dirname "$(readlink -f "$0")")/..
 times=${2:-20}
@@ -24,29 +26,6 @@ work=$(mktemp -d "${1:-/tmp}/hall_takeover.XXXXXX")
 if [ -z "${HALL:-}" ]; then "$here/hall" run </dev/null >/dev/null; fi
 program=${HALL:-$here/crates/hall_cli/out/hall_cli}
 
-PYTHONPATH=$here/tests timeout 900 python3 -B - "$program" "$work" "$times" "$seed" <<'PYTHON' ||
-import os
-import sys
-
-import takeover
-from clients import free_ports
-
-program, folder, times, seed = sys.argv[1:]
-print(f"seed {seed}", flush=True)
-behind, worst = 0, 0
-for turn in range(int(times)):
-    place = f"{folder}/{turn}"
-    os.mkdir(place)
-    this = takeover.Round(program, place, f"{seed}-{turn}", free_ports())
-    try:
-        burnt, copied, told, lost, asked = this.run()
-    finally:
-        this.close()
-    behind, worst = behind + lost, max(worst, lost)
-    print(f"first {burnt} rows, copy {copied}: of {told} that were acknowledged {lost} weren't shipped;"
-          f" desks asked {asked} again", flush=True)
-print(f"{times} take-overs: each copy is a beginning, nothing acted twice;"
-      f" {behind} rows were acknowledged and lost, {worst} at most at once")
-PYTHON
+timeout 900 python3 -B "$here/tests/takeover.py" "$program" "$work" "$times" "$seed" ||
     { echo "takeover: seed $seed; see $work" >&2; exit 1; }
 rm -rf "$work"
