@@ -2,24 +2,23 @@
 //! and the words of the command line.
 #![tactic(auto)]
 
-mod lanes;
 mod waiting;
 
-ghost use Rattle.std.specs.Prelude.{◌≡◌, ◌↔◌, ◌≤◌, [], false, None, length, IfOk};
+ghost use Rattle.std.specs.Prelude.{◌≡◌, ◌↔◌, ◌≤◌, [], false, None, length};
 ghost use Rattle.std.specs.Process.{exit_status};
 ghost use Rattle.hall_limits.specs.declared.TheConstants.{MAX_LANE, MAX_DOOR};
 ghost use Rattle.command_line.specs.Words.{bytes_of, wanted_of};
 ghost use Rattle.text_streams.specs.Streams.{output_at};
 ghost use Rattle.hall_top.specs.Endings.{LacksMemory, SaysLast};
 
-use crate::lanes::{HallLane, lock_cells, open_lanes};
 use crate::waiting::Waiting;
 use bad_lines::{KeptInput, KeptOutput, Kind, explain};
 use book_snapshot::ROW_BYTES;
 use command_line::{Command, Wants, WantsError, wants};
 use disk_core::{Disk, Door, QuietDisk, Sink, Source, StdSink, StdSource};
 use file_disk::{FileDisk, Notice};
-use hall_limits::{MAX_DOOR, MAX_ROWS};
+use hall_lanes::{lock_cells, open_doors, open_lanes};
+use hall_limits::MAX_ROWS;
 use hall_top::{DoorEnds, Ending, LaneEnds, MountError, hall, say_last};
 use lane_worker::Lane;
 use run_notices::RunNotices;
@@ -31,7 +30,6 @@ use std::process::ExitCode;
 use std::rt::Env;
 use std::sync::Wait;
 use std::thread::Threads;
-use tcp_door::{Manners, TcpDoor};
 
 /// The bytes that a book in memory has room for with each row: the row itself, and as many again
 /// for its snapshot.
@@ -167,34 +165,6 @@ fn open_disk(
     Ok(disk)
 }
 
-// A door at a port, for so many connections. Where it can't listen, standard error says why; it
-// then fails as it awaits its first connection.
-fn open_door(
-    rt: HostRuntime,
-    port: u16,
-    connections: u32,
-    manners: Manners,
-) -> TcpDoor<HostRuntime> {
-    let door = TcpDoor::listen(rt.alloc(), rt, port, connections, manners);
-    if let Some(error) = door.listen_error() {
-        let _ = eprintln!(rt; "hall: can't listen at port {port}: {error}");
-    }
-    door
-}
-
-// The doors that the words ask for, at ports that rise from that of the first.
-fn open_doors(rt: HostRuntime, wanted: &Wants) -> Result<Vec<TcpDoor<HostRuntime>>, AllocError>
-    ensures { IfOk result (λ doors. length doors.items ≤ MAX_DOOR) }
-{
-    let count = wanted.doors.min(MAX_DOOR);
-    let mut doors = Vec::with_capacity(rt.alloc(), usize::from(count))?;
-    for number in 0..count {
-        let port = wanted.port.saturating_add(u16::from(number));
-        doors.push(open_door(rt, port, wanted.connections, Manners::OFFICE))?;
-    }
-    Ok(doors)
-}
-
 // The end of a call that opens no book, no lane and no door: its last line and its status.
 fn end_unopened<K: Sink>(alloc: Global, ending: Ending, output: &mut K) -> ExitCode
     ensures { SaysLast ending (record { ends = []; unsaid = [] }) [] (output_at K.Sink output.old)
@@ -261,13 +231,13 @@ struct Call<'a, R> {
 }
 
 // Does a call over the disk of the book that it asks for, with these lanes and doors.
-fn with_doors<S: Source, K: Sink, R: AllocGlobal + Threads + Wait + Sync>(
-    call: &Call<R>,
-    input: &mut S,
-    output: &mut K,
-    lanes: Vec<HallLane>,
-    doors: Vec<TcpDoor<HostRuntime>>,
-) -> ExitCode
+fn with_doors<
+    S: Source,
+    K: Sink,
+    L: Lane + Send + Drop,
+    O: Door + Send + Drop,
+    R: AllocGlobal + Threads + Wait + Sync,
+>(call: &Call<R>, input: &mut S, output: &mut K, lanes: Vec<L>, doors: Vec<O>) -> ExitCode
     requires few { length lanes.items ≤ MAX_LANE }
     requires few_doors { length doors.items ≤ MAX_DOOR }
     requires unended { S.ended input.old ≡ false }
@@ -290,11 +260,11 @@ fn with_doors<S: Source, K: Sink, R: AllocGlobal + Threads + Wait + Sync>(
 }
 
 // Does a call with these lanes, and with the doors that it asks for.
-fn with_lanes<S: Source, K: Sink, R: AllocGlobal + Threads + Wait + Sync>(
+fn with_lanes<S: Source, K: Sink, L: Lane + Send + Drop, R: AllocGlobal + Threads + Wait + Sync>(
     call: &Call<R>,
     input: &mut S,
     output: &mut K,
-    lanes: Vec<HallLane>,
+    lanes: Vec<L>,
 ) -> ExitCode
     requires few { length lanes.items ≤ MAX_LANE }
     requires unended { S.ended input.old ≡ false }

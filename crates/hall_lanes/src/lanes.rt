@@ -1,7 +1,7 @@
 ghost use Rattle.std.specs.Prelude.{◌≤◌, length, IfOk};
 ghost use Rattle.hall_limits.specs.declared.TheConstants.{MAX_LANE};
 
-use crate::open_door;
+use crate::doors::open_door;
 use command_line::Wants;
 use hall_limits::MAX_LANE;
 use lane_files::{FileCell, FileGate, FolderLock, ToldCell, file_cell, file_gate, lock_folder};
@@ -20,7 +20,7 @@ type PortCell<'a> = ToldCell<RemoteCell<TcpDoor<HostRuntime>>, &'a HostRuntime>;
 type HallCell<'a> = EitherCell<FileCell<'a, HostRuntime>, PortCell<'a>>;
 
 /// A lane of the program. Its gate is a file.
-pub(crate) type HallLane<'a> = PairLane<HallCell<'a>, FileGate<'a, HostRuntime>>;
+pub type HallLane<'a> = PairLane<HallCell<'a>, FileGate<'a, HostRuntime>>;
 
 // The cell of a lane: it hears its scale at a port that rises from that of the first, where the words
 // have one, and else it reads a file of the folder.
@@ -49,7 +49,7 @@ fn folder_of(wanted: &Wants) -> &str {
 
 /// Locks the folder of the lanes' files, where there are lanes. None where another hall has it, which
 /// standard error says.
-pub(crate) fn lock_cells(rt: &HostRuntime, wanted: &Wants) -> Option<FolderLock> {
+pub fn lock_cells(rt: &HostRuntime, wanted: &Wants) -> Option<FolderLock> {
     if wanted.lanes == 0 {
         return Some(FolderLock::none());
     }
@@ -70,10 +70,7 @@ fn open_lane<'a>(
 }
 
 /// The lanes that the words ask for.
-pub(crate) fn open_lanes<'a>(
-    rt: &'a HostRuntime,
-    wanted: &Wants,
-) -> Result<Vec<HallLane<'a>>, AllocError>
+pub fn open_lanes<'a>(rt: &'a HostRuntime, wanted: &Wants) -> Result<Vec<HallLane<'a>>, AllocError>
     ensures { IfOk result (λ lanes. length lanes.items ≤ MAX_LANE) }
 {
     let count = wanted.lanes.min(MAX_LANE);

@@ -1,0 +1,35 @@
+ghost use Rattle.std.specs.Prelude.{◌≤◌, length, IfOk};
+ghost use Rattle.hall_limits.specs.declared.TheConstants.{MAX_DOOR};
+
+use command_line::Wants;
+use hall_limits::MAX_DOOR;
+use std::alloc::AllocError;
+use tcp_door::{Manners, TcpDoor};
+
+/// A door at a port, for so many connections. Where it can't listen, standard error says why; it
+/// then fails as it awaits its first connection.
+pub(crate) fn open_door(
+    rt: HostRuntime,
+    port: u16,
+    connections: u32,
+    manners: Manners,
+) -> TcpDoor<HostRuntime> {
+    let door = TcpDoor::listen(rt.alloc(), rt, port, connections, manners);
+    if let Some(error) = door.listen_error() {
+        let _ = eprintln!(rt; "hall: can't listen at port {port}: {error}");
+    }
+    door
+}
+
+/// The doors that the words ask for, at ports that rise from that of the first.
+pub fn open_doors(rt: HostRuntime, wanted: &Wants) -> Result<Vec<TcpDoor<HostRuntime>>, AllocError>
+    ensures { IfOk result (λ doors. length doors.items ≤ MAX_DOOR) }
+{
+    let count = wanted.doors.min(MAX_DOOR);
+    let mut doors = Vec::with_capacity(rt.alloc(), usize::from(count))?;
+    for number in 0..count {
+        let port = wanted.port.saturating_add(u16::from(number));
+        doors.push(open_door(rt, port, wanted.connections, Manners::OFFICE))?;
+    }
+    Ok(doors)
+}
