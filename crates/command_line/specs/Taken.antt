@@ -3,8 +3,8 @@ use Rattle.std.specs.Prelude.{◌≡◌, ◌≤◌, ℕ, Bool, true, false, List
 use Rattle.std.specs.Option.{option_and_then, option_map_or}
 use Rattle.std.specs.Borrow.{Bor}
 use Rattle.hall_limits.specs.declared.TheConstants.{MAX_DOOR, MAX_LANE, MAX_ROWS, MAX_TRIAL}
-use Rattle.command_line.specs.declared.table.Form.{Form as Told}
-use Rattle.command_line.specs.declared.table.Form.TheVariants as told
+use Rattle.command_line.specs.declared.table.Form.{Form as TableForm}
+use Rattle.command_line.specs.declared.table.Form.TheVariants as table
 use Rattle.command_line.specs.declared.table.TheConstants.{MAX_DOOR_CONNECTIONS, MAX_PORT}
 use Rattle.command_line.specs.declared.types.Command.TheVariants.{Paper, Trial}
 use Rattle.command_line.specs.declared.types.Wants.{Wants}
@@ -21,10 +21,10 @@ abbrev pub texts_of : List (Bor (List ℕ)) → List (List ℕ)
 texts_of texts = map (λ text. text.now) texts
 
 -- what a form is
-abbrev pub form_seen : Told → Form
-form_seen (told.Options names) = options (texts_of names.now)
-form_seen (told.Needed names) = needed (texts_of names.now)
-form_seen (told.Places names) = places (texts_of names.now)
+abbrev pub form_seen : TableForm → Form
+form_seen (table.Options names) = options (texts_of names.now)
+form_seen (table.Needed names) = needed (texts_of names.now)
+form_seen (table.Places names) = places (texts_of names.now)
 
 -- the words are items of these names, and none comes twice
 abbrev pub are_words_taken : List (List ℕ) → List (List ℕ) → Bool

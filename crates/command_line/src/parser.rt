@@ -23,58 +23,58 @@ pub fn parse<'a>(
         → MatchResult result (λ matches. first_value (found_of matches) ≡ value_of items)
         (λ why. why ≡ NoMemory) }
 {
-    let Ok(told) = told_form(alloc, form_of(command)) else {
+    let Ok(form) = clap_form(alloc, form_of(command)) else {
         return Err(WantsError::NoMemory);
     };
-    match told.try_get_matches_from(words) {
+    match form.try_get_matches_from(words) {
         Ok(matches) => Ok(matches),
         Err(error) => Err(refusal(error.kind())),
     }
 }
 
-// What `clap` is told of a form.
-fn told_form<'a>(alloc: Global, form: Form) -> Result<clap::Command<'a>, AllocError>
-    ensures { IfOk result (λ told. app_of told ≡ app_for (form_seen form)) }
+// The form of a command, as `clap` has it.
+fn clap_form<'a>(alloc: Global, form: Form) -> Result<clap::Command<'a>, AllocError>
+    ensures { IfOk result (λ command. app_of command ≡ app_for (form_seen form)) }
 {
     match form {
-        Form::Options(names) | Form::Needed(names) => told_names(alloc, names, true),
-        Form::Places(names) => told_names(alloc, names, false),
+        Form::Options(names) | Form::Needed(names) => clap_names(alloc, names, true),
+        Form::Places(names) => clap_names(alloc, names, false),
     }
 }
 
 // A command with a value for each of these names, spelled before it or not. There is no help and
 // no version among them.
-fn told_names<'a>(
+fn clap_names<'a>(
     alloc: Global,
     names: &'static [&'static str],
     spelled: bool,
 ) -> Result<clap::Command<'a>, AllocError>
-    ensures { IfOk result (λ told. app_of told ≡ app_by spelled (texts_of names.now)) }
+    ensures { IfOk result (λ command. app_of command ≡ app_by spelled (texts_of names.now)) }
 {
-    let mut told = clap::Command::new(alloc, "hall")
+    let mut command = clap::Command::new(alloc, "hall")
         .no_binary_name(true)
         .disable_help_flag(true);
     for name in names {
-        told = with_value(alloc, told, name, spelled)?;
+        command = with_value(alloc, command, name, spelled)?;
     }
-    Ok(told)
+    Ok(command)
 }
 
 // The command with one value more.
 fn with_value<'a>(
     alloc: Global,
-    told: clap::Command<'a>,
+    command: clap::Command<'a>,
     name: &'static str,
     spelled: bool,
 ) -> Result<clap::Command<'a>, AllocError>
     ensures { IfOk result (λ more. app_of more
-        ≡ with_rule (app_of told.entry) (rule_by spelled name.now)) }
+        ≡ with_rule (app_of command.entry) (rule_by spelled name.now)) }
 {
     let value = Arg::new(alloc, name).action(ArgAction::Set);
     if spelled {
-        Ok(told.arg(value.long(name))?)
+        Ok(command.arg(value.long(name))?)
     } else {
-        Ok(told.arg(value)?)
+        Ok(command.arg(value)?)
     }
 }
 

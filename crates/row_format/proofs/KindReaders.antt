@@ -10,10 +10,10 @@ use Rattle.book_words.specs.declared.name.Name.{Name}
 use Rattle.book_words.specs.Names.{bytes_of}
 use Rattle.row_format.specs.declared.codes.Kind.{Kind}
 use Rattle.row_format.specs.declared.codes.Kind.TheVariants as kinds
-use Rattle.row_format.specs.declared.acts.Told.{Told}
+use Rattle.row_format.specs.declared.acts.RowAct.{RowAct}
 use Rattle.row_format.specs.Spelling.{four, eight, four_field, eight_field, name_field, prior_code, mode_code, unit_code, fields_of, filled, kind_code}
 use Rattle.row_format.specs.Allowed.{IsShort, IsActAllowed, HasSignal, FitsAct}
-use Rattle.row_format.specs.Reading.{◌>>=◌, Reader, behind, told_of, ended, zeros_at, number_of_kind, name_at, act_at}
+use Rattle.row_format.specs.Reading.{◌>>=◌, Reader, behind, row_act, ended, zeros_at, number_of_kind, name_at, act_at}
 use Rattle.row_format.proofs.Readers.{Tells, IsReader, Within, Then, Image, behind_reads, image_reads, same_reader}
 use Rattle.row_format.proofs.FieldReaders.{CodeField, ZeroField, zeros_read}
 use Rattle.row_format.proofs.TypedReaders.{FourBytes, EightBytes, DensityField, LaneField, Four, Eight, code_of_signal, day_reads, gross_reads, tare_reads, nominal_reads, density_reads, lane_reads, prior_reads, signal_reads, mode_reads, unit_reads, any_four_reads, any_eight_reads}
@@ -29,7 +29,7 @@ fills_within end size h = omega arith
 -- ---- the fields of each kind
 
 -- zeros alone, and what was told before
-abbrev End : ℕ → Told → Told → List ℕ → Type 0
+abbrev End : ℕ → RowAct → RowAct → List ℕ → Type 0
 End size told = Image (λ (_ : ⊤). told) (ZeroField size)
 
 abbrev Day : ℤ → List ℕ → Type 0
@@ -45,39 +45,39 @@ abbrev Nominal : ℤ → List ℕ → Type 0
 Nominal = EightBytes MIN_NOMINAL MAX_NOMINAL
 
 -- the fields of each kind, one behind the other, and so many zeros
-abbrev Fields : (width rest : ℕ) → Kind → Told → List ℕ → Type 0
-Fields width rest kinds.NewDay = Then Day λ day. End rest (told_of (NewDay day) None)
+abbrev Fields : (width rest : ℕ) → Kind → RowAct → List ℕ → Type 0
+Fields width rest kinds.NewDay = Then Day λ day. End rest (row_act (NewDay day) None)
 Fields width rest kinds.PutProduct =
     Then (NameText width) λ name. Then Nominal λ nominal. Then (CodeField unit_code) λ unit.
-    End rest (told_of (PutProduct name nominal unit) None)
+    End rest (row_act (PutProduct name nominal unit) None)
 Fields width rest kinds.PutTare =
     Then (NameText width) λ product. Then Day λ day. Then Tare λ tare. End rest
-    (told_of (PutTare product day tare) None)
+    (row_act (PutTare product day tare) None)
 Fields width rest kinds.OpenBatch =
     Then (NameText width) λ batch. Then (NameText width) λ product. Then DensityField λ density.
-    End rest (told_of (OpenBatch batch product density) None)
+    End rest (row_act (OpenBatch batch product density) None)
 Fields width rest kinds.StartLane =
     Then LaneField λ lane. Then (NameText width) λ batch. End rest
-    (told_of (StartLane lane batch) None)
+    (row_act (StartLane lane batch) None)
 Fields width rest kinds.Weigh =
     Then LaneField λ lane. Then Gross λ gross. Then (CodeField prior_code) λ prior. Then
     (CodeField code_of_signal) λ signal. End rest
-    (told_of (Weigh lane gross prior) (Some signal))
+    (row_act (Weigh lane gross prior) (Some signal))
 Fields width rest kinds.StopLane =
     Then LaneField λ lane. Then (CodeField prior_code) λ prior. End rest
-    (told_of (StopLane lane prior) None)
-Fields width rest kinds.Void = Then Four λ pack. End rest (told_of (Void pack) None)
-Fields width rest kinds.EndRun = Then (NameText width) λ batch. End rest (told_of (EndRun batch) None)
+    (row_act (StopLane lane prior) None)
+Fields width rest kinds.Void = Then Four λ pack. End rest (row_act (Void pack) None)
+Fields width rest kinds.EndRun = Then (NameText width) λ batch. End rest (row_act (EndRun batch) None)
 Fields width rest kinds.Draw =
     Then (NameText width) λ batch. Then (CodeField mode_code) λ mode. Then Eight λ word. End rest
-    (told_of (Draw batch mode word) None)
+    (row_act (Draw batch mode word) None)
 Fields width rest kinds.Measure =
     Then Four λ pack. Then Gross λ gross. Then Tare λ empty. End rest
-    (told_of (Measure pack gross empty) None)
+    (row_act (Measure pack gross empty) None)
 Fields width rest kinds.DrawSecond =
     Then (NameText width) λ batch. Then Eight λ word. End rest
-    (told_of (DrawSecond batch word) None)
-Fields width rest kinds.Close = Then (NameText width) λ batch. End rest (told_of (Close batch) None)
+    (row_act (DrawSecond batch word) None)
+Fields width rest kinds.Close = Then (NameText width) λ batch. End rest (row_act (Close batch) None)
 
 -- how many bytes they have without the zeros
 abbrev pub size_of : ℕ → Kind → ℕ
@@ -97,7 +97,7 @@ size_of width kinds.Close = 1 + width
 
 -- ---- their readers
 
-ended_reads : (size : ℕ) (told : Told) → IsReader Fills size (End size told) (ended told)
+ended_reads : (size : ℕ) (told : RowAct) → IsReader Fills size (End size told) (ended told)
 unfolding ended
 ended_reads size told =
     let image = image_reads Within (λ (_ : ⊤). told) size (ZeroField size) (zeros_at size)
@@ -127,41 +127,41 @@ module _ (width rest : ℕ) (some : 1 ≤ width) (short : width ≤ NAME_BYTES) 
   fields_read : (kind : Kind) → IsReader Fills (size_of width kind + rest) (Fields width rest kind)
       (act_at kind width)
   fields_read kinds.NewDay = sized
-      (and_then day_reads λ day. ended_reads rest (told_of (NewDay day) None)) (omega arith)
+      (and_then day_reads λ day. ended_reads rest (row_act (NewDay day) None)) (omega arith)
   fields_read kinds.PutProduct =
       sized (and_then named λ name. and_then nominal_reads λ nominal. and_then unit_reads λ unit.
-      ended_reads rest (told_of (PutProduct name nominal unit) None)) (omega arith)
+      ended_reads rest (row_act (PutProduct name nominal unit) None)) (omega arith)
   fields_read kinds.PutTare = sized
       (and_then named λ product. and_then day_reads λ day. and_then tare_reads λ tare.
-      ended_reads rest (told_of (PutTare product day tare) None)) (omega arith)
+      ended_reads rest (row_act (PutTare product day tare) None)) (omega arith)
   fields_read kinds.OpenBatch = sized
       (and_then named λ batch. and_then named λ product. and_then density_reads λ density.
-      ended_reads rest (told_of (OpenBatch batch product density) None)) (omega arith)
+      ended_reads rest (row_act (OpenBatch batch product density) None)) (omega arith)
   fields_read kinds.StartLane = sized
       (and_then lane_reads λ lane. and_then named λ batch. ended_reads rest
-      (told_of (StartLane lane batch) None)) (omega arith)
+      (row_act (StartLane lane batch) None)) (omega arith)
   fields_read kinds.Weigh = sized
       (and_then lane_reads λ lane. and_then gross_reads λ gross. and_then prior_reads λ prior.
       and_then signal_reads λ signal. ended_reads rest
-      (told_of (Weigh lane gross prior) (Some signal))) (omega arith)
+      (row_act (Weigh lane gross prior) (Some signal))) (omega arith)
   fields_read kinds.StopLane = sized
       (and_then lane_reads λ lane. and_then prior_reads λ prior. ended_reads rest
-      (told_of (StopLane lane prior) None)) (omega arith)
+      (row_act (StopLane lane prior) None)) (omega arith)
   fields_read kinds.Void = sized
-      (and_then any_four_reads λ pack. ended_reads rest (told_of (Void pack) None)) (omega arith)
+      (and_then any_four_reads λ pack. ended_reads rest (row_act (Void pack) None)) (omega arith)
   fields_read kinds.EndRun = sized
-      (and_then named λ batch. ended_reads rest (told_of (EndRun batch) None)) (omega arith)
+      (and_then named λ batch. ended_reads rest (row_act (EndRun batch) None)) (omega arith)
   fields_read kinds.Draw = sized
       (and_then named λ batch. and_then mode_reads λ mode. and_then any_eight_reads λ word.
-      ended_reads rest (told_of (Draw batch mode word) None)) (omega arith)
+      ended_reads rest (row_act (Draw batch mode word) None)) (omega arith)
   fields_read kinds.Measure = sized
       (and_then any_four_reads λ pack. and_then gross_reads λ gross. and_then tare_reads λ empty.
-      ended_reads rest (told_of (Measure pack gross empty) None)) (omega arith)
+      ended_reads rest (row_act (Measure pack gross empty) None)) (omega arith)
   fields_read kinds.DrawSecond =
       sized (and_then named λ batch. and_then any_eight_reads λ word. ended_reads rest
-      (told_of (DrawSecond batch word) None)) (omega arith)
+      (row_act (DrawSecond batch word) None)) (omega arith)
   fields_read kinds.Close = sized
-      (and_then named λ batch. ended_reads rest (told_of (Close batch) None)) (omega arith)
+      (and_then named λ batch. ended_reads rest (row_act (Close batch) None)) (omega arith)
 
 -- ---- the spelling of an act
 
@@ -204,7 +204,7 @@ pub record IsAct (width rest : ℕ) (act : Act) (signal : Option Signal) (text :
   pub fits : FitsAct act
   pub spelled : text ≡ fields_of width act signal ++ replicate rest 0
 
-abbrev IsActOf : (width rest : ℕ) → Kind → Told → List ℕ → Type 0
+abbrev IsActOf : (width rest : ℕ) → Kind → RowAct → List ℕ → Type 0
 IsActOf width rest kind told text = (kind_for told.act ≡ kind)
     × IsAct width rest told.act told.signal text
 
@@ -224,14 +224,14 @@ no_signal : (signal : Option Signal) → signal ≡ None → IsSome signal → �
 no_signal signal is some = absurd cc
 
 module _ (width rest : ℕ) where
-  told_as : (act : Act) (signal : Option Signal) (told : Told) (text : List ℕ)
-      → told ≡ told_of act signal → IsAct width rest act signal text
+  told_as : (act : Act) (signal : Option Signal) (told : RowAct) (text : List ℕ)
+      → told ≡ row_act act signal → IsAct width rest act signal text
       → IsActOf width rest (kind_for act) told text
   told_as act signal told text is spelled =
       subst (λ t. IsActOf width rest (kind_for act) t text) (sym is) (refl, spelled)
 
   -- the fields of a kind spell an act of that kind
-  act_of_fields : (kind : Kind) (told : Told) (text : List ℕ) → Fields width rest kind told text
+  act_of_fields : (kind : Kind) (told : RowAct) (text : List ℕ) → Fields width rest kind told text
       → IsActOf width rest kind told text
   act_of_fields kinds.NewDay told text x =
       let end = x.goes in
@@ -398,18 +398,18 @@ module _ (width rest : ℕ) where
       })
 
   ending : (act : Act) (signal : Option Signal) → signal ≡ None
-      → End rest (told_of act None) (told_of act signal) (replicate rest 0)
-  ending act signal is = record { from = tt; spelled = refl; is = ap (told_of act) is }
+      → End rest (row_act act None) (row_act act signal) (replicate rest 0)
+  ending act signal is = record { from = tt; spelled = refl; is = ap (row_act act) is }
 
   -- what spells an act has the fields of its kind
   fields_of_act : (act : Act) (signal : Option Signal) (text : List ℕ)
       → IsAct width rest act signal text
-      → Fields width rest (kind_for act) (told_of act signal) text
+      → Fields width rest (kind_for act) (row_act act signal) text
   fields_of_act (NewDay day) signal text is =
-      subst (Fields width rest kinds.NewDay (told_of (NewDay day) signal)) (sym (is.spelled))
+      subst (Fields width rest kinds.NewDay (row_act (NewDay day) signal)) (sym (is.spelled))
       (step day (four_field day) _ (is.allowed, refl) (ending (NewDay day) signal is.signalled))
   fields_of_act (PutProduct name nominal unit) signal text is =
-      subst (Fields width rest kinds.PutProduct (told_of (PutProduct name nominal unit) signal))
+      subst (Fields width rest kinds.PutProduct (row_act (PutProduct name nominal unit) signal))
       (sym (is.spelled ∙ three_fields (name_field width name) (eight_field nominal)
       (unit_code unit ∷ []) (replicate rest 0)))
       (step name (name_field width name) _ (is.allowed.0, refl)
@@ -417,7 +417,7 @@ module _ (width rest : ℕ) where
       (step unit (unit_code unit ∷ []) _ refl
       (ending (PutProduct name nominal unit) signal is.signalled))))
   fields_of_act (PutTare product day tare) signal text is =
-      subst (Fields width rest kinds.PutTare (told_of (PutTare product day tare) signal))
+      subst (Fields width rest kinds.PutTare (row_act (PutTare product day tare) signal))
       (sym (is.spelled ∙ three_fields (name_field width product) (four_field day)
       (four_field tare) (replicate rest 0)))
       (step product (name_field width product) _ (is.allowed.0, refl)
@@ -425,7 +425,7 @@ module _ (width rest : ℕ) where
       (step tare (four_field tare) _ (is.allowed.2, refl)
       (ending (PutTare product day tare) signal is.signalled))))
   fields_of_act (OpenBatch batch product density) signal text is =
-      subst (Fields width rest kinds.OpenBatch (told_of (OpenBatch batch product density) signal))
+      subst (Fields width rest kinds.OpenBatch (row_act (OpenBatch batch product density) signal))
       (sym (is.spelled ∙ three_fields (name_field width batch) (name_field width product)
       (four density) (replicate rest 0)))
       (step batch (name_field width batch) _ (is.allowed.0, refl)
@@ -433,12 +433,12 @@ module _ (width rest : ℕ) where
       (step density (four density) _ (is.allowed.2, refl)
       (ending (OpenBatch batch product density) signal is.signalled))))
   fields_of_act (StartLane lane batch) signal text is =
-      subst (Fields width rest kinds.StartLane (told_of (StartLane lane batch) signal))
+      subst (Fields width rest kinds.StartLane (row_act (StartLane lane batch) signal))
       (sym (is.spelled)) (step lane (lane ∷ []) _ (is.allowed.0, refl)
       (step batch (name_field width batch) _ (is.allowed.1, refl)
       (ending (StartLane lane batch) signal is.signalled)))
   fields_of_act (Weigh lane gross prior) (Some signal) text is =
-      subst (Fields width rest kinds.Weigh (told_of (Weigh lane gross prior) (Some signal)))
+      subst (Fields width rest kinds.Weigh (row_act (Weigh lane gross prior) (Some signal)))
       (sym (is.spelled)) (step lane (lane ∷ []) _ (is.allowed.0, refl)
       (step gross (four_field gross) _ (is.allowed.1, refl)
       (step prior (prior_code prior ∷ []) _ refl
@@ -446,39 +446,39 @@ module _ (width rest : ℕ) where
       (record { from = tt; spelled = refl; is = refl })))))
   fields_of_act (Weigh lane gross prior) None text is = absurd (no_signal None refl is.signalled)
   fields_of_act (StopLane lane prior) signal text is =
-      subst (Fields width rest kinds.StopLane (told_of (StopLane lane prior) signal))
+      subst (Fields width rest kinds.StopLane (row_act (StopLane lane prior) signal))
       (sym (is.spelled)) (step lane (lane ∷ []) _ (is.allowed, refl)
       (step prior (prior_code prior ∷ []) _ refl
       (ending (StopLane lane prior) signal is.signalled)))
   fields_of_act (Void pack) signal text is =
-      subst (Fields width rest kinds.Void (told_of (Void pack) signal)) (sym (is.spelled))
+      subst (Fields width rest kinds.Void (row_act (Void pack) signal)) (sym (is.spelled))
       (step pack (four pack) _ (record { below = is.fits; is = refl })
       (ending (Void pack) signal is.signalled))
   fields_of_act (EndRun batch) signal text is =
-      subst (Fields width rest kinds.EndRun (told_of (EndRun batch) signal)) (sym (is.spelled))
+      subst (Fields width rest kinds.EndRun (row_act (EndRun batch) signal)) (sym (is.spelled))
       (step batch (name_field width batch) _ (is.allowed, refl)
       (ending (EndRun batch) signal is.signalled))
   fields_of_act (Draw batch mode word) signal text is =
-      subst (Fields width rest kinds.Draw (told_of (Draw batch mode word) signal))
+      subst (Fields width rest kinds.Draw (row_act (Draw batch mode word) signal))
       (sym (is.spelled ∙ append_assoc (name_field width batch) (mode_code mode ∷ eight word)
       (replicate rest 0))) (step batch (name_field width batch) _ (is.allowed, refl)
       (step mode (mode_code mode ∷ []) _ refl
       (step word (eight word) _ (record { below = is.fits; is = refl })
       (ending (Draw batch mode word) signal is.signalled))))
   fields_of_act (Measure pack gross empty) signal text is =
-      subst (Fields width rest kinds.Measure (told_of (Measure pack gross empty) signal))
+      subst (Fields width rest kinds.Measure (row_act (Measure pack gross empty) signal))
       (sym (is.spelled)) (step pack (four pack) _ (record { below = is.fits; is = refl })
       (step gross (four_field gross) _ (is.allowed.0, refl)
       (step empty (four_field empty) _ (is.allowed.1, refl)
       (ending (Measure pack gross empty) signal is.signalled))))
   fields_of_act (DrawSecond batch word) signal text is =
-      subst (Fields width rest kinds.DrawSecond (told_of (DrawSecond batch word) signal))
+      subst (Fields width rest kinds.DrawSecond (row_act (DrawSecond batch word) signal))
       (sym (is.spelled ∙ append_assoc (name_field width batch) (eight word) (replicate rest 0)))
       (step batch (name_field width batch) _ (is.allowed, refl)
       (step word (eight word) _ (record { below = is.fits; is = refl })
       (ending (DrawSecond batch word) signal is.signalled)))
   fields_of_act (Close batch) signal text is =
-      subst (Fields width rest kinds.Close (told_of (Close batch) signal)) (sym (is.spelled))
+      subst (Fields width rest kinds.Close (row_act (Close batch) signal)) (sym (is.spelled))
       (step batch (name_field width batch) _ (is.allowed, refl)
       (ending (Close batch) signal is.signalled))
 
@@ -542,7 +542,7 @@ length_fields width (Close batch) signal is = length_name width batch is
 length_fields width act signal is = refl
 
 -- an act of this kind and its signal may stand in a row, and this is their text
-pub record IsBody (total width : ℕ) (kind : Kind) (told : Told) (text : List ℕ) : Type 0 where
+pub record IsBody (total width : ℕ) (kind : Kind) (told : RowAct) (text : List ℕ) : Type 0 where
   pub of_kind : kind_for told.act ≡ kind
   pub allowed : IsActAllowed width told.act
   pub signalled : HasSignal told.act told.signal
@@ -550,7 +550,7 @@ pub record IsBody (total width : ℕ) (kind : Kind) (told : Told) (text : List �
   pub spelled : text ≡ filled total (fields_of width told.act told.signal)
 
 module _ (total width : ℕ) (kind : Kind) where
-  zeros_behind : (told : Told) → kind_for told.act ≡ kind → IsActAllowed width told.act
+  zeros_behind : (told : RowAct) → kind_for told.act ≡ kind → IsActAllowed width told.act
       → fields_of width told.act told.signal ++ replicate (total - size_of width kind) 0
       ≡ filled total (fields_of width told.act told.signal)
   zeros_behind told is allowed =
@@ -558,7 +558,7 @@ module _ (total width : ℕ) (kind : Kind) where
       ap (size_of width) (sym is) ∙ sym (length_fields width told.act told.signal allowed) in
       ap (λ k. fields_of width told.act told.signal ++ replicate (total - k) 0) long
 
-  body_of_fields : (told : Told) (text : List ℕ)
+  body_of_fields : (told : RowAct) (text : List ℕ)
       → Fields width (total - size_of width kind) kind told text → IsBody total width kind told text
   body_of_fields told text x =
       let act = act_of_fields width (total - size_of width kind) kind told text x in
@@ -571,7 +571,7 @@ module _ (total width : ℕ) (kind : Kind) where
         spelled = act.1.spelled ∙ zeros_behind told act.0 act.1.allowed;
       }
 
-  fields_of_body : (told : Told) (text : List ℕ) → IsBody total width kind told text
+  fields_of_body : (told : RowAct) (text : List ℕ) → IsBody total width kind told text
       → Fields width (total - size_of width kind) kind told text
   fields_of_body told text is =
       let spelled = is.spelled ∙ sym (zeros_behind told is.of_kind is.allowed) in

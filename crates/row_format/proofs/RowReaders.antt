@@ -5,11 +5,11 @@ use Rattle.std.proofs.lemmas.List.{take_all}
 use Rattle.book_words.specs.declared.act.Entry.{Entry}
 use Rattle.book_snapshot.specs.declared.layout.TheConstants.{OPEN}
 use Rattle.row_format.specs.declared.codes.Kind.{Kind}
-use Rattle.row_format.specs.declared.acts.Told.{Told}
+use Rattle.row_format.specs.declared.acts.RowAct.{RowAct}
 use Rattle.row_format.specs.declared.types.RowFault.{RowFault}
 use Rattle.row_format.specs.Spelling.{Layout, two, four, kind_code, fields_of, filled, spelled_fields, row_bytes}
 use Rattle.row_format.specs.Rows.{Spells, FirstFault}
-use Rattle.row_format.specs.Reading.{act_at, number_of_kind, told_of, entry_of, row_at}
+use Rattle.row_format.specs.Reading.{act_at, number_of_kind, row_act, entry_of, row_at}
 use Rattle.row_format.proofs.LowBytes.{low, written_low}
 use Rattle.row_format.proofs.Readers.{IsBytes, Tells, IsField, IsReader, Then, Image, image_reads, same_reader}
 use Rattle.row_format.proofs.FieldReaders.{CodeField}
@@ -39,7 +39,7 @@ module _ (total width number : ℕ) where
       ∙ ap (λ (xs : List ℕ). a ++ xs) q
 
   -- the zeros behind the fields of a kind are those of the row
-  whole_row : (by desk request : ℕ) (told : Told)
+  whole_row : (by desk request : ℕ) (told : RowAct)
       → OPEN ∷ kind_code told.act ∷ (four number
       ++ (two by ++
       (two desk ++ (four request ++ filled total (fields_of width told.act told.signal)))))
@@ -94,7 +94,7 @@ module _ (total width number : ℕ) where
 
   from_spelled : (entry : Entry) (text : List ℕ) → Spelled entry text → Parts entry text
   from_spelled entry text x =
-      let told = told_of entry.act entry.signal in
+      let told = row_act entry.act entry.signal in
       let fields = filled total (fields_of width entry.act entry.signal) in
       let number_is : four number ≡ low 4 number = written_low 4 number in
       let last = four entry.request ++ fields in

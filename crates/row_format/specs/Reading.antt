@@ -17,7 +17,7 @@ use Rattle.book_words.specs.declared.act.Entry.{Entry}
 use Rattle.book_snapshot.specs.declared.layout.TheConstants.{OPEN}
 use Rattle.row_format.specs.declared.codes.Kind.{Kind}
 use Rattle.row_format.specs.declared.codes.Kind.TheVariants as kinds
-use Rattle.row_format.specs.declared.acts.Told.{Told}
+use Rattle.row_format.specs.declared.acts.RowAct.{RowAct}
 use Rattle.row_format.specs.declared.places.TheConstants.{ACT_PLACE}
 use Rattle.row_format.specs.Spelling.{prior_code, signal_code, mode_code, unit_code}
 use Rattle.row_format.specs.declared.types.RowFault.{RowFault}
@@ -213,75 +213,75 @@ pub record IsRowOf (width : ℕ) (bytes : List ℕ) : Type 0 where
   pub names : ACT_PLACE + (1 + width) + (1 + width) + 4 ≤ length bytes
   pub others : ACT_PLACE + 12 ≤ length bytes
 
--- what was told, where zeros alone stand behind it
-unfoldable pub ended : Told → Reader Told
-ended told place bytes = do
+-- what was read, where zeros alone stand behind it
+unfoldable pub ended : RowAct → Reader RowAct
+ended row place bytes = do
   _ ← zeros_at (length bytes - place) place bytes
-  Ok told
+  Ok row
 
 -- an act and its signal
-abbrev pub told_of : Act → Option Signal → Told
-told_of act signal = record { act = act; signal = signal }
+abbrev pub row_act : Act → Option Signal → RowAct
+row_act act signal = record { act = act; signal = signal }
 
 -- the fields of each kind, one behind the other, and the zeros behind them
-abbrev pub new_day_at : Reader Told
-new_day_at = behind 4 day_at λ day. ended (told_of (NewDay day) None)
+abbrev pub new_day_at : Reader RowAct
+new_day_at = behind 4 day_at λ day. ended (row_act (NewDay day) None)
 
-abbrev pub put_product_at : ℕ → Reader Told
+abbrev pub put_product_at : ℕ → Reader RowAct
 put_product_at width =
     behind (1 + width) (name_at width) λ name. behind 8 nominal_at λ nominal.
     behind 1 unit_at λ unit.
-    ended (told_of (PutProduct name nominal unit) None)
+    ended (row_act (PutProduct name nominal unit) None)
 
-abbrev pub put_tare_at : ℕ → Reader Told
+abbrev pub put_tare_at : ℕ → Reader RowAct
 put_tare_at width =
     behind (1 + width) (name_at width) λ product. behind 4 day_at λ day. behind 4 tare_at λ tare.
-    ended (told_of (PutTare product day tare) None)
+    ended (row_act (PutTare product day tare) None)
 
-abbrev pub open_batch_at : ℕ → Reader Told
+abbrev pub open_batch_at : ℕ → Reader RowAct
 open_batch_at width =
     behind (1 + width) (name_at width) λ batch. behind (1 + width) (name_at width) λ product.
-    behind 4 density_at λ density. ended (told_of (OpenBatch batch product density) None)
+    behind 4 density_at λ density. ended (row_act (OpenBatch batch product density) None)
 
-abbrev pub start_lane_at : ℕ → Reader Told
+abbrev pub start_lane_at : ℕ → Reader RowAct
 start_lane_at width =
     behind 1 lane_at λ lane. behind (1 + width) (name_at width) λ batch.
-    ended (told_of (StartLane lane batch) None)
+    ended (row_act (StartLane lane batch) None)
 
-abbrev pub weigh_at : Reader Told
+abbrev pub weigh_at : Reader RowAct
 weigh_at =
     behind 1 lane_at λ lane. behind 4 gross_at λ gross. behind 1 prior_at λ prior.
-    behind 1 signal_at λ signal. ended (told_of (Weigh lane gross prior) (Some signal))
+    behind 1 signal_at λ signal. ended (row_act (Weigh lane gross prior) (Some signal))
 
-abbrev pub stop_lane_at : Reader Told
+abbrev pub stop_lane_at : Reader RowAct
 stop_lane_at =
-    behind 1 lane_at λ lane. behind 1 prior_at λ prior. ended (told_of (StopLane lane prior) None)
+    behind 1 lane_at λ lane. behind 1 prior_at λ prior. ended (row_act (StopLane lane prior) None)
 
-abbrev pub void_at : Reader Told
-void_at = behind 4 four_at λ pack. ended (told_of (Void pack) None)
+abbrev pub void_at : Reader RowAct
+void_at = behind 4 four_at λ pack. ended (row_act (Void pack) None)
 
-abbrev pub end_run_at : ℕ → Reader Told
-end_run_at width = behind (1 + width) (name_at width) λ batch. ended (told_of (EndRun batch) None)
+abbrev pub end_run_at : ℕ → Reader RowAct
+end_run_at width = behind (1 + width) (name_at width) λ batch. ended (row_act (EndRun batch) None)
 
-abbrev pub draw_at : ℕ → Reader Told
+abbrev pub draw_at : ℕ → Reader RowAct
 draw_at width =
     behind (1 + width) (name_at width) λ batch. behind 1 mode_at λ mode. behind 8 eight_at λ word.
-    ended (told_of (Draw batch mode word) None)
+    ended (row_act (Draw batch mode word) None)
 
-abbrev pub measure_at : Reader Told
+abbrev pub measure_at : Reader RowAct
 measure_at =
     behind 4 four_at λ pack. behind 4 gross_at λ gross. behind 4 tare_at λ empty.
-    ended (told_of (Measure pack gross empty) None)
+    ended (row_act (Measure pack gross empty) None)
 
-abbrev pub draw_second_at : ℕ → Reader Told
+abbrev pub draw_second_at : ℕ → Reader RowAct
 draw_second_at width =
     behind (1 + width) (name_at width) λ batch. behind 8 eight_at λ word.
-    ended (told_of (DrawSecond batch word) None)
+    ended (row_act (DrawSecond batch word) None)
 
-abbrev pub close_at : ℕ → Reader Told
-close_at width = behind (1 + width) (name_at width) λ batch. ended (told_of (Close batch) None)
+abbrev pub close_at : ℕ → Reader RowAct
+close_at width = behind (1 + width) (name_at width) λ batch. ended (row_act (Close batch) None)
 
-abbrev pub act_at : Kind → ℕ → Reader Told
+abbrev pub act_at : Kind → ℕ → Reader RowAct
 act_at kinds.NewDay width = new_day_at
 act_at kinds.PutProduct width = put_product_at width
 act_at kinds.PutTare width = put_tare_at width
@@ -297,14 +297,14 @@ act_at kinds.DrawSecond width = draw_second_at width
 act_at kinds.Close width = close_at width
 
 -- the entry that these fields tell
-abbrev pub entry_of : (by desk request : ℕ) → Told → Entry
-entry_of by desk request told =
-    record { by = by; desk = desk; request = request; act = told.act; signal = told.signal }
+abbrev pub entry_of : (by desk request : ℕ) → RowAct → Entry
+entry_of by desk request row =
+    record { by = by; desk = desk; request = request; act = row.act; signal = row.signal }
 
 -- the entry of a reader of the fields of a kind
-abbrev pub entry_reader : (by desk request : ℕ) → Reader Told → Reader Entry
+abbrev pub entry_reader : (by desk request : ℕ) → Reader RowAct → Reader Entry
 entry_reader by desk request read place bytes =
-    read place bytes >>= λ told. Ok (entry_of by desk request told)
+    read place bytes >>= λ row. Ok (entry_of by desk request row)
 
 -- the entry that a row with this number spells
 unfoldable pub row_at : (width number : ℕ) → Reader Entry

@@ -1,5 +1,5 @@
 ghost use Rattle.std.specs.Prelude.{◌≡◌, ◌+◌, ◌≤◌, length, None};
-ghost use Rattle.row_format.specs.Reading.{IsRowOf, told_of, ended, act_at, new_day_at, put_product_at, put_tare_at, open_batch_at, start_lane_at, weigh_at, stop_lane_at, void_at, end_run_at, draw_at, measure_at, draw_second_at, close_at};
+ghost use Rattle.row_format.specs.Reading.{IsRowOf, row_act, ended, act_at, new_day_at, put_product_at, put_tare_at, open_batch_at, start_lane_at, weigh_at, stop_lane_at, void_at, end_run_at, draw_at, measure_at, draw_second_at, close_at};
 
 use crate::codes::{Kind, mode_at, prior_at, signal_at, unit_at};
 use crate::fields::{
@@ -11,15 +11,15 @@ use book_words::Act;
 use hall_units::{get_u32, get_u64};
 use pack_judge::Signal;
 
-/// What the fields of a kind tell.
+/// The act of a row, and the signal of its gate where the act is a weighing.
 #[derive(Clone, Copy)]
-pub struct Told {
+pub struct RowAct {
     pub act: Act,
     pub signal: Option<Signal>,
 }
 
-/// What the fields of a row of this kind tell, where names have so many bytes.
-pub fn act_at(kind: Kind, bytes: &[u8], width: usize) -> Result<Told, RowFault>
+/// The act and the signal of a row of this kind, where names have so many bytes.
+pub fn act_at(kind: Kind, bytes: &[u8], width: usize) -> Result<RowAct, RowFault>
     requires { IsRowOf width bytes.now }
     ensures { result ≡ act_at kind width ACT_PLACE bytes.now }
 {
@@ -42,16 +42,16 @@ pub fn act_at(kind: Kind, bytes: &[u8], width: usize) -> Result<Told, RowFault>
 
 // An act that has no signal, where zeros alone stand behind its fields.
 #[tactic(auto, unfolding(crate::specs::Reading::ended))]
-fn ended(bytes: &[u8], place: usize, act: Act) -> Result<Told, RowFault>
+fn ended(bytes: &[u8], place: usize, act: Act) -> Result<RowAct, RowFault>
     requires { place ≤ length bytes.now }
-    ensures { result ≡ ended (told_of act None) place bytes.now }
+    ensures { result ≡ ended (row_act act None) place bytes.now }
 {
     zeros_at(bytes, place, bytes.len() - place)?;
-    Ok(Told { act, signal: None })
+    Ok(RowAct { act, signal: None })
 }
 
 // A new day.
-fn new_day_at(bytes: &[u8]) -> Result<Told, RowFault>
+fn new_day_at(bytes: &[u8]) -> Result<RowAct, RowFault>
     requires { ACT_PLACE + 12 ≤ length bytes.now }
     ensures { result ≡ new_day_at ACT_PLACE bytes.now }
 {
@@ -60,7 +60,7 @@ fn new_day_at(bytes: &[u8]) -> Result<Told, RowFault>
 }
 
 // A product.
-fn put_product_at(bytes: &[u8], width: usize) -> Result<Told, RowFault>
+fn put_product_at(bytes: &[u8], width: usize) -> Result<RowAct, RowFault>
     requires { IsRowOf width bytes.now }
     ensures { result ≡ put_product_at width ACT_PLACE bytes.now }
 {
@@ -80,7 +80,7 @@ fn put_product_at(bytes: &[u8], width: usize) -> Result<Told, RowFault>
 }
 
 // A tare.
-fn put_tare_at(bytes: &[u8], width: usize) -> Result<Told, RowFault>
+fn put_tare_at(bytes: &[u8], width: usize) -> Result<RowAct, RowFault>
     requires { IsRowOf width bytes.now }
     ensures { result ≡ put_tare_at width ACT_PLACE bytes.now }
 {
@@ -92,7 +92,7 @@ fn put_tare_at(bytes: &[u8], width: usize) -> Result<Told, RowFault>
 }
 
 // A batch that begins.
-fn open_batch_at(bytes: &[u8], width: usize) -> Result<Told, RowFault>
+fn open_batch_at(bytes: &[u8], width: usize) -> Result<RowAct, RowFault>
     requires { IsRowOf width bytes.now }
     ensures { result ≡ open_batch_at width ACT_PLACE bytes.now }
 {
@@ -112,7 +112,7 @@ fn open_batch_at(bytes: &[u8], width: usize) -> Result<Told, RowFault>
 }
 
 // A lane that starts.
-fn start_lane_at(bytes: &[u8], width: usize) -> Result<Told, RowFault>
+fn start_lane_at(bytes: &[u8], width: usize) -> Result<RowAct, RowFault>
     requires { IsRowOf width bytes.now }
     ensures { result ≡ start_lane_at width ACT_PLACE bytes.now }
 {
@@ -127,7 +127,7 @@ fn start_lane_at(bytes: &[u8], width: usize) -> Result<Told, RowFault>
 
 // A weighing, with its signal.
 #[tactic(auto, unfolding(crate::specs::Reading::ended))]
-fn weigh_at(bytes: &[u8]) -> Result<Told, RowFault>
+fn weigh_at(bytes: &[u8]) -> Result<RowAct, RowFault>
     requires { ACT_PLACE + 12 ≤ length bytes.now }
     ensures { result ≡ weigh_at ACT_PLACE bytes.now }
 {
@@ -137,14 +137,14 @@ fn weigh_at(bytes: &[u8]) -> Result<Told, RowFault>
     let signal = signal_at(bytes, ACT_PLACE + 1 + 4 + 1)?;
     let end = ACT_PLACE + 1 + 4 + 1 + 1;
     zeros_at(bytes, end, bytes.len() - end)?;
-    Ok(Told {
+    Ok(RowAct {
         act: Act::Weigh { lane, gross, prior },
         signal: Some(signal),
     })
 }
 
 // A lane that stops.
-fn stop_lane_at(bytes: &[u8]) -> Result<Told, RowFault>
+fn stop_lane_at(bytes: &[u8]) -> Result<RowAct, RowFault>
     requires { ACT_PLACE + 12 ≤ length bytes.now }
     ensures { result ≡ stop_lane_at ACT_PLACE bytes.now }
 {
@@ -154,7 +154,7 @@ fn stop_lane_at(bytes: &[u8]) -> Result<Told, RowFault>
 }
 
 // A pack that is taken back.
-fn void_at(bytes: &[u8]) -> Result<Told, RowFault>
+fn void_at(bytes: &[u8]) -> Result<RowAct, RowFault>
     requires { ACT_PLACE + 12 ≤ length bytes.now }
     ensures { result ≡ void_at ACT_PLACE bytes.now }
 {
@@ -163,7 +163,7 @@ fn void_at(bytes: &[u8]) -> Result<Told, RowFault>
 }
 
 // The end of a batch's run.
-fn end_run_at(bytes: &[u8], width: usize) -> Result<Told, RowFault>
+fn end_run_at(bytes: &[u8], width: usize) -> Result<RowAct, RowFault>
     requires { IsRowOf width bytes.now }
     ensures { result ≡ end_run_at width ACT_PLACE bytes.now }
 {
@@ -172,7 +172,7 @@ fn end_run_at(bytes: &[u8], width: usize) -> Result<Told, RowFault>
 }
 
 // The first sample of a batch.
-fn draw_at(bytes: &[u8], width: usize) -> Result<Told, RowFault>
+fn draw_at(bytes: &[u8], width: usize) -> Result<RowAct, RowFault>
     requires { IsRowOf width bytes.now }
     ensures { result ≡ draw_at width ACT_PLACE bytes.now }
 {
@@ -184,7 +184,7 @@ fn draw_at(bytes: &[u8], width: usize) -> Result<Told, RowFault>
 }
 
 // A measured pack.
-fn measure_at(bytes: &[u8]) -> Result<Told, RowFault>
+fn measure_at(bytes: &[u8]) -> Result<RowAct, RowFault>
     requires { ACT_PLACE + 12 ≤ length bytes.now }
     ensures { result ≡ measure_at ACT_PLACE bytes.now }
 {
@@ -199,7 +199,7 @@ fn measure_at(bytes: &[u8]) -> Result<Told, RowFault>
 }
 
 // The second sample of a batch.
-fn draw_second_at(bytes: &[u8], width: usize) -> Result<Told, RowFault>
+fn draw_second_at(bytes: &[u8], width: usize) -> Result<RowAct, RowFault>
     requires { IsRowOf width bytes.now }
     ensures { result ≡ draw_second_at width ACT_PLACE bytes.now }
 {
@@ -210,7 +210,7 @@ fn draw_second_at(bytes: &[u8], width: usize) -> Result<Told, RowFault>
 }
 
 // A batch's end.
-fn close_at(bytes: &[u8], width: usize) -> Result<Told, RowFault>
+fn close_at(bytes: &[u8], width: usize) -> Result<RowAct, RowFault>
     requires { IsRowOf width bytes.now }
     ensures { result ≡ close_at width ACT_PLACE bytes.now }
 {

@@ -45,12 +45,12 @@ fn row_at(bytes: &[u8], number: u32, width: usize) -> Result<Entry, RowFault>
     let by = get_u16(bytes, BY_PLACE);
     let desk = get_u16(bytes, DESK_PLACE);
     let request = get_u32(bytes, REQUEST_PLACE);
-    let told = act_at(kind, bytes, width)?;
+    let row = act_at(kind, bytes, width)?;
     Ok(Entry {
         by,
         desk,
         request,
-        act: told.act,
-        signal: told.signal,
+        act: row.act,
+        signal: row.signal,
     })
 }
