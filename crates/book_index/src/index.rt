@@ -376,22 +376,20 @@ impl Index {
     fn set_lane(&mut self, lane: u8, batch: Option<u32>)
         ensures { self.new ≡ with_lane lane batch self.old }
     {
-        let _ = &self.lanes;
-        if !is_lane(lane) {
-            return;
+        let lanes = &mut self.lanes;
+        if is_lane(lane) {
+            lanes[lane as usize - 1] = batch;
         }
-        self.lanes[lane as usize - 1] = batch;
     }
 
     // Notes the newest row of a desk.
     fn set_row(&mut self, desk: u16, row: u32)
         ensures { self.new ≡ with_row desk row self.old }
     {
-        let _ = &self.desks;
-        if !is_desk(desk) {
-            return;
+        let desks = &mut self.desks;
+        if is_desk(desk) {
+            desks[(desk - MIN_DESK) as usize] = Some(row);
         }
-        self.desks[(desk - MIN_DESK) as usize] = Some(row);
     }
 }
 
