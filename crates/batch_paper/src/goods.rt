@@ -3,6 +3,7 @@ ghost use Rattle.std.specs.Option.{option_map_or, unwrap_or};
 ghost use Rattle.hall_limits.specs.declared.TheConstants.{MAX_ROWS};
 ghost use Rattle.book_words.specs.Acts.{product_of};
 ghost use Rattle.book_words.specs.Classes.{density_of_batch};
+ghost use Rattle.book_words.specs.Readings.{tare_of_batch};
 ghost use Rattle.batch_paper.specs.Written.{closing_row, goods_of, tare_for};
 
 use crate::words::closing_place;
@@ -49,14 +50,20 @@ pub fn goods_of(state: &State, batch: &Name, product: &Name) -> Goods
     }
 }
 
-/// The tare of a batch's product on a day, as the tares now are.
-pub fn tare_for(state: &State, batch: &Name, product: &Name, day: i32) -> DatedTare
-    requires { product_of state.now.entries batch.now ≡ Some product.now }
+// The tare of a batch's product on a day.
+fn tare_of_batch(state: &State, batch: &Name, day: i32) -> Option<i64>
+    ensures { result ≡ tare_of_batch state.now.entries batch.now day }
+{
+    let product = state.product(batch)?;
+    state.tare(&product, day)
+}
+
+/// The tare of a batch's product on a day, as the tares now are; 0 where there is none.
+pub fn tare_for(state: &State, batch: &Name, day: i32) -> DatedTare
     ensures { result ≡ tare_for state.now.entries batch.now day }
 {
-    let _ = batch; // the clauses alone speak of it
     DatedTare {
         day,
-        tare: state.tare(product, day).unwrap_or(0),
+        tare: tare_of_batch(state, batch, day).unwrap_or(0),
     }
 }

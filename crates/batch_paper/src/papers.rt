@@ -26,7 +26,7 @@ use crate::words::{Words, words_of};
 use book_core::{Book, Rows};
 use book_samples::Sample;
 use book_state::State;
-use book_views::verdict_of;
+use book_verdicts::verdict_of;
 use book_words::{BatchState, Entry, Name};
 use hall_limits::MAX_ROWS;
 use paper_form::{Draw, Line, Pack};
@@ -37,17 +37,15 @@ fn write_tares(
     to: &mut Vec<u8>,
     state: &State,
     batch: &Name,
-    product: &Name,
     days: &[i32],
 ) -> Result<(), AllocError>
-    requires known { product_of state.now.entries batch.now ≡ Some product.now }
     requires range { AllPass (λ day. is_tare_in_range (tare_for state.now.entries batch.now day))
         days.now }
     ensures { OnOk result (to.new.items ≡ to.old.items ++ flat_map line_text
         (tare_lines (map (tare_for state.now.entries batch.now) days.now))) }
 {
     for day in days {
-        write_line(to, &Line::Tare(tare_for(state, batch, product, *day)))?;
+        write_line(to, &Line::Tare(tare_for(state, batch, *day)))?;
     }
     Ok(())
 }
@@ -158,7 +156,7 @@ fn write_text(
     let mut text = Vec::new(alloc);
     write_line(&mut text, &Line::Title)?;
     write_line(&mut text, &Line::Goods(goods_of(state, batch, product)))?;
-    write_tares(&mut text, state, batch, product, &days)?;
+    write_tares(&mut text, state, batch, &days)?;
     write_packs(&mut text, &packs)?;
     write_samples(&mut text, state, batch, &words)?;
     write_line(&mut text, &Line::Verdict(verdict_of(state, batch)))?;

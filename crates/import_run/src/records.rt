@@ -50,8 +50,7 @@ fn answer<K: Sink, D: Disk>(
     ensures goes { Goes D.Disk result (store_in session.old) (store_in session.new) }
     ensures ready { OnOk result (IsReady session.new) }
 {
-    let lanes: [NoLane; 0] = [];
-    session.answer(command, output, &lanes)
+    session.answer::<K, NoLane>(command, output)
 }
 
 // Asks and answers the commands that an import has left, one after the other.

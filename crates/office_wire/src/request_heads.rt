@@ -1,4 +1,5 @@
-ghost use Rattle.std.specs.Prelude.{◌≡◌, All, None, length, map, IfSome, IfNone};
+ghost use Rattle.std.specs.Prelude.{◌≡◌, List, All, None, length, map, IfSome, IfNone};
+ghost use Rattle.httparse.specs.declared.spans.HeaderSpan as headers;
 ghost use Rattle.httparse.specs.Grammar.{RequestHead};
 ghost use Rattle.httparse.specs.Spans.{IsHeaderWithin, IsRequestAt, header_bytes, span_bytes};
 ghost use Rattle.office_wire.specs.Frames.{IsHeadOf, allowed_size, size_of};
@@ -54,15 +55,15 @@ fn read_parts<'t>(text: &'t [u8], room: &[HeaderSpan], spans: &RequestSpans) -> 
     let headers = room.split_at(spans.headers).0;
     Said {
         method: spans.method.of(text),
-        target: target_of(text, room, spans),
+        target: target_of(text, spans),
         size: size_of(text, headers),
         last: spans.version == 0 || is_closing(text, headers),
     }
 }
 
 // The target of a head, which is a text.
-fn target_of<'t>(text: &'t [u8], room: &[HeaderSpan], spans: &RequestSpans) -> &'t str
-    requires { IsWholeHead text.now room.now spans.now }
+fn target_of<'t>(text: &'t [u8], spans: &RequestSpans) -> &'t str
+    requires { (room : List headers.HeaderSpan) × IsWholeHead text.now room spans.now }
     ensures { result.now ≡ span_bytes text.now spans.now.path }
 {
     str::from_utf8(spans.path.of(text)).unwrap()

@@ -23,6 +23,11 @@ abbrev pub heard_items : Heard → Item → List Item
 heard_items Take item = item ∷ []
 heard_items other item = []
 
+-- how many items are taken behind that, by who has taken so many before
+abbrev pub taken_behind : ℕ → Heard → ℕ
+taken_behind taken Take = taken + 1
+taken_behind taken other = taken
+
 -- what is taken of lines, in order, by who has taken so many items before them
 abbrev pub line_items : ℕ → List Line → List Item
 line_items taken [] = []

@@ -66,7 +66,7 @@ impl Hearing {
         ensures item { result ≡ item_heard self.old (Some (number, item)) }
     {
         self.lines = self.lines.saturating_add(1);
-        match self.receiver.line(number, item) {
+        match self.receiver.line(number) {
             Heard::Take => {
                 self.owes = true;
                 Some(self.give(item))

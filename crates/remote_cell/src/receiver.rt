@@ -1,4 +1,3 @@
-use crate::items::Item;
 use std::marker::Model;
 
 /// What a receiver makes of a line.
@@ -27,8 +26,8 @@ impl Model for Receiver {
 }
 
 impl Receiver {
-    ghost use Rattle.std.specs.Prelude.{◌≡◌, ◌+◌, length};
-    ghost use Rattle.remote_cell.specs.Exchanges.{heard, heard_items};
+    ghost use Rattle.std.specs.Prelude.{◌≡◌};
+    ghost use Rattle.remote_cell.specs.Exchanges.{heard, taken_behind};
 
     /// A receiver that has taken nothing yet. It takes no memory.
     pub fn new() -> Self
@@ -46,9 +45,9 @@ impl Receiver {
 
     /// Hears a line: its item is taken exactly where its number is one more than that of the items
     /// taken, and was taken before exactly where it isn't more than that.
-    pub fn line(&mut self, number: u32, item: Item) -> Heard
+    pub fn line(&mut self, number: u32) -> Heard
         ensures heard { result ≡ heard self.old number }
-        ensures taken { self.new ≡ self.old + length (heard_items result item) }
+        ensures taken { self.new ≡ taken_behind self.old result }
     {
         if number <= self.taken {
             return Heard::Again;

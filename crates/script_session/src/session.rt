@@ -29,7 +29,7 @@ pub struct Session<D: Disk> {
 }
 
 impl<D: Disk> Session<D> {
-    ghost use Rattle.std.specs.Prelude.{◌≡◌, ◌≤◌, ℕ, [], ◌∷◌, true, length, OnOk, IfOk, IfErr};
+    ghost use Rattle.std.specs.Prelude.{◌≡◌, ◌≤◌, ℕ, List, [], ◌∷◌, true, length, OnOk, IfOk, IfErr};
     ghost use Rattle.script_lines.specs.declared.command.Line.TheVariants as line;
     ghost use Rattle.script_lines.specs.Script.{is_good};
     ghost use Rattle.book_store.specs.Stores.{entries_of, held_of, IsSound};
@@ -77,16 +77,15 @@ impl<D: Disk> Session<D> {
         &mut self,
         command: &Command,
         output: &mut K,
-        lanes: &[L],
     ) -> Result<(), Stop>
         requires ready { IsReady self.old }
-        ensures answered { OnOk result (HasAnswered (book_in self.old)
-            (outside_at K.Sink L.Cell L.Gate output.old lanes.now (log_in self.old))
-            (outside_at K.Sink L.Cell L.Gate output.new lanes.now (log_in self.new))
+        ensures answered { (lanes : List L) → OnOk result (HasAnswered (book_in self.old)
+            (outside_at K.Sink L.Cell L.Gate output.old lanes (log_in self.old))
+            (outside_at K.Sink L.Cell L.Gate output.new lanes (log_in self.new))
             (book_in self.new) (line.Asks command.now ∷ [])) }
-        ensures stops { (number : ℕ) → IfErr result (StopsAtLine (book_in self.old)
-            (outside_at K.Sink L.Cell L.Gate output.old lanes.now (log_in self.old))
-            (outside_at K.Sink L.Cell L.Gate output.new lanes.now (log_in self.new))
+        ensures stops { (lanes : List L) (number : ℕ) → IfErr result (StopsAtLine (book_in self.old)
+            (outside_at K.Sink L.Cell L.Gate output.old lanes (log_in self.old))
+            (outside_at K.Sink L.Cell L.Gate output.new lanes (log_in self.new))
             (entries_of (store_in self.new)) [] number (line.Asks command.now)) }
         ensures goes { Goes D.Disk result (store_in self.old) (store_in self.new) }
         ensures ready { OnOk result (IsReady self.new) }
@@ -171,7 +170,7 @@ impl<D: Disk> Session<D> {
     {
         match line {
             Line::Nothing => Ok(()),
-            Line::Asks(command) => self.answer(command, output, lanes),
+            Line::Asks(command) => self.answer::<K, L>(command, output),
             Line::Works { lane, batch } => self.work(*lane, *batch, output, lanes),
             Line::Bad => Err(Stop::BadLine(number)),
         }

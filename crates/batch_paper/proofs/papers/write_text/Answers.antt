@@ -18,15 +18,18 @@ write_line-requires-2 c = record {
       c.requires.known);
 }
 
-pub write_tares-requires-clause-range : goal.write_tares-requires-clause-range
-write_tares-requires-clause-range c =
+pub write_tares-requires : goal.write_tares-requires
+write_tares-requires c =
     let entries = c.args.state.now.entries in
     let batch = c.args.batch.now in
     let days : c.deref-2.result.now ≡ days_of (packs_of entries batch) =
     c.deref-2.ensures.value ∙ c.in_ok-days.ensures
     ∙ ap days_of (c.deref.ensures.value ∙ c.in_ok-packs.ensures) in
-    subst (λ (ds : List ℤ). AllPass (λ (day : ℤ). is_tare_in_range (tare_for entries batch day)) ds)
-    (sym days) (tares_fit entries batch c.requires.legal)
+    record {
+      range =
+          subst (λ (ds : List ℤ). AllPass (λ (day : ℤ). is_tare_in_range
+          (tare_for entries batch day)) ds) (sym days) (tares_fit entries batch c.requires.legal);
+    }
 
 pub write_packs-requires : goal.write_packs-requires
 write_packs-requires c =

@@ -30,7 +30,7 @@ returns-in_err-stop_found g c =
     let found = is_found old mid c.args.number answered asked in
     record {
       begun = λ devices. rw (p.1, p.2)
-          (c.in_err-stop_found.ensures.stopped c.args.caller.now found.asked found.added (calm_first old mid (lane_ask c.args.number) answered asked) c.ask_lane.ensures.later
+          (c.in_err-stop_found.ensures.stopped c.args.caller.now c.args.batch found.asked found.added (calm_first old mid (lane_ask c.args.number) answered asked) c.ask_lane.ensures.later
           devices (sym (c.stop_told.ensures ∙ found.told)));
     }
 
@@ -44,7 +44,7 @@ returns-in_err-ask_act g c =
     let answered = c.in_ok-answered.answered in
     let asked = c.in_ok-answered.ensures.asked in
     let found = is_found old one c.args.number answered asked in
-    let stopped = c.in_ok-stop_found.ensures.stopped c.args.caller.now found.asked found.added (calm_first old one (lane_ask c.args.number) answered asked) c.ask_lane.ensures.later in
+    let stopped = c.in_ok-stop_found.ensures.stopped c.args.caller.now c.args.batch found.asked found.added (calm_first old one (lane_ask c.args.number) answered asked) c.ask_lane.ensures.later in
     let why = c.in_err-ask_act.field-0.0 in
     let lost = c.in_err-ask_act.ensures.asked in
     record {
@@ -63,7 +63,7 @@ returns g c =
     let answered = c.in_ok-answered.answered in
     let asked = c.in_ok-answered.ensures.asked in
     let found = is_found old one c.args.number answered asked in
-    let stopped = c.in_ok-stop_found.ensures.stopped c.args.caller.now found.asked found.added (calm_first old one (lane_ask c.args.number) answered asked) c.ask_lane.ensures.later in
+    let stopped = c.in_ok-stop_found.ensures.stopped c.args.caller.now c.args.batch found.asked found.added (calm_first old one (lane_ask c.args.number) answered asked) c.ask_lane.ensures.later in
     let last = c.in_ok-ask_act.field-0 in
     let taken = c.in_ok-ask_act.ensures.asked in
     record {

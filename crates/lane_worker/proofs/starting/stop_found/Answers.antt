@@ -16,8 +16,8 @@ returns-in_err-ask_act g c =
     let why = c.in_err-ask_act.field-0.0 in
     let asked = c.in_err-ask_act.ensures.asked in
     record {
-      stopped = λ first seen added calm later. rw (p.1, p.2) (λ devices is.
-          stop_breaks (g.C.Caller.later first c.ask_act.new.caller) (BreaksAt g.C.Caller first c.ask_act.new.caller) devices (g.C.Caller.known first) old new c.args.number c.args.batch.now c.in-Some.prior seen why
+      stopped = λ first batch seen added calm later. rw (p.1, p.2) (λ devices is.
+          stop_breaks (g.C.Caller.later first c.ask_act.new.caller) (BreaksAt g.C.Caller first c.ask_act.new.caller) devices (g.C.Caller.known first) old new c.args.number batch c.in-Some.prior seen why
           (is ∙ c.in-Some.is) added calm asked (act_is_lost old new (StopLane c.args.number c.in-Some.prior) why asked)
           (record { between = c.args.caller.now; before = later; later = c.ask_act.ensures.later; answer = asked }));
     }
@@ -29,10 +29,10 @@ returns-in_ok-ask_act g c =
     let answered = c.in_ok-ask_act.field-0 in
     let asked = c.in_ok-ask_act.ensures.asked in
     record {
-      stopped = λ first seen added calm later.
+      stopped = λ first batch seen added calm later.
           let reached = g.C.Caller.later first c.ask_act.new.caller in
-          subst (λ (f : Option Prior). IsStopped reached (g.C.Caller.known first) new c.args.number c.args.batch.now f seen) (sym c.in-Some.is)
-          (stopped_some reached (g.C.Caller.known first) old new c.args.number c.args.batch.now c.in-Some.prior seen answered
+          subst (λ (f : Option Prior). IsStopped reached (g.C.Caller.known first) new c.args.number batch f seen) (sym c.in-Some.is)
+          (stopped_some reached (g.C.Caller.known first) old new c.args.number batch c.in-Some.prior seen answered
           added calm asked (act_is_taken old new (StopLane c.args.number c.in-Some.prior) answered asked)
           (g.met.C.Caller.reached.by_both first c.args.caller.now c.ask_act.new.caller _ _ later c.ask_act.ensures.later));
     }

@@ -16,11 +16,11 @@ use Rattle.script_session.proofs.WrittenTexts.{goes_written}
 use Rattle.script_session.proofs.session.Session.answer.Goals as goal
 
 pub returns-in_err-answer-clause-stops : goal.returns-in_err-answer-clause-stops
-returns-in_err-answer-clause-stops g c = λ number.
+returns-in_err-answer-clause-stops g c = λ lanes number.
     let p = err_from_is_err_and c.from_residual.result c.from_residual.ensures.1 in
     let left = stored_book c.ask_command.new.caller.store in
     rw (p.1, p.2) (stops_unanswered (book_in c.args.self.now) left
-    (outside_at g.K.Sink g.L.Cell g.L.Gate c.args.output.now c.args.lanes.now
+    (outside_at g.K.Sink g.L.Cell g.L.Gate c.args.output.now lanes
     (log_in c.args.self.now)) number c.args.command.now
     (unanswered_stop c.in_err-answer.field-0.0) c.in_err-answer.ensures.same
     c.in_err-answer.ensures.may)
@@ -32,14 +32,14 @@ returns-in_err-answer-clause-goes g c =
     (store_in c.args.self.now) c.ask_command.new.caller.store c.in_err-answer.ensures.goes)
 
 pub returns-clause-stops : goal.returns-clause-stops
-returns-clause-stops g c = λ number.
+returns-clause-stops g c = λ lanes number.
     let book = book_in c.args.self.now in
     let text : c.deref.result.now ≡ outcome_text (exchange_at book c.args.command.now).answer =
     c.deref.ensures.value ∙ c.compose_answer.ensures.text
     ∙ ap (λ (r : Result Answered Refused). outcome_text r) c.in_ok-answer.ensures.answer in
     let before = output_at g.K.Sink c.args.output.now in
     let now = output_at g.K.Sink c.write_whole.new.output in
-    let here = outside_at g.K.Sink g.L.Cell g.L.Gate c.args.output.now c.args.lanes.now
+    let here = outside_at g.K.Sink g.L.Cell g.L.Gate c.args.output.now lanes
     (log_in c.args.self.now) in
     IfErr-weaker c.write_whole.result _ _
     (λ stop cut. stops_cut book (stored_book c.ask_command.new.caller.store) here now number
@@ -48,14 +48,14 @@ returns-clause-stops g c = λ number.
     c.write_whole.ensures.cut
 
 pub returns-clause-answered : goal.returns-clause-answered
-returns-clause-answered g c =
+returns-clause-answered g c = λ lanes.
     let book = book_in c.args.self.now in
     let text : c.deref.result.now ≡ outcome_text (exchange_at book c.args.command.now).answer =
     c.deref.ensures.value ∙ c.compose_answer.ensures.text
     ∙ ap (λ (r : Result Answered Refused). outcome_text r) c.in_ok-answer.ensures.answer in
     let before = output_at g.K.Sink c.args.output.now in
     let now = output_at g.K.Sink c.write_whole.new.output in
-    let here = outside_at g.K.Sink g.L.Cell g.L.Gate c.args.output.now c.args.lanes.now
+    let here = outside_at g.K.Sink g.L.Cell g.L.Gate c.args.output.now lanes
     (log_in c.args.self.now) in
     on_ok_weaker c.write_whole.result
     (λ wrote. answered_command book (stored_book c.ask_command.new.caller.store) here now

@@ -25,7 +25,7 @@ returns-in-Asks-clause-answered g c =
     (log_in c.args.self.now))
     (outside_at g.K.Sink g.L.Cell g.L.Gate c.answer.new.output c.args.lanes.now
     (log_in c.answer.new.self)) (book_in c.answer.new.self) (l ∷ []))) (sym c.in-Asks.is)
-    c.answer.ensures.answered
+    (c.answer.ensures.answered c.args.lanes.now)
 
 pub returns-in-Asks-clause-stops : goal.returns-in-Asks-clause-stops
 returns-in-Asks-clause-stops g c =
@@ -34,7 +34,7 @@ returns-in-Asks-clause-stops g c =
     (log_in c.args.self.now))
     (outside_at g.K.Sink g.L.Cell g.L.Gate c.answer.new.output c.args.lanes.now
     (log_in c.answer.new.self)) (entries_of (store_in c.answer.new.self)) [] c.args.number l))
-    (sym c.in-Asks.is) (c.answer.ensures.stops c.args.number)
+    (sym c.in-Asks.is) (c.answer.ensures.stops c.args.lanes.now c.args.number)
 
 pub returns-in-Asks-clause-goes : goal.returns-in-Asks-clause-goes
 returns-in-Asks-clause-goes g c = c.answer.ensures.goes
