@@ -1,4 +1,4 @@
-ghost use Rattle.std.specs.Prelude.{◌≤◌, length, IfOk};
+ghost use Rattle.std.specs.Prelude.{◌≡◌, length, min, IfOk};
 ghost use Rattle.hall_limits.specs.declared.TheConstants.{MAX_DOOR};
 
 use command_line::Wants;
@@ -23,7 +23,7 @@ pub(crate) fn open_door(
 
 /// The doors that the words ask for, at ports that rise from that of the first.
 pub fn open_doors(rt: HostRuntime, wanted: &Wants) -> Result<Vec<TcpDoor<HostRuntime>>, AllocError>
-    ensures { IfOk result (λ doors. length doors.items ≤ MAX_DOOR) }
+    ensures { IfOk result (λ doors. length doors.items ≡ min wanted.now.doors MAX_DOOR) }
 {
     let count = wanted.doors.min(MAX_DOOR);
     let mut doors = Vec::with_capacity(rt.alloc(), usize::from(count))?;

@@ -1,4 +1,4 @@
-ghost use Rattle.std.specs.Prelude.{◌≤◌, length, IfOk};
+ghost use Rattle.std.specs.Prelude.{◌≡◌, length, min, IfOk};
 ghost use Rattle.hall_limits.specs.declared.TheConstants.{MAX_LANE};
 
 use crate::doors::open_door;
@@ -71,7 +71,7 @@ fn open_lane<'a>(
 
 /// The lanes that the words ask for.
 pub fn open_lanes<'a>(rt: &'a HostRuntime, wanted: &Wants) -> Result<Vec<HallLane<'a>>, AllocError>
-    ensures { IfOk result (λ lanes. length lanes.items ≤ MAX_LANE) }
+    ensures { IfOk result (λ lanes. length lanes.items ≡ min wanted.now.lanes MAX_LANE) }
 {
     let count = wanted.lanes.min(MAX_LANE);
     let mut lanes = Vec::with_capacity(rt.alloc(), usize::from(count))?;

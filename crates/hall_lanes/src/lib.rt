@@ -2,8 +2,8 @@
 //! reads a file of the lanes' folder or hears its scale at a port, each gate is a file of the folder,
 //! and each door listens at a port.
 //!
-//! Promised: there are no more lanes than 16, and no more doors than 16. What cells, gates and doors
-//! do is promised by the crates that they stand in.
+//! Promised: there are as many lanes and doors as the words ask for, each at most 16. What cells,
+//! gates and doors do is promised by the crates that they stand in.
 #![tactic(auto)]
 
 mod doors;
