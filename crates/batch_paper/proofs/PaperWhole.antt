@@ -34,7 +34,7 @@ use Rattle.book_words.proofs.SaidTogether.{density_known}
 use Rattle.book_laws.proofs.ReadingLaws.{IsOneOf, each_is_one, of_found, of_reading, numbers_increase}
 use Rattle.book_laws.proofs.TareLaws.{tared_of}
 use Rattle.book_state.proofs.PopulationLimits.{population_few}
-use Rattle.book_views.proofs.BatchFacts.{density_suits}
+use Rattle.book_verdicts.proofs.BatchFacts.{density_suits}
 use Rattle.paper_form.specs.declared.types.Pack as packs
 use Rattle.paper_form.specs.declared.types.Pick.{Pick}
 use Rattle.paper_form.specs.Papers.{PaperData, paper_text, is_row, is_density, are_goods_in_range, is_tare_in_range, is_pack_in_range, is_pick_in_range}

@@ -15,11 +15,9 @@ use crate::pending::Pending;
 use crate::ready::Ready;
 use crate::rows::Rows;
 use crate::types::{BookError, NoMemory, ReplayError, Step};
-use book_rules::{
-    desk_number, look, recorded_signal, refuse, repeated_row, reply_again, reply_new, summarize,
-    view_pack,
-};
+use book_rules::{desk_number, recorded_signal, refuse, repeated_row, reply_again, reply_new};
 use book_state::{Drawn, State};
+use book_views::{look, summarize, view_pack};
 use book_words::{Act, Answered, Ask, Entry, PackView, Question, Refused, SummaryView, Want};
 use hall_limits::MAX_ROWS;
 use pack_judge::Signal;
@@ -164,7 +162,7 @@ impl Book {
             return Err(BookError::Refused(Refused { at, refusal }));
         }
         if let Some(row) = repeated_row(&self.state, ask, act) {
-            let reply = reply_again(&self.state, ask, row, act);
+            let reply = reply_again(&self.state, row, act);
             return Ok(Some(Answered { at, reply }));
         }
         match refuse(limit, &self.state, ask, act) {

@@ -18,16 +18,18 @@ use Rattle.book_words.specs.Acts.{said, product_given, product_of}
 use Rattle.book_words.specs.Desks.{Row, newest_row, is_row_of, same_act, repeated_row}
 use Rattle.book_words.specs.Signals.{recorded_signal}
 use Rattle.book_words.specs.Verdicts.{verdict_of}
-use Rattle.book_words.specs.Refusals as rules
 use Rattle.book_words.specs.Answers.{judged_or_done, reply_behind, IsLegal}
-use Rattle.book_words.proofs.RefusalLemmas.{none_of_two}
-use Rattle.book_words.proofs.AllowedActs.{IsAllowed, allowed, is_there, close_tells}
+use Rattle.book_words.proofs.AllowedActs.{IsAllowed, allowed, close_tells}
 use Rattle.book_laws.proofs.VerdictLaws.{verdicts_stay}
 use Rattle.book_state.specs.Told.{entry_numbered}
 use Rattle.book_rules.specs.Replying.{reply_with}
 use Rattle.book_rules.proofs.SameActs.{same_act_is}
 use Rattle.book_rules.proofs.NewestRows.{newest_is_row}
 use Rattle.book_rules.proofs.ClosingLemmas.{close_keeps}
+
+-- nothing isn't something
+not_there : {A : Type 0} (x : A) → None ≡ Some x → ⊥
+not_there x h = cc
 
 -- an act that the rules allow is told over the list as it stands
 pub told_new : (entries : List Entry) (act : Act)
@@ -61,24 +63,24 @@ repeated_holds entries ask act row h = by_request (nat_lt 0 ask.request) h
           same = same_act_is r.entry.act act
               (and_parts (r.entry.request == ask.request) (same_act r.entry.act act) test).1;
         }
-    by_test r is false test k = absurd (cc)
+    by_test r is false test k = absurd (not_there row k)
 
     by_row : (o : Option Row) → newest_row entries ask.desk ≡ o
         → option_and_then (λ (r : Row). cond (is_row_of ask act r) (Some r.number) None) o
         ≡ Some row → HoldsAct entries row act
-    by_row None is k = absurd (cc)
+    by_row None is k = absurd (not_there row k)
     by_row (Some r) is k = by_test r is (is_row_of ask act r) refl k
 
     by_request : (b : Bool) → cond b
         (option_and_then (λ (r : Row). cond (is_row_of ask act r) (Some r.number) None)
         (newest_row entries ask.desk)) None ≡ Some row → HoldsAct entries row act
     by_request true k = by_row (newest_row entries ask.desk) refl k
-    by_request false k = absurd (cc)
+    by_request false k = absurd (not_there row k)
 
 parted_at : (entries : List Entry) (place : ℕ) (entry : Entry)
     → slice_get entries place ≡ Some entry
     → entries ≡ take place entries ++ entry ∷ drop (suc place) entries
-parted_at [] place entry h = absurd (cc)
+parted_at [] place entry h = absurd (not_there entry h)
 parted_at (e ∷ es) zero entry h = ap (λ (x : Entry). x ∷ es) (same_Some e entry h)
 parted_at (e ∷ es) (suc place) entry h = ap (λ xs. e ∷ xs) (parted_at es place entry h)
 
@@ -94,7 +96,7 @@ parts_at entries row entry h = each (nat_le 1 row) refl h
   where
     each : (b : Bool) → nat_le 1 row ≡ b → cond b (slice_get entries (row - 1)) None ≡ Some entry
         → PartsAt entries row entry
-    each false least k = absurd (cc)
+    each false least k = absurd (not_there entry k)
     each true least k =
         let one : 1 ≤ row = grind (arith, nat_tests) in
         let within : row - 1 < length entries = slice_get_within entries (row - 1) entry k in

@@ -143,6 +143,10 @@ three_parts f {a} {k} {b} {l} {c} {m} p q r first second third h =
     let parts = and_parts p q outer.0 in
     ap (λ x. f x b c) (first parts.0) ∙ ap (λ x. f k x c) (second parts.1) ∙ ap (f k l) (third outer.1)
 
+-- what is false isn't true
+no_truth : false ≡ true → ⊥
+no_truth h = cc
+
 pub same_act_is : (a b : Act) → same_act a b ≡ true → a ≡ b
 same_act_is (NewDay a) (NewDay b) h = ap (λ x. NewDay x) (same_number_is a b h)
 same_act_is (PutProduct a b c) (PutProduct d e f) h =
@@ -172,4 +176,4 @@ same_act_is (Measure a b c) (Measure d e f) h =
 same_act_is (DrawSecond a b) (DrawSecond c d) h =
     two_parts (λ x y. DrawSecond x y) (same_name a c) (b == d) (same_name_is a c) (eqb-true b d) h
 same_act_is (Close a) (Close b) h = ap (λ x. Close x) (same_name_is a b h)
-same_act_is a b h = absurd (cc)
+same_act_is a b h = absurd (no_truth h)

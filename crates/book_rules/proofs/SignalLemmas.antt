@@ -1,13 +1,9 @@
 -- The signal that is recorded, by what a weighing meets.
-use Rattle.std.proofs.Common.{◌≡◌, ℕ, ℤ, ◌*◌, ◌==◌, nat_lt, int_lt, Bool, true, false, ◌&&◌, if◌then◌else◌, List, Option, Some, None, is_some, option_map, refl, sym, ◌∙◌, ap, subst}
+use Rattle.std.proofs.Common.{◌≡◌, ℕ, ℤ, nat_lt, Bool, true, false, List, Option, Some, None, is_some, option_map, refl, sym, ◌∙◌, ap, subst}
 use Rattle.std.proofs.lemmas.Option.{same_Some}
-use Rattle.hall_limits.specs.declared.TheConstants.{MAX_POPULATION}
 use Rattle.annex_tables.specs.declared.types.Limits.{Limits}
 use Rattle.pack_judge.specs.declared.types.Class.{Class}
-use Rattle.pack_judge.specs.declared.types.Class.TheVariants as classes
-use Rattle.pack_judge.specs.declared.types.Cause.TheVariants as cause
 use Rattle.pack_judge.specs.declared.types.Signal.{Signal}
-use Rattle.pack_judge.specs.declared.types.Signal.TheVariants.{Pass, Reject}
 use Rattle.pack_judge.specs.Judge.{signal_by_class, signal_of}
 use Rattle.book_words.specs.declared.name.Name.{Name}
 use Rattle.book_words.specs.declared.act.Prior.{Prior}
@@ -18,10 +14,10 @@ use Rattle.book_words.specs.Acts.{newest_day, lane_batch, last_batch}
 use Rattle.book_words.specs.Readings.{net_of_gross}
 use Rattle.book_words.specs.Classes.{class_by_density, limits_of_batch, density_of_batch}
 use Rattle.book_words.specs.Signals.{judged_signal, recorded_signal}
-use Rattle.book_views.specs.Densities.{limit_at, limits_at}
-use Rattle.book_views.specs.AtWeighing.{AtWeighing}
-use Rattle.book_views.specs.Told.{met_at}
-use Rattle.book_views.proofs.Below.{class_is}
+use Rattle.book_verdicts.specs.Densities.{limits_at}
+use Rattle.book_verdicts.specs.AtWeighing.{AtWeighing}
+use Rattle.book_verdicts.specs.Told.{met_at}
+use Rattle.book_verdicts.proofs.Below.{class_is}
 use Rattle.book_words.proofs.AllowedActs.{IsAllowed, weigh_tells}
 use Rattle.book_words.proofs.SaidTogether.{started_for_it}
 

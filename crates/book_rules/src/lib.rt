@@ -9,7 +9,6 @@ mod rules;
 mod samples;
 mod signals;
 
-pub use book_views::{look, summarize, view_pack};
 pub use desks::{desk_number, repeated_row};
 pub use replies::{reply_again, reply_new};
 pub use rules::refuse;

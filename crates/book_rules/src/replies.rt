@@ -1,4 +1,5 @@
 ghost use Rattle.std.specs.Prelude.{◌≡◌, ◌-◌, None, Some, take, true, is_some};
+ghost use Rattle.book_words.specs.declared.act.Ask as asks;
 ghost use Rattle.book_words.specs.declared.name.Name as names;
 ghost use Rattle.book_words.specs.Acts.{product_of};
 ghost use Rattle.book_words.specs.Desks.{repeated_row};
@@ -8,8 +9,8 @@ ghost use Rattle.book_words.specs.Answers.{reply_behind, judged_or_done};
 ghost use Rattle.book_rules.specs.Replying.{reply_with};
 
 use book_state::State;
-use book_views::verdict_of;
-use book_words::{Act, Ask, Reply};
+use book_verdicts::verdict_of;
+use book_words::{Act, Reply};
 use pack_judge::Signal;
 
 // A weighing is answered by its row and its signal, any other act by its row.
@@ -48,8 +49,8 @@ pub fn reply_new(state: &State, act: &Act, signal: Option<Signal>) -> Reply
 }
 
 /// The reply to a repeat: that of its row, however long ago that was.
-pub fn reply_again(state: &State, ask: &Ask, row: u32, act: &Act) -> Reply
-    requires { repeated_row state.now.entries ask.now act.now ≡ Some row }
+pub fn reply_again(state: &State, row: u32, act: &Act) -> Reply
+    requires { (ask : asks.Ask) × (repeated_row state.now.entries ask act.now ≡ Some row) }
     ensures { result ≡ reply_behind (take (row - 1) state.now.entries) act.now }
 {
     let Some(entry) = state.entry(row) else {

@@ -1,13 +1,13 @@
-ghost use Rattle.std.specs.Prelude.{◌≡◌, None};
+ghost use Rattle.std.specs.Prelude.{◌≡◌, ℕ, None};
+ghost use Rattle.book_words.specs.declared.act.Unit as units;
 ghost use Rattle.book_words.specs.Desks.{desk_number};
 ghost use Rattle.book_words.specs.Refusals.{refusals_of, first_refusal, refusal_of};
 
 use crate::desks::refuse_request;
 use crate::{checks, samples};
 use annex_tables::Mode;
-use book_state::State;
-use book_views::lane_number;
-use book_words::{Act, Ask, BatchState, Name, Prior, Refusal, Unit};
+use book_state::{State, lane_number};
+use book_words::{Act, Ask, BatchState, Name, Prior, Refusal};
 use pack_judge::Pile;
 
 // A new day.
@@ -18,8 +18,8 @@ fn refuse_day(state: &State, day: i32) -> Option<Refusal>
 }
 
 // A product.
-fn refuse_product(state: &State, name: &Name, nominal: i64, unit: Unit) -> Option<Refusal>
-    ensures { result ≡ first_refusal (refusals_of state.now.entries
+fn refuse_product(state: &State, name: &Name, nominal: i64) -> Option<Refusal>
+    ensures { (unit : units.Unit) → result ≡ first_refusal (refusals_of state.now.entries
         (Act.PutProduct name.now nominal unit)) }
 {
     checks::day_unset(state)
@@ -110,8 +110,8 @@ fn refuse_end(state: &State, batch: &Name) -> Option<Refusal>
 }
 
 // The draw of a first sample.
-fn refuse_draw(state: &State, batch: &Name, mode: Mode, word: u64) -> Option<Refusal>
-    ensures { result ≡ first_refusal (refusals_of state.now.entries
+fn refuse_draw(state: &State, batch: &Name, mode: Mode) -> Option<Refusal>
+    ensures { (word : ℕ) → result ≡ first_refusal (refusals_of state.now.entries
         (Act.Draw batch.now mode word)) }
 {
     checks::day_unset(state)
@@ -136,8 +136,8 @@ fn refuse_measurement(state: &State, pack: u32, gross: i64, empty: i64) -> Optio
 }
 
 // The draw of a second sample.
-fn refuse_second(state: &State, batch: &Name, word: u64) -> Option<Refusal>
-    ensures { result ≡ first_refusal (refusals_of state.now.entries
+fn refuse_second(state: &State, batch: &Name) -> Option<Refusal>
+    ensures { (word : ℕ) → result ≡ first_refusal (refusals_of state.now.entries
         (Act.DrawSecond batch.now word)) }
 {
     checks::day_unset(state)
@@ -166,11 +166,7 @@ fn refuse_act(state: &State, act: &Act) -> Option<Refusal>
 {
     match act {
         Act::NewDay { day } => refuse_day(state, *day),
-        Act::PutProduct {
-            name,
-            nominal,
-            unit,
-        } => refuse_product(state, name, *nominal, *unit),
+        Act::PutProduct { name, nominal, .. } => refuse_product(state, name, *nominal),
         Act::PutTare { product, day, tare } => refuse_tare(state, product, *day, *tare),
         Act::OpenBatch {
             batch,
@@ -182,9 +178,9 @@ fn refuse_act(state: &State, act: &Act) -> Option<Refusal>
         Act::StopLane { lane, prior } => refuse_stop(state, *lane, *prior),
         Act::Void { pack } => refuse_void(state, *pack),
         Act::EndRun { batch } => refuse_end(state, batch),
-        Act::Draw { batch, mode, word } => refuse_draw(state, batch, *mode, *word),
+        Act::Draw { batch, mode, .. } => refuse_draw(state, batch, *mode),
         Act::Measure { pack, gross, empty } => refuse_measurement(state, *pack, *gross, *empty),
-        Act::DrawSecond { batch, word } => refuse_second(state, batch, *word),
+        Act::DrawSecond { batch, .. } => refuse_second(state, batch),
         Act::Close { batch } => refuse_closing(state, batch),
     }
 }

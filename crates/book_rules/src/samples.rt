@@ -1,4 +1,5 @@
 ghost use Rattle.std.specs.Prelude.{◌≡◌};
+ghost use Rattle.book_words.specs.declared.name.Name as names;
 ghost use Rattle.book_words.specs.Measures.{first_unmeasured};
 ghost use Rattle.book_words.specs.Verdicts.{first_defective, second_packs};
 ghost use Rattle.book_words.specs.Refusals as rules;
@@ -8,7 +9,7 @@ ghost use Rattle.book_rules.specs.Counted.{counted_packs};
 use crate::checks::{batch_state, refuse_if};
 use annex_tables::Mode;
 use book_state::{Sample, State};
-use book_views::{count_first, is_open};
+use book_verdicts::{count_first, is_open};
 use book_words::{BatchState, Name, Refusal};
 use hall_limits::MAX_TARE;
 use pack_judge::Pile;
@@ -114,8 +115,8 @@ pub fn empty_range(state: &State, pack: u32, empty: i64) -> Option<Refusal>
 }
 
 // Whether each pack of the first sample was measured.
-fn is_measured(state: &State, batch: &Name, sample: &Sample) -> bool
-    requires sample { IsSampleOf state.now.entries batch.now sample.now }
+fn is_measured(state: &State, sample: &Sample) -> bool
+    requires sample { (batch : names.Name) × IsSampleOf state.now.entries batch sample.now }
     ensures { result ≡ rules.is_measured state.now.entries sample.now.first }
 {
     state.first_unmeasured(sample.first().as_slice()).is_none()
@@ -130,7 +131,7 @@ fn is_second_not_needed(state: &State, batch: &Name, sample: &Sample, d1: u32) -
     let plan = sample.plan();
     plan.second == 0
         || sample.second().is_some()
-        || (is_measured(state, batch, sample) && !is_open(plan, d1))
+        || (is_measured(state, sample) && !is_open(plan, d1))
 }
 
 /// No second sample is needed.
@@ -155,8 +156,8 @@ pub fn first_wanting(state: &State, batch: &Name) -> Option<Refusal>
 }
 
 // The first pack of the second sample that isn't measured, where one was drawn.
-fn second_unmeasured(state: &State, batch: &Name, sample: &Sample) -> Option<u32>
-    requires sample { IsSampleOf state.now.entries batch.now sample.now }
+fn second_unmeasured(state: &State, sample: &Sample) -> Option<u32>
+    requires sample { (batch : names.Name) × IsSampleOf state.now.entries batch sample.now }
     ensures { result ≡ first_unmeasured state.now.entries (second_packs sample.now) }
 {
     let picks = sample.second()?;
@@ -170,7 +171,7 @@ fn counted_unmeasured(state: &State, batch: &Name, sample: &Sample) -> Option<u3
         (counted_packs state.now.entries batch.now sample.now) }
 {
     if is_open(sample.plan(), count_first(state, batch, sample)) {
-        second_unmeasured(state, batch, sample)
+        second_unmeasured(state, sample)
     } else {
         None
     }
@@ -202,7 +203,7 @@ fn is_second_needed(state: &State, batch: &Name, sample: &Sample, d1: u32) -> bo
     requires defective { d1 ≡ first_defective state.now.entries batch.now sample.now }
     ensures { result ≡ rules.is_second_needed state.now.entries batch.now sample.now }
 {
-    is_measured(state, batch, sample) && is_open(sample.plan(), d1) && sample.second().is_none()
+    is_measured(state, sample) && is_open(sample.plan(), d1) && sample.second().is_none()
 }
 
 /// A second sample is wanted.

@@ -1,3 +1,4 @@
+pub mod Entering
 pub mod View
 pub mod Told
 pub mod Prepared

@@ -9,6 +9,7 @@ ghost use Rattle.book_index.specs.Listed.{IsIndexOf};
 ghost use Rattle.book_packs.specs.Stand.{IsPacksOf};
 ghost use Rattle.book_packs.specs.Entering.{IsNext, IsTarePut, MayPutTare, batch_drawn};
 ghost use Rattle.book_samples.specs.Kept.{IsSamplesOf};
+ghost use Rattle.book_state.specs.Entering.{EntersPacks, EntersSamples};
 ghost use Rattle.book_state.specs.Prepared.{drawn_by};
 ghost use Rattle.book_state.specs.Told.{lane_weighed};
 
@@ -47,22 +48,15 @@ pub fn enter_packs(
         Act::Void { pack } => packs.void(*pack),
         Act::PutTare { product, day, tare } => {
             let (day, tare) = (*day, *tare);
-            put_tare(
-                packs,
-                index,
-                entries,
-                entry,
-                product,
-                &DatedTare { day, tare },
-            )
+            put_tare(packs, index, product, &DatedTare { day, tare })
         }
         Act::OpenBatch {
             product,
             density,
             ..
-        } => open_batch(packs, index, entries, entry, product, *density),
+        } => open_batch(packs, index, product, *density),
         Act::Draw { batch, .. } | Act::DrawSecond { batch, .. } => {
-            draw(packs, index, entries, entry, batch, drawn)
+            draw(packs, index, batch, drawn)
         }
         Act::NewDay { .. }
         | Act::PutProduct { .. }
@@ -93,20 +87,15 @@ fn weigh(packs: &mut Packs, index: &Index, entries: &[Entry], entry: &Entry, lan
 }
 
 // Takes down a tare of a product.
-fn put_tare(
-    packs: &mut Packs,
-    index: &Index,
-    entries: &[Entry],
-    entry: &Entry,
-    product: &Name,
-    dated: &DatedTare,
-)
-    requires act { entry.now.act ≡ act.PutTare product.now dated.now.day dated.now.tare }
+fn put_tare(packs: &mut Packs, index: &Index, product: &Name, dated: &DatedTare)
     requires room { 0 < packs.old.spare }
-    requires index { IsIndexOf entries.now index.now }
-    requires packs { IsPacksOf entries.now packs.old }
-    requires next { IsNext entries.now entry.now }
-    ensures kept { IsPacksOf (entries.now ++ entry.now ∷ []) packs.new }
+    requires next { (entries : List rows.Entry) × (entry : rows.Entry)
+        × EntersPacks index.now packs.old entries entry
+        × (entry.act ≡ act.PutTare product.now dated.now.day dated.now.tare) }
+    ensures kept { (entries : List rows.Entry) (entry : rows.Entry)
+        → EntersPacks index.now packs.old entries entry
+        → entry.act ≡ act.PutTare product.now dated.now.day dated.now.tare
+        → IsPacksOf (entries ++ entry ∷ []) packs.new }
     ensures spare { packs.old.spare ≤ packs.new.spare + 1 }
 {
     let Some(number) = index.product_number(product) else {
@@ -132,21 +121,15 @@ fn put_counted<L: Ledger>(packs: &mut Packs, number: u32, dated: &DatedTare, bla
 }
 
 // Takes down that a batch of a product is opened.
-fn open_batch(
-    packs: &mut Packs,
-    index: &Index,
-    entries: &[Entry],
-    entry: &Entry,
-    product: &Name,
-    density: u32,
-)
-    requires act { (batch : names.Name)
-        × (entry.now.act ≡ act.OpenBatch batch product.now density) }
+fn open_batch(packs: &mut Packs, index: &Index, product: &Name, density: u32)
     requires room { 0 < packs.old.spare }
-    requires index { IsIndexOf entries.now index.now }
-    requires packs { IsPacksOf entries.now packs.old }
-    requires next { IsNext entries.now entry.now }
-    ensures kept { IsPacksOf (entries.now ++ entry.now ∷ []) packs.new }
+    requires next { (entries : List rows.Entry) × (entry : rows.Entry) × (batch : names.Name)
+        × EntersPacks index.now packs.old entries entry
+        × (entry.act ≡ act.OpenBatch batch product.now density) }
+    ensures kept { (entries : List rows.Entry) (entry : rows.Entry) (batch : names.Name)
+        → EntersPacks index.now packs.old entries entry
+        → entry.act ≡ act.OpenBatch batch product.now density
+        → IsPacksOf (entries ++ entry ∷ []) packs.new }
     ensures spare { packs.old.spare ≤ packs.new.spare + 1 }
 {
     let Some(number) = index.product_number(product) else {
@@ -170,20 +153,16 @@ fn density_by_unit(unit: Unit, recorded: u32) -> u32
 }
 
 // Takes down the packs that are drawn from a batch.
-fn draw(
-    packs: &mut Packs,
-    index: &Index,
-    entries: &[Entry],
-    entry: &Entry,
-    batch: &Name,
-    drawn: &Drawn,
-)
-    requires act { batch_drawn entry.now.act ≡ Some batch.now }
-    requires drawn { drawn.now ≡ drawn_by entries.now entry.now.act }
-    requires index { IsIndexOf entries.now index.now }
-    requires packs { IsPacksOf entries.now packs.old }
-    requires next { IsNext entries.now entry.now }
-    ensures kept { IsPacksOf (entries.now ++ entry.now ∷ []) packs.new }
+fn draw(packs: &mut Packs, index: &Index, batch: &Name, drawn: &Drawn)
+    requires next { (entries : List rows.Entry) × (entry : rows.Entry)
+        × EntersPacks index.now packs.old entries entry
+        × (batch_drawn entry.act ≡ Some batch.now)
+        × (drawn.now ≡ drawn_by entries entry.act) }
+    ensures kept { (entries : List rows.Entry) (entry : rows.Entry)
+        → EntersPacks index.now packs.old entries entry
+        → batch_drawn entry.act ≡ Some batch.now
+        → drawn.now ≡ drawn_by entries entry.act
+        → IsPacksOf (entries ++ entry ∷ []) packs.new }
     ensures spare { packs.old.spare ≤ packs.new.spare + 1 }
 {
     let Some(number) = index.batch_number(batch) else {
@@ -211,10 +190,8 @@ pub fn enter_samples(
     let Drawn { first, second } = drawn;
     match &entry.act {
         Act::OpenBatch { .. } => samples.open_batch(),
-        Act::Draw { batch, .. } => enter_first(samples, index, entries, entry, batch, first),
-        Act::DrawSecond { batch, .. } => {
-            enter_second(samples, index, entries, entry, batch, second)
-        }
+        Act::Draw { batch, .. } => enter_first(samples, index, batch, first),
+        Act::DrawSecond { batch, .. } => enter_second(samples, index, batch, second),
         Act::Measure { pack, gross, empty } => samples.measure(*pack, *gross, *empty),
         Act::NewDay { .. }
         | Act::PutProduct { .. }
@@ -229,21 +206,18 @@ pub fn enter_samples(
 }
 
 // Takes down the first sample of a batch.
-fn enter_first(
-    samples: &mut Samples,
-    index: &Index,
-    entries: &[Entry],
-    entry: &Entry,
-    batch: &Name,
-    first: Option<Sample>,
-)
-    requires act { (mode : modes.Mode) × (word : ℕ)
-        × (entry.now.act ≡ act.Draw batch.now mode word) }
-    requires index { IsIndexOf entries.now index.now }
-    requires samples { IsSamplesOf entries.now samples.old }
-    requires next { IsNext entries.now entry.now }
-    requires first { first ≡ (drawn_by entries.now entry.now.act).first }
-    ensures kept { IsSamplesOf (entries.now ++ entry.now ∷ []) samples.new }
+fn enter_first(samples: &mut Samples, index: &Index, batch: &Name, first: Option<Sample>)
+    requires next { (entries : List rows.Entry) × (entry : rows.Entry)
+        × (mode : modes.Mode) × (word : ℕ)
+        × EntersSamples index.now samples.old entries entry
+        × (entry.act ≡ act.Draw batch.now mode word)
+        × (first ≡ (drawn_by entries entry.act).first) }
+    ensures kept { (entries : List rows.Entry) (entry : rows.Entry)
+        (mode : modes.Mode) (word : ℕ)
+        → EntersSamples index.now samples.old entries entry
+        → entry.act ≡ act.Draw batch.now mode word
+        → first ≡ (drawn_by entries entry.act).first
+        → IsSamplesOf (entries ++ entry ∷ []) samples.new }
     ensures spare { samples.old.spare ≤ samples.new.spare }
 {
     let Some(number) = index.batch_number(batch) else {
@@ -254,20 +228,16 @@ fn enter_first(
 }
 
 // Takes down the second sample of a batch.
-fn enter_second(
-    samples: &mut Samples,
-    index: &Index,
-    entries: &[Entry],
-    entry: &Entry,
-    batch: &Name,
-    second: Option<Picks>,
-)
-    requires act { (word : ℕ) × (entry.now.act ≡ act.DrawSecond batch.now word) }
-    requires index { IsIndexOf entries.now index.now }
-    requires samples { IsSamplesOf entries.now samples.old }
-    requires next { IsNext entries.now entry.now }
-    requires second { unwrap_or second [] ≡ (drawn_by entries.now entry.now.act).second }
-    ensures kept { IsSamplesOf (entries.now ++ entry.now ∷ []) samples.new }
+fn enter_second(samples: &mut Samples, index: &Index, batch: &Name, second: Option<Picks>)
+    requires next { (entries : List rows.Entry) × (entry : rows.Entry) × (word : ℕ)
+        × EntersSamples index.now samples.old entries entry
+        × (entry.act ≡ act.DrawSecond batch.now word)
+        × (unwrap_or second [] ≡ (drawn_by entries entry.act).second) }
+    ensures kept { (entries : List rows.Entry) (entry : rows.Entry) (word : ℕ)
+        → EntersSamples index.now samples.old entries entry
+        → entry.act ≡ act.DrawSecond batch.now word
+        → unwrap_or second [] ≡ (drawn_by entries entry.act).second
+        → IsSamplesOf (entries ++ entry ∷ []) samples.new }
     ensures spare { samples.old.spare ≤ samples.new.spare }
 {
     let Some(number) = index.batch_number(batch) else {

@@ -16,5 +16,6 @@ mod weighed;
 pub use book_packs::AtWeighing;
 pub use book_samples::Sample;
 pub use drawn::Drawn;
+pub use lookups::lane_number;
 pub use state::State;
 pub use types::{KnownPack, NoMemory};

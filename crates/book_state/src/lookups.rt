@@ -9,7 +9,19 @@ ghost use Rattle.book_words.specs.Answers.{IsLegal};
 
 use crate::state::State;
 use book_index::States;
-use book_words::{BatchState, Name, Unit};
+use book_words::{BatchState, Name, Refusal, Unit};
+use hall_limits::MAX_LANE;
+
+/// The lane isn't 1 to 16.
+pub fn lane_number(lane: u8) -> Option<Refusal>
+    ensures { result ≡ rules.lane_number lane }
+{
+    if 1 <= lane && lane <= MAX_LANE {
+        None
+    } else {
+        Some(Refusal::LaneNumber)
+    }
+}
 
 impl State {
     /// The newest day, since 1970-01-01.

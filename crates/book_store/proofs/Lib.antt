@@ -12,3 +12,4 @@ pub mod AskDecisions
 pub mod DenseContent
 pub mod KeptLemmas
 pub mod CallerSteps
+pub use Rattle.book_core.proofs.SameActs

@@ -10,3 +10,4 @@ pub mod Offers
 pub mod Opening
 pub mod Resting
 pub mod Stores
+pub use Rattle.book_core.specs.Steps

@@ -5,7 +5,7 @@ use Rattle.disk_core.specs.Devices.{LeavesOnly}
 use Rattle.disk_core.specs.declared.disk.Disk as disk
 use Rattle.book_words.specs.declared.act.Entry.{Entry}
 use Rattle.book_words.specs.Answers.{IsLegal}
-pub use Rattle.book_core.specs.View.{BookView}
+pub use Rattle.book_core.specs.View.{BookView, entry_numbered}
 use Rattle.row_format.specs.Spelling.{new_layout, row_bytes}
 use Rattle.row_format.specs.Rows.{CanBeSpelled}
 use Rattle.book_journal.specs.Journal as journals

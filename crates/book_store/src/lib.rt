@@ -15,6 +15,7 @@ mod slots;
 mod store;
 mod types;
 
+pub use book_core::Book;
 pub use one_caller::OneCaller;
 pub use store::Store;
 pub use types::{AdoptError, MountError, RestError, Unmounted};

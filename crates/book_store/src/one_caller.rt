@@ -123,7 +123,7 @@ impl<D: Disk> Caller for OneCaller<D> {
             self.old.store self.new.store }
     {
         let given = self.store.ask(self.by, ask);
-        self.faults = told(self.faults, &given);
+        self.faults = faults_behind(self.faults, &given);
         self.failed = failed_last(self.failed, ask, &given);
         given
     }
@@ -132,7 +132,7 @@ impl<D: Disk> Caller for OneCaller<D> {
 }
 
 // A count of faults behind an answer.
-fn told(faults: u64, given: &Result<Answered, AskError>) -> u64
+fn faults_behind(faults: u64, given: &Result<Answered, AskError>) -> u64
     ensures { result ≡ min (faults + faults_told given.now) FAULTS_END }
 {
     match given {

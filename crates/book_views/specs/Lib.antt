@@ -1,6 +1,2 @@
-pub mod Testing
 pub mod Tallies
 pub mod Terms
-pub use Rattle.book_packs.specs.Densities
-pub use Rattle.book_packs.specs.Told
-pub use Rattle.book_packs.specs.declared.types.AtWeighing

@@ -1,24 +1,11 @@
 ghost use Rattle.std.specs.Prelude.{◌≡◌, false, Ok, IfOk, IsOk};
-ghost use Rattle.book_words.specs.Refusals.{lane_number};
 ghost use Rattle.book_words.specs.Views as told;
 ghost use Rattle.book_state.specs.Prepared.{is_for_sample};
 
 use crate::views::{summarize, view_lane, view_pack, view_sample, view_sheet};
-use book_state::{NoMemory, State};
+use book_state::{NoMemory, State, lane_number};
 use book_words::{Name, Question, Refusal, Reply};
-use hall_limits::MAX_LANE;
 use std::alloc::Global;
-
-/// The lane isn't 1 to 16.
-pub fn lane_number(lane: u8) -> Option<Refusal>
-    ensures { result ≡ lane_number lane }
-{
-    if 1 <= lane && lane <= MAX_LANE {
-        None
-    } else {
-        Some(Refusal::LaneNumber)
-    }
-}
 
 // What stands of a batch.
 fn tell_sheet(state: &State, batch: &Name) -> Result<Reply, Refusal>

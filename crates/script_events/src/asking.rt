@@ -7,8 +7,7 @@ ghost use Rattle.script_events.specs.Asking.{prior_at, want_at, ask_at, exchange
 ghost use Rattle.script_events.specs.Transcript.{after_command};
 ghost use Rattle.script_events.specs.Unanswered.{MayStay, step_of};
 
-use book_core::Book;
-use book_store::OneCaller;
+use book_store::{Book, OneCaller};
 use book_words::{
     Act, Answered, Ask, AskError, Caller, Name, Prior, Question, Refused, Unit, Want,
 };

@@ -6,7 +6,7 @@ ghost use Rattle.batch_reports.specs.Texts.{outcome_text, summary_text};
 ghost use Rattle.script_events.specs.Asking.{IsTold};
 
 use batch_reports::{TEXT_ROOM, answer_text, refusal_text};
-use book_core::Book;
+use book_store::Book;
 use book_words::{Answered, Refused, Reply};
 
 /// Makes the text of an answer of the book, in place of what was in `text`.

@@ -3,7 +3,7 @@ use Rattle.std.proofs.Common.{◌≡◌, ◌≢◌, inl, inr, true, nat_le, if�
 use Rattle.std.proofs.lemmas.Bool.Decides.{nat_tests}
 use Rattle.book_words.specs.declared.act.Entry.{Entry}
 use Rattle.book_words.specs.Answers.{IsLawful}
-use Rattle.book_state.specs.Told.{entry_numbered}
+use Rattle.book_store.specs.Stores.{entry_numbered}
 use Rattle.store_runs.specs.Carrying.{IsLonger, MayCome}
 
 -- ---- lists

@@ -9,7 +9,7 @@ use Rattle.pack_judge.specs.contracts.types.SignalPartialEq.TheImpl as signals
 use Rattle.book_words.specs.declared.act.Entry.{Entry}
 use Rattle.book_words.specs.contracts.act.EntryPartialEq.TheImpl as entries
 use Rattle.book_words.specs.contracts.act.EntryEq.TheImpl.Laws.{laws-law}
-use Rattle.book_rules.proofs.SameActs.{act_eq, same_act_is}
+use Rattle.book_store.proofs.SameActs.{act_eq, same_act_is}
 
 signal_is : (s t : Option Signal) → option_eq signals.ghosts.eq s t ≡ true → s ≡ t
 signal_is None None is = refl

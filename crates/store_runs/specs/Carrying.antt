@@ -3,7 +3,7 @@ use Rattle.std.specs.Prelude.{◌≡◌, ◌≢◌, ◌⊎◌, ⊤, ℕ, ◌≤�
 use Rattle.device_facts.specs.Prefix.{IsPrefixOf}
 use Rattle.book_words.specs.declared.act.Entry.{Entry}
 use Rattle.book_words.specs.Answers.{IsLawful}
-use Rattle.book_state.specs.Told.{entry_numbered}
+use Rattle.book_store.specs.Stores.{entry_numbered}
 use Rattle.store_runs.specs.declared.stop.Offer.TheVariants as offering
 use Rattle.store_runs.specs.declared.stop.Stop.{Stop}
 use Rattle.store_runs.specs.declared.stop.Stop.TheVariants.{BadLine, DiskFault, NoMemory}

@@ -1,6 +1,5 @@
 ghost use Rattle.std.specs.Prelude.{◌≡◌, None};
-ghost use Rattle.book_state.specs.Told.{entry_numbered};
-ghost use Rattle.book_store.specs.Stores.{entries_of, IsSound};
+ghost use Rattle.book_store.specs.Stores.{entries_of, entry_numbered, IsSound};
 ghost use Rattle.store_runs.specs.declared.stop.Stop.TheVariants as stop;
 ghost use Rattle.store_runs.specs.Carrying.{CarriesEntry};
 ghost use Rattle.store_runs.specs.Runs.{Goes};

@@ -6,6 +6,7 @@ use Rattle.book_rules.proofs.rules.refuse_product.Goals as goal
 
 pub returns : goal.returns
 returns c =
+    λ unit.
     rw (c.or-3.ensures, c.or-2.ensures, c.or.ensures)
     (four_told c.day_unset.ensures c.product_known.ensures c.name_shape.ensures
     (c.nominal_range.ensures ∙ ap nominal_range

@@ -1,7 +1,45 @@
-use Rattle.std.proofs.Common.{◌≡◌, inl, inr, ap, false}
+use Rattle.std.proofs.Common.{◌≡◌, ◌∙◌, inl, inr, ap, false}
+use Rattle.book_state.specs.Prepared.{Drawn}
 use Rattle.book_samples.specs.Kept.{is_of_samples}
 use Rattle.book_samples.proofs.SampleLemmas.{stands_on}
 use Rattle.book_state.proofs.entering.enter_samples.Goals as goal
+
+pub enter_first-requires : goal.enter_first-requires
+enter_first-requires c = record {
+  next = (
+    c.args.entries.now,
+    c.args.entry.now,
+    c.in-Draw.mode,
+    c.in-Draw.word,
+    record { index = c.requires.index; samples = c.requires.samples; next = c.requires.next },
+    c.in-Draw.is,
+    ap (λ (drawn : Drawn). drawn.first) (c.drawn.view_is ∙ c.requires.drawn),
+  );
+}
+
+pub enter_second-requires : goal.enter_second-requires
+enter_second-requires c = record {
+  next = (
+    c.args.entries.now,
+    c.args.entry.now,
+    c.in-DrawSecond.word,
+    record { index = c.requires.index; samples = c.requires.samples; next = c.requires.next },
+    c.in-DrawSecond.is,
+    ap (λ (drawn : Drawn). drawn.second) (c.drawn.view_is ∙ c.requires.drawn),
+  );
+}
+
+pub returns-in-Draw-clause-kept : goal.returns-in-Draw-clause-kept
+returns-in-Draw-clause-kept c =
+    c.enter_first.ensures.kept c.args.entries.now c.args.entry.now c.in-Draw.mode c.in-Draw.word
+    (record { index = c.requires.index; samples = c.requires.samples; next = c.requires.next })
+    c.in-Draw.is (ap (λ (drawn : Drawn). drawn.first) (c.drawn.view_is ∙ c.requires.drawn))
+
+pub returns-in-DrawSecond-clause-kept : goal.returns-in-DrawSecond-clause-kept
+returns-in-DrawSecond-clause-kept c =
+    c.enter_second.ensures.kept c.args.entries.now c.args.entry.now c.in-DrawSecond.word
+    (record { index = c.requires.index; samples = c.requires.samples; next = c.requires.next })
+    c.in-DrawSecond.is (ap (λ (drawn : Drawn). drawn.second) (c.drawn.view_is ∙ c.requires.drawn))
 
 pub returns-in-OpenBatch-clause-kept : goal.returns-in-OpenBatch-clause-kept
 returns-in-OpenBatch-clause-kept c =

@@ -15,43 +15,44 @@ use Rattle.book_state.proofs.entering.open_batch.Goals as goal
 
 pub unreachable-requires : goal.unreachable-requires
 unreachable-requires c =
-    there _ (opened_product c.args.entries.now c.args.entry.now c.requires.act.0 c.args.product.now
-    c.args.density c.requires.next c.requires.act.1)
-    (sym (c.product_number.ensures.number c.args.entries.now c.requires.index) ∙ c.in_default.is)
+    there _ (opened_product c.requires.next.0 c.requires.next.1 c.requires.next.2 c.args.product.now
+    c.args.density c.requires.next.3.next c.requires.next.4)
+    (sym (c.product_number.ensures.number c.requires.next.0 c.requires.next.3.index) ∙ c.in_default.is)
 
 pub unreachable-requires-in_default-product : goal.unreachable-requires-in_default-product
 unreachable-requires-in_default-product c =
-    there _ (opened_nominal c.args.entries.now c.args.entry.now c.requires.act.0 c.args.product.now
-    c.args.density c.requires.next c.requires.act.1)
-    (sym (c.product.ensures.nominal c.args.entries.now c.requires.index)
+    there _ (opened_nominal c.requires.next.0 c.requires.next.1 c.requires.next.2 c.args.product.now
+    c.args.density c.requires.next.3.next c.requires.next.4)
+    (sym (c.product.ensures.nominal c.requires.next.0 c.requires.next.3.index)
     ∙ ap (option_map (λ (terms : ProductTerms). terms.nominal)) c.in_default-product.is)
 
 pub limits_by_density-limits-requires : goal.limits_by_density-limits-requires
 limits_by_density-limits-requires c =
     let fits : FitsSigned w64 c.in-Some-product.terms.nominal = search rules in
     let is : Some c.in-Some-product.terms.nominal
-    ≡ nominal_of c.args.entries.now c.args.product.now =
-    c.in-Some-product.ensures.nominal c.args.entries.now c.requires.index in
+    ≡ nominal_of c.requires.next.0 c.args.product.now =
+    c.in-Some-product.ensures.nominal c.requires.next.0 c.requires.next.3.index in
     subst IsNominal (sym (to_z-of_z w64 c.in-Some-product.terms.nominal fits))
     (subst (λ (o : Option ℤ). IfSome o (IsBetween MIN_NOMINAL MAX_NOMINAL)) (sym is)
-    (nominal_within c.args.entries.now c.args.product.now c.requires.next.legal))
+    (nominal_within c.requires.next.0 c.args.product.now c.requires.next.3.next.legal))
 
 pub returns-clause-kept : goal.returns-clause-kept
 returns-clause-kept c =
+    λ entries entry batch enters act.
     let fits : FitsSigned w64 c.in-Some-product.terms.nominal = search rules in
     let is : Some c.in-Some-product.terms.nominal
-    ≡ nominal_of c.args.entries.now c.args.product.now =
-    c.in-Some-product.ensures.nominal c.args.entries.now c.requires.index in
-    let unit : Some c.in-Some-product.terms.unit ≡ unit_of c.args.entries.now c.args.product.now =
-    c.in-Some-product.ensures.unit c.args.entries.now c.requires.index in
-    c.open_batch.ensures.kept c.args.entries.now c.args.entry.now c.requires.packs
+    ≡ nominal_of entries c.args.product.now =
+    c.in-Some-product.ensures.nominal entries enters.index in
+    let unit : Some c.in-Some-product.terms.unit ≡ unit_of entries c.args.product.now =
+    c.in-Some-product.ensures.unit entries enters.index in
+    c.open_batch.ensures.kept entries entry enters.packs
     (record {
-      next = c.requires.next;
-      batch = c.requires.act.0;
+      next = enters.next;
+      batch = batch;
       name = c.args.product.now;
       density = c.args.density;
-      act = c.requires.act.1;
-      number = sym (c.in-Some.ensures.number c.args.entries.now c.requires.index);
+      act = act;
+      number = sym (c.in-Some.ensures.number entries enters.index);
       limited =
           c.limits_by_density-limits.ensures
           ∙ ap (λ (nominal : ℤ). limits_at c.density_by_unit.result (limits_of nominal))
@@ -60,6 +61,6 @@ returns-clause-kept c =
           (c.density_by_unit.ensures ∙ ap
           (λ (u : Option units.Unit). density_by_unit u c.args.density) unit)
           ∙ ap (λ (n : Option ℤ). limits_at
-          (density_by_unit (unit_of c.args.entries.now c.args.product.now) c.args.density)
+          (density_by_unit (unit_of entries c.args.product.now) c.args.density)
           (limits_of (unwrap_or n (pos 0)))) is;
     })

@@ -3,8 +3,8 @@ use Rattle.std.proofs.lemmas.Int.{to_z-of_z}
 use Rattle.annex_tables.specs.declared.types.Limits.{Limits}
 use Rattle.pack_judge.specs.Judge.{class_of}
 use Rattle.book_words.specs.Classes.{density_of_batch, limits_of_batch}
-use Rattle.book_packs.proofs.Below.{class_is}
-use Rattle.book_views.proofs.BatchFacts.{told_limits}
+use Rattle.book_verdicts.proofs.Below.{class_is}
+use Rattle.book_verdicts.proofs.BatchFacts.{told_limits}
 use Rattle.book_views.proofs.views.class_in.Goals as goal
 
 pub returns : goal.returns

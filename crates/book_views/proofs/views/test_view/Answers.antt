@@ -1,6 +1,6 @@
 use Rattle.std.proofs.Common.{◌≡◌, ap, arith, length}
 use Rattle.book_words.specs.Verdicts.{second_packs}
-use Rattle.book_views.proofs.BatchFacts.{second_few}
+use Rattle.book_verdicts.proofs.BatchFacts.{second_few}
 use Rattle.book_views.proofs.views.test_view.Goals as goal
 
 pub overflow_cast-result-2 : goal.overflow_cast-result-2

@@ -5,7 +5,7 @@ use Rattle.reference_test.proofs.SignedNumbers.{computes_read, computes_differen
 use Rattle.book_words.specs.Acts.{product_of}
 use Rattle.book_words.specs.Classes.{class_in_batch}
 use Rattle.book_state.specs.declared.types.KnownPack.{KnownPack}
-use Rattle.book_views.proofs.BatchFacts.{never_none}
+use Rattle.book_verdicts.proofs.BatchFacts.{never_none}
 use Rattle.book_views.proofs.ViewLemmas.{known_view, pack_product}
 use Rattle.book_views.proofs.views.view_pack.Goals as goal
 

@@ -21,14 +21,14 @@ returns-clause-asked g c =
     let new : CallerView g.row.D.Denot =
     record old {
       store = c.ask-given.new.self;
-      faults = c.told-self-inside.result;
+      faults = c.faults_behind-self-inside.result;
       failed = c.failed_last-self-inside.result;
     } in
     subst (λ (v : CallerView g.row.D.Denot). IsAsked (known_of v)
     (known_of new) c.args.ask.now c.ask-given.result) c.self.view_is
     (is_asked old new c.args.ask.now c.ask-given.ensures.limit refl c.ask-given.result
     c.ask-given.ensures.entries c.ask-given.ensures.answer c.ask-given.ensures.legal
-    c.told-self-inside.ensures)
+    c.faults_behind-self-inside.ensures)
 
 pub returns-clause-later : goal.returns-clause-later
 returns-clause-later g c =
@@ -42,7 +42,7 @@ returns-clause-later g c =
     let new : CallerView g.row.D.Denot =
     record old {
       store = c.ask-given.new.self;
-      faults = c.told-self-inside.result;
+      faults = c.faults_behind-self-inside.result;
       failed = c.failed_last-self-inside.result;
     } in
     let range : c.self.inside.faults ≤ FAULTS_END = omega (arith, c.self.ranges.1.1.0.1) in
@@ -52,7 +52,7 @@ returns-clause-later g c =
     c.ask-given.ensures.entries c.ask-given.ensures.answer c.ask-given.ensures.offers
     c.ask-given.ensures.no_memory
     c.ask-given.ensures.hangs c.ask-given.ensures.settled c.ask-given.ensures.limit
-    c.ask-given.ensures.held c.ask-given.ensures.cause range c.told-self-inside.ensures
+    c.ask-given.ensures.held c.ask-given.ensures.cause range c.faults_behind-self-inside.ensures
     c.failed_last-self-inside.ensures)
 
 pub returns-clause-kept : goal.returns-clause-kept

@@ -1,0 +1,4 @@
+pub mod MeanLemmas
+pub mod BatchFacts
+pub mod ContentsLemmas
+pub use Rattle.book_packs.proofs.Below
