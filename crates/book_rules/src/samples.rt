@@ -123,10 +123,10 @@ fn is_measured(state: &State, sample: &Sample) -> bool
 }
 
 // Whether a second sample isn't needed.
-fn is_second_not_needed(state: &State, batch: &Name, sample: &Sample, d1: u32) -> bool
-    requires sample { IsSampleOf state.now.entries batch.now sample.now }
-    requires defective { d1 ≡ first_defective state.now.entries batch.now sample.now }
-    ensures { result ≡ rules.is_second_not_needed state.now.entries batch.now sample.now }
+fn is_second_not_needed(state: &State, sample: &Sample, d1: u32) -> bool
+    requires sample { (batch : names.Name) × IsSampleOf state.now.entries batch sample.now }
+    ensures { (batch : names.Name) → d1 ≡ first_defective state.now.entries batch sample.now
+        → result ≡ rules.is_second_not_needed state.now.entries batch sample.now }
 {
     let plan = sample.plan();
     plan.second == 0
@@ -141,7 +141,7 @@ pub fn second_not_needed(state: &State, batch: &Name) -> Option<Refusal>
     let sample = state.sample(batch)?;
     let d1 = count_first(state, batch, sample);
     refuse_if(
-        is_second_not_needed(state, batch, sample, d1),
+        is_second_not_needed(state, sample, d1),
         Refusal::SecondNotNeeded { d1 },
     )
 }
@@ -198,10 +198,10 @@ pub fn needed_wanting(state: &State, batch: &Name) -> Option<Refusal>
 }
 
 // Whether a second sample is wanted.
-fn is_second_needed(state: &State, batch: &Name, sample: &Sample, d1: u32) -> bool
-    requires sample { IsSampleOf state.now.entries batch.now sample.now }
-    requires defective { d1 ≡ first_defective state.now.entries batch.now sample.now }
-    ensures { result ≡ rules.is_second_needed state.now.entries batch.now sample.now }
+fn is_second_needed(state: &State, sample: &Sample, d1: u32) -> bool
+    requires sample { (batch : names.Name) × IsSampleOf state.now.entries batch sample.now }
+    ensures { (batch : names.Name) → d1 ≡ first_defective state.now.entries batch sample.now
+        → result ≡ rules.is_second_needed state.now.entries batch sample.now }
 {
     is_measured(state, sample) && is_open(sample.plan(), d1) && sample.second().is_none()
 }
@@ -213,7 +213,7 @@ pub fn second_needed(state: &State, batch: &Name) -> Option<Refusal>
     let sample = state.sample(batch)?;
     let d1 = count_first(state, batch, sample);
     refuse_if(
-        is_second_needed(state, batch, sample, d1),
+        is_second_needed(state, sample, d1),
         Refusal::SecondNeeded { d1 },
     )
 }

@@ -172,19 +172,15 @@ fn draw(packs: &mut Packs, index: &Index, batch: &Name, drawn: &Drawn)
 }
 
 /// Takes down in the samples what the next entry of a list says. It takes no memory.
-pub fn enter_samples(
-    samples: &mut Samples,
-    index: &Index,
-    entries: &[Entry],
-    entry: &Entry,
-    drawn: Drawn,
-)
+pub fn enter_samples(samples: &mut Samples, index: &Index, entry: &Entry, drawn: Drawn)
     requires room { 0 < samples.old.spare }
-    requires index { IsIndexOf entries.now index.now }
-    requires samples { IsSamplesOf entries.now samples.old }
-    requires next { IsNext entries.now entry.now }
-    requires drawn { drawn ≡ drawn_by entries.now entry.now.act }
-    ensures kept { IsSamplesOf (entries.now ++ entry.now ∷ []) samples.new }
+    requires next { (entries : List rows.Entry)
+        × EntersSamples index.now samples.old entries entry.now
+        × (drawn ≡ drawn_by entries entry.now.act) }
+    ensures kept { (entries : List rows.Entry)
+        → EntersSamples index.now samples.old entries entry.now
+        → drawn ≡ drawn_by entries entry.now.act
+        → IsSamplesOf (entries ++ entry.now ∷ []) samples.new }
     ensures spare { samples.old.spare ≤ samples.new.spare + 1 }
 {
     let Drawn { first, second } = drawn;

@@ -120,7 +120,7 @@ impl State {
     {
         let row = self.entries.len() as u32 + 1;
         enter_packs(&mut self.packs, &self.index, &self.entries, entry, &drawn);
-        enter_samples(&mut self.samples, &self.index, &self.entries, entry, drawn);
+        enter_samples(&mut self.samples, &self.index, entry, drawn);
         self.index.enter(row, entry);
         self.entries.push_reserved(*entry);
         self.spare -= 1;

@@ -1,4 +1,5 @@
-//! The steps on the word, each with what it does to the views of the seats that it is given.
+//! The steps on the word, each with what it does to the views of the seats that it is given. The
+//! numbers and entries that a step is given name the ghost members of its `N`; no code reads them.
 ghost use Rattle.std.specs.Prelude.{◌≡◌, ◌≢◌, ◌+◌, ◌<◌, ◌^◌, ◌∷◌, [], All, length, IfOk};
 ghost use Rattle.turn_pass.specs.declared.rule.Role.TheVariants.{Book, Pass, Note, Spent};
 ghost use Rattle.turn_pass.specs.History.{appended, own, StandsAt, HasNoRow};

@@ -1,50 +1,69 @@
-use Rattle.std.proofs.Common.{◌≡◌, ◌∙◌, inl, inr, ap, false}
+use Rattle.std.proofs.Common.{rules, ◌≡◌, ◌∙◌, ℕ, ℤ, inl, inr, ap, sym, false, FitsSigned, w64, to_z, of_z}
+use Rattle.std.proofs.lemmas.Int.{to_z-of_z}
+use Rattle.book_words.specs.declared.act.Act.TheVariants.{Measure}
 use Rattle.book_state.specs.Prepared.{Drawn}
 use Rattle.book_samples.specs.Kept.{is_of_samples}
 use Rattle.book_samples.proofs.SampleLemmas.{stands_on}
 use Rattle.book_state.proofs.entering.enter_samples.Goals as goal
 
+-- numbers of their width are the same when they are read again
+read_again : (pack : ℕ) (gross empty : ℤ) → FitsSigned w64 gross → FitsSigned w64 empty
+    → Measure pack gross empty
+    ≡ Measure pack (to_z w64 (of_z w64 gross)) (to_z w64 (of_z w64 empty))
+read_again pack gross empty gross_fits empty_fits =
+    sym (ap (λ (g : ℤ). Measure pack g (to_z w64 (of_z w64 empty)))
+    (to_z-of_z w64 gross gross_fits) ∙ ap (Measure pack gross) (to_z-of_z w64 empty empty_fits))
+
 pub enter_first-requires : goal.enter_first-requires
 enter_first-requires c = record {
   next = (
-    c.args.entries.now,
+    c.requires.next.0,
     c.args.entry.now,
     c.in-Draw.mode,
     c.in-Draw.word,
-    record { index = c.requires.index; samples = c.requires.samples; next = c.requires.next },
+    c.requires.next.1,
     c.in-Draw.is,
-    ap (λ (drawn : Drawn). drawn.first) (c.drawn.view_is ∙ c.requires.drawn),
+    ap (λ (drawn : Drawn). drawn.first) (c.drawn.view_is ∙ c.requires.next.2),
   );
 }
 
 pub enter_second-requires : goal.enter_second-requires
 enter_second-requires c = record {
   next = (
-    c.args.entries.now,
+    c.requires.next.0,
     c.args.entry.now,
     c.in-DrawSecond.word,
-    record { index = c.requires.index; samples = c.requires.samples; next = c.requires.next },
+    c.requires.next.1,
     c.in-DrawSecond.is,
-    ap (λ (drawn : Drawn). drawn.second) (c.drawn.view_is ∙ c.requires.drawn),
+    ap (λ (drawn : Drawn). drawn.second) (c.drawn.view_is ∙ c.requires.next.2),
   );
 }
 
 pub returns-in-Draw-clause-kept : goal.returns-in-Draw-clause-kept
-returns-in-Draw-clause-kept c =
-    c.enter_first.ensures.kept c.args.entries.now c.args.entry.now c.in-Draw.mode c.in-Draw.word
-    (record { index = c.requires.index; samples = c.requires.samples; next = c.requires.next })
-    c.in-Draw.is (ap (λ (drawn : Drawn). drawn.first) (c.drawn.view_is ∙ c.requires.drawn))
+returns-in-Draw-clause-kept c = λ entries enters drawn_is.
+    c.enter_first.ensures.kept entries c.args.entry.now c.in-Draw.mode c.in-Draw.word
+    enters
+    c.in-Draw.is (ap (λ (drawn : Drawn). drawn.first) (c.drawn.view_is ∙ drawn_is))
 
 pub returns-in-DrawSecond-clause-kept : goal.returns-in-DrawSecond-clause-kept
-returns-in-DrawSecond-clause-kept c =
-    c.enter_second.ensures.kept c.args.entries.now c.args.entry.now c.in-DrawSecond.word
-    (record { index = c.requires.index; samples = c.requires.samples; next = c.requires.next })
-    c.in-DrawSecond.is (ap (λ (drawn : Drawn). drawn.second) (c.drawn.view_is ∙ c.requires.drawn))
+returns-in-DrawSecond-clause-kept c = λ entries enters drawn_is.
+    c.enter_second.ensures.kept entries c.args.entry.now c.in-DrawSecond.word
+    enters
+    c.in-DrawSecond.is (ap (λ (drawn : Drawn). drawn.second) (c.drawn.view_is ∙ drawn_is))
+
+pub returns-in-Measure-clause-kept : goal.returns-in-Measure-clause-kept
+returns-in-Measure-clause-kept c = λ entries enters drawn_is.
+    let gross_fits : FitsSigned w64 c.in-Measure.gross = search rules in
+    let empty_fits : FitsSigned w64 c.in-Measure.empty = search rules in
+    c.measure.ensures.measured entries c.args.entry.now enters.samples enters.next.legal
+    enters.next.lawful
+    (c.in-Measure.is
+    ∙ read_again c.in-Measure.pack c.in-Measure.gross c.in-Measure.empty gross_fits empty_fits)
 
 pub returns-in-OpenBatch-clause-kept : goal.returns-in-OpenBatch-clause-kept
-returns-in-OpenBatch-clause-kept c =
-    c.open_batch.ensures.opened c.args.entries.now c.args.entry.now c.requires.samples
-    c.requires.next.legal c.requires.next.lawful
+returns-in-OpenBatch-clause-kept c = λ entries enters drawn_is.
+    c.open_batch.ensures.opened entries c.args.entry.now enters.samples
+    enters.next.legal enters.next.lawful
     (record {
       batch = c.in-OpenBatch.batch;
       product = c.in-OpenBatch.product;
@@ -54,7 +73,7 @@ returns-in-OpenBatch-clause-kept c =
     })
 
 pub returns-in-NewDay-clause-kept : goal.returns-in-NewDay-clause-kept
-returns-in-NewDay-clause-kept c =
+returns-in-NewDay-clause-kept c = λ entries enters drawn_is.
     let other : is_of_samples c.args.entry.now.act ≡ false =
     elim c.in-NewDay.is [
       | inl h ↦ ap is_of_samples h.1
@@ -85,4 +104,4 @@ returns-in-NewDay-clause-kept c =
                 ]
           ]
     ] in
-    stands_on c.args.entries.now c.args.entry.now c.args.samples.now other c.requires.samples
+    stands_on entries c.args.entry.now c.args.samples.now other enters.samples

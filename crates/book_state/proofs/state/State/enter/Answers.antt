@@ -1,10 +1,11 @@
-use Rattle.std.proofs.Common.{rules, ◌≡◌, ◌+◌, ◌<◌, ◌∷◌, ◌++◌, [], List, length, sym, ap, subst, arith}
+use Rattle.std.proofs.Common.{rules, ◌≡◌, ◌∙◌, ◌+◌, ◌<◌, ◌∷◌, ◌++◌, [], List, length, sym, ap, subst, arith}
 use Rattle.book_words.specs.declared.act.Entry.{Entry}
 use Rattle.book_words.specs.Answers.{IsLegal, IsLawful}
 use Rattle.book_words.proofs.LegalLemmas.{legal-push}
 use Rattle.book_index.specs.Listed.{IsIndexOf}
 use Rattle.book_packs.specs.Stand.{IsPacksOf}
 use Rattle.book_samples.specs.Kept.{IsSamplesOf}
+use Rattle.book_state.specs.Prepared.{drawn_by}
 use Rattle.book_state.specs.View.{StateView}
 use Rattle.book_state.proofs.state.State.enter.Goals as goal
 
@@ -12,6 +13,21 @@ pub enter_packs-requires-clause-packs : goal.enter_packs-requires-clause-packs
 enter_packs-requires-clause-packs c =
     subst (λ (es : List Entry). IsPacksOf es c.self.inside.packs)
     (sym c.deref.ensures.value) c.self.invariant.stand.packs
+
+pub enter_samples-requires-clause-next : goal.enter_samples-requires-clause-next
+enter_samples-requires-clause-next c =
+    let list : c.self.inside.entries.items ≡ c.args.self.now.entries =
+    ap (λ (v : StateView). v.entries) c.self.view_is in
+    let lawful : IsLawful c.self.inside.entries.items c.args.entry.now =
+    subst (λ (es : List Entry). IsLawful es c.args.entry.now) (sym list) c.requires.lawful in (
+      c.self.inside.entries.items,
+      record {
+        index = c.self.invariant.stand.index;
+        samples = c.self.invariant.stand.samples;
+        next = record { legal = c.self.invariant.stand.legal; lawful = lawful };
+      },
+      c.requires.drawn ∙ ap (λ (es : List Entry). drawn_by es c.args.entry.now.act) (sym list),
+    )
 
 pub invariant_of-self : goal.invariant_of-self
 invariant_of-self c =
@@ -31,8 +47,13 @@ invariant_of-self c =
     c.deref.ensures.value c.enter_packs.ensures.kept in
     let samples : IsSamplesOf (c.self.inside.entries.items ++ c.args.entry.now ∷ [])
     c.enter_samples.new.samples =
-    subst (λ (es : List Entry). IsSamplesOf (es ++ c.args.entry.now ∷ []) c.enter_samples.new.samples)
-    c.deref-2.ensures.value c.enter_samples.ensures.kept in
+    c.enter_samples.ensures.kept c.self.inside.entries.items
+    (record {
+      index = kept.stand.index;
+      samples = kept.stand.samples;
+      next = record { legal = kept.stand.legal; lawful = lawful };
+    })
+    (c.requires.drawn ∙ ap (λ (es : List Entry). drawn_by es c.args.entry.now.act) (sym list)) in
     record {
       stand = record {
         legal = subst IsLegal (sym items)
