@@ -17,7 +17,7 @@ use tare_register::DatedTare;
 fn closing_row(state: &State, batch: &Name) -> u32
     ensures { result ≡ closing_row state.now.entries batch.now }
 {
-    let _few = state.len();
+    let _few = state.len(); // so that a place of its list is known to fit
     match closing_place(state.entries(), batch) {
         Some(place) => place as u32 + 1,
         None => 0,
