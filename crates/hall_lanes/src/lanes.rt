@@ -1,4 +1,4 @@
-ghost use Rattle.std.specs.Prelude.{◌≡◌, length, min, IfOk};
+ghost use Rattle.std.specs.Prelude.{◌≡◌, length, min, IfOk, IsSome};
 ghost use Rattle.hall_limits.specs.declared.TheConstants.{MAX_LANE};
 
 use crate::doors::open_door;
@@ -49,7 +49,9 @@ fn folder_of(wanted: &Wants) -> &str {
 
 /// Locks the folder of the lanes' files, where there are lanes. None where another hall has it, which
 /// standard error says.
-pub fn lock_cells(rt: &HostRuntime, wanted: &Wants) -> Option<FolderLock> {
+pub fn lock_cells(rt: &HostRuntime, wanted: &Wants) -> Option<FolderLock>
+    ensures { wanted.now.lanes ≡ 0 → IsSome result }
+{
     if wanted.lanes == 0 {
         return Some(FolderLock::none());
     }
