@@ -8,8 +8,7 @@ work=$(mktemp -d)
 trap 'rm -rf "$work"' EXIT
 . "$here/program.sh"
 left_out=./out
-build_program sums_bench annex_tables batch_sums batch_sums_tests hall_limits pack_judge \
-    tare_register
+build_program sums_bench annex_tables batch_sums batch_sums_tests hall_limits pack_judge
 
 milliseconds() { echo $(($(date +%s%N) / 1000000)); }
 # best of 5 of a run with so many packs

@@ -1,6 +1,7 @@
+use pack_judge::Span;
 use std::alloc::Global;
 use std::test::Fail;
-use tare_register::{NoMemory, Span, Tares};
+use tare_register::{NoMemory, Tares};
 
 // Tares of three products, in an order that isn't that of their days.
 const PUT: [(u32, i32, i64); 10] = [

@@ -10,7 +10,7 @@ use Rattle.std.specs.Option.{option_and_then, option_map_or, option_to_list, unw
 use Rattle.hall_limits.specs.declared.TheConstants.{MIN_NOMINAL, MAX_NOMINAL, MAX_DAY, MAX_GROSS, MAX_TARE}
 use Rattle.annex_tables.specs.declared.types.Mode.{Mode}
 use Rattle.annex_tables.specs.declared.types.Mode.TheVariants.{Keep, Destroy}
-use Rattle.tare_register.specs.declared.types.DatedTare.{DatedTare}
+use Rattle.pack_judge.specs.declared.tares.DatedTare.{DatedTare}
 use Rattle.book_words.specs.declared.name.Name.{Name}
 use Rattle.book_words.specs.declared.act.Entry.{Entry}
 use Rattle.book_words.specs.declared.act.Reading.{Reading}

@@ -9,9 +9,9 @@ ghost use Rattle.batch_paper.specs.Written.{closing_row, goods_of, tare_for};
 use crate::words::closing_place;
 use book_state::State;
 use book_words::{Name, Unit};
+use pack_judge::DatedTare;
 use paper_form::Goods;
 use reference_test::UNIT_DENSITY;
-use tare_register::DatedTare;
 
 // The row of the entry that closes a batch; 0 where there is none.
 fn closing_row(state: &State, batch: &Name) -> u32

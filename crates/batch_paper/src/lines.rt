@@ -14,9 +14,9 @@ use book_texts::{
 };
 use book_words::{Unit, Verdict};
 use hall_units::make_room;
+use pack_judge::DatedTare;
 use paper_form::{Draw, Goods, Line, MAX_PAPER, Pack, Pick, Weighed};
 use std::alloc::AllocError;
-use tare_register::DatedTare;
 
 /// The bytes that room is made for with each line; the longest, with two names of 32 bytes and two
 /// masses, has fewer.

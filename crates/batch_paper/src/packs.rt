@@ -7,10 +7,9 @@ ghost use Rattle.batch_paper.specs.Written.{is_stock, pack_at, packs_of, days_of
 
 use book_state::State;
 use book_words::Name;
-use pack_judge::Pile;
+use pack_judge::{DatedTare, Pile};
 use paper_form::Pack;
 use std::alloc::{AllocError, Global};
-use tare_register::DatedTare;
 
 // Whether a pile is the passed or the sampled.
 fn is_in_stock(pile: Pile) -> bool

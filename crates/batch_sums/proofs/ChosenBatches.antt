@@ -8,8 +8,8 @@ use Rattle.std.proofs.lemmas.List.Elements.{filter-append, All-contains, Contain
 use Rattle.std.proofs.lemmas.List.Folds.{list_any_at}
 use Rattle.batch_sums.specs.declared.types.Held.{Held}
 use Rattle.hall_limits.specs.declared.TheConstants.{MAX_DAY}
-use Rattle.tare_register.specs.declared.types.Span.{Span}
-use Rattle.tare_register.specs.Tares.{covers}
+use Rattle.pack_judge.specs.declared.tares.Span.{Span}
+use Rattle.pack_judge.specs.Tares.{covers}
 use Rattle.batch_sums.specs.declared.batch.Batch.{Batch}
 use Rattle.batch_sums.specs.declared.group.Group.{Group}
 use Rattle.batch_sums.specs.Groups.{Face, faces, nth_face, nth_rank}

@@ -14,8 +14,8 @@ use Rattle.std.proofs.lemmas.List.Elements.{All-head, All-tail, All-take, All-dr
 use Rattle.std.proofs.lemmas.List.Sums.{sum_by-cons, sum_by-take-le, sum_by-take-drop, get_or-le-sum_by}
 use Rattle.std.proofs.lemmas.Option.{slice_get-map, slice_get_cases}
 use Rattle.hall_limits.specs.declared.TheConstants.{MAX_DAY}
-use Rattle.tare_register.specs.declared.types.Span.{Span}
-use Rattle.tare_register.specs.Tares.{covers}
+use Rattle.pack_judge.specs.declared.tares.Span.{Span}
+use Rattle.pack_judge.specs.Tares.{covers}
 use Rattle.batch_sums.specs.declared.batch.Batch.{Batch}
 use Rattle.batch_sums.specs.declared.group.Group.{Group}
 use Rattle.batch_sums.specs.declared.types.Held.{Held}

@@ -3,7 +3,7 @@ use Rattle.std.specs.Prelude.{◌≡◌, ℕ, ◌≤◌, Bool, false, List, [], 
 use Rattle.std.specs.Prelude.{Option, Some, None, unwrap_or}
 use Rattle.std.specs.List.{slice_get, All}
 use Rattle.pack_judge.specs.declared.types.Pile.TheVariants.{Passed, Rejected, Sampled, Voided}
-use Rattle.tare_register.specs.declared.types.Span.{Span}
+use Rattle.pack_judge.specs.declared.tares.Span.{Span}
 use Rattle.batch_sums.specs.declared.types.Pack.{Pack}
 use Rattle.batch_sums.specs.declared.types.Piles.{Piles}
 use Rattle.batch_sums.specs.Totals.{in_pile, tally, Sums}

@@ -5,8 +5,8 @@ use Rattle.std.specs.List.{list_any, slice_get, All}
 use Rattle.std.specs.Option.{option_map_or}
 use Rattle.hall_limits.specs.declared.TheConstants.{MAX_POPULATION}
 use Rattle.pack_judge.specs.declared.types.Pile.{Pile}
-use Rattle.tare_register.specs.declared.types.Span.{Span}
-use Rattle.tare_register.specs.Tares.{covers}
+use Rattle.pack_judge.specs.declared.tares.Span.{Span}
+use Rattle.pack_judge.specs.Tares.{covers}
 use Rattle.batch_sums.specs.Totals.{Terms, is_counted}
 use Rattle.batch_sums.specs.declared.types.Pack.{Pack}
 

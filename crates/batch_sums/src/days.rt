@@ -1,9 +1,9 @@
 ghost use Rattle.std.specs.Prelude.{◌≡◌, ℕ, pos, nat_le, nat_lt, ◌&&◌, ◌≤ℤ◌, ◌^◌, ◌<◌};
 ghost use Rattle.std.specs.Int.Signed.{le_z, lt_z};
-ghost use Rattle.tare_register.specs.Tares.{covers};
+ghost use Rattle.pack_judge.specs.Tares.{covers};
 
 use hall_limits::MAX_DAY;
-use tare_register::Span;
+use pack_judge::Span;
 
 /// The days of a span that packs may have: from the first on, before the last.
 #[derive(Clone, Copy)]

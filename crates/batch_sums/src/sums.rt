@@ -16,11 +16,10 @@ use annex_tables::Limits;
 use balanced_tree::{Node, Tree};
 use hall_limits::{MAX_DAY, MAX_GROSS, MAX_TARE};
 use indexmap::IndexSet;
-use pack_judge::Pile;
+use pack_judge::{Pile, Span};
 use std::alloc::{AllocError, Global};
 use std::marker::Model;
 use std::sync::ledger::Ledger;
-use tare_register::Span;
 
 /// The totals of each batch over the packs that were added.
 #[derive(Drop)]

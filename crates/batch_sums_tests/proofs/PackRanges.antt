@@ -7,7 +7,7 @@ use Rattle.std.proofs.lemmas.Int.{ints}
 use Rattle.std.proofs.lemmas.List.Elements.{All-head, All-tail, All-push, All-weaker, All-map}
 use Rattle.hall_limits.specs.declared.TheConstants.{MAX_DAY, MAX_TARE}
 use Rattle.pack_judge.specs.declared.types.Pile.{Pile}
-use Rattle.tare_register.specs.declared.types.Span.{Span}
+use Rattle.pack_judge.specs.declared.tares.Span.{Span}
 use Rattle.batch_sums.specs.Totals.{Terms}
 use Rattle.batch_sums.specs.declared.types.Pack.{Pack}
 use Rattle.batch_sums.specs.Changes.{is_added, moved, is_concerned, corrected, IsUpTo}

@@ -7,11 +7,10 @@ use crate::plain::{PlainPack, plain_totals};
 use annex_tables::Limits;
 use batch_sums::{BatchSums, NoMemory, Steps, Totals};
 use hall_limits::{MAX_DAY, MAX_GROSS, MAX_TARE};
-use pack_judge::Pile;
+use pack_judge::{Pile, Span};
 use std::alloc::Global;
 use std::marker::{Brand, Model};
 use std::sync::ledger::{Blank, Ledger};
-use tare_register::Span;
 
 /// A batch of a plain list.
 #[derive(Clone, Copy)]

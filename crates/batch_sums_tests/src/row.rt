@@ -6,10 +6,9 @@ ghost use Rattle.batch_sums_tests.specs.Rows.{IsOneGroup};
 use annex_tables::Limits;
 use batch_sums::{BatchSums, NoMemory, STEPS_PER_GROUP, Steps, Totals};
 use hall_limits::MAX_POPULATION;
-use pack_judge::Pile;
+use pack_judge::{Pile, Span};
 use std::alloc::Global;
 use std::sync::ledger::{Blank, Ledger};
-use tare_register::Span;
 
 const DAY: i32 = 20_150;
 

@@ -8,14 +8,13 @@ use crate::row::corrected_totals;
 use annex_tables::Limits;
 use batch_sums::{NoMemory, Pack};
 use hall_limits::{MAX_GROSS, MAX_TARE};
-use pack_judge::{Pile, Tally};
+use pack_judge::{Pile, Span, Tally};
 use rand_core::utils::NextWord;
 use rand_pcg::Pcg32;
 use std::alloc::Global;
 use std::marker::Brand;
 use std::sync::ledger::Blank;
 use std::test::Fail;
-use tare_register::Span;
 
 // The limits of a nominal quantity of 250 g.
 const LIMITS: Limits = Limits {

@@ -12,8 +12,8 @@ use Rattle.annex_tables.specs.Errors.{error_of, tolerable_error}
 use Rattle.annex_tables.specs.Plans.{plan_of, keeping_plan}
 use Rattle.sample_draw.specs.Draws.{packs_left}
 use Rattle.sample_draw.proofs.DrawLemmas.{length-drawn}
-use Rattle.tare_register.specs.declared.types.DatedTare.{DatedTare}
-use Rattle.tare_register.specs.Tares.{latest, dated_by}
+use Rattle.pack_judge.specs.declared.tares.DatedTare.{DatedTare}
+use Rattle.pack_judge.specs.Tares.{latest, dated_by}
 use Rattle.pack_judge.specs.declared.types.Pile as piles
 use Rattle.pack_judge.specs.declared.types.Pile.TheVariants.{Passed, Rejected, Sampled, Voided}
 use Rattle.pack_judge.specs.declared.types.Signal.{Signal}

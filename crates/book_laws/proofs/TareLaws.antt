@@ -9,14 +9,14 @@ use Rattle.std.specs.Option.{option_or, option_and_then, option_flatten}
 use Rattle.book_words.specs.declared.name.Name.{Name}
 use Rattle.book_words.specs.declared.act.Act.{Act}
 use Rattle.book_words.specs.declared.act.Act.TheVariants.{NewDay, OpenBatch, StartLane, Weigh, StopLane}
-use Rattle.tare_register.specs.declared.types.DatedTare.{DatedTare}
+use Rattle.pack_judge.specs.declared.tares.DatedTare.{DatedTare}
 use Rattle.book_words.specs.declared.act.Entry.{Entry}
 use Rattle.book_words.specs.declared.act.Reading.{Reading}
 use Rattle.book_words.specs.declared.refusal.Refusal.TheVariants.{NoTare}
 use Rattle.book_words.specs.Names.{same_name}
 use Rattle.book_words.specs.Acts.{said, last_said, day_set, nominal_put, product_given, lane_used, newest_day, nominal_of, unit_of, product_of, density_of, state_of, last_batch, lane_batch}
-use Rattle.tare_register.specs.Tares.{latest, dated_by}
-use Rattle.tare_register.proofs.Latest.{none_greater, latest-append, latest_nothing}
+use Rattle.pack_judge.specs.Tares.{latest, dated_by}
+use Rattle.pack_judge.proofs.Latest.{none_greater, latest-append, latest_nothing}
 use Rattle.book_words.specs.Tares.{tare_put, tares_put, tare_of_product}
 use Rattle.book_words.specs.Readings.{readings, weighed_reading, tare_of_reading}
 use Rattle.book_words.specs.Refusals.{refused_if, no_tare}

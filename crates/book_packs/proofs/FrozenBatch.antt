@@ -8,7 +8,8 @@ use Rattle.std.proofs.lemmas.Int.{ints}
 use Rattle.std.proofs.lemmas.List.Elements.{All-contains}
 use Rattle.std.proofs.lemmas.List.Folds.{list_any_at}
 use Rattle.std.proofs.lemmas.Option.{slice_get-map, same_Some}
-use Rattle.tare_register.specs.Tares.{tare_of, covers, span_of, DecidesWithin, HasOneTareWithin}
+use Rattle.pack_judge.specs.Tares.{covers}
+use Rattle.tare_register.specs.Tares.{tare_of, span_of, DecidesWithin, HasOneTareWithin}
 use Rattle.batch_sums.specs.declared.types.Pack.{Pack}
 use Rattle.batch_sums.specs.Changes.{is_concerned, concerned}
 use Rattle.batch_sums.specs.Asked.{chosen_batches, IsLeast}

@@ -8,7 +8,7 @@ use Rattle.annex_tables.specs.declared.types.Limits.{Limits}
 use Rattle.hall_limits.specs.declared.TheConstants.{MAX_TARE, MAX_LANE}
 use Rattle.pack_judge.specs.declared.types.Pile.{Pile}
 use Rattle.pack_judge.specs.declared.types.Signal.{Signal}
-use Rattle.tare_register.specs.declared.types.Span.{Span}
+use Rattle.pack_judge.specs.declared.tares.Span.{Span}
 use Rattle.tare_register.specs.Tares.{entry_of, DecidesWithin}
 use Rattle.batch_sums.specs.declared.types.Pack.{Pack}
 use Rattle.batch_sums.specs.Totals.{Terms}

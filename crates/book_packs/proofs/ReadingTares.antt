@@ -3,8 +3,9 @@ use Rattle.std.proofs.Common.{◌≡◌, ℕ, ℤ, ◌==◌, true, false, ◌&&�
 use Rattle.std.specs.Prelude.{pos}
 use Rattle.std.specs.List.{cons_option, slice_get}
 use Rattle.std.specs.Option.{option_or, option_and_then, option_map_or, unwrap_or}
-use Rattle.tare_register.specs.declared.types.Span.{Span}
-use Rattle.tare_register.specs.Tares.{entry_of, tare_of, covers, DecidesWithin}
+use Rattle.pack_judge.specs.declared.tares.Span.{Span}
+use Rattle.pack_judge.specs.Tares.{covers}
+use Rattle.tare_register.specs.Tares.{entry_of, tare_of, DecidesWithin}
 use Rattle.batch_sums.specs.Totals.{Terms}
 use Rattle.batch_sums.specs.Changes.{is_concerned}
 use Rattle.book_words.specs.declared.name.Name.{Name}

@@ -8,7 +8,8 @@ use Rattle.std.proofs.lemmas.List.{map-append, append-nil}
 use Rattle.std.proofs.lemmas.List.Elements.{filter_map-append}
 use Rattle.annex_tables.specs.Errors.{limits_of}
 use Rattle.tare_register.specs.declared.types.ProductTare.{ProductTare}
-use Rattle.tare_register.specs.Tares.{entry_of, tare_by_rule}
+use Rattle.pack_judge.specs.Tares.{tare_by_rule}
+use Rattle.tare_register.specs.Tares.{entry_of}
 use Rattle.batch_sums.specs.Totals.{Terms}
 use Rattle.book_words.specs.declared.name.Name.{Name}
 use Rattle.book_words.specs.declared.act.Unit as units

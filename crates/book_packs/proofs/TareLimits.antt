@@ -7,8 +7,8 @@ use Rattle.std.specs.Option.{option_and_then, unwrap_or}
 use Rattle.std.proofs.lemmas.List.Elements.{filter_map-append}
 use Rattle.hall_limits.specs.declared.TheConstants.{MAX_TARE}
 use Rattle.batch_sums.specs.Changes.{IsUpTo}
-use Rattle.tare_register.specs.declared.types.DatedTare.{DatedTare}
-use Rattle.tare_register.specs.Tares.{latest, dated_by, of_greatest_day, deciding_tare}
+use Rattle.pack_judge.specs.declared.tares.DatedTare.{DatedTare}
+use Rattle.pack_judge.specs.Tares.{latest, dated_by, of_greatest_day, deciding_tare}
 use Rattle.book_words.specs.declared.name.Name.{Name}
 use Rattle.book_words.specs.declared.act.Act.{Act}
 use Rattle.book_words.specs.declared.act.Act.TheVariants.{PutTare}

@@ -1,7 +1,7 @@
 -- The tare of a product on a day. All masses are milligrams.
 use Rattle.std.specs.Prelude.{ℤ, List, if◌then◌else◌, Option, Some, None}
-use Rattle.tare_register.specs.declared.types.DatedTare.{DatedTare}
-use Rattle.tare_register.specs.Tares.{tare_by_rule}
+use Rattle.pack_judge.specs.declared.tares.DatedTare.{DatedTare}
+use Rattle.pack_judge.specs.Tares.{tare_by_rule}
 use Rattle.book_words.specs.declared.name.Name.{Name}
 use Rattle.book_words.specs.declared.act.Act.{Act}
 use Rattle.book_words.specs.declared.act.Act.TheVariants.{PutTare}

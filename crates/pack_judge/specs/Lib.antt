@@ -1,2 +1,3 @@
 pub mod Judge
 pub mod Piles
+pub mod Tares

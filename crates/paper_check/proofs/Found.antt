@@ -1,6 +1,6 @@
 -- What is found of the tares and the packs of a paper by their keys.
 use Rattle.std.proofs.Common.{◌≡◌, ◌==◌, ◌<◌, ℕ, ℤ, pos, int_le, true, false, List, length, find, slice_index, get_or, unsigned_abs, Some, None, sym, ap, ◌∙◌, subst}
-use Rattle.tare_register.specs.declared.types.DatedTare.{DatedTare}
+use Rattle.pack_judge.specs.declared.tares.DatedTare.{DatedTare}
 use Rattle.book_words.specs.Desks.{same_number}
 use Rattle.paper_form.specs.declared.types.Pack as packs
 use Rattle.paper_form.specs.Papers.{PaperData, is_tare_in_range}

@@ -4,7 +4,7 @@ use Rattle.std.specs.Option.{option_or}
 use Rattle.std.specs.List.{position_from}
 use Rattle.std.proofs.lemmas.Bool.{cases_Bool, cases_lt, and_parts, and_from, and_left, and_right, le-leb, lt-leb, eqb-true, eq-eqb}
 use Rattle.std.proofs.lemmas.List.Sorted.{list_any-IsPermutation}
-use Rattle.tare_register.specs.declared.types.DatedTare.{DatedTare}
+use Rattle.pack_judge.specs.declared.tares.DatedTare.{DatedTare}
 use Rattle.book_words.specs.Desks.{same_number}
 use Rattle.book_words.specs.Refusals.{is_within}
 use Rattle.hall_limits.specs.declared.TheConstants.{MAX_DAY, MAX_TARE, MAX_GROSS}

@@ -5,7 +5,7 @@ use Rattle.std.specs.List.{list_any, common_prefix_len}
 use Rattle.annex_tables.specs.Plans.{plan_of}
 use Rattle.annex_tables.specs.declared.types.Plan.{Plan}
 use Rattle.annex_tables.specs.declared.types.PlanRefusal.{PlanRefusal}
-use Rattle.tare_register.specs.declared.types.DatedTare.{DatedTare}
+use Rattle.pack_judge.specs.declared.tares.DatedTare.{DatedTare}
 use Rattle.book_words.specs.Desks.{same_number}
 use Rattle.book_words.specs.Verdicts.{is_open, second_packs}
 use Rattle.paper_form.specs.declared.types.Pack as packs

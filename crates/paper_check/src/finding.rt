@@ -8,8 +8,8 @@ ghost use Rattle.paper_check.specs.Judging.{pack_with};
 
 use crate::keys::place_of;
 use crate::tares::Keys;
+use pack_judge::DatedTare;
 use paper_form::{Pack, Paper, Pick};
-use tare_register::DatedTare;
 
 /// The tare of the day of a pack, where a line gives one.
 pub fn find_tare(paper: &Paper, keys: &Keys, pack: &Pack) -> Option<DatedTare>

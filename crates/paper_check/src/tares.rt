@@ -5,9 +5,9 @@ ghost use Rattle.paper_check.specs.Keyed.{pack_days_of, AreKeysOf};
 ghost use Rattle.paper_check.specs.Faults.{tare_fault};
 
 use crate::keys::{first_missing, in_order};
+use pack_judge::DatedTare;
 use paper_form::{Pack, Paper};
 use std::alloc::{AllocError, Global};
-use tare_register::DatedTare;
 
 // The line at which the tares of a paper begin.
 const TARES_LINE: u32 = 3;

@@ -6,9 +6,11 @@ use Rattle.std.proofs.lemmas.List.{append-nil, take-append-drop}
 use Rattle.std.specs.List.{insert}
 use Rattle.std.specs.Option.{option_map_or}
 use Rattle.std.specs.Prelude.{int_le, int_lt}
-use Rattle.tare_register.specs.declared.types.DatedTare.{DatedTare}
+use Rattle.pack_judge.specs.declared.tares.DatedTare.{DatedTare}
 use Rattle.tare_register.specs.declared.types.ProductTare.{ProductTare}
-use Rattle.tare_register.specs.Tares.{decides, deciding_tare, next_day, tares_of}
+use Rattle.pack_judge.specs.Tares.{deciding_tare}
+use Rattle.tare_register.specs.Tares.{decides}
+use Rattle.tare_register.specs.Tares.{next_day, tares_of}
 use Rattle.tare_register.specs.InOrder.{SaysSame, IsCut, is_up_to, key_of, none_up_to}
 use Rattle.tare_register.proofs.Steps.{deciding_step, next_step}
 

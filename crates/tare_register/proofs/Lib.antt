@@ -2,7 +2,6 @@ pub mod Alike
 pub mod CutLemmas
 pub mod Descents
 pub mod SidesOfCut
-pub mod Latest
 pub mod Least
 pub mod PlacedEntries
 pub mod Steps

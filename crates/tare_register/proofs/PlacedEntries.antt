@@ -10,7 +10,8 @@ use Rattle.balanced_tree.specs.declared.tree.Tree.{Tree}
 use Rattle.balanced_tree.specs.Trees.{items, IsBalanced}
 use Rattle.tare_register.specs.declared.types.ProductTare.{ProductTare}
 use Rattle.tare_register.specs.declared.types.ProductDay.{ProductDay}
-use Rattle.tare_register.specs.Tares.{tares_of, deciding_tare, next_day}
+use Rattle.pack_judge.specs.Tares.{deciding_tare}
+use Rattle.tare_register.specs.Tares.{tares_of, next_day}
 use Rattle.tare_register.specs.InOrder.{IsIndex, IsCut, IsInOrder, SaysSame, key_of, no_entry, entries_at}
 use Rattle.tare_register.proofs.Alike.{same_put}
 use Rattle.tare_register.proofs.CutLemmas.{in_order_put}

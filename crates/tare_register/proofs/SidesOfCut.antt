@@ -9,12 +9,13 @@ use Rattle.std.specs.List.{list_all, filter}
 use Rattle.std.specs.Int.{int_min}
 use Rattle.std.specs.Option.{option_map_or}
 use Rattle.std.specs.Prelude.{int_le, int_lt, map}
-use Rattle.tare_register.specs.declared.types.DatedTare.{DatedTare}
+use Rattle.pack_judge.specs.declared.tares.DatedTare.{DatedTare}
 use Rattle.tare_register.specs.declared.types.ProductTare.{ProductTare}
 use Rattle.tare_register.specs.declared.types.ProductDay.{ProductDay}
-use Rattle.tare_register.specs.Tares.{tares_of, dated_by, days_after, least_day, latest, deciding_tare, next_day}
+use Rattle.pack_judge.specs.Tares.{dated_by, latest, deciding_tare}
+use Rattle.tare_register.specs.Tares.{tares_of, days_after, least_day, next_day}
 use Rattle.tare_register.specs.InOrder.{IsInOrder, IsCut, is_up_to, key_of, no_entry, leads, none_up_to, all_up_to}
-use Rattle.tare_register.proofs.Latest.{none_greater, latest-append, latest_nothing}
+use Rattle.pack_judge.proofs.Latest.{none_greater, latest-append, latest_nothing}
 use Rattle.tare_register.proofs.Steps.{tares_of-append}
 
 tares_of_two : (xs ys : List ProductTare) (product : ℕ)

@@ -5,10 +5,12 @@ use Rattle.std.proofs.lemmas.List.Elements.{filter-append}
 use Rattle.std.specs.Prelude.{map}
 use Rattle.std.specs.Option.{option_map_or}
 use Rattle.std.specs.Prelude.{int_le, int_lt}
-use Rattle.tare_register.specs.declared.types.DatedTare.{DatedTare}
+use Rattle.pack_judge.specs.declared.tares.DatedTare.{DatedTare}
 use Rattle.tare_register.specs.declared.types.ProductTare.{ProductTare}
-use Rattle.tare_register.specs.Tares.{dated_by, days_after, latest, least_day, decides, deciding_tare, next_day, tares_of}
-use Rattle.tare_register.proofs.Latest.{none_greater, latest-append, latest_tells}
+use Rattle.pack_judge.specs.Tares.{dated_by, latest, deciding_tare}
+use Rattle.tare_register.specs.Tares.{decides}
+use Rattle.tare_register.specs.Tares.{days_after, least_day, next_day, tares_of}
+use Rattle.pack_judge.proofs.Latest.{none_greater, latest-append, latest_tells}
 use Rattle.tare_register.proofs.Least.{least_day-append}
 
 -- with one more tare, that one decides where it is dated by the day and none of the others has a

@@ -4,10 +4,11 @@ use Rattle.std.proofs.lemmas.Bool.{cases_Bool, eqb-true, and_parts}
 use Rattle.std.specs.List.{list_all}
 use Rattle.std.specs.Option.{option_map, option_map_or}
 use Rattle.std.specs.Prelude.{int_le, int_lt}
-use Rattle.tare_register.specs.declared.types.DatedTare.{DatedTare}
+use Rattle.pack_judge.specs.declared.tares.DatedTare.{DatedTare}
 use Rattle.tare_register.specs.declared.types.ProductTare.{ProductTare}
-use Rattle.tare_register.specs.Tares.{dated_by, days_after, next_day, covers, latest, tare_by_rule, tares_of, entry_of, span_of, DecidesWithin, HasOneTareWithin}
-use Rattle.tare_register.proofs.Latest.{none_greater}
+use Rattle.pack_judge.specs.Tares.{dated_by, covers, latest, tare_by_rule}
+use Rattle.tare_register.specs.Tares.{days_after, next_day, tares_of, entry_of, span_of, DecidesWithin, HasOneTareWithin}
+use Rattle.pack_judge.proofs.Latest.{none_greater}
 use Rattle.tare_register.proofs.Steps.{deciding_tare-append, tares_of-append}
 use Rattle.tare_register.proofs.Least.{int_lt-least_day}
 

@@ -6,7 +6,8 @@ use Rattle.balanced_tree.specs.declared.tree.Tree.{Tree}
 use Rattle.balanced_tree.specs.Trees.{items, IsBalanced}
 use Rattle.tare_register.specs.declared.types.ProductTare.{ProductTare}
 use Rattle.tare_register.specs.declared.types.ProductDay.{ProductDay}
-use Rattle.tare_register.specs.Tares.{tares_of, deciding_tare, next_day, entry_of}
+use Rattle.pack_judge.specs.Tares.{deciding_tare}
+use Rattle.tare_register.specs.Tares.{tares_of, next_day, entry_of}
 
 -- the product and day that an entry is for
 abbrev pub key_of : ProductTare → ProductDay

@@ -1,40 +1,18 @@
 -- The tares of the hall's products. All masses are milligrams, days are counted from 1970-01-01.
-use Rattle.std.specs.Prelude.{◌≡◌, ℕ, ℤ, Bool, true, IsTrue, ◌&&◌, ◌==◌, if◌then◌else◌, List, [], ◌∷◌, ◌++◌}
-use Rattle.std.specs.Prelude.{Option, Some, None, option_map, filter, map}
-use Rattle.std.specs.List.{last_or, list_all}
+use Rattle.std.specs.Prelude.{◌≡◌, ℕ, ℤ, Bool, true, IsTrue, ◌&&◌, ◌==◌, if◌then◌else◌, int_le, int_lt, List, [], ◌∷◌, ◌++◌}
+use Rattle.std.specs.Prelude.{Option, Some, None, filter, map}
 use Rattle.std.specs.Option.{option_map_or}
 use Rattle.std.specs.Int.{int_min}
-use Rattle.std.specs.Prelude.{int_le, int_lt}
-use Rattle.tare_register.specs.declared.types.DatedTare.{DatedTare}
+use Rattle.pack_judge.specs.declared.tares.DatedTare.{DatedTare}
+use Rattle.pack_judge.specs.declared.tares.Span.{Span}
+use Rattle.pack_judge.specs.Tares.{tare_by_rule, covers}
 use Rattle.tare_register.specs.declared.types.ProductTare.{ProductTare}
-use Rattle.tare_register.specs.declared.types.Span.{Span}
 
 -- what the register holds: its entries in the order in which they were put, and how many places
 -- are reserved for more
 pub record Register : Type 0 where
   pub entries : List ProductTare
   pub spare : ℕ
-
--- the tares of one product that are dated on a day or before it
-abbrev pub dated_by : List DatedTare → ℤ → List DatedTare
-dated_by tares day = filter (λ dated. int_le dated.day day) tares
-
--- those of some tares that have the greatest day
-abbrev pub of_greatest_day : List DatedTare → List DatedTare
-of_greatest_day tares = filter (λ dated. list_all (λ other. int_le other.day dated.day) tares) tares
-
--- the last of those of some tares that have the greatest day
-unfoldable pub latest : List DatedTare → Option DatedTare
-latest tares = last_or None (of_greatest_day tares)
-
--- the tare that decides on a day: the latest of those dated on that day or before it
-abbrev pub deciding_tare : List DatedTare → ℤ → Option DatedTare
-deciding_tare tares day = latest (dated_by tares day)
-
--- the tare rule: on a day, one product's tares weigh what the deciding one says; there is none
--- where none is dated on that day or before it
-abbrev pub tare_by_rule : List DatedTare → ℤ → Option ℤ
-tare_by_rule tares day = option_map (λ dated. dated.tare) (deciding_tare tares day)
 
 -- whether a tare that is put behind others decides on a day, where one of them decided so far: it
 -- is dated by that day, and that one has no greater day
@@ -68,10 +46,6 @@ next_day tares day = least_day (days_after tares day)
 abbrev pub span_of : List ProductTare → ℕ → ℤ → Span
 span_of entries product day =
     record { from = day; until = next_day (tares_of entries product) day }
-
--- whether a day is one of the days of a span
-abbrev pub covers : Span → ℤ → Bool
-covers span day = int_le span.from day && option_map_or (λ until. int_lt day until) span.until true
 
 -- a tare of a product for a day
 abbrev pub entry_of : ℕ → ℤ → ℤ → ProductTare

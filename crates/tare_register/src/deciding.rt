@@ -1,10 +1,12 @@
 ghost use Rattle.std.specs.Prelude.{◌≡◌};
 ghost use Rattle.tare_register.specs.InOrder.{IsIndex};
-ghost use Rattle.tare_register.specs.Tares.{deciding_tare, next_day, tares_of};
+ghost use Rattle.pack_judge.specs.Tares.{deciding_tare};
+ghost use Rattle.tare_register.specs.Tares.{next_day, tares_of};
 
 use crate::order::count_up_to;
-use crate::types::{DatedTare, ProductDay, ProductTare};
+use crate::types::{ProductDay, ProductTare};
 use balanced_tree::Tree;
+use pack_judge::DatedTare;
 
 /// The tare that decides on a day for a product: that of the last entry up to that day, if it is
 /// for the product.

@@ -7,4 +7,4 @@ mod tares;
 mod types;
 
 pub use tares::Tares;
-pub use types::{DatedTare, NoMemory, ProductTare, Span};
+pub use types::{NoMemory, ProductTare};

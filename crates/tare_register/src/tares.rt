@@ -3,8 +3,9 @@ ghost use Rattle.tare_register.specs.Tares.{entry_of, tare_of, span_of, DecidesW
 
 use crate::deciding::{find_deciding, find_next_day};
 use crate::order::{enter, make_nodes};
-use crate::types::{DatedTare, NoMemory, ProductDay, ProductTare, Span};
+use crate::types::{NoMemory, ProductDay, ProductTare};
 use balanced_tree::{Node, Tree};
+use pack_judge::{DatedTare, Span};
 use std::alloc::{AllocError, Global};
 use std::marker::Model;
 

@@ -1,6 +1,6 @@
 use Rattle.std.proofs.Common.{rules, ◌≡◌, ◌∙◌, ap, subst, sym, Some, length, ◌<◌, List, unsigned_abs, true, arith}
 use Rattle.std.specs.List.Sorted.{IsNonDecreasing}
-use Rattle.tare_register.specs.declared.types.DatedTare.{DatedTare}
+use Rattle.pack_judge.specs.declared.tares.DatedTare.{DatedTare}
 use Rattle.paper_form.specs.Papers.{is_tare_in_range}
 use Rattle.paper_form.specs.Drafts.{data_of}
 use Rattle.paper_form.specs.Ranges.{days_of}

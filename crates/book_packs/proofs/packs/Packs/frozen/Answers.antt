@@ -4,7 +4,7 @@ use Rattle.std.specs.Option.{option_eq}
 use Rattle.std.proofs.lemmas.Int.{to_z-of_z}
 use Rattle.std.proofs.lemmas.Bool.Decides.{Decides-int_eq}
 use Rattle.tare_register.specs.declared.types.ProductTare.{ProductTare}
-use Rattle.tare_register.specs.declared.types.Span.{Span}
+use Rattle.pack_judge.specs.declared.tares.Span.{Span}
 use Rattle.tare_register.specs.Tares.{tare_of, span_of, DecidesWithin, HasOneTareWithin}
 use Rattle.batch_sums.specs.Totals.{Terms}
 use Rattle.batch_sums.specs.declared.types.Pack.{Pack}

@@ -4,7 +4,7 @@ use Rattle.hall_limits.specs.declared.TheConstants.{MAX_TARE}
 use Rattle.tare_register.specs.declared.types.ProductTare.{ProductTare}
 use Rattle.tare_register.specs.Tares.{DecidesWithin}
 use Rattle.tare_register.specs.Tares.{span_of}
-use Rattle.tare_register.specs.declared.types.Span.{Span}
+use Rattle.pack_judge.specs.declared.tares.Span.{Span}
 use Rattle.std.specs.Prelude.{◌≤◌, ◌+◌, ◌*◌}
 use Rattle.batch_sums.specs.declared.steps.TheConstants.{STEPS_PER_GROUP}
 use Rattle.batch_sums.specs.Changes.{IsUpTo, HasFewPerGroup, group_count, concerned}

@@ -6,8 +6,8 @@ use Rattle.std.proofs.lemmas.List.Elements.{filter-append, filter_agree}
 use Rattle.std.specs.List.{last_or, list_all, filter}
 use Rattle.std.specs.Option.{option_map_or}
 use Rattle.std.specs.Prelude.{int_le}
-use Rattle.tare_register.specs.declared.types.DatedTare.{DatedTare}
-use Rattle.tare_register.specs.Tares.{latest}
+use Rattle.pack_judge.specs.declared.tares.DatedTare.{DatedTare}
+use Rattle.pack_judge.specs.Tares.{latest}
 
 -- no dated of the list has a greater day than this one
 abbrev pub none_greater : List DatedTare → DatedTare → Bool
