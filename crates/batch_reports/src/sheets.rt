@@ -195,12 +195,12 @@ fn push_closing(to: &mut Vec<u8>, verdict: &Option<Verdict>)
 {
     match verdict {
         None => (),
-        Some(told) => push_told(to, told),
+        Some(told) => push_verdict_line(to, told),
     }
 }
 
 // Appends a line: a verdict.
-fn push_told(to: &mut Vec<u8>, verdict: &Verdict)
+fn push_verdict_line(to: &mut Vec<u8>, verdict: &Verdict)
     requires { HasRoom to.old MAX_VERDICT_LINE }
     ensures { Appended to.old to.new (verdict_line (Some verdict.now)) MAX_VERDICT_LINE }
 {

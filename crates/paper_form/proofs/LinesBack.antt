@@ -8,7 +8,7 @@ use Rattle.hall_units.specs.Grams.{gram_text, milligrams_of}
 use Rattle.hall_units.specs.Days.{day_of, day_text}
 use Rattle.annex_tables.specs.declared.types.Mode.{Mode}
 use Rattle.annex_tables.specs.declared.types.Mode.TheVariants.{Keep, Destroy}
-use Rattle.tare_register.specs.declared.types.DatedTare.{DatedTare}
+use Rattle.pack_judge.specs.declared.tares.DatedTare.{DatedTare}
 use Rattle.book_words.specs.declared.act.Unit as units
 use Rattle.book_words.specs.declared.act.Unit.TheVariants.{Mass, Volume}
 use Rattle.book_words.specs.declared.views.Fails.{Fails}

@@ -6,7 +6,7 @@ use Rattle.std.specs.List.Sorted.{IsStrictlyIncreasing}
 use Rattle.std.proofs.lemmas.Bool.{and_parts, and_from, ltb-true}
 use Rattle.hall_limits.specs.declared.TheConstants.{MAX_POPULATION, MAX_DAY, MAX_TARE}
 use Rattle.book_words.specs.Refusals.{is_within}
-use Rattle.tare_register.specs.declared.types.DatedTare.{DatedTare}
+use Rattle.pack_judge.specs.declared.tares.DatedTare.{DatedTare}
 use Rattle.paper_form.specs.declared.types.Pack as packs
 use Rattle.paper_form.specs.Papers.{is_tare_in_range, is_pack_in_range}
 use Rattle.paper_form.specs.Form.{is_later, is_greater, is_next}

@@ -7,7 +7,7 @@ use Rattle.std.proofs.lemmas.Bool.{and_parts, and_from, eqb-true, lt-ltb}
 use Rattle.hall_limits.specs.declared.TheConstants.{MAX_POPULATION, MAX_DAY, MAX_TARE}
 use Rattle.book_words.specs.Refusals.{is_within}
 use Rattle.book_words.specs.declared.views.Verdict as verdicts
-use Rattle.tare_register.specs.declared.types.DatedTare.{DatedTare}
+use Rattle.pack_judge.specs.declared.tares.DatedTare.{DatedTare}
 use Rattle.paper_form.specs.declared.types.Goods as goods
 use Rattle.paper_form.specs.declared.types.Pack as packs
 use Rattle.paper_form.specs.declared.types.Draw as draws

@@ -5,7 +5,7 @@ use Rattle.std.specs.List.{last_or, slice_split}
 use Rattle.hall_limits.specs.declared.TheConstants.{MAX_POPULATION}
 use Rattle.annex_tables.specs.declared.types.Mode.{Mode}
 use Rattle.annex_tables.specs.declared.types.Mode.TheVariants.{Keep, Destroy}
-use Rattle.tare_register.specs.declared.types.DatedTare.{DatedTare}
+use Rattle.pack_judge.specs.declared.tares.DatedTare.{DatedTare}
 use Rattle.book_words.specs.Desks.{same_number}
 use Rattle.book_words.specs.declared.views.Verdict as verdicts
 use Rattle.paper_form.specs.declared.types.Goods as goods

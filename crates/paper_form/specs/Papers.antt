@@ -5,7 +5,7 @@ use Rattle.std.specs.List.{join_with_byte, slice_split}
 use Rattle.hall_limits.specs.declared.TheConstants.{MIN_NOMINAL, MAX_NOMINAL, MIN_DENSITY, MAX_DENSITY, MAX_GROSS, MAX_TARE, MAX_DAY, MAX_ROWS}
 use Rattle.hall_units.specs.Grams.{gram_text}
 use Rattle.hall_units.specs.Days.{day_text}
-use Rattle.tare_register.specs.declared.types.DatedTare.{DatedTare}
+use Rattle.pack_judge.specs.declared.tares.DatedTare.{DatedTare}
 use Rattle.reference_test.specs.declared.means.TheConstants.{UNIT_DENSITY}
 use Rattle.book_words.specs.declared.act.Unit as units
 use Rattle.book_words.specs.declared.act.Unit.TheVariants.{Mass, Volume}

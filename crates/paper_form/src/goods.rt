@@ -65,7 +65,7 @@ fn are_in_range(goods: &Goods) -> bool
 
 // The fields of the line of a batch that tell it.
 #[derive(Clone, Copy)]
-struct Told<'a> {
+struct GoodsFields<'a> {
     batch: &'a [u8],
     product: &'a [u8],
     nominal: &'a [u8],
@@ -75,20 +75,20 @@ struct Told<'a> {
 }
 
 // What these fields tell, where it is within the limits.
-fn goods_told(told: &Told) -> Option<Goods>
+fn checked_goods(fields: &GoodsFields) -> Option<Goods>
     ensures range { IfSome result (λ goods. are_goods_in_range goods ≡ true) }
-    ensures value { result ≡ where_it are_goods_in_range (goods_of (name_of told.now.batch.now)
-        (name_of told.now.product.now) (milligrams_of told.now.nominal.now)
-        (unit_in told.now.unit.now) (density_in told.now.density.now)
-        (row_in told.now.row.now)) }
+    ensures value { result ≡ where_it are_goods_in_range (goods_of (name_of fields.now.batch.now)
+        (name_of fields.now.product.now) (milligrams_of fields.now.nominal.now)
+        (unit_in fields.now.unit.now) (density_in fields.now.density.now)
+        (row_in fields.now.row.now)) }
 {
     let goods = Goods {
-        batch: Name::new(told.batch)?,
-        product: Name::new(told.product)?,
-        nominal: read_grams(told.nominal).ok()?,
-        unit: read_unit(told.unit)?,
-        density: read_density(told.density)?,
-        row: read_row(told.row)?,
+        batch: Name::new(fields.batch)?,
+        product: Name::new(fields.product)?,
+        nominal: read_grams(fields.nominal).ok()?,
+        unit: read_unit(fields.unit)?,
+        density: read_density(fields.density)?,
+        row: read_row(fields.row)?,
     };
     if !are_in_range(&goods) {
         return None;
@@ -105,7 +105,7 @@ fn read_quantity(batch: &[u8], product: &[u8], left: &[u8]) -> Option<Goods>
     let (unit, left) = labelled(b"unit", left)?;
     let (density, left) = labelled(b"density", left)?;
     let row = last_labelled(b"row", left)?;
-    goods_told(&Told {
+    checked_goods(&GoodsFields {
         batch,
         product,
         nominal,

@@ -10,7 +10,7 @@ use crate::types::{Draw, Line, Pack};
 use crate::values::{read_mass, read_mode, read_row};
 use hall_limits::{MAX_GROSS, MAX_TARE};
 use hall_units::{read_day, read_number};
-use tare_register::DatedTare;
+use pack_judge::DatedTare;
 
 // `paper 1`, without its first word, as the others.
 fn read_title(left: &[u8]) -> Option<Line>

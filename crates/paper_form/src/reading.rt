@@ -9,7 +9,7 @@ use crate::types::{Draw, Goods, Line, Pack, PaperFault, Pick, Stage};
 use annex_tables::Mode;
 use book_words::Verdict;
 use hall_limits::MAX_POPULATION;
-use tare_register::DatedTare;
+use pack_judge::DatedTare;
 
 /// What the lines of a paper say that were read so far, and what may come next.
 #[derive(Drop)]

@@ -1,7 +1,7 @@
 use annex_tables::Mode;
 use book_words::{Name, Unit, Verdict};
+use pack_judge::DatedTare;
 use std::alloc::AllocError;
-use tare_register::DatedTare;
 
 /// The most bytes of a paper: more than thirty times those of the longest that is written.
 pub const MAX_PAPER: usize = 16_777_216;

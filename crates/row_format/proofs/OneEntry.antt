@@ -1,6 +1,6 @@
 -- The bytes of a row spell one entry at most.
 use Rattle.std.proofs.Common.{◌≡◌, ◌≢◌, ℕ, ℤ, pos, ◌-◌, ◌^◌, ◌<◌, ◌≤◌, ◌==◌, true, false, List, [], ◌∷◌, ◌++◌, length, take, drop, replicate, get_or, unsigned_abs, negsuc, ⊎_elim, Option, Some, None, IsSome, refl, sym, ◌∙◌, ap, arith, length-append}
-use Rattle.std.proofs.lemmas.Bool.{eq-eqb}
+use Rattle.std.proofs.lemmas.Bool.{eqb-false}
 use Rattle.std.specs.Int.{w16, w32, w64, from_le_bytes}
 use Rattle.std.proofs.lemmas.Nat.{from_le_bytes-to_le_bytes_2, from_le_bytes-to_le_bytes_4, from_le_bytes-to_le_bytes_8}
 use Rattle.std.proofs.lemmas.List.{append_assoc, take_at, drop_at, length-replicate}
@@ -180,10 +180,6 @@ signal_same (Some a) None is at h = absurd (no_signal at)
 density_small : (density : ℕ) → IsDensity density → density < 2 ^ 32
 density_small density is = ⊎_elim (λ none. omega (arith, none)) (λ some. omega (arith, some.1)) is
 
--- numbers that differ aren't the same
-not_same : (m n : ℕ) → (m == n) ≡ false → m ≢ n
-not_same m n differ same = (let clash : false ≡ true = sym differ ∙ eq-eqb m n same in cc)
-
 -- the fields of an act
 act_parts : (a b : Act) (s t : Option Signal) (xs ys : List ℕ) → IsActAllowed NAME_BYTES a
     → IsActAllowed NAME_BYTES b → HasSignal a s → HasSignal b t → FitsAct a → FitsAct b
@@ -253,7 +249,7 @@ act_parts (DrawSecond n k) (DrawSecond m l) s t xs ys can could si ti fits other
 act_parts (Close n) (Close m) s t xs ys can could si ti fits other kind h =
     (ap (λ (x : Name). Close x) (name_parts n m xs ys can could h).0, si ∙ sym ti)
 act_parts a b s t xs ys can could si ti fits other kind h =
-    absurd (not_same (kind_code a) (kind_code b) refl kind)
+    absurd (eqb-false (kind_code a) (kind_code b) refl kind)
 
 pub one_entry : SpellsOneEntry
 one_entry bytes number entry other is at =
