@@ -15,4 +15,5 @@ pending_entry pending = option_map (λ held. held.ready) pending
 pub record IsKept (state : StateView) (limit : ℕ) (pending : Option Pending) : Type 0 where
   pub legal : IsLegal state.entries
   pub most : limit ≤ MAX_ROWS
-  pub ready : (held : Pending) → pending ≡ Some held → IsReadyIn state held.ready held.drawn
+  pub ready : (held : Pending) → pending ≡ Some held
+      → IsReadyIn state held.ready held.seen held.drawn

@@ -2,13 +2,17 @@
 use Rattle.std.specs.Prelude.{◌≡◌, ◌+◌, ◌<◌, length}
 use Rattle.book_words.specs.Answers.{IsLawful}
 use Rattle.book_state.specs.View.{StateView}
+use Rattle.book_state.specs.declared.types.LaneNow.{LaneNow}
+use Rattle.book_state.specs.Lanes.{IsSeen}
 use Rattle.book_state.specs.Prepared.{Drawn, drawn_by}
 use Rattle.book_core.specs.View.{ReadyEntry}
 
--- an entry has its row, is lawful, whatever the book's limit is, and has room, and what it draws is
--- drawn
-pub record IsReadyIn (state : StateView) (ready : ReadyEntry) (drawn : Drawn) : Type 0 where
+-- an entry has its row, is lawful, whatever the book's limit is, and has room; its lane was seen,
+-- and what it draws is drawn
+pub record IsReadyIn (state : StateView) (ready : ReadyEntry) (seen : LaneNow) (drawn : Drawn)
+    : Type 0 where
   pub number : ready.number ≡ length state.entries + 1
   pub lawful : IsLawful state.entries ready.entry
   pub room : 0 < state.spare
+  pub seen_is : IsSeen state.entries ready.entry.act seen
   pub drawn_is : drawn ≡ drawn_by state.entries ready.entry.act

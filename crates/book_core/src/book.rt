@@ -9,6 +9,7 @@ ghost use Rattle.book_words.specs.Answers.{answer, added, IsLawful, IsLegal};
 ghost use Rattle.book_words.specs.Balance.{MovesOnly};
 ghost use Rattle.book_words.specs.Soundness.{IsSound};
 ghost use Rattle.book_core.specs.Steps.{asked_act, asked_question, step_for, GivesUnlessNoMemory, made_ready, TellsLeast, pending_after, GivesAnswer, GivesLook, MayLackMemory, list_behind, decision, numbered_entry, is_weighing, HasNoRoom};
+ghost use Rattle.book_state.specs.Lanes.{IsSeen};
 ghost use Rattle.book_state.specs.Told.{entry_numbered};
 
 use crate::pending::Pending;
@@ -16,7 +17,7 @@ use crate::ready::Ready;
 use crate::rows::Rows;
 use crate::types::{BookError, NoMemory, ReplayError, Step};
 use book_rules::{desk_number, recorded_signal, refuse, repeated_row, reply_again, reply_new};
-use book_state::{Drawn, State};
+use book_state::{Drawn, LaneNow, State};
 use book_views::{look, summarize, view_pack};
 use book_words::{Act, Answered, Ask, Entry, PackView, Question, Refused, SummaryView, Want};
 use hall_limits::MAX_ROWS;
@@ -121,15 +122,17 @@ impl Book {
         ensures legal { IsLegal self.new.entries }
     {
         self.pending = None;
-        match self.decide(self.limit, ask, act) {
+        let seen = self.state.seen(act);
+        match self.decide(self.limit, &seen, ask, act) {
             Err(error) => Err(error),
             Ok(Some(answered)) => Ok(Step::Known(answered)),
-            Ok(None) => self.prepare(by, ask, act),
+            Ok(None) => self.prepare(by, &seen, ask, act),
         }
     }
 
     // Makes an act ready that isn't refused and repeats nothing.
-    fn prepare(&mut self, by: u16, ask: &Ask, act: &Act) -> Result<Step, BookError>
+    fn prepare(&mut self, by: u16, seen: &LaneNow, ask: &Ask, act: &Act) -> Result<Step, BookError>
+        requires seen { IsSeen self.old.entries act.now seen.now }
         requires found { decision self.old.limit self.old.entries ask.now act.now ≡ Ok None }
         requires empty { self.old.pending ≡ None }
         ensures gives { GivesUnlessNoMemory self.old act.now result
@@ -144,9 +147,9 @@ impl Book {
             desk: ask.desk,
             request: ask.request,
             act: *act,
-            signal: recorded_signal(&self.state, act),
+            signal: recorded_signal(&self.state, seen, act),
         };
-        match self.hold(&entry) {
+        match self.hold(&entry, seen) {
             Ok(ready) => Ok(Step::New(ready)),
             Err(_) => Err(BookError::NoMemory),
         }
@@ -154,7 +157,14 @@ impl Book {
 
     // What an act is told that repeats another, where it does; and why a book of `limit` rows
     // refuses it.
-    fn decide(&self, limit: u32, ask: &Ask, act: &Act) -> Result<Option<Answered>, BookError>
+    fn decide(
+        &self,
+        limit: u32,
+        seen: &LaneNow,
+        ask: &Ask,
+        act: &Act,
+    ) -> Result<Option<Answered>, BookError>
+        requires { IsSeen self.now.entries act.now seen.now }
         ensures { result ≡ decision limit self.now.entries ask.now act.now }
     {
         let at = self.state.len();
@@ -165,7 +175,7 @@ impl Book {
             let reply = reply_again(&self.state, row, act);
             return Ok(Some(Answered { at, reply }));
         }
-        match refuse(limit, &self.state, ask, act) {
+        match refuse(limit, &self.state, seen, ask, act) {
             Some(refusal) => Err(BookError::Refused(Refused { at, refusal })),
             None => Ok(None),
         }
@@ -173,7 +183,8 @@ impl Book {
 
     // Takes room for a lawful entry, draws what its act draws, and keeps it ready to be entered.
     // The list stays as it is.
-    fn hold(&mut self, entry: &Entry) -> Result<Ready, NoMemory>
+    fn hold(&mut self, entry: &Entry, seen: &LaneNow) -> Result<Ready, NoMemory>
+        requires seen { IsSeen self.old.entries entry.now.act seen.now }
         requires lawful { IsLawful self.old.entries entry.now }
         requires empty { self.old.pending ≡ None }
         ensures ok { IfOk result (λ ready. ready
@@ -188,12 +199,17 @@ impl Book {
         let drawn = self.state.draw(self.alloc, &entry.act)?;
         let number = self.state.len() + 1;
         let ready = Ready::new(number, *entry);
-        self.pending = Some(Pending { ready, drawn });
+        self.pending = Some(Pending {
+            ready,
+            seen: *seen,
+            drawn,
+        });
         Ok(Ready::new(number, *entry))
     }
 
     // Whether an entry is lawful behind the list.
-    fn is_lawful(&self, entry: &Entry) -> bool
+    fn is_lawful(&self, entry: &Entry, seen: &LaneNow) -> bool
+        requires { IsSeen self.now.entries entry.now.act seen.now }
         ensures { IsTrue result ↔ IsLawful self.now.entries entry.now }
     {
         let ask = Ask {
@@ -201,8 +217,10 @@ impl Book {
             request: entry.request,
             want: Want::Act(entry.act),
         };
-        match self.decide(MAX_ROWS, &ask, &entry.act) {
-            Ok(None) => is_same_signal(entry.signal, recorded_signal(&self.state, &entry.act)),
+        match self.decide(MAX_ROWS, seen, &ask, &entry.act) {
+            Ok(None) => {
+                is_same_signal(entry.signal, recorded_signal(&self.state, seen, &entry.act))
+            }
             _ => false,
         }
     }
@@ -226,10 +244,11 @@ impl Book {
         ensures legal { IsLegal self.new.entries }
     {
         self.pending = None;
-        if !self.is_lawful(entry) {
+        let seen = self.state.seen(&entry.act);
+        if !self.is_lawful(entry, &seen) {
             return Err(ReplayError::Unlawful);
         }
-        match self.hold(entry) {
+        match self.hold(entry, &seen) {
             Ok(ready) => Ok(ready),
             Err(_) => Err(ReplayError::NoMemory),
         }
@@ -271,12 +290,12 @@ impl Book {
         ensures moves { MovesOnly self.old.entries ready.entry }
         ensures legal { IsLegal self.new.entries }
     {
-        let Some(Pending { drawn, .. }) = self.pending.take() else {
+        let Some(Pending { seen, drawn, .. }) = self.pending.take() else {
             unreachable!()
         };
         let entry = ready.entry();
         let reply = reply_new(&self.state, &entry.act, entry.signal);
-        self.state.enter(entry, drawn);
+        self.state.enter(entry, &seen, drawn);
         Answered {
             at: ready.number(),
             reply,

@@ -1,9 +1,10 @@
 use crate::ready::Ready;
-use book_state::Drawn;
+use book_state::{Drawn, LaneNow};
 
-/// What was made ready last, with what its act draws.
+/// What was made ready last, with what was seen of its lane and what its act draws.
 #[derive(Drop)]
 pub struct Pending {
     pub ready: Ready,
+    pub seen: LaneNow,
     pub drawn: Drawn,
 }

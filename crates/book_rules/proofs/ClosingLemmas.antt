@@ -5,8 +5,8 @@ use Rattle.std.specs.List.{cons_option, filter_map, find}
 use Rattle.std.specs.Option.{option_or, option_and_then, unwrap_or}
 use Rattle.annex_tables.specs.declared.types.Mode.{Mode}
 use Rattle.annex_tables.specs.declared.types.Mode.TheVariants.{Keep, Destroy}
-use Rattle.tare_register.specs.declared.types.DatedTare.{DatedTare}
-use Rattle.tare_register.specs.Tares.{tare_by_rule}
+use Rattle.pack_judge.specs.declared.tares.DatedTare.{DatedTare}
+use Rattle.pack_judge.specs.Tares.{tare_by_rule}
 use Rattle.book_words.specs.declared.name.Name.{Name}
 use Rattle.book_words.specs.declared.act.Act.{Act}
 use Rattle.book_words.specs.declared.act.Act.TheVariants.{Close}

@@ -1,10 +1,12 @@
-ghost use Rattle.std.specs.Prelude.{◌≡◌, ◌∷◌, [], not};
+ghost use Rattle.std.specs.Prelude.{◌≡◌, ◌∷◌, [], ℕ, List, not};
 ghost use Rattle.std.specs.List.{list_all, list_any};
+ghost use Rattle.book_words.specs.declared.act.Entry.{Entry};
 ghost use Rattle.book_words.specs.Acts.{same_state};
 ghost use Rattle.book_words.specs.Names.{bytes_of, is_name_byte, is_name_shape};
 ghost use Rattle.book_words.specs.Refusals.{refused_if, is_within, book_full, day_unset, day_back, product_known, product_unknown, name_shape, nominal_range, day_range, batch_known, batch_unknown, batch_state, lane_busy, lane_idle, no_tare, gross_range, prior_wrong, lanes_running, tare_range, tare_frozen, suits_unit, density_range};
+ghost use Rattle.book_state.specs.Lanes.{IsLaneNow};
 
-use book_state::State;
+use book_state::{LaneNow, State};
 use book_words::{Act, BatchState, Name, Prior, Refusal, Unit};
 use hall_limits::{
     MAX_DAY, MAX_DENSITY, MAX_GROSS, MAX_NOMINAL, MAX_TARE, MIN_DENSITY, MIN_NOMINAL, NAME_BYTES,
@@ -146,10 +148,11 @@ pub fn lane_busy(state: &State, lane: u8) -> Option<Refusal>
 }
 
 /// The lane has no batch.
-pub fn lane_idle(state: &State, lane: u8) -> Option<Refusal>
-    ensures { result ≡ lane_idle state.now.entries lane }
+pub fn lane_idle(seen: &LaneNow) -> Option<Refusal>
+    ensures { (entries : List Entry) (lane : ℕ) → IsLaneNow entries lane seen.now
+        → result ≡ lane_idle entries lane }
 {
-    refuse_if(state.is_idle(lane), Refusal::LaneIdle)
+    refuse_if(seen.batch.is_none(), Refusal::LaneIdle)
 }
 
 /// There is no tare for the batch's product on the newest day.
@@ -172,10 +175,11 @@ pub fn gross_range(gross: i64) -> Option<Refusal>
 }
 
 /// What the gate did is wanted and isn't said, or is said and isn't wanted.
-pub fn prior_wrong(state: &State, lane: u8, prior: Prior) -> Option<Refusal>
-    ensures { result ≡ prior_wrong state.now.entries lane prior }
+pub fn prior_wrong(seen: &LaneNow, prior: Prior) -> Option<Refusal>
+    ensures { (entries : List Entry) (lane : ℕ) → IsLaneNow entries lane seen.now
+        → result ≡ prior_wrong entries lane prior }
 {
-    let wanted = state.unsettled(lane).is_some();
+    let wanted = seen.unsettled.is_some();
     match prior {
         Prior::Nothing => refuse_if(wanted, Refusal::PriorWrong { wanted: true }),
         _ => refuse_if(!wanted, Refusal::PriorWrong { wanted: false }),

@@ -2,11 +2,12 @@ ghost use Rattle.std.specs.Prelude.{◌≡◌, ℕ, None};
 ghost use Rattle.book_words.specs.declared.act.Unit as units;
 ghost use Rattle.book_words.specs.Desks.{desk_number};
 ghost use Rattle.book_words.specs.Refusals.{refusals_of, first_refusal, refusal_of};
+ghost use Rattle.book_state.specs.Lanes.{IsLaneNow, IsSeen};
 
 use crate::desks::refuse_request;
 use crate::{checks, samples};
 use annex_tables::Mode;
-use book_state::{State, lane_number};
+use book_state::{LaneNow, State, lane_number};
 use book_words::{Act, Ask, BatchState, Name, Prior, Refusal};
 use pack_judge::Pile;
 
@@ -66,25 +67,33 @@ fn refuse_start(state: &State, lane: u8, batch: &Name) -> Option<Refusal>
 }
 
 // A weighing.
-fn refuse_weighing(state: &State, lane: u8, gross: i64, prior: Prior) -> Option<Refusal>
+fn refuse_weighing(
+    state: &State,
+    seen: &LaneNow,
+    lane: u8,
+    gross: i64,
+    prior: Prior,
+) -> Option<Refusal>
+    requires { IsLaneNow state.now.entries lane seen.now }
     ensures { result ≡ first_refusal (refusals_of state.now.entries
         (Act.Weigh lane gross prior)) }
 {
     checks::day_unset(state)
         .or(lane_number(lane))
-        .or(checks::lane_idle(state, lane))
+        .or(checks::lane_idle(seen))
         .or(checks::gross_range(gross))
-        .or(checks::prior_wrong(state, lane, prior))
+        .or(checks::prior_wrong(seen, prior))
 }
 
 // The stop of a lane.
-fn refuse_stop(state: &State, lane: u8, prior: Prior) -> Option<Refusal>
+fn refuse_stop(state: &State, seen: &LaneNow, lane: u8, prior: Prior) -> Option<Refusal>
+    requires { IsLaneNow state.now.entries lane seen.now }
     ensures { result ≡ first_refusal (refusals_of state.now.entries (Act.StopLane lane prior)) }
 {
     checks::day_unset(state)
         .or(lane_number(lane))
-        .or(checks::lane_idle(state, lane))
-        .or(checks::prior_wrong(state, lane, prior))
+        .or(checks::lane_idle(seen))
+        .or(checks::prior_wrong(seen, prior))
 }
 
 // A void.
@@ -161,7 +170,8 @@ fn refuse_closing(state: &State, batch: &Name) -> Option<Refusal>
 }
 
 // The act is refused by its own rules.
-fn refuse_act(state: &State, act: &Act) -> Option<Refusal>
+fn refuse_act(state: &State, seen: &LaneNow, act: &Act) -> Option<Refusal>
+    requires { IsSeen state.now.entries act.now seen.now }
     ensures { result ≡ first_refusal (refusals_of state.now.entries act.now) }
 {
     match act {
@@ -174,8 +184,8 @@ fn refuse_act(state: &State, act: &Act) -> Option<Refusal>
             density,
         } => refuse_opening(state, batch, product, *density),
         Act::StartLane { lane, batch } => refuse_start(state, *lane, batch),
-        Act::Weigh { lane, gross, prior } => refuse_weighing(state, *lane, *gross, *prior),
-        Act::StopLane { lane, prior } => refuse_stop(state, *lane, *prior),
+        Act::Weigh { lane, gross, prior } => { refuse_weighing(state, seen, *lane, *gross, *prior) }
+        Act::StopLane { lane, prior } => refuse_stop(state, seen, *lane, *prior),
         Act::Void { pack } => refuse_void(state, *pack),
         Act::EndRun { batch } => refuse_end(state, batch),
         Act::Draw { batch, mode, .. } => refuse_draw(state, batch, *mode),
@@ -187,11 +197,12 @@ fn refuse_act(state: &State, act: &Act) -> Option<Refusal>
 
 /// Why an act isn't accepted in a book of `limit` rows, where its desk may ask it: of all refusals
 /// that hold, the one with the least number.
-pub fn refuse(limit: u32, state: &State, ask: &Ask, act: &Act) -> Option<Refusal>
-    requires { desk_number ask.now act.now ≡ None }
+pub fn refuse(limit: u32, state: &State, seen: &LaneNow, ask: &Ask, act: &Act) -> Option<Refusal>
+    requires desk { desk_number ask.now act.now ≡ None }
+    requires seen { IsSeen state.now.entries act.now seen.now }
     ensures { result ≡ refusal_of limit state.now.entries ask.now act.now }
 {
     refuse_request(state, ask, act)
         .or(checks::book_full(limit, state))
-        .or(refuse_act(state, act))
+        .or(refuse_act(state, seen, act))
 }

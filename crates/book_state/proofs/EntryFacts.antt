@@ -1,7 +1,9 @@
 -- What the code finds of a lawful entry is what the entry says.
-use Rattle.std.proofs.Common.{◌≡◌, ℕ, ℤ, pos, ◌+◌, ◌<◌, ◌^◌, ◌&&◌, true, false, List, [], ◌∷◌, ◌++◌, length, Option, Some, None, option_map, is_some, refl, sym, ◌∙◌, ap, subst, arith}
+use Rattle.std.proofs.Common.{◌≡◌, ℕ, ℤ, pos, ◌+◌, ◌<◌, ◌^◌, ◌&&◌, true, false, List, [], ◌∷◌, ◌++◌, length, Option, Some, None, option_map, is_some, refl, sym, ◌∙◌, ap, subst, arith, FitsSigned, to_z, of_z}
 use Rattle.std.specs.Option.{option_and_then, option_map_or, unwrap_or}
+use mir.Syntax.{Width}
 use Rattle.std.proofs.lemmas.Bool.{eq-eqb}
+use Rattle.std.proofs.lemmas.Int.{to_z-of_z}
 use Rattle.std.proofs.lemmas.List.{length-map}
 use Rattle.std.specs.List.Sorted.{IsStrictlyIncreasing}
 use Rattle.pack_judge.specs.declared.types.Signal.{Signal}
@@ -35,6 +37,8 @@ use Rattle.book_laws.proofs.PopulationLaws.{drawn_from_all}
 use Rattle.book_laws.proofs.DrawnLaws.{draws_second, sample_drawn, second_drawn}
 use Rattle.book_state.specs.Prepared as prepared
 use Rattle.book_state.specs.Prepared.{drawn_by, picks_in, act_weighing, row_weighing}
+use Rattle.book_state.specs.declared.types.LaneNow.{LaneNow}
+use Rattle.book_state.specs.Lanes.{IsSeen}
 use Rattle.book_state.specs.Told.{lane_weighed}
 use Rattle.book_state.proofs.NumberedNames.{lane_has_batch}
 use Rattle.book_state.proofs.PopulationLimits.{population_few}
@@ -47,6 +51,13 @@ some_of (Some x) h = (x, refl)
 -- and isn't nothing
 pub there : {A : Type 0} (o : Option A) → is_some o ≡ true → o ≡ None → ⊥
 there o h none = (let clash : true ≡ false = sym h ∙ ap is_some none in cc)
+
+-- numbers of their widths are the same when they are read again
+pub read_again : {A : Type 0} (make : ℤ → ℤ → A) (v w : Width) (a b : ℤ) → FitsSigned v a
+    → FitsSigned w b → make a b ≡ make (to_z v (of_z v a)) (to_z w (of_z w b))
+read_again make v w a b a_fits b_fits =
+    sym (ap (λ (x : ℤ). make x (to_z w (of_z w b))) (to_z-of_z v a a_fits)
+    ∙ ap (make a) (to_z-of_z w b b_fits))
 
 -- ---- products and batches of acts
 
@@ -109,7 +120,7 @@ pub record IsMade (entries : List Entry) (entry : Entry) (made : Option Weighing
 lane_is : {a b : ℕ} → Some a ≡ Some b → a ≡ b
 lane_is h = cc
 
-pub weighing_made : (entries : List Entry) (entry : Entry) (act : Act) (lane : ℕ) (batch : Option ℕ)
+weighing_made : (entries : List Entry) (entry : Entry) (act : Act) (lane : ℕ) (batch : Option ℕ)
     (day tare : Option ℤ) → IsNext entries entry → entry.act ≡ act → lane_weighed act ≡ Some lane
     → batch ≡ option_and_then (batch_number entries) (lane_batch entries lane)
     → day ≡ newest_day entries → tare
@@ -185,6 +196,16 @@ weighing_made entries entry (Weigh other gross prior) lane batch day tare next a
         (act_weighing act (length entries + 1) tare n on) s) d) b
 weighing_made entries entry act lane batch day tare next act_is weighs batch_is day_is tare_is =
     absurd (cc)
+
+-- a weighing is made of what was seen of its lane
+pub made_of_seen : (entries : List Entry) (entry : Entry) (act : Act) (seen : LaneNow)
+    (day : Option ℤ) → IsNext entries entry → entry.act ≡ act → is_some (lane_weighed act) ≡ true
+    → IsSeen entries act seen → day ≡ newest_day entries
+    → IsMade entries entry (row_weighing entry (length entries + 1) seen.batch day seen.tare)
+made_of_seen entries entry (Weigh lane gross prior) seen day next act_is weighs is day_is =
+    weighing_made entries entry (Weigh lane gross prior) lane seen.batch day seen.tare next act_is
+    refl is.batch day_is is.tare
+made_of_seen entries entry act seen day next act_is weighs is day_is = absurd (cc)
 
 -- ---- draws
 

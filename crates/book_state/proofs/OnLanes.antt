@@ -1,5 +1,5 @@
 -- What is known of the batch of a lane by the numbers of the batch and of its product.
-use Rattle.std.proofs.Common.{◌≡◌, ℕ, ℤ, ◌<◌, List, length, Bool, true, false, not, Option, Some, None, is_some, is_none, refl, sym, ◌∙◌, ap}
+use Rattle.std.proofs.Common.{◌≡◌, ℕ, ℤ, ◌<◌, List, length, true, false, Option, Some, None, is_none, refl, sym, ◌∙◌, ap}
 use Rattle.std.specs.Option.{option_and_then}
 use Rattle.book_words.specs.declared.name.Name.{Name}
 use Rattle.book_words.specs.declared.act.Entry.{Entry}
@@ -65,21 +65,17 @@ batch_on entries None number is = absurd (cc)
 batch_on entries (Some name) number is = (name, refl)
 
 -- a lane has no batch where it has no batch's number
-pub idle_by_number : (entries : List Entry) (lane : ℕ) (number : Option ℕ) (idle : Bool)
-    → IsLegal entries → is_some number ≡ not idle
+pub idle_by_number : (entries : List Entry) (lane : ℕ) (number : Option ℕ) → IsLegal entries
     → number ≡ option_and_then (batch_number entries) (lane_batch entries lane)
-    → idle ≡ is_none (lane_batch entries lane)
-idle_by_number entries lane None idle legal told is = each idle told
-    ∙ ap (λ (o : Option Name). is_none o)
-    (no_lane entries (legal_named entries legal) lane (sym is))
-  where
-    each : (b : Bool) → false ≡ not b → b ≡ true
-    each true h = refl
-    each false h = h
-idle_by_number entries lane (Some number) idle legal told is = each idle told
-    ∙ sym (ap (λ (o : Option Name). is_none o)
-    (batch_on entries (lane_batch entries lane) number is).1)
-  where
-    each : (b : Bool) → true ≡ not b → b ≡ false
-    each true h = h
-    each false h = refl
+    → is_none number ≡ is_none (lane_batch entries lane)
+idle_by_number entries lane None legal is =
+    ap (λ (o : Option Name). is_none o) (no_lane entries (legal_named entries legal) lane (sym is))
+idle_by_number entries lane (Some number) legal is =
+    sym (ap (λ (o : Option Name). is_none o) (batch_on entries (lane_batch entries lane) number is).1)
+
+-- and a lane that is idle has none
+pub off_lane : (batch : Option Name) (number : Option ℕ) → None ≡ number
+    → is_none number ≡ is_none batch → None ≡ batch
+off_lane None number none idle = refl
+off_lane (Some name) number none idle =
+    absurd (let clash : true ≡ false = ap (λ (o : Option ℕ). is_none o) none ∙ idle in cc)

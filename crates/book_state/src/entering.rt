@@ -1,4 +1,4 @@
-ghost use Rattle.std.specs.Prelude.{◌≡◌, ◌+◌, ◌<◌, ◌≤◌, ℕ, List, [], ◌∷◌, ◌++◌, Some};
+ghost use Rattle.std.specs.Prelude.{◌≡◌, ◌+◌, ◌<◌, ◌≤◌, ℕ, List, [], ◌∷◌, ◌++◌, Some, true, is_some};
 ghost use Rattle.std.specs.Option.{unwrap_or};
 ghost use Rattle.annex_tables.specs.declared.types.Mode as modes;
 ghost use Rattle.book_words.specs.declared.name.Name as names;
@@ -10,21 +10,23 @@ ghost use Rattle.book_packs.specs.Stand.{IsPacksOf};
 ghost use Rattle.book_packs.specs.Entering.{IsNext, IsTarePut, MayPutTare, batch_drawn};
 ghost use Rattle.book_samples.specs.Kept.{IsSamplesOf};
 ghost use Rattle.book_state.specs.Entering.{EntersPacks, EntersSamples};
+ghost use Rattle.book_state.specs.Lanes.{IsSeen};
 ghost use Rattle.book_state.specs.Prepared.{drawn_by};
 ghost use Rattle.book_state.specs.Told.{lane_weighed};
 
 use crate::drawn::Drawn;
-use crate::weighed::{lane_batch_number, lane_tare, row_weighing};
+use crate::types::LaneNow;
+use crate::weighed::row_weighing;
 use batch_sums::Steps;
 use book_index::Index;
 use book_packs::{Packs, limits_by_density};
 use book_samples::{Sample, Samples};
 use book_words::{Act, Entry, Name, Unit};
+use pack_judge::DatedTare;
 use reference_test::UNIT_DENSITY;
 use sample_draw::Picks;
 use std::marker::Brand;
 use std::sync::ledger::{Blank, Ledger};
-use tare_register::DatedTare;
 
 /// Records in the packs what the next entry of a list says. It takes no memory.
 pub fn enter_packs(
@@ -32,18 +34,20 @@ pub fn enter_packs(
     index: &Index,
     entries: &[Entry],
     entry: &Entry,
+    seen: &LaneNow,
     drawn: &Drawn,
 )
     requires room { 0 < packs.old.spare }
     requires index { IsIndexOf entries.now index.now }
     requires packs { IsPacksOf entries.now packs.old }
     requires next { IsNext entries.now entry.now }
+    requires seen { IsSeen entries.now entry.now.act seen.now }
     requires drawn { drawn.now ≡ drawn_by entries.now entry.now.act }
     ensures kept { IsPacksOf (entries.now ++ entry.now ∷ []) packs.new }
     ensures spare { packs.old.spare ≤ packs.new.spare + 1 }
 {
     match &entry.act {
-        Act::Weigh { lane, .. } => weigh(packs, index, entries, entry, *lane),
+        Act::Weigh { .. } => weigh(packs, index, entries, entry, seen),
         Act::StopLane { lane, prior } => packs.stop(*lane, *prior),
         Act::Void { pack } => packs.void(*pack),
         Act::PutTare { product, day, tare } => {
@@ -68,19 +72,18 @@ pub fn enter_packs(
 }
 
 // Takes down a weighing of a lane.
-fn weigh(packs: &mut Packs, index: &Index, entries: &[Entry], entry: &Entry, lane: u8)
-    requires act { lane_weighed entry.now.act ≡ Some lane }
+fn weigh(packs: &mut Packs, index: &Index, entries: &[Entry], entry: &Entry, seen: &LaneNow)
+    requires act { is_some (lane_weighed entry.now.act) ≡ true }
     requires room { 0 < packs.old.spare }
     requires index { IsIndexOf entries.now index.now }
     requires packs { IsPacksOf entries.now packs.old }
     requires next { IsNext entries.now entry.now }
+    requires seen { IsSeen entries.now entry.now.act seen.now }
     ensures kept { IsPacksOf (entries.now ++ entry.now ∷ []) packs.new }
     ensures spare { packs.old.spare ≤ packs.new.spare + 1 }
 {
     let row = entries.len() as u32 + 1;
-    let batch = lane_batch_number(index, lane);
-    let tare = lane_tare(index, packs, lane);
-    let Some(weighing) = row_weighing(entry, row, batch, index.day(), tare) else {
+    let Some(weighing) = row_weighing(entry, row, seen.batch, index.day(), seen.tare) else {
         unreachable!()
     };
     packs.weigh(&weighing);

@@ -6,6 +6,7 @@
 mod drawing;
 mod drawn;
 mod entering;
+mod lanes;
 mod lookups;
 mod packs;
 mod samples;
@@ -18,4 +19,4 @@ pub use book_samples::Sample;
 pub use drawn::Drawn;
 pub use lookups::lane_number;
 pub use state::State;
-pub use types::{KnownPack, NoMemory};
+pub use types::{KnownPack, LaneNow, NoMemory};

@@ -1,4 +1,4 @@
-ghost use Rattle.std.specs.Prelude.{◌≡◌, ◌≤ℤ◌, true, IfSome, is_none, option_map};
+ghost use Rattle.std.specs.Prelude.{◌≡◌, ◌≤ℤ◌, true, IfSome, option_map};
 ghost use Rattle.hall_limits.specs.declared.TheConstants.{MIN_NOMINAL, MAX_NOMINAL};
 ghost use Rattle.book_words.specs.declared.act.BatchState.TheVariants as state;
 ghost use Rattle.book_words.specs.Acts as acts;
@@ -76,13 +76,6 @@ impl State {
         ensures legal { IsLegal self.now.entries }
     {
         self.index.lane(lane)
-    }
-
-    /// Whether a lane has no batch. No name is looked for.
-    pub fn is_idle(&self, lane: u8) -> bool
-        ensures { result ≡ is_none (acts.lane_batch self.now.entries lane) }
-    {
-        self.index.lane_batch_number(lane).is_none()
     }
 
     /// The least lane that has a batch.

@@ -1,4 +1,4 @@
-ghost use Rattle.std.specs.Prelude.{◌≡◌, ◌≤◌, ◌≤ℤ◌, ◌==◌, ℤ, pos, false, length, slice_get, None, Some, IfSome, is_none, option_map};
+ghost use Rattle.std.specs.Prelude.{◌≡◌, ◌≤◌, ◌≤ℤ◌, ◌==◌, pos, false, length, slice_get, None, Some, IfSome, is_none, option_map};
 ghost use Rattle.std.specs.Option.{option_and_then, option_map_or};
 ghost use Rattle.hall_limits.specs.declared.TheConstants.{MAX_GROSS, MAX_POPULATION, MAX_TARE};
 ghost use Rattle.book_words.specs.declared.name.Name as names;
@@ -6,7 +6,7 @@ ghost use Rattle.book_words.specs.declared.act.Act.TheVariants as act;
 ghost use Rattle.book_words.specs.declared.refusal.Refusal.TheVariants as refusal;
 ghost use Rattle.book_words.specs.Acts as acts;
 ghost use Rattle.book_words.specs.Tares.{tare_of_product};
-ghost use Rattle.book_words.specs.Readings.{reading_of, tare_of_reading};
+ghost use Rattle.book_words.specs.Readings.{reading_of};
 ghost use Rattle.book_words.specs.Population as population;
 ghost use Rattle.book_words.specs.Piles.{pile_of};
 ghost use Rattle.book_words.specs.Classes.{density_of_batch, limits_of_batch};
@@ -14,16 +14,14 @@ ghost use Rattle.book_words.specs.Refusals as rules;
 ghost use Rattle.book_words.specs.Answers.{IsLegal};
 ghost use Rattle.book_index.specs.Listed as listed;
 ghost use Rattle.book_packs.specs.Densities.{limits_at};
-ghost use Rattle.book_packs.specs.Told.{piles_told, met_at};
+ghost use Rattle.book_packs.specs.Told.{piles_told};
 ghost use Rattle.book_state.specs.Told as told;
 
 use crate::state::State;
 use crate::types::KnownPack;
-use crate::weighed::lane_tare;
 use annex_tables::Limits;
 use batch_sums::{Pack, Piles, Totals};
-use book_packs::AtWeighing;
-use book_words::{Act, Name, Prior};
+use book_words::{Act, Name};
 use hall_limits::MAX_LANE;
 use pack_judge::Signal;
 
@@ -35,15 +33,6 @@ impl State {
     {
         let number = self.index.product_number(product)?;
         self.packs.tare(number, day)
-    }
-
-    /// The tare of the batch that a lane has, on the newest day, in mg. No name is looked for.
-    pub fn lane_tare(&self, lane: u8) -> Option<i64>
-        ensures value { result ≡ tare_of_reading self.now.entries
-            (acts.lane_batch self.now.entries lane) (acts.newest_day self.now.entries) }
-        ensures range { IfSome result (λ tare. (pos 0 ≤ℤ tare) × (tare ≤ℤ MAX_TARE)) }
-    {
-        lane_tare(&self.index, &self.packs, lane)
     }
 
     /// The number of the unsettled reading of a lane.
@@ -154,19 +143,6 @@ impl State {
         ensures { result ≡ piles_told self.now.entries }
     {
         self.packs.piles()
-    }
-
-    /// What a weighing of a lane finds in its batch, once the prior has said what the gate did,
-    /// whatever its gross is; `None` where the lane has no batch. No name is looked for.
-    pub fn met(&self, lane: u8, prior: Prior) -> Option<AtWeighing>
-        ensures value { (gross : ℤ) → result ≡ option_map
-            (met_at self.now.entries (act.Weigh lane gross prior))
-            (acts.lane_batch self.now.entries lane) }
-        ensures few { IfSome result (λ met. (met.population ≤ MAX_POPULATION)
-            × (met.nonstandard ≤ met.population)) }
-    {
-        let batch = self.index.lane_batch_number(lane)?;
-        Some(self.packs.totals_at(lane, prior, batch))
     }
 
     /// The first closed batch, in order of opening, of which a tare gives a reading another one.

@@ -2,11 +2,12 @@ ghost use Rattle.std.specs.Prelude.{◌≡◌, ◌↔◌, ◌+◌, ◌<◌, ◌�
 ghost use Rattle.hall_limits.specs.declared.TheConstants.{MAX_ROWS};
 ghost use Rattle.book_words.specs.Answers.{IsLawful, IsLegal};
 ghost use Rattle.book_state.specs.Prepared.{drawn_by};
+ghost use Rattle.book_state.specs.Lanes.{IsSeen};
 ghost use Rattle.book_state.specs.Told as told;
 
 use crate::drawn::Drawn;
 use crate::entering::{enter_packs, enter_samples};
-use crate::types::NoMemory;
+use crate::types::{LaneNow, NoMemory};
 use book_index::Index;
 use book_packs::Packs;
 use book_samples::Samples;
@@ -110,16 +111,25 @@ impl State {
         Ok(())
     }
 
-    /// Enters a lawful entry that there is room for, with what its act draws. It takes no memory.
-    pub fn enter(&mut self, entry: &Entry, drawn: Drawn)
+    /// Enters a lawful entry that there is room for, with what was
+    /// seen of its lane and what its act draws. It takes no memory.
+    pub fn enter(&mut self, entry: &Entry, seen: &LaneNow, drawn: Drawn)
         requires room { 0 < self.old.spare }
         requires lawful { IsLawful self.old.entries entry.now }
+        requires seen { IsSeen self.old.entries entry.now.act seen.now }
         requires drawn { drawn ≡ drawn_by self.old.entries entry.now.act }
         ensures entries { self.new.entries ≡ self.old.entries ++ entry.now ∷ [] }
         ensures spare { self.new.spare + 1 ≡ self.old.spare }
     {
         let row = self.entries.len() as u32 + 1;
-        enter_packs(&mut self.packs, &self.index, &self.entries, entry, &drawn);
+        enter_packs(
+            &mut self.packs,
+            &self.index,
+            &self.entries,
+            entry,
+            seen,
+            &drawn,
+        );
         enter_samples(&mut self.samples, &self.index, entry, drawn);
         self.index.enter(row, entry);
         self.entries.push_reserved(*entry);

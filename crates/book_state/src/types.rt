@@ -5,6 +5,18 @@ use std::alloc::AllocError;
 /// Memory was refused.
 pub type NoMemory = AllocError;
 
+/// A lane as it stands. One look at it serves what a weighing is checked by, its signal and its
+/// entering.
+#[derive(Clone, Copy, PartialEq, Eq)]
+pub struct LaneNow {
+    /// The number of the batch that it has, by the order of opening.
+    pub batch: Option<u32>,
+    /// The tare of that batch on the newest day, in mg.
+    pub tare: Option<i64>,
+    /// The row of its unsettled pack.
+    pub unsettled: Option<u32>,
+}
+
 /// What is known of a pack. Masses are in mg.
 #[derive(Clone, Copy, Debug, PartialEq, Eq)]
 pub struct KnownPack {

@@ -1,8 +1,6 @@
 ghost use Rattle.std.specs.Prelude.{◌≡◌, List};
-ghost use Rattle.std.specs.Option.{option_and_then};
 ghost use Rattle.book_words.specs.declared.act.Entry as entry;
 ghost use Rattle.book_words.specs.Acts.{lane_batch, newest_day};
-ghost use Rattle.book_words.specs.Order as order;
 ghost use Rattle.book_words.specs.Readings.{tare_of_reading};
 ghost use Rattle.book_words.specs.Answers.{IsLegal};
 ghost use Rattle.book_index.specs.Listed.{IsIndexOf};
@@ -12,14 +10,6 @@ ghost use Rattle.book_state.specs.Prepared as prepared;
 use book_index::Index;
 use book_packs::{Packs, Weighing};
 use book_words::{Act, Entry};
-
-/// The number of the batch that a lane has.
-pub fn lane_batch_number(index: &Index, lane: u8) -> Option<u32>
-    ensures { (entries : List entry.Entry) → IsIndexOf entries index.now → IsLegal entries
-        → result ≡ option_and_then (order.batch_number entries) (lane_batch entries lane) }
-{
-    index.lane_batch_number(lane)
-}
 
 /// The tare in mg of the batch that a lane has, on the newest day.
 pub fn lane_tare(index: &Index, packs: &Packs, lane: u8) -> Option<i64>

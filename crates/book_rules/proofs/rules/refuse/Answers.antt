@@ -17,4 +17,4 @@ returns c =
     )
     (behind_request (desk_number ask act) (request_old entries ask) (request_reused entries ask act)
     (request_gap entries ask) (book_full c.args.limit entries)
-    (first_refusal (refusals_of entries act)) c.requires)
+    (first_refusal (refusals_of entries act)) c.requires.desk)

@@ -1,9 +1,19 @@
-use Rattle.std.proofs.Common.{rules, ℤ, FitsSigned, w64, sym, ◌∙◌, ap}
+use Rattle.std.proofs.Common.{rules, ℤ, FitsSigned, w64, sym, ◌∙◌, ap, subst}
 use Rattle.std.proofs.lemmas.Int.{to_z-of_z}
 use Rattle.book_words.specs.declared.act.Act.{Act}
 use Rattle.book_words.specs.declared.act.Act.TheVariants.{PutProduct}
 use Rattle.book_words.specs.Refusals.{refusals_of, first_refusal}
+use Rattle.book_state.specs.Lanes.{IsSeen}
 use Rattle.book_rules.proofs.rules.refuse_act.Goals as goal
+
+pub refuse_weighing-requires : goal.refuse_weighing-requires
+refuse_weighing-requires c =
+    subst (λ (act : Act). IsSeen c.args.state.now.entries act c.args.seen.now) c.in-Weigh.is c.requires
+
+pub refuse_stop-requires : goal.refuse_stop-requires
+refuse_stop-requires c =
+    subst (λ (act : Act). IsSeen c.args.state.now.entries act c.args.seen.now) c.in-StopLane.is
+    c.requires
 
 pub returns-in-PutProduct : goal.returns-in-PutProduct
 returns-in-PutProduct c =

@@ -1,7 +1,7 @@
-use Rattle.std.proofs.Common.{rules, ◌≡◌, nat_lt, FitsSigned, ◌∙◌, ap, ℤ, None, w64}
+use Rattle.std.proofs.Common.{rules, ◌≡◌, nat_lt, FitsSigned, ◌∙◌, ap, ℤ, pos, ◌-ℤ◌, Option, None, w64}
 use Rattle.std.proofs.lemmas.Int.{to_z-of_z}
-use Rattle.book_words.specs.Acts.{newest_day, lane_batch}
-use Rattle.book_words.specs.Readings.{net_of_gross}
+use Rattle.std.specs.Option.{unwrap_or}
+use Rattle.book_words.specs.Acts.{lane_batch}
 use Rattle.pack_judge.specs.Judge.{signal_of}
 use Rattle.book_words.specs.declared.act.Act.TheVariants.{Weigh}
 use Rattle.book_rules.proofs.SignalLemmas.{judged_in, unjudged}
@@ -23,9 +23,13 @@ returns c =
     (Weigh c.args.lane c.args.gross c.args.prior) met c.net_on.result c.signal.result
     (c.in_ok-met.ensures.value c.args.gross)
     (c.net_on.ensures
-    ∙ ap (net_of_gross entries (lane_batch entries c.args.lane) (newest_day entries))
-    (to_z-of_z w64 c.args.gross c.ranges.gross))
+    ∙ ap (λ (gross : ℤ). gross -ℤ unwrap_or c.args.seen.now.tare (pos 0))
+    (to_z-of_z w64 c.args.gross c.ranges.gross)
+    ∙ ap (λ (tare : Option ℤ). c.args.gross -ℤ unwrap_or tare (pos 0)) c.requires.seen.tare)
     (c.signal.ensures
     ∙ ap (λ (n : ℤ). signal_of n met.limits
     (nat_lt 0 met.inadequate) met.population met.nonstandard)
     (to_z-of_z w64 c.net_on.result net))
+
+pub net_on-requires-clause-tare : goal.net_on-requires-clause-tare
+net_on-requires-clause-tare c = c.requires.seen.range

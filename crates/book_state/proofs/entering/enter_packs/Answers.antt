@@ -1,17 +1,9 @@
-use Rattle.std.proofs.Common.{rules, ◌≡◌, ◌∙◌, ℤ, Some, inl, inr, ap, sym, true, FitsSigned, w32, w64, to_z, of_z}
-use Rattle.std.proofs.lemmas.Int.{to_z-of_z}
-use Rattle.book_words.specs.declared.name.Name.{Name}
+use Rattle.std.proofs.Common.{rules, ◌≡◌, ◌∙◌, Some, inl, inr, ap, true, FitsSigned, w32, w64}
 use Rattle.book_words.specs.declared.act.Act.TheVariants.{PutTare}
 use Rattle.book_packs.specs.Entering.{batch_drawn, leaves_packs}
 use Rattle.book_packs.proofs.Quiet.{quiet-push}
+use Rattle.book_state.proofs.EntryFacts.{read_again}
 use Rattle.book_state.proofs.entering.enter_packs.Goals as goal
-
--- numbers of their widths are the same when they are read again
-read_again : (name : Name) (day tare : ℤ) → FitsSigned w32 day → FitsSigned w64 tare
-    → PutTare name day tare ≡ PutTare name (to_z w32 (of_z w32 day)) (to_z w64 (of_z w64 tare))
-read_again name day tare day_fits tare_fits =
-    sym (ap (λ (d : ℤ). PutTare name d (to_z w64 (of_z w64 tare))) (to_z-of_z w32 day day_fits)
-    ∙ ap (PutTare name day) (to_z-of_z w64 tare tare_fits))
 
 pub stop-requires : goal.stop-requires
 stop-requires c = record {
@@ -45,7 +37,8 @@ put_tare-requires-clause-next c =
       c.args.entry.now,
       record { index = c.requires.index; packs = c.requires.packs; next = c.requires.next },
       c.in-PutTare.is
-          ∙ read_again c.in-PutTare.product c.in-PutTare.day c.in-PutTare.tare day_fits tare_fits,
+          ∙ read_again (PutTare c.in-PutTare.product) w32 w64 c.in-PutTare.day c.in-PutTare.tare
+          day_fits tare_fits,
     )
 
 pub open_batch-requires-clause-next : goal.open_batch-requires-clause-next
@@ -224,7 +217,8 @@ returns-in-PutTare-clause-kept c =
     let tare_fits : FitsSigned w64 c.in-PutTare.tare = search rules in
     c.put_tare.ensures.kept c.args.entries.now c.args.entry.now
     (record { index = c.requires.index; packs = c.requires.packs; next = c.requires.next })
-    (c.in-PutTare.is ∙ read_again c.in-PutTare.product c.in-PutTare.day c.in-PutTare.tare day_fits tare_fits)
+    (c.in-PutTare.is ∙ read_again (PutTare c.in-PutTare.product) w32 w64 c.in-PutTare.day c.in-PutTare.tare
+          day_fits tare_fits)
 
 pub returns-in-OpenBatch-clause-kept : goal.returns-in-OpenBatch-clause-kept
 returns-in-OpenBatch-clause-kept c =

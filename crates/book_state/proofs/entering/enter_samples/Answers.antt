@@ -1,18 +1,10 @@
-use Rattle.std.proofs.Common.{rules, ◌≡◌, ◌∙◌, ℕ, ℤ, inl, inr, ap, sym, false, FitsSigned, w64, to_z, of_z}
-use Rattle.std.proofs.lemmas.Int.{to_z-of_z}
+use Rattle.std.proofs.Common.{rules, ◌≡◌, ◌∙◌, inl, inr, ap, false, FitsSigned, w64}
 use Rattle.book_words.specs.declared.act.Act.TheVariants.{Measure}
 use Rattle.book_state.specs.Prepared.{Drawn}
 use Rattle.book_samples.specs.Kept.{is_of_samples}
 use Rattle.book_samples.proofs.SampleLemmas.{stands_on}
+use Rattle.book_state.proofs.EntryFacts.{read_again}
 use Rattle.book_state.proofs.entering.enter_samples.Goals as goal
-
--- numbers of their width are the same when they are read again
-read_again : (pack : ℕ) (gross empty : ℤ) → FitsSigned w64 gross → FitsSigned w64 empty
-    → Measure pack gross empty
-    ≡ Measure pack (to_z w64 (of_z w64 gross)) (to_z w64 (of_z w64 empty))
-read_again pack gross empty gross_fits empty_fits =
-    sym (ap (λ (g : ℤ). Measure pack g (to_z w64 (of_z w64 empty)))
-    (to_z-of_z w64 gross gross_fits) ∙ ap (Measure pack gross) (to_z-of_z w64 empty empty_fits))
 
 pub enter_first-requires : goal.enter_first-requires
 enter_first-requires c = record {
@@ -58,7 +50,8 @@ returns-in-Measure-clause-kept c = λ entries enters drawn_is.
     c.measure.ensures.measured entries c.args.entry.now enters.samples enters.next.legal
     enters.next.lawful
     (c.in-Measure.is
-    ∙ read_again c.in-Measure.pack c.in-Measure.gross c.in-Measure.empty gross_fits empty_fits)
+    ∙ read_again (Measure c.in-Measure.pack) w64 w64 c.in-Measure.gross c.in-Measure.empty gross_fits
+    empty_fits)
 
 pub returns-in-OpenBatch-clause-kept : goal.returns-in-OpenBatch-clause-kept
 returns-in-OpenBatch-clause-kept c = λ entries enters drawn_is.

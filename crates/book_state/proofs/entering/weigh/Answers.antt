@@ -1,30 +1,22 @@
 use Rattle.std.proofs.Common.{◌≡◌, ◌∙◌, None, Some, refl, sym, subst}
 use Rattle.book_packs.specs.declared.types.Weighing.{Weighing}
 use Rattle.book_packs.specs.Entering.{IsWeighing}
-use Rattle.book_state.proofs.EntryFacts.{weighing_made}
+use Rattle.book_state.proofs.EntryFacts.{made_of_seen}
 use Rattle.book_state.proofs.entering.weigh.Goals as goal
 
 pub unreachable-requires : goal.unreachable-requires
 unreachable-requires c =
-    let made = weighing_made c.args.entries.now c.args.entry.now c.args.entry.now.act c.args.lane
-    c.lane_batch_number-batch.result c.day.result c.lane_tare-tare.result c.requires.next refl
-    c.requires.act
-    (c.lane_batch_number-batch.ensures c.args.entries.now c.requires.index c.requires.next.legal)
-    (c.day.ensures c.args.entries.now c.requires.index)
-    (c.lane_tare-tare.ensures c.args.entries.now c.requires.index c.requires.packs
-    c.requires.next.legal) in
+    let made = made_of_seen c.args.entries.now c.args.entry.now c.args.entry.now.act c.args.seen.now
+    c.day.result c.requires.next refl c.requires.act c.requires.seen
+    (c.day.ensures c.args.entries.now c.requires.index) in
     (let clash : None ≡ Some made.weighing = sym c.in_default.is ∙ c.row_weighing.ensures
     ∙ made.is in cc)
 
 pub weigh-requires-clause-next : goal.weigh-requires-clause-next
 weigh-requires-clause-next c =
-    let made = weighing_made c.args.entries.now c.args.entry.now c.args.entry.now.act c.args.lane
-    c.lane_batch_number-batch.result c.day.result c.lane_tare-tare.result c.requires.next refl
-    c.requires.act
-    (c.lane_batch_number-batch.ensures c.args.entries.now c.requires.index c.requires.next.legal)
-    (c.day.ensures c.args.entries.now c.requires.index)
-    (c.lane_tare-tare.ensures c.args.entries.now c.requires.index c.requires.packs
-    c.requires.next.legal) in
+    let made = made_of_seen c.args.entries.now c.args.entry.now c.args.entry.now.act c.args.seen.now
+    c.day.result c.requires.next refl c.requires.act c.requires.seen
+    (c.day.ensures c.args.entries.now c.requires.index) in
     let same : c.in-Some.weighing ≡ made.weighing =
     weighing_is (sym c.in-Some.is ∙ c.row_weighing.ensures ∙ made.is) in
     let entered : IsWeighing c.args.entries.now c.args.entry.now c.in-Some.weighing =
@@ -42,13 +34,9 @@ weigh-requires-clause-next c =
 
 pub returns-clause-kept : goal.returns-clause-kept
 returns-clause-kept c =
-    let made = weighing_made c.args.entries.now c.args.entry.now c.args.entry.now.act c.args.lane
-    c.lane_batch_number-batch.result c.day.result c.lane_tare-tare.result c.requires.next refl
-    c.requires.act
-    (c.lane_batch_number-batch.ensures c.args.entries.now c.requires.index c.requires.next.legal)
-    (c.day.ensures c.args.entries.now c.requires.index)
-    (c.lane_tare-tare.ensures c.args.entries.now c.requires.index c.requires.packs
-    c.requires.next.legal) in
+    let made = made_of_seen c.args.entries.now c.args.entry.now c.args.entry.now.act c.args.seen.now
+    c.day.result c.requires.next refl c.requires.act c.requires.seen
+    (c.day.ensures c.args.entries.now c.requires.index) in
     let same : c.in-Some.weighing ≡ made.weighing =
     weighing_is (sym c.in-Some.is ∙ c.row_weighing.ensures ∙ made.is) in
     let entered : IsWeighing c.args.entries.now c.args.entry.now c.in-Some.weighing =

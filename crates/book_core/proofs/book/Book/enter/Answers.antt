@@ -5,6 +5,7 @@ use Rattle.book_words.specs.Balance.{MovesOnly}
 use Rattle.book_words.proofs.LegalLemmas.{legal-push}
 use Rattle.book_words.proofs.AllowedActs.{allowed}
 use Rattle.book_laws.proofs.MoveLaws.{moves_only}
+use Rattle.book_state.specs.Lanes.{IsSeen}
 use Rattle.book_core.specs.View.{BookView}
 use Rattle.book_core.proofs.BookLemmas.{held_is, entered, entered_answer}
 use Rattle.book_core.proofs.book.Book.enter.Goals as goal
@@ -29,6 +30,14 @@ enter-requires-clause-lawful c =
     (held_is c.self.inside.state c.self.inside.limit c.self.inside.pending c.in-Some.field-0
     c.args.ready c.self.invariant (sym c.take.ensures.value ∙ c.in-Some.is)
     (ap (λ (b : BookView). b.pending) c.self.view_is ∙ c.requires)).lawful
+
+pub enter-requires-clause-seen : goal.enter-requires-clause-seen
+enter-requires-clause-seen c =
+    subst (λ (e : Entry). IsSeen c.self.inside.state.entries e.act c.in-Some.field-0.seen)
+    (sym c.entry-entry.ensures)
+    (held_is c.self.inside.state c.self.inside.limit c.self.inside.pending c.in-Some.field-0
+    c.args.ready c.self.invariant (sym c.take.ensures.value ∙ c.in-Some.is)
+    (ap (λ (b : BookView). b.pending) c.self.view_is ∙ c.requires)).seen_is
 
 pub invariant_of-self : goal.invariant_of-self
 invariant_of-self c =
@@ -71,7 +80,8 @@ returns-clause-answer c =
     let is = held_is c.self.inside.state c.self.inside.limit c.self.inside.pending c.in-Some.field-0
     c.args.ready c.self.invariant (sym c.take.ensures.value ∙ c.in-Some.is)
     (ap (λ (b : BookView). b.pending) c.self.view_is ∙ c.requires) in
-    entered_answer c.self.inside.state c.args.self.now.entries c.args.ready c.in-Some.field-0.drawn
+    entered_answer c.self.inside.state c.args.self.now.entries c.args.ready c.in-Some.field-0.seen
+    c.in-Some.field-0.drawn
     c.entry-entry.result.now c.number.result c.reply_new-reply.result is
     (ap (λ (b : BookView). b.entries) c.self.view_is) c.entry-entry.ensures c.number.ensures
     c.reply_new-reply.ensures

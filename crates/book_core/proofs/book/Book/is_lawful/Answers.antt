@@ -4,13 +4,19 @@ use Rattle.book_words.specs.declared.reply.Answered.{Answered}
 use Rattle.book_words.specs.Signals.{recorded_signal}
 use Rattle.book_words.specs.Answers.{ask_of}
 use Rattle.book_words.proofs.AllowedActs.{IsAllowed}
+use Rattle.book_state.specs.Lanes.{IsSeen}
 use Rattle.book_core.specs.View.{BookView}
 use Rattle.book_core.specs.Steps.{decision}
 use Rattle.book_core.proofs.DecisionLemmas.{new_is_free, decided_lawful}
 use Rattle.book_core.proofs.book.Book.is_lawful.Goals as goal
 
-pub recorded_signal-requires : goal.recorded_signal-requires
-recorded_signal-requires c =
+pub recorded_signal-requires-clause-seen : goal.recorded_signal-requires-clause-seen
+recorded_signal-requires-clause-seen c =
+    subst (λ (b : BookView). IsSeen b.entries c.args.entry.now.act c.args.seen.now)
+    (sym c.self.view_is) c.requires
+
+pub recorded_signal-requires-clause-allowed : goal.recorded_signal-requires-clause-allowed
+recorded_signal-requires-clause-allowed c =
     let entry = c.args.entry.now in
     let found : decision MAX_ROWS c.args.self.now.entries (ask_of entry) entry.act ≡ Ok None =
     sym c.decide.ensures ∙ c.in-Ok-None.is

@@ -5,6 +5,7 @@ use Rattle.book_words.proofs.LegalLemmas.{legal-push}
 use Rattle.book_index.specs.Listed.{IsIndexOf}
 use Rattle.book_packs.specs.Stand.{IsPacksOf}
 use Rattle.book_samples.specs.Kept.{IsSamplesOf}
+use Rattle.book_state.specs.Lanes.{IsSeen}
 use Rattle.book_state.specs.Prepared.{drawn_by}
 use Rattle.book_state.specs.View.{StateView}
 use Rattle.book_state.proofs.state.State.enter.Goals as goal
@@ -13,6 +14,11 @@ pub enter_packs-requires-clause-packs : goal.enter_packs-requires-clause-packs
 enter_packs-requires-clause-packs c =
     subst (λ (es : List Entry). IsPacksOf es c.self.inside.packs)
     (sym c.deref.ensures.value) c.self.invariant.stand.packs
+
+pub enter_packs-requires-clause-seen : goal.enter_packs-requires-clause-seen
+enter_packs-requires-clause-seen c =
+    subst (λ (es : List Entry). IsSeen es c.args.entry.now.act c.args.seen.now)
+    (sym (c.deref.ensures.value ∙ ap (λ (v : StateView). v.entries) c.self.view_is)) c.requires.seen
 
 pub enter_samples-requires-clause-next : goal.enter_samples-requires-clause-next
 enter_samples-requires-clause-next c =
