@@ -1,8 +1,6 @@
-//! The program `hall`: the real streams, the file of the book, those of lanes, the ports of doors,
-//! and the words of the command line.
+//! The program `hall`: the words of the command line, the real streams, and the real devices that
+//! the words ask for.
 #![tactic(auto)]
-
-mod waiting;
 
 ghost use Rattle.std.specs.Prelude.{◌≡◌, ◌↔◌, ◌≤◌, [], false, None, length};
 ghost use Rattle.std.specs.Process.{exit_status};
@@ -11,14 +9,10 @@ ghost use Rattle.command_line.specs.Words.{bytes_of, wanted_of};
 ghost use Rattle.text_streams.specs.Streams.{output_at};
 ghost use Rattle.hall_top.specs.Endings.{LacksMemory, SaysLast};
 
-use crate::waiting::Waiting;
 use bad_lines::{KeptInput, KeptOutput, Kind, explain};
-use book_snapshot::ROW_BYTES;
 use command_line::{Command, Wants, WantsError, wants};
-use disk_core::{Disk, Door, QuietDisk, Sink, Source, StdSink, StdSource};
-use file_disk::{FileDisk, Notice};
-use hall_lanes::{lock_cells, open_doors, open_lanes};
-use hall_limits::MAX_ROWS;
+use disk_core::{Disk, Door, Sink, Source, StdSink, StdSource};
+use hall_devices::{Waiting, lock_cells, open_disk, open_doors, open_lanes};
 use hall_top::{DoorEnds, Ending, LaneEnds, MountError, hall, say_last};
 use lane_worker::Lane;
 use run_notices::RunNotices;
@@ -30,13 +24,6 @@ use std::process::ExitCode;
 use std::rt::Env;
 use std::sync::Wait;
 use std::thread::Threads;
-
-/// The bytes that a book in memory has room for with each row: the row itself, and as many again
-/// for its snapshot.
-const BYTES_A_ROW: usize = 2 * ROW_BYTES;
-
-/// The rows more that its room is for: the header, the closed gates and the ends of the snapshot.
-const ROWS_MORE: usize = 4;
 
 // The words after the program's name, where there is memory for them. Where one isn't UTF-8 there are
 // none: no command is without words.
@@ -88,83 +75,6 @@ fn run<
     ExitCode::from(ended.status)
 }
 
-// The rows that a book in memory has room for: that of `prove` or `audit` gets none.
-fn room(wanted: &Wants) -> u32 {
-    match wanted.command {
-        Command::Prove | Command::Audit => 0,
-        _ => wanted.limit,
-    }
-}
-
-// A disk in memory with room for a book of so many rows and its snapshot.
-fn memory_disk(alloc: Global, limit: u32) -> Result<QuietDisk, AllocError> {
-    let rows = limit.min(MAX_ROWS) as usize + ROWS_MORE;
-    Ok(QuietDisk::new(Vec::with_capacity(alloc, BYTES_A_ROW * rows)?))
-}
-
-// Whether a command adds nothing to its book.
-fn reads_alone(command: Command) -> bool {
-    matches!(
-        command,
-        Command::Report
-            | Command::Export
-            | Command::List
-            | Command::Check
-            | Command::Ship
-            | Command::Paper
-            | Command::Audit
-    )
-}
-
-// The file of a book. Standard error says why it can't be opened, and how it was opened where it
-// isn't simply there; that one was made is said at a terminal.
-fn open_book(
-    rt: HostRuntime,
-    command: Command,
-    path: &str,
-    at_terminal: bool,
-) -> FileDisk<HostRuntime> {
-    let disk = if reads_alone(command) {
-        FileDisk::open_to_read(rt, path)
-    } else {
-        FileDisk::open(rt, path)
-    };
-    if let Some(error) = disk.open_error() {
-        let _ = eprintln!(rt; "hall: can't open {path}: {error}");
-    }
-    if let Some(notice) = disk.notice() {
-        if at_terminal || notice != Notice::Made {
-            let _ = eprintln!(rt; "hall: {path}: {notice}");
-        }
-    }
-    disk
-}
-
-// Whether there was no memory to open the file of a book.
-fn lacks_memory(disk: &FileDisk<HostRuntime>) -> bool {
-    match disk.open_error() {
-        Some(error) => error.lacks_memory(),
-        None => false,
-    }
-}
-
-// The disk that the words ask for: the file of the book, or one in memory.
-fn open_disk(
-    rt: HostRuntime,
-    wanted: &Wants,
-    at_terminal: bool,
-) -> Result<FileDisk<HostRuntime>, AllocError> {
-    let Some(path) = &wanted.book else {
-        let disk = memory_disk(rt.alloc(), room(wanted))?;
-        return Ok(FileDisk::in_memory(rt, disk));
-    };
-    let disk = open_book(rt, wanted.command, path.as_str(), at_terminal);
-    if lacks_memory(&disk) {
-        return Err(AllocError);
-    }
-    Ok(disk)
-}
-
 // The end of a call that opens no book, no lane and no door: its last line and its status.
 fn end_unopened<K: Sink>(alloc: Global, ending: Ending, output: &mut K) -> ExitCode
     ensures { SaysLast ending (record { ends = []; unsaid = [] }) [] (output_at K.Sink output.old)
@@ -188,6 +98,7 @@ fn end_without_memory<K: Sink>(alloc: Global, output: &mut K) -> ExitCode
 fn over_book<
     S: Source,
     K: Sink,
+    D: Disk + Send + Drop,
     L: Lane + Send + Drop,
     O: Door + Send + Drop,
     R: AllocGlobal + Threads + Wait + Sync,
@@ -197,7 +108,7 @@ fn over_book<
     input: &mut S,
     output: &mut K,
     notices: &mut RunNotices<HostRuntime>,
-    opened: Result<FileDisk<HostRuntime>, AllocError>,
+    opened: Result<D, AllocError>,
     lanes: Vec<L>,
     doors: Vec<O>,
 ) -> ExitCode

@@ -11,7 +11,7 @@ const FOREVER: i32 = -1;
 
 /// A stream that is waited for.
 #[derive(Drop)]
-pub(crate) struct Waiting<S: Drop> {
+pub struct Waiting<S: Drop> {
     stream: S,
     ready: pollfd,
 }
@@ -26,14 +26,14 @@ impl<S: Drop> Waiting<S> {
     ghost use Rattle.std.specs.Prelude.{◌≡◌};
 
     /// Standard input.
-    pub(crate) fn to_read(stream: S) -> Self
+    pub fn to_read(stream: S) -> Self
         ensures { result ≡ stream }
     {
         Self::new(stream, 0, POLLIN)
     }
 
     /// Standard output.
-    pub(crate) fn to_write(stream: S) -> Self
+    pub fn to_write(stream: S) -> Self
         ensures { result ≡ stream }
     {
         Self::new(stream, 1, POLLOUT)

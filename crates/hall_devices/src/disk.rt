@@ -1,0 +1,96 @@
+use book_snapshot::ROW_BYTES;
+use command_line::{Command, Wants};
+use disk_core::QuietDisk;
+use file_disk::{FileDisk, Notice};
+use hall_limits::MAX_ROWS;
+use std::alloc::{AllocError, Global};
+
+/// The bytes that a book in memory has room for with each row: the row itself, and as many again
+/// for its snapshot.
+const BYTES_A_ROW: usize = 2 * ROW_BYTES;
+
+/// The rows more that its room is for: the header, the closed gates and the ends of the snapshot.
+const ROWS_MORE: usize = 4;
+
+// The rows that a book in memory has room for: that of `prove` or `audit` gets none.
+fn room(wanted: &Wants) -> u32 {
+    match wanted.command {
+        Command::Prove | Command::Audit => 0,
+        _ => wanted.limit,
+    }
+}
+
+// A disk in memory with room for a book of so many rows and its snapshot.
+fn memory_disk(alloc: Global, limit: u32) -> Result<QuietDisk, AllocError> {
+    let rows = limit.min(MAX_ROWS) as usize + ROWS_MORE;
+    Ok(QuietDisk::new(Vec::with_capacity(alloc, BYTES_A_ROW * rows)?))
+}
+
+// Whether a command adds nothing to its book.
+fn reads_alone(command: Command) -> bool {
+    matches!(
+        command,
+        Command::Report
+            | Command::Export
+            | Command::List
+            | Command::Check
+            | Command::Ship
+            | Command::Paper
+            | Command::Audit
+    )
+}
+
+// The file of a book. Standard error says why it can't be opened, and how it was opened where it
+// isn't simply there; that one was made is said at a terminal.
+fn open_book(
+    rt: HostRuntime,
+    command: Command,
+    path: &str,
+    at_terminal: bool,
+) -> FileDisk<HostRuntime> {
+    let disk = if reads_alone(command) {
+        FileDisk::open_to_read(rt, path)
+    } else {
+        FileDisk::open(rt, path)
+    };
+    if let Some(error) = disk.open_error() {
+        let _ = eprintln!(rt; "hall: can't open {path}: {error}");
+    }
+    if let Some(notice) = disk.notice() {
+        if at_terminal || notice != Notice::Made {
+            let _ = eprintln!(rt; "hall: {path}: {notice}");
+        }
+    }
+    disk
+}
+
+// Whether there was no memory to open the file of a book.
+fn lacks_memory(disk: &FileDisk<HostRuntime>) -> bool {
+    match disk.open_error() {
+        Some(error) => error.lacks_memory(),
+        None => false,
+    }
+}
+
+/// The disk that the words ask for: the file of the book, or one in memory. Standard error says why
+/// the file can't be opened, which makes a disk that fails, and how it was opened where it isn't
+/// simply there.
+///
+/// # Errors
+///
+/// `AllocError` where there is no memory to open it.
+pub fn open_disk(
+    rt: HostRuntime,
+    wanted: &Wants,
+    at_terminal: bool,
+) -> Result<FileDisk<HostRuntime>, AllocError> {
+    let Some(path) = &wanted.book else {
+        let disk = memory_disk(rt.alloc(), room(wanted))?;
+        return Ok(FileDisk::in_memory(rt, disk));
+    };
+    let disk = open_book(rt, wanted.command, path.as_str(), at_terminal);
+    if lacks_memory(&disk) {
+        return Err(AllocError);
+    }
+    Ok(disk)
+}

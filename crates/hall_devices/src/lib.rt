@@ -1,0 +1,17 @@
+//! The devices of the program as the words of the command line ask for them: the disk of the book is
+//! a file or memory, each cell of a lane reads a file of the lanes' folder or hears its scale at a
+//! port, each gate is a file of the folder, and each door listens at a port.
+//!
+//! Promised: there are as many lanes and doors as the words ask for, each at most 16. What disks,
+//! cells, gates and doors do is promised by the crates that they stand in.
+#![tactic(auto)]
+
+mod disk;
+mod doors;
+mod lanes;
+mod waiting;
+
+pub use disk::open_disk;
+pub use doors::open_doors;
+pub use lanes::{HallLane, lock_cells, open_lanes};
+pub use waiting::Waiting;
