@@ -23,16 +23,16 @@ use Rattle.store_runs.specs.Books.{BookState, stored_book}
 use Rattle.store_runs.specs.Runs.{HasGrown}
 use Rattle.store_runs.specs.Stops.{stop_row}
 use Rattle.text_streams.specs.Streams.{Stream}
-use Rattle.serve_run.specs.declared.stop.ServeStop.{ServeStop}
-use Rattle.serve_run.specs.declared.stop.ServeStop.TheVariants.{BadPlan, Early, Ran}
-use Rattle.serve_run.specs.declared.stop.JobsStop.TheVariants.{Finished}
+use Rattle.job_reports.specs.declared.stop.ServeStop.{ServeStop}
+use Rattle.job_reports.specs.declared.stop.ServeStop.TheVariants.{BadPlan, Early, Ran}
+use Rattle.job_reports.specs.declared.stop.JobsStop.TheVariants.{Finished}
 use Rattle.serve_run.specs.Jobs.{Handed}
 use Rattle.serve_run.specs.Keeping.{ServeGoes}
 use Rattle.serve_run.specs.Serving.{moment, ExplainsServe, CountsServe, SparesServe}
-use Rattle.hall_top.specs.declared.ended.Ended.{Ended}
+use Rattle.hall_alone.specs.declared.ended.Ended.{Ended}
 use Rattle.hall_top.specs.Serving.{handed_of, KeepsAll, KeepsServed, IsServed, ServeDone}
 use Rattle.hall_top.proofs.DoneLemmas.{serve_done}
-use Rattle.hall_top.proofs.OpenedBooks.{front_of, keeps_rows}
+use Rattle.hall_alone.proofs.OpenedBooks.{front_of, keeps_rows}
 
 module _ {D : Type 0} (g : disk.Ghosts D) where
   -- a serve leaves the rows that it began with, before all others

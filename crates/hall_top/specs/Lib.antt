@@ -1,6 +1,2 @@
-pub mod Asked
-pub mod Calls
-pub mod Endings
-pub mod Requests
 pub mod Serving
-pub mod Texts
+pub use Rattle.hall_alone.specs.Endings

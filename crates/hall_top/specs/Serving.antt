@@ -32,16 +32,16 @@ use Rattle.store_runs.specs.Books.{BookState, stored_book}
 use Rattle.store_runs.specs.Runs.{HasGrown}
 use Rattle.store_runs.specs.Stops.{stop_row}
 use Rattle.script_run.specs.Outside.{all_said}
-use Rattle.serve_run.specs.declared.stop.ServeStop.{ServeStop}
-use Rattle.serve_run.specs.declared.stop.ServeStop.TheVariants.{BadPlan, Early, Ran}
-use Rattle.serve_run.specs.declared.stop.JobsStop.TheVariants.{Finished}
+use Rattle.job_reports.specs.declared.stop.ServeStop.{ServeStop}
+use Rattle.job_reports.specs.declared.stop.ServeStop.TheVariants.{BadPlan, Early, Ran}
+use Rattle.job_reports.specs.declared.stop.JobsStop.TheVariants.{Finished}
 use Rattle.serve_run.specs.Jobs.{Handed, handed_in}
 use Rattle.serve_run.specs.Keeping.{ServeGoes}
 use Rattle.serve_run.specs.Serving.{Moment, moment, ExplainsServe, CountsServe, SparesServe}
-use Rattle.hall_top.specs.declared.ended.Ended.{Ended}
-use Rattle.hall_top.specs.declared.ending.Ending.TheVariants.{Served}
-use Rattle.hall_top.specs.Calls.{KeepsRows, IsUnopened, Leaves}
-use Rattle.hall_top.specs.Endings.{SaysLast}
+use Rattle.hall_alone.specs.declared.ended.Ended.{Ended}
+use Rattle.hall_alone.specs.declared.ending.Ending.TheVariants.{Served}
+use Rattle.hall_alone.specs.Calls.{KeepsRows, IsUnopened, Leaves}
+use Rattle.hall_alone.specs.Endings.{SaysLast}
 
 -- the lanes and doors that a call leaves, and how they ended
 abbrev pub handed_of : {D L O : Type 0} → Ended D L O → Handed L O

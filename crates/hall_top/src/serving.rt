@@ -7,14 +7,12 @@ ghost use Rattle.text_streams.specs.Streams.{input_at, output_at};
 ghost use Rattle.serve_run.specs.Works.{lane_site, door_site};
 ghost use Rattle.serve_run.specs.Jobs.{handed_in};
 ghost use Rattle.serve_run.specs.Serving.{moment};
-ghost use Rattle.hall_top.specs.Endings.{is_status};
+ghost use Rattle.hall_alone.specs.Endings.{is_status};
 ghost use Rattle.hall_top.specs.Serving.{EndsServe, ServeDone};
 
-use crate::alone::{end_call, leave_unopened};
-use crate::ended::Ended;
-use crate::ending::{Ending, say_last};
 use book_store::Store;
 use disk_core::{Disk, Door, Sink, Source};
+use hall_alone::{Ended, Ending, end_call, leave_unopened, say_last};
 use lane_worker::Lane;
 use serve_run::{ServeEnd, SetupNotices, run_serve};
 use std::alloc::Global;

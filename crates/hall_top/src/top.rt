@@ -3,17 +3,16 @@ ghost use Rattle.std.specs.Prelude.{◌≡◌, ◌≤◌, ◌↔◌, length, fal
 ghost use Rattle.hall_limits.specs.declared.TheConstants.{MAX_LANE, MAX_DOOR};
 ghost use Rattle.book_words.specs.Soundness.{IsSound as IsSoundBook};
 ghost use Rattle.command_line.specs.Words.{Wanted, bytes_of, wanted_of};
-ghost use Rattle.hall_top.specs.Asked.{is_serve};
-ghost use Rattle.hall_top.specs.Requests.{RequestsOnce};
-ghost use Rattle.hall_top.specs.Endings.{is_status};
-ghost use Rattle.hall_top.specs.Calls.{EndsAs, IsUsage, Leaves};
+ghost use Rattle.hall_alone.specs.Asked.{is_serve};
+ghost use Rattle.hall_alone.specs.Requests.{RequestsOnce};
+ghost use Rattle.hall_alone.specs.Endings.{is_status};
+ghost use Rattle.hall_alone.specs.Calls.{EndsAs, IsUsage, Leaves};
 ghost use Rattle.hall_top.specs.Serving.{EndsServe};
 
-use crate::alone::{end_answer, is_serve};
-use crate::ended::Ended;
 use crate::serving::serve;
 use command_line::wants;
 use disk_core::{Disk, Door, Sink, Source};
+use hall_alone::{Ended, end_answer, is_serve};
 use lane_worker::Lane;
 use serve_run::SetupNotices;
 use std::alloc::Global;

@@ -17,7 +17,7 @@ use Rattle.store_runs.specs.declared.stop.Stop.TheVariants as stops
 use Rattle.store_runs.specs.Runs.{CountsStop, FailsToKeep, Goes}
 use Rattle.store_runs.proofs.StoreSteps.{on_unfinished}
 use Rattle.session_jobs.specs.Sessions.{HoldsOrOneMore, LeavesFrom, KeepsRun, RestsOnDisk}
-use Rattle.serve_run.specs.declared.stop.JobsStop.TheVariants as jobs_stop
+use Rattle.job_reports.specs.declared.stop.JobsStop.TheVariants as jobs_stop
 use Rattle.serve_run.specs.Plans.{unkept, CountsRest}
 
 -- a crash that leaves the first so many rows leaves no more than there are

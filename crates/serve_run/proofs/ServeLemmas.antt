@@ -3,8 +3,8 @@ use Rattle.std.proofs.Common.{zero, suc, ◌≡◌, ◌⊎◌, inl, inr, ⊎_eli
 use Rattle.device_facts.specs.Count.{Calm, Counted, counted, Rose}
 use Rattle.office_door.specs.Doors.{FailedSoOften}
 use Rattle.text_streams.specs.Streams.{Stream}
-use Rattle.serve_run.specs.declared.stop.JobsStop.{JobsStop}
-use Rattle.serve_run.specs.declared.stop.JobsStop.TheVariants.{Finished, WriteFault, DiskFault, NoMemory}
+use Rattle.job_reports.specs.declared.stop.JobsStop.{JobsStop}
+use Rattle.job_reports.specs.declared.stop.JobsStop.TheVariants.{Finished, WriteFault, DiskFault, NoMemory}
 use Rattle.serve_run.specs.Jobs.{Handed}
 use Rattle.serve_run.specs.Plans.{CountsRest, Says}
 use Rattle.serve_run.specs.Serving.{CountsJobs, SaysJobs, SparesJobs, some_lack}

@@ -31,9 +31,9 @@ use Rattle.text_streams.specs.Streams.{Stream}
 use Rattle.serve_run.specs.declared.prepare.Prepared.{Prepared}
 use Rattle.serve_run.specs.declared.prepare.Unprepared.{Unprepared}
 use Rattle.serve_run.specs.declared.serve.ServeEnd.{ServeEnd}
-use Rattle.serve_run.specs.declared.stop.JobsStop.{JobsStop}
-use Rattle.serve_run.specs.declared.stop.ServeStop.{ServeStop}
-use Rattle.serve_run.specs.declared.stop.ServeStop.TheVariants.{BadPlan, Early, Ran}
+use Rattle.job_reports.specs.declared.stop.JobsStop.{JobsStop}
+use Rattle.job_reports.specs.declared.stop.ServeStop.{ServeStop}
+use Rattle.job_reports.specs.declared.stop.ServeStop.TheVariants.{BadPlan, Early, Ran}
 use Rattle.serve_run.specs.Jobs.{Handed, jobs_of}
 use Rattle.serve_run.specs.Keeping.{RanOver, ServeGoes}
 use Rattle.serve_run.specs.Plans.{EndsPlan, IsFinished, RunsPlan, end_handed}

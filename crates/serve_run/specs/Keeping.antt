@@ -9,10 +9,10 @@ use Rattle.book_store.specs.Resting.{HoldsOwnSnapshot}
 use Rattle.book_store.specs.Stores.{disk_of, entries_of, held_of, limit_of}
 use Rattle.session_jobs.specs.Sessions.{KeepsRun}
 use Rattle.store_runs.specs.Runs.{HasGrown, RunGoes}
-use Rattle.serve_run.specs.declared.stop.JobsStop.{JobsStop}
-use Rattle.serve_run.specs.declared.stop.JobsStop.TheVariants.{Finished}
-use Rattle.serve_run.specs.declared.stop.ServeStop.{ServeStop}
-use Rattle.serve_run.specs.declared.stop.ServeStop.TheVariants.{BadPlan, Early, Ran}
+use Rattle.job_reports.specs.declared.stop.JobsStop.{JobsStop}
+use Rattle.job_reports.specs.declared.stop.JobsStop.TheVariants.{Finished}
+use Rattle.job_reports.specs.declared.stop.ServeStop.{ServeStop}
+use Rattle.job_reports.specs.declared.stop.ServeStop.TheVariants.{BadPlan, Early, Ran}
 use Rattle.serve_run.specs.Serving.{CountsJobs, SparesJobs}
 
 -- Jobs ran over a store. A whole run that had kept the rows of its disk until then keeps them, with

@@ -24,10 +24,10 @@ use Rattle.text_streams.specs.Streams.{Stream, WroteAll, IsCutIn}
 use Rattle.serve_run.specs.declared.lines.TheConstants.{SAY_ROOM}
 use Rattle.serve_run.specs.declared.serve.Room.{Room}
 use Rattle.serve_run.specs.declared.serve.ServeEnd.{ServeEnd}
-use Rattle.serve_run.specs.declared.stop.JobsStop.{JobsStop}
-use Rattle.serve_run.specs.declared.stop.JobsStop.TheVariants.{Finished, WriteFault, DiskFault, NoMemory}
-use Rattle.serve_run.specs.declared.stop.ServeStop.{ServeStop}
-use Rattle.serve_run.specs.declared.stop.ServeStop.TheVariants.{BadPlan, Early, Ran}
+use Rattle.job_reports.specs.declared.stop.JobsStop.{JobsStop}
+use Rattle.job_reports.specs.declared.stop.JobsStop.TheVariants.{Finished, WriteFault, DiskFault, NoMemory}
+use Rattle.job_reports.specs.declared.stop.ServeStop.{ServeStop}
+use Rattle.job_reports.specs.declared.stop.ServeStop.TheVariants.{BadPlan, Early, Ran}
 use Rattle.serve_run.specs.Jobs.{Handed, handed_back, jobs_of}
 use Rattle.serve_run.specs.Keeping.{RanOver}
 use Rattle.serve_run.specs.Rooms.{IsEmpty, HasRoomFor}

@@ -17,8 +17,8 @@ use Rattle.store_runs.specs.Runs.{Goes, RunGoes}
 use Rattle.text_streams.specs.Streams.{Stream}
 use Rattle.serve_run.specs.declared.prepare.Prepared.{Prepared}
 use Rattle.serve_run.specs.declared.prepare.Unprepared.{Unprepared}
-use Rattle.serve_run.specs.declared.stop.ServeStop.{ServeStop}
-use Rattle.serve_run.specs.declared.stop.ServeStop.TheVariants.{BadPlan, Early, Ran}
+use Rattle.job_reports.specs.declared.stop.ServeStop.{ServeStop}
+use Rattle.job_reports.specs.declared.stop.ServeStop.TheVariants.{BadPlan, Early, Ran}
 use Rattle.serve_run.specs.Serving.{IsStoppedEarly}
 use Rattle.serve_run.specs.Keeping.{ServeGoes}
 

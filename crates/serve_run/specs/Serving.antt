@@ -27,10 +27,10 @@ use Rattle.session_jobs.specs.Runs.{HaveRun}
 use Rattle.setup_run.specs.declared.planning.NoPlan.TheVariants as no_plan
 use Rattle.setup_run.specs.PlanReading.{ReadsPlan, ReadsNoPlan}
 use Rattle.setup_run.specs.Setups.{IsSetUp, StopsInSetup}
-use Rattle.serve_run.specs.declared.stop.JobsStop.{JobsStop}
-use Rattle.serve_run.specs.declared.stop.JobsStop.TheVariants.{Finished, WriteFault, DiskFault, NoMemory}
-use Rattle.serve_run.specs.declared.stop.ServeStop.{ServeStop}
-use Rattle.serve_run.specs.declared.stop.ServeStop.TheVariants.{BadPlan, Early, Ran}
+use Rattle.job_reports.specs.declared.stop.JobsStop.{JobsStop}
+use Rattle.job_reports.specs.declared.stop.JobsStop.TheVariants.{Finished, WriteFault, DiskFault, NoMemory}
+use Rattle.job_reports.specs.declared.stop.ServeStop.{ServeStop}
+use Rattle.job_reports.specs.declared.stop.ServeStop.TheVariants.{BadPlan, Early, Ran}
 use Rattle.serve_run.specs.Jobs.{Handed, handed_back, jobs_of, job_lines}
 
 -- what a call tells of itself at one moment: its input, its output, how often its disk failed, and

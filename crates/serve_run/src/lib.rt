@@ -2,14 +2,11 @@
 //! office run at once over one book, and their lines and the summary come last.
 #![tactic(auto)]
 
-mod door_ends;
 mod jobs;
 mod lines;
 mod prepare;
 mod serve;
-mod stop;
 
-pub use door_ends::DoorEnds;
+pub use job_reports::{DoorEnds, JobsStop, ServeStop};
 pub use serve::{ServeEnd, run_serve};
 pub use setup_run::{NoNotices, SetupNotices};
-pub use stop::{JobsStop, ServeStop};

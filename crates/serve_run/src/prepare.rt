@@ -6,10 +6,10 @@ ghost use Rattle.text_streams.specs.Streams.{input_at};
 ghost use Rattle.serve_run.specs.Preparing.{unplanned_stop, IsSetUpFor, StopsPlan};
 ghost use Rattle.serve_run.specs.Preparing.{IsPreparedFor, IsUnpreparedFor};
 
-use crate::stop::ServeStop;
 use book_store::Store;
 use disk_core::{Disk, Source};
 use hall_plan::{Plan, PlannedLanes};
+use job_reports::ServeStop;
 use setup_run::{NoPlan, SetupNotices, read_whole_plan, run_setup};
 use std::alloc::Global;
 use store_runs::Stop;

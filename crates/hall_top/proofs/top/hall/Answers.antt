@@ -2,11 +2,11 @@ use Rattle.std.proofs.Common.{◌≡◌, Ok, Err, Some, None, inr, sym, ◌∙�
 use Rattle.command_line.specs.Taken.{seen}
 use Rattle.command_line.specs.Words.{Wanted, bytes_of, wanted_of}
 use Rattle.script_run.specs.Outside.{all_said}
-use Rattle.hall_top.specs.Calls.{Leaves, call_between}
+use Rattle.hall_alone.specs.Calls.{Leaves, call_between}
 use Rattle.hall_top.specs.Serving.{EndsServe}
-use Rattle.hall_top.proofs.CallEnds.{serve_unopened}
-use Rattle.hall_top.proofs.RequestOrder.{requests_once}
-use Rattle.hall_top.proofs.WordsRead.{both_ways, read_right, same_asked}
+use Rattle.hall_alone.proofs.CallEnds.{serve_unopened}
+use Rattle.hall_alone.proofs.RequestOrder.{requests_once}
+use Rattle.hall_alone.proofs.WordsRead.{both_ways, read_right, same_asked}
 use Rattle.hall_top.proofs.top.hall.Goals as goal
 
 pub returns-else-is_serve-clause-words : goal.returns-else-is_serve-clause-words
