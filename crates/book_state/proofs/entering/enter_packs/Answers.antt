@@ -218,7 +218,7 @@ returns-in-PutTare-clause-kept c =
     c.put_tare.ensures.kept c.args.entries.now c.args.entry.now
     (record { index = c.requires.index; packs = c.requires.packs; next = c.requires.next })
     (c.in-PutTare.is ∙ read_again (PutTare c.in-PutTare.product) w32 w64 c.in-PutTare.day c.in-PutTare.tare
-          day_fits tare_fits)
+    day_fits tare_fits)
 
 pub returns-in-OpenBatch-clause-kept : goal.returns-in-OpenBatch-clause-kept
 returns-in-OpenBatch-clause-kept c =
