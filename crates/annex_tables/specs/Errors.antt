@@ -1,7 +1,7 @@
 -- Annex I: the tolerable negative error of a nominal quantity, and the two limits below it. All
 -- masses are milligrams.
 use Rattle.std.specs.Prelude.{ℕ, ℤ, pos, negsuc, ◌+◌, ◌*◌, ◌/◌, ◌-ℤ◌, ◌*ℤ◌, ◌≤ℤ◌, if◌then◌else◌, nat_le}
-use Rattle.hall_limits.specs.declared.TheConstants.{MIN_NOMINAL, MAX_NOMINAL}
+use Rattle.annex_tables.specs.declared.TheConstants.{MIN_NOMINAL, MAX_NOMINAL}
 use Rattle.annex_tables.specs.declared.types.Limits.{Limits}
 
 -- a nominal quantity that the tables know: 5 g to 10 kg

@@ -1,3 +1,2 @@
 pub mod Errors
 pub mod Plans
-pub use Rattle.hall_limits.specs.declared.TheConstants

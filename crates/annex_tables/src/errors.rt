@@ -2,7 +2,7 @@ ghost use Rattle.std.specs.Prelude.{◌≡◌, ◌↔◌, ◌≤◌, ◌*◌, If
 ghost use Rattle.annex_tables.specs.Errors.{IsNominal, thousandths_of, error_of, tolerable_error, limits_of};
 
 use crate::types::{Limits, NominalRange};
-use hall_limits::{MAX_NOMINAL, MIN_NOMINAL};
+use crate::{MAX_NOMINAL, MIN_NOMINAL};
 
 // So many thousandths of a quantity in mg, rounded up to the next 100 mg.
 fn thousandths(part: u64, quantity: u64) -> u64

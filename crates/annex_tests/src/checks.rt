@@ -1,5 +1,5 @@
-use annex_tables::{Mode, plan};
-use hall_limits::{MAX_DENSITY, MAX_GROSS, MAX_NOMINAL, MAX_TARE, MIN_DENSITY, MIN_NOMINAL};
+use annex_tables::{MAX_NOMINAL, MIN_NOMINAL, Mode, plan};
+use hall_limits::{MAX_DENSITY, MAX_GROSS, MAX_TARE, MIN_DENSITY};
 use reference_test::{Contents, Sums, contents_check, mean_check, mean_check_at};
 use std::test::Fail;
 

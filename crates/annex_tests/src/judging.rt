@@ -1,5 +1,4 @@
-use annex_tables::Limits;
-use hall_limits::MAX_POPULATION;
+use annex_tables::{Limits, MAX_POPULATION};
 use pack_judge::{Cause, Class, Signal, class, signal};
 use std::test::Fail;
 

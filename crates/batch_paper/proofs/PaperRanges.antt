@@ -7,7 +7,8 @@ use Rattle.std.proofs.lemmas.List.Filters.{All-dedup}
 use Rattle.std.specs.Ordering.{int_eq}
 use Rattle.std.specs.List.{All, AllPass}
 use Rattle.std.specs.Option.{option_and_then, option_map_or, option_to_list, unwrap_or}
-use Rattle.hall_limits.specs.declared.TheConstants.{MIN_NOMINAL, MAX_NOMINAL, MAX_DAY, MAX_GROSS, MAX_TARE}
+use Rattle.annex_tables.specs.declared.TheConstants.{MIN_NOMINAL, MAX_NOMINAL}
+use Rattle.hall_limits.specs.declared.TheConstants.{MAX_DAY, MAX_GROSS, MAX_TARE}
 use Rattle.annex_tables.specs.declared.types.Mode.{Mode}
 use Rattle.annex_tables.specs.declared.types.Mode.TheVariants.{Keep, Destroy}
 use Rattle.pack_judge.specs.declared.tares.DatedTare.{DatedTare}

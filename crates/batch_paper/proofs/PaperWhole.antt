@@ -9,7 +9,8 @@ use Rattle.std.specs.Ordering.{int_eq}
 use Rattle.std.specs.List.{All, AllPass, dedup, dedup_from, list_all, position_or_len}
 use Rattle.std.specs.List.Sorted.{IsStrictlyIncreasing}
 use Rattle.std.specs.Option.{option_and_then, option_map_or, unwrap_or}
-use Rattle.hall_limits.specs.declared.TheConstants.{MAX_ROWS, MAX_POPULATION, MAX_DAY, MAX_GROSS}
+use Rattle.annex_tables.specs.declared.TheConstants.{MAX_POPULATION}
+use Rattle.hall_limits.specs.declared.TheConstants.{MAX_ROWS, MAX_DAY, MAX_GROSS}
 use Rattle.annex_tables.specs.declared.types.Mode.{Mode}
 use Rattle.annex_tables.specs.declared.types.Mode.TheVariants.{Keep, Destroy}
 use Rattle.pack_judge.specs.declared.tares.DatedTare.{DatedTare}

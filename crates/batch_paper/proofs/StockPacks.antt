@@ -13,7 +13,7 @@ use Rattle.book_words.specs.Piles.{pile_of}
 use Rattle.book_laws.proofs.PopulationLaws.{counted_is_in_stock}
 use Rattle.book_laws.proofs.ReadingLaws.{IsOneOf, each_is_one, of_reading}
 use Rattle.book_state.specs.declared.types.KnownPack.{KnownPack}
-use Rattle.book_state.specs.Told.{known_record, known_reading, known_pack}
+use Rattle.book_state.specs.Known.{known_record, known_reading, known_pack}
 use Rattle.paper_form.specs.declared.types.Pack as packs
 use Rattle.batch_paper.specs.Written.{is_stock, reading_pack, pack_where, pack_at}
 

@@ -2,7 +2,8 @@
 -- printed.
 use Rattle.std.specs.Prelude.{ℕ, ◌<◌, ◌^◌, Bool, true, pos, ◌&&◌, Option, IfSome}
 use Rattle.std.specs.Option.{option_map_or}
-use Rattle.hall_limits.specs.declared.TheConstants.{MIN_NOMINAL, MAX_NOMINAL, MAX_GROSS, MAX_DAY}
+use Rattle.annex_tables.specs.declared.TheConstants.{MIN_NOMINAL, MAX_NOMINAL}
+use Rattle.hall_limits.specs.declared.TheConstants.{MAX_GROSS, MAX_DAY}
 use Rattle.book_words.specs.Refusals.{is_within}
 use Rattle.paper_form.specs.declared.types.Goods as goods
 use Rattle.paper_form.specs.declared.types.Pack as packs

@@ -3,7 +3,7 @@ use Rattle.std.specs.Prelude.{◌≡◌, ℕ, ℤ, pos, ◌+◌, ◌≤◌, ◌�
 use Rattle.std.specs.Ordering.{int_eq}
 use Rattle.std.specs.List.{list_any, slice_get, All}
 use Rattle.std.specs.Option.{option_map_or}
-use Rattle.hall_limits.specs.declared.TheConstants.{MAX_POPULATION}
+use Rattle.annex_tables.specs.declared.TheConstants.{MAX_POPULATION}
 use Rattle.pack_judge.specs.declared.types.Pile.{Pile}
 use Rattle.pack_judge.specs.declared.tares.Span.{Span}
 use Rattle.pack_judge.specs.Tares.{covers}

@@ -7,8 +7,8 @@ ghost use Rattle.pack_judge.specs.declared.types.Pile.{Pile};
 use crate::group::{Group, count_one, least_grosses};
 use crate::steps::Steps;
 use crate::types::{Piles, Totals};
-use annex_tables::Limits;
-use hall_limits::{MAX_POPULATION, MAX_TARE};
+use annex_tables::{Limits, MAX_POPULATION};
+use hall_limits::MAX_TARE;
 use pack_judge::{Pile, Tally};
 use std::sync::ledger::Ledger;
 

@@ -3,8 +3,8 @@ ghost use Rattle.balanced_tree.specs.Trees.{items, height_of, IsBalanced};
 ghost use Rattle.batch_sums.specs.Rising.{IsRising, mass_of, HasOneMore};
 
 use crate::steps::Steps;
+use annex_tables::MAX_POPULATION;
 use balanced_tree::{Node, Tree, insert, remove};
-use hall_limits::MAX_POPULATION;
 use std::marker::{Brand, Model};
 use std::mem;
 use std::sync::ledger::{Blank, Ledger};

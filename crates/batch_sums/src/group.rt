@@ -6,9 +6,9 @@ ghost use Rattle.batch_sums.specs.Totals.{is_counted};
 use crate::batch::counts_for_population;
 use crate::grosses::{Gross, Grosses};
 use crate::steps::Steps;
-use annex_tables::Limits;
+use annex_tables::{Limits, MAX_POPULATION};
 use balanced_tree::Node;
-use hall_limits::{MAX_GROSS, MAX_POPULATION, MAX_TARE};
+use hall_limits::{MAX_GROSS, MAX_TARE};
 use pack_judge::Pile;
 use std::sync::ledger::Ledger;
 

@@ -6,7 +6,8 @@ use Rattle.std.proofs.lemmas.Bool.{eq-eqb}
 use Rattle.std.proofs.lemmas.Int.{ints}
 use Rattle.std.proofs.lemmas.List.Elements.{All-nil, All-head, All-tail, All-push}
 use Rattle.std.proofs.lemmas.List.Sums.{count_by-le-length}
-use Rattle.hall_limits.specs.declared.TheConstants.{MAX_DAY, MAX_POPULATION, MAX_TARE}
+use Rattle.annex_tables.specs.declared.TheConstants.{MAX_POPULATION}
+use Rattle.hall_limits.specs.declared.TheConstants.{MAX_DAY, MAX_TARE}
 use Rattle.batch_sums.specs.Totals.{Terms, is_counted, Sums}
 use Rattle.batch_sums.specs.declared.types.Pack.{Pack}
 use Rattle.batch_sums.specs.Changes.{same_group, group_count, HasFewPerGroup}

@@ -3,9 +3,8 @@
 ghost use Rattle.std.specs.Prelude.{◌≡◌, pos, ◌+◌, ◌<◌, ◌≤◌, [], length};
 ghost use Rattle.batch_sums_tests.specs.Rows.{IsOneGroup};
 
-use annex_tables::Limits;
+use annex_tables::{Limits, MAX_POPULATION};
 use batch_sums::{BatchSums, NoMemory, STEPS_PER_GROUP, Steps, Totals};
-use hall_limits::MAX_POPULATION;
 use pack_judge::{Pile, Span};
 use std::alloc::Global;
 use std::sync::ledger::{Blank, Ledger};

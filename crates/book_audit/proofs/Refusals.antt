@@ -3,10 +3,10 @@ use Rattle.std.proofs.Common.{◌≡◌, ℕ, List, Option, Err, Result, refl, s
 use Rattle.device_facts.specs.Count.{Counted}
 use Rattle.disk_core.specs.Disk.{WhereTold}
 use Rattle.text_streams.specs.Streams.{Stream}
-use Rattle.book_store.specs.declared.types.MountError.{MountError}
-use Rattle.book_store.specs.declared.types.MountError.TheVariants.{NotJournal, Damaged, DiskFault, NoMemory}
-use Rattle.book_store.specs.Mounting.{IsPassing}
-use Rattle.book_store.specs.Opening.{CountsReading}
+use Rattle.book_mount.specs.declared.types.MountError.{MountError}
+use Rattle.book_mount.specs.declared.types.MountError.TheVariants.{NotJournal, Damaged, DiskFault, NoMemory}
+use Rattle.book_mount.specs.Mounting.{IsPassing}
+use Rattle.book_mount.specs.Opening.{CountsReading}
 use Rattle.book_audit.specs.declared.types.AuditEnd.TheVariants.{Refused}
 use Rattle.book_audit.specs.Audits.{IsUnaudited, ExplainsAudit}
 use Rattle.book_audit.specs.Fronts.{IsUndamaged, CountsFront}

@@ -13,7 +13,7 @@ use Rattle.book_journal.specs.Rows.{open_rows, starts_open, gate_behind}
 use Rattle.book_journal.proofs.OpenRows.{open_by, shut_by_gate, shut_by_cut, open_rows-open, open_rows-shut, open_rows-none}
 use Rattle.book_store.specs.Images.{spelled, CanAllBeSpelled}
 use Rattle.book_store.proofs.SpelledRows.{spelled_more, all_more}
-use Rattle.book_store.proofs.OneMoreRow.{none_legal}
+use Rattle.book_mount.proofs.OneMoreRow.{none_legal}
 use Rattle.book_audit.specs.Slots.{slots_of, BeginWith, IsDamagedBehind, AreCutShort}
 use Rattle.book_audit.specs.declared.slots.Walk.{Walk}
 use Rattle.book_audit.specs.declared.slots.Walk.TheVariants.{On, End, Damaged}

@@ -5,9 +5,9 @@ use Rattle.disk_core.specs.Disk.{WhereTold}
 use Rattle.sha2.specs.Sha256.{sha256}
 use Rattle.hex.specs.Hex.{encode_lower}
 use Rattle.book_words.specs.declared.act.Entry.{Entry}
-use Rattle.book_store.specs.declared.types.MountError.{MountError}
-use Rattle.book_store.specs.declared.types.MountError.TheVariants.{NotJournal, Damaged, DiskFault, NoMemory}
-use Rattle.book_store.specs.Mounting.{IsForeignAt}
+use Rattle.book_mount.specs.declared.types.MountError.{MountError}
+use Rattle.book_mount.specs.declared.types.MountError.TheVariants.{NotJournal, Damaged, DiskFault, NoMemory}
+use Rattle.book_mount.specs.Mounting.{IsForeignAt}
 use Rattle.text_streams.specs.Streams.{Stream, WroteAll, IsCutIn}
 use Rattle.standby_hall.specs.Shipments.{head_bytes, shipment}
 use Rattle.book_audit.specs.declared.types.Audit.{Audit}

@@ -3,9 +3,9 @@ use Rattle.std.specs.Prelude.{◌≡◌, ◌⊎◌, ⊤, ℕ, ◌≤◌, List, l
 use Rattle.device_facts.specs.Count.{Counted}
 use Rattle.book_journal.specs.declared.layout.TheConstants.{NEW_BYTES}
 use Rattle.book_journal.specs.Rows.{HasHeader, mark_of}
-use Rattle.book_store.specs.declared.types.MountError.{MountError}
-use Rattle.book_store.specs.declared.types.MountError.TheVariants.{NotJournal, Damaged, DiskFault, NoMemory}
-use Rattle.book_store.specs.Mounting.{IsForeignAt}
+use Rattle.book_mount.specs.declared.types.MountError.{MountError}
+use Rattle.book_mount.specs.declared.types.MountError.TheVariants.{NotJournal, Damaged, DiskFault, NoMemory}
+use Rattle.book_mount.specs.Mounting.{IsForeignAt}
 
 -- a disk without the header that is too short for a row
 pub record IsShort (bytes : List ℕ) : Type 0 where

@@ -5,7 +5,7 @@ use Rattle.book_words.specs.Answers.{IsLawful, IsLegal}
 use Rattle.row_format.specs.Spelling.{new_layout, row_bytes}
 use Rattle.row_format.specs.Rows.{CanBeSpelled}
 use Rattle.book_store.specs.Images.{spelled, CanAllBeSpelled}
-use Rattle.book_store.specs.Listing.{slot_rows}
+use Rattle.book_mount.specs.Listing.{slot_rows}
 
 -- the rows of all slots, up to the first that is cut or closed
 abbrev pub slots_of : List ℕ → List (List ℕ)

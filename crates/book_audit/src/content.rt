@@ -3,12 +3,12 @@ ghost use Rattle.device_facts.specs.Count.{CountsFault};
 ghost use Rattle.disk_core.specs.Disk.{WhereTold};
 ghost use Rattle.disk_core.specs.Devices.{IsUnmoved};
 ghost use Rattle.book_snapshot.specs.Blocks.{EndsWithSnapshot, IsSnapshotSize, snapshot_content};
-ghost use Rattle.book_store.specs.Opening.{CountsReading};
-ghost use Rattle.book_store.specs.Mounting.{IsPassing, calls_for};
+ghost use Rattle.book_mount.specs.Opening.{CountsReading};
+ghost use Rattle.book_mount.specs.Mounting.{IsPassing, calls_for};
 
 use book_journal::{BLOCKS_CONTENT, Kept, ROW_BYTES};
+use book_mount::MountError;
 use book_snapshot::{BLOCK_CONTENT, MAX_CONTENT, blocks_for, content_of_blocks, snapshot_place};
-use book_store::MountError;
 use disk_core::{Disk, Failed};
 use std::alloc::Global;
 

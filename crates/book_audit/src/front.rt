@@ -6,8 +6,8 @@ ghost use Rattle.book_journal.specs.Rows.{title, FirstDiffersAt};
 ghost use Rattle.book_audit.specs.Fronts.{IsFrontOf, IsNoBook, IsUndamaged, CountsFront};
 
 use book_journal::NEW_BYTES;
+use book_mount::MountError;
 use book_snapshot::{MARK, ROW_BYTES};
-use book_store::MountError;
 use disk_core::{Disk, Failed};
 
 const TITLE: [u8; 8] = *b"AQHBOOK2";

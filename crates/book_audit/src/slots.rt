@@ -4,9 +4,9 @@ ghost use Rattle.device_facts.specs.Prefix.{IsPrefixOf};
 ghost use Rattle.disk_core.specs.Disk.{WhereTold};
 ghost use Rattle.disk_core.specs.Devices.{IsUnmoved};
 ghost use Rattle.book_words.specs.Answers.{IsLegal};
-ghost use Rattle.book_store.specs.declared.types.MountError.TheVariants as mount;
-ghost use Rattle.book_store.specs.Opening.{CountsReading};
-ghost use Rattle.book_store.specs.Mounting.{IsPassing};
+ghost use Rattle.book_mount.specs.declared.types.MountError.TheVariants as mount;
+ghost use Rattle.book_mount.specs.Opening.{CountsReading};
+ghost use Rattle.book_mount.specs.Mounting.{IsPassing};
 ghost use Rattle.book_journal.specs.Rows.{gate_behind};
 ghost use Rattle.book_audit.specs.declared.slots.Walk.TheVariants as walk;
 ghost use Rattle.book_audit.specs.Slots.{SlotsGive};
@@ -14,8 +14,8 @@ ghost use Rattle.book_audit.specs.Walking.{EntersRow, SlotsStand, WalksTo, walk_
 
 use book_core::{Book, ReplayError};
 use book_journal::{MAX_SLOTS, ROW_BYTES};
+use book_mount::MountError;
 use book_snapshot::OPEN;
-use book_store::MountError;
 use disk_core::Disk;
 use row_format::read_row;
 

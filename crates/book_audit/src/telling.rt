@@ -6,7 +6,7 @@ ghost use Rattle.book_audit.specs.Audits.{is_whole, first_bad, agrees, beside_te
 
 use crate::types::{Audit, AuditEnd, Beside};
 use crate::whole::audit;
-use book_store::MountError;
+use book_mount::MountError;
 use disk_core::{Disk, Partly, Sink};
 use hex::encode_to_slice;
 use std::alloc::Global;

@@ -1,4 +1,4 @@
-use book_store::MountError;
+use book_mount::MountError;
 
 /// How the snapshot on a disk compares with what the slots give.
 #[derive(Clone, Copy, Debug, PartialEq, Eq)]

@@ -15,7 +15,7 @@ use crate::snapshots::find_snapshot;
 use crate::types::Audit;
 use book_core::Book;
 use book_journal::Kept;
-use book_store::MountError;
+use book_mount::MountError;
 use disk_core::Disk;
 use hall_limits::MAX_ROWS;
 use std::alloc::Global;

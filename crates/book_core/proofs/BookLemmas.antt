@@ -9,10 +9,10 @@ use Rattle.book_words.specs.Signals.{recorded_signal}
 use Rattle.book_words.specs.declared.reply.Reply.{Reply}
 use Rattle.book_words.specs.Answers.{ask_of, reply_behind, act_answer, IsLawful, IsLegal}
 use Rattle.book_words.proofs.LegalLemmas.{legal-push}
-use Rattle.book_state.specs.View.{StateView}
-use Rattle.book_state.specs.declared.types.LaneNow.{LaneNow}
-use Rattle.book_state.specs.Lanes.{IsSeen}
-use Rattle.book_state.specs.Prepared.{Drawn, drawn_by}
+use Rattle.book_rules.specs.View.{StateView}
+use Rattle.book_rules.specs.LaneNow.{LaneNow}
+use Rattle.book_rules.specs.Lanes.{IsSeen}
+use Rattle.book_rules.specs.Prepared.{Drawn, drawn_by}
 use Rattle.book_core.specs.declared.pending.Pending.{Pending}
 use Rattle.book_core.specs.View.{ReadyEntry}
 use Rattle.book_core.specs.Steps.{decision}

@@ -2,7 +2,7 @@
 use Rattle.std.specs.Prelude.{◌≡◌, ℕ, ◌≤◌, Option, Some, option_map}
 use Rattle.hall_limits.specs.declared.TheConstants.{MAX_ROWS}
 use Rattle.book_words.specs.Answers.{IsLegal}
-use Rattle.book_state.specs.View.{StateView}
+use Rattle.book_rules.specs.View.{StateView}
 use Rattle.book_core.specs.declared.pending.Pending.{Pending}
 use Rattle.book_core.specs.View.{ReadyEntry}
 use Rattle.book_core.specs.ReadyFacts.{IsReadyIn}

@@ -1,10 +1,10 @@
 -- What is true of what a book has made ready.
 use Rattle.std.specs.Prelude.{◌≡◌, ◌+◌, ◌<◌, length}
 use Rattle.book_words.specs.Answers.{IsLawful}
-use Rattle.book_state.specs.View.{StateView}
-use Rattle.book_state.specs.declared.types.LaneNow.{LaneNow}
-use Rattle.book_state.specs.Lanes.{IsSeen}
-use Rattle.book_state.specs.Prepared.{Drawn, drawn_by}
+use Rattle.book_rules.specs.View.{StateView}
+use Rattle.book_rules.specs.LaneNow.{LaneNow}
+use Rattle.book_rules.specs.Lanes.{IsSeen}
+use Rattle.book_rules.specs.Prepared.{Drawn, drawn_by}
 use Rattle.book_core.specs.View.{ReadyEntry}
 
 -- an entry has its row, is lawful, whatever the book's limit is, and has room; its lane was seen,

@@ -14,7 +14,7 @@ use Rattle.book_words.specs.declared.reply.Refused.{Refused}
 use Rattle.book_words.specs.Refusals.{book_full, desk_refusals, refusals_of}
 use Rattle.book_words.specs.Numbers.{refusal_number, EachFrom}
 use Rattle.book_words.specs.Answers.{entry_for, act_answer, want_added, added}
-use Rattle.book_state.specs.Prepared.{is_for_sample}
+use Rattle.book_rules.specs.Prepared.{is_for_sample}
 use Rattle.book_core.specs.declared.types.Step.{Step}
 use Rattle.book_core.specs.declared.types.Step.TheVariants.{New, Known}
 use Rattle.book_core.specs.declared.types.BookError.{BookError}

@@ -1,7 +1,7 @@
 -- A book as contracts see it.
 use Rattle.std.specs.Prelude.{ℕ, List, Option}
 use Rattle.book_words.specs.declared.act.Entry.{Entry}
-pub use Rattle.book_state.specs.Told.{entry_numbered}
+pub use Rattle.book_rules.specs.Known.{entry_numbered}
 
 -- an act that is ready to be entered: the row that it will have, and the entry
 pub record ReadyEntry : Type 0 where

@@ -9,15 +9,17 @@ ghost use Rattle.book_words.specs.Answers.{answer, added, IsLawful, IsLegal};
 ghost use Rattle.book_words.specs.Balance.{MovesOnly};
 ghost use Rattle.book_words.specs.Soundness.{IsSound};
 ghost use Rattle.book_core.specs.Steps.{asked_act, asked_question, step_for, GivesUnlessNoMemory, made_ready, TellsLeast, pending_after, GivesAnswer, GivesLook, MayLackMemory, list_behind, decision, numbered_entry, is_weighing, HasNoRoom};
-ghost use Rattle.book_state.specs.Lanes.{IsSeen};
-ghost use Rattle.book_state.specs.Told.{entry_numbered};
+ghost use Rattle.book_rules.specs.Lanes.{IsSeen};
+ghost use Rattle.book_rules.specs.Known.{entry_numbered};
 
 use crate::pending::Pending;
 use crate::ready::Ready;
 use crate::rows::Rows;
 use crate::types::{BookError, NoMemory, ReplayError, Step};
-use book_rules::{desk_number, recorded_signal, refuse, repeated_row, reply_again, reply_new};
-use book_state::{Drawn, LaneNow, State};
+use book_rules::{
+    Drawn, LaneNow, State, desk_number, recorded_signal, refuse, repeated_row, reply_again,
+    reply_new,
+};
 use book_views::{look, summarize, view_pack};
 use book_words::{Act, Answered, Ask, Entry, PackView, Question, Refused, SummaryView, Want};
 use hall_limits::MAX_ROWS;

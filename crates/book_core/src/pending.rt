@@ -1,5 +1,5 @@
 use crate::ready::Ready;
-use book_state::{Drawn, LaneNow};
+use book_rules::{Drawn, LaneNow};
 
 /// What was made ready last, with what was seen of its lane and what its act draws.
 #[derive(Drop)]

@@ -5,7 +5,8 @@ use Rattle.std.proofs.lemmas.Bool.Decides.{nat_tests}
 use Rattle.std.proofs.lemmas.Int.{ints}
 use Rattle.std.specs.List.{AllByRecursion, find, last_or, list_any, filter_map, range_with_len, cons_option}
 use Rattle.std.specs.Option.{option_or, option_and_then, unwrap_or}
-use Rattle.hall_limits.specs.declared.TheConstants.{MIN_NOMINAL, MAX_NOMINAL, MAX_DAY, MAX_GROSS, MAX_TARE, MAX_ROWS}
+use Rattle.annex_tables.specs.declared.TheConstants.{MIN_NOMINAL, MAX_NOMINAL}
+use Rattle.hall_limits.specs.declared.TheConstants.{MAX_DAY, MAX_GROSS, MAX_TARE, MAX_ROWS}
 use Rattle.annex_tables.specs.declared.types.Mode.{Mode}
 use Rattle.annex_tables.specs.declared.types.Mode.TheVariants.{Keep, Destroy}
 use Rattle.annex_tables.specs.Errors.{error_of, tolerable_error}

@@ -2,8 +2,7 @@ ghost use Rattle.std.specs.Prelude.{◌≡◌, ℤ, pos, ◌≤ℤ◌};
 ghost use Rattle.annex_tables.specs.Errors.{IsNominal, limits_of};
 ghost use Rattle.book_packs.specs.Densities.{limit_at, limits_at};
 
-use annex_tables::{Limits, limits};
-use hall_limits::MAX_NOMINAL;
+use annex_tables::{Limits, MAX_NOMINAL, limits};
 use reference_test::UNIT_DENSITY;
 
 /// The limits in mg of a nominal quantity at a density in mg a litre. A net in mg is below one of

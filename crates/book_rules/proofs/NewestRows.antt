@@ -7,7 +7,7 @@ use Rattle.book_words.specs.declared.act.Entry.{Entry}
 use Rattle.std.proofs.lemmas.Option.{same_Some}
 use Rattle.book_words.specs.Desks.{Row, rows_of, newest_row}
 use Rattle.book_words.proofs.RowLemmas.{row_at}
-use Rattle.book_state.specs.Told.{entry_numbered}
+use Rattle.book_verdicts.specs.Known.{entry_numbered}
 
 -- a row is the entry of its number
 abbrev IsRow : List Entry → Row → Type 0

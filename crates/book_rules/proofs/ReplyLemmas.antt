@@ -21,7 +21,7 @@ use Rattle.book_words.specs.Verdicts.{verdict_of}
 use Rattle.book_words.specs.Answers.{judged_or_done, reply_behind, IsLegal}
 use Rattle.book_words.proofs.AllowedActs.{IsAllowed, allowed, close_tells}
 use Rattle.book_laws.proofs.VerdictLaws.{verdicts_stay}
-use Rattle.book_state.specs.Told.{entry_numbered}
+use Rattle.book_verdicts.specs.Known.{entry_numbered}
 use Rattle.book_rules.specs.Replying.{reply_with}
 use Rattle.book_rules.proofs.SameActs.{same_act_is}
 use Rattle.book_rules.proofs.NewestRows.{newest_is_row}

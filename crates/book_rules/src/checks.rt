@@ -4,13 +4,12 @@ ghost use Rattle.book_words.specs.declared.act.Entry.{Entry};
 ghost use Rattle.book_words.specs.Acts.{same_state};
 ghost use Rattle.book_words.specs.Names.{bytes_of, is_name_byte, is_name_shape};
 ghost use Rattle.book_words.specs.Refusals.{refused_if, is_within, book_full, day_unset, day_back, product_known, product_unknown, name_shape, nominal_range, day_range, batch_known, batch_unknown, batch_state, lane_busy, lane_idle, no_tare, gross_range, prior_wrong, lanes_running, tare_range, tare_frozen, suits_unit, density_range};
-ghost use Rattle.book_state.specs.Lanes.{IsLaneNow};
+ghost use Rattle.book_verdicts.specs.Lanes.{IsLaneNow};
 
-use book_state::{LaneNow, State};
+use annex_tables::{MAX_NOMINAL, MIN_NOMINAL};
+use book_verdicts::{LaneNow, State};
 use book_words::{Act, BatchState, Name, Prior, Refusal, Unit};
-use hall_limits::{
-    MAX_DAY, MAX_DENSITY, MAX_GROSS, MAX_NOMINAL, MAX_TARE, MIN_DENSITY, MIN_NOMINAL, NAME_BYTES,
-};
+use hall_limits::{MAX_DAY, MAX_DENSITY, MAX_GROSS, MAX_TARE, MIN_DENSITY, NAME_BYTES};
 
 /// A refusal where a test holds.
 pub fn refuse_if(test: bool, refusal: Refusal) -> Option<Refusal>

@@ -3,7 +3,7 @@ ghost use Rattle.book_words.specs.declared.act.Entry as rows;
 ghost use Rattle.book_words.specs.Desks.{same_act, is_lane_act, is_desk, is_desk_right, is_row_of, last_request, repeated_row, desk_number, request_old, request_reused, request_gap, newest_row, Row};
 ghost use Rattle.book_words.specs.Refusals.{first_refusal};
 
-use book_state::State;
+use book_verdicts::State;
 use book_words::{Act, Ask, Entry, Refusal};
 use hall_limits::{MAX_DESK, MIN_DESK};
 use std::marker::Model;

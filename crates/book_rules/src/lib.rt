@@ -9,6 +9,7 @@ mod rules;
 mod samples;
 mod signals;
 
+pub use book_verdicts::{Drawn, LaneNow, State};
 pub use desks::{desk_number, repeated_row};
 pub use replies::{reply_again, reply_new};
 pub use rules::refuse;

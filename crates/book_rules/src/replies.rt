@@ -8,8 +8,7 @@ ghost use Rattle.book_words.specs.Signals.{recorded_signal};
 ghost use Rattle.book_words.specs.Answers.{reply_behind, judged_or_done};
 ghost use Rattle.book_rules.specs.Replying.{reply_with};
 
-use book_state::State;
-use book_verdicts::verdict_of;
+use book_verdicts::{State, verdict_of};
 use book_words::{Act, Reply};
 use pack_judge::Signal;
 

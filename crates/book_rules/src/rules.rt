@@ -2,12 +2,12 @@ ghost use Rattle.std.specs.Prelude.{◌≡◌, ℕ, None};
 ghost use Rattle.book_words.specs.declared.act.Unit as units;
 ghost use Rattle.book_words.specs.Desks.{desk_number};
 ghost use Rattle.book_words.specs.Refusals.{refusals_of, first_refusal, refusal_of};
-ghost use Rattle.book_state.specs.Lanes.{IsLaneNow, IsSeen};
+ghost use Rattle.book_verdicts.specs.Lanes.{IsLaneNow, IsSeen};
 
 use crate::desks::refuse_request;
 use crate::{checks, samples};
 use annex_tables::Mode;
-use book_state::{LaneNow, State, lane_number};
+use book_verdicts::{LaneNow, State, lane_number};
 use book_words::{Act, Ask, BatchState, Name, Prior, Refusal};
 use pack_judge::Pile;
 

@@ -3,13 +3,12 @@ ghost use Rattle.book_words.specs.declared.name.Name as names;
 ghost use Rattle.book_words.specs.Measures.{first_unmeasured};
 ghost use Rattle.book_words.specs.Verdicts.{first_defective, second_packs};
 ghost use Rattle.book_words.specs.Refusals as rules;
-ghost use Rattle.book_state.specs.Prepared.{IsSampleOf};
+ghost use Rattle.book_verdicts.specs.Prepared.{IsSampleOf};
 ghost use Rattle.book_rules.specs.Counted.{counted_packs};
 
 use crate::checks::{batch_state, refuse_if};
 use annex_tables::Mode;
-use book_state::{Sample, State};
-use book_verdicts::{count_first, is_open};
+use book_verdicts::{Sample, State, count_first, is_open};
 use book_words::{BatchState, Name, Refusal};
 use hall_limits::MAX_TARE;
 use pack_judge::Pile;

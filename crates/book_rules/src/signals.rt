@@ -4,9 +4,9 @@ ghost use Rattle.hall_limits.specs.declared.TheConstants.{MAX_GROSS, MAX_TARE};
 ghost use Rattle.book_words.specs.Acts.{lane_batch};
 ghost use Rattle.book_words.specs.Refusals.{refusals_of, first_refusal};
 ghost use Rattle.book_words.specs.Signals.{recorded_signal, judged_signal};
-ghost use Rattle.book_state.specs.Lanes.{IsLaneNow, IsSeen};
+ghost use Rattle.book_verdicts.specs.Lanes.{IsLaneNow, IsSeen};
 
-use book_state::{LaneNow, State};
+use book_verdicts::{LaneNow, State};
 use book_words::{Act, Prior};
 use pack_judge::{Signal, signal};
 

@@ -39,7 +39,7 @@ use Rattle.book_state.specs.Prepared as prepared
 use Rattle.book_state.specs.Prepared.{drawn_by, picks_in, act_weighing, row_weighing}
 use Rattle.book_state.specs.declared.types.LaneNow.{LaneNow}
 use Rattle.book_state.specs.Lanes.{IsSeen}
-use Rattle.book_state.specs.Told.{lane_weighed}
+use Rattle.book_state.specs.Known.{lane_weighed}
 use Rattle.book_state.proofs.NumberedNames.{lane_has_batch}
 use Rattle.book_state.proofs.PopulationLimits.{population_few}
 

@@ -29,7 +29,7 @@ use Rattle.book_words.proofs.SaidNames.{nominal_where_put}
 use Rattle.book_laws.proofs.KnownLaws.{apart}
 use Rattle.book_laws.proofs.FrozenLaws.{put_push, and_then_agree}
 use Rattle.book_laws.proofs.UnsettledLaws.{Belongs, each_belongs}
-use Rattle.book_state.specs.Told.{frozen_batch}
+use Rattle.book_state.specs.Known.{frozen_batch}
 
 -- a name that is found among some has a place among them
 found_has_place : (test : Name → Bool) (names : List Name) (name : Name)

@@ -11,3 +11,4 @@ pub mod PackFacts
 pub mod Frost
 pub mod EntryFacts
 pub mod OnLanes
+pub use Rattle.book_packs.proofs.Below

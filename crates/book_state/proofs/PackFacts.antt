@@ -28,7 +28,7 @@ use Rattle.book_laws.proofs.RangeLaws.{tare_within}
 use Rattle.book_laws.proofs.ReadingLaws.{of_reading, found_is_one}
 use Rattle.book_laws.proofs.UnsettledLaws.{waits_by_number}
 use Rattle.book_state.specs.declared.types.KnownPack.{KnownPack}
-use Rattle.book_state.specs.Told.{entry_numbered, put_together, known_record, known_reading}
+use Rattle.book_state.specs.Known.{entry_numbered, put_together, known_record, known_reading}
 use Rattle.book_state.proofs.ReadingRows.{IsSeen, seen}
 
 -- what is put together for a reading, where there is one, and the signal of its entry

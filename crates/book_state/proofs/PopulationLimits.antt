@@ -6,7 +6,7 @@ use Rattle.std.proofs.lemmas.Bool.{eqb-false}
 use Rattle.std.proofs.lemmas.Bool.Decides.{leb_tells}
 use Rattle.std.proofs.lemmas.List.{length-map}
 use Rattle.std.proofs.lemmas.List.Sums.{count_by-le-length, length-filter}
-use Rattle.hall_limits.specs.declared.TheConstants.{MAX_POPULATION}
+use Rattle.annex_tables.specs.declared.TheConstants.{MAX_POPULATION}
 use Rattle.annex_tables.specs.Errors.{error_of, tolerable_error}
 use Rattle.reference_test.proofs.Integers.{*ℤ--ℤ}
 use Rattle.batch_sums.specs.declared.types.Totals.{Totals}

@@ -19,7 +19,7 @@ use Rattle.book_words.specs.Answers.{ask_of, IsLegal}
 use Rattle.book_words.proofs.RefusalLemmas.{act_rules, rules_in_range}
 use Rattle.book_laws.proofs.RangeLaws.{within_limits}
 use Rattle.book_laws.proofs.ReadingLaws.{none_at_zero, none_beyond, reading_of-at}
-use Rattle.book_state.specs.Told.{entry_numbered, lane_weighed}
+use Rattle.book_state.specs.Known.{entry_numbered, lane_weighed}
 
 -- the reading that an entry of a number gives
 abbrev pub reading_in : List Entry → ℕ → Entry → Option Reading

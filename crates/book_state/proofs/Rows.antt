@@ -5,7 +5,7 @@ use Rattle.std.specs.List.{HoldsAt}
 use Rattle.std.proofs.lemmas.Bool.{le-leb}
 use Rattle.std.proofs.lemmas.Option.{slice_get_past, slice_get_read}
 use Rattle.book_words.specs.declared.act.Entry.{Entry}
-use Rattle.book_state.specs.Told.{entry_numbered}
+use Rattle.book_state.specs.Known.{entry_numbered}
 
 -- what a place tells
 pub got : (o : Option (Bor Entry)) (entries : List Entry) (place : ℕ)

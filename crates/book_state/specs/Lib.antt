@@ -1,6 +1,9 @@
 pub mod Entering
 pub mod View
 pub mod Lanes
-pub mod Told
+pub mod Known
 pub mod Prepared
 pub mod Invariant
+pub use Rattle.book_packs.specs.Densities
+pub use Rattle.book_packs.specs.Told
+pub use Rattle.book_packs.specs.declared.types.AtWeighing

@@ -12,7 +12,7 @@ ghost use Rattle.book_samples.specs.Kept.{IsSamplesOf};
 ghost use Rattle.book_state.specs.Entering.{EntersPacks, EntersSamples};
 ghost use Rattle.book_state.specs.Lanes.{IsSeen};
 ghost use Rattle.book_state.specs.Prepared.{drawn_by};
-ghost use Rattle.book_state.specs.Told.{lane_weighed};
+ghost use Rattle.book_state.specs.Known.{lane_weighed};
 
 use crate::drawn::Drawn;
 use crate::types::LaneNow;

@@ -1,5 +1,5 @@
 ghost use Rattle.std.specs.Prelude.{◌≡◌, ◌≤◌, ℤ, IfSome, option_map};
-ghost use Rattle.hall_limits.specs.declared.TheConstants.{MAX_POPULATION};
+ghost use Rattle.annex_tables.specs.declared.TheConstants.{MAX_POPULATION};
 ghost use Rattle.book_words.specs.declared.act.Act.TheVariants as act;
 ghost use Rattle.book_words.specs.Acts.{lane_batch};
 ghost use Rattle.book_packs.specs.Told.{met_at};
@@ -18,8 +18,7 @@ impl State {
         ensures { IsSeen self.now.entries act.now result }
     {
         match act {
-            Act::Weigh { lane, .. } => self.lane_now(*lane),
-            Act::StopLane { lane, .. } => self.lane_now(*lane),
+            Act::Weigh { lane, .. } | Act::StopLane { lane, .. } => self.lane_now(*lane),
             _ => LaneNow {
                 batch: None,
                 tare: None,

@@ -1,5 +1,5 @@
 ghost use Rattle.std.specs.Prelude.{◌≡◌, ◌≤ℤ◌, true, IfSome, option_map};
-ghost use Rattle.hall_limits.specs.declared.TheConstants.{MIN_NOMINAL, MAX_NOMINAL};
+ghost use Rattle.annex_tables.specs.declared.TheConstants.{MIN_NOMINAL, MAX_NOMINAL};
 ghost use Rattle.book_words.specs.declared.act.BatchState.TheVariants as state;
 ghost use Rattle.book_words.specs.Acts as acts;
 ghost use Rattle.book_words.specs.Desks.{newest_row, is_desk};

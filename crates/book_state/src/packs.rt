@@ -1,6 +1,7 @@
 ghost use Rattle.std.specs.Prelude.{◌≡◌, ◌≤◌, ◌≤ℤ◌, ◌==◌, pos, false, length, slice_get, None, Some, IfSome, is_none, option_map};
 ghost use Rattle.std.specs.Option.{option_and_then, option_map_or};
-ghost use Rattle.hall_limits.specs.declared.TheConstants.{MAX_GROSS, MAX_POPULATION, MAX_TARE};
+ghost use Rattle.annex_tables.specs.declared.TheConstants.{MAX_POPULATION};
+ghost use Rattle.hall_limits.specs.declared.TheConstants.{MAX_GROSS, MAX_TARE};
 ghost use Rattle.book_words.specs.declared.name.Name as names;
 ghost use Rattle.book_words.specs.declared.act.Act.TheVariants as act;
 ghost use Rattle.book_words.specs.declared.refusal.Refusal.TheVariants as refusal;
@@ -15,7 +16,7 @@ ghost use Rattle.book_words.specs.Answers.{IsLegal};
 ghost use Rattle.book_index.specs.Listed as listed;
 ghost use Rattle.book_packs.specs.Densities.{limits_at};
 ghost use Rattle.book_packs.specs.Told.{piles_told};
-ghost use Rattle.book_state.specs.Told as told;
+ghost use Rattle.book_state.specs.Known as told;
 
 use crate::state::State;
 use crate::types::KnownPack;

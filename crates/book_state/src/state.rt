@@ -3,7 +3,7 @@ ghost use Rattle.hall_limits.specs.declared.TheConstants.{MAX_ROWS};
 ghost use Rattle.book_words.specs.Answers.{IsLawful, IsLegal};
 ghost use Rattle.book_state.specs.Prepared.{drawn_by};
 ghost use Rattle.book_state.specs.Lanes.{IsSeen};
-ghost use Rattle.book_state.specs.Told as told;
+ghost use Rattle.book_state.specs.Known as told;
 
 use crate::drawn::Drawn;
 use crate::entering::{enter_packs, enter_samples};

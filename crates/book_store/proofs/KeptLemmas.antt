@@ -21,7 +21,6 @@ use Rattle.book_store.specs.Adopting.{Adopts, list_adopted, offered_adopted}
 use Rattle.book_store.specs.Images.{HoldsBook}
 use Rattle.book_store.specs.Stores.{disk_of, book_of, entries_of, Hangs, HasBook, HangsWith, HoldsOrHangs, ImagesHoldBook, KeepsBook}
 use Rattle.book_store.specs.Offers.{Offers, OffersEntry, LeavesDisk, list_behind, offered_behind}
-use Rattle.book_store.specs.Mounting.{HasHeld}
 use Rattle.book_store.specs.Kept.{with_offered, CrashLeaves, HasKept, KeepsOn}
 
 -- ---- lists that go on
@@ -261,24 +260,6 @@ module _ {D : Type 0} (g : disk.Ghosts D) where
       (λ hangs. absurd (let none : None ≡ Some hangs.0 =
       kept.hung hangs.0 (rested.hung hangs.0 hangs.1) in cc))
       (images rested.has c image))
-
-  -- a store that was just mounted
-  pub kept_mounted : ((disk : D) (t : ℕ) (c : List ℕ) → t ≤ g.time disk → g.image disk c
-      → g.since disk t c) → (held : List Entry) (start : D) (store : Store D)
-      → HasHeld g start held store → ¬ Hangs store
-      → HasKept g held start None store
-  kept_mounted counts_now held start store was calm =
-      record {
-        has = was.has;
-        begins = same_begins held (entries_of store) was.same;
-        hung = λ entry hangs. absurd (calm hangs.row.hangs);
-        moments = keeps_in start (disk_of store) (HoldsBook held) (CrashLeaves held (entries_of store))
-            (λ c holds. leaves_front held held (entries_of store) c (same_begins held held refl)
-            (same_begins held (entries_of store) was.same) holds) was.moments;
-        images = λ c image. inl (subst (λ (es : List Entry). HoldsBook es c) (sym was.same)
-            (was.moments.each c (counts_now
-            (disk_of store) was.moments.synced c was.moments.before image)));
-      }
 
   -- an ask, by what it offers: at a refusal nothing, and at a failure of the disk an entry
   pub kept_asked : (old new : Store D) (result : Result Answered AskError) (offered : Option Entry)

@@ -1,11 +1,3 @@
-pub mod Exits
-pub mod Forms
-pub mod ListedRows
-pub mod MountedStores
-pub mod Parts
-pub mod OneMoreRow
-pub mod OpenedRows
-pub mod Walks
 pub mod SpelledRows
 pub mod StoreFacts
 pub mod AskDecisions

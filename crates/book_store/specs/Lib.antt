@@ -1,13 +1,9 @@
 pub mod Adopting
 pub mod CallerLaws
 pub mod Callers
-pub mod Causes
 pub mod Images
 pub mod Kept
-pub mod Listing
-pub mod Mounting
 pub mod Offers
-pub mod Opening
 pub mod Resting
 pub mod Stores
 pub use Rattle.book_core.specs.Steps

@@ -8,11 +8,15 @@ use Rattle.book_words.specs.Answers.{IsLegal}
 pub use Rattle.book_core.specs.View.{BookView, entry_numbered}
 use Rattle.row_format.specs.Spelling.{new_layout, row_bytes}
 use Rattle.row_format.specs.Rows.{CanBeSpelled}
+use Rattle.book_journal.specs.declared.journal.Journal.{Journal}
 use Rattle.book_journal.specs.Journal as journals
 use Rattle.book_store.specs.declared.store.Store.{Store}
 use Rattle.book_store.specs.Images.{spelled, CanAllBeSpelled, HoldsBook}
 
--- the disk of a store, and its book
+-- the journal of a store, its disk, and its book
+abbrev pub journal_of : {D : Type 0} → Store D → Journal D
+journal_of store = store.journal
+
 abbrev pub disk_of : {D : Type 0} → Store D → D
 disk_of store = journals.disk_of store.journal
 

@@ -17,8 +17,22 @@ impl<D: Disk> Store<D> {
     ghost use Rattle.std.specs.Prelude.{◌≡◌, ◌↔◌, ◌≤◌, IsTrue, length, OnOk};
     ghost use Rattle.book_words.specs.Soundness.{IsSound as IsSoundBook};
     ghost use Rattle.book_core.specs.View.{entry_numbered};
-    ghost use Rattle.book_store.specs.Stores.{disk_of, book_of, entries_of, limit_of, spare_of, held_of, Hangs, HasBook, HangsWith, IsSound};
+    ghost use Rattle.book_store.specs.Stores.{disk_of, journal_of, book_of, entries_of, limit_of, spare_of, held_of, Hangs, HasBook, HangsWith, IsSound};
     ghost use Rattle.book_words.specs.declared.act.Entry.{Entry as Entered};
+
+    /// A store over a journal and the book whose rows it has, all of them held by the disk.
+    pub fn new(alloc: Global, journal: Journal<D>, book: Book) -> Store<D>
+        ensures journal { journal_of result ≡ journal }
+        ensures book { book_of result ≡ book }
+        ensures held { held_of result ≡ length book.entries }
+    {
+        Store {
+            journal,
+            held: book.len(),
+            book,
+            alloc,
+        }
+    }
 
     /// The book, to be read.
     pub fn book(&self) -> &Book

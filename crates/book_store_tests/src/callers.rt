@@ -1,5 +1,6 @@
 use crate::books::long_run;
 use crate::stores::{Told, copy, read_answer};
+use book_mount::mount;
 use book_store::{OneCaller, Store};
 use book_words::{Act, Ask, Caller, Entry, Question, Want};
 use disk_core::{Disk, MemoryDisk};
@@ -91,7 +92,7 @@ fn speak<D: Disk>(caller: &mut OneCaller<D>, first: Act, second: Act) -> Spoken 
 // The same over an empty disk of which these calls fail. The store that is given back has the rows.
 fn speak_over(alloc: Global, fails: &[u32], entries: &[Entry; 20]) -> Option<Spoken> {
     let disk = MemoryDisk::new(alloc, Vec::new(alloc), copy(alloc, fails));
-    let Ok(store) = Store::mount(alloc, disk, 2) else {
+    let Ok(store) = mount(alloc, disk, 2) else {
         return None;
     };
     let mut caller = OneCaller::new(store, FIRST);

@@ -1,6 +1,6 @@
 use crate::books::long_run;
 use crate::stores::{LOOK, Seen, Way, copy, use_bytes};
-use book_store::MountError;
+use book_mount::MountError;
 use book_words::Entry;
 use std::alloc::Global;
 use std::test::Fail;

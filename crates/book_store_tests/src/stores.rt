@@ -2,7 +2,8 @@ ghost use Rattle.std.specs.Prelude.{◌≤◌, length};
 ghost use Rattle.book_store.specs.Stores.{IsSound};
 
 use crate::books::{ROWS, entry_at};
-use book_store::{AdoptError, MountError, Store};
+use book_mount::{MountError, mount};
+use book_store::{AdoptError, Store};
 use book_words::{Answered, Ask, AskError, Entry, Reply, Want};
 use disk_core::{Disk, Keep, MemoryDisk};
 use pack_judge::Signal;
@@ -266,7 +267,7 @@ pub(crate) fn use_disk(
     let mut disk = disk;
     let mut why = None;
     for faults in 0..3u32 {
-        match Store::mount(alloc, disk, limit) {
+        match mount(alloc, disk, limit) {
             Ok(store) => return go_and_close(TestStore { store, faults }, entries, way),
             Err(refused) => {
                 disk = refused.disk;
@@ -319,7 +320,7 @@ pub(crate) fn act_on(
 ) -> (Option<Lines>, MemoryDisk) {
     let disk = MemoryDisk::new(alloc, Vec::new(alloc), copy(alloc, fails));
     let limit = if adopts { 5 } else { 6 };
-    match Store::mount(alloc, disk, limit) {
+    match mount(alloc, disk, limit) {
         Ok(store) => {
             let store = TestStore { store, faults: 0 };
             let (lines, disk) = act_and_close(store, entries, adopts, acts);

@@ -1,4 +1,5 @@
-use book_store::{AdoptError, MountError, RestError};
+use book_mount::MountError;
+use book_store::{AdoptError, RestError};
 use std::alloc::Global;
 use std::fmt::Display;
 use std::test::Fail;

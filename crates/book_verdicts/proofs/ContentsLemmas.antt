@@ -14,10 +14,10 @@ use Rattle.book_words.specs.Readings.{reading_of}
 use Rattle.book_words.specs.Classes.{is_below, density_of_batch, limits_of_batch}
 use Rattle.book_words.specs.Measures.{Measured, measured_of, actual_contents, contents_of_pack, contents_among, defective_count}
 use Rattle.book_state.specs.declared.types.KnownPack.{KnownPack}
-use Rattle.book_state.specs.Told.{known_record, known_reading, known_pack}
+use Rattle.book_state.specs.Known.{known_record, known_reading, known_pack}
 use Rattle.std.proofs.lemmas.Option.{same_Some}
-use Rattle.book_packs.specs.Densities.{limit_at}
-use Rattle.book_packs.proofs.Below.{below_is}
+use Rattle.book_state.specs.Densities.{limit_at}
+use Rattle.book_state.proofs.Below.{below_is}
 use Rattle.book_verdicts.specs.Testing.{is_pack_defective}
 
 -- the contents of a known pack that was measured

@@ -1,4 +1,4 @@
 pub mod MeanLemmas
 pub mod BatchFacts
 pub mod ContentsLemmas
-pub use Rattle.book_packs.proofs.Below
+pub use Rattle.book_state.proofs.Below

@@ -1,4 +1,10 @@
 pub mod Testing
-pub use Rattle.book_packs.specs.Densities
-pub use Rattle.book_packs.specs.Told
-pub use Rattle.book_packs.specs.declared.types.AtWeighing
+pub use Rattle.book_state.specs.Densities
+pub use Rattle.book_state.specs.Told
+pub use Rattle.book_state.specs.AtWeighing
+pub use Rattle.book_state.specs.Known
+pub use Rattle.book_state.specs.Lanes
+pub use Rattle.book_state.specs.Prepared
+pub use Rattle.book_state.specs.View
+pub use Rattle.book_state.specs.declared.types.KnownPack
+pub use Rattle.book_state.specs.declared.types.LaneNow

@@ -6,7 +6,7 @@ ghost use Rattle.book_words.specs.declared.name.Name as names;
 ghost use Rattle.book_words.specs.Acts.{product_of};
 ghost use Rattle.book_words.specs.Classes.{density_of_batch, limits_of_batch};
 ghost use Rattle.book_words.specs.Measures.{contents_of_pack, contents_among, defective_count};
-ghost use Rattle.book_packs.specs.Densities.{limit_at};
+ghost use Rattle.book_state.specs.Densities.{limit_at};
 ghost use Rattle.book_verdicts.specs.Testing.{is_pack_defective};
 
 use annex_tables::Mode;

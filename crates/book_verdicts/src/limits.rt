@@ -1,5 +1,6 @@
 ghost use Rattle.std.specs.Prelude.{◌≡◌, ◌≤◌, ◌≤ℤ◌, true, is_some};
-ghost use Rattle.hall_limits.specs.declared.TheConstants.{MIN_NOMINAL, MAX_NOMINAL, MIN_DENSITY, MAX_DENSITY};
+ghost use Rattle.annex_tables.specs.declared.TheConstants.{MIN_NOMINAL, MAX_NOMINAL};
+ghost use Rattle.hall_limits.specs.declared.TheConstants.{MIN_DENSITY, MAX_DENSITY};
 ghost use Rattle.book_words.specs.Acts.{product_of};
 ghost use Rattle.book_words.specs.Classes.{nominal_of_batch, density_of_batch};
 

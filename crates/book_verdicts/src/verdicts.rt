@@ -1,5 +1,6 @@
 ghost use Rattle.std.specs.Prelude.{◌≡◌, ◌≤◌, ◌≤ℤ◌, ◌*ℤ◌, ℤ, List, pos, int_le, true, is_some};
-ghost use Rattle.hall_limits.specs.declared.TheConstants.{MIN_NOMINAL, MAX_NOMINAL, MIN_DENSITY, MAX_DENSITY};
+ghost use Rattle.annex_tables.specs.declared.TheConstants.{MIN_NOMINAL, MAX_NOMINAL};
+ghost use Rattle.hall_limits.specs.declared.TheConstants.{MIN_DENSITY, MAX_DENSITY};
 ghost use Rattle.annex_tables.specs.Errors.{IsNominal};
 ghost use Rattle.reference_test.specs.Means as means;
 ghost use Rattle.reference_test.specs.Means.{sums_of};
@@ -8,15 +9,14 @@ ghost use Rattle.book_words.specs.Population.{population};
 ghost use Rattle.book_words.specs.Samples as samples;
 ghost use Rattle.book_words.specs.Verdicts as verdicts;
 ghost use Rattle.reference_test.specs.declared.means.TheConstants.{UNIT_DENSITY};
-ghost use Rattle.book_packs.specs.Told.{totals_told};
+ghost use Rattle.book_state.specs.Told.{totals_told};
 ghost use Rattle.book_state.specs.Prepared.{IsSampleOf};
 
 use crate::contents::{count_defective, sum_contents};
 use crate::limits::{density_of_batch, nominal_of_batch};
 use annex_tables::Plan;
 use batch_sums::Totals;
-use book_samples::Sample;
-use book_state::State;
+use book_state::{Sample, State};
 use book_words::{Fails, Name, Verdict};
 use reference_test::{Contents, Sums, UNIT_DENSITY, contents_check, mean_check_at};
 

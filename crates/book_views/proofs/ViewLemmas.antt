@@ -18,8 +18,8 @@ use Rattle.book_words.specs.Views.{pack_record, view_of_reading, pack_view}
 use Rattle.book_laws.proofs.TareLaws.{IsWeighed, tared_of}
 use Rattle.std.proofs.lemmas.Option.{same_Some}
 use Rattle.book_laws.proofs.ReadingLaws.{of_reading}
-use Rattle.book_state.specs.declared.types.KnownPack.{KnownPack}
-use Rattle.book_state.specs.Told.{known_record, known_reading, known_pack}
+use Rattle.book_verdicts.specs.KnownPack.{KnownPack}
+use Rattle.book_verdicts.specs.Known.{known_record, known_reading, known_pack}
 
 -- the nominal quantity of a batch is that of its product
 pub nominal_by_product : (entries : List Entry) (batch product : Name) (nominal : ℤ)

@@ -1,9 +1,9 @@
 ghost use Rattle.std.specs.Prelude.{◌≡◌, false, Ok, IfOk, IsOk};
 ghost use Rattle.book_words.specs.Views as told;
-ghost use Rattle.book_state.specs.Prepared.{is_for_sample};
+ghost use Rattle.book_verdicts.specs.Prepared.{is_for_sample};
 
 use crate::views::{summarize, view_lane, view_pack, view_sample, view_sheet};
-use book_state::{NoMemory, State, lane_number};
+use book_verdicts::{NoMemory, State, lane_number};
 use book_words::{Name, Question, Refusal, Reply};
 use std::alloc::Global;
 

@@ -8,15 +8,13 @@ ghost use Rattle.book_words.specs.Verdicts.{second_packs};
 ghost use Rattle.book_words.specs.Views as told;
 ghost use Rattle.book_words.specs.Answers.{IsLegal};
 ghost use Rattle.book_verdicts.specs.Told.{totals_told};
-ghost use Rattle.book_state.specs.Prepared.{IsSampleOf};
+ghost use Rattle.book_verdicts.specs.Prepared.{IsSampleOf};
 ghost use Rattle.book_views.specs.Terms.{HasTerms};
 
 use crate::tallies::add_up;
 use annex_tables::limits;
 use batch_sums::Totals;
-use book_samples::Sample;
-use book_state::{NoMemory, State};
-use book_verdicts::{count_first, count_second, verdict_of};
+use book_verdicts::{NoMemory, Sample, State, count_first, count_second, verdict_of};
 use book_words::{
     BatchState, LaneView, Name, PackView, SampleView, Sheet, SummaryView, TestView, Unit, Verdict,
 };

@@ -3,7 +3,8 @@ use Rattle.std.proofs.Common.{◌≡◌, ℕ, ℤ, pos, Bool, true, false, not, 
 use Rattle.std.proofs.lemmas.Int.{ints}
 use Rattle.std.specs.List.{list_any, find}
 use Rattle.std.specs.Option.{option_and_then}
-use Rattle.hall_limits.specs.declared.TheConstants.{MIN_NOMINAL, MAX_NOMINAL, MAX_GROSS, MAX_TARE, MAX_DAY, MAX_LANE}
+use Rattle.annex_tables.specs.declared.TheConstants.{MIN_NOMINAL, MAX_NOMINAL}
+use Rattle.hall_limits.specs.declared.TheConstants.{MAX_GROSS, MAX_TARE, MAX_DAY, MAX_LANE}
 use Rattle.annex_tables.specs.declared.types.Mode.{Mode}
 use Rattle.pack_judge.specs.declared.types.Pile.TheVariants.{Passed, Sampled}
 use Rattle.book_words.specs.declared.name.Name.{Name}

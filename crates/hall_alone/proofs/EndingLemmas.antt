@@ -8,8 +8,8 @@ use Rattle.book_words.specs.declared.name.Name.{Name}
 use Rattle.command_line.specs.Words.{Wanted}
 use Rattle.command_line.specs.declared.types.Command.{Command}
 use Rattle.book_store.specs.declared.store.Store.{Store}
-use Rattle.book_store.specs.declared.types.MountError.{MountError}
-use Rattle.book_store.specs.declared.types.MountError.TheVariants as mount
+use Rattle.book_mount.specs.declared.types.MountError.{MountError}
+use Rattle.book_mount.specs.declared.types.MountError.TheVariants as mount
 use Rattle.text_streams.specs.Streams.{Stream}
 use Rattle.lane_worker.specs.declared.ending.LaneEnd.{LaneEnd}
 use Rattle.office_door.specs.declared.ending.DoorEnd.{DoorEnd}

@@ -8,14 +8,14 @@ use Rattle.book_words.specs.Answers.{IsLegal}
 use Rattle.book_journal.specs.Rows.{FitsSnapshot}
 use Rattle.book_journal.specs.Mounting.{KeepsFromSync}
 use Rattle.book_store.specs.declared.store.Store.{Store}
-use Rattle.book_store.specs.declared.types.MountError.{MountError}
+use Rattle.book_mount.specs.declared.types.MountError.{MountError}
 use Rattle.book_store.specs.Images.{HoldsBook}
 use Rattle.book_store.specs.Kept.{with_offered, CrashLeaves, HasKept}
-use Rattle.book_store.specs.Listing.{IsOpenedAs}
-use Rattle.book_store.specs.Mounting.{HasHeld, IsCauseOf, IsPassing}
+use Rattle.book_mount.specs.Listing.{IsOpenedAs}
+use Rattle.book_mount.specs.Mounting.{HasHeld, IsCauseOf, IsPassing}
 use Rattle.book_store.specs.Stores.{disk_of, entries_of, limit_of, held_of, Hangs}
 use Rattle.book_store.specs.Resting.{HoldsSnapshotOf}
-use Rattle.book_store.proofs.KeptLemmas.{kept_mounted}
+use Rattle.book_mount.proofs.MountedStores.{kept_mounted}
 use Rattle.store_runs.specs.declared.stop.Stop.{Stop}
 use Rattle.store_runs.specs.Books.{BookState, stored_book}
 use Rattle.text_streams.specs.Streams.{Stream}

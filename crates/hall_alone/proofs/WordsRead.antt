@@ -12,7 +12,7 @@ use Rattle.command_line.specs.Words.{Item, Wanted, command_of, commands, items_i
 use Rattle.command_line.specs.Taken.{seen}
 use Rattle.disk_core.specs.declared.disk.Disk as disk
 use Rattle.book_journal.proofs.Moments.{unmoved_none}
-use Rattle.book_store.specs.declared.types.MountError.TheVariants as mount
+use Rattle.book_mount.specs.declared.types.MountError.TheVariants as mount
 use Rattle.script_run.specs.Outside.{Call}
 use Rattle.hall_alone.specs.declared.ended.Outcome.{Outcome}
 use Rattle.hall_alone.specs.declared.ending.Ending.{Ending}

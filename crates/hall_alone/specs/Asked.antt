@@ -1,7 +1,7 @@
 -- The words of a call: what is asked, and how that was read.
 use Rattle.std.specs.Prelude.{◌≡◌, ◌↔◌, ℕ, Bool, true, false, List, [], ◌∷◌, codes, Option, Some, None, Result, Err, IfOk, if◌then◌else◌}
 use Rattle.std.specs.Str.{bytes_eq}
-use Rattle.book_store.specs.declared.types.MountError.TheVariants as mount
+use Rattle.book_mount.specs.declared.types.MountError.TheVariants as mount
 use Rattle.command_line.specs.declared.types.Command.{Command}
 use Rattle.command_line.specs.declared.types.Command.TheVariants.{Serve, Audit}
 use Rattle.command_line.specs.declared.types.Wants.{Wants}

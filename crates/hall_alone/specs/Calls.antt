@@ -10,13 +10,13 @@ use Rattle.book_words.specs.declared.name.Name.{Name}
 use Rattle.book_words.specs.Answers.{IsLegal}
 use Rattle.book_journal.specs.Rows.{FitsSnapshot}
 use Rattle.book_journal.specs.Mounting.{KeepsFromSync}
-use Rattle.book_store.specs.declared.types.MountError.{MountError}
+use Rattle.book_mount.specs.declared.types.MountError.{MountError}
 use Rattle.book_store.specs.declared.store.Store.{Store}
 use Rattle.book_store.specs.Images.{HoldsBook}
 use Rattle.book_store.specs.Kept.{with_offered, CrashLeaves}
 use Rattle.book_store.specs.Stores.{disk_of, entries_of}
-use Rattle.book_store.specs.Listing.{IsOpenedAs}
-use Rattle.book_store.specs.Mounting.{IsCauseOf, IsPassing}
+use Rattle.book_mount.specs.Listing.{IsOpenedAs}
+use Rattle.book_mount.specs.Mounting.{IsCauseOf, IsPassing}
 use Rattle.book_store.specs.Resting.{HoldsSnapshotOf}
 use Rattle.lane_worker.specs.declared.cell.Cell as cell
 use Rattle.lane_worker.specs.declared.gate.Gate as gate

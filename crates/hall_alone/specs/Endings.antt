@@ -2,8 +2,8 @@
 use Rattle.std.specs.Prelude.{◌≡◌, ◌⊎◌, ℕ, min, Bool, true, false, List, [], ◌++◌, ◌==◌, ◌||◌, nat_lt, Option, Some, None, if◌then◌else◌}
 use Rattle.std.specs.List.{list_any}
 use Rattle.std.specs.Option.{unwrap_or}
-use Rattle.book_store.specs.declared.types.MountError.{MountError}
-use Rattle.book_store.specs.declared.types.MountError.TheVariants as mount
+use Rattle.book_mount.specs.declared.types.MountError.{MountError}
+use Rattle.book_mount.specs.declared.types.MountError.TheVariants as mount
 use Rattle.store_runs.specs.declared.stop.Stop.{Stop}
 use Rattle.store_runs.specs.declared.stop.Stop.TheVariants.{Finished, BadLine, ReadFault, WriteFault, DiskFault, NoMemory, Spent}
 use Rattle.text_streams.specs.Streams.{Stream, WroteAll, IsCutIn}

@@ -3,3 +3,4 @@ pub mod Calls
 pub mod Endings
 pub mod Requests
 pub mod Texts
+pub use Rattle.script_run.specs.Outside

@@ -23,7 +23,8 @@ use crate::whole::{end_carrying, say_whole};
 use book_audit::{AuditEnd, audit_run};
 use book_core::{Book, Rows};
 use book_migration::migrate_journal;
-use book_store::{MountError, Store};
+use book_mount::{MountError, mount};
+use book_store::Store;
 use command_line::{Command, Wants, WantsError, wants};
 use disk_core::{Disk, Sink, Source};
 use hall_limits::MAX_ROWS;
@@ -179,7 +180,7 @@ fn do_opened<S: Source, K: Sink, D: Disk, L: Lane>(
         lanes.old lanes.new result.log.told result.rows) }
     ensures rows { IsSoundBook result.rows }
 {
-    match Store::mount(alloc, disk, wanted.limit) {
+    match mount(alloc, disk, wanted.limit) {
         Ok(store) => do_command(alloc, wanted, store, input, output, lanes),
         Err(refused) => leave_unopened(alloc, Ending::Unopened(refused.why), refused.disk),
     }

@@ -4,7 +4,7 @@ ghost use Rattle.hall_alone.specs.Endings.{line_of_why, line_of_stop, line_behin
 
 use crate::early::{SPENT, early_status};
 use crate::served::{status_of_serve, write_serve};
-use book_store::MountError;
+use book_mount::MountError;
 use disk_core::{Partly, Sink};
 use job_reports::ServeStop;
 use lane_worker::LaneEnd;

@@ -13,3 +13,4 @@ mod whole;
 pub use alone::{end_answer, end_call, hall_alone, is_serve, leave_unopened};
 pub use ended::{Ended, Outcome};
 pub use ending::{Ending, say_last};
+pub use script_run::LaneEnds;

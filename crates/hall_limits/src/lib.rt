@@ -2,12 +2,6 @@
 //! 1970-01-01.
 #![tactic(auto)]
 
-/// The least nominal quantity in mg: Annex I begins at 5 g.
-pub const MIN_NOMINAL: i64 = 5_000;
-
-/// The greatest nominal quantity in mg: Annex I ends at 10 kg.
-pub const MAX_NOMINAL: i64 = 10_000_000;
-
 /// The greatest gross of a pack in mg: three times the greatest nominal quantity, so that only a
 /// faulty scale or a wrong unit is refused.
 pub const MAX_GROSS: i64 = 30_000_000;
@@ -21,9 +15,6 @@ pub const MAX_DAY: i32 = 2_932_896;
 
 /// The most rows of a book: a book of 96 bytes a row then stays below 100 MB.
 pub const MAX_ROWS: u32 = 1_000_000;
-
-/// The most packs in the population of a batch: this project's own limit, on every batch.
-pub const MAX_POPULATION: u32 = 10_000;
 
 /// The most packs of a trial: its book then has room for all of their rows.
 pub const MAX_TRIAL: u32 = 100_000;

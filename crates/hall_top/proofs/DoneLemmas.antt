@@ -24,7 +24,7 @@ use Rattle.serve_run.specs.Setups.{MayStopAtLine, after_lines}
 use Rattle.store_runs.specs.Books.{BookState}
 use Rattle.store_runs.specs.declared.stop.Stop.TheVariants as stops
 use Rattle.text_streams.specs.Streams.{Stream}
-use Rattle.script_run.specs.Outside.{all_said}
+use Rattle.hall_alone.specs.Outside.{all_said}
 use Rattle.job_reports.specs.declared.stop.JobsStop.TheVariants as jobs
 use Rattle.job_reports.specs.declared.stop.ServeStop.{ServeStop}
 use Rattle.job_reports.specs.declared.stop.ServeStop.TheVariants as serve

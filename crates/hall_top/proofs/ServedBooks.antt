@@ -11,11 +11,11 @@ use Rattle.book_journal.specs.Rows.{FitsSnapshot}
 use Rattle.book_store.specs.declared.store.Store.{Store}
 use Rattle.book_store.specs.Images.{HoldsBook}
 use Rattle.book_store.specs.Kept.{HasKept}
-use Rattle.book_store.specs.Listing.{IsOpenedAs}
-use Rattle.book_store.specs.Mounting.{HasHeld}
+use Rattle.book_mount.specs.Listing.{IsOpenedAs}
+use Rattle.book_mount.specs.Mounting.{HasHeld}
 use Rattle.book_store.specs.Stores.{disk_of, entries_of, limit_of, held_of, Hangs}
 use Rattle.book_store.specs.Resting.{HoldsSnapshotOf}
-use Rattle.book_store.proofs.KeptLemmas.{kept_mounted}
+use Rattle.book_mount.proofs.MountedStores.{kept_mounted}
 use Rattle.lane_worker.specs.Works as lanes
 use Rattle.office_door.specs.Doors as doors
 use Rattle.serve_run.specs.Sessions.{KeepsRun, LeavesAtEnd, LeavesFrom}

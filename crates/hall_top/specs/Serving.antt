@@ -14,7 +14,7 @@ use Rattle.book_journal.specs.Mounting.{KeepsFromSync}
 use Rattle.book_journal.specs.Rows.{FitsSnapshot}
 use Rattle.book_store.specs.declared.store.Store.{Store}
 use Rattle.book_store.specs.Images.{HoldsBook}
-use Rattle.book_store.specs.Listing.{IsOpenedAs}
+use Rattle.book_mount.specs.Listing.{IsOpenedAs}
 use Rattle.book_store.specs.Resting.{HoldsSnapshotOf}
 use Rattle.book_store.specs.Stores.{disk_of, entries_of}
 use Rattle.lane_worker.specs.declared.cell.Cell as cell
@@ -31,7 +31,7 @@ use Rattle.text_streams.specs.Streams.{Stream, input_at, output_at}
 use Rattle.store_runs.specs.Books.{BookState, stored_book}
 use Rattle.store_runs.specs.Runs.{HasGrown}
 use Rattle.store_runs.specs.Stops.{stop_row}
-use Rattle.script_run.specs.Outside.{all_said}
+use Rattle.hall_alone.specs.Outside.{all_said}
 use Rattle.job_reports.specs.declared.stop.ServeStop.{ServeStop}
 use Rattle.job_reports.specs.declared.stop.ServeStop.TheVariants.{BadPlan, Early, Ran}
 use Rattle.job_reports.specs.declared.stop.JobsStop.TheVariants.{Finished}

@@ -4,9 +4,8 @@
 mod serving;
 mod top;
 
-pub use book_store::MountError;
+pub use book_mount::MountError;
 pub use command_line::{Command, Text, Wants, WantsError, wants};
-pub use hall_alone::{Ended, Ending, hall_alone, say_last};
-pub use script_run::LaneEnds;
+pub use hall_alone::{Ended, Ending, LaneEnds, hall_alone, say_last};
 pub use serve_run::{DoorEnds, JobsStop, NoNotices, ServeStop, SetupNotices};
 pub use top::hall;

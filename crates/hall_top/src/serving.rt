@@ -10,6 +10,7 @@ ghost use Rattle.serve_run.specs.Serving.{moment};
 ghost use Rattle.hall_alone.specs.Endings.{is_status};
 ghost use Rattle.hall_top.specs.Serving.{EndsServe, ServeDone};
 
+use book_mount::mount;
 use book_store::Store;
 use disk_core::{Disk, Door, Sink, Source};
 use hall_alone::{Ended, Ending, end_call, leave_unopened, say_last};
@@ -110,7 +111,7 @@ pub fn serve<
     ensures status { IsTrue (is_status result.status) × (result.status ≢ 2) }
     ensures rows { IsSoundBook result.rows }
 {
-    match Store::mount(alloc, disk, limit) {
+    match mount(alloc, disk, limit) {
         Ok(store) => serve_store(rt, alloc, store, input, output, notices, lanes, doors),
         Err(refused) => {
             let outcome = leave_unopened(alloc, Ending::Unopened(refused.why), refused.disk);

@@ -1,6 +1,6 @@
 ghost use Rattle.std.specs.Prelude.{◌≡◌, false};
 
-use book_store::Store;
+use book_mount::mount;
 use disk_core::{Disk, MemoryDisk, MemorySink, MemorySource, Source};
 use import_run::run_import;
 use std::alloc::Global;
@@ -42,7 +42,7 @@ pub fn run_over<S: Source>(
 ) -> Option<Left>
     requires { S.ended input.old ≡ false }
 {
-    let Ok(store) = Store::mount(alloc, disk, 1_000_000) else {
+    let Ok(store) = mount(alloc, disk, 1_000_000) else {
         return None;
     };
     let ended = run_import(alloc, store, input, output);

@@ -1,6 +1,7 @@
 -- The days and masses of lines, with which they can be printed.
 use Rattle.std.specs.Prelude.{ℤ, pos, IfSome}
-use Rattle.hall_limits.specs.declared.TheConstants.{MIN_NOMINAL, MAX_NOMINAL, MAX_TARE}
+use Rattle.annex_tables.specs.declared.TheConstants.{MIN_NOMINAL, MAX_NOMINAL}
+use Rattle.hall_limits.specs.declared.TheConstants.{MAX_TARE}
 use Rattle.hall_units.specs.Days.{IsDay}
 use Rattle.book_words.specs.Ranges.{IsBetween}
 use Rattle.list_run.specs.declared.types.ProductLine.{ProductLine}

@@ -1,5 +1,6 @@
 use crate::devices::disk_of;
-use book_store::{OneCaller, Store};
+use book_mount::mount;
+use book_store::OneCaller;
 use book_words::{Act, Ask, Caller, Name, Unit, Want};
 use disk_core::MemoryDisk;
 use std::alloc::Global;
@@ -59,7 +60,7 @@ pub fn enter_acts<C: Caller>(caller: &mut C, acts: &[Act]) -> Option<()> {
 /// makes four, and each row four. The caller with this number speaks.
 pub fn open_book(alloc: Global, fails: &[u32], rows: usize, by: u16) -> Option<MemoryCaller> {
     let acts = rice_acts()?;
-    let Ok(store) = Store::mount(alloc, disk_of(alloc, &[], fails), 1_000_000) else {
+    let Ok(store) = mount(alloc, disk_of(alloc, &[], fails), 1_000_000) else {
         return None;
     };
     let mut caller = OneCaller::new(store, 0);

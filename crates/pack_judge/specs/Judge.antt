@@ -1,6 +1,6 @@
 -- What a net is by the two limits, and the signal that a pack gets. All masses are milligrams.
 use Rattle.std.specs.Prelude.{ℕ, ℤ, ◌*◌, Bool, if◌then◌else◌, nat_lt, ◌==◌, int_lt}
-use Rattle.annex_tables.specs.TheConstants.{MAX_POPULATION}
+use Rattle.annex_tables.specs.declared.TheConstants.{MAX_POPULATION}
 use Rattle.annex_tables.specs.declared.types.Limits.{Limits}
 use Rattle.pack_judge.specs.declared.types.Class.{Class}
 use Rattle.pack_judge.specs.declared.types.Class.TheVariants as classes

@@ -4,7 +4,8 @@ use Rattle.std.specs.List.{list_all}
 use Rattle.std.proofs.lemmas.Bool.{and_parts, and_from, leb-true, eqb-true, cases_lt}
 use Rattle.std.proofs.lemmas.Int.{ints}
 use Rattle.std.proofs.lemmas.List.{take_all}
-use Rattle.hall_limits.specs.declared.TheConstants.{MIN_NOMINAL, MAX_NOMINAL, MIN_DENSITY, MAX_DENSITY}
+use Rattle.annex_tables.specs.declared.TheConstants.{MIN_NOMINAL, MAX_NOMINAL}
+use Rattle.hall_limits.specs.declared.TheConstants.{MIN_DENSITY, MAX_DENSITY}
 use Rattle.annex_tables.specs.Errors.{IsNominal}
 use Rattle.reference_test.specs.declared.means.TheConstants.{UNIT_DENSITY}
 use Rattle.reference_test.proofs.SignedNumbers.{again, computes_read}

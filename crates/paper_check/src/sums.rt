@@ -1,6 +1,7 @@
 ghost use Rattle.std.specs.Prelude.{◌≡◌, ◌≤◌, ◌<◌, ◌^◌, ◌+◌, ◌++◌, ◌∷◌, [], ◌≤ℤ◌, ℤ, List, true, cond, length, count_by};
 ghost use Rattle.std.specs.List.{list_all};
-ghost use Rattle.hall_limits.specs.declared.TheConstants.{MIN_NOMINAL, MAX_NOMINAL, MAX_POPULATION, MIN_DENSITY, MAX_DENSITY};
+ghost use Rattle.annex_tables.specs.declared.TheConstants.{MIN_NOMINAL, MAX_NOMINAL, MAX_POPULATION};
+ghost use Rattle.hall_limits.specs.declared.TheConstants.{MIN_DENSITY, MAX_DENSITY};
 ghost use Rattle.annex_tables.specs.Errors.{IsNominal};
 ghost use Rattle.reference_test.specs.Means.{total, sums_of, mean_accepts};
 ghost use Rattle.book_words.specs.Classes.{is_below};

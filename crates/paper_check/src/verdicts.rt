@@ -2,7 +2,7 @@ ghost use Rattle.std.specs.Prelude.{◌≡◌, ◌≤◌, ◌<◌, ◌^◌, leng
 ghost use Rattle.std.specs.List.{list_all};
 ghost use Rattle.annex_tables.specs.Errors.{limits_of};
 ghost use Rattle.annex_tables.specs.Plans.{plan_of};
-ghost use Rattle.hall_limits.specs.declared.TheConstants.{MAX_POPULATION};
+ghost use Rattle.annex_tables.specs.declared.TheConstants.{MAX_POPULATION};
 ghost use Rattle.reference_test.specs.Means.{total};
 ghost use Rattle.book_words.specs.Samples.{plan_or_empty};
 ghost use Rattle.book_words.specs.Verdicts.{average_by, allowance_by, none_inadequate, fails_by, any_fails, verdict_by_fails};

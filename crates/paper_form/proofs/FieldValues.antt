@@ -3,7 +3,8 @@ use Rattle.std.proofs.Common.{◌≡◌, ℕ, ◌^◌, ◌<◌, ◌≤◌, ◌&&
 use Rattle.std.specs.Option.{option_and_then}
 use Rattle.std.proofs.lemmas.Bool.{and_parts, leb-true, ltb-true, le-leb, eqb-true}
 use Rattle.std.proofs.lemmas.Int.{ints}
-use Rattle.hall_limits.specs.declared.TheConstants.{MIN_NOMINAL, MAX_NOMINAL, MIN_DENSITY, MAX_DENSITY, MAX_GROSS, MAX_TARE, MAX_DAY, MAX_ROWS}
+use Rattle.annex_tables.specs.declared.TheConstants.{MIN_NOMINAL, MAX_NOMINAL}
+use Rattle.hall_limits.specs.declared.TheConstants.{MIN_DENSITY, MAX_DENSITY, MAX_GROSS, MAX_TARE, MAX_DAY, MAX_ROWS}
 use Rattle.hall_units.specs.Grams.{gram_text, milligrams_of, IsReadMass}
 use Rattle.hall_units.specs.Days.{day_of, day_text, IsDay}
 use Rattle.hall_units.proofs.ReadBack.{bounded_number-decimal, milligrams_of-gram_text}

@@ -4,7 +4,8 @@ use Rattle.std.specs.Option.{option_map_or}
 use Rattle.std.specs.List.{last_or, list_all}
 use Rattle.std.specs.List.Sorted.{IsStrictlyIncreasing}
 use Rattle.std.proofs.lemmas.Bool.{and_parts, and_from, ltb-true}
-use Rattle.hall_limits.specs.declared.TheConstants.{MAX_POPULATION, MAX_DAY, MAX_TARE}
+use Rattle.annex_tables.specs.declared.TheConstants.{MAX_POPULATION}
+use Rattle.hall_limits.specs.declared.TheConstants.{MAX_DAY, MAX_TARE}
 use Rattle.book_words.specs.Refusals.{is_within}
 use Rattle.pack_judge.specs.declared.tares.DatedTare.{DatedTare}
 use Rattle.paper_form.specs.declared.types.Pack as packs

@@ -4,7 +4,8 @@ use Rattle.std.specs.Option.{option_map_or, option_and_then, option_to_list}
 use Rattle.std.specs.List.{last_or, list_all, slice_split, flat_map}
 use Rattle.std.specs.List.Sorted.{IsStrictlyIncreasing}
 use Rattle.std.proofs.lemmas.Bool.{and_parts, and_from, eqb-true, lt-ltb}
-use Rattle.hall_limits.specs.declared.TheConstants.{MAX_POPULATION, MAX_DAY, MAX_TARE}
+use Rattle.annex_tables.specs.declared.TheConstants.{MAX_POPULATION}
+use Rattle.hall_limits.specs.declared.TheConstants.{MAX_DAY, MAX_TARE}
 use Rattle.book_words.specs.Refusals.{is_within}
 use Rattle.book_words.specs.declared.views.Verdict as verdicts
 use Rattle.pack_judge.specs.declared.tares.DatedTare.{DatedTare}

@@ -2,7 +2,7 @@
 use Rattle.std.specs.Prelude.{ℕ, ◌+◌, pos, Bool, true, ◌&&◌, nat_lt, int_lt, List, [], ◌∷◌, ◌++◌, length, if◌then◌else◌, Option, Some, None, option_and_then, Result, Ok, Err}
 use Rattle.std.specs.Option.{option_map_or}
 use Rattle.std.specs.List.{last_or, slice_split}
-use Rattle.hall_limits.specs.declared.TheConstants.{MAX_POPULATION}
+use Rattle.annex_tables.specs.declared.TheConstants.{MAX_POPULATION}
 use Rattle.annex_tables.specs.declared.types.Mode.{Mode}
 use Rattle.annex_tables.specs.declared.types.Mode.TheVariants.{Keep, Destroy}
 use Rattle.pack_judge.specs.declared.tares.DatedTare.{DatedTare}

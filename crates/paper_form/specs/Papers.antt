@@ -2,7 +2,8 @@
 use Rattle.std.specs.Prelude.{ℕ, pos, Bool, true, ◌&&◌, ◌==◌, nat_le, List, [], ◌∷◌, ◌++◌, map, flat_map, Option, Some, None, codes, decimal}
 use Rattle.std.specs.Option.{option_map_or, option_to_list}
 use Rattle.std.specs.List.{join_with_byte, slice_split}
-use Rattle.hall_limits.specs.declared.TheConstants.{MIN_NOMINAL, MAX_NOMINAL, MIN_DENSITY, MAX_DENSITY, MAX_GROSS, MAX_TARE, MAX_DAY, MAX_ROWS}
+use Rattle.annex_tables.specs.declared.TheConstants.{MIN_NOMINAL, MAX_NOMINAL}
+use Rattle.hall_limits.specs.declared.TheConstants.{MIN_DENSITY, MAX_DENSITY, MAX_GROSS, MAX_TARE, MAX_DAY, MAX_ROWS}
 use Rattle.hall_units.specs.Grams.{gram_text}
 use Rattle.hall_units.specs.Days.{day_text}
 use Rattle.pack_judge.specs.declared.tares.DatedTare.{DatedTare}

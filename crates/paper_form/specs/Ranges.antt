@@ -3,7 +3,7 @@ use Rattle.std.specs.Prelude.{◌≡◌, ℕ, ◌+◌, ◌≤◌, ◌^◌, Bool,
 use Rattle.std.specs.Option.{option_map_or}
 use Rattle.std.specs.List.{list_all}
 use Rattle.std.specs.List.Sorted.{IsStrictlyIncreasing}
-use Rattle.hall_limits.specs.declared.TheConstants.{MAX_POPULATION}
+use Rattle.annex_tables.specs.declared.TheConstants.{MAX_POPULATION}
 use Rattle.pack_judge.specs.declared.tares.DatedTare.{DatedTare}
 use Rattle.paper_form.specs.declared.types.TheConstants.{MAX_PAPER}
 use Rattle.paper_form.specs.declared.types.Pack as packs

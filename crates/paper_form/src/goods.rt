@@ -9,8 +9,9 @@ ghost use Rattle.paper_form.specs.Lines.{fields_left, goods_line, quantity_line,
 use crate::fields::{labelled, last_labelled, next_field};
 use crate::types::{Goods, Line};
 use crate::values::{read_density, read_row, read_unit};
+use annex_tables::{MAX_NOMINAL, MIN_NOMINAL};
 use book_words::{Name, Unit};
-use hall_limits::{MAX_DENSITY, MAX_NOMINAL, MAX_ROWS, MIN_DENSITY, MIN_NOMINAL, NAME_BYTES};
+use hall_limits::{MAX_DENSITY, MAX_ROWS, MIN_DENSITY, NAME_BYTES};
 use hall_units::read_grams;
 use reference_test::UNIT_DENSITY;
 

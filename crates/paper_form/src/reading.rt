@@ -6,9 +6,8 @@ ghost use Rattle.paper_form.specs.Ranges.{is_line_in_range, AreTaresListed, AreP
 
 use crate::lines::read_line;
 use crate::types::{Draw, Goods, Line, Pack, PaperFault, Pick, Stage};
-use annex_tables::Mode;
+use annex_tables::{MAX_POPULATION, Mode};
 use book_words::Verdict;
-use hall_limits::MAX_POPULATION;
 use pack_judge::DatedTare;
 
 /// What the lines of a paper say that were read so far, and what may come next.

@@ -1,6 +1,6 @@
 -- Annex II: when the mean of a list of values, in mg, is accepted.
 use Rattle.std.specs.Prelude.{ℕ, ℤ, pos, ◌+ℤ◌, ◌-ℤ◌, ◌*ℤ◌, ◌*◌, ◌≤◌, Bool, ◌&&◌, ◌||◌, nat_le, nat_lt, int_le, List, [], ◌∷◌, length, map, unsigned_abs}
-use Rattle.annex_tables.specs.TheConstants.{MAX_GROSS}
+use Rattle.hall_limits.specs.declared.TheConstants.{MAX_GROSS}
 
 -- the sum of a list of whole numbers
 abbrev pub total : List ℤ → ℤ

@@ -1,7 +1,7 @@
 ghost use Rattle.std.specs.Prelude.{◌≡◌, ◌<◌, ◌≤◌, List, ℤ};
 ghost use Rattle.annex_tables.specs.Errors.{IsNominal};
 ghost use Rattle.reference_test.specs.Means.{sums_of, falls_short_within, mean_accepts};
-ghost use Rattle.annex_tables.specs.TheConstants.{MIN_DENSITY, MAX_DENSITY};
+ghost use Rattle.hall_limits.specs.declared.TheConstants.{MIN_DENSITY, MAX_DENSITY};
 
 use crate::types::Sums;
 

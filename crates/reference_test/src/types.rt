@@ -1,5 +1,5 @@
 ghost use Rattle.std.specs.Prelude.{◌≡◌, ◌+◌, ◌<◌, ◌≤◌, ◌≤ℤ◌, ◌-ℤ◌, ◌*ℤ◌, [], ◌∷◌, ◌++◌, List, ℤ, pos, neg_ℤ, unsigned_abs};
-ghost use Rattle.annex_tables.specs.TheConstants.{MAX_DENSITY, MAX_GROSS, MAX_TARE};
+ghost use Rattle.hall_limits.specs.declared.TheConstants.{MAX_DENSITY, MAX_GROSS, MAX_TARE};
 ghost use Rattle.annex_tables.specs.Errors.{IsNominal};
 ghost use Rattle.reference_test.specs.Means.{square, sums_of};
 

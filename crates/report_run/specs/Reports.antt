@@ -16,7 +16,7 @@ use Rattle.book_words.specs.Samples.{numbers_of}
 use Rattle.book_words.specs.Views.{view_of_reading, question_told, summary}
 use Rattle.book_words.specs.Answers.{question_answer}
 use Rattle.book_core.specs.declared.types.BookError.{BookError}
-use Rattle.book_state.specs.Told.{entry_numbered}
+use Rattle.book_state.specs.Known.{entry_numbered}
 use Rattle.batch_reports.specs.Texts.{outcome_text, summary_text}
 use Rattle.csv.specs.Reading.{AreRecords, default_config, strip_bom}
 use Rattle.csv.specs.declared.parser.State.TheVariants.{StartRecord}

@@ -1,4 +1,5 @@
-use book_store::{OneCaller, Store};
+use book_mount::mount;
+use book_store::OneCaller;
 use book_words::{Act, Name, Prior, Unit};
 use disk_core::QuietDisk;
 use memory_hall::{MARCH_3, enter, enter_acts, rice_acts};
@@ -110,7 +111,7 @@ fn fill(hall: &mut Hall, worked: Worked) -> Option<()> {
 /// The book, entered anew.
 pub(crate) fn enter_book(alloc: Global, worked: Worked) -> Option<Hall> {
     let disk = QuietDisk::new(Vec::with_capacity(alloc, DISK_ROOM).ok()?);
-    let Ok(store) = Store::mount(alloc, disk, 1_000_000) else {
+    let Ok(store) = mount(alloc, disk, 1_000_000) else {
         return None;
     };
     let mut hall = OneCaller::new(store, 0);

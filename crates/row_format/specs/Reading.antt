@@ -1,7 +1,8 @@
 -- Reading a row from left to right, with the first fault that is met.
 use Rattle.std.specs.Prelude.{ℕ, zero, suc, ℤ, pos, ◌+◌, ◌-◌, ◌*◌, ◌%◌, Bool, true, false, ◌&&◌, ◌||◌, List, [], ◌∷◌, length, slice_index, slice_range, Option, Some, None, Result, Ok, Err, ⊤, ◌≤◌, unsigned_abs, nat_le, ◌==◌, if◌then◌else◌}
 use Rattle.std.specs.Int.{w16, w32, w64, from_le_bytes}
-use Rattle.hall_limits.specs.declared.TheConstants.{NAME_BYTES, MIN_NOMINAL, MAX_NOMINAL, MAX_GROSS, MAX_TARE, MAX_DAY, MAX_LANE, MIN_DENSITY, MAX_DENSITY}
+use Rattle.annex_tables.specs.declared.TheConstants.{MIN_NOMINAL, MAX_NOMINAL}
+use Rattle.hall_limits.specs.declared.TheConstants.{NAME_BYTES, MAX_GROSS, MAX_TARE, MAX_DAY, MAX_LANE, MIN_DENSITY, MAX_DENSITY}
 use Rattle.annex_tables.specs.declared.types.Mode.{Mode}
 use Rattle.annex_tables.specs.declared.types.Mode.TheVariants.{Keep, Destroy}
 use Rattle.pack_judge.specs.declared.types.Cause.TheVariants.{Held, Full, Inadequate, Allowance}

@@ -2,12 +2,10 @@ ghost use Rattle.std.specs.Prelude.{◌≡◌, ◌+◌, ◌-◌, ◌*◌, ◌^�
 ghost use Rattle.row_format.specs.Reading.{has_number, can_begin, wrong_from, number_in, zeros_at, name_at, day_at, gross_at, tare_at, nominal_at, density_at, lane_at, gate_at, row_number_at};
 
 use crate::types::RowFault;
+use annex_tables::{MAX_NOMINAL, MIN_NOMINAL};
 use book_snapshot::{NUMBER_PLACE, OPEN};
 use book_words::Name;
-use hall_limits::{
-    MAX_DAY, MAX_DENSITY, MAX_GROSS, MAX_LANE, MAX_NOMINAL, MAX_TARE, MIN_DENSITY, MIN_NOMINAL,
-    NAME_BYTES,
-};
+use hall_limits::{MAX_DAY, MAX_DENSITY, MAX_GROSS, MAX_LANE, MAX_TARE, MIN_DENSITY, NAME_BYTES};
 use hall_units::{get_u32, get_u64};
 
 /// The numbers that a field may hold: those from the least to the greatest, and 0 where `zero` is

@@ -19,7 +19,7 @@ use Rattle.script_lines.specs.declared.command.Command.{Command}
 use Rattle.script_lines.specs.declared.command.Line.{Line}
 use Rattle.script_lines.specs.declared.command.Line.TheVariants.{Nothing, Asks, Works, Bad}
 use Rattle.book_words.specs.Callers.{number_named}
-use Rattle.book_store.proofs.KeptLemmas.{begins_on, begins_short}
+use Rattle.store_runs.proofs.KeptLemmas.{begins_on, begins_short}
 use Rattle.store_runs.specs.Books.{BookState}
 use Rattle.lane_runs.specs.LaneWorks.{AreNumbered}
 use Rattle.script_events.specs.Asking.{script_caller, ask_at, Exchange, exchange_at}

@@ -10,11 +10,11 @@ use Rattle.book_words.specs.declared.reply.Answered.{Answered}
 use Rattle.book_words.specs.declared.reply.Refused.{Refused}
 use Rattle.book_words.specs.Answers.{answer as told_to, added}
 use Rattle.book_words.specs.Callers.{FAULTS_END, faults_told, IsAsked}
-use Rattle.book_store.specs.Callers.{CallerView, known_of, IsReachedBy}
-use Rattle.book_store.specs.Kept.{KeepsOn}
-use Rattle.book_store.specs.Offers.{GivesAnswer, list_behind, offered_behind, CountsDiskFault}
-use Rattle.book_store.specs.Stores.{disk_of, book_of, entries_of, limit_of}
-use Rattle.book_store.proofs.CallerSteps.{refused_adds}
+use Rattle.store_runs.specs.Callers.{CallerView, known_of, IsReachedBy}
+use Rattle.store_runs.specs.Kept.{KeepsOn}
+use Rattle.store_runs.specs.Offers.{GivesAnswer, list_behind, offered_behind, CountsDiskFault}
+use Rattle.store_runs.specs.Stores.{disk_of, book_of, entries_of, limit_of}
+use Rattle.store_runs.proofs.CallerSteps.{refused_adds}
 use Rattle.script_lines.specs.declared.command.Command.{Command}
 use Rattle.store_runs.specs.Books.{BookState, stored_book}
 use Rattle.store_runs.specs.Stops.{step_asked}

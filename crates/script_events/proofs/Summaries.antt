@@ -7,7 +7,7 @@ use Rattle.book_words.specs.declared.act.Entry.{Entry}
 use Rattle.book_words.specs.Answers.{IsLegal}
 use Rattle.book_words.specs.Soundness.{IsAnswer}
 use Rattle.book_words.specs.Views.{summary}
-use Rattle.book_store.specs.Steps.{asked_question}
+use Rattle.store_runs.specs.Steps.{asked_question}
 
 -- the balance of a legal list is an answer
 pub is_summary : (limit : ℕ) (entries : List Entry) (at : ℕ) (view : SummaryView) → IsLegal entries

@@ -7,13 +7,12 @@ ghost use Rattle.script_events.specs.Asking.{prior_at, want_at, ask_at, exchange
 ghost use Rattle.script_events.specs.Transcript.{after_command};
 ghost use Rattle.script_events.specs.Unanswered.{MayStay, step_of};
 
-use book_store::{Book, OneCaller};
 use book_words::{
     Act, Answered, Ask, AskError, Caller, Name, Prior, Question, Refused, Unit, Want,
 };
 use disk_core::Disk;
 use script_lines::{Command, Verb};
-use store_runs::{Offer, Stop};
+use store_runs::{Book, Offer, OneCaller, Stop};
 
 /// The number that the entries of a script bear.
 pub const SCRIPT: u16 = 0;

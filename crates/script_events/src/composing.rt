@@ -6,8 +6,8 @@ ghost use Rattle.batch_reports.specs.Texts.{outcome_text, summary_text};
 ghost use Rattle.script_events.specs.Asking.{IsTold};
 
 use batch_reports::{TEXT_ROOM, answer_text, refusal_text};
-use book_store::Book;
 use book_words::{Answered, Refused, Reply};
+use store_runs::Book;
 
 /// Makes the text of an answer of the book, in place of what was in `text`.
 pub fn compose_answer(answer: &Result<Answered, Refused>, text: &mut Vec<u8>)

@@ -23,7 +23,7 @@ use Rattle.book_words.specs.Signals.{with_act}
 use Rattle.book_words.specs.Verdicts.{verdict_of}
 use Rattle.book_rules.proofs.ClosingLemmas.{close_keeps}
 use Rattle.book_rules.proofs.ReplyLemmas.{HoldsAct, repeated_holds}
-use Rattle.book_state.specs.Told.{entry_numbered}
+use Rattle.book_state.specs.Known.{entry_numbered}
 use Rattle.office_door.specs.Exchanges.{Exchange, IsAnswered, IsAnsweredIn}
 use Rattle.office_wire.specs.declared.types.OfficeAsk.{OfficeAsk}
 use Rattle.office_wire.specs.declared.types.OfficeAsk.TheVariants as office

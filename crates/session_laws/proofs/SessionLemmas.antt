@@ -21,8 +21,8 @@ use Rattle.book_words.proofs.PlainLemmas.{in_both}
 use Rattle.row_format.specs.Spelling.{new_layout, row_bytes}
 use Rattle.row_format.specs.Rows.{CanBeSpelled}
 use Rattle.row_format.proofs.OneEntry.{one_entry}
-use Rattle.book_core.specs.Steps.{MayLackMemory}
-use Rattle.book_core.specs.View.{BookView}
+use Rattle.book_store.specs.Steps.{MayLackMemory}
+use Rattle.book_store.specs.Stores.{BookView}
 use Rattle.book_journal.specs.Mounting.{KeepsFromSync}
 use Rattle.book_store.specs.declared.store.Store.{Store}
 use Rattle.book_store.specs.Images.{HoldsBook}

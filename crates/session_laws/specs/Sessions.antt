@@ -11,7 +11,7 @@ use Rattle.book_words.specs.declared.act.Want.{Want}
 use Rattle.book_words.specs.declared.act.Want.TheVariants as want
 use Rattle.book_words.specs.Answers.{added, IsLawful}
 use Rattle.book_words.specs.Balance.{IsBalanced}
-use Rattle.book_core.specs.Steps.{is_weighing}
+use Rattle.book_store.specs.Steps.{is_weighing}
 use Rattle.book_journal.specs.Mounting.{KeepsFromSync}
 use Rattle.book_store.specs.declared.store.Store.{Store}
 use Rattle.book_store.specs.Images.{HoldsBook}

@@ -28,7 +28,7 @@ impl<D: Disk, N: Session> HeldStore<D, N> {
     ghost use Rattle.device_facts.specs.Prefix.{IsPrefixOf};
     ghost use Rattle.book_words.specs.declared.caller.AskError.TheVariants as error;
     ghost use Rattle.book_words.specs.Answers.{answer, added, IsLegal};
-    ghost use Rattle.book_state.specs.Told.{entry_numbered};
+    ghost use Rattle.book_state.specs.Known.{entry_numbered};
     ghost use Rattle.book_store.specs.Stores.{disk_of, book_of, entries_of, limit_of, Hangs, IsSound};
     ghost use Rattle.book_store.specs.Offers.{CountsDiskFault, GivesAnswer, Offers, list_behind};
     ghost use Rattle.session_laws.specs.Sessions.{Begins, IsKeptSince, weighs};

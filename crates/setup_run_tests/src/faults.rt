@@ -1,6 +1,6 @@
 use crate::plans::SETUP_OF_RICE;
 use crate::runs::{Way, run_over};
-use book_store::Store;
+use book_mount::mount;
 use disk_core::MemoryDisk;
 use std::alloc::{AllocError, Global};
 
@@ -11,7 +11,7 @@ const MOUNTED: u32 = 4;
 fn rows_again(alloc: Global, disk: MemoryDisk) -> Option<u32> {
     let bytes = Vec::from_slice(alloc, disk.bytes()).ok()?;
     let again = MemoryDisk::new(alloc, bytes, Vec::new(alloc));
-    match Store::mount(alloc, again, 1_000_000) {
+    match mount(alloc, again, 1_000_000) {
         Ok(store) => Some(store.len()),
         Err(_) => None,
     }

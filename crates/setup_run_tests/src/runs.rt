@@ -1,3 +1,4 @@
+use book_mount::mount;
 use book_store::Store;
 use book_words::Refused;
 use disk_core::MemoryDisk;
@@ -29,7 +30,7 @@ pub(crate) fn run_over(
     disk: MemoryDisk,
     setup: &[u8],
 ) -> Option<(Way, Store<MemoryDisk>)> {
-    let Ok(store) = Store::mount(alloc, disk, 1_000_000) else {
+    let Ok(store) = mount(alloc, disk, 1_000_000) else {
         return None;
     };
     match run_setup(store, setup, &mut NoNotices) {
@@ -62,7 +63,7 @@ impl SetupNotices for Told {
 /// Which lines of a setup over an empty book are refused.
 pub(crate) fn refusals(alloc: Global, setup: &[u8]) -> Option<Vec<(u64, u8, usize)>> {
     let disk = MemoryDisk::new(alloc, Vec::new(alloc), Vec::new(alloc));
-    let Ok(store) = Store::mount(alloc, disk, 1_000_000) else {
+    let Ok(store) = mount(alloc, disk, 1_000_000) else {
         return None;
     };
     let mut told = Told {

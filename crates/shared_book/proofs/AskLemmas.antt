@@ -28,7 +28,7 @@ use Rattle.book_words.specs.Desks.{Row}
 use Rattle.book_words.proofs.RowLemmas.{at_last}
 use Rattle.book_core.specs.View.{BookView}
 use Rattle.book_core.specs.Steps.{MayLackMemory}
-use Rattle.book_state.specs.Told.{entry_numbered}
+use Rattle.book_state.specs.Known.{entry_numbered}
 use Rattle.book_store.specs.declared.store.Store.{Store}
 use Rattle.book_store.specs.Stores.{disk_of, entries_of, Hangs}
 use Rattle.book_store.specs.Offers.{GivesAnswer, list_behind, CountsDiskFault}

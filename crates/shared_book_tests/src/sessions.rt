@@ -6,6 +6,7 @@ ghost use Rattle.shared_book.specs.Locked.{IsNewSeat};
 ghost use Rattle.shared_book.specs.Passes.{IsPassOf, IsTurnOf};
 
 use crate::asking::{ASKS, act_of, work};
+use book_mount::mount;
 use book_store::Store;
 use book_words::Entry;
 use disk_core::{Disk, QuietDisk};
@@ -149,7 +150,7 @@ type Outcome = ((u32, u32), (u16, u16), usize, u64);
 
 fn outcome<R: Threads + Wait + Sync>(rt: &R, alloc: Global) -> Result<Option<Outcome>, AllocError> {
     let disk = QuietDisk::new(Vec::with_capacity(alloc, 1_000_000)?);
-    let Ok(store) = Store::mount(alloc, disk, 10_000) else {
+    let Ok(store) = mount(alloc, disk, 10_000) else {
         return Ok(None);
     };
     let (rows, faults) = (Blank::new(3), Blank::new(3));

@@ -1,5 +1,6 @@
 ghost use Rattle.book_store.specs.Stores.{IsSound};
 
+use book_mount::mount;
 use book_store::Store;
 use book_words::Entry;
 use disk_core::{Disk, MemoryDisk, MemorySink, MemorySource, Partly};
@@ -71,7 +72,7 @@ pub(crate) fn open_copy(
     rows: usize,
     fails: &[u32],
 ) -> Option<BookCopy<MemoryDisk>> {
-    let Ok(store) = Store::mount(alloc, disk_of(alloc, &[], fails), 1) else {
+    let Ok(store) = mount(alloc, disk_of(alloc, &[], fails), 1) else {
         return None;
     };
     let mut copied = BookCopy { store };

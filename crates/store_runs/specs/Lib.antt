@@ -6,3 +6,7 @@ pub mod Stops
 pub use Rattle.book_store.specs.CallerLaws
 pub use Rattle.book_store.specs.Callers
 pub use Rattle.book_store.specs.Stores
+pub use Rattle.book_store.specs.Kept
+pub use Rattle.book_store.specs.Offers
+pub use Rattle.book_store.specs.Steps
+pub use Rattle.book_store.specs.declared.store.Store

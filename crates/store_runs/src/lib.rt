@@ -7,7 +7,7 @@ mod end;
 mod snapshot;
 mod stop;
 
-pub use book_store::OneCaller;
+pub use book_store::{Book, OneCaller};
 pub use carrying::{bad_row, carry_entry};
 pub use end::RunEnd;
 pub use snapshot::keep_snapshot;

@@ -14,7 +14,7 @@ use Rattle.book_words.specs.declared.reply.Answered.{Answered}
 use Rattle.book_words.specs.declared.reply.Refused.{Refused}
 use Rattle.book_words.specs.declared.name.Name.{Name}
 use Rattle.book_words.specs.Names.{name_of}
-use Rattle.book_state.specs.Told.{entry_numbered}
+use Rattle.book_state.specs.Known.{entry_numbered}
 use Rattle.book_core.specs.declared.types.BookError.TheVariants as error
 use Rattle.book_core.specs.Steps.{GivesLook}
 use Rattle.script_lines.specs.declared.command.Command.{Command}

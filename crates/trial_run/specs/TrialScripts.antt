@@ -15,7 +15,7 @@ use Rattle.book_words.specs.declared.reply.Refused.{Refused}
 use Rattle.book_words.specs.declared.reply.Reply.{Reply}
 use Rattle.book_words.specs.declared.reply.Reply.TheVariants.{SampleIs}
 use Rattle.book_words.specs.Names.{name_of, name_with}
-use Rattle.book_state.specs.Told.{entry_numbered}
+use Rattle.book_state.specs.Known.{entry_numbered}
 use Rattle.script_lines.specs.declared.command.Command.{Command}
 use Rattle.script_lines.specs.declared.command.Verb.{Verb}
 use Rattle.script_lines.specs.declared.command.Verb.TheVariants.{Day, Product, Tare, Open, Start, Weigh, Stop, End, Draw, Measure, Close, Sample}

@@ -1,4 +1,4 @@
-use book_store::Store;
+use book_mount::mount;
 use disk_core::{MemoryDisk, MemorySink};
 use hall_limits::MAX_TRIAL;
 use std::alloc::{AllocError, Global};
@@ -44,7 +44,7 @@ pub(crate) fn run_on(
     if count == 0 || count > MAX_TRIAL {
         return None;
     }
-    let Ok(store) = Store::mount(alloc, disk, 1_000_000) else {
+    let Ok(store) = mount(alloc, disk, 1_000_000) else {
         return None;
     };
     let end = run_trial(alloc, store, number, count, output);

@@ -1,7 +1,7 @@
 use Rattle.std.proofs.Common.{◌∙◌, refl, arith}
 use Rattle.book_snapshot.specs.Blocks.{snapshot_content}
 use Rattle.book_journal.proofs.Moments.{unmoved_none, unmoved_on}
-use Rattle.book_store.proofs.Parts.{part_joins, parts_all, content_most}
+use Rattle.book_mount.proofs.Parts.{part_joins, parts_all, content_most}
 use Rattle.book_audit.proofs.content.read_content.Goals as goal
 
 pub loop-from-init : goal.loop-from-init

@@ -2,8 +2,8 @@ use Rattle.std.proofs.Common.{◌∙◌, Bool, List, ℕ, Result, IfErr, ap, ari
 use Rattle.std.proofs.lemmas.Result.{err_from_is_err_and}
 use Rattle.book_words.proofs.LegalLemmas.{legal_few}
 use Rattle.book_journal.proofs.Moments.{unmoved_on}
-use Rattle.book_store.specs.declared.types.MountError.{MountError}
-use Rattle.book_store.proofs.Exits.{handed_on}
+use Rattle.book_mount.specs.declared.types.MountError.{MountError}
+use Rattle.book_mount.proofs.Exits.{handed_on}
 use Rattle.book_audit.specs.declared.types.Audit.{Audit}
 use Rattle.book_audit.specs.declared.types.Beside.{Beside}
 use Rattle.book_audit.specs.Audits.{IsUnaudited, fingerprint}

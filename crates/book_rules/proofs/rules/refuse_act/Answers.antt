@@ -3,7 +3,7 @@ use Rattle.std.proofs.lemmas.Int.{to_z-of_z}
 use Rattle.book_words.specs.declared.act.Act.{Act}
 use Rattle.book_words.specs.declared.act.Act.TheVariants.{PutProduct}
 use Rattle.book_words.specs.Refusals.{refusals_of, first_refusal}
-use Rattle.book_state.specs.Lanes.{IsSeen}
+use Rattle.book_verdicts.specs.Lanes.{IsSeen}
 use Rattle.book_rules.proofs.rules.refuse_act.Goals as goal
 
 pub refuse_weighing-requires : goal.refuse_weighing-requires

@@ -4,7 +4,7 @@ use Rattle.book_words.specs.declared.act.Act.{Act}
 use Rattle.book_words.specs.declared.act.Act.TheVariants.{Weigh}
 use Rattle.book_words.specs.Acts.{lane_batch}
 use Rattle.book_words.specs.Signals.{judged_signal}
-use Rattle.book_state.specs.Lanes.{IsSeen}
+use Rattle.book_verdicts.specs.Lanes.{IsSeen}
 use Rattle.book_rules.proofs.SignalLemmas.{recorded}
 use Rattle.book_rules.proofs.signals.recorded_signal.Goals as goal
 

@@ -2,7 +2,7 @@ use Rattle.std.proofs.Common.{rules, ◌≡◌, ◌∙◌, ℤ, pos, Some, Optio
 use Rattle.std.specs.Option.{unwrap_or}
 use Rattle.std.proofs.lemmas.Int.{to_z-of_z}
 use Rattle.annex_tables.specs.Errors.{IsNominal, limits_of}
-use Rattle.hall_limits.specs.declared.TheConstants.{MIN_NOMINAL, MAX_NOMINAL}
+use Rattle.annex_tables.specs.declared.TheConstants.{MIN_NOMINAL, MAX_NOMINAL}
 use Rattle.book_words.specs.declared.act.Unit as units
 use Rattle.book_words.specs.Acts.{nominal_of, unit_of}
 use Rattle.book_words.specs.Classes.{density_by_unit}

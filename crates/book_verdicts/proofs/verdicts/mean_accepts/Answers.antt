@@ -1,6 +1,6 @@
 use Rattle.std.proofs.Common.{rules, ◌≡◌, refl, ◌∙◌, ap, arith, lit<, ℤ, ◌≤◌, take, unsigned_abs, w64}
 use Rattle.std.proofs.lemmas.Int.{ints}
-use Rattle.hall_limits.specs.declared.TheConstants.{MAX_NOMINAL}
+use Rattle.annex_tables.specs.declared.TheConstants.{MAX_NOMINAL}
 use Rattle.annex_tables.specs.declared.types.Plan.{Plan}
 use Rattle.reference_test.specs.Means.{sums_of, mean_accepts}
 use Rattle.reference_test.proofs.SignedNumbers.{computes_read}

@@ -4,7 +4,7 @@ use Rattle.hall_limits.specs.declared.TheConstants.{MAX_GROSS, MAX_TARE}
 use Rattle.reference_test.proofs.SignedNumbers.{computes_read, computes_difference}
 use Rattle.book_words.specs.Acts.{product_of}
 use Rattle.book_words.specs.Classes.{class_in_batch}
-use Rattle.book_state.specs.declared.types.KnownPack.{KnownPack}
+use Rattle.book_verdicts.specs.KnownPack.{KnownPack}
 use Rattle.book_verdicts.proofs.BatchFacts.{never_none}
 use Rattle.book_views.proofs.ViewLemmas.{known_view, pack_product}
 use Rattle.book_views.proofs.views.view_pack.Goals as goal

@@ -1,7 +1,7 @@
 use Rattle.std.proofs.Common.{inl, inr, refl, sym, ap, subst}
 use Rattle.serve_run.specs.Works.{lane_site, door_site}
 use Rattle.text_streams.specs.Streams.{input_at, output_at}
-use Rattle.script_run.specs.Outside.{call, devices, outside_at, nothing_told, all_said}
+use Rattle.hall_alone.specs.Outside.{call, devices, outside_at, nothing_told, all_said}
 use Rattle.serve_run.specs.Jobs.{handed_in}
 use Rattle.hall_alone.specs.declared.ended.Ended.{Ended}
 use Rattle.hall_alone.specs.declared.ending.Ending.TheVariants.{Served}

@@ -1,7 +1,7 @@
 use Rattle.std.proofs.Common.{◌≡◌, Ok, Err, Some, None, inr, sym, ◌∙◌, subst}
 use Rattle.command_line.specs.Taken.{seen}
 use Rattle.command_line.specs.Words.{Wanted, bytes_of, wanted_of}
-use Rattle.script_run.specs.Outside.{all_said}
+use Rattle.hall_alone.specs.Outside.{all_said}
 use Rattle.hall_alone.specs.Calls.{Leaves, call_between}
 use Rattle.hall_top.specs.Serving.{EndsServe}
 use Rattle.hall_alone.proofs.CallEnds.{serve_unopened}

@@ -2,7 +2,7 @@ use Rattle.std.proofs.Common.{◌≡◌, ◌∙◌, ℕ, ℤ, pos, ◌*ℤ◌, �
 use Rattle.std.proofs.lemmas.Int.{ints, to_z-of_z}
 use Rattle.std.specs.Int.{w128}
 use Rattle.reference_test.specs.declared.means.TheConstants.{UNIT_DENSITY}
-use Rattle.hall_limits.specs.declared.TheConstants.{MIN_NOMINAL, MAX_NOMINAL}
+use Rattle.annex_tables.specs.declared.TheConstants.{MIN_NOMINAL, MAX_NOMINAL}
 use Rattle.reference_test.proofs.SignedNumbers.{again, Computes, computes_read, computes_product, fits-product}
 use Rattle.paper_check.proofs.sums.is_reached.Goals as goal
 

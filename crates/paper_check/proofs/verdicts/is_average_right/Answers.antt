@@ -1,6 +1,6 @@
 use Rattle.std.proofs.Common.{rules, ◌≡◌, ◌∙◌, ◌≤ℤ◌, ℕ, ℤ, ap, subst, sym, length, vec_len, w64, FitsSigned}
 use Rattle.std.proofs.lemmas.Int.{to_z-of_z}
-use Rattle.hall_limits.specs.declared.TheConstants.{MIN_NOMINAL, MAX_NOMINAL}
+use Rattle.annex_tables.specs.declared.TheConstants.{MIN_NOMINAL, MAX_NOMINAL}
 use Rattle.reference_test.specs.Means.{total}
 use Rattle.reference_test.proofs.SignedNumbers.{again}
 use Rattle.book_words.specs.Verdicts.{average_by}

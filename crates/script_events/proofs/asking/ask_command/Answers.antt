@@ -3,8 +3,8 @@ use Rattle.std.specs.Bool.{⊤}
 use Rattle.book_words.specs.declared.caller.AskError.{AskError}
 use Rattle.book_words.specs.declared.reply.Answered.{Answered}
 use Rattle.book_words.specs.declared.reply.Refused.{Refused}
-use Rattle.book_store.specs.declared.store.Store.{Store}
-use Rattle.book_store.specs.Stores.{book_of, BookView}
+use Rattle.store_runs.specs.Store.{Store}
+use Rattle.store_runs.specs.Stores.{book_of, BookView}
 use Rattle.store_runs.specs.declared.stop.Offer.TheVariants as offering
 use Rattle.store_runs.specs.declared.stop.Stop.TheVariants.{DiskFault, NoMemory}
 use Rattle.store_runs.specs.Runs.{Goes}

@@ -2,7 +2,7 @@ use Rattle.std.proofs.Common.{◌≡◌, ℕ, List, [], OnOk, sym, ap, ◌∙◌
 use Rattle.std.proofs.lemmas.Result.{err_from_is_err_and, on_ok_weaker, IfErr-weaker}
 use Rattle.book_words.specs.Views.{summary}
 use Rattle.batch_reports.specs.Texts.{summary_text}
-use Rattle.book_core.specs.View.{BookView}
+use Rattle.book_store.specs.Stores.{BookView}
 use Rattle.book_store.specs.Stores.{entries_of, held_of}
 use Rattle.text_streams.specs.Streams.{output_at, WroteAll, IsCutIn}
 use Rattle.store_runs.specs.declared.stop.Stop.{Stop}

@@ -5,7 +5,7 @@ use Rattle.book_words.specs.Balance.{MovesOnly}
 use Rattle.book_words.proofs.LegalLemmas.{legal-push}
 use Rattle.book_words.proofs.AllowedActs.{allowed}
 use Rattle.book_laws.proofs.MoveLaws.{moves_only}
-use Rattle.book_state.specs.Lanes.{IsSeen}
+use Rattle.book_rules.specs.Lanes.{IsSeen}
 use Rattle.book_core.specs.View.{BookView}
 use Rattle.book_core.proofs.BookLemmas.{held_is, entered, entered_answer}
 use Rattle.book_core.proofs.book.Book.enter.Goals as goal

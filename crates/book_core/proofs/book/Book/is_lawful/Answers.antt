@@ -4,7 +4,7 @@ use Rattle.book_words.specs.declared.reply.Answered.{Answered}
 use Rattle.book_words.specs.Signals.{recorded_signal}
 use Rattle.book_words.specs.Answers.{ask_of}
 use Rattle.book_words.proofs.AllowedActs.{IsAllowed}
-use Rattle.book_state.specs.Lanes.{IsSeen}
+use Rattle.book_rules.specs.Lanes.{IsSeen}
 use Rattle.book_core.specs.View.{BookView}
 use Rattle.book_core.specs.Steps.{decision}
 use Rattle.book_core.proofs.DecisionLemmas.{new_is_free, decided_lawful}

@@ -2,7 +2,7 @@ use Rattle.std.proofs.Common.{◌≤◌, subst, sym, ◌∙◌, ap}
 use Rattle.hall_limits.specs.declared.TheConstants.{MAX_ROWS}
 use Rattle.book_words.specs.Signals.{recorded_signal}
 use Rattle.book_words.proofs.AllowedActs.{IsAllowed}
-use Rattle.book_state.specs.Lanes.{IsSeen}
+use Rattle.book_rules.specs.Lanes.{IsSeen}
 use Rattle.book_core.specs.View.{BookView}
 use Rattle.book_core.proofs.DecisionLemmas.{new_is_free}
 use Rattle.book_core.proofs.BookLemmas.{new_is_lawful}

@@ -1,7 +1,7 @@
 use Rattle.std.proofs.Common.{rules, ◌≡◌, ◌∙◌, None, ap}
 use Rattle.std.specs.Option.{option_and_then}
 use Rattle.book_words.specs.declared.act.Entry.{Entry}
-use Rattle.book_state.specs.Told.{lane_weighed}
+use Rattle.book_state.specs.Known.{lane_weighed}
 use Rattle.book_state.proofs.ReadingRows.{lane_told}
 use Rattle.book_state.proofs.state.State.lane_of_pack.Goals as goal
 

@@ -1,5 +1,6 @@
 use Rattle.std.proofs.Common.{rules, ◌≡◌, pos, ◌∙◌, None, Some, nat_le, sym, ap, subst, ◌≤◌, option_map}
-use Rattle.hall_limits.specs.declared.TheConstants.{MAX_LANE, MAX_POPULATION}
+use Rattle.annex_tables.specs.declared.TheConstants.{MAX_POPULATION}
+use Rattle.hall_limits.specs.declared.TheConstants.{MAX_LANE}
 use Rattle.std.proofs.lemmas.Bool.{and_parts, leb-true}
 use Rattle.book_packs.specs.declared.types.AtWeighing.{AtWeighing}
 use Rattle.book_packs.specs.Told.{met_at}

@@ -1,5 +1,5 @@
 use Rattle.std.proofs.Common.{rules, ◌≡◌, ℤ, Option, IfSome, subst, sym}
-use Rattle.hall_limits.specs.declared.TheConstants.{MIN_NOMINAL, MAX_NOMINAL}
+use Rattle.annex_tables.specs.declared.TheConstants.{MIN_NOMINAL, MAX_NOMINAL}
 use Rattle.book_words.specs.Acts.{nominal_of}
 use Rattle.book_words.specs.Ranges.{IsBetween}
 use Rattle.book_state.proofs.Parts.{parts_of}

@@ -1,6 +1,6 @@
 use Rattle.std.proofs.Common.{◌≡◌, length, map, ap, ◌∙◌, refl, arith, unsigned_abs, w64, lit<}
 use Rattle.std.proofs.lemmas.Int.{ints}
-use Rattle.annex_tables.specs.TheConstants.{MAX_GROSS}
+use Rattle.hall_limits.specs.declared.TheConstants.{MAX_GROSS}
 use Rattle.reference_test.specs.Means.{PowerSums, total, square}
 use Rattle.reference_test.proofs.SignedNumbers.{computes_read, computes_product, computes_sum}
 use Rattle.reference_test.proofs.Deviations.{sums_of-push}

@@ -1,7 +1,8 @@
 use Rattle.std.proofs.Common.{◌≡◌, ℕ, ◌≤◌, ℤ, pos, ◌-ℤ◌, ◌*ℤ◌, ap, ◌∙◌, refl, arith, lit<, unsigned_abs, w64}
 use Rattle.std.proofs.lemmas.Int.{ints}
 use Rattle.std.specs.Int.{w128}
-use Rattle.annex_tables.specs.TheConstants.{MAX_DENSITY, MAX_NOMINAL}
+use Rattle.annex_tables.specs.declared.TheConstants.{MAX_NOMINAL}
+use Rattle.hall_limits.specs.declared.TheConstants.{MAX_DENSITY}
 use Rattle.annex_tables.specs.Errors.{IsNominal}
 use Rattle.reference_test.specs.Means.{PowerSums}
 use Rattle.reference_test.proofs.SignedNumbers.{again, Computes, computes_read, computes_again, computes_product, computes_difference, computes_literal, fits-product, fits-difference}

@@ -4,7 +4,7 @@ use Rattle.turn_pass.specs.History.{BookState, PassState}
 use Rattle.book_words.specs.declared.act.Entry.{Entry}
 use Rattle.book_words.specs.Answers.{answer, added}
 use Rattle.book_words.specs.Callers.{IsAsked, faults_told}
-use Rattle.book_state.specs.Told.{entry_numbered}
+use Rattle.book_state.specs.Known.{entry_numbered}
 use Rattle.book_words.proofs.LegalLemmas.{legal_few}
 use Rattle.book_store.specs.Offers.{GivesAnswer, Offers, list_behind}
 use Rattle.book_store.specs.declared.store.Store.{Store}

@@ -1,0 +1,9 @@
+pub mod Exits
+pub mod Forms
+pub mod ListedRows
+pub mod MountedStores
+pub mod NewStores
+pub mod OneMoreRow
+pub mod OpenedRows
+pub mod Parts
+pub mod Walks

@@ -1,0 +1,4 @@
+pub mod Causes
+pub mod Listing
+pub mod Mounting
+pub mod Opening
