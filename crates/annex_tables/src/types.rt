@@ -3,7 +3,7 @@ use std::fmt;
 
 /// The limits of a nominal quantity, in mg. A net below `t1` is non-standard, a net below `t2`
 /// inadequate; equality with a limit is not below it.
-#[derive(Clone, Copy, Debug, PartialEq, Eq, Hash)]
+#[derive(Clone, Copy, PartialEq, Eq)]
 pub struct Limits {
     /// The nominal quantity less one tolerable negative error.
     pub t1: i64,
@@ -14,7 +14,7 @@ pub struct Limits {
 }
 
 /// The nominal quantity isn't one of 5 000 mg to 10 000 000 mg.
-#[derive(Clone, Copy, Debug, PartialEq, Eq, Hash)]
+#[derive(Clone, Copy, Debug, PartialEq, Eq)]
 pub struct NominalRange;
 
 impl fmt::Display for NominalRange {
@@ -27,7 +27,7 @@ impl Error for NominalRange {}
 
 /// Whether the packs that are measured are kept (the non-destructive test) or emptied (the
 /// destructive test).
-#[derive(Clone, Copy, Debug, PartialEq, Eq, Hash)]
+#[derive(Clone, Copy, Debug, PartialEq, Eq)]
 pub enum Mode {
     /// The non-destructive test.
     Keep,
@@ -36,7 +36,7 @@ pub enum Mode {
 }
 
 /// How many packs of a batch are measured, and what their measures are held against (Annex II).
-#[derive(Clone, Copy, Debug, PartialEq, Eq, Hash)]
+#[derive(Clone, Copy, PartialEq, Eq)]
 pub struct Plan {
     /// The size of the first sample.
     pub first: u32,
@@ -58,7 +58,7 @@ pub struct Plan {
 }
 
 /// There is no plan for the batch.
-#[derive(Clone, Copy, Debug, PartialEq, Eq, Hash)]
+#[derive(Clone, Copy, Debug, PartialEq, Eq)]
 pub enum PlanRefusal {
     /// The batch has no pack.
     Empty,

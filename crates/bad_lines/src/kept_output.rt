@@ -6,7 +6,7 @@ use std::{io, str};
 const ROOM: usize = 64;
 
 /// What the last line of an output says is bad.
-#[derive(Clone, Copy, Debug, PartialEq, Eq)]
+#[derive(Clone, Copy, PartialEq, Eq)]
 pub enum Fault {
     /// The line of this number.
     Line(u64),

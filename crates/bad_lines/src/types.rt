@@ -1,7 +1,7 @@
 use std::fmt;
 
 /// What an input is made of.
-#[derive(Clone, Copy, Debug, PartialEq, Eq)]
+#[derive(Clone, Copy, PartialEq, Eq)]
 pub enum Kind {
     /// A line a command: a script is read piece by piece.
     Script,
@@ -14,7 +14,7 @@ pub enum Kind {
 }
 
 /// Why a line is bad.
-#[derive(Clone, Copy, Debug, PartialEq, Eq)]
+#[derive(Clone, Copy, PartialEq, Eq)]
 pub enum Reason<'a> {
     /// A byte order mark stands before it.
     ByteOrderMark,

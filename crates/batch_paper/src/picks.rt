@@ -13,7 +13,7 @@ use paper_form::{Line, Pick, Weighed};
 use std::alloc::AllocError;
 
 /// Which sample a pack was drawn into.
-#[derive(Clone, Copy, Debug, PartialEq, Eq)]
+#[derive(Clone, Copy, PartialEq, Eq)]
 pub enum Part {
     First,
     Second,

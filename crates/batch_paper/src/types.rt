@@ -35,7 +35,7 @@ impl Paper {
 }
 
 /// Why a batch has no paper.
-#[derive(Clone, Copy, Debug, PartialEq, Eq)]
+#[derive(Clone, Copy, PartialEq, Eq)]
 pub enum PaperError {
     /// There is no such batch.
     Unknown,

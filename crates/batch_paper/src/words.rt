@@ -8,7 +8,7 @@ ghost use Rattle.batch_paper.specs.Written.{first_word, is_close_of, closing_pla
 use book_words::{Act, Entry, Name};
 
 /// The words by which the samples of a batch were drawn.
-#[derive(Clone, Copy, Debug, PartialEq, Eq)]
+#[derive(Clone, Copy, PartialEq, Eq)]
 pub struct Words {
     pub first: Option<u64>,
     pub second: Option<u64>,

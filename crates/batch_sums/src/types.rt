@@ -5,7 +5,7 @@ use std::alloc::AllocError;
 pub type NoMemory = AllocError;
 
 /// The totals of a batch. All masses are in mg.
-#[derive(Clone, Copy, Debug, PartialEq, Eq, Hash)]
+#[derive(Clone, Copy, PartialEq, Eq)]
 pub struct Totals {
     /// The packs that passed.
     pub passed: Tally,
@@ -26,7 +26,7 @@ pub struct Totals {
 }
 
 /// A pack that was added, as it now is. All masses are in mg.
-#[derive(Clone, Copy, Debug, PartialEq, Eq, Hash)]
+#[derive(Clone, Copy, PartialEq, Eq)]
 pub struct Pack {
     /// The number that it was added with.
     pub number: u32,
@@ -43,7 +43,7 @@ pub struct Pack {
 }
 
 /// The tallies of the packs of all batches together, a pile each. All masses are in mg.
-#[derive(Clone, Copy, Debug, PartialEq, Eq, Hash)]
+#[derive(Clone, Copy, PartialEq, Eq)]
 pub struct Piles {
     /// The packs that passed.
     pub passed: Tally,

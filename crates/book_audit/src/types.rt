@@ -1,7 +1,7 @@
 use book_mount::MountError;
 
 /// How the snapshot on a disk compares with what the slots give.
-#[derive(Clone, Copy, Debug, PartialEq, Eq)]
+#[derive(Clone, Copy, PartialEq, Eq)]
 pub enum Beside {
     /// No snapshot fits the disk.
     None,
@@ -13,7 +13,7 @@ pub enum Beside {
 }
 
 /// What an audit finds on a disk.
-#[derive(Clone, Copy, Debug, PartialEq, Eq)]
+#[derive(Clone, Copy, PartialEq, Eq)]
 pub struct Audit {
     /// How many rows the slots give, up to the first that is cut, closed or damaged.
     pub rows: u32,
@@ -26,7 +26,7 @@ pub struct Audit {
 }
 
 /// How an audit ended.
-#[derive(Clone, Copy, Debug, PartialEq, Eq)]
+#[derive(Clone, Copy, PartialEq, Eq)]
 pub enum AuditEnd {
     /// The book is whole, and that was said.
     Whole,

@@ -3,7 +3,7 @@ use std::marker::Model;
 
 /// A lawful act with its row: room for it is taken, and it can be entered until another act is made
 /// ready.
-#[derive(Debug, Drop)]
+#[derive(Drop)]
 pub struct Ready {
     row: u32,
     taken: Entry,

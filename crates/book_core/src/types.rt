@@ -6,7 +6,7 @@ use std::alloc::AllocError;
 pub type NoMemory = AllocError;
 
 /// What making an act ready gives.
-#[derive(Debug, Drop)]
+#[derive(Drop)]
 pub enum Step {
     /// The act is lawful, and there is room for it.
     New(Ready),
@@ -15,7 +15,7 @@ pub enum Step {
 }
 
 /// Why a book doesn't answer as was asked.
-#[derive(Clone, Copy, Debug, PartialEq, Eq)]
+#[derive(Clone, Copy, PartialEq, Eq)]
 pub enum BookError {
     /// The act is refused.
     Refused(Refused),
@@ -38,7 +38,7 @@ impl From<BookError> for AskError {
 }
 
 /// Why an entry isn't taken as it stands.
-#[derive(Clone, Copy, Debug, PartialEq, Eq)]
+#[derive(Clone, Copy, PartialEq, Eq)]
 pub enum ReplayError {
     /// It isn't lawful after the list.
     Unlawful,

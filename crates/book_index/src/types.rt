@@ -5,7 +5,7 @@ use std::alloc::AllocError;
 pub type NoMemory = AllocError;
 
 /// How much a product holds.
-#[derive(Clone, Copy, Debug, PartialEq, Eq)]
+#[derive(Clone, Copy, PartialEq, Eq)]
 pub struct ProductTerms {
     /// The nominal quantity, in mg or microlitres by its unit.
     pub nominal: i64,
@@ -14,7 +14,7 @@ pub struct ProductTerms {
 }
 
 /// What a batch is of, and what has become of it.
-#[derive(Clone, Copy, Debug, PartialEq, Eq)]
+#[derive(Clone, Copy, PartialEq, Eq)]
 pub struct BatchTerms {
     /// The number of its product: the place in the order of the products, from 0.
     pub product: u32,
@@ -24,7 +24,7 @@ pub struct BatchTerms {
 }
 
 /// How many batches are in each state.
-#[derive(Clone, Copy, Debug, PartialEq, Eq)]
+#[derive(Clone, Copy, PartialEq, Eq)]
 pub struct States {
     pub running: u32,
     pub ended: u32,

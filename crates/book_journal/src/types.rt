@@ -4,7 +4,7 @@ use std::error::Error;
 use std::fmt;
 
 /// Why a disk wasn't mounted.
-#[derive(Clone, Copy, Debug, PartialEq, Eq, Hash)]
+#[derive(Clone, Copy, Debug, PartialEq, Eq)]
 pub enum JournalFault {
     /// The disk failed.
     Failed,

@@ -2,7 +2,7 @@ use std::error::Error;
 use std::fmt;
 
 /// Why a disk wasn't mounted as a store.
-#[derive(Clone, Copy, Debug, PartialEq, Eq, Hash)]
+#[derive(Clone, Copy, Debug, PartialEq, Eq)]
 pub enum MountError {
     /// The disk has more than 97 bytes and isn't a journal: the byte at this place is the first
     /// that differs from a journal's header, byte 8 being passed over.

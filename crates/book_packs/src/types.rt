@@ -7,7 +7,7 @@ use std::alloc::AllocError;
 pub type NoMemory = AllocError;
 
 /// What a weighing finds in its batch: the population as the act leaves it, before its own pack.
-#[derive(Clone, Copy, Debug, PartialEq, Eq)]
+#[derive(Clone, Copy, PartialEq, Eq)]
 pub struct AtWeighing {
     /// The limits of the batch, in mg.
     pub limits: Limits,
@@ -20,7 +20,7 @@ pub struct AtWeighing {
 }
 
 /// A pack that is weighed on a lane. Its batch is given by its number, masses are in mg.
-#[derive(Clone, Copy, Debug, PartialEq, Eq)]
+#[derive(Clone, Copy, PartialEq, Eq)]
 pub struct Weighing {
     /// The lane, 1 to 16.
     pub lane: u8,

@@ -9,7 +9,7 @@ use hall_limits::{MAX_DESK, MIN_DESK};
 use std::marker::Model;
 
 /// The newest row of a desk.
-#[derive(Clone, Copy, Debug)]
+#[derive(Clone, Copy)]
 struct DeskRow {
     number: u32,
     entry: Entry,

@@ -6,7 +6,7 @@ use std::alloc::Global;
 use std::marker::Model;
 
 /// What a pack weighed in the test, and what it weighed empty, in mg.
-#[derive(Clone, Copy, Debug, PartialEq, Eq)]
+#[derive(Clone, Copy, PartialEq, Eq)]
 pub struct Measured {
     gross: i64,
     empty: i64,
@@ -50,12 +50,12 @@ impl Measured {
 /// those of the second where one was drawn.
 ///
 /// It is a pointer, so that what keeps a place for it takes little memory where there is none.
-#[derive(Debug, Drop)]
+#[derive(Drop)]
 pub struct Sample {
     parts: Box<Parts>,
 }
 
-#[derive(Debug, Drop)]
+#[derive(Drop)]
 struct Parts {
     mode: Mode,
     plan: Plan,

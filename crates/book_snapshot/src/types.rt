@@ -36,7 +36,7 @@ impl Dense {
 }
 
 /// What stands at the beginning of dense forms, for rows of `Z` bytes.
-#[derive(Clone, Copy, Debug, PartialEq, Eq)]
+#[derive(Clone, Copy, PartialEq, Eq)]
 pub enum Piece<const Z: usize> {
     /// A row, and how many bytes its dense form takes.
     Row { row: [u8; Z], taken: usize },
@@ -47,7 +47,7 @@ pub enum Piece<const Z: usize> {
 }
 
 /// The size of a snapshot.
-#[derive(Clone, Copy, Debug, PartialEq, Eq, Hash)]
+#[derive(Clone, Copy, PartialEq, Eq)]
 pub struct Kept {
     /// How many rows it holds.
     pub rows: u32,

@@ -18,7 +18,7 @@ pub struct LaneNow {
 }
 
 /// What is known of a pack. Masses are in mg.
-#[derive(Clone, Copy, Debug, PartialEq, Eq)]
+#[derive(Clone, Copy, PartialEq, Eq)]
 pub struct KnownPack {
     pub batch: Name,
     pub lane: u8,

@@ -2,7 +2,7 @@ use std::error::Error;
 use std::fmt;
 
 /// Why an entry wasn't adopted.
-#[derive(Clone, Copy, Debug, PartialEq, Eq, Hash)]
+#[derive(Clone, Copy, Debug, PartialEq, Eq)]
 pub enum AdoptError {
     /// It isn't lawful behind the list.
     Unlawful,
@@ -25,7 +25,7 @@ impl fmt::Display for AdoptError {
 impl Error for AdoptError {}
 
 /// Why no snapshot was kept.
-#[derive(Clone, Copy, Debug, PartialEq, Eq, Hash)]
+#[derive(Clone, Copy, Debug, PartialEq, Eq)]
 pub enum RestError {
     /// The disk failed.
     DiskFault,

@@ -149,7 +149,7 @@ pub struct Ask {
 }
 
 /// An accepted command: who brought it, and the signal where it is a weighing.
-#[derive(Clone, Copy, Debug, PartialEq, Eq)]
+#[derive(Clone, Copy, PartialEq, Eq)]
 pub struct Entry {
     /// The caller that brought it: 0 for a script, else the number of a lane or a door.
     pub by: u16,
@@ -164,7 +164,7 @@ pub struct Entry {
 }
 
 /// A weighing of the list, with what the entries round it say of it.
-#[derive(Clone, Copy, Debug, PartialEq, Eq)]
+#[derive(Clone, Copy, PartialEq, Eq)]
 pub struct Reading {
     /// Its place in the list, from 1, which is the number of the pack.
     pub number: u32,

@@ -6,7 +6,7 @@ use crate::act::Ask;
 use crate::reply::{Answered, Refused};
 
 /// Why an ask isn't answered by the book's reply.
-#[derive(Clone, Copy, Debug, PartialEq, Eq)]
+#[derive(Clone, Copy, PartialEq, Eq)]
 pub enum AskError {
     /// The book refuses it.
     Refused(Refused),

@@ -6,7 +6,7 @@ use hall_limits::NAME_BYTES;
 /// The name of a product or a batch: 1 to 32 bytes.
 ///
 /// The places after its bytes hold 0, so that two names are equal exactly where their bytes are.
-#[derive(Clone, Copy, Debug, PartialEq, Eq, Hash)]
+#[derive(Clone, Copy, Debug, PartialEq, Eq)]
 pub struct Name {
     len: u8,
     places: [u8; NAME_BYTES],

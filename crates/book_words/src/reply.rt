@@ -3,7 +3,7 @@ use crate::views::{LaneView, PackView, SampleView, Sheet, SummaryView, Verdict};
 use pack_judge::Signal;
 
 /// The answer to an ask that isn't refused.
-#[derive(Debug, PartialEq, Eq, Drop)]
+#[derive(PartialEq, Eq, Drop)]
 pub enum Reply {
     /// The act is recorded in this row.
     Done { row: u32 },
@@ -24,7 +24,7 @@ pub enum Reply {
 }
 
 /// A reply, and the place in the list that it speaks of: the new row, or the length of the list.
-#[derive(Debug, PartialEq, Eq, Drop)]
+#[derive(PartialEq, Eq, Drop)]
 pub struct Answered {
     pub at: u32,
     pub reply: Reply,

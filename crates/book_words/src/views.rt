@@ -35,7 +35,7 @@ pub enum Verdict {
 
 /// The reference test of a batch: its mode, and how many packs of each sample were drawn, measured
 /// and found defective.
-#[derive(Clone, Copy, Debug, PartialEq, Eq)]
+#[derive(Clone, Copy, PartialEq, Eq)]
 pub struct TestView {
     pub mode: Mode,
     pub first: u32,
@@ -49,7 +49,7 @@ pub struct TestView {
 /// The state of a batch. The nominal quantity and its tolerable negative error are in mg or
 /// microlitres, by the unit; the density is in mg a litre, and 0 for a batch by mass; all else is
 /// in mg.
-#[derive(Clone, Copy, Debug, PartialEq, Eq)]
+#[derive(Clone, Copy, PartialEq, Eq)]
 pub struct Sheet {
     pub batch: Name,
     pub product: Name,
@@ -80,7 +80,7 @@ pub struct Sheet {
 }
 
 /// The state of a pack. Masses are in mg.
-#[derive(Clone, Copy, Debug, PartialEq, Eq)]
+#[derive(Clone, Copy, PartialEq, Eq)]
 pub struct PackView {
     /// The number of the pack: the row of its weighing.
     pub pack: u32,
@@ -98,7 +98,7 @@ pub struct PackView {
 }
 
 /// What a lane does: the batch that it weighs, and the number of its unsettled pack.
-#[derive(Clone, Copy, Debug, PartialEq, Eq)]
+#[derive(Clone, Copy, PartialEq, Eq)]
 pub struct LaneView {
     pub lane: u8,
     pub batch: Option<Name>,
@@ -106,7 +106,7 @@ pub struct LaneView {
 }
 
 /// The packs that were drawn from a batch, in drawing order.
-#[derive(Debug, PartialEq, Eq, Drop)]
+#[derive(PartialEq, Eq, Drop)]
 pub struct SampleView {
     pub batch: Name,
     pub first: Picks,
@@ -116,7 +116,7 @@ pub struct SampleView {
 
 /// The balance of the whole hall: the rows of its list, its readings and the four piles, and how
 /// many batches are in each state.
-#[derive(Clone, Copy, Debug, PartialEq, Eq)]
+#[derive(Clone, Copy, PartialEq, Eq)]
 pub struct SummaryView {
     pub rows: u32,
     pub readings: Tally,

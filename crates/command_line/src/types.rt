@@ -3,7 +3,7 @@ use book_words::Name;
 use std::fmt;
 
 /// What the program is to do.
-#[derive(Clone, Copy, Debug, PartialEq, Eq)]
+#[derive(Clone, Copy, PartialEq, Eq)]
 pub enum Command {
     /// Reads a script: `run [--book PATH] [--limit N] [--lanes N] [--cells DIR] [--remote P]`
     Run,
@@ -75,7 +75,7 @@ pub struct Wants {
 }
 
 /// Why the words give nothing.
-#[derive(Clone, Copy, Debug, PartialEq, Eq)]
+#[derive(Clone, Copy, PartialEq, Eq)]
 pub enum WantsError {
     /// They are outside the grammar.
     Usage,

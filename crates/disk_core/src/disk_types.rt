@@ -3,7 +3,7 @@
 pub const DISK_END: u64 = 1 << 40;
 
 /// What a crash leaves of the bytes that were written since the last sync that answered Ok.
-#[derive(Clone, Copy, Debug, PartialEq, Eq, Hash)]
+#[derive(Clone, Copy, PartialEq, Eq)]
 pub enum Keep {
     /// What stood there at that sync: nothing was written.
     Earlier,

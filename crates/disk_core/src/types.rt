@@ -6,7 +6,7 @@ use std::fmt;
 pub type NoMemory = AllocError;
 
 /// The answer of a call on a device that failed: its count of faults rose in that call.
-#[derive(Clone, Copy, Debug, PartialEq, Eq, Hash)]
+#[derive(Clone, Copy, Debug, PartialEq, Eq)]
 pub struct Failed;
 
 impl fmt::Display for Failed {
@@ -18,7 +18,7 @@ impl fmt::Display for Failed {
 impl Error for Failed {}
 
 /// A device failed while bytes were written: only the first `done` of them went out.
-#[derive(Clone, Copy, Debug, PartialEq, Eq, Hash)]
+#[derive(Clone, Copy, Debug, PartialEq, Eq)]
 pub struct Partly {
     /// How many bytes went out.
     pub done: usize,

@@ -5,7 +5,7 @@ use std::io::ErrorKind;
 use std::{fmt, io};
 
 /// Why the file of a disk isn't open.
-#[derive(Debug, Drop)]
+#[derive(Drop)]
 pub enum OpenError {
     /// Another hall has it open.
     Held,

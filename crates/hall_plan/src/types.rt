@@ -20,7 +20,7 @@ pub struct Plan {
 }
 
 /// What a plan says of one lane.
-#[derive(Clone, Copy, Debug, PartialEq, Eq)]
+#[derive(Clone, Copy, PartialEq, Eq)]
 pub struct PlannedLane {
     /// The number of the lane: 1 to `MAX_LANE`.
     pub number: u8,

@@ -14,7 +14,7 @@ pub const LAST_RECORD: u32 = MAX_RECORDS + 1;
 pub type NoMemory = AllocError;
 
 /// Why an import is read no further.
-#[derive(Clone, Copy, Debug, PartialEq, Eq)]
+#[derive(Clone, Copy, PartialEq, Eq)]
 pub enum ImportError {
     /// The record of this number isn't an act that a line of a script asks, or isn't the header where
     /// it is 1; 0 where the import has more than `MAX_IMPORT` bytes.
@@ -47,7 +47,7 @@ impl From<AllocError> for ImportError {
 }
 
 /// How far an import was read.
-#[derive(Clone, Copy, Debug, PartialEq, Eq)]
+#[derive(Clone, Copy, PartialEq, Eq)]
 pub enum Progress {
     /// There may be more.
     Reading,

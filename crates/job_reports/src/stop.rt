@@ -1,7 +1,7 @@
 use store_runs::Stop;
 
 /// How a run of jobs stopped, once they ran.
-#[derive(Clone, Copy, Debug, PartialEq, Eq)]
+#[derive(Clone, Copy, PartialEq, Eq)]
 pub enum JobsStop {
     /// Their lines and the summary went out.
     Finished,

@@ -4,7 +4,7 @@ ghost use Rattle.lane_worker.specs.Endings.{weighing_stop, ask_stop};
 use book_words::{AskError, Refused};
 
 /// Why a worker weighs no more packs, while the book answers.
-#[derive(Clone, Copy, Debug, PartialEq, Eq)]
+#[derive(Clone, Copy, PartialEq, Eq)]
 pub enum WeighingEnd {
     /// The cell gave its end.
     End,

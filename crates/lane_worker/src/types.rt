@@ -1,5 +1,5 @@
 /// What a cell gives next.
-#[derive(Clone, Copy, Debug, PartialEq, Eq)]
+#[derive(Clone, Copy, PartialEq, Eq)]
 pub enum CellNext {
     /// The gross of a pack in mg.
     Gross(i64),

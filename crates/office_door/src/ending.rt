@@ -1,5 +1,5 @@
 /// Why a door serves no more connections.
-#[derive(Clone, Copy, Debug, PartialEq, Eq)]
+#[derive(Clone, Copy, PartialEq, Eq)]
 pub enum DoorStop {
     /// No connection waits any more.
     Done,
@@ -13,7 +13,7 @@ pub enum DoorStop {
 
 /// The end of the work of a door: how many requests were taken, how many connections a fault of the
 /// link ended, and why no more were served.
-#[derive(Clone, Copy, Debug, PartialEq, Eq)]
+#[derive(Clone, Copy, PartialEq, Eq)]
 pub struct DoorEnd {
     pub served: u32,
     pub links: u32,

@@ -5,7 +5,7 @@ ghost use Rattle.office_door.specs.Steps.{left_behind};
 use disk_core::Partly;
 
 /// Why a connection is left.
-#[derive(Clone, Copy, Debug, PartialEq, Eq)]
+#[derive(Clone, Copy, PartialEq, Eq)]
 pub enum Leaving {
     /// Its end was given, and no request begins before it.
     End,

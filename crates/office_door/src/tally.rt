@@ -5,7 +5,7 @@ use crate::ending::{DoorEnd, DoorStop};
 
 /// What a door has served so far: how many requests it took, and how many connections a fault of
 /// the link ended.
-#[derive(Clone, Copy, Debug, PartialEq, Eq)]
+#[derive(Clone, Copy, PartialEq, Eq)]
 pub(crate) struct Tally {
     pub served: u32,
     pub links: u32,

@@ -1,5 +1,5 @@
 /// What is found at a path.
-#[derive(Clone, Copy, Debug, Drop, PartialEq, Eq)]
+#[derive(Clone, Copy, Drop, PartialEq, Eq)]
 pub enum Spot {
     /// `/acts`: acts, which are posted.
     Acts,

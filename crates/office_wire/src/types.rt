@@ -1,7 +1,7 @@
 use book_words::{Ask, Question};
 
 /// What is wrong with the form of a request.
-#[derive(Clone, Copy, Debug, PartialEq, Eq)]
+#[derive(Clone, Copy, PartialEq, Eq)]
 pub enum Bad {
     /// The head isn't one, is too long, or has too many headers.
     Head,
@@ -24,7 +24,7 @@ pub enum Bad {
 }
 
 /// The status of a response.
-#[derive(Clone, Copy, Debug, PartialEq, Eq)]
+#[derive(Clone, Copy, PartialEq, Eq)]
 pub enum Status {
     /// 200: what was asked is answered.
     Ok,
@@ -47,7 +47,7 @@ pub enum Status {
 }
 
 /// The type of the body of a response.
-#[derive(Clone, Copy, Debug, PartialEq, Eq)]
+#[derive(Clone, Copy, PartialEq, Eq)]
 pub enum Media {
     /// An object of JSON.
     Json,
@@ -56,7 +56,7 @@ pub enum Media {
 }
 
 /// The line of a head that not every response has.
-#[derive(Clone, Copy, Debug, PartialEq, Eq)]
+#[derive(Clone, Copy, PartialEq, Eq)]
 pub enum Extra {
     /// There is none.
     Nothing,
@@ -67,7 +67,7 @@ pub enum Extra {
 }
 
 /// The head of a response, without the length of its body.
-#[derive(Clone, Copy, Debug, PartialEq, Eq)]
+#[derive(Clone, Copy, PartialEq, Eq)]
 pub struct Head {
     pub status: Status,
     pub media: Media,
@@ -77,7 +77,7 @@ pub struct Head {
 }
 
 /// What is found at the path of a request.
-#[derive(Clone, Copy, Debug, PartialEq, Eq)]
+#[derive(Clone, Copy, PartialEq, Eq)]
 pub enum Route {
     /// Acts, which are posted.
     Acts,
@@ -86,7 +86,7 @@ pub enum Route {
 }
 
 /// What a request asks.
-#[derive(Clone, Copy, Debug, PartialEq, Eq)]
+#[derive(Clone, Copy, PartialEq, Eq)]
 pub enum OfficeAsk {
     /// An act of a desk, or a question.
     Ask(Ask),
@@ -97,7 +97,7 @@ pub enum OfficeAsk {
 }
 
 /// A request.
-#[derive(Clone, Copy, Debug, PartialEq, Eq)]
+#[derive(Clone, Copy, PartialEq, Eq)]
 pub struct Framed {
     /// How many bytes it has.
     pub taken: usize,
@@ -107,7 +107,7 @@ pub struct Framed {
 }
 
 /// What bytes begin with.
-#[derive(Clone, Copy, Debug, PartialEq, Eq)]
+#[derive(Clone, Copy, PartialEq, Eq)]
 pub enum Frame {
     /// A request, or one that is at fault.
     Whole(Framed),

@@ -1,7 +1,7 @@
 use book_words::Entry;
 
 /// What the bytes said that were taken last.
-#[derive(Clone, Copy, Debug, PartialEq, Eq)]
+#[derive(Clone, Copy, PartialEq, Eq)]
 pub enum OldPiece {
     /// Some bytes of a slot.
     Part,
@@ -18,7 +18,7 @@ pub enum OldPiece {
 }
 
 /// What the next slot is.
-#[derive(Clone, Copy, Debug, PartialEq, Eq)]
+#[derive(Clone, Copy, PartialEq, Eq)]
 pub enum Stage {
     /// The header.
     Header,

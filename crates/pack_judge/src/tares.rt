@@ -1,6 +1,6 @@
 /// A tare of one product: from its day on, until the next day for which there is one, the empty
 /// package weighs this much.
-#[derive(Clone, Copy, Debug, PartialEq, Eq)]
+#[derive(Clone, Copy, PartialEq, Eq)]
 pub struct DatedTare {
     /// The first day for which the tare is meant, in days since 1970-01-01.
     pub day: i32,
@@ -9,7 +9,7 @@ pub struct DatedTare {
 }
 
 /// Days that follow one another.
-#[derive(Clone, Copy, Debug, PartialEq, Eq)]
+#[derive(Clone, Copy, PartialEq, Eq)]
 pub struct Span {
     /// The first of the days, in days since 1970-01-01.
     pub from: i32,

@@ -1,5 +1,5 @@
 /// What a net is by the two limits of its nominal quantity (Annex I).
-#[derive(Clone, Copy, Debug, PartialEq, Eq, Hash)]
+#[derive(Clone, Copy, PartialEq, Eq)]
 pub enum Class {
     /// Not below the nominal quantity less one tolerable negative error.
     Standard,
@@ -10,7 +10,7 @@ pub enum Class {
 }
 
 /// Why a pack is rejected.
-#[derive(Clone, Copy, Debug, PartialEq, Eq, Hash)]
+#[derive(Clone, Copy, PartialEq, Eq)]
 pub enum Cause {
     /// An inadequate pack lies in the population of the batch.
     Held,
@@ -24,7 +24,7 @@ pub enum Cause {
 }
 
 /// What the gate is told about a pack.
-#[derive(Clone, Copy, Debug, PartialEq, Eq, Hash)]
+#[derive(Clone, Copy, PartialEq, Eq)]
 pub enum Signal {
     /// The gate may open.
     Pass,
@@ -33,7 +33,7 @@ pub enum Signal {
 }
 
 /// Where a reading lies: in exactly one of the four piles.
-#[derive(Clone, Copy, Debug, PartialEq, Eq, Hash)]
+#[derive(Clone, Copy, Debug, PartialEq, Eq)]
 pub enum Pile {
     /// Passed, and in none of the other piles.
     Passed,
@@ -46,7 +46,7 @@ pub enum Pile {
 }
 
 /// How many readings a pile has, and the sum of their gross masses in mg.
-#[derive(Clone, Copy, Debug, PartialEq, Eq, Hash)]
+#[derive(Clone, Copy, PartialEq, Eq)]
 pub struct Tally {
     /// How many readings.
     pub count: u32,

@@ -5,7 +5,7 @@ use std::marker::Model;
 
 /// Packs in the order of their weighings. It is made from a `Vec` and gives it back without taking
 /// memory.
-#[derive(Debug, Drop)]
+#[derive(Drop)]
 pub struct PackList {
     packs: Vec<PackView>,
 }

@@ -7,7 +7,7 @@ use std::alloc::AllocError;
 pub const MAX_PAPER: usize = 16_777_216;
 
 /// What a paper says of a batch and its goods.
-#[derive(Clone, Copy, Debug, PartialEq, Eq)]
+#[derive(Clone, Copy, PartialEq, Eq)]
 pub struct Goods {
     pub batch: Name,
     pub product: Name,
@@ -21,7 +21,7 @@ pub struct Goods {
 }
 
 /// A pack of the population.
-#[derive(Clone, Copy, Debug, PartialEq, Eq)]
+#[derive(Clone, Copy, PartialEq, Eq)]
 pub struct Pack {
     /// The row of its weighing.
     pub number: u32,
@@ -32,7 +32,7 @@ pub struct Pack {
 }
 
 /// What the samples are drawn by.
-#[derive(Clone, Copy, Debug, PartialEq, Eq)]
+#[derive(Clone, Copy, PartialEq, Eq)]
 pub struct Draw {
     /// Whether the packs are kept or destroyed.
     pub mode: Mode,
@@ -41,7 +41,7 @@ pub struct Draw {
 }
 
 /// What a pack weighed in the test, in mg.
-#[derive(Clone, Copy, Debug, PartialEq, Eq)]
+#[derive(Clone, Copy, PartialEq, Eq)]
 pub struct Weighed {
     pub gross: i64,
     /// The empty pack; 0 where packs are kept.
@@ -49,14 +49,14 @@ pub struct Weighed {
 }
 
 /// A pack of a sample, and what it weighed where it was measured.
-#[derive(Clone, Copy, Debug, PartialEq, Eq)]
+#[derive(Clone, Copy, PartialEq, Eq)]
 pub struct Pick {
     pub pack: u32,
     pub weighed: Option<Weighed>,
 }
 
 /// What a line of a paper says.
-#[derive(Clone, Copy, Debug, PartialEq, Eq)]
+#[derive(Clone, Copy, PartialEq, Eq)]
 pub enum Line {
     /// `paper 1`
     Title,
@@ -79,7 +79,7 @@ pub enum Line {
 }
 
 /// Which lines may come next in a paper.
-#[derive(Clone, Copy, Debug, PartialEq, Eq)]
+#[derive(Clone, Copy, PartialEq, Eq)]
 pub enum Stage {
     /// The title.
     Title,

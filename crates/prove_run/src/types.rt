@@ -1,5 +1,5 @@
 /// How the proving of an input ended.
-#[derive(Clone, Copy, Debug, PartialEq, Eq)]
+#[derive(Clone, Copy, PartialEq, Eq)]
 pub enum ProveEnd {
     /// It is a paper that is true, and that was told.
     Proved,

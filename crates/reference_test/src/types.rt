@@ -6,7 +6,7 @@ ghost use Rattle.reference_test.specs.Means.{square, sums_of};
 use std::marker::Model;
 
 /// What the contents check says of a batch.
-#[derive(Clone, Copy, Debug, PartialEq, Eq, Hash)]
+#[derive(Clone, Copy, PartialEq, Eq)]
 pub enum Contents {
     /// There are few enough defective packs.
     Accept,
@@ -17,7 +17,7 @@ pub enum Contents {
 }
 
 /// The number of at most 100 values in mg, their sum, and the sum of their squares.
-#[derive(Clone, Copy, Debug)]
+#[derive(Clone, Copy)]
 pub struct Sums {
     number: u32,
     values: i64,

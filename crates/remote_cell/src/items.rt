@@ -1,7 +1,7 @@
 use std::marker::Model;
 
 /// What a scale sends in one line.
-#[derive(Clone, Copy, Debug, PartialEq, Eq)]
+#[derive(Clone, Copy, PartialEq, Eq)]
 pub enum Item {
     /// The gross of a pack in mg.
     Gross(i64),

@@ -6,7 +6,7 @@ use crate::held::{Held, MAX_HELD};
 use disk_core::{Door, Failed};
 
 /// How the reading of a line ended.
-#[derive(Clone, Copy, Debug, PartialEq, Eq)]
+#[derive(Clone, Copy, PartialEq, Eq)]
 pub(crate) enum LineEnd {
     /// Its LF was read.
     Whole,

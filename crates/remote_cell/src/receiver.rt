@@ -1,7 +1,7 @@
 use std::marker::Model;
 
 /// What a receiver makes of a line.
-#[derive(Clone, Copy, Debug, PartialEq, Eq)]
+#[derive(Clone, Copy, PartialEq, Eq)]
 pub enum Heard {
     /// Its item is the next one, and is taken.
     Take,

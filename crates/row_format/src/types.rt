@@ -5,7 +5,7 @@ use std::fmt;
 pub const OLD_NAME_BYTES: usize = 16;
 
 /// The bytes spell no entry for their number.
-#[derive(Clone, Copy, Debug, PartialEq, Eq, Hash)]
+#[derive(Clone, Copy, Debug, PartialEq, Eq)]
 pub struct RowFault {
     /// The first place whose byte no spelling has after the bytes before it.
     pub place: usize,

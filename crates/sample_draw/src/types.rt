@@ -11,7 +11,7 @@ pub type NoMemory = AllocError;
 
 /// The packs that were drawn, in drawing order. It is made from a `Vec` and gives it back without
 /// taking memory.
-#[derive(Debug, Drop)]
+#[derive(Drop)]
 pub struct Picks {
     packs: Vec<u64>,
 }

@@ -2,7 +2,7 @@ use annex_tables::Mode;
 use book_words::{Name, Prior, Unit};
 
 /// A command of a script. Where its line names no desk, desk and request are 0.
-#[derive(Clone, Copy, Debug, PartialEq, Eq)]
+#[derive(Clone, Copy, PartialEq, Eq)]
 pub struct Command {
     pub desk: u16,
     pub request: u32,
@@ -11,7 +11,7 @@ pub struct Command {
 
 /// What a command wants done or asks. Masses are in mg, days are counted from 1970-01-01, packs are
 /// named by the rows of their weighings.
-#[derive(Clone, Copy, Debug, PartialEq, Eq)]
+#[derive(Clone, Copy, PartialEq, Eq)]
 pub enum Verb {
     /// `day DATE`
     Day {
@@ -101,7 +101,7 @@ pub enum Verb {
 }
 
 /// What a script may have, beside acts.
-#[derive(Clone, Copy, Debug, PartialEq, Eq)]
+#[derive(Clone, Copy, PartialEq, Eq)]
 pub struct Allowed {
     /// Whether it may ask questions.
     pub questions: bool,
@@ -111,7 +111,7 @@ pub struct Allowed {
 }
 
 /// What a line of a script says.
-#[derive(Clone, Copy, Debug, PartialEq, Eq)]
+#[derive(Clone, Copy, PartialEq, Eq)]
 pub enum Line {
     /// It has no word, or is a comment.
     Nothing,

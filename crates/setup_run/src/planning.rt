@@ -10,7 +10,7 @@ use std::alloc::Global;
 use whole_input::{Unread, read_whole};
 
 /// Why there is no plan.
-#[derive(Clone, Copy, Debug, PartialEq, Eq)]
+#[derive(Clone, Copy, PartialEq, Eq)]
 pub enum NoPlan {
     /// The input is no plan of so many lanes, or it is longer than a plan may be.
     BadPlan,

@@ -11,7 +11,7 @@ const ACTS: [&[u8]; 13] = [
 ];
 
 /// Where in a plan a line stands.
-#[derive(Clone, Copy, Debug, PartialEq, Eq)]
+#[derive(Clone, Copy, PartialEq, Eq)]
 enum Stage {
     /// Before the text of the setup.
     Before,

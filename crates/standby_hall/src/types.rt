@@ -4,7 +4,7 @@ use std::fmt;
 use store_runs::{Offer, Stop, bad_row};
 
 /// What a shipment says before its rows.
-#[derive(Clone, Copy, Debug, PartialEq, Eq)]
+#[derive(Clone, Copy, PartialEq, Eq)]
 pub struct ShipHead {
     /// How many rows the book has.
     pub all: u32,
@@ -32,7 +32,7 @@ pub enum FollowStop {
 }
 
 /// Why a store doesn't follow a shipment.
-#[derive(Clone, Copy, Debug, PartialEq, Eq, Hash)]
+#[derive(Clone, Copy, Debug, PartialEq, Eq)]
 pub enum FollowError {
     /// The input failed.
     ReadFault,

@@ -5,7 +5,7 @@ use std::alloc::AllocError;
 pub type NoMemory = AllocError;
 
 /// A tare as it was put into the register.
-#[derive(Clone, Copy, Debug, PartialEq, Eq)]
+#[derive(Clone, Copy, PartialEq, Eq)]
 pub struct ProductTare {
     /// The number of the product.
     pub product: u32,
@@ -14,7 +14,7 @@ pub struct ProductTare {
 }
 
 /// A day of a product, for which an entry may be meant.
-#[derive(Clone, Copy, Debug, PartialEq, Eq)]
+#[derive(Clone, Copy, PartialEq, Eq)]
 pub struct ProductDay {
     /// The number of the product.
     pub product: u32,

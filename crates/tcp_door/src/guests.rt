@@ -16,7 +16,7 @@ const PIECE: usize = 4_096;
 const PIECES: u32 = 3;
 
 /// What a connection has done that isn't served yet.
-#[derive(Clone, Copy, Debug, PartialEq, Eq)]
+#[derive(Clone, Copy, PartialEq, Eq)]
 enum Standing {
     /// It has sent nothing.
     Silent,

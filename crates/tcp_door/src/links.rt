@@ -28,7 +28,7 @@ pub(crate) fn wait_on(link: &TcpStream) -> io::Result<()> {
 }
 
 /// What it means that a read gave an error.
-#[derive(Clone, Copy, Debug, PartialEq, Eq)]
+#[derive(Clone, Copy, PartialEq, Eq)]
 enum Silence {
     /// Nothing has come yet, and the read may be made again.
     Pause,

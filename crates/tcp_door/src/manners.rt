@@ -20,7 +20,7 @@ const REQUEST: u64 = 10_000;
 const RESPONSE: u64 = 10_000;
 
 /// For how long a door waits for its clients, in ms.
-#[derive(Clone, Copy, Debug, PartialEq, Eq)]
+#[derive(Clone, Copy, PartialEq, Eq)]
 pub struct Manners {
     /// A client has its turn once it has sent so much.
     pub opening: Opening,
@@ -35,7 +35,7 @@ pub struct Manners {
 }
 
 /// What becomes of a client that is waited for.
-#[derive(Clone, Copy, Debug, PartialEq, Eq)]
+#[derive(Clone, Copy, PartialEq, Eq)]
 pub enum Patience {
     /// It is waited for on.
     Waits,

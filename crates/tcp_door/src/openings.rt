@@ -6,7 +6,7 @@ const MAX_LINE: usize = 64;
 const MAX_HEAD: usize = 8_192;
 
 /// What a client has to send before it has its turn.
-#[derive(Clone, Copy, Debug, PartialEq, Eq)]
+#[derive(Clone, Copy, PartialEq, Eq)]
 pub enum Opening {
     /// A line, or more bytes than one has.
     Line,

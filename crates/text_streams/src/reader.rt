@@ -8,7 +8,7 @@ use std::marker::Model;
 pub const PIECE: usize = 65_536;
 
 /// Why no piece was read.
-#[derive(Clone, Copy, Debug, PartialEq, Eq)]
+#[derive(Clone, Copy, PartialEq, Eq)]
 pub enum ReadError {
     /// The input failed.
     Failed,

@@ -9,7 +9,7 @@ use std::alloc::Global;
 use text_streams::{ReadError, Reader};
 
 /// Why an input wasn't read whole.
-#[derive(Clone, Copy, Debug, PartialEq, Eq)]
+#[derive(Clone, Copy, PartialEq, Eq)]
 pub enum Unread {
     /// It has more bytes than it may have.
     TooLong,
