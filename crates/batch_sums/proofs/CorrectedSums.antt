@@ -3,10 +3,10 @@ use Rattle.std.proofs.Common.{◌≡◌, ℕ, ◌<◌, ◌≤◌, cond, eqb, Lis
 use Rattle.std.specs.Prelude.{pos, ◌≤ℤ◌}
 use Rattle.hall_limits.specs.declared.TheConstants.{MAX_DAY}
 use Rattle.std.specs.declared.alloc.Global.{Global}
-use Rattle.std.specs.List.{count_by}
+use Rattle.std.specs.List.{count_by, position}
 use Rattle.std.proofs.lemmas.List.{length-map}
 use Rattle.std.proofs.lemmas.List.Elements.{All-weaker}
-use Rattle.indexmap.specs.IndexSet.{spare}
+use Rattle.std.specs.HashMap.{get, spare}
 use Rattle.balanced_tree.specs.Trees.{items, IsBalanced}
 use Rattle.balanced_tree.specs.declared.tree.Tree.{Tree}
 use Rattle.batch_sums.specs.declared.sums.BatchSums.TheInside.{Inside}
@@ -65,8 +65,7 @@ kept_after before now visited tare start steps under kept =
     ≡ (nth_face (faces before.groups.items) place).key =
     λ place. ap (λ (f : Face). f.key) (under.face place)
     ∙ face_by-key visited tare place (nth_face (faces before.groups.items) place) in
-    let keys : now.numbers.keys ≡ before.numbers.keys = ap (λ s. s.keys) under.numbers in
-    let free : spare now.numbers ≡ spare before.numbers = ap spare under.numbers in
+    let free : spare now.places ≡ spare before.places = ap spare under.places in
     let packs_long : vec_len now.packs ≡ vec_len before.packs =
     ap (λ (v : Vec Held Global). vec_len v) under.packs in
     let packs_room : vec_capacity now.packs ≡ vec_capacity before.packs =
@@ -91,7 +90,10 @@ kept_after before now visited tare start steps under kept =
         small = omega (arith, settled.small, groups, ap (λ (hs : List Held). length hs) packs);
         apart = λ number. subst (λ hs. count_by (λ pack. eqb pack.number number) hs ≤ 1) (sym packs)
             (settled.apart number);
-        numbered = keys ∙ settled.numbered ∙ ap (λ hs. map (λ (p : Held). p.number) hs) (sym packs);
+        numbered = λ number. ap (λ found. get eqb found number) under.places
+            ∙ settled.numbered number
+            ∙ ap (λ hs. position (λ other. eqb number other) (map (λ (p : Held). p.number) hs))
+            (sym packs);
         chained = chained_as _ _ _ _ _ _ under.reaches
             (ap (λ hs. homes_of (map (seen (faces now.groups.items)) hs)) packs
             ∙ homes-keys (faces before.groups.items)
@@ -103,7 +105,7 @@ kept_after before now visited tare start steps under kept =
         batches = omega (arith, room.batches, under.batches_long, under.batches_room, under.spare);
         groups = omega (arith, room.groups, under.groups_long, under.groups_room, under.spare);
         packs = omega (arith, room.packs, packs_long, packs_room, under.spare);
-        numbers = omega (arith, room.numbers, free, under.spare);
+        places = omega (arith, room.places, free, under.spare);
         nodes = omega (arith, room.nodes, outs, nodes_long, under.spare);
         back = omega (arith, room.back, ins, nodes_long, nodes_room);
         order_nodes = omega (arith, room.order_nodes, order_long, under.spare);

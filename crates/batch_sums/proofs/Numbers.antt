@@ -1,5 +1,5 @@
 -- The numbers of packs, and the lists behind a pack that moved.
-use Rattle.std.proofs.Common.{◌≡◌, ℕ, zero, suc, ◌+◌, ◌<◌, ◌≤◌, Bool, true, false, cond, not, ◌||◌, eqb, List, [], ◌∷◌, length, map, get_or, set, Some, refl, ap, sym, subst, ◌∙◌, arith, length-set}
+use Rattle.std.proofs.Common.{◌≡◌, ℕ, zero, suc, ◌+◌, ◌<◌, ◌≤◌, Bool, true, false, cond, not, ◌||◌, eqb, List, [], ◌∷◌, length, map, get_or, set, Option, Some, refl, ap, sym, subst, ◌∙◌, arith, length-set}
 use Rattle.std.specs.List.{sum_by, list_any, position}
 use Rattle.std.proofs.lemmas.Bool.{eqb-true}
 use Rattle.std.proofs.lemmas.List.{length-map, map-set, set-get_or, get_or-map}
@@ -27,18 +27,20 @@ added_is some number [] = refl
 added_is some number (h ∷ held) = ap (λ b. eqb number h.number || b) (added_is some number held)
 
 -- where a number is found stands its pack
-pub number_at : (numbers : List ℕ) (held : List Held) (place number : ℕ) (h : Held)
-    → numbers ≡ map (λ p. p.number) held → Some place ≡ position (λ other. eqb number other) numbers
+pub number_at : (places : ℕ → Option ℕ) (held : List Held) (place number : ℕ) (h : Held)
+    → ((n : ℕ) → places n ≡ position (λ other. eqb n other) (map (λ p. p.number) held))
+    → Some place ≡ places number
     → h ≡ get_or held place h → (place < length held) × (h.number ≡ number)
-number_at numbers held place number h numbered found read =
-    let at = position-Some (λ other. eqb number other) numbers place 0 (sym found) in
+number_at places held place number h numbered found read =
+    let numbers = map (λ (p : Held). p.number) held in
+    let at = position-Some (λ other. eqb number other) numbers place 0
+    (sym (found ∙ numbered number)) in
     let within : place < length held =
-    omega (arith, at.0, ap length numbered, length-map held (λ (p : Held). p.number)) in
+    omega (arith, at.0, length-map held (λ (p : Held). p.number)) in
     let same : number ≡ get_or numbers place 0 = eqb-true number (get_or numbers place 0) at.1 in (
       within,
       ap (λ (p : Held). p.number) read
-          ∙ sym (get_or-map (λ (p : Held). p.number) held place h 0 within)
-          ∙ ap (λ ns. get_or ns place 0) (sym numbered) ∙ sym same,
+          ∙ sym (get_or-map (λ (p : Held). p.number) held place h 0 within) ∙ sym same,
     )
 
 pub not_counts : (b : Bool) → cond (not b) 1 0 + cond b 1 0 ≡ 1
@@ -76,12 +78,12 @@ module _ (held : List Held) (place : ℕ) (h : Held) (to : Pile) (read : h ≡ g
       )
 
   pub settled_moved : (batches new_batches : List Batch) (groups new_groups : List Group)
-      (order : Tree ℕ) (numbers : List ℕ) → IsSettled batches groups order held numbers
+      (order : Tree ℕ) (places : ℕ → Option ℕ) → IsSettled batches groups order held places
       → reaches_of new_batches ≡ reaches_of batches
       → Sound new_batches new_groups (set held place (in_pile h to))
       → faces new_groups ≡ faces groups → length new_groups ≡ length groups
-      → IsSettled new_batches new_groups order (set held place (in_pile h to)) numbers
-  settled_moved batches new_batches groups new_groups order numbers settled reaches sound face long =
+      → IsSettled new_batches new_groups order (set held place (in_pile h to)) places
+  settled_moved batches new_batches groups new_groups order places settled reaches sound face long =
       record {
         sound = sound;
         balanced = settled.balanced;
@@ -92,12 +94,13 @@ module _ (held : List Held) (place : ℕ) (h : Held) (to : Pile) (read : h ≡ g
         small = omega (arith, settled.small, long, length-set held place (in_pile h to));
         apart = λ number. subst (λ n. n ≤ 1)
             (sym (same_sum (λ p. cond (eqb p.number number) 1 0) refl)) (settled.apart number);
-        numbered = settled.numbered ∙ sym
+        numbered = λ number. settled.numbered number
+            ∙ ap (λ ns. position (λ other. eqb number other) ns) (sym
             (map-set (λ (p : Held). p.number) held place (in_pile h to)
             ∙ ap (λ n. set (map (λ (p : Held). p.number) held) place n)
             (ap (λ (p : Held). p.number) read
             ∙ sym (get_or-map (λ (p : Held). p.number) held place h h.number within))
-            ∙ set-get_or (map (λ (p : Held). p.number) held) place h.number);
+            ∙ set-get_or (map (λ (p : Held). p.number) held) place h.number));
         chained = chained_as _ _ _ _ _ _ reaches
             (ap (λ fs. homes_of (map (seen fs) (set held place (in_pile h to)))) face
             ∙ homes-seen (faces groups) (set held place (in_pile h to))

@@ -1,7 +1,7 @@
 -- The group of a new pack is ready: it was there with this tare, or it was opened.
 use Rattle.std.proofs.Common.{◌≡◌, ℕ, zero, suc, ◌+◌, ◌<◌, ◌≤◌, Bool, true, false, cond, ◌||◌, eqb, ◌⊎◌, inl, inr, List, [], ◌∷◌, ◌++◌, length, map, get_or, set, Option, Some, option_map, refl, ap, sym, subst, ◌∙◌, arith, length-append, length-set}
 use Rattle.std.specs.Prelude.{pos, ◌≤ℤ◌}
-use Rattle.std.specs.List.{count_by, All, list_any, slice_get}
+use Rattle.std.specs.List.{count_by, All, list_any, position, slice_get}
 use Rattle.std.proofs.lemmas.Bool.{cases_lt, cases_eq, eq-eqb, ne_eqb}
 use Rattle.std.proofs.lemmas.List.{length-map, map-append, map-set, get_or-map}
 use Rattle.std.proofs.lemmas.List.Sums.{sum_by-cons, sum_by_push}
@@ -10,7 +10,6 @@ use Rattle.std.proofs.lemmas.List.Elements.{All-push}
 use Rattle.hall_limits.specs.declared.TheConstants.{MAX_GROSS, MAX_TARE}
 use Rattle.balanced_tree.specs.Trees.{items, IsBalanced}
 use Rattle.balanced_tree.specs.declared.tree.Tree.{Tree}
-use Rattle.indexmap.specs.IndexSet.{insert_key}
 use Rattle.batch_sums.specs.declared.batch.Batch.{Batch}
 use Rattle.batch_sums.specs.declared.group.Group.{Group}
 use Rattle.batch_sums.specs.declared.group.Key.{Key}
@@ -24,6 +23,7 @@ use Rattle.batch_sums.specs.Groups.{Face, face_of, faces, nth_face, IsJudged}
 use Rattle.batch_sums.specs.Kept.{Sound, IsGroup, IsIndex, IsOpened, HasKey, IsChained, seen}
 use Rattle.pack_judge.specs.declared.types.Pile.{Pile}
 use Rattle.batch_sums.proofs.ChainLemmas.{chained_put}
+use Rattle.batch_sums.proofs.NumberPlaces.{place_behind}
 use Rattle.batch_sums.proofs.Homes.{chained_as}
 use Rattle.batch_sums.proofs.SoundLemmas.{face-found, faces-set}
 use Rattle.batch_sums.proofs.OnePackMore.{joins_push}
@@ -222,18 +222,20 @@ module _ (batches : List Batch) (groups : List Group) (held : List Held) (after 
     pub faces_put : faces (set after place next) ≡ faces after
     faces_put = faces-set after place group next at_here face_next
 
-    pub settled_put : (order : Tree ℕ) (numbers old : List ℕ) → IsBalanced order
+    pub settled_put : (order : Tree ℕ) (places old : ℕ → Option ℕ) → IsBalanced order
         → IsIndex (faces after) (items order) → length groups ≤ length held
-        → old ≡ map (λ p. p.number) held
+        → ((number : ℕ) → old number
+        ≡ position (λ other. eqb number other) (map (λ p. p.number) held))
         → ((number : ℕ) → count_by (λ p. eqb p.number number) held ≤ 1)
-        → list_any (λ other. eqb h.number other) old ≡ false → numbers ≡ insert_key eqb old h.number
+        → list_any (λ other. eqb h.number other) (map (λ p. p.number) held) ≡ false
+        → ((number : ℕ) → places number
+        ≡ cond (eqb h.number number) (Some (length held)) (old number))
         → IsChained (reaches_of (set batches key.batch new))
         (homes_of (map (seen (faces (set after place next))) (held ++ h ∷ [])))
         (befores_of (held ++ h ∷ [])) → IsSettled (set batches key.batch new)
-        (set after place next) order (held ++ h ∷ []) numbers
-    settled_put order numbers old balanced index small numbered apart none inserted chained =
-        let absent = none_numbered h.number held
-        (ap (λ ns. list_any (λ other. eqb h.number other) ns) (sym numbered) ∙ none) in
+        (set after place next) order (held ++ h ∷ []) places
+    settled_put order places old balanced index small numbered apart none entered chained =
+        let absent = none_numbered h.number held none in
         let counted : (test : Held → Bool)
         → count_by test (held ++ h ∷ []) ≡ count_by test held + cond (test h) 1 0 =
         λ test. sum_by_push (λ p. cond (test p) 1 0) held h in
@@ -272,9 +274,14 @@ module _ (batches : List Batch) (groups : List Group) (held : List Held) (after 
                     ap (λ b. cond b (suc zero) zero) (ne_eqb h.number number differs) in
                     omega (arith, no, counted (λ p. eqb p.number number), apart number)
               ];
-          numbered = inserted ∙ ap (λ b. cond b old (old ++ h.number ∷ [])) none
-              ∙ ap (λ ns. ns ++ h.number ∷ []) numbered
-              ∙ sym (map-append (λ (p : Held). p.number) held (h ∷ []));
+          numbered = λ number. entered number
+              ∙ ap (λ found. cond (eqb h.number number) (Some (length held)) found) (numbered number)
+              ∙ ap (λ n. cond (eqb h.number number) (Some n)
+              (position (λ other. eqb number other) (map (λ (p : Held). p.number) held)))
+              (sym (length-map held (λ (p : Held). p.number)))
+              ∙ sym (ap (λ ns. position (λ other. eqb number other) ns)
+              (map-append (λ (p : Held). p.number) held (h ∷ []))
+              ∙ place_behind number h.number (map (λ (p : Held). p.number) held) none);
           chained = chained;
         }
 

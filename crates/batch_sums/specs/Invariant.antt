@@ -1,8 +1,8 @@
 -- What holds of the fields of the sums.
-use Rattle.std.specs.Prelude.{◌^◌, ◌≡◌, ℕ, ◌+◌, ◌<◌, ◌≤◌, not, ◌==◌, List, length, map, count_by, vec_len, vec_capacity}
+use Rattle.std.specs.Prelude.{◌^◌, ◌≡◌, ℕ, ◌+◌, ◌<◌, ◌≤◌, not, ◌==◌, nat_eq, List, length, map, position, count_by, Option, vec_len, vec_capacity}
 use Rattle.std.specs.declared.vec.Vec.{Vec}
 use Rattle.std.specs.declared.alloc.Global.{Global}
-use Rattle.indexmap.specs.IndexSet.{spare}
+use Rattle.std.specs.HashMap.{get, spare}
 use Rattle.balanced_tree.specs.Trees.{items, IsBalanced}
 use Rattle.batch_sums.specs.declared.sums.BatchSums.TheInside.{Inside}
 use Rattle.balanced_tree.specs.declared.tree.Tree.{Tree}
@@ -39,7 +39,7 @@ pub record IsRoomy (held : List Held) (sums : Inside) : Type 0 where
   pub batches : vec_len sums.batches + sums.spare ≤ vec_capacity sums.batches
   pub groups : vec_len sums.groups + sums.spare ≤ vec_capacity sums.groups
   pub packs : vec_len sums.packs + sums.spare ≤ vec_capacity sums.packs
-  pub numbers : sums.spare ≤ spare sums.numbers
+  pub places : sums.spare ≤ spare sums.places
   pub nodes : outside held + sums.spare ≤ vec_len sums.gross_nodes
   pub back : vec_len sums.gross_nodes + inside held ≤ vec_capacity sums.gross_nodes
   pub order_nodes : sums.spare ≤ vec_len sums.order_nodes
@@ -48,20 +48,21 @@ pub record IsRoomy (held : List Held) (sums : Inside) : Type 0 where
 
 -- the lists fit together
 pub record IsSettled (batches : List Batch) (groups : List Group) (order : Tree ℕ)
-    (held : List Held) (numbers : List ℕ) : Type 0 where
+    (held : List Held) (places : ℕ → Option ℕ) : Type 0 where
   pub sound : Sound batches groups held
   pub balanced : IsBalanced order
   pub index : IsIndex (faces groups) (items order)
   pub used : (place : ℕ) → place < length groups → 0 < count_by (λ pack. pack.group == place) held
   pub small : length groups ≤ length held
   pub apart : (number : ℕ) → count_by (λ pack. pack.number == number) held ≤ 1
-  pub numbered : numbers ≡ map (λ pack. pack.number) held
+  pub numbered : (number : ℕ) → places number
+      ≡ position (λ other. nat_eq number other) (map (λ pack. pack.number) held)
   pub chained : IsChained (reaches_of batches) (homes_of (map (seen (faces groups)) held))
       (befores_of held)
 
 pub record IsKept (sums : Inside) : Type 0 where
   pub settled : IsSettled sums.batches.items sums.groups.items sums.order
-      sums.packs.items sums.numbers.keys
+      sums.packs.items (get nat_eq sums.places)
   pub room : IsRoomy sums.packs.items sums
   pub tallied : IsTallied sums.piles sums.packs.items
 

@@ -1,5 +1,5 @@
-ghost use Rattle.std.specs.Prelude.{◌≡◌, ℕ, ◌+◌, ◌^◌, ◌<◌, ◌≤◌, max, [], ◌∷◌, ◌++◌, nat_eq, vec_len, vec_capacity, OnOk};
-ghost use Rattle.indexmap.specs.IndexSet.{spare, insert_key};
+ghost use Rattle.std.specs.Prelude.{◌≡◌, ℕ, ◌+◌, ◌^◌, ◌<◌, ◌≤◌, max, [], ◌∷◌, ◌++◌, cond, nat_eq, vec_len, vec_capacity, Some, OnOk};
+ghost use Rattle.std.specs.HashMap.{get, spare};
 ghost use Rattle.batch_sums.specs.Invariant.{HasGrown};
 
 use crate::batch::Batch;
@@ -7,49 +7,63 @@ use crate::grosses::Gross;
 use crate::group::Group;
 use crate::types::{Held, NoMemory};
 use balanced_tree::Node;
-use indexmap::IndexSet;
 use std::alloc::Global;
+use std::collections::HashMap;
 
 /// Makes room for so many batches, groups and packs more.
 pub fn reserve_places(
     batches: &mut Vec<Batch>,
     groups: &mut Vec<Group>,
     packs: &mut Vec<Held>,
-    numbers: &mut IndexSet<u32>,
+    places: &mut HashMap<u32, u32>,
     more: u32,
 ) -> Result<(), NoMemory>
     ensures batches { HasGrown batches.old batches.new }
     ensures groups { HasGrown groups.old groups.new }
     ensures packs { HasGrown packs.old packs.new }
-    ensures keys { numbers.new.keys ≡ numbers.old.keys }
-    ensures numbers { spare numbers.old ≤ spare numbers.new }
+    ensures same { (number : ℕ) → get nat_eq places.new number ≡ get nat_eq places.old number }
+    ensures places { spare places.old ≤ spare places.new }
     ensures ok_batches { OnOk result (vec_len batches.new + more ≤ vec_capacity batches.new) }
     ensures ok_groups { OnOk result (vec_len groups.new + more ≤ vec_capacity groups.new) }
     ensures ok_packs { OnOk result (vec_len packs.new + more ≤ vec_capacity packs.new) }
-    ensures ok_numbers { OnOk result (more ≤ spare numbers.new) }
+    ensures ok_places { OnOk result (more ≤ spare places.new) }
 {
     let more = more as usize;
     batches.reserve(more)?;
     groups.reserve(more)?;
     packs.reserve(more)?;
-    numbers.reserve(more)?;
+    places.reserve(more)?;
     Ok(())
 }
 
-/// Puts a pack behind the others, and its number behind theirs. There is room for both.
-pub fn push_pack(packs: &mut Vec<Held>, numbers: &mut IndexSet<u32>, held: Held)
+/// Puts a pack behind the others, and takes down its place. There is room for both.
+pub fn push_pack(packs: &mut Vec<Held>, places: &mut HashMap<u32, u32>, held: Held)
     requires packs { vec_len packs.old < vec_capacity packs.old }
-    requires numbers { 0 < spare numbers.old }
+    requires few { vec_len packs.old < 2 ^ 32 }
+    requires places { 0 < spare places.old }
     ensures items { packs.new.items ≡ packs.old.items ++ held ∷ [] }
     ensures len { vec_len packs.new ≡ vec_len packs.old + 1 }
     ensures capacity { vec_capacity packs.new ≡ vec_capacity packs.old }
-    ensures keys { numbers.new.keys ≡ insert_key nat_eq numbers.old.keys held.number }
-    ensures spare { spare numbers.old ≤ spare numbers.new + 1 }
+    ensures places { (number : ℕ) → get nat_eq places.new number
+        ≡ cond (nat_eq held.number number) (Some (vec_len packs.old))
+        (get nat_eq places.old number) }
+    ensures spare { spare places.old ≤ spare places.new + 1 }
 {
+    let place = packs.len() as u32;
     packs.push_reserved(held);
-    let Ok(_) = numbers.insert(held.number) else {
+    let Ok(_) = places.insert(held.number, place) else {
         unreachable!()
     };
+}
+
+/// The place of the pack of a number, where there is such a pack.
+pub fn place_of(places: &HashMap<u32, u32>, number: u32) -> Option<usize>
+    ensures index { result ≡ get nat_eq places.now number }
+{
+    match places.get(&number) {
+        Some(place) => Some(*place as usize),
+        None => None,
+    }
 }
 
 /// Makes the spare nodes for grosses at least `grosses`, with places for those of so many packs to

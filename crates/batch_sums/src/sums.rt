@@ -9,15 +9,15 @@ use crate::days::days_of;
 use crate::grosses::Gross;
 use crate::group::{Group, Key};
 use crate::order::{Stretch, find_or_open, next_lesser, stretch_of};
-use crate::pool::{push_pack, reserve_nodes, reserve_places};
+use crate::pool::{place_of, push_pack, reserve_nodes, reserve_places};
 use crate::steps::{STEPS_PER_GROUP, Steps};
 use crate::types::{Held, NoMemory, Pack, Piles, Totals};
 use annex_tables::Limits;
 use balanced_tree::{Node, Tree};
 use hall_limits::{MAX_DAY, MAX_GROSS, MAX_TARE};
-use indexmap::IndexSet;
 use pack_judge::{Pile, Span};
 use std::alloc::{AllocError, Global};
+use std::collections::HashMap;
 use std::marker::Model;
 use std::sync::ledger::Ledger;
 
@@ -28,9 +28,9 @@ pub struct BatchSums {
     groups: Vec<Group>,
     // The places of the groups in the order of their keys.
     order: Tree<u32>,
-    // The packs in the order in which they were added, and their numbers in the same order.
+    // The packs in the order in which they were added, and the place of each by its number.
     packs: Vec<Held>,
-    numbers: IndexSet<u32>,
+    places: HashMap<u32, u32>,
     // The sums of the packs of all batches.
     piles: PileSums,
     // Spare nodes: one for each pack that doesn't count for a population, and for each place that
@@ -72,7 +72,7 @@ impl BatchSums {
             groups: Vec::new(alloc),
             order: Tree::Leaf,
             packs: Vec::new(alloc),
-            numbers: IndexSet::new(alloc),
+            places: HashMap::new(alloc),
             piles: PileSums::new(),
             gross_nodes: Vec::new(alloc),
             order_nodes: Vec::new(alloc),
@@ -125,7 +125,7 @@ impl BatchSums {
             &mut self.batches,
             &mut self.groups,
             &mut self.packs,
-            &mut self.numbers,
+            &mut self.places,
             more,
         )?;
         reserve_nodes(
@@ -213,7 +213,7 @@ impl BatchSums {
             gross,
             pile,
         };
-        push_pack(&mut self.packs, &mut self.numbers, held);
+        push_pack(&mut self.packs, &mut self.places, held);
         let batch = &mut self.batches[batch as usize];
         let group = &mut self.groups[group as usize];
         batch.reach = self.packs.len() as u32;
@@ -230,7 +230,7 @@ impl BatchSums {
         ensures batches { self.new.batches ≡ self.old.batches }
         ensures spare { self.new.spare ≡ self.old.spare }
     {
-        let Some(place) = self.numbers.get_index_of(&pack) else {
+        let Some(place) = place_of(&self.places, pack) else {
             unreachable!()
         };
         let held = self.packs[place];
@@ -292,7 +292,7 @@ impl BatchSums {
     pub fn pack(&self, number: u32) -> Option<Pack>
         ensures { result ≡ find (λ pack. pack.number == number) self.now.packs }
     {
-        let place = self.numbers.get_index_of(&number)?;
+        let place = place_of(&self.places, number)?;
         let held = self.packs[place];
         let group = &self.groups[held.group as usize];
         Some(Pack {

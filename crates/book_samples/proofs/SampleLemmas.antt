@@ -69,13 +69,13 @@ map-push f [] x = refl
 map-push f (y ∷ ys) x = ap (λ zs. f y ∷ zs) (map-push f ys x)
 
 -- what has the same samples and measurements stands for the same lists
-pub same_stands : (old new : Kept) → new.samples ≡ old.samples → new.measured ≡ old.measured
+pub same_stands : (old new : Kept) → new.samples ≡ old.samples
+    → ((pack : ℕ) → measured_in new.measured pack ≡ measured_in old.measured pack)
     → StandsForAll old new
 same_stands old new samples measured entries stands =
     record {
       samples = samples ∙ stands.samples;
-      measured = λ pack. ap (λ (pairs : List (ℕ × Measured)). measured_in pairs pack) measured
-          ∙ stands.measured pack;
+      measured = λ pack. measured pack ∙ stands.measured pack;
     }
 
 -- the samples of a batch stand at its number

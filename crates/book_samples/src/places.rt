@@ -3,8 +3,8 @@ ghost use Rattle.book_samples.specs.Kept.{measured_in};
 ghost use Rattle.book_samples.specs.Changed.{change_at, with_second};
 
 use crate::types::{Measured, Sample};
-use indexmap::IndexMap;
 use sample_draw::Picks;
+use std::collections::HashMap;
 
 /// Puts the first sample of a batch in its place, where there is such a place.
 pub fn put_first(drawn: &mut [Option<Sample>], place: usize, sample: Sample)
@@ -34,14 +34,14 @@ fn join_second(first: &mut Option<Sample>, picks: Picks)
 }
 
 /// What was measured of a pack, where it was.
-pub fn measured_at(measured: &IndexMap<u32, Measured>, pack: u32) -> Option<Measured>
+pub fn measured_at(measured: &HashMap<u32, Measured>, pack: u32) -> Option<Measured>
     ensures { result ≡ measured_in measured.now.entries pack }
 {
     measured.get(&pack).copied()
 }
 
 /// The first of these packs that wasn't measured.
-pub fn find_unmeasured(measured: &IndexMap<u32, Measured>, packs: &[u64]) -> Option<u32>
+pub fn find_unmeasured(measured: &HashMap<u32, Measured>, packs: &[u64]) -> Option<u32>
     requires packs { All (λ pack. pack < 2 ^ 32) packs.now }
     ensures { result ≡ find (λ pack. is_none (measured_in measured.now.entries pack)) packs.now }
 {
@@ -55,7 +55,7 @@ pub fn find_unmeasured(measured: &IndexMap<u32, Measured>, packs: &[u64]) -> Opt
 }
 
 /// How many of these packs were measured.
-pub fn count_measured(measured: &IndexMap<u32, Measured>, packs: &[u64]) -> u32
+pub fn count_measured(measured: &HashMap<u32, Measured>, packs: &[u64]) -> u32
     requires packs { All (λ pack. pack < 2 ^ 32) packs.now }
     requires few { length packs.now < 2 ^ 32 }
     ensures { result

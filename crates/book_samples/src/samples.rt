@@ -1,17 +1,17 @@
-ghost use Rattle.std.specs.Prelude.{◌≡◌, ◌+◌, ◌<◌, ◌≤◌, ◌^◌, List, [], Some, IsOk, OnOk, All, length, option_copied};
+ghost use Rattle.std.specs.Prelude.{◌≡◌, ℕ, ◌+◌, ◌<◌, ◌≤◌, ◌^◌, List, [], Some, IsOk, OnOk, All, length, option_copied};
 ghost use Rattle.book_words.specs.declared.name.Name as names;
 ghost use Rattle.book_words.specs.declared.act.Entry.{Entry};
 ghost use Rattle.book_words.specs.Order.{batch_number};
 ghost use Rattle.book_words.specs.Samples.{sample_of};
 ghost use Rattle.book_words.specs.Measures as measures;
-ghost use Rattle.book_samples.specs.Kept.{IsSamplesOf, StandsForAll, TakesDown, IsOpening, IsFirstDraw, IsSecondDraw, IsMeasurement};
+ghost use Rattle.book_samples.specs.Kept.{measured_in, IsSamplesOf, StandsForAll, TakesDown, IsOpening, IsFirstDraw, IsSecondDraw, IsMeasurement};
 ghost use Rattle.book_samples.specs.Room.{room_for};
 
 use crate::places::{count_measured, find_unmeasured, measured_at, put_first, put_second};
 use crate::types::{Measured, Sample};
-use indexmap::IndexMap;
 use sample_draw::{NoMemory, Picks};
 use std::alloc::Global;
+use std::collections::HashMap;
 use std::marker::Model;
 
 /// The samples that were drawn from each batch, and what was measured of their packs.
@@ -22,7 +22,7 @@ use std::marker::Model;
 pub struct Samples {
     // The samples of each batch, in order of opening.
     drawn: Vec<Option<Sample>>,
-    measured: IndexMap<u32, Measured>,
+    measured: HashMap<u32, Measured>,
 }
 
 impl Model for Samples {
@@ -42,7 +42,7 @@ impl Samples {
     {
         Samples {
             drawn: Vec::new(alloc),
-            measured: IndexMap::new(alloc),
+            measured: HashMap::new(alloc),
         }
     }
 
@@ -135,14 +135,15 @@ impl Samples {
 // Makes room for so many more batches and measurements.
 fn reserve_room(
     drawn: &mut Vec<Option<Sample>>,
-    measured: &mut IndexMap<u32, Measured>,
+    measured: &mut HashMap<u32, Measured>,
     more: usize,
 ) -> Result<(), NoMemory>
     ensures ok { OnOk result (more ≤ room_for drawn.new measured.new) }
     ensures room { more ≤ room_for drawn.old measured.old → IsOk result }
     ensures spare { room_for drawn.old measured.old ≤ room_for drawn.new measured.new }
     ensures drawn { drawn.new.items ≡ drawn.old.items }
-    ensures measured { measured.new.entries ≡ measured.old.entries }
+    ensures measured { (pack : ℕ) → measured_in measured.new.entries pack
+        ≡ measured_in measured.old.entries pack }
 {
     drawn.reserve(more)?;
     measured.reserve(more)?;

@@ -1,1 +1,2 @@
+mod DistinctLanes
 pub mod PlanLimits

@@ -60,7 +60,7 @@ planned_lanes (item fields tables) = option_and_then (λ lane. option_map
 abbrev pub are_distinct : List PlannedLane → Bool
 are_distinct [] = true
 are_distinct (lane ∷ lanes) =
-    not (list_any (λ (other : PlannedLane). other.number == lane.number) lanes)
+    not (list_any (λ (other : PlannedLane). lane.number == other.number) lanes)
     && are_distinct lanes
 
 -- the lanes, where there are so many and no number comes twice

@@ -1,5 +1,4 @@
-ghost use Rattle.std.specs.Prelude.{◌≡◌, ◌==◌, IfOk};
-ghost use Rattle.std.specs.List.{list_any};
+ghost use Rattle.std.specs.Prelude.{◌≡◌, IfOk};
 ghost use Rattle.std.specs.Option.{option_and_then};
 ghost use Rattle.toml.specs.View.{items_view, table_view};
 ghost use Rattle.hall_plan.specs.Plans.{are_distinct, lanes_said, one_for_each, planned_lanes};
@@ -7,6 +6,7 @@ ghost use Rattle.hall_plan.specs.Plans.{are_distinct, lanes_said, one_for_each, 
 use crate::lane_list::PlannedLanes;
 use crate::types::PlannedLane;
 use crate::values::{planned_lane, value_at};
+use indexmap::IndexSet;
 use std::alloc::{AllocError, Global};
 use toml::{Table, Value};
 
@@ -23,7 +23,7 @@ pub fn one_for_each(
         return Ok(None);
     };
     let list = lanes.as_slice();
-    if list.len() != usize::from(count) || !are_distinct(list) {
+    if list.len() != usize::from(count) || !are_distinct(alloc, list)? {
         return Ok(None);
     }
     Ok(Some(lanes))
@@ -57,22 +57,17 @@ fn planned_lanes(alloc: Global, tables: &[Value]) -> Result<Option<PlannedLanes>
 }
 
 // Whether no number comes twice.
-fn are_distinct(lanes: &[PlannedLane]) -> bool
-    ensures { result ≡ are_distinct lanes.now }
+fn are_distinct(alloc: Global, lanes: &[PlannedLane]) -> Result<bool, AllocError>
+    ensures { IfOk result (λ distinct. distinct ≡ are_distinct lanes.now) }
 {
+    let mut numbers = IndexSet::new(alloc);
     let mut rest = lanes;
     while let Some((lane, after)) = rest.split_first() {
-        if is_among(lane.number, after) {
-            return false;
+        let is_new = numbers.insert(lane.number)?;
+        if !is_new {
+            return Ok(false);
         }
         rest = after;
     }
-    true
-}
-
-// Whether a lane of some has this number.
-fn is_among(number: u8, lanes: &[PlannedLane]) -> bool
-    ensures { result ≡ list_any (λ lane. lane.number == number) lanes.now }
-{
-    lanes.iter().any(|lane| lane.number == number)
+    Ok(true)
 }

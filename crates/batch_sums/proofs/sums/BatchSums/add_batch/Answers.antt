@@ -47,7 +47,7 @@ invariant_of-self c =
         );
         groups = omega (arith, room.groups);
         packs = omega (arith, room.packs);
-        numbers = omega (arith, room.numbers);
+        places = omega (arith, room.places);
         nodes = omega (arith, room.nodes);
         back = room.back;
         order_nodes = omega (arith, room.order_nodes);

@@ -1,6 +1,7 @@
 use Rattle.std.proofs.Common.{◌≡◌, ◌<◌, eqb, length, map, Some, option_map, refl, ap, sym, subst, ◌∙◌, arith, to_z, w32, w64}
 use Rattle.std.specs.Prelude.{pos}
-use Rattle.std.specs.List.{find, slice_get, position}
+use Rattle.std.specs.HashMap.{get}
+use Rattle.std.specs.List.{find, slice_get}
 use Rattle.std.specs.Option.{option_and_then}
 use Rattle.std.proofs.lemmas.Int.{ints}
 use Rattle.std.proofs.lemmas.List.{length-map}
@@ -22,8 +23,8 @@ returns-in_err-place c =
     c.from_residual.ensures
     ∙ sym (ap (λ (s : Sums). find (λ pack. eqb pack.number c.args.number) s.packs) (sym c.self.view_is)
     ∙ find-numbered fs c.args.number held
-    ∙ ap (λ ns. option_and_then (slice_get (map (seen fs) held))
-    (position (λ other. eqb c.args.number other) ns)) (sym c.self.invariant.settled.numbered)
+    ∙ ap (option_and_then (slice_get (map (seen fs) held)))
+    (sym (c.self.invariant.settled.numbered c.args.number))
     ∙ ap (option_and_then (slice_get (map (seen fs) held))) (sym c.in_err-place.ensures.index))
 
 pub returns : goal.returns
@@ -36,7 +37,7 @@ returns c =
     let held = sums.packs.items in
     let h = c.index-held.result.now in
     let group = c.index-group.result.now in
-    let found = number_at sums.numbers.keys held c.in_ok-place.place c.args.number h
+    let found = number_at (get eqb sums.places) held c.in_ok-place.place c.args.number h
     settled.numbered c.in_ok-place.ensures.index c.index-held.ensures in
     let face = face-found gs h.group group
     (at_group bs gs held settled.sound c.in_ok-place.place h c.index-held.ensures found.0 group
@@ -74,7 +75,6 @@ returns c =
     }))
     ∙ sym (ap (λ (s : Sums). find (λ pack. eqb pack.number c.args.number) s.packs) (sym c.self.view_is)
     ∙ find-numbered fs c.args.number held
-    ∙ ap (λ ns. option_and_then (slice_get (map (seen fs) held))
-    (position (λ other. eqb c.args.number other) ns)) (sym settled.numbered)
+    ∙ ap (option_and_then (slice_get (map (seen fs) held))) (sym (settled.numbered c.args.number))
     ∙ ap (option_and_then (slice_get (map (seen fs) held))) (sym c.in_ok-place.ensures.index)
     ∙ slice_get-map (seen fs) held c.in_ok-place.place ∙ ap (option_map (seen fs)) at)

@@ -1,5 +1,6 @@
 use Rattle.std.proofs.Common.{◌≡◌, ◌+◌, ◌<◌, false, cond, not, eqb, [], ◌∷◌, ◌++◌, length, map, set, Some, refl, ap, sym, subst, ◌∙◌, arith}
 use Rattle.std.specs.Prelude.{pos}
+use Rattle.std.specs.HashMap.{get}
 use Rattle.std.specs.List.{All, slice_get, list_any}
 use Rattle.std.proofs.lemmas.List.{length-map, map-set}
 use Rattle.std.proofs.lemmas.List.Sums.{sum_by_push}
@@ -249,9 +250,8 @@ invariant_of-self c =
       pile = c.args.pile;
     } in
     let pushed : c.push_pack.new.packs.items ≡ held ++ h ∷ [] = c.push_pack.ensures.items in
-    let none : list_any (λ other. eqb c.args.pack other) sums.numbers.keys ≡ false =
-    ap (λ ns. list_any (λ other. eqb c.args.pack other) ns) settled.numbered
-    ∙ sym (added_is (faces gs) c.args.pack held)
+    let none : list_any (λ other. eqb c.args.pack other) (map (λ (p : Held). p.number) held) ≡ false =
+    sym (added_is (faces gs) c.args.pack held)
     ∙ ap (λ (s : Sums). is_added s.packs c.args.pack) c.self.view_is ∙ c.requires.new in
     let ins : inside c.push_pack.new.packs.items ≡ inside held + cond (is_counted c.args.pile) 1 0 =
     ap inside pushed ∙ sum_by_push (λ p. cond (is_counted p.pile) 1 0) held h in
@@ -262,16 +262,18 @@ invariant_of-self c =
       settled = subst (λ hs. Rattle.batch_sums.specs.Invariant.IsSettled
           (set bs c.args.batch c.enter.new.self)
           (set c.find_or_open-group.new.groups.items c.find_or_open-group.result c.enter-2.new.self)
-          c.find_or_open-group.new.order hs c.push_pack.new.numbers.keys) (sym pushed)
+          c.find_or_open-group.new.order hs (get eqb c.push_pack.new.places)) (sym pushed)
           (settled_put bs gs held c.find_or_open-group.new.groups.items c.find_or_open-group.result
           key c.args.tare done c.index_mut-group.result.now c.index_mut-group.ensures.value
           c.index_mut-batch.result.now home h refl c.requires.gross few c.enter.new.self
           (entered_from c.index_mut-batch.result.now c.len.result c.enter.new.self c.args.pile
           c.args.gross c.args.tare c.enter.ensures.entered) c.enter-2.new.self
           c.enter-2.ensures.grosses c.enter-2.ensures.face c.enter-2.ensures.judged
-          c.find_or_open-group.new.order c.push_pack.new.numbers.keys sums.numbers.keys
+          c.find_or_open-group.new.order (get eqb c.push_pack.new.places) (get eqb sums.places)
           c.find_or_open-group.ensures.balanced c.find_or_open-group.ensures.index settled.small
-          settled.numbered settled.apart none c.push_pack.ensures.keys
+          settled.numbered settled.apart none
+          (λ number. c.push_pack.ensures.places number ∙ ap (λ n. cond (eqb c.args.pack number) (Some n)
+          (get eqb sums.places number)) sums.packs.ok.0)
           (chained_with bs gs held c.find_or_open-group.new.groups.items c.find_or_open-group.result
           key c.args.tare done c.index_mut-group.result.now c.index_mut-group.ensures.value
           c.index_mut-batch.result.now home h refl c.requires.gross few c.enter.new.self
@@ -310,7 +312,7 @@ invariant_of-self c =
           c.push_pack.ensures.len,
           c.push_pack.ensures.capacity,
         );
-        numbers = omega (arith, room.numbers, spare, c.requires.room, c.push_pack.ensures.spare);
+        places = omega (arith, room.places, spare, c.requires.room, c.push_pack.ensures.spare);
         nodes = omega (
           arith,
           room.nodes,

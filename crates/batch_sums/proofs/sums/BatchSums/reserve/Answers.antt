@@ -32,6 +32,24 @@ overflow_add-left_out c =
       c.len-else-len-most.ensures,
     )
 
+pub invariant_of-self : goal.invariant_of-self
+invariant_of-self c =
+    let room = c.self.invariant.room in
+    let grown = c.reserve_places.ensures in
+    kept_on c.self.inside _ c.self.invariant grown.batches.same grown.groups.same refl
+    grown.packs.same grown.same refl
+    (record {
+      batches = omega (arith, room.batches, grown.batches.long, grown.batches.room);
+      groups = omega (arith, room.groups, grown.groups.long, grown.groups.room);
+      packs = omega (arith, room.packs, grown.packs.long, grown.packs.room);
+      places = omega (arith, room.places, grown.places);
+      nodes = room.nodes;
+      back = room.back;
+      order_nodes = room.order_nodes;
+      few_batches = omega (arith, room.few_batches, grown.batches.long);
+      few_packs = omega (arith, room.few_packs, grown.packs.long);
+    })
+
 pub invariant_of-self-in_err-reserve_nodes : goal.invariant_of-self-in_err-reserve_nodes
 invariant_of-self-in_err-reserve_nodes c =
     let room = c.self.invariant.room in
@@ -47,12 +65,12 @@ invariant_of-self-in_err-reserve_nodes c =
       c.len-2.ensures,
     ) in
     kept_on c.self.inside _ c.self.invariant grown.batches.same grown.groups.same refl
-    grown.packs.same grown.keys refl
+    grown.packs.same grown.same refl
     (record {
       batches = omega (arith, room.batches, grown.batches.long, grown.batches.room);
       groups = omega (arith, room.groups, grown.groups.long, grown.groups.room);
       packs = omega (arith, room.packs, grown.packs.long, grown.packs.room);
-      numbers = omega (arith, room.numbers, grown.numbers);
+      places = omega (arith, room.places, grown.places);
       nodes = omega (arith, room.nodes, nodes.gross);
       back = nodes.back (inside held) within room.back;
       order_nodes = omega (arith, room.order_nodes, nodes.order);
@@ -75,12 +93,12 @@ invariant_of-self-2 c =
       c.len-2.ensures,
     ) in
     kept_on c.self.inside _ c.self.invariant grown.batches.same grown.groups.same refl
-    grown.packs.same grown.keys refl
+    grown.packs.same grown.same refl
     (record {
       batches = omega (arith, grown.ok_batches);
       groups = omega (arith, grown.ok_groups);
       packs = omega (arith, grown.ok_packs);
-      numbers = omega (arith, grown.ok_numbers);
+      places = omega (arith, grown.ok_places);
       nodes = omega (
         arith,
         nodes.ok_gross,

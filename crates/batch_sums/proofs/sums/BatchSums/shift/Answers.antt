@@ -1,5 +1,8 @@
-use Rattle.std.proofs.Common.{◌≡◌, ℕ, ◌<◌, ◌≤◌, true, false, length, map, set, Some, refl, ap, sym, subst, ◌∙◌, arith, rules, true≢false, length-set}
+use Rattle.std.proofs.Common.{◌≡◌, eqb, true, map, set, refl, ap, sym, subst, ◌∙◌, arith, rules, length-set}
 use Rattle.std.specs.Prelude.{pos, ◌≤ℤ◌}
+use Rattle.std.specs.HashMap.{get}
+use Rattle.batch_sums.specs.declared.types.Held.{Held}
+use Rattle.batch_sums.proofs.NumberPlaces.{found_nowhere}
 use Rattle.std.proofs.lemmas.List.{map-set}
 use Rattle.hall_limits.specs.declared.TheConstants.{MAX_TARE}
 use Rattle.batch_sums.specs.Groups.{Face, faces, IsJudged}
@@ -25,10 +28,9 @@ unreachable-requires c =
     let sums = c.self.inside in
     let there : is_added c.args.self.now.packs c.args.pack ≡ true = search rules in
     let among = added_is (faces sums.groups.items) c.args.pack sums.packs.items in
-    true≢false (sym there ∙ ap (λ (s : Sums). is_added s.packs c.args.pack) (sym c.self.view_is)
-    ∙ among ∙ ap (λ ns. Rattle.std.specs.List.list_any
-    (λ other. Rattle.std.proofs.Common.eqb c.args.pack other) ns)
-    (sym c.self.invariant.settled.numbered) ∙ sym c.in_default.ensures.found)
+    found_nowhere c.args.pack (map (λ (p : Held). p.number) sums.packs.items)
+    (sym among ∙ ap (λ (s : Sums). is_added s.packs c.args.pack) c.self.view_is ∙ there)
+    (sym (c.self.invariant.settled.numbered c.args.pack) ∙ sym c.in_default.ensures.index)
 
 pub index_mut-batch-requires : goal.index_mut-batch-requires
 index_mut-batch-requires c =
@@ -38,7 +40,7 @@ index_mut-batch-requires c =
     let gs = sums.groups.items in
     let held = sums.packs.items in
     let h = c.index-held.result.now in
-    let found = number_at sums.numbers.keys held c.in-Some.place c.args.pack h settled.numbered
+    let found = number_at (get eqb sums.places) held c.in-Some.place c.args.pack h settled.numbered
     c.in-Some.ensures.index c.index-held.ensures in
     let there = batch_there bs gs held settled.sound c.in-Some.place h c.index-held.ensures found.0
     c.index_mut-group.result.now c.index_mut-group.ensures.value in
@@ -52,7 +54,7 @@ leave-requires-clause-tare c =
     let gs = sums.groups.items in
     let held = sums.packs.items in
     let h = c.index-held.result.now in
-    let found = number_at sums.numbers.keys held c.in-Some.place c.args.pack h settled.numbered
+    let found = number_at (get eqb sums.places) held c.in-Some.place c.args.pack h settled.numbered
     c.in-Some.ensures.index c.index-held.ensures in
     (kept_group bs gs held settled.sound c.in-Some.place h c.index-held.ensures found.0
     c.index_mut-group.result.now c.index_mut-group.ensures.value).tare
@@ -65,7 +67,7 @@ leave-requires-clause-covered c =
     let gs = sums.groups.items in
     let held = sums.packs.items in
     let h = c.index-held.result.now in
-    let found = number_at sums.numbers.keys held c.in-Some.place c.args.pack h settled.numbered
+    let found = number_at (get eqb sums.places) held c.in-Some.place c.args.pack h settled.numbered
     c.in-Some.ensures.index c.index-held.ensures in
     covers bs gs held settled.sound c.in-Some.place h c.index-held.ensures found.0
     c.index_mut-group.result.now c.index_mut-group.ensures.value c.index_mut-batch.result.now
@@ -79,7 +81,7 @@ leave-requires-2-clause-tare c =
     let gs = sums.groups.items in
     let held = sums.packs.items in
     let h = c.index-held.result.now in
-    let found = number_at sums.numbers.keys held c.in-Some.place c.args.pack h settled.numbered
+    let found = number_at (get eqb sums.places) held c.in-Some.place c.args.pack h settled.numbered
     c.in-Some.ensures.index c.index-held.ensures in
     (kept_group bs gs held settled.sound c.in-Some.place h c.index-held.ensures found.0
     c.index_mut-group.result.now c.index_mut-group.ensures.value).tare
@@ -92,7 +94,7 @@ leave-requires-2-clause-contained c =
     let gs = sums.groups.items in
     let held = sums.packs.items in
     let h = c.index-held.result.now in
-    let found = number_at sums.numbers.keys held c.in-Some.place c.args.pack h settled.numbered
+    let found = number_at (get eqb sums.places) held c.in-Some.place c.args.pack h settled.numbered
     c.in-Some.ensures.index c.index-held.ensures in
     has_gross bs gs held settled.sound c.in-Some.place h c.index-held.ensures found.0
     c.index_mut-group.result.now c.index_mut-group.ensures.value
@@ -105,7 +107,7 @@ leave-requires-2-clause-judged c =
     let gs = sums.groups.items in
     let held = sums.packs.items in
     let h = c.index-held.result.now in
-    let found = number_at sums.numbers.keys held c.in-Some.place c.args.pack h settled.numbered
+    let found = number_at (get eqb sums.places) held c.in-Some.place c.args.pack h settled.numbered
     c.in-Some.ensures.index c.index-held.ensures in
     subst (λ l. IsJudged l c.index_mut-group.result.now) c.leave.ensures.entered.limits
     (judged_before bs gs held settled.sound c.in-Some.place h c.index-held.ensures found.0
@@ -120,7 +122,7 @@ enter-requires-clause-tare c =
     let gs = sums.groups.items in
     let held = sums.packs.items in
     let h = c.index-held.result.now in
-    let found = number_at sums.numbers.keys held c.in-Some.place c.args.pack h settled.numbered
+    let found = number_at (get eqb sums.places) held c.in-Some.place c.args.pack h settled.numbered
     c.in-Some.ensures.index c.index-held.ensures in
     let tare : c.leave-2.new.self.tare ≡ c.index_mut-group.result.now.tare =
     ap (λ (f : Face). f.tare) c.leave-2.ensures.face in
@@ -136,7 +138,7 @@ enter-requires-clause-room c =
     let gs = sums.groups.items in
     let held = sums.packs.items in
     let h = c.index-held.result.now in
-    let found = number_at sums.numbers.keys held c.in-Some.place c.args.pack h settled.numbered
+    let found = number_at (get eqb sums.places) held c.in-Some.place c.args.pack h settled.numbered
     c.in-Some.ensures.index c.index-held.ensures in
     room_to bs gs held settled.sound c.in-Some.place h c.index-held.ensures found.0
     c.index_mut-group.result.now c.index_mut-group.ensures.value c.index_mut-batch.result.now
@@ -151,7 +153,7 @@ enter-requires-2-clause-tare c =
     let gs = sums.groups.items in
     let held = sums.packs.items in
     let h = c.index-held.result.now in
-    let found = number_at sums.numbers.keys held c.in-Some.place c.args.pack h settled.numbered
+    let found = number_at (get eqb sums.places) held c.in-Some.place c.args.pack h settled.numbered
     c.in-Some.ensures.index c.index-held.ensures in
     let tare : c.leave-2.new.self.tare ≡ c.index_mut-group.result.now.tare =
     ap (λ (f : Face). f.tare) c.leave-2.ensures.face in
@@ -167,7 +169,7 @@ enter-requires-2-clause-few c =
     let gs = sums.groups.items in
     let held = sums.packs.items in
     let h = c.index-held.result.now in
-    let found = number_at sums.numbers.keys held c.in-Some.place c.args.pack h settled.numbered
+    let found = number_at (get eqb sums.places) held c.in-Some.place c.args.pack h settled.numbered
     c.in-Some.ensures.index c.index-held.ensures in
     few_less bs gs held settled.sound c.in-Some.place h c.index-held.ensures found.0
     c.index_mut-group.result.now c.index_mut-group.ensures.value c.index_mut-batch.result.now
@@ -187,7 +189,7 @@ leave-requires-3-clause-count c =
     let gs = sums.groups.items in
     let held = sums.packs.items in
     let h = c.index-held.result.now in
-    let found = number_at sums.numbers.keys held c.in-Some.place c.args.pack h settled.numbered
+    let found = number_at (get eqb sums.places) held c.in-Some.place c.args.pack h settled.numbered
     c.in-Some.ensures.index c.index-held.ensures in
     let gone = joins bs gs held settled.sound c.in-Some.place h c.index-held.ensures found.0 in
     some_lying sums.piles held c.self.invariant.tallied (remove held c.in-Some.place) h gone
@@ -200,7 +202,7 @@ leave-requires-3-clause-gross c =
     let gs = sums.groups.items in
     let held = sums.packs.items in
     let h = c.index-held.result.now in
-    let found = number_at sums.numbers.keys held c.in-Some.place c.args.pack h settled.numbered
+    let found = number_at (get eqb sums.places) held c.in-Some.place c.args.pack h settled.numbered
     c.in-Some.ensures.index c.index-held.ensures in
     let gone = joins bs gs held settled.sound c.in-Some.place h c.index-held.ensures found.0 in
     heavy_lying sums.piles held c.self.invariant.tallied (remove held c.in-Some.place) h gone
@@ -213,7 +215,7 @@ enter-requires-3-clause-count c =
     let gs = sums.groups.items in
     let held = sums.packs.items in
     let h = c.index-held.result.now in
-    let found = number_at sums.numbers.keys held c.in-Some.place c.args.pack h settled.numbered
+    let found = number_at (get eqb sums.places) held c.in-Some.place c.args.pack h settled.numbered
     c.in-Some.ensures.index c.index-held.ensures in
     let gone = joins bs gs held settled.sound c.in-Some.place h c.index-held.ensures found.0 in
     let left = tallied_out sums.piles held c.self.invariant.tallied
@@ -234,7 +236,7 @@ enter-requires-3-clause-gross c =
     let gs = sums.groups.items in
     let held = sums.packs.items in
     let h = c.index-held.result.now in
-    let found = number_at sums.numbers.keys held c.in-Some.place c.args.pack h settled.numbered
+    let found = number_at (get eqb sums.places) held c.in-Some.place c.args.pack h settled.numbered
     c.in-Some.ensures.index c.index-held.ensures in
     let gone = joins bs gs held settled.sound c.in-Some.place h c.index-held.ensures found.0 in
     let left = tallied_out sums.piles held c.self.invariant.tallied
@@ -255,7 +257,7 @@ invariant_of-self c =
     let gs = sums.groups.items in
     let held = sums.packs.items in
     let h = c.index-held.result.now in
-    let found = number_at sums.numbers.keys held c.in-Some.place c.args.pack h settled.numbered
+    let found = number_at (get eqb sums.places) held c.in-Some.place c.args.pack h settled.numbered
     c.in-Some.ensures.index c.index-held.ensures in
     let tare : c.leave-2.new.self.tare ≡ c.index_mut-group.result.now.tare =
     ap (λ (f : Face). f.tare) c.leave-2.ensures.face in
@@ -295,7 +297,7 @@ invariant_of-self c =
           (Rattle.batch_sums.proofs.PileMoves.in_pile h c.args.to) found.0) c.enter-3.new.self
           c.enter-3.ensures.count c.enter-3.ensures.gross;
       settled = settled_moved held c.in-Some.place h c.args.to c.index-held.ensures found.0 bs _ gs
-          _ sums.order sums.numbers.keys settled reaches sound face
+          _ sums.order (get eqb sums.places) settled reaches sound face
           (length-set gs h.group c.enter-2.new.self);
       room =
           let room = c.self.invariant.room in
@@ -305,7 +307,7 @@ invariant_of-self c =
             batches = room.batches;
             groups = room.groups;
             packs = room.packs;
-            numbers = room.numbers;
+            places = room.places;
             nodes = omega (arith, room.nodes, outs, c.leave-2.ensures.nodes, c.enter-2.ensures.nodes);
             back = omega (
               arith,
@@ -330,7 +332,7 @@ returns-clause-packs c =
     let gs = sums.groups.items in
     let held = sums.packs.items in
     let h = c.index-held.result.now in
-    let found = number_at sums.numbers.keys held c.in-Some.place c.args.pack h settled.numbered
+    let found = number_at (get eqb sums.places) held c.in-Some.place c.args.pack h settled.numbered
     c.in-Some.ensures.index c.index-held.ensures in
     let tare : c.leave-2.new.self.tare ≡ c.index_mut-group.result.now.tare =
     ap (λ (f : Face). f.tare) c.leave-2.ensures.face in
@@ -356,7 +358,7 @@ returns-clause-batches c =
     let gs = sums.groups.items in
     let held = sums.packs.items in
     let h = c.index-held.result.now in
-    let found = number_at sums.numbers.keys held c.in-Some.place c.args.pack h settled.numbered
+    let found = number_at (get eqb sums.places) held c.in-Some.place c.args.pack h settled.numbered
     c.in-Some.ensures.index c.index-held.ensures in
     let there = at_batch bs gs held settled.sound c.in-Some.place h c.index-held.ensures found.0
     c.index_mut-group.result.now c.index_mut-group.ensures.value c.index_mut-batch.result.now
