@@ -3,6 +3,7 @@
 use denote.RattleType.{RattleType}
 use denote.Param.Send.{IsSend, IsSync, sendable}
 use Rattle.std.proofs.Crossing as heap
+use Rattle.std.proofs.MapsCrossing as maps
 use Rattle.std.specs.declared.sync.ledger.Ledger as ledger
 use Rattle.balanced_tree.proofs.tree.Tree.TheLaws.TheKnot as tree
 use Rattle.disk_core.specs.declared.disk.Disk as disk
@@ -23,7 +24,7 @@ index_send : IsSend Index.the_row
 index_send = search (heap.crosses, tree.crosses, sendable) depth 60 fits 20000
 
 packs_send : IsSend Packs.the_row
-packs_send = search (heap.crosses, tree.crosses, sendable) depth 60 fits 20000
+packs_send = search (maps.crosses, heap.crosses, tree.crosses, sendable) depth 60 fits 20000
 
 state_send : IsSend State.the_row
 state_send = search (packs_send, index_send, samples.the_send, heap.crosses, sendable) depth 60
