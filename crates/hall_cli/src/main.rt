@@ -14,7 +14,7 @@ use command_line::{Command, Wants, WantsError, wants};
 use disk_core::{Disk, Door, Sink, Source, StdSink, StdSource};
 use hall_devices::{Waiting, lock_cells, open_disk, open_doors, open_lanes};
 use hall_top::{DoorEnds, Ending, LaneEnds, MountError, hall, say_last};
-use lane_worker::Lane;
+use lane_worker::{Cell, EitherCell, Gate, Lane, PairLane};
 use run_notices::RunNotices;
 use setup_watch::WatchedPlan;
 use std::alloc::{AllocError, Global};
@@ -186,6 +186,27 @@ fn with_lanes<S: Source, K: Sink, L: Lane + Send + Drop, R: AllocGlobal + Thread
     }
 }
 
+// Does a call with these lanes, whatever their cells and gates are: the type of a lane of the program
+// is deep, and a call at half of its depth costs the check half as much.
+fn with_parts<
+    S: Source,
+    K: Sink,
+    A: Cell + Send + Drop,
+    B: Cell + Send + Drop,
+    G: Gate + Send + Drop,
+    R: AllocGlobal + Threads + Wait + Sync,
+>(
+    call: &Call<R>,
+    input: &mut S,
+    output: &mut K,
+    lanes: Vec<PairLane<EitherCell<A, B>, G>>,
+) -> ExitCode
+    requires few { length lanes.items ≤ MAX_LANE }
+    requires unended { S.ended input.old ≡ false }
+{
+    with_lanes(call, input, output, lanes)
+}
+
 // Does a call with the lanes that it asks for, unless another hall has their folder.
 fn with_folder<S: Source, K: Sink, R: AllocGlobal + Threads + Wait + Sync>(
     call: &Call<R>,
@@ -202,7 +223,7 @@ fn with_folder<S: Source, K: Sink, R: AllocGlobal + Threads + Wait + Sync>(
         );
     };
     match open_lanes(call.rt, call.wanted) {
-        Ok(lanes) => with_lanes(call, input, output, lanes),
+        Ok(lanes) => with_parts(call, input, output, lanes),
         Err(_) => end_without_memory(call.rt.alloc(), output),
     }
 }
