@@ -14,8 +14,10 @@ import time
 from clients import Gone, Link, need, spell_grams
 from refusals import LONGEST
 
-# Seconds for which nothing comes before it is looked whether the hall sleeps.
+# Seconds for which nothing comes before it is looked whether the hall sleeps, and how many looks in
+# a row have to find it asleep: a door that waits for its client wakes for a moment each 20 ms.
 QUIET = 0.2
+LOOKS = 3
 
 IN_VAIN = b"in vain\n"
 
@@ -140,27 +142,29 @@ class Meeting:
     def hear_in_time(self):
         """Whether anything came before the hall ended, or slept with nothing to do."""
         until = time.monotonic() + LONGEST
-        while time.monotonic() < until:
-            before = self.turns()
+        asleep = 0
+        while asleep < LOOKS:
+            need(time.monotonic() < until,
+                 f"nothing comes in {LONGEST} s, and the hall doesn't sleep")
             if self.hear(QUIET):
                 return True
-            if self.hall.ended() or before == self.turns():
+            if self.hall.ended():
                 return False
-        need(False, f"nothing comes in {LONGEST} s, and the hall doesn't sleep")
+            asleep = asleep + 1 if self.sleeps() else 0
+        return False
 
-    def turns(self):
-        """How often each thread of the hall got a processor; where one is not asleep, the time."""
-        turns = []
+    def sleeps(self):
+        """Whether each thread of the hall sleeps."""
         folder = f"/proc/{self.hall.process.pid}/task"
         try:
-            for task in sorted(os.listdir(folder)):
+            for task in os.listdir(folder):
                 with open(f"{folder}/{task}/status", encoding="ascii") as status:
                     fields = dict(line.split(":\t", 1) for line in status)
-                awake = not fields["State"].startswith("S")
-                turns.append((task, fields["voluntary_ctxt_switches"], awake and time.monotonic()))
+                if not fields["State"].startswith("S"):
+                    return False
         except (OSError, KeyError):
-            return time.monotonic()
-        return turns
+            return False
+        return True
 
     def hear(self, seconds):
         """Takes in what comes first within these seconds; whether anything came."""
