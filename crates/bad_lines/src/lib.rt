@@ -1,6 +1,9 @@
 //! Why a line is bad, in words for people. The input keeps what it read last, the output what it said
 //! last, so that the line that `bad line N` names can be shown.
 //!
+//! The input of a plan is watched as it is read: an act of its setup that has no desk is named on
+//! standard error, since it acts again whenever the hall is begun again with the same plan.
+//!
 //! Promised: a read gives what the input gives, a write gives the output what it was given. What is
 //! told of a line stands in no clause; it is tested.
 #![tactic(auto)]
@@ -11,11 +14,14 @@ mod kept_output;
 mod lines;
 mod plan;
 mod saying;
+mod setup_lines;
 mod telling;
 mod types;
+mod watched;
 
 pub use kept_input::KeptInput;
 pub use kept_output::{Fault, KeptOutput};
 pub use saying::explain;
 pub use telling::reason;
 pub use types::{Kind, Reason};
+pub use watched::WatchedPlan;

@@ -1,5 +1,5 @@
 pub mod CallEnds
-pub mod EndingLemmas
+pub mod CommandLemmas
 pub mod OpenedBooks
 pub mod RequestOrder
 pub mod WordsRead

@@ -23,7 +23,7 @@ use Rattle.script_run.specs.Outside.{LogView, Outside, Devices, Call}
 use Rattle.store_runs.specs.Runs.{HasAddedRows, CountsStop, SparesDisk}
 use Rattle.store_runs.specs.Stops.{stop_row}
 use Rattle.hall_alone.specs.declared.ended.Outcome.{Outcome}
-use Rattle.hall_alone.specs.declared.ending.Ending.TheVariants.{Unopened}
+use Rattle.call_endings.specs.declared.ending.Ending.TheVariants.{Unopened}
 use Rattle.hall_alone.specs.Calls.{KeepsRows, LanesRest, IsOpened, IsUnopened, CommandDone}
 
 -- a call that began with these devices

@@ -15,8 +15,8 @@ use Rattle.book_journal.proofs.Moments.{unmoved_none}
 use Rattle.book_mount.specs.declared.types.MountError.TheVariants as mount
 use Rattle.script_run.specs.Outside.{Call}
 use Rattle.hall_alone.specs.declared.ended.Outcome.{Outcome}
-use Rattle.hall_alone.specs.declared.ending.Ending.{Ending}
-use Rattle.hall_alone.specs.declared.ending.Ending.TheVariants as ending
+use Rattle.call_endings.specs.declared.ending.Ending.{Ending}
+use Rattle.call_endings.specs.declared.ending.Ending.TheVariants as ending
 use Rattle.hall_alone.specs.Asked.{is_serve, begins_serve, wanted_alone, refused_as, IsRead}
 use Rattle.hall_alone.specs.Calls.{EndsAs}
 use Rattle.hall_alone.proofs.OpenedBooks.{is_unopened}

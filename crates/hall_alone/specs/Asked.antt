@@ -9,8 +9,8 @@ use Rattle.command_line.specs.declared.types.WantsError.{WantsError}
 use Rattle.command_line.specs.declared.types.WantsError.TheVariants.{Usage, NoMemory}
 use Rattle.command_line.specs.Words.{Wanted, wanted_of}
 use Rattle.command_line.specs.Taken.{seen}
-use Rattle.hall_alone.specs.declared.ending.Ending.{Ending}
-use Rattle.hall_alone.specs.declared.ending.Ending.TheVariants as ending
+use Rattle.call_endings.specs.declared.ending.Ending.{Ending}
+use Rattle.call_endings.specs.declared.ending.Ending.TheVariants as ending
 
 -- whether a command is `serve`
 abbrev pub is_serve : Command → Bool

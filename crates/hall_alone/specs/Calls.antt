@@ -45,12 +45,12 @@ use Rattle.report_run.specs.Reports.{HasEachReading, IsReadBack, batch_text, boo
 use Rattle.book_audit.specs.declared.types.AuditEnd.{AuditEnd}
 use Rattle.book_audit.specs.declared.types.AuditEnd.TheVariants as audits
 use Rattle.book_audit.specs.Audits.{ExplainsAudit, CountsEnd}
-use Rattle.hall_alone.specs.declared.ending.Ending.{Ending}
-use Rattle.hall_alone.specs.declared.ending.Ending.TheVariants.{Usage, Unopened, Stopped}
+use Rattle.call_endings.specs.declared.ending.Ending.{Ending}
+use Rattle.call_endings.specs.declared.ending.Ending.TheVariants.{Usage, Unopened, Stopped}
 use Rattle.hall_alone.specs.Asked.{is_audit}
 use Rattle.hall_alone.specs.declared.ended.Ended.{Ended}
 use Rattle.hall_alone.specs.declared.ended.Outcome.{Outcome}
-use Rattle.hall_alone.specs.Endings.{SaysLast}
+use Rattle.call_endings.specs.Endings.{SaysLast}
 use Rattle.hall_alone.specs.Texts.{whole}
 use Rattle.command_line.specs.Words.{Wanted}
 use Rattle.command_line.specs.declared.types.Command.{Command}

@@ -1,6 +1,5 @@
 pub mod Asked
 pub mod Calls
-pub mod Endings
 pub mod Requests
 pub mod Texts
 pub use Rattle.script_run.specs.Outside

@@ -1,5 +1,5 @@
-use crate::ending::Ending;
 use book_core::Rows;
+use call_endings::Ending;
 use job_reports::DoorEnds;
 use script_run::{LaneEnds, LaneLog};
 

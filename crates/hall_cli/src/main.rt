@@ -9,14 +9,13 @@ ghost use Rattle.command_line.specs.Words.{bytes_of, wanted_of};
 ghost use Rattle.text_streams.specs.Streams.{output_at};
 ghost use Rattle.hall_top.specs.Endings.{LacksMemory, SaysLast};
 
-use bad_lines::{KeptInput, KeptOutput, Kind, explain};
+use bad_lines::{KeptInput, KeptOutput, Kind, WatchedPlan, explain};
 use command_line::{Command, Wants, WantsError, wants};
 use disk_core::{Disk, Door, Sink, Source, StdSink, StdSource};
 use hall_devices::{Waiting, lock_cells, open_disk, open_doors, open_lanes};
 use hall_top::{DoorEnds, Ending, LaneEnds, MountError, hall, say_last};
 use lane_worker::{Cell, EitherCell, Gate, Lane, PairLane};
 use run_notices::RunNotices;
-use setup_watch::WatchedPlan;
 use std::alloc::{AllocError, Global};
 use std::env;
 use std::io::{ErrorKind, IsTerminal, Write};

@@ -30,10 +30,10 @@ use Rattle.job_reports.specs.declared.stop.ServeStop.{ServeStop}
 use Rattle.job_reports.specs.declared.stop.ServeStop.TheVariants as serve
 use Rattle.serve_run.specs.Jobs.{lane_end_of}
 use Rattle.serve_run.specs.Serving.{ExplainsServe, HasRunPlan, IsStoppedEarly, Moment, door_lacks, lane_lacks}
-use Rattle.hall_alone.specs.declared.ending.Ending.TheVariants.{Served}
-use Rattle.hall_alone.specs.Endings.{early_status, least_status, is_cut, is_cut_stop, is_early, is_early_stop, is_full, is_full_stop, is_spent, is_spent_stop, status_of_serve, SaysLast}
+use Rattle.call_endings.specs.declared.ending.Ending.TheVariants.{Served}
+use Rattle.call_endings.specs.Endings.{early_status, least_status, is_cut, is_cut_stop, is_early, is_early_stop, is_full, is_full_stop, is_spent, is_spent_stop, status_of_serve, SaysLast}
 use Rattle.hall_top.specs.Serving.{AllEndDone}
-use Rattle.hall_alone.proofs.EndingLemmas.{IsEarly, None_is, Lane_is, Door_is, Spent_is, is_early_status}
+use Rattle.call_endings.proofs.EndingLemmas.{IsEarly, None_is, Lane_is, Door_is, Spent_is, is_early_status}
 
 no : {A : Type 0} → true ≡ false → A
 no clash = absurd (cc)

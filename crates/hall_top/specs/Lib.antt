@@ -1,2 +1,2 @@
 pub mod Serving
-pub use Rattle.hall_alone.specs.Endings
+pub use Rattle.call_endings.specs.Endings

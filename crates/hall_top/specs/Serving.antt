@@ -39,9 +39,9 @@ use Rattle.serve_run.specs.Jobs.{Handed, handed_in}
 use Rattle.serve_run.specs.Keeping.{ServeGoes}
 use Rattle.serve_run.specs.Serving.{Moment, moment, ExplainsServe, CountsServe, SparesServe}
 use Rattle.hall_alone.specs.declared.ended.Ended.{Ended}
-use Rattle.hall_alone.specs.declared.ending.Ending.TheVariants.{Served}
+use Rattle.call_endings.specs.declared.ending.Ending.TheVariants.{Served}
 use Rattle.hall_alone.specs.Calls.{KeepsRows, IsUnopened, Leaves}
-use Rattle.hall_alone.specs.Endings.{SaysLast}
+use Rattle.call_endings.specs.Endings.{SaysLast}
 
 -- the lanes and doors that a call leaves, and how they ended
 abbrev pub handed_of : {D L O : Type 0} → Ended D L O → Handed L O

@@ -7,7 +7,7 @@ ghost use Rattle.text_streams.specs.Streams.{input_at, output_at};
 ghost use Rattle.serve_run.specs.Works.{lane_site, door_site};
 ghost use Rattle.serve_run.specs.Jobs.{handed_in};
 ghost use Rattle.serve_run.specs.Serving.{moment};
-ghost use Rattle.hall_alone.specs.Endings.{is_status};
+ghost use Rattle.call_endings.specs.Endings.{is_status};
 ghost use Rattle.hall_top.specs.Serving.{EndsServe, ServeDone};
 
 use book_mount::mount;

@@ -5,7 +5,7 @@ ghost use Rattle.book_words.specs.Soundness.{IsSound as IsSoundBook};
 ghost use Rattle.command_line.specs.Words.{Wanted, bytes_of, wanted_of};
 ghost use Rattle.hall_alone.specs.Asked.{is_serve};
 ghost use Rattle.hall_alone.specs.Requests.{RequestsOnce};
-ghost use Rattle.hall_alone.specs.Endings.{is_status};
+ghost use Rattle.call_endings.specs.Endings.{is_status};
 ghost use Rattle.hall_alone.specs.Calls.{EndsAs, IsUsage, Leaves};
 ghost use Rattle.hall_top.specs.Serving.{EndsServe};
 

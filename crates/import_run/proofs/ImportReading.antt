@@ -2,8 +2,8 @@
 use Rattle.std.proofs.Common.{◌≡◌, Err, refl}
 use Rattle.disk_core.specs.declared.disk.Disk as disk
 use Rattle.book_store.specs.declared.store.Store.{Store}
-use Rattle.whole_input.specs.declared.whole.Unread.{Unread}
-use Rattle.whole_input.specs.declared.whole.Unread.TheVariants as unread
+use Rattle.text_streams.specs.declared.whole.Unread.{Unread}
+use Rattle.text_streams.specs.declared.whole.Unread.TheVariants as unread
 use Rattle.store_runs.specs.declared.stop.Stop.TheVariants.{BadLine, ReadFault, NoMemory}
 use Rattle.store_runs.specs.Runs.{RunGoes}
 use Rattle.store_runs.proofs.StoreSteps.{stays_same}

@@ -5,9 +5,9 @@ use Rattle.device_facts.specs.CountLaws.{calm_counts_none}
 use Rattle.book_words.specs.declared.act.Entry.{Entry}
 use Rattle.text_streams.specs.Streams.{Stream, IsCalm, HasFailed}
 use Rattle.text_streams.specs.Reading.{ReadsWhole}
-use Rattle.whole_input.specs.declared.whole.Unread.{Unread}
-use Rattle.whole_input.specs.declared.whole.Unread.TheVariants as unread
-use Rattle.whole_input.proofs.WholeReading.{told_whole, told_long}
+use Rattle.text_streams.specs.declared.whole.Unread.{Unread}
+use Rattle.text_streams.specs.declared.whole.Unread.TheVariants as unread
+use Rattle.text_streams.proofs.WholeReading.{told_whole, told_long}
 use Rattle.store_runs.specs.declared.stop.Offer.{Offer}
 use Rattle.store_runs.specs.declared.stop.Stop.{Stop}
 use Rattle.store_runs.specs.declared.stop.Stop.TheVariants.{Finished, BadLine, ReadFault, WriteFault, DiskFault, NoMemory, Spent}

@@ -1,9 +1,9 @@
 -- How the reading of an import stops before its end.
 use Rattle.std.specs.Prelude.{◌≡◌}
 use Rattle.text_streams.specs.Streams.{Stream}
-use Rattle.whole_input.specs.declared.whole.Unread.{Unread}
-use Rattle.whole_input.specs.declared.whole.Unread.TheVariants as unread
-use Rattle.whole_input.specs.Reading as whole
+use Rattle.text_streams.specs.declared.whole.Unread.{Unread}
+use Rattle.text_streams.specs.declared.whole.Unread.TheVariants as unread
+use Rattle.text_streams.specs.WholeInputs as whole
 use Rattle.store_runs.specs.declared.stop.Stop.{Stop}
 use Rattle.store_runs.specs.declared.stop.Stop.TheVariants.{BadLine, ReadFault, NoMemory, Spent}
 use Rattle.import_table.specs.declared.types.TheConstants.{MAX_IMPORT}

@@ -17,7 +17,7 @@ use import_table::MAX_IMPORT;
 use script_session::{ScriptEnd, Session};
 use std::alloc::Global;
 use store_runs::{RunEnd, Stop};
-use whole_input::{Unread, read_whole};
+use text_streams::{Unread, read_whole};
 
 // How a run stops whose import wasn't read whole.
 fn stop_unread(unread: Unread) -> Stop

@@ -3,8 +3,8 @@ use Rattle.std.specs.Prelude.{◌≡◌, ℕ, List, [], ◌++◌, codes, Option,
 use Rattle.book_words.specs.declared.views.Verdict.{Verdict}
 use Rattle.book_texts.specs.Words.{verdict_text}
 use Rattle.text_streams.specs.Streams.{Stream, WroteAll, IsCutIn}
-use Rattle.whole_input.specs.declared.whole.Unread.{Unread}
-use Rattle.whole_input.specs.declared.whole.Unread.TheVariants as unread
+use Rattle.text_streams.specs.declared.whole.Unread.{Unread}
+use Rattle.text_streams.specs.declared.whole.Unread.TheVariants as unread
 use Rattle.paper_check.specs.Checks.{IsProven, HasFault}
 use Rattle.paper_form.specs.declared.types.PaperFault.{PaperFault}
 use Rattle.paper_form.specs.declared.types.PaperFault.TheVariants as fault

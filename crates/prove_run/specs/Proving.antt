@@ -2,8 +2,8 @@
 use Rattle.std.specs.Prelude.{◌≡◌, ◌⊎◌, ℕ, ◌≤◌, List, [], length}
 use Rattle.text_streams.specs.Streams.{Stream, IsCalm, WroteAll, IsCutIn}
 use Rattle.text_streams.specs.Reading.{FailsBehind, ReadsWhole}
-use Rattle.whole_input.specs.declared.whole.Unread.TheVariants.{TooLong}
-use Rattle.whole_input.specs.Reading.{IsShort, IsReadNoFurther}
+use Rattle.text_streams.specs.declared.whole.Unread.TheVariants.{TooLong}
+use Rattle.text_streams.specs.WholeInputs.{IsShort, IsReadNoFurther}
 use Rattle.paper_form.specs.declared.types.TheConstants.{MAX_PAPER}
 use Rattle.prove_run.specs.declared.types.ProveEnd.{ProveEnd}
 use Rattle.prove_run.specs.declared.types.ProveEnd.TheVariants.{Proved, BadLine, ReadFault, WriteFault, NoMemory}

@@ -11,8 +11,7 @@ use disk_core::{Sink, Source};
 use paper_check::check_paper;
 use paper_form::{MAX_PAPER, PaperFault};
 use std::alloc::{AllocError, Global};
-use text_streams::write_text;
-use whole_input::{Unread, read_whole};
+use text_streams::{Unread, read_whole, write_text};
 
 // The most bytes of the line that says that a paper is true.
 const MAX_TRUE: usize = 5 + MAX_VERDICT + 1;

@@ -21,7 +21,7 @@ use Rattle.script_lines.specs.declared.command.Line.TheVariants.{Nothing, Asks, 
 use Rattle.book_words.specs.Callers.{number_named}
 use Rattle.store_runs.proofs.KeptLemmas.{begins_on, begins_short}
 use Rattle.store_runs.specs.Books.{BookState}
-use Rattle.lane_runs.specs.LaneWorks.{AreNumbered}
+use Rattle.script_events.specs.LaneWorks.{AreNumbered}
 use Rattle.script_events.specs.Asking.{script_caller, ask_at, Exchange, exchange_at}
 use Rattle.script_events.specs.Transcript.{Event, Asked, Worked, entries_added, after_event, after_events, AreEventsOf}
 use Rattle.script_events.specs.Acknowledged.{acknowledged_rows, AddsRow, StandsAmong, RowStands, EventStands, AreLeft}

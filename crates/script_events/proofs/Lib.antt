@@ -6,3 +6,5 @@ pub mod AcknowledgedRows
 pub mod CommandsInTurn
 pub mod AskedCommands
 pub mod Summaries
+pub mod FilledRows
+pub mod WorkSteps

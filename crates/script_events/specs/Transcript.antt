@@ -12,7 +12,7 @@ use Rattle.lane_worker.specs.declared.ending.LaneEnd.{LaneEnd}
 use Rattle.lane_worker.specs.Works.{Work}
 use Rattle.store_runs.specs.declared.stop.Stop.{Stop}
 use Rattle.store_runs.specs.Books.{BookState}
-use Rattle.lane_runs.specs.LaneWorks.{IsWorkAt}
+use Rattle.script_events.specs.LaneWorks.{IsWorkAt}
 use Rattle.job_reports.specs.Texts.{lane_text}
 use Rattle.script_events.specs.Asking.{Exchange, exchange_at}
 

@@ -5,7 +5,9 @@
 mod asking;
 mod composing;
 mod lane_ends;
+mod work;
 
 pub use asking::{SCRIPT, Unanswered, ask_at, ask_command};
 pub use composing::{append_summary, compose_answer, compose_summary};
 pub use lane_ends::LaneEnds;
+pub use work::{Worked, work_lane};

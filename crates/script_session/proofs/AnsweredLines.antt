@@ -18,7 +18,7 @@ use Rattle.text_streams.proofs.PrintedTexts.{wrote_nothing}
 use Rattle.store_runs.specs.declared.stop.Stop.{Stop}
 use Rattle.store_runs.specs.declared.stop.Stop.TheVariants.{Finished, BadLine, ReadFault, WriteFault, DiskFault, NoMemory, Spent}
 use Rattle.store_runs.specs.Books.{BookState}
-use Rattle.lane_runs.specs.LaneWorks.{LaneState, step_behind}
+use Rattle.script_events.specs.LaneWorks.{LaneState, step_behind}
 use Rattle.script_events.specs.Acknowledged.{AreLeft}
 use Rattle.script_events.specs.Asking.{Exchange, exchange_at}
 use Rattle.script_session.specs.LaneMoves.{EachWorked}

@@ -10,7 +10,7 @@ use Rattle.lane_worker.specs.Cells.{items_behind, Gave}
 use Rattle.lane_worker.specs.Gates.{with_packs}
 use Rattle.lane_worker.specs.Endings.{cell_failed, gate_failed, FailsIf}
 use Rattle.lane_worker.specs.Works.{Work}
-use Rattle.lane_runs.specs.LaneWorks.{LaneState, HasMoved}
+use Rattle.script_events.specs.LaneWorks.{LaneState, HasMoved}
 use Rattle.script_session.specs.LaneMoves.{items_given, FailsOften, HasWorked, EachWorked, HaveWorked}
 use Rattle.script_session.specs.Outside.{Outside}
 use Rattle.script_events.specs.Transcript.{Event, Worked, Job, ends_in, ends_of, works_in, works_of}

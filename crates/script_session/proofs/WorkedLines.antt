@@ -10,7 +10,7 @@ use Rattle.store_runs.specs.declared.stop.Stop.TheVariants.{Finished, BadLine, R
 use Rattle.store_runs.specs.Books.{BookState}
 use Rattle.lane_worker.specs.declared.ending.LaneEnd.{LaneEnd}
 use Rattle.lane_worker.specs.Works.{Work}
-use Rattle.lane_runs.specs.LaneWorks.{LaneState, IsWorked}
+use Rattle.script_events.specs.LaneWorks.{LaneState, IsWorked}
 use Rattle.script_session.specs.LaneMoves.{HaveWorked}
 use Rattle.script_session.specs.Outside.{LogView, Outside}
 use Rattle.script_events.specs.Transcript.{Worked, Job, IsJobAt}

@@ -7,7 +7,7 @@ use Rattle.lane_worker.specs.Cells.{Gave}
 use Rattle.lane_worker.specs.Gates.{with_packs}
 use Rattle.lane_worker.specs.Endings.{last_items, cell_failed, gate_failed}
 use Rattle.lane_worker.specs.Works.{Work}
-use Rattle.lane_runs.specs.LaneWorks.{LaneState}
+use Rattle.script_events.specs.LaneWorks.{LaneState}
 use Rattle.script_session.specs.Outside.{Outside}
 use Rattle.script_events.specs.Transcript.{Event, ends_of, works_of}
 

@@ -1,26 +1,13 @@
 -- What a run changes outside its book: its output, the lanes that it works, and what is told of them.
-use Rattle.std.specs.Prelude.{ℕ, List, [], length, map}
+use Rattle.std.specs.Prelude.{ℕ, List, length, map}
 use Rattle.disk_core.specs.declared.source.Source as source
 use Rattle.disk_core.specs.declared.sink.Sink as sink
 use Rattle.book_words.specs.declared.act.Entry.{Entry}
 use Rattle.text_streams.specs.Streams.{Stream, input_at, output_at}
 use Rattle.lane_worker.specs.declared.cell.Cell as cell
 use Rattle.lane_worker.specs.declared.gate.Gate as gate
-use Rattle.lane_worker.specs.declared.ending.LaneEnd.{LaneEnd}
-use Rattle.lane_runs.specs.LaneWorks.{LaneState, lane_state}
-
--- what is told of lanes: how each work ended, in order, and a line that is still to be said
-pub record LogView : Type 0 where
-  pub ends : List LaneEnd
-  pub unsaid : List ℕ
-
--- nothing is told of lanes
-abbrev pub nothing_told : LogView
-nothing_told = record { ends = []; unsaid = [] }
-
--- it is told how works ended, and no line is still to be said
-abbrev pub all_said : List LaneEnd → LogView
-all_said ends = record { ends = ends; unsaid = [] }
+pub use Rattle.job_reports.specs.Logs.{LogView, nothing_told, all_said}
+use Rattle.script_events.specs.LaneWorks.{LaneState, lane_state}
 
 -- what stands outside a book at one moment: the output, the devices of each lane that was handed in,
 -- that of lane 1 first, and what is told of lanes

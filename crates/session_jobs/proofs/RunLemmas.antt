@@ -24,7 +24,7 @@ use Rattle.lane_worker.specs.declared.gate.Gate as gate
 use Rattle.lane_worker.specs.Works as lanes
 use Rattle.office_door.specs.Doors as doors
 use Rattle.office_door.specs.Doors.{FailedSoOften}
-use Rattle.shared_book.specs.Names.session
+use Rattle.shared_book.specs.declared.session.Session as session
 use Rattle.shared_book.specs.Sessions.{Begins}
 use Rattle.shared_book.specs.Closing.{IsCalm, MakeRows}
 use Rattle.shared_book.specs.Locked.{IsNewSeat}

@@ -13,7 +13,7 @@ use Rattle.book_store.specs.Stores.{disk_of, entries_of, limit_of, spare_of, hel
 use Rattle.lane_worker.specs.Works as lanes
 use Rattle.office_door.specs.Doors as doors
 use Rattle.office_door.specs.Doors.{FailedSoOften}
-use Rattle.shared_book.specs.Names.session
+use Rattle.shared_book.specs.declared.session.Session as session
 use Rattle.shared_book.specs.Sessions.{Begins, IsKeptSince, KeepsRun, RestsOnDisk}
 use Rattle.shared_book.specs.Closing.{IsCalm, MakeRows}
 use Rattle.turn_pass.specs.History.{PassState}

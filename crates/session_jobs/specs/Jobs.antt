@@ -4,7 +4,7 @@ use Rattle.book_words.specs.declared.act.Entry.{Entry}
 use Rattle.book_words.specs.Callers.{Known}
 use Rattle.lane_worker.specs.Works as lanes
 use Rattle.office_door.specs.Doors as doors
-use Rattle.shared_book.specs.Names.session
+use Rattle.shared_book.specs.declared.session.Session as session
 use Rattle.shared_book.specs.Passes.{IsPassOf, HasNoted, known_of, room_of}
 use Rattle.turn_pass.specs.History.{BookState, PassState, newcomer}
 use Rattle.session_jobs.specs.declared.job.Job.{Job}

@@ -2,10 +2,10 @@
 use Rattle.std.proofs.Common.{◌≡◌, ℕ, List, IfSome, inl, inr, refl, arith}
 use Rattle.text_streams.specs.Streams.{Stream}
 use Rattle.text_streams.specs.Reading.{ReadsWhole}
-use Rattle.whole_input.specs.declared.whole.Unread.{Unread}
-use Rattle.whole_input.specs.declared.whole.Unread.TheVariants as unread
-use Rattle.whole_input.specs.Reading.{StopsReading}
-use Rattle.whole_input.proofs.WholeReading.{told_whole, told_long}
+use Rattle.text_streams.specs.declared.whole.Unread.{Unread}
+use Rattle.text_streams.specs.declared.whole.Unread.TheVariants as unread
+use Rattle.text_streams.specs.WholeInputs.{StopsReading}
+use Rattle.text_streams.proofs.WholeReading.{told_whole, told_long}
 use Rattle.hall_plan.specs.declared.types.PlanError.{PlanError}
 use Rattle.hall_plan.specs.declared.types.PlanError.TheVariants as error
 use Rattle.hall_plan.specs.declared.types.TheConstants.{MAX_PLAN}

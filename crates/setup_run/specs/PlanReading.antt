@@ -2,9 +2,9 @@
 use Rattle.std.specs.Prelude.{◌⊎◌, ℕ, List}
 use Rattle.text_streams.specs.Streams.{Stream}
 use Rattle.text_streams.specs.Reading.{ReadsWhole}
-use Rattle.whole_input.specs.declared.whole.Unread.{Unread}
-use Rattle.whole_input.specs.declared.whole.Unread.TheVariants as unread
-use Rattle.whole_input.specs.Reading.{StopsReading}
+use Rattle.text_streams.specs.declared.whole.Unread.{Unread}
+use Rattle.text_streams.specs.declared.whole.Unread.TheVariants as unread
+use Rattle.text_streams.specs.WholeInputs.{StopsReading}
 use Rattle.hall_plan.specs.declared.types.Plan.{Plan}
 use Rattle.hall_plan.specs.declared.types.PlanError.{PlanError}
 use Rattle.hall_plan.specs.declared.types.PlanError.TheVariants as error

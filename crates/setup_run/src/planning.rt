@@ -7,7 +7,7 @@ ghost use Rattle.setup_run.specs.PlanReading.{IsNoPlan, ReadsPlan, ReadsNoPlan};
 use disk_core::Source;
 use hall_plan::{MAX_PLAN, Plan, PlanError, read_plan};
 use std::alloc::Global;
-use whole_input::{Unread, read_whole};
+use text_streams::{Unread, read_whole};
 
 /// Why there is no plan.
 #[derive(Clone, Copy, PartialEq, Eq)]

@@ -1,6 +1,6 @@
 use disk_core::MemorySource;
 use std::alloc::{AllocError, Global};
-use whole_input::{Unread, read_whole};
+use text_streams::{Unread, read_whole};
 
 // Reads ten bytes whole, where so many may be and a read fails: how many came.
 fn count_read(alloc: Global, most: u32, fail: u32) -> Option<Result<usize, Unread>> {

@@ -1,4 +1,4 @@
-//! Tests of plans that are read whole and of their setups, by the public calls of `whole_input` and
+//! Tests of plans that are read whole and of their setups, by the public calls of `text_streams` and
 //! `setup_run`.
 #![tactic(auto)]
 

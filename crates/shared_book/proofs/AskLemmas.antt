@@ -33,8 +33,8 @@ use Rattle.book_store.specs.declared.store.Store.{Store}
 use Rattle.book_store.specs.Stores.{disk_of, entries_of, Hangs}
 use Rattle.book_store.specs.Offers.{GivesAnswer, list_behind, CountsDiskFault}
 use Rattle.book_store.proofs.CallerSteps.{refused_adds, added_by}
-use Rattle.session_laws.specs.declared.session.Session as session
-use Rattle.session_laws.specs.Sessions.{Begins, weighs}
+use Rattle.shared_book.specs.declared.session.Session as session
+use Rattle.shared_book.specs.Sessions.{Begins, weighs}
 use Rattle.shared_book.specs.Closing.{IsCalm}
 use Rattle.shared_book.specs.Locked.{IsNewSeat, KeepsSeat, next_row, seat_behind, pass_behind}
 use Rattle.shared_book.specs.Passes.{entries_in, noted, row_of, known_of, HasUsedRoom, IsPassOf}

@@ -13,8 +13,8 @@ use Rattle.book_samples.proofs.samples.Samples.TheSendSync as samples
 use Rattle.book_state.specs.contracts.state.State as State
 use Rattle.book_core.specs.contracts.book.Book as Book
 use Rattle.book_store.specs.contracts.store.Store as Store
-use Rattle.session_laws.specs.declared.session.Session as session
-use Rattle.session_laws.specs.contracts.held.HeldStore as HeldStore
+use Rattle.shared_book.specs.declared.session.Session as session
+use Rattle.shared_book.specs.contracts.held.HeldStore as HeldStore
 use Rattle.turn_pass.proofs.book.BookSeat.TheSendSync as seat
 use Rattle.turn_pass.proofs.turn.Turn.TheSendSync as turn
 use Rattle.shared_book.specs.contracts.locked.LockedBook as LockedBook

@@ -8,7 +8,7 @@ use Rattle.book_words.specs.declared.act.Entry.{Entry}
 use Rattle.book_store.specs.declared.store.Store.{Store}
 use Rattle.book_store.specs.Callers.{own_rows}
 use Rattle.book_store.specs.Stores.{disk_of, entries_of, Hangs}
-use Rattle.session_laws.specs.declared.session.Session as session
+use Rattle.shared_book.specs.declared.session.Session as session
 use Rattle.shared_book.specs.Passes.{entries_in, row_of}
 
 -- The disk's count is as it was when the session began, and nothing hangs; and where no row was

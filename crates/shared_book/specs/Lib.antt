@@ -1,6 +1,6 @@
 pub mod Closing
 pub mod Locked
-pub mod Names
 pub mod PassLaws
 pub mod Passes
-pub use Rattle.session_laws.specs.Sessions
+pub mod Alone
+pub mod Sessions

@@ -7,7 +7,7 @@ use Rattle.turn_pass.specs.History.{BookState, PassState, appended, own}
 use Rattle.book_words.specs.declared.act.Entry.{Entry}
 use Rattle.book_store.specs.declared.store.Store.{Store}
 use Rattle.book_store.specs.Stores.{disk_of, entries_of}
-use Rattle.session_laws.specs.declared.session.Session as session
+use Rattle.shared_book.specs.declared.session.Session as session
 use Rattle.shared_book.specs.Closing.{IsCalm}
 use Rattle.shared_book.specs.Passes.{entries_in, noted}
 

@@ -4,7 +4,7 @@ use Rattle.turn_pass.specs.History.{PassState}
 use Rattle.book_words.specs.declared.act.Ask.{Ask}
 use Rattle.book_words.specs.declared.act.Entry.{Entry}
 use Rattle.book_words.specs.Callers.{FAULTS_END, IsReached, Known}
-use Rattle.session_laws.specs.declared.session.Session as session
+use Rattle.shared_book.specs.declared.session.Session as session
 use Rattle.shared_book.specs.Passes.{HasAsked, IsReachedBy, known_of, noted, room_of}
 
 asked_on : (room : ℕ) (first between last : Known) (some more : List Ask)

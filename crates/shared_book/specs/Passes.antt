@@ -8,8 +8,8 @@ use Rattle.book_words.specs.declared.act.Ask.{Ask}
 use Rattle.book_words.specs.declared.act.Entry.{Entry}
 use Rattle.book_words.specs.Callers.{FAULTS_END, Known, entry_offered}
 use Rattle.book_words.specs.Desks.{Row}
-use Rattle.session_laws.specs.declared.session.Session as session
-use Rattle.session_laws.specs.Sessions.{weighs}
+use Rattle.shared_book.specs.declared.session.Session as session
+use Rattle.shared_book.specs.Sessions.{weighs}
 
 -- the entries of some lines of the list
 abbrev pub entries_in : List (Appended Entry) → List Entry

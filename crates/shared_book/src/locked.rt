@@ -1,9 +1,10 @@
 //! What lies under the lock: the store of a session, and the seat that appends.
+use crate::held::HeldStore;
 use crate::seats;
+use crate::session::Session;
 use book_store::Store;
 use book_words::{Answered, Ask, AskError, Entry};
 use disk_core::Disk;
-use session_laws::{HeldStore, Session};
 use std::marker::Model;
 use std::sync::ledger::Ledger;
 use turn_pass::{BookSeat, PassSeat, Turn};
@@ -32,7 +33,7 @@ impl<D: Disk, L: Ledger, M: Ledger, N: Session> LockedBook<D, L, M, N> {
     ghost use Rattle.book_words.specs.Answers.{added};
     ghost use Rattle.book_store.specs.Stores.{entries_of, IsSound};
     ghost use Rattle.book_store.specs.Offers.{Offers};
-    ghost use Rattle.session_laws.specs.Sessions.{Begins, IsKeptSince, weighs};
+    ghost use Rattle.shared_book.specs.Sessions.{Begins, IsKeptSince, weighs};
     ghost use Rattle.shared_book.specs.Locked.{KeepsSeat, IsNewSeat};
     ghost use Rattle.shared_book.specs.Passes.{IsPassOf, HasUsedRoom, known_of, noted, room_of};
 

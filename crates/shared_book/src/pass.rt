@@ -1,8 +1,8 @@
 //! A caller of the book: its pass.
+use crate::session::Session;
 use crate::shared::Shared;
 use book_words::{Answered, Ask, AskError, Caller, Entry};
 use disk_core::Disk;
-use session_laws::Session;
 use std::marker::Model;
 use std::sync::Wait;
 use std::sync::ledger::Ledger;
@@ -64,7 +64,7 @@ impl<'a, D: Disk, R: Wait, L: Ledger, M: Ledger, N: Session> Caller for Pass<'a,
     ghost use Rattle.std.specs.Prelude.{◌≡◌, ◌+◌, ◌≤◌, [], ◌∷◌, Err, true, length};
     ghost use Rattle.book_words.specs.Callers.{IsAsked, faults_told};
     ghost use Rattle.book_words.specs.declared.caller.AskError.TheVariants as error;
-    ghost use Rattle.session_laws.specs.Sessions.{weighs};
+    ghost use Rattle.shared_book.specs.Sessions.{weighs};
     ghost use Rattle.shared_book.specs.Passes.{known_of, room_of, IsReachedBy};
     ghost use Rattle.shared_book.specs.PassLaws.{is_reached};
 

@@ -1,10 +1,10 @@
 //! The book that all passes of a session share.
 use crate::locked::LockedBook;
 use crate::pass::{Pass, PassEnd};
+use crate::session::Session;
 use book_store::Store;
 use book_words::{Answered, Ask, AskError, Entry};
 use disk_core::Disk;
-use session_laws::Session;
 use std::marker::Model;
 use std::sync::ledger::Ledger;
 use std::sync::{Mutex, Wait};
@@ -44,7 +44,7 @@ impl<D: Disk, L: Ledger, M: Ledger, N: Session> Shared<D, L, M, N> {
     ghost use Rattle.book_words.specs.declared.caller.AskError.TheVariants as error;
     ghost use Rattle.book_store.specs.declared.store.Store.{Store as Stored};
     ghost use Rattle.book_store.specs.Stores.{disk_of, entries_of, IsSound};
-    ghost use Rattle.session_laws.specs.Sessions.{Begins, IsKeptSince, KeepsRun, RestsOnDisk, weighs};
+    ghost use Rattle.shared_book.specs.Sessions.{Begins, IsKeptSince, KeepsRun, RestsOnDisk, weighs};
     ghost use Rattle.shared_book.specs.Locked.{IsNewSeat};
     ghost use Rattle.shared_book.specs.Passes.{IsPassOf, IsTurnOf, HasUsedRoom, known_of, noted, room_of};
     ghost use Rattle.shared_book.specs.Closing.{MakeRows, IsCalm};

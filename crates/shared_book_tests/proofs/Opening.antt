@@ -2,7 +2,7 @@
 use Rattle.std.proofs.Common.{◌≡◌, ℕ, ◌+◌, List, [], ◌∷◌, ◌++◌, length, All, refl, sym, ap, ◌∙◌, subst, arith}
 use Rattle.std.proofs.lemmas.List.Elements.{All-cons, All-nil}
 use Rattle.book_words.specs.declared.act.Entry.{Entry}
-use Rattle.session_laws.specs.declared.session.Session as session
+use Rattle.shared_book.specs.declared.session.Session as session
 use Rattle.shared_book.specs.Locked.{IsNewSeat}
 use Rattle.shared_book.specs.Passes.{IsPassOf}
 use Rattle.turn_pass.specs.History.{BookState, PassState, TurnState, newcomer, opening, with_pass}

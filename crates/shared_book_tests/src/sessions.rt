@@ -1,7 +1,7 @@
 //! A session of two callers, from its Turn to its end.
 ghost use Rattle.std.specs.Prelude.{◌≡◌, ◌≤◌, [], IfOk, vec_capacity};
 ghost use Rattle.book_store.specs.Stores.{Hangs, IsSound};
-ghost use Rattle.session_laws.specs.Sessions.{Begins};
+ghost use Rattle.shared_book.specs.Sessions.{Begins};
 ghost use Rattle.shared_book.specs.Locked.{IsNewSeat};
 ghost use Rattle.shared_book.specs.Passes.{IsPassOf, IsTurnOf};
 

@@ -1,2 +1,3 @@
 pub mod PrintedTexts
 pub mod ReadingLemmas
+pub mod WholeReading

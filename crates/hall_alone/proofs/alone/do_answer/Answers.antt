@@ -2,7 +2,7 @@ use Rattle.std.proofs.Common.{refl, sym, ◌∙◌, None, Some, ◌≡◌}
 use Rattle.command_line.specs.Taken.{seen}
 use Rattle.text_streams.specs.Streams.{output_at}
 use Rattle.script_run.specs.Outside.{devices, outside_at, nothing_told}
-use Rattle.hall_alone.proofs.EndingLemmas.{ends_otherwise, same_wanted}
+use Rattle.hall_alone.proofs.CommandLemmas.{ends_otherwise, same_wanted}
 use Rattle.hall_alone.proofs.OpenedBooks.{call_from, lanes_rest}
 use Rattle.hall_alone.proofs.WordsRead.{read_ok, refused_right, refused_ends}
 use Rattle.hall_alone.proofs.alone.do_answer.Goals as goal

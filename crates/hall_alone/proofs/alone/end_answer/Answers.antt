@@ -5,7 +5,7 @@ use Rattle.script_run.specs.Outside.{all_said}
 use Rattle.hall_alone.specs.declared.ended.Ended.{Ended}
 use Rattle.hall_alone.specs.Calls.{EndsAs, IsUsage, Leaves, LeavesOutcome, call_between}
 use Rattle.text_streams.specs.Streams.{output_at}
-use Rattle.hall_alone.proofs.EndingLemmas.{status_named, status_two, usage_two}
+use Rattle.call_endings.proofs.EndingLemmas.{status_named, status_two, usage_two}
 use Rattle.hall_alone.proofs.alone.end_answer.Goals as goal
 
 pub returns-clause-words : goal.returns-clause-words

@@ -19,7 +19,7 @@ use Rattle.book_words.specs.declared.act.Entry.{Entry}
 use Rattle.hall_alone.specs.Texts.{whole}
 use Rattle.hall_alone.specs.Calls.{reported}
 use Rattle.hall_alone.proofs.OpenedBooks.{call_from, lanes_rest}
-use Rattle.hall_alone.proofs.EndingLemmas.{explains_as, explains_saying, explains_printing, explains_export, is_import, is_trial, ends_migration, ends_following, explains_paper, explains_prove, paper_counts, proving_counts, said_counts, text_counts, carried_goes}
+use Rattle.hall_alone.proofs.CommandLemmas.{explains_as, explains_saying, explains_printing, explains_export, is_import, is_trial, ends_migration, ends_following, explains_paper, explains_prove, paper_counts, proving_counts, said_counts, text_counts, carried_goes}
 use Rattle.hall_alone.proofs.alone.run_command.Goals as goal
 
 pub returns-in-Run-clause-explained : goal.returns-in-Run-clause-explained

@@ -4,10 +4,10 @@ use Rattle.text_streams.specs.Streams.{input_at, output_at}
 use Rattle.hall_alone.specs.Outside.{call, devices, outside_at, nothing_told, all_said}
 use Rattle.serve_run.specs.Jobs.{handed_in}
 use Rattle.hall_alone.specs.declared.ended.Ended.{Ended}
-use Rattle.hall_alone.specs.declared.ending.Ending.TheVariants.{Served}
+use Rattle.call_endings.specs.declared.ending.Ending.TheVariants.{Served}
 use Rattle.hall_alone.specs.Calls.{IsUnopened, Leaves, LeavesOutcome}
 use Rattle.hall_top.specs.Serving.{EndsServe}
-use Rattle.hall_alone.proofs.EndingLemmas.{status_named, serve_not_two}
+use Rattle.call_endings.proofs.EndingLemmas.{status_named, serve_not_two}
 use Rattle.hall_alone.proofs.OpenedBooks.{call_from, lanes_rest, is_unopened}
 use Rattle.hall_top.proofs.ServedBooks.{is_served}
 use Rattle.hall_top.proofs.serving.serve.Goals as goal

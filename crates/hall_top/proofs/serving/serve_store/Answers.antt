@@ -3,8 +3,8 @@ use Rattle.lane_worker.specs.declared.ending.LaneEnd.{LaneEnd}
 use Rattle.office_door.specs.declared.ending.DoorEnd.{DoorEnd}
 use Rattle.text_streams.specs.Streams.{output_at}
 use Rattle.hall_alone.specs.Outside.{all_said}
-use Rattle.hall_alone.specs.declared.ending.Ending.TheVariants.{Served}
-use Rattle.hall_alone.specs.Endings.{SaysLast}
+use Rattle.call_endings.specs.declared.ending.Ending.TheVariants.{Served}
+use Rattle.call_endings.specs.Endings.{SaysLast}
 use Rattle.hall_top.proofs.serving.serve_store.Goals as goal
 
 pub returns-clause-done : goal.returns-clause-done

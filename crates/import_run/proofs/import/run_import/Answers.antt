@@ -2,8 +2,8 @@ use Rattle.std.proofs.Common.{Err, refl, ap}
 use Rattle.book_store.specs.declared.store.Store.{Store}
 use Rattle.book_store.specs.Stores.{entries_of}
 use Rattle.text_streams.specs.Streams.{input_at}
-use Rattle.whole_input.specs.declared.whole.Unread.TheVariants as unread
-use Rattle.whole_input.proofs.WholeReading.{unbegun}
+use Rattle.text_streams.specs.declared.whole.Unread.TheVariants as unread
+use Rattle.text_streams.proofs.WholeReading.{unbegun}
 use Rattle.import_table.specs.declared.types.TheConstants.{MAX_IMPORT}
 use Rattle.store_runs.specs.declared.stop.Stop.TheVariants.{NoMemory}
 use Rattle.store_runs.specs.Books.{stored_book}

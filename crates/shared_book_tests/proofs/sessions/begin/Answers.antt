@@ -1,6 +1,6 @@
 use Rattle.std.proofs.Common.{refl, ◌∙◌}
-use Rattle.session_laws.proofs.SessionLemmas.{begins_named}
-use Rattle.session_laws.specs.Sessions.{session_of}
+use Rattle.shared_book.proofs.SessionLemmas.{begins_named}
+use Rattle.shared_book.specs.Sessions.{session_of}
 use Rattle.shared_book_tests.proofs.Opening.{first_pass, new_seat, second_pass}
 use Rattle.shared_book_tests.proofs.sessions.begin.Goals as goal
 

@@ -1,4 +1,4 @@
-use Rattle.session_laws.specs.Sessions.{session_of}
+use Rattle.shared_book.specs.Sessions.{session_of}
 use Rattle.shared_book_tests.proofs.sessions.begin.Given as goal
 
 -- the session that begins with this store and the Turn that was made here

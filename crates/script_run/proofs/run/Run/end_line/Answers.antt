@@ -8,7 +8,7 @@ use Rattle.script_run.specs.Books.{run_state}
 use Rattle.script_session.specs.Outside.{lane_count, outside_at}
 use Rattle.script_session.specs.Ends.{StopsAtLine}
 use Rattle.script_events.proofs.LanesHandedIn.{handed_in}
-use Rattle.lane_runs.specs.LaneWorks.{lane_state}
+use Rattle.script_events.specs.LaneWorks.{lane_state}
 use Rattle.script_events.proofs.ScriptLines.{ended_line, said_with, line_ended, line_ended_last}
 use Rattle.script_run.proofs.LastCalls.{on_ok_both}
 use Rattle.script_run.proofs.ByteSteps.{lanes_stay, reached_end, stops_anyway}

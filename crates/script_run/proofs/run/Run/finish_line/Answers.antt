@@ -6,7 +6,7 @@ use Rattle.script_run.specs.Books.{run_state}
 use Rattle.script_session.specs.Outside.{outside_at}
 use Rattle.script_session.specs.Ends.{StopsAtLine}
 use Rattle.script_events.proofs.LanesHandedIn.{handed_in}
-use Rattle.lane_runs.specs.LaneWorks.{lane_state}
+use Rattle.script_events.specs.LaneWorks.{lane_state}
 use Rattle.script_events.proofs.ScriptLines.{last_with}
 use Rattle.script_run.proofs.LastCalls.{on_ok_both}
 use Rattle.script_run.proofs.ScriptEnds.{whole_last, stops_last}

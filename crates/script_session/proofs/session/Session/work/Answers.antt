@@ -8,7 +8,7 @@ use Rattle.store_runs.specs.declared.stop.Stop.{Stop}
 use Rattle.store_runs.specs.declared.stop.Stop.TheVariants.{WriteFault}
 use Rattle.store_runs.specs.Books.{BookState, stored_book}
 use Rattle.store_runs.specs.Runs.{Goes}
-use Rattle.lane_runs.specs.LaneWorks.{lane_state, IsWorked}
+use Rattle.script_events.specs.LaneWorks.{lane_state, IsWorked}
 use Rattle.script_session.specs.Sessions.{book_in, store_in, log_in}
 use Rattle.script_session.specs.Outside.{LogView, outside_at}
 use Rattle.script_session.proofs.WorkedLines.{stops_unbegun, answered_work, stops_line_cut, stops_work}

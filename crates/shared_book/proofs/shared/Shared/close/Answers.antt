@@ -4,7 +4,7 @@ use Rattle.device_facts.specs.Count.{Counted}
 use Rattle.turn_pass.specs.History.{PassState}
 use Rattle.book_words.specs.declared.act.Entry.{Entry}
 use Rattle.book_store.specs.Stores.{disk_of}
-use Rattle.session_laws.proofs.SessionLemmas.{run_on}
+use Rattle.shared_book.proofs.SessionLemmas.{run_on}
 use Rattle.shared_book.specs.Closing.{IsCalm}
 use Rattle.shared_book.specs.Passes.{IsPassOf}
 use Rattle.shared_book.proofs.CloseLemmas.{make_rows}

@@ -1,0 +1,8 @@
+//! How a call of the program ended, its last line and its status.
+#![tactic(auto)]
+
+mod early;
+mod ending;
+mod served;
+
+pub use ending::{Ending, say_last};

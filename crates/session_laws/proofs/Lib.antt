@@ -1,2 +1,0 @@
-pub mod CallerCrashes
-pub mod SessionLemmas

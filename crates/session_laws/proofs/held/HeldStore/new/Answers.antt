@@ -1,7 +1,0 @@
-use Rattle.session_laws.proofs.SessionLemmas.{kept_first}
-use Rattle.session_laws.proofs.held.HeldStore.new.Goals as goal
-
-pub invariant_of-result : goal.invariant_of-result
-invariant_of-result g c =
-    kept_first g.D.Disk g.N.Session g.met.D.Disk.only_now c.args.store c.requires.sound
-    c.requires.begins
