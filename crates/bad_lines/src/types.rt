@@ -45,15 +45,20 @@ pub(crate) const SHOWN: usize = 200;
 #[derive(Clone, Copy)]
 pub(crate) struct Shown<'a>(pub &'a [u8]);
 
+// Shows one byte.
+fn show<W: fmt::Write>(byte: u8, f: &mut fmt::Formatter<W>) -> fmt::Result {
+    match byte {
+        b' '..=b'~' => write!(f, "{}", char::from(byte)),
+        _ => write!(f, "\\x{byte:02x}"),
+    }
+}
+
 impl fmt::Display for Shown<'_> {
     fn fmt<W: fmt::Write>(&self, f: &mut fmt::Formatter<W>) -> fmt::Result {
-        for byte in self.0.iter().take(SHOWN) {
-            match byte {
-                b' '..=b'~' => write!(f, "{}", char::from(*byte))?,
-                _ => write!(f, "\\x{:02x}", *byte)?,
-            }
-        }
-        Ok(())
+        self.0
+            .iter()
+            .take(SHOWN)
+            .try_for_each(|byte| show(*byte, f))
     }
 }
 

@@ -61,11 +61,7 @@ pub fn list_packs(alloc: Global, state: &State, batch: &Name) -> Result<Vec<Pack
 fn each_day(alloc: Global, packs: &[Pack]) -> Result<Vec<i32>, AllocError>
     ensures { IfOk result (λ days. days.items ≡ map (λ pack. pack.day) packs.now) }
 {
-    let mut days = Vec::new(alloc);
-    for pack in packs {
-        days.push(pack.day)?;
-    }
-    Ok(days)
+    packs.iter().map(|pack| pack.day).collect(alloc)
 }
 
 /// The days of some packs, each once where they come together.

@@ -16,7 +16,7 @@ use Rattle.paper_form.specs.declared.types.Goods as goods
 use Rattle.paper_form.specs.Papers.{are_goods_in_range, is_density, is_pick_in_range}
 use Rattle.paper_form.specs.declared.types.Pick.{Pick}
 
-at_most : (a b : ℤ) → int_le a b ≡ true → a ≤ℤ b
+pub at_most : (a b : ℤ) → int_le a b ≡ true → a ≤ℤ b
 at_most (pos a) (pos b) h = omega (arith, ints, leb-true a b h)
 at_most (pos a) (negsuc b) h = let never : false ≡ true = h in cc
 at_most (negsuc a) (pos b) h = omega (arith, ints)

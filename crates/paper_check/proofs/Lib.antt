@@ -5,3 +5,6 @@ pub mod MeanLemmas
 pub mod Prefixes
 pub mod GoodsRange
 pub mod SameVerdicts
+pub mod Gathered
+pub mod Totals
+pub mod SecondFaults

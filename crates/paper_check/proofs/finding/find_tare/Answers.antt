@@ -1,4 +1,4 @@
-use Rattle.std.proofs.Common.{rules, ◌≡◌, ◌∙◌, ap, subst, sym, Some, length, ◌<◌, List, unsigned_abs, true, arith}
+use Rattle.std.proofs.Common.{rules, ◌≡◌, ◌∙◌, ap, subst, sym, Some, length, ◌<◌, List, unsigned_abs, true, arith, vec_len}
 use Rattle.std.specs.List.Sorted.{IsNonDecreasing}
 use Rattle.pack_judge.specs.declared.tares.DatedTare.{DatedTare}
 use Rattle.paper_form.specs.Papers.{is_tare_in_range}
@@ -14,6 +14,18 @@ place_of-requires c = record {
   ascending = subst IsNonDecreasing (sym (c.deref.ensures.value ∙ c.requires.keys.days))
       (rises_on (days_of (data_of c.args.paper.now).tares) c.requires.listed.tares.ascend);
 }
+
+pub index-requires : goal.index-requires
+index-requires c =
+    let tares : List DatedTare = (data_of c.args.paper.now).tares in
+    let long : vec_len c.args.paper.now.tares ≡ length tares = search rules in
+    omega (
+      arith,
+      long,
+      c.in-Some.ensures.0,
+      ap length (c.deref.ensures.value ∙ c.requires.keys.days),
+      map_length (λ (d : DatedTare). unsigned_abs d.day) tares,
+    )
 
 pub returns-in-Some-clause-value : goal.returns-in-Some-clause-value
 returns-in-Some-clause-value c =

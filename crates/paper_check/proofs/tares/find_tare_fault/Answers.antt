@@ -1,18 +1,55 @@
-use Rattle.std.proofs.Common.{◌≡◌, ◌∙◌, ◌+◌, ℕ, List, length, IsPermutation, sym, ap, subst, arith, rules, vec_len}
+use Rattle.std.proofs.Common.{◌≡◌, ◌∙◌, ◌+◌, ℕ, List, length, unsigned_abs, IsPermutation, sym, ap, subst, arith, rules, vec_len}
 use Rattle.std.specs.List.{position_from}
 use Rattle.std.specs.List.Sorted.{IsNonDecreasing}
+use Rattle.pack_judge.specs.declared.tares.DatedTare.{DatedTare}
+use Rattle.paper_form.specs.declared.types.Pack as packs
 use Rattle.paper_form.specs.Drafts.{data_of}
 use Rattle.paper_check.specs.Keys.{is_missing}
 use Rattle.paper_form.specs.Ranges.{days_of}
 use Rattle.paper_check.specs.Keyed.{pack_days_of}
 use Rattle.paper_check.specs.Faults.{packs_line}
-use Rattle.paper_check.proofs.Lookups.{rises_on}
+use Rattle.paper_check.proofs.Lookups.{rises_on, map_length}
 use Rattle.paper_check.proofs.TareFaults.{unused_is, tareless_is, fault_of_tare, fault_of_pack}
 use Rattle.paper_check.proofs.tares.find_tare_fault.Goals as goal
 
 pub first_missing-requires-clause-ascending : goal.first_missing-requires-clause-ascending
 first_missing-requires-clause-ascending c =
     subst IsNonDecreasing (sym c.deref-4.ensures.value) c.in_ok-sorted.ensures.ascending
+
+pub first_missing-requires-clause-few : goal.first_missing-requires-clause-few
+first_missing-requires-clause-few c =
+    omega (
+      arith,
+      c.requires.short,
+      ap length (c.deref-3.ensures.value ∙ c.requires.keys.days),
+      map_length (λ (dated : DatedTare). unsigned_abs dated.day) (data_of c.args.paper.now).tares,
+    )
+
+pub overflow_cast-packs_line : goal.overflow_cast-packs_line
+overflow_cast-packs_line c =
+    let long : vec_len c.args.paper.now.tares ≡ length (data_of c.args.paper.now).tares =
+    search rules in
+    record { fits = omega (arith, c.requires.short, c.len.ensures, long) }
+
+pub overflow_add-packs_line : goal.overflow_add-packs_line
+overflow_add-packs_line c =
+    let long : vec_len c.args.paper.now.tares ≡ length (data_of c.args.paper.now).tares =
+    search rules in
+    record { fits = omega (arith, c.requires.short, c.len.ensures, long) }
+
+pub first_missing-requires-2-clause-few : goal.first_missing-requires-2-clause-few
+first_missing-requires-2-clause-few c =
+    let paper = data_of c.args.paper.now in
+    let long : vec_len c.args.paper.now.tares ≡ length paper.tares = search rules in
+    omega (
+      arith,
+      c.requires.short,
+      c.len.ensures,
+      long,
+      ap length (c.deref-5.ensures.value ∙ c.in_ok-pack_days.ensures
+          ∙ ap pack_days_of c.deref.ensures.value),
+      map_length (λ (pack : packs.Pack). unsigned_abs pack.day) paper.packs,
+    )
 
 pub returns-in-Some : goal.returns-in-Some
 returns-in-Some c =
