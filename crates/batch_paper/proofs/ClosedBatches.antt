@@ -1,24 +1,21 @@
 -- What a closed batch of a legal list keeps from its closing: its needed packs are measured, and no
 -- second sample is wanted; and what its second draw told.
-use Rattle.std.proofs.Common.{◌≡◌, ℕ, ℤ, ◌+◌, Bool, true, false, not, ◌&&◌, ◌==◌, cond, ◌⊎◌, inl, inr, List, [], ◌∷◌, ◌++◌, length, Option, Some, None, is_some, is_none, option_map, refl, sym, ◌∙◌, ap, subst}
+use Rattle.std.proofs.Common.{◌≡◌, ℕ, Bool, true, false, ◌&&◌, ◌==◌, cond, ◌⊎◌, inl, inr, List, [], ◌∷◌, ◌++◌, Option, Some, None, is_none, refl, sym, ◌∙◌, ap, subst}
 use Rattle.std.proofs.lemmas.Bool.{and_parts}
 use Rattle.std.proofs.lemmas.Option.{same_Some}
-use Rattle.std.proofs.lemmas.List.Elements.{All-nil, All-cons, All-head, All-tail, All-weaker, All-append}
-use Rattle.std.specs.List.{All, count_by, find}
-use Rattle.std.specs.Option.{option_or, option_and_then}
+use Rattle.std.proofs.lemmas.List.Elements.{All-nil, All-head, All-tail, All-weaker, All-append}
+use Rattle.std.specs.List.{All, count_by}
+use Rattle.std.specs.Option.{option_or}
 use Rattle.annex_tables.specs.Errors.{limits_of}
 use Rattle.book_words.specs.declared.name.Name.{Name}
-use Rattle.book_words.specs.declared.act.BatchState as states
 use Rattle.book_words.specs.declared.act.BatchState.TheVariants.{Running, Ended, Drawn, Closed}
 use Rattle.book_words.specs.declared.act.Act.{Act}
 use Rattle.book_words.specs.declared.act.Act.TheVariants as acts
 use Rattle.book_words.specs.declared.act.Entry.{Entry}
-use Rattle.book_words.specs.declared.act.Reading.{Reading}
 use Rattle.book_words.specs.Names.{same_name}
 use Rattle.book_words.specs.Acts.{last_said, state_set, state_of}
-use Rattle.book_words.specs.Readings.{reading_of, is_of_batch}
 use Rattle.book_words.specs.Classes.{is_below, nominal_of_batch, density_of_batch}
-use Rattle.book_words.specs.Population.{is_counted, population}
+use Rattle.book_words.specs.Population.{population}
 use Rattle.book_words.specs.Samples.{Drawing, Sample, drawing_from, drawing_of, plan_of_drawing, second_word, sample_of, is_among, numbers_of}
 use Rattle.book_words.specs.Measures.{measured_by, measured_of, first_unmeasured, contents_among}
 use Rattle.book_words.specs.Verdicts.{second_packs, first_defective, is_open}
@@ -29,9 +26,9 @@ use Rattle.book_words.proofs.DrawnLemmas.{drawing_of-push}
 use Rattle.book_words.proofs.LastSaid.{last_said-push}
 use Rattle.book_words.proofs.LegalLemmas.{legal_steps}
 use Rattle.book_words.proofs.NameLemmas.{same_name_is}
-use Rattle.book_laws.proofs.BatchLaws.{IsOrderly, orderly, is_fixed, state_of-push, draw_state}
+use Rattle.book_laws.proofs.BatchLaws.{orderly, is_fixed, state_of-push, draw_state}
 use Rattle.book_laws.proofs.ClosedLaws.{measured_stays}
-use Rattle.book_laws.proofs.DrawnLaws.{Closes, closes, IsNumbered, number_of_population, first_in_population, second_in_population, draws_second}
+use Rattle.book_laws.proofs.DrawnLaws.{closes, number_of_population, first_in_population, second_in_population, draws_second}
 use Rattle.book_laws.proofs.KnownLaws.{silent}
 use Rattle.book_laws.proofs.PackLaws.{IsPackOf}
 use Rattle.book_laws.proofs.SampleLaws.{each_among}

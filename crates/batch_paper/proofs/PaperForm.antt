@@ -1,5 +1,5 @@
 -- What a written paper says has its form: names, the row of the closing, and the verdict.
-use Rattle.std.proofs.Common.{◌≡◌, ℕ, ℤ, suc, ◌+◌, ◌<◌, Bool, true, false, not, ◌||◌, ◌==◌, cond, inl, inr, List, [], ◌∷◌, ◌++◌, length, Option, Some, None, is_some, refl, sym, ◌∙◌, ap, subst, arith}
+use Rattle.std.proofs.Common.{◌≡◌, suc, ◌+◌, ◌<◌, Bool, true, false, not, ◌||◌, ◌==◌, cond, inl, inr, List, [], ◌∷◌, ◌++◌, length, Some, None, is_some, refl, sym, ◌∙◌, ap, subst, arith}
 use Rattle.std.specs.List.{list_any, position_or_len}
 use Rattle.std.specs.Option.{option_or}
 use Rattle.book_words.specs.declared.name.Name.{Name}
@@ -10,7 +10,7 @@ use Rattle.book_words.specs.declared.act.Entry.{Entry}
 use Rattle.book_words.specs.declared.views.Fails.{Fails}
 use Rattle.book_words.specs.declared.views.Verdict.TheVariants.{Empty, Released, Withheld}
 use Rattle.book_words.specs.Names.{bytes_of, is_name_shape, same_name}
-use Rattle.book_words.specs.Acts.{last_said, nominal_put, product_given, nominal_of, product_of, state_of, state_set}
+use Rattle.book_words.specs.Acts.{nominal_put, product_given, nominal_of, product_of, state_of, state_set}
 use Rattle.book_words.specs.Population.{population}
 use Rattle.book_words.specs.Samples.{sample_of}
 use Rattle.book_words.specs.Verdicts.{any_fails, fails_of, verdict_by_fails, verdict_of}

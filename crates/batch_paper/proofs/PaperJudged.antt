@@ -1,28 +1,25 @@
 -- What a written paper gives is the verdict of the book, and it has no fault of tares or of draws.
-use Rattle.std.proofs.Common.{◌≡◌, ℕ, ℤ, zero, suc, ◌+◌, nat_lt, Bool, true, false, not, ◌&&◌, ◌==◌, cond, ◌⊎◌, inl, inr, List, [], ◌∷◌, ◌++◌, length, map, take, Option, Some, None, is_some, is_none, option_map, refl, sym, ◌∙◌, ap, subst, arith}
+use Rattle.std.proofs.Common.{◌≡◌, ℕ, ℤ, zero, suc, ◌+◌, Bool, true, false, not, ◌&&◌, ◌==◌, cond, inl, inr, List, [], ◌∷◌, ◌++◌, length, map, take, Option, Some, None, is_some, is_none, option_map, refl, sym, ◌∙◌, ap, arith}
 use Rattle.std.proofs.lemmas.List.{length-map}
 use Rattle.std.proofs.lemmas.List.Elements.{All-nil, All-cons, All-take}
 use Rattle.std.specs.Prelude.{Result, Ok, Err, is_ok}
-use Rattle.std.specs.List.{All, count_by, find, common_prefix_len, position}
-use Rattle.std.specs.Option.{option_or, option_and_then, option_map_or, unwrap_or}
+use Rattle.std.specs.List.{All, count_by, common_prefix_len, position}
+use Rattle.std.specs.Option.{option_or, option_and_then, option_map_or}
 use Rattle.annex_tables.specs.declared.types.Mode.{Mode}
 use Rattle.annex_tables.specs.declared.types.Mode.TheVariants.{Keep, Destroy}
 use Rattle.annex_tables.specs.declared.types.Plan.{Plan}
 use Rattle.annex_tables.specs.declared.types.PlanRefusal.{PlanRefusal}
-use Rattle.annex_tables.specs.Errors.{limits_of}
 use Rattle.annex_tables.specs.Plans.{plan_of}
 use Rattle.reference_test.specs.Means.{total}
 use Rattle.book_words.specs.declared.name.Name.{Name}
 use Rattle.book_words.specs.declared.act.BatchState.TheVariants.{Closed}
 use Rattle.book_words.specs.declared.act.Entry.{Entry}
 use Rattle.book_words.specs.declared.act.Reading.{Reading}
-use Rattle.book_words.specs.declared.views.Fails.{Fails}
-use Rattle.book_words.specs.declared.views.Verdict.{Verdict}
 use Rattle.book_words.specs.declared.views.Verdict.TheVariants.{Empty}
 use Rattle.book_words.specs.Acts.{last_said, state_of}
 use Rattle.book_words.specs.Readings.{net_of_reading}
 use Rattle.book_words.specs.Classes.{is_below, nominal_of_batch, density_of_batch, limits_of_batch}
-use Rattle.book_words.specs.Population.{population, net_sum, nonstandard_count, inadequate_count}
+use Rattle.book_words.specs.Population.{population, net_sum}
 use Rattle.book_words.specs.Samples.{second_picks as drawn_second, Drawing, Sample, drawing_of, second_word, sample_by, sample_of, numbers_of}
 use Rattle.book_words.specs.Measures.{Measured, measured_of, first_unmeasured, contents_among}
 use Rattle.book_words.specs.Refusals.{is_measured}
@@ -36,7 +33,7 @@ use Rattle.paper_form.specs.declared.types.Draw as draws
 use Rattle.paper_form.specs.declared.types.Pick.{Pick}
 use Rattle.paper_form.specs.Papers.{PaperData}
 use Rattle.paper_check.specs.Judging.{nets_of, contents_of_picks, below_count, defective_picks, sample_in, contents_check_in, mean_check_in, fails_in_nets, judged}
-use Rattle.paper_check.specs.Faults.{has_tare_of, tare_fault, strays_at, stray_line, needs_second, unmeasured_line, given_second_fault, second_fault, samples_fault, draw_fault, after_first, second_line, first_line, draw_line, verdict_line, earlier_line, packs_line, tares_line}
+use Rattle.paper_check.specs.Faults.{has_tare_of, tare_fault, strays_at, stray_line, needs_second, unmeasured_line, given_second_fault, second_fault, samples_fault, draw_fault, after_first, second_line, first_line, verdict_line, earlier_line, packs_line, tares_line}
 use Rattle.batch_paper.specs.Written.{reading_pack, packs_of, tares_of, weighed_of, pick_of, first_picks, second_picks, draw_by, product_paper}
 use Rattle.batch_paper.proofs.TareLines.{none_at, no_tare_missing, no_tare_needless}
 use Rattle.batch_paper.proofs.PaperNets.{IsCounted, same_nets, same_sum, same_count, contents_among_picks}

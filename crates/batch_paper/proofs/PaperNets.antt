@@ -1,6 +1,6 @@
 -- The nets and the contents that the lines of a written paper give are those of the book.
-use Rattle.std.proofs.Common.{◌≡◌, ℕ, ℤ, pos, ◌+ℤ◌, ◌-ℤ◌, Bool, true, false, ◌&&◌, ◌==◌, cond, List, [], ◌∷◌, length, map, Option, Some, None, is_some, option_map, refl, sym, ◌∙◌, ap, subst, arith, ◌+◌}
-use Rattle.std.proofs.lemmas.Bool.{and_parts, cases_Bool}
+use Rattle.std.proofs.Common.{◌≡◌, ℕ, ℤ, pos, ◌+ℤ◌, ◌-ℤ◌, Bool, true, false, ◌&&◌, ◌==◌, cond, List, [], ◌∷◌, map, Option, Some, None, option_map, refl, sym, ◌∙◌, ap, ◌+◌}
+use Rattle.std.proofs.lemmas.Bool.{and_parts}
 use Rattle.std.proofs.lemmas.List.Elements.{All-nil, All-cons, All-head, All-tail, All-weaker, All-filter, filter_passes}
 use Rattle.std.proofs.lemmas.Option.{same_Some}
 use Rattle.std.specs.List.{All, cons_option, count_by, filter, filter_map, find, fold}
@@ -14,8 +14,7 @@ use Rattle.book_words.specs.declared.name.Name.{Name}
 use Rattle.book_words.specs.declared.act.Entry.{Entry}
 use Rattle.book_words.specs.declared.act.Reading.{Reading}
 use Rattle.book_words.specs.Readings.{readings, reading_of, is_of_batch, tare_of_batch, tare_of_reading, net_of_reading}
-use Rattle.book_words.specs.Classes.{is_below}
-use Rattle.book_words.specs.Population.{is_counted, population, count_below, net_sum}
+use Rattle.book_words.specs.Population.{is_counted, population}
 use Rattle.book_words.specs.Measures.{Measured, measured_of, actual_contents, contents_of_pack, contents_among}
 use Rattle.book_words.specs.Answers.{IsLegal}
 use Rattle.book_words.specs.Names.{same_name}
@@ -23,11 +22,9 @@ use Rattle.book_words.proofs.NameLemmas.{same_name_is}
 use Rattle.book_laws.proofs.ReadingLaws.{of_found}
 use Rattle.book_laws.proofs.TareLaws.{IsWeighed, tared_of}
 use Rattle.paper_form.specs.declared.types.Pack as packs
-use Rattle.paper_form.specs.declared.types.Weighed.{Weighed}
-use Rattle.paper_form.specs.declared.types.Pick.{Pick}
 use Rattle.paper_form.specs.Papers.{PaperData}
 use Rattle.paper_check.specs.Judging.{tare_on, net_on, nets_of, pack_with, contents_by, contents_of_pick, contents_of_picks}
-use Rattle.batch_paper.specs.Written.{reading_pack, packs_of, tare_for, tares_of, days_of, weighed_of, pick_of, product_paper}
+use Rattle.batch_paper.specs.Written.{reading_pack, packs_of, tare_for, tares_of, weighed_of, pick_of, product_paper}
 use Rattle.batch_paper.proofs.TareLines.{IsTaredBy, tares_found}
 
 -- ---- a reading of the population

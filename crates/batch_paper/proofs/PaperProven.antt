@@ -1,8 +1,8 @@
 -- The paper of a closed batch is the paper of its data, and the check of papers finds it true.
-use Rattle.std.proofs.Common.{◌≡◌, ◌≤◌, ℕ, ◌^◌, ◌==◌, Bool, true, false, List, [], length, map, Option, Some, None, is_none, is_some, option_map, Ok, refl, sym, ◌∙◌, ap, subst}
+use Rattle.std.proofs.Common.{◌≡◌, ◌≤◌, ℕ, ◌^◌, ◌==◌, true, false, List, [], length, map, Option, Some, None, is_none, is_some, option_map, Ok, refl, sym, ◌∙◌, ap, subst}
 use Rattle.std.proofs.lemmas.List.{length-map}
 use Rattle.std.specs.Option.{option_map_or}
-use Rattle.std.specs.List.{All, AllPass, list_all}
+use Rattle.std.specs.List.{All, list_all}
 use Rattle.std.proofs.lemmas.Bool.{lt-ltb}
 use Rattle.std.proofs.lemmas.List.Elements.{All-weaker}
 use Rattle.book_words.specs.declared.name.Name.{Name}
@@ -13,7 +13,6 @@ use Rattle.book_words.specs.Acts.{last_said, product_of, state_of}
 use Rattle.book_words.specs.Population.{population}
 use Rattle.book_words.specs.Samples.{Drawing, Sample, drawing_of, sample_by, sample_of, second_word}
 use Rattle.book_words.specs.Verdicts.{second_packs}
-use Rattle.book_words.specs.Measures.{first_unmeasured}
 use Rattle.book_words.specs.Answers.{IsLegal}
 use Rattle.paper_form.specs.declared.types.Draw as draws
 use Rattle.paper_form.specs.declared.types.Pick.{Pick}

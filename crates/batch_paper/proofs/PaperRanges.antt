@@ -1,22 +1,21 @@
 -- The masses and days of a written paper are within the limits of the book.
-use Rattle.std.proofs.Common.{◌≡◌, ℕ, ℤ, pos, int_le, ◌≤ℤ◌, Bool, true, ◌&&◌, List, [], ◌∷◌, ◌++◌, map, Option, Some, None, IfSome, is_some, option_map, refl, sym, ◌∙◌, ap, subst, arith}
+use Rattle.std.proofs.Common.{◌≡◌, ℕ, ℤ, pos, int_le, true, ◌&&◌, List, map, Option, Some, None, IfSome, is_some, option_map, refl, sym, subst, arith}
 use Rattle.std.proofs.lemmas.Bool.{and_from}
 use Rattle.std.proofs.lemmas.Int.{ints}
-use Rattle.std.proofs.lemmas.List.Elements.{All-nil, All-cons, All-append, All-filter, All-map, All-weaker}
+use Rattle.std.proofs.lemmas.List.Elements.{All-filter, All-map, All-weaker}
 use Rattle.std.proofs.lemmas.List.Filters.{All-dedup}
 use Rattle.std.specs.Ordering.{int_eq}
 use Rattle.std.specs.List.{All, AllPass}
-use Rattle.std.specs.Option.{option_and_then, option_map_or, option_to_list, unwrap_or}
+use Rattle.std.specs.Option.{option_and_then, option_map_or, unwrap_or}
 use Rattle.annex_tables.specs.declared.TheConstants.{MIN_NOMINAL, MAX_NOMINAL}
 use Rattle.hall_limits.specs.declared.TheConstants.{MAX_DAY, MAX_GROSS, MAX_TARE}
 use Rattle.annex_tables.specs.declared.types.Mode.{Mode}
 use Rattle.annex_tables.specs.declared.types.Mode.TheVariants.{Keep, Destroy}
-use Rattle.pack_judge.specs.declared.tares.DatedTare.{DatedTare}
 use Rattle.book_words.specs.declared.name.Name.{Name}
 use Rattle.book_words.specs.declared.act.Entry.{Entry}
 use Rattle.book_words.specs.declared.act.Reading.{Reading}
-use Rattle.book_words.specs.Acts.{last_said, nominal_of, product_of}
-use Rattle.book_words.specs.Readings.{readings, is_of_batch, tare_of_batch, tare_of_reading}
+use Rattle.book_words.specs.Acts.{nominal_of, product_of}
+use Rattle.book_words.specs.Readings.{readings, is_of_batch, tare_of_batch}
 use Rattle.book_words.specs.Classes.{nominal_of_batch}
 use Rattle.book_words.specs.Population.{is_counted, population}
 use Rattle.book_words.specs.Measures.{Measured, measured_of}
@@ -26,12 +25,9 @@ use Rattle.book_words.specs.Answers.{IsLegal}
 use Rattle.book_laws.proofs.RangeLaws.{nominal_within, tare_within, measured_within}
 use Rattle.book_laws.proofs.TareLaws.{tared_of}
 use Rattle.paper_form.specs.declared.types.Pack as packs
-use Rattle.paper_form.specs.declared.types.Draw as draws
-use Rattle.paper_form.specs.declared.types.Pick.{Pick}
-use Rattle.paper_form.specs.declared.types.Line.TheVariants as line
-use Rattle.paper_form.specs.Papers.{PaperData, is_tare_in_range, is_weighed_in_range}
-use Rattle.batch_paper.specs.Ranges.{is_nominal_right, is_pack_right, is_pick_weighed, is_line_right}
-use Rattle.batch_paper.specs.Written.{goods_of, reading_pack, packs_of, tare_for, days_of, tares_of, weighed_of, pick_of, product_paper, sample_lines}
+use Rattle.paper_form.specs.Papers.{is_tare_in_range, is_weighed_in_range}
+use Rattle.batch_paper.specs.Ranges.{is_nominal_right, is_pack_right, is_pick_weighed}
+use Rattle.batch_paper.specs.Written.{goods_of, reading_pack, packs_of, tare_for, days_of, weighed_of, pick_of}
 use Rattle.batch_paper.proofs.DayOrder.{day_on, IsFit, each_fits}
 
 within : (least most x : ℤ) → IsBetween least most x → is_within least most x ≡ true

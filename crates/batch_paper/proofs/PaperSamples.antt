@@ -1,5 +1,5 @@
 -- The lines of the samples of a written paper.
-use Rattle.std.proofs.Common.{◌≡◌, ℕ, Bool, true, false, cond, ◌⊎◌, inl, inr, List, [], ◌∷◌, ◌++◌, map, Option, Some, None, is_some, option_map, refl, sym, ◌∙◌, ap, append_assoc, append-nil}
+use Rattle.std.proofs.Common.{◌≡◌, ℕ, Bool, true, false, cond, inl, inr, List, [], ◌∷◌, ◌++◌, map, Option, Some, None, is_some, option_map, refl, sym, ◌∙◌, ap, append_assoc, append-nil}
 use Rattle.std.proofs.lemmas.List.Concat.{flat_map-append}
 use Rattle.std.specs.List.{flat_map}
 use Rattle.std.specs.Option.{option_or, option_map_or, option_to_list, unwrap_or}
@@ -21,7 +21,6 @@ use Rattle.book_laws.proofs.DrawnLaws.{comes_from, draws_second}
 use Rattle.paper_form.specs.declared.types.Draw as draws
 use Rattle.paper_form.specs.declared.types.Line as lines
 use Rattle.paper_form.specs.declared.types.Line.TheVariants as line
-use Rattle.paper_form.specs.declared.types.Pick.{Pick}
 use Rattle.paper_form.specs.Papers.{line_text}
 use Rattle.batch_paper.specs.declared.picks.Part.TheVariants.{First, Second}
 use Rattle.batch_paper.specs.Written.{first_word, draw_by, pick_line, first_picks, second_picks, product_paper, sample_lines}

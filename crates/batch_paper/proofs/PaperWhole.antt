@@ -38,7 +38,7 @@ use Rattle.book_state.proofs.PopulationLimits.{population_few}
 use Rattle.book_verdicts.proofs.BatchFacts.{density_suits}
 use Rattle.paper_form.specs.declared.types.Pack as packs
 use Rattle.paper_form.specs.declared.types.Pick.{Pick}
-use Rattle.paper_form.specs.Papers.{PaperData, paper_text, is_row, is_density, are_goods_in_range, is_tare_in_range, is_pack_in_range, is_pick_in_range}
+use Rattle.paper_form.specs.Papers.{PaperData, is_row, is_density, are_goods_in_range, is_tare_in_range, is_pack_in_range, is_pick_in_range}
 use Rattle.paper_form.specs.Form.{is_empty_right, is_pick_right}
 use Rattle.paper_form.specs.Ranges.{IsListed}
 use Rattle.batch_paper.specs.Ranges.{is_pick_weighed}

@@ -1,5 +1,5 @@
 -- A pack that is known is one of the population of its batch where it lies in stock.
-use Rattle.std.proofs.Common.{◌≡◌, ℕ, ℤ, pos, Bool, true, false, ◌&&◌, cond, List, Option, Some, None, option_map, refl, sym, ◌∙◌, ap}
+use Rattle.std.proofs.Common.{◌≡◌, ℕ, ℤ, pos, false, ◌&&◌, cond, List, Option, Some, None, option_map, refl, sym, ◌∙◌, ap}
 use Rattle.std.proofs.lemmas.Option.{same_Some}
 use Rattle.std.specs.Option.{option_and_then, option_map_or, unwrap_or}
 use Rattle.pack_judge.specs.declared.types.Signal.{Signal}
@@ -7,7 +7,7 @@ use Rattle.book_words.specs.declared.name.Name.{Name}
 use Rattle.book_words.specs.declared.act.Entry.{Entry}
 use Rattle.book_words.specs.declared.act.Reading.{Reading}
 use Rattle.book_words.specs.Names.{same_name}
-use Rattle.book_words.specs.Readings.{readings, reading_of, is_of_batch}
+use Rattle.book_words.specs.Readings.{reading_of}
 use Rattle.book_words.specs.Population.{is_counted}
 use Rattle.book_words.specs.Piles.{pile_of}
 use Rattle.book_laws.proofs.PopulationLaws.{counted_is_in_stock}

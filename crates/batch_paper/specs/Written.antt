@@ -11,7 +11,6 @@ use Rattle.pack_judge.specs.declared.types.Pile.TheVariants.{Passed, Sampled}
 use Rattle.pack_judge.specs.Piles.{same_pile}
 use Rattle.pack_judge.specs.declared.tares.DatedTare.{DatedTare}
 use Rattle.book_words.specs.declared.name.Name.{Name}
-use Rattle.book_words.specs.declared.act.Unit as units
 use Rattle.book_words.specs.declared.act.Unit.TheVariants.{Mass}
 use Rattle.book_words.specs.declared.act.Act.{Act}
 use Rattle.book_words.specs.declared.act.Act.TheVariants.{Draw, Close}

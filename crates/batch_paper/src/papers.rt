@@ -1,4 +1,4 @@
-ghost use Rattle.std.specs.Prelude.{◌≡◌, ◌≢◌, ◌++◌, ◌↔◌, ◌<◌, ◌≤◌, ◌^◌, length, All, IfOk, OnOk, Some, None, Err, IsTrue, map};
+ghost use Rattle.std.specs.Prelude.{◌≡◌, ◌≢◌, [], ◌++◌, ◌↔◌, ◌<◌, ◌≤◌, ◌^◌, length, All, IfOk, OnOk, Some, None, Err, IsTrue, map};
 ghost use Rattle.std.specs.List.{AllPass, flat_map};
 ghost use Rattle.std.specs.Option.{option_to_list, unwrap_or};
 ghost use Rattle.book_words.specs.declared.name.Name as names;
@@ -197,17 +197,34 @@ pub fn paper_of_book(alloc: Global, book: &Book, batch: &Name) -> Result<Paper, 
     }
 }
 
-// A book with these rows, made anew.
-fn replayed(alloc: Global, rows: &[Entry]) -> Result<Book, AllocError>
-    ensures { IfOk result (λ book. book.entries ≡ rows.now) }
+// Enters these rows into an empty book.
+fn replay_all(book: &mut Book, rows: &[Entry]) -> Result<(), AllocError>
+    requires { book.old.entries ≡ [] }
+    ensures { OnOk result (book.new.entries ≡ rows.now) }
 {
-    let mut book = Book::new(alloc, MAX_ROWS);
     for row in rows {
         if book.replay(*row).is_err() {
             return Err(AllocError);
         }
     }
-    Ok(book)
+    Ok(())
+}
+
+// The paper of a batch of these rows, by an empty book.
+fn paper_by(
+    alloc: Global,
+    rows: &[Entry],
+    batch: &Name,
+    book: &mut Book,
+) -> Result<Paper, PaperError>
+    requires { book.old.entries ≡ [] }
+    ensures ok { IfOk result (IsPaperOf rows.now batch.now) }
+    ensures unknown { result ≡ Err error.Unknown → state_of rows.now batch.now ≡ None }
+    ensures not_closed { (state : states.BatchState) → result ≡ Err (error.NotClosed state)
+        → (state_of rows.now batch.now ≡ Some state) × (state ≢ Closed) }
+{
+    replay_all(book, rows)?;
+    paper_of_book(alloc, book, batch)
 }
 
 /// The paper of a closed batch of a legal list of rows: all that its verdict rests on. Unknown
@@ -219,6 +236,9 @@ pub fn write_paper(alloc: Global, rows: &Rows, batch: &Name) -> Result<Paper, Pa
     ensures not_closed { (state : states.BatchState) → result ≡ Err (error.NotClosed state)
         → (state_of rows.now batch.now ≡ Some state) × (state ≢ Closed) }
 {
-    let book = replayed(alloc, rows.as_slice())?;
-    paper_of_book(alloc, &book, batch)
+    let mut book = Book::new(alloc, MAX_ROWS);
+    let paper = paper_by(alloc, rows.as_slice(), batch, &mut book);
+    // (a book is given back by its own crate)
+    let _rows = book.rows();
+    paper
 }

@@ -1,5 +1,5 @@
 -- The shipment of the first rows of a book.
-use Rattle.std.proofs.Common.{◌≡◌, ⊎_elim, subst, ◌+◌, ℕ, ◌≤◌, min, List, ◌++◌, length, take, drop, refl, sym, ◌∙◌, ap, arith, length-take}
+use Rattle.std.proofs.Common.{◌≡◌, ⊎_elim, subst, ℕ, min, List, ◌++◌, length, take, drop, sym, ◌∙◌, ap, arith, length-take}
 use Rattle.std.proofs.lemmas.Bool.{cases_lt}
 use Rattle.std.proofs.lemmas.List.{take_all, take-append-drop}
 use Rattle.std.specs.List.{AllByRecursion}

@@ -1,5 +1,5 @@
 -- Why nothing was found, as it is handed on.
-use Rattle.std.proofs.Common.{◌≡◌, ℕ, List, Option, Err, Result, refl, subst, sym, ap, ◌∙◌}
+use Rattle.std.proofs.Common.{◌≡◌, ℕ, List, Option, Ok, Err, IfErr, Result, refl, subst, ◌∙◌}
 use Rattle.device_facts.specs.Count.{Counted}
 use Rattle.disk_core.specs.Disk.{WhereTold}
 use Rattle.text_streams.specs.Streams.{Stream}
@@ -30,6 +30,17 @@ counts_front T U before mid now (NotJournal place) calm is = absurd is
 counts_front T U before mid now (Damaged row) calm is = is ∙ calm
 counts_front T U before mid now DiskFault calm is = subst (λ (n : ℕ). Counted n now 1) calm is
 counts_front T U before mid now NoMemory calm is = is ∙ calm
+
+-- the same of what an audit behind it gave
+pub counts_behind : {T : Type 0} (before mid now : ℕ) (result : Result T MountError) → mid ≡ before
+    → CountsReading mid now result → CountsFront before now result
+counts_behind before mid now (Ok found) calm is = is ∙ calm
+counts_behind {T} before mid now (Err why) calm is = counts_front T T before mid now why calm is
+
+pub err_passing : {T : Type 0} (P : MountError → Type 0) (result : Result T MountError)
+    → ((why : MountError) → IsPassing why → P why) → IfErr result IsPassing → IfErr result P
+err_passing P (Ok found) each is = tt
+err_passing P (Err why) each is = each why is
 
 -- nothing went out
 pub explains_refused : (told : Option (List ℕ)) (most : ℕ) (output : Stream) (why : MountError)

@@ -1,5 +1,5 @@
 -- The front of a disk that is audited.
-use Rattle.std.specs.Prelude.{◌≡◌, ◌⊎◌, ⊤, ℕ, ◌≤◌, List, length, Result, Ok, Err}
+use Rattle.std.specs.Prelude.{◌≡◌, ◌⊎◌, ⊤, ℕ, ◌≤◌, List, length, Result, Err}
 use Rattle.device_facts.specs.Count.{Counted}
 use Rattle.book_journal.specs.declared.layout.TheConstants.{NEW_BYTES}
 use Rattle.book_journal.specs.Rows.{HasHeader, mark_of}

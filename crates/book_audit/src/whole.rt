@@ -1,9 +1,11 @@
-ghost use Rattle.std.specs.Prelude.{◌≡◌, ◌≤◌, IfOk, IfErr};
+ghost use Rattle.std.specs.Prelude.{◌≡◌, ◌≤◌, [], IfOk, IfErr};
 ghost use Rattle.hall_limits.specs.declared.TheConstants.{MAX_ROWS};
 ghost use Rattle.disk_core.specs.Disk.{WhereTold};
 ghost use Rattle.disk_core.specs.Devices.{IsUnmoved};
 ghost use Rattle.book_journal.specs.Ends.{IsSized};
 ghost use Rattle.book_journal.specs.Mounting.{IsSnapshotOf};
+ghost use Rattle.book_mount.specs.Mounting.{IsPassing};
+ghost use Rattle.book_mount.specs.Opening.{CountsReading};
 ghost use Rattle.book_audit.specs.Audits.{IsAuditOf, IsUnaudited};
 ghost use Rattle.book_audit.specs.Fronts.{IsBook, IsNoBook, IsUndamaged, CountsFront};
 
@@ -40,6 +42,33 @@ fn find<D: Disk>(disk: &mut D) -> Result<Option<Kept>, MountError>
     }
 }
 
+// Audits the slots of a disk that is that of a book, and this snapshot beside them, by an empty book.
+fn audit_into<D: Disk>(
+    alloc: Global,
+    disk: &mut D,
+    kept: Option<Kept>,
+    book: &mut Book,
+    most: u32,
+) -> Result<Audit, MountError>
+    requires empty { book.old.entries ≡ [] }
+    requires sized { IsSized kept }
+    ensures found { WhereTold (D.reads disk.old) (λ bytes. IsBook bytes → IsSnapshotOf bytes kept →
+        IfOk result (IsAuditOf bytes most)) }
+    ensures few { IfOk result (λ found. found.rows ≤ MAX_ROWS) }
+    ensures passing { IfErr result IsPassing }
+    ensures unmoved { IsUnmoved D.Disk disk.old disk.new }
+    ensures cause { CountsReading (D.faults disk.old) (D.faults disk.new) result }
+{
+    let whole = read_slots(disk, book)?;
+    let beside = compare_snapshot(alloc, disk, kept, book)?;
+    Ok(Audit {
+        rows: book.len(),
+        whole,
+        beside,
+        digest: fingerprint(book.entries(), most),
+    })
+}
+
 /// Reads all slots of a disk and the snapshot beside them, and tells whether they agree and the
 /// fingerprint of the first `most` rows. Neither is believed: the rows are those that the slots give,
 /// entered one by one as the rules say, and the snapshot is compared with them byte by byte. Nothing
@@ -56,12 +85,8 @@ pub fn audit<D: Disk>(alloc: Global, disk: &mut D, most: u32) -> Result<Audit, M
 {
     let kept = find(disk)?;
     let mut book = Book::new(alloc, MAX_ROWS);
-    let whole = read_slots(disk, &mut book)?;
-    let beside = compare_snapshot(alloc, disk, kept, &book)?;
-    Ok(Audit {
-        rows: book.len(),
-        whole,
-        beside,
-        digest: fingerprint(book.entries(), most),
-    })
+    let found = audit_into(alloc, disk, kept, &mut book, most);
+    // (a book is given back by its own crate)
+    let _rows = book.rows();
+    found
 }

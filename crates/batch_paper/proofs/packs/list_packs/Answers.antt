@@ -1,4 +1,4 @@
-use Rattle.std.proofs.Common.{rules, ◌≡◌, ◌+◌, ◌<◌, ◌≤◌, ◌++◌, [], List, length, sym, ◌∙◌, ap, append_assoc, append-nil, arith}
+use Rattle.std.proofs.Common.{rules, ◌+◌, ◌<◌, ◌≤◌, ◌++◌, [], List, length, sym, ◌∙◌, ap, append_assoc, append-nil}
 use Rattle.std.specs.List.{cons_option}
 use Rattle.paper_form.specs.declared.types.Pack as packs
 use Rattle.batch_paper.specs.Written.{pack_at}

@@ -1,4 +1,4 @@
-use Rattle.std.proofs.Common.{◌≡◌, ◌++◌, ℕ, ℤ, List, IsTrue, map, subst, sym, ◌∙◌, ap}
+use Rattle.std.proofs.Common.{◌≡◌, ◌++◌, ℤ, List, IsTrue, map, subst, sym, ◌∙◌, ap}
 use Rattle.std.specs.List.{AllPass, flat_map}
 use Rattle.book_words.specs.declared.views.Verdict.{Verdict}
 use Rattle.paper_form.specs.declared.types.Goods as goods

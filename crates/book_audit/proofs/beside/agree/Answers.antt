@@ -1,4 +1,4 @@
-use Rattle.std.proofs.Common.{rules, ◌≡◌, ◌<◌, ◌≤◌, ◌-◌, ◌+◌, length, drop, take, List, ℕ, sym, ◌∙◌, ap, subst, arith, length-drop}
+use Rattle.std.proofs.Common.{rules, ◌≡◌, ◌<◌, ◌≤◌, length, take, List, ℕ, sym, ◌∙◌, ap, subst, arith, length-drop}
 use Rattle.device_facts.specs.Prefix.{IsPrefixOf}
 use Rattle.book_snapshot.specs.declared.layout.TheConstants.{ROW_BYTES}
 use Rattle.book_snapshot.specs.DenseRows.{dense}

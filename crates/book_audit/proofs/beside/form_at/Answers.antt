@@ -1,4 +1,4 @@
-use Rattle.std.proofs.Common.{◌≡◌, ◌↔◌, ◌≤◌, ◌++◌, ℕ, List, Bool, true, false, if◌then◌else◌, Option, Some, None, IsTrue, MatchOption, inl, inr, refl, length, take, sym, ap, ◌∙◌, subst, arith, length-take}
+use Rattle.std.proofs.Common.{◌≡◌, ◌↔◌, ◌≤◌, ℕ, List, Bool, true, false, if◌then◌else◌, Option, Some, None, IsTrue, MatchOption, inl, inr, refl, length, take, sym, ap, ◌∙◌, subst, arith, length-take}
 use Rattle.device_facts.specs.Prefix.{IsPrefixOf}
 use Rattle.book_snapshot.specs.declared.layout.TheConstants.{ROW_BYTES}
 use Rattle.book_snapshot.specs.declared.types.Piece.{Piece}

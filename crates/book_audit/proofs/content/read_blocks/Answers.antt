@@ -1,4 +1,4 @@
-use Rattle.std.proofs.Common.{◌≡◌, ◌∙◌, ◌+◌, ◌-◌, ◌*◌, ◌≤◌, min, ℕ, List, length, take, drop, replicate, ap, subst, arith}
+use Rattle.std.proofs.Common.{◌≡◌, ◌∙◌, ◌+◌, ◌-◌, ◌*◌, ◌≤◌, min, ℕ, length, take, drop, replicate, ap, subst, arith}
 use Rattle.std.proofs.lemmas.List.{length-take-le, take_at, length-replicate}
 use Rattle.book_snapshot.specs.declared.layout.TheConstants.{ROW_BYTES}
 use Rattle.book_snapshot.specs.Layout.{blocks_for, snapshot_place}

@@ -1,4 +1,4 @@
-use Rattle.std.proofs.Common.{List, ◌++◌, sym, subst, ap, ◌∙◌, arith, length, length-take}
+use Rattle.std.proofs.Common.{List, sym, subst, ap, arith, length, length-take}
 use Rattle.std.specs.List.{AllByRecursion}
 use Rattle.hall_limits.specs.declared.TheConstants.{NAME_BYTES}
 use Rattle.book_words.specs.declared.act.Entry.{Entry}

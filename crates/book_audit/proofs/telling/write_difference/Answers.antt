@@ -1,6 +1,5 @@
-use Rattle.std.proofs.Common.{ℕ, codes, subst}
+use Rattle.std.proofs.Common.{codes}
 use Rattle.std.proofs.lemmas.Result.{err_from_is_err_and}
-use Rattle.text_streams.specs.Streams.{output_at, WroteAll, IsCutIn}
 use Rattle.text_streams.proofs.PrintedTexts.{cut_second}
 use Rattle.book_audit.specs.Audits.{line}
 use Rattle.book_audit.proofs.AuditTexts.{wrote_second, cut_first, wrote_line, cut_line}

@@ -1,8 +1,8 @@
-use Rattle.std.proofs.Common.{codes, ◌++◌, rules, ◌≡◌, sym}
+use Rattle.std.proofs.Common.{codes, ◌++◌, rules, ◌≡◌}
 use Rattle.std.proofs.lemmas.Result.{err_from_is_err_and}
 use Rattle.hex.specs.Hex.{encode_lower}
 use Rattle.text_streams.proofs.PrintedTexts.{cut_second}
-use Rattle.book_audit.proofs.AuditTexts.{wrote_second, cut_first}
+use Rattle.book_audit.proofs.AuditTexts.{cut_first}
 use Rattle.book_audit.proofs.telling.write_digest.Goals as goal
 
 pub returns-in_err-write_text-clause-cut : goal.returns-in_err-write_text-clause-cut
