@@ -211,7 +211,7 @@ fn replay_all(book: &mut Book, rows: &[Entry]) -> Result<(), AllocError>
 }
 
 // The paper of a batch of these rows, by an empty book.
-fn paper_by(
+fn replayed_paper(
     alloc: Global,
     rows: &[Entry],
     batch: &Name,
@@ -237,8 +237,8 @@ pub fn write_paper(alloc: Global, rows: &Rows, batch: &Name) -> Result<Paper, Pa
         → (state_of rows.now batch.now ≡ Some state) × (state ≢ Closed) }
 {
     let mut book = Book::new(alloc, MAX_ROWS);
-    let paper = paper_by(alloc, rows.as_slice(), batch, &mut book);
-    // (a book is given back by its own crate)
+    let paper = replayed_paper(alloc, rows.as_slice(), batch, &mut book);
+    // (so that no way out above has to let go of a book, part by part)
     let _rows = book.rows();
     paper
 }

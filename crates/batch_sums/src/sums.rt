@@ -22,7 +22,6 @@ use std::marker::Model;
 use std::sync::ledger::Ledger;
 
 /// The totals of each batch over the packs that were added.
-#[derive(Drop)]
 pub struct BatchSums {
     batches: Vec<Batch>,
     groups: Vec<Group>,
@@ -39,6 +38,23 @@ pub struct BatchSums {
     order_nodes: Vec<Box<Node<u32>>>,
     // How many packs and batches more are sure to find room.
     spare: u32,
+}
+
+// By hand, so that letting one go is one call, where a derived drop is spelled at each exit.
+impl Drop for BatchSums {
+    fn drop(self) {
+        let Self {
+            batches: _,
+            groups: _,
+            order: _,
+            packs: _,
+            places: _,
+            piles: _,
+            gross_nodes: _,
+            order_nodes: _,
+            spare: _,
+        } = self;
+    }
 }
 
 impl Model for BatchSums {

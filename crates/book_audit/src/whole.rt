@@ -43,7 +43,7 @@ fn find<D: Disk>(disk: &mut D) -> Result<Option<Kept>, MountError>
 }
 
 // Audits the slots of a disk that is that of a book, and this snapshot beside them, by an empty book.
-fn audit_into<D: Disk>(
+fn audit_slots<D: Disk>(
     alloc: Global,
     disk: &mut D,
     kept: Option<Kept>,
@@ -85,8 +85,8 @@ pub fn audit<D: Disk>(alloc: Global, disk: &mut D, most: u32) -> Result<Audit, M
 {
     let kept = find(disk)?;
     let mut book = Book::new(alloc, MAX_ROWS);
-    let found = audit_into(alloc, disk, kept, &mut book, most);
-    // (a book is given back by its own crate)
+    let found = audit_slots(alloc, disk, kept, &mut book, most);
+    // (so that no way out above has to let go of a book, part by part)
     let _rows = book.rows();
     found
 }

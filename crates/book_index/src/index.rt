@@ -28,7 +28,6 @@ const LANES: usize = MAX_LANE as usize;
 const DESKS: usize = (MAX_DESK - MIN_DESK + 1) as usize;
 
 /// What the book knows by name, lane, day or desk.
-#[derive(Drop)]
 pub struct Index {
     products: NameTable,
     batches: NameTable,
@@ -44,6 +43,23 @@ pub struct Index {
     desks: [Option<u32>; DESKS],
     // How many products and batches more are sure to find room.
     spare: u32,
+}
+
+// By hand, so that letting one go is one call, where a derived drop is spelled at each exit.
+impl Drop for Index {
+    fn drop(self) {
+        let Self {
+            products: _,
+            batches: _,
+            product_terms: _,
+            batch_terms: _,
+            closed: _,
+            lanes: _,
+            day: _,
+            desks: _,
+            spare: _,
+        } = self;
+    }
 }
 
 impl Model for Index {

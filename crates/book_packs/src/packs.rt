@@ -32,11 +32,21 @@ pub const LANES: usize = MAX_LANE as usize;
 /// The tares, the packs with their piles and running sums, and the unsettled readings, of a list of
 /// entries that is kept elsewhere. Products and batches are given by their numbers: their places in
 /// the order in which they were entered, from 0.
-#[derive(Drop)]
 pub struct Packs {
     tares: Tares,
     sums: BatchSums,
     unsettled: [Option<u32>; LANES],
+}
+
+// By hand, so that letting one go is one call, where a derived drop is spelled at each exit.
+impl Drop for Packs {
+    fn drop(self) {
+        let Self {
+            tares: _,
+            sums: _,
+            unsettled: _,
+        } = self;
+    }
 }
 
 impl Model for Packs {

@@ -1,6 +1,6 @@
 ghost use Rattle.std.specs.Prelude.{◌≡◌, [], ◌++◌, min, OnOk, OnErr};
 ghost use Rattle.text_streams.specs.Streams.{output_at, WroteAll, IsCutIn};
-ghost use Rattle.call_endings.specs.Endings.{line_of_why, line_of_stop, line_behind, last_line, status_of_why, status_of_stop, status_behind, status_of, SaysLast};
+ghost use Rattle.call_endings.specs.Endings.{line_of_why, line_of_stop, line_behind, last_line, status_of_why, status_of_stop, status_behind, status_of, SaysLast, LacksMemory};
 
 use crate::early::{SPENT, early_status};
 use crate::served::{status_of_serve, write_serve};
@@ -178,4 +178,20 @@ pub fn say_last<K: Sink>(
         Ok(()) => status,
         Err(_) => status.min(WRITE_FAULT),
     }
+}
+
+/// The end of a call that opens no book, no lane and no door: writes its last line, and gives its
+/// status.
+pub fn end_unopened<K: Sink>(ending: Ending, output: &mut K) -> u8
+    ensures { SaysLast ending (record { ends = []; unsaid = [] }) [] (output_at K.Sink output.old)
+        (output_at K.Sink output.new) result }
+{
+    say_last(ending, b"", &[], &[], output)
+}
+
+/// The end of a call for which there is no memory.
+pub fn end_without_memory<K: Sink>(output: &mut K) -> u8
+    ensures { LacksMemory (output_at K.Sink output.old) (output_at K.Sink output.new) result }
+{
+    end_unopened(Ending::Unopened(MountError::NoMemory), output)
 }

@@ -5,4 +5,4 @@ mod early;
 mod ending;
 mod served;
 
-pub use ending::{Ending, say_last};
+pub use ending::{Ending, end_unopened, end_without_memory, say_last};

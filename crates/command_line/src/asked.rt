@@ -13,6 +13,23 @@ use crate::types::{Command, Wants, WantsError};
 use crate::values::{Texts, Values, read_values};
 use clap::ArgMatches;
 use std::alloc::{AllocError, Global};
+use std::env;
+use std::io::ErrorKind;
+use std::rt::Env;
+
+/// The words of the command line behind the program's name. Where one isn't UTF-8 there are none: no
+/// command is without words.
+///
+/// # Errors
+///
+/// `AllocError` where there is no memory for them.
+pub fn words(rt: &(impl Env + AllocGlobal)) -> Result<Vec<String>, AllocError> {
+    match env::args(rt) {
+        Ok(args) => args.skip(1).collect(rt.alloc()),
+        Err(error) if error.kind() == ErrorKind::OutOfMemory => Err(AllocError),
+        Err(_) => Ok(Vec::new(rt.alloc())),
+    }
+}
 
 /// What the words of the command line ask for; the program's own name isn't among them. `Usage`
 /// comes just where they are outside the grammar, and `NoMemory` only where they are in it.

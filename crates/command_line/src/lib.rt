@@ -11,7 +11,7 @@ mod text;
 mod types;
 mod values;
 
-pub use asked::wants;
+pub use asked::{wants, words};
 pub use table::{MAX_DOOR_CONNECTIONS, MAX_PORT};
 pub use text::Text;
 pub use types::{Command, Wants, WantsError};

@@ -14,7 +14,6 @@ use std::marker::Model;
 
 /// A door to connections in memory, of which the calls with the numbers in a list fail, counted
 /// from 1 over all its calls. A growth that memory refuses is a failed call too.
-#[derive(Drop)]
 pub struct ListDoor {
     alloc: Global,
     past: Vec<ListConnection>,
@@ -25,6 +24,23 @@ pub struct ListDoor {
     fails: Vec<u32>,
     faults: u64,
     missed: u64,
+}
+
+// By hand, so that letting one go is one call, where a derived drop is spelled at each exit.
+impl Drop for ListDoor {
+    fn drop(self) {
+        let Self {
+            alloc: _,
+            past: _,
+            present: _,
+            waiting: _,
+            ended: _,
+            calls: _,
+            fails: _,
+            faults: _,
+            missed: _,
+        } = self;
+    }
 }
 
 impl Model for ListDoor {

@@ -6,12 +6,23 @@ use std::marker::Model;
 
 /// A sink that keeps its bytes in memory, of which the calls with the numbers in a list fail,
 /// counted from 1. A growth that memory refuses is a failed call too.
-#[derive(Drop)]
 pub struct MemorySink {
     bytes: Vec<u8>,
     calls: u32,
     fails: Vec<u32>,
     faults: u64,
+}
+
+// By hand, so that letting one go is one call, where a derived drop is spelled at each exit.
+impl Drop for MemorySink {
+    fn drop(self) {
+        let Self {
+            bytes: _,
+            calls: _,
+            fails: _,
+            faults: _,
+        } = self;
+    }
 }
 
 impl Model for MemorySink {

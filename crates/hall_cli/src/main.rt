@@ -2,37 +2,23 @@
 //! the words ask for.
 #![tactic(auto)]
 
-ghost use Rattle.std.specs.Prelude.{◌≡◌, ◌↔◌, ◌≤◌, [], false, None, length};
+ghost use Rattle.std.specs.Prelude.{◌≡◌, ◌↔◌, ◌≤◌, false, None, length};
 ghost use Rattle.std.specs.Process.{exit_status};
 ghost use Rattle.hall_limits.specs.declared.TheConstants.{MAX_LANE, MAX_DOOR};
 ghost use Rattle.command_line.specs.Words.{bytes_of, wanted_of};
-ghost use Rattle.text_streams.specs.Streams.{output_at};
-ghost use Rattle.hall_top.specs.Endings.{LacksMemory, SaysLast};
 
-use bad_lines::{KeptInput, KeptOutput, Kind, WatchedPlan, explain};
-use command_line::{Command, Wants, WantsError, wants};
+use bad_lines::{KeptInput, KeptOutput, WatchedPlan, explain};
+use command_line::{Command, Wants, WantsError, wants, words};
 use disk_core::{Disk, Door, Sink, Source, StdSink, StdSource};
-use hall_devices::{Waiting, lock_cells, open_disk, open_doors, open_lanes};
-use hall_top::{DoorEnds, Ending, LaneEnds, MountError, hall, say_last};
+use hall_devices::{Waiting, input_kind, lock_cells, open_disk, open_doors, open_lanes};
+use hall_top::{Ending, MountError, end_unopened, end_without_memory, hall};
 use lane_worker::{Cell, EitherCell, Gate, Lane, PairLane};
 use run_notices::RunNotices;
-use std::alloc::{AllocError, Global};
-use std::env;
-use std::io::{ErrorKind, IsTerminal, Write};
+use std::alloc::AllocError;
+use std::io::{IsTerminal, Write};
 use std::process::ExitCode;
-use std::rt::Env;
 use std::sync::Wait;
 use std::thread::Threads;
-
-// The words after the program's name, where there is memory for them. Where one isn't UTF-8 there are
-// none: no command is without words.
-fn words(rt: &(impl Env + AllocGlobal)) -> Result<Vec<String>, AllocError> {
-    match env::args(rt) {
-        Ok(args) => args.skip(1).collect(rt.alloc()),
-        Err(error) if error.kind() == ErrorKind::OutOfMemory => Err(AllocError),
-        Err(_) => Ok(Vec::new(rt.alloc())),
-    }
-}
 
 // Does what the words say over a disk, with these lanes and doors: the call of `hall`, whose
 // contract says what that does. What people should know of the rows is said, and the exit status is
@@ -74,24 +60,6 @@ fn run<
     ExitCode::from(ended.status)
 }
 
-// The end of a call that opens no book, no lane and no door: its last line and its status.
-fn end_unopened<K: Sink>(alloc: Global, ending: Ending, output: &mut K) -> ExitCode
-    ensures { SaysLast ending (record { ends = []; unsaid = [] }) [] (output_at K.Sink output.old)
-        (output_at K.Sink output.new) (exit_status result) }
-{
-    let lanes = LaneEnds::new(Vec::new(alloc));
-    let doors = DoorEnds::new(Vec::new(alloc));
-    ExitCode::from(say_last(ending, b"", lanes.as_slice(), doors.as_slice(), output))
-}
-
-// The end of a call for which there is no memory.
-fn end_without_memory<K: Sink>(alloc: Global, output: &mut K) -> ExitCode
-    ensures { LacksMemory (output_at K.Sink output.old) (output_at K.Sink output.new)
-        (exit_status result) }
-{
-    end_unopened(alloc, Ending::Unopened(MountError::NoMemory), output)
-}
-
 // Does what the words say over the disk of the book, with these lanes and doors, where there was
 // memory to open it.
 fn over_book<
@@ -117,17 +85,7 @@ fn over_book<
 {
     match opened {
         Ok(disk) => run(rt, words, input, output, notices, disk, lanes, doors),
-        Err(_) => end_without_memory(rt.alloc(), output),
-    }
-}
-
-// What the input of a command is made of.
-fn kind_of(command: Command) -> Kind {
-    match command {
-        Command::Run => Kind::Script,
-        Command::Import => Kind::Table,
-        Command::Serve => Kind::Plan,
-        _ => Kind::Other,
+        Err(_) => ExitCode::from(end_without_memory(output)),
     }
 }
 
@@ -181,7 +139,7 @@ fn with_lanes<S: Source, K: Sink, L: Lane + Send + Drop, R: AllocGlobal + Thread
 {
     match open_doors(*call.rt, call.wanted) {
         Ok(doors) => with_doors(call, input, output, lanes, doors),
-        Err(_) => end_without_memory(call.rt.alloc(), output),
+        Err(_) => ExitCode::from(end_without_memory(output)),
     }
 }
 
@@ -215,15 +173,12 @@ fn with_folder<S: Source, K: Sink, R: AllocGlobal + Threads + Wait + Sync>(
     requires unended { S.ended input.old ≡ false }
 {
     let Some(_lock) = lock_cells(call.rt, call.wanted) else {
-        return end_unopened(
-            call.rt.alloc(),
-            Ending::Unopened(MountError::DiskFault),
-            output,
-        );
+        let ending = Ending::Unopened(MountError::DiskFault);
+        return ExitCode::from(end_unopened(ending, output));
     };
     match open_lanes(call.rt, call.wanted) {
         Ok(lanes) => with_parts(call, input, output, lanes),
-        Err(_) => end_without_memory(call.rt.alloc(), output),
+        Err(_) => ExitCode::from(end_without_memory(output)),
     }
 }
 
@@ -234,7 +189,7 @@ fn do_call<W: Write + Drop, R: AllocGlobal + Threads + Wait + Sync>(
 ) -> ExitCode {
     let rt = *call.rt;
     let is_plan = matches!(call.wanted.command, Command::Serve);
-    let kind = kind_of(call.wanted.command);
+    let kind = input_kind(call.wanted.command);
     let mut read = KeptInput::new(rt.alloc(), Waiting::to_read(rt.stdin()), kind);
     let mut input = StdSource::new(WatchedPlan::new(&mut read, rt, is_plan));
     let status = with_folder(call, &mut input, &mut StdSink::new(&mut *said));
@@ -259,8 +214,11 @@ fn do_words<W: Write + Drop, R: AllocGlobal + Threads + Wait + Sync>(
             };
             do_call(&call, said)
         }
-        Err(WantsError::NoMemory) => end_without_memory(rt.alloc(), &mut StdSink::new(said)),
-        Err(WantsError::Usage) => end_unopened(rt.alloc(), Ending::Usage, &mut StdSink::new(said)),
+        Err(WantsError::NoMemory) => ExitCode::from(end_without_memory(&mut StdSink::new(said))),
+        Err(WantsError::Usage) => ExitCode::from(end_unopened(
+            Ending::Usage,
+            &mut StdSink::new(said),
+        )),
     }
 }
 
@@ -268,6 +226,6 @@ fn main(rt: HostRuntime) -> ExitCode {
     let mut said = KeptOutput::new(Waiting::to_write(rt.stdout()));
     match words(&rt) {
         Ok(words) => do_words(&rt, &rt, &words, &mut said),
-        Err(_) => end_without_memory(rt.alloc(), &mut StdSink::new(&mut said)),
+        Err(_) => ExitCode::from(end_without_memory(&mut StdSink::new(&mut said))),
     }
 }

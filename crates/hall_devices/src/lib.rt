@@ -8,10 +8,12 @@
 
 mod disk;
 mod doors;
+mod input;
 mod lanes;
 mod waiting;
 
 pub use disk::open_disk;
 pub use doors::open_doors;
+pub use input::input_kind;
 pub use lanes::{HallLane, lock_cells, open_lanes};
 pub use waiting::Waiting;

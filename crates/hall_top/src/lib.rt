@@ -6,6 +6,6 @@ mod top;
 
 pub use book_mount::MountError;
 pub use command_line::{Command, Text, Wants, WantsError, wants};
-pub use hall_alone::{Ended, Ending, LaneEnds, hall_alone, say_last};
-pub use serve_run::{DoorEnds, JobsStop, NoNotices, ServeStop, SetupNotices};
+pub use hall_alone::{Ended, Ending, end_unopened, end_without_memory, hall_alone};
+pub use serve_run::{JobsStop, NoNotices, ServeStop, SetupNotices};
 pub use top::hall;

@@ -17,13 +17,25 @@ enum Opening {
 /// waits for who opens its other end. A file that can't be opened then is not tried again, and each
 /// call fails. Standard error is told its path and why it can't be opened, read or written, once
 /// for calls that fail one after another.
-#[derive(Drop)]
 pub struct LateFile<'a, R: Files<File = File> + Eprint> {
     rt: &'a R,
     path: String,
     options: OpenOptions,
     opening: Opening,
     told: bool,
+}
+
+// By hand, so that letting one go is one call, where a derived drop is spelled at each exit.
+impl<'a, R: Files<File = File> + Eprint> Drop for LateFile<'a, R> {
+    fn drop(self) {
+        let Self {
+            rt: _,
+            path: _,
+            options: _,
+            opening: _,
+            told: _,
+        } = self;
+    }
 }
 
 impl<'a, R: Files<File = File> + Eprint> Model for LateFile<'a, R> {

@@ -7,12 +7,23 @@ use std::marker::Model;
 
 /// A gate that keeps the numbers of the packs for which it opened, of which the calls with the
 /// numbers in a list fail, counted from 1. A growth that memory refuses is a failed call too.
-#[derive(Drop)]
 pub struct ListGate {
     opened: Vec<u32>,
     calls: u32,
     fails: Vec<u32>,
     faults: u64,
+}
+
+// By hand, so that letting one go is one call, where a derived drop is spelled at each exit.
+impl Drop for ListGate {
+    fn drop(self) {
+        let Self {
+            opened: _,
+            calls: _,
+            fails: _,
+            faults: _,
+        } = self;
+    }
 }
 
 impl Model for ListGate {

@@ -12,29 +12,33 @@ use Rattle.paper_check.specs.Keyed.{is_mass}
 use Rattle.paper_check.proofs.GoodsRange.{at_most}
 use Rattle.paper_check.proofs.Lookups.{passes_at}
 
-mass_near : (mass : ℤ) → is_mass mass ≡ true → unsigned_abs mass ≤ 30000000
+-- the greatest mass, MAX_GROSS, as a natural number
+abbrev pub heaviest : ℕ
+heaviest = 30000000
+
+mass_near : (mass : ℤ) → is_mass mass ≡ true → unsigned_abs mass ≤ heaviest
 mass_near mass is =
     let parts = and_parts (int_le (neg_ℤ MAX_TARE) mass) (int_le mass MAX_GROSS) is in
     omega (arith, ints, at_most (neg_ℤ MAX_TARE) mass parts.0, at_most mass MAX_GROSS parts.1)
 
 one_read : (masses : List ℤ) (i : ℕ) → list_all is_mass masses ≡ true → i < length masses
-    → Computes (again w64 (get_or masses i (pos 0))) (get_or masses i (pos 0)) 30000000
+    → Computes (again w64 (get_or masses i (pos 0))) (get_or masses i (pos 0)) heaviest
 one_read masses i range inside =
     let mass = get_or masses i (pos 0) in
-    computes_read w64 mass mass 30000000 (lit< tt) refl
+    computes_read w64 mass mass heaviest (lit< tt) refl
     (mass_near mass (passes_at is_mass masses i (pos 0) range inside))
 
 -- it is computed as it is
 pub sum_more : (masses : List ℤ) (i : ℕ) (sum : ℤ) → list_all is_mass masses ≡ true
-    → length masses ≤ MAX_POPULATION → i < length masses → unsigned_abs sum ≤ 30000000 * i
+    → length masses ≤ MAX_POPULATION → i < length masses → unsigned_abs sum ≤ heaviest * i
     → Computes (again w64 (sum +ℤ again w64 (get_or masses i (pos 0))))
-    (sum +ℤ get_or masses i (pos 0)) (30000000 * i + 30000000)
+    (sum +ℤ get_or masses i (pos 0)) (heaviest * i + heaviest)
 sum_more masses i sum range few inside near =
     computes_sum w64 (omega (arith, few, inside)) (record { same = refl; near = near })
     (one_read masses i range inside)
 
 pub sum_fits : (masses : List ℤ) (i : ℕ) (sum : ℤ) → list_all is_mass masses ≡ true
-    → length masses ≤ MAX_POPULATION → i < length masses → unsigned_abs sum ≤ 30000000 * i
+    → length masses ≤ MAX_POPULATION → i < length masses → unsigned_abs sum ≤ heaviest * i
     → FitsSigned w64 (sum +ℤ again w64 (get_or masses i (pos 0)))
 sum_fits masses i sum range few inside near =
     let one = one_read masses i range inside in

@@ -25,7 +25,6 @@ pub struct Reading {
 }
 
 /// What a paper says.
-#[derive(Drop)]
 pub struct Paper {
     pub goods: Goods,
     pub tares: Vec<DatedTare>,
@@ -35,6 +34,22 @@ pub struct Paper {
     pub second_word: Option<u64>,
     pub second: Vec<Pick>,
     pub verdict: Verdict,
+}
+
+// By hand, so that letting one go is one call, where a derived drop is spelled at each exit.
+impl Drop for Paper {
+    fn drop(self) {
+        let Self {
+            goods: _,
+            tares: _,
+            packs: _,
+            draw: _,
+            first: _,
+            second_word: _,
+            second: _,
+            verdict: _,
+        } = self;
+    }
 }
 
 // What may come behind a line where tares may.

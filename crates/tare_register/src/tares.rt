@@ -14,7 +14,6 @@ use std::marker::Model;
 /// A contract sees the list of entries, and beside it the number of places that are reserved for
 /// more. `at`, `span` and `put` take as many steps as the logarithm of the number of entries. An
 /// entry takes 24 bytes and a node of 40 bytes.
-#[derive(Drop)]
 pub struct Tares {
     entries: Vec<ProductTare>,
     // The places of the entries in the order of products and days; of those for one product and day
@@ -24,6 +23,18 @@ pub struct Tares {
     nodes: Vec<Box<Node<u32>>>,
     // How many entries more are sure to find room.
     spare: u32,
+}
+
+// By hand, so that letting one go is one call, where a derived drop is spelled at each exit.
+impl Drop for Tares {
+    fn drop(self) {
+        let Self {
+            entries: _,
+            order: _,
+            nodes: _,
+            spare: _,
+        } = self;
+    }
 }
 
 impl Model for Tares {

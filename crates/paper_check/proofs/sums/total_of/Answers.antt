@@ -1,6 +1,6 @@
 use Rattle.std.proofs.Common.{◌∙◌, ◌+◌, ◌*◌, ◌≤◌, ◌+ℤ◌, ℤ, drop, unsigned_abs, sym, ap, subst, arith, w64}
 use Rattle.reference_test.specs.Means.{total}
-use Rattle.paper_check.proofs.Totals.{sum_more, sum_fits, total_more}
+use Rattle.paper_check.proofs.Totals.{heaviest, sum_more, sum_fits, total_more}
 use mir.Val.{to_z}
 use Rattle.paper_check.proofs.sums.total_of.Goals as goal
 
@@ -17,7 +17,7 @@ loop-mass-preserved c =
     let sum = to_z w64 here.sum-bits in
     let more = sum_more masses here.mass-index sum c.requires.range c.requires.few
     c.loop-mass-test.true here.invariant.0 in (
-      subst (λ (z : ℤ). unsigned_abs z ≤ 30000000 * (here.mass-index + 1)) (sym more.same)
+      subst (λ (z : ℤ). unsigned_abs z ≤ heaviest * (here.mass-index + 1)) (sym more.same)
           (omega (arith, more.near)),
       ap (λ (z : ℤ). z +ℤ total (drop (here.mass-index + 1) masses)) more.same
           ∙ total_more masses here.mass-index sum c.loop-mass-test.true here.invariant.1,

@@ -2,7 +2,7 @@ use Rattle.std.proofs.Common.{◌≡◌, ◌≢◌, List, Some, subst}
 use Rattle.book_words.specs.declared.act.BatchState.TheVariants.{Closed}
 use Rattle.book_words.specs.declared.act.Entry.{Entry}
 use Rattle.book_words.specs.Acts.{state_of}
-use Rattle.batch_paper.proofs.papers.paper_by.Goals as goal
+use Rattle.batch_paper.proofs.papers.replayed_paper.Goals as goal
 
 pub returns-clause-not_closed : goal.returns-clause-not_closed
 returns-clause-not_closed c state h =

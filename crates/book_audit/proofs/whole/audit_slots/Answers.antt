@@ -2,7 +2,7 @@ use Rattle.std.proofs.Common.{◌∙◌, ap, arith}
 use Rattle.book_words.proofs.LegalLemmas.{legal_few}
 use Rattle.book_journal.proofs.Moments.{unmoved_on}
 use Rattle.book_audit.specs.Audits.{fingerprint}
-use Rattle.book_audit.proofs.whole.audit_into.Goals as goal
+use Rattle.book_audit.proofs.whole.audit_slots.Goals as goal
 
 pub returns-in_err-beside-clause-unmoved : goal.returns-in_err-beside-clause-unmoved
 returns-in_err-beside-clause-unmoved g c =

@@ -1,0 +1,12 @@
+use bad_lines::Kind;
+use command_line::Command;
+
+/// What the input of a command is made of.
+pub fn input_kind(command: Command) -> Kind {
+    match command {
+        Command::Run => Kind::Script,
+        Command::Import => Kind::Table,
+        Command::Serve => Kind::Plan,
+        _ => Kind::Other,
+    }
+}
