@@ -1,5 +1,5 @@
-ghost use Rattle.std.specs.Prelude.{◌≡◌, Bool, List, Some, IfOk, MatchResult};
-ghost use Rattle.clap.specs.Words.{app_of, first_value, found_of, kind_of};
+ghost use Rattle.std.specs.Prelude.{◌≡◌, Bool, List, Some, IfOk, MatchResult, false};
+ghost use Rattle.clap.specs.Words.{app_of, first_value, found_of, kind_of, rule_of};
 ghost use Rattle.command_line.specs.declared.types.WantsError.TheVariants.{NoMemory};
 ghost use Rattle.clap.specs.Simple.{with_rule};
 ghost use Rattle.command_line.specs.Options.{app_by, app_for, rule_by};
@@ -55,27 +55,30 @@ fn clap_names<'a>(
         .no_binary_name(true)
         .disable_help_flag(true);
     for name in names {
-        command = with_value(alloc, command, name, spelled)?;
+        command = with_value(command, named_value(alloc, name, spelled))?;
     }
     Ok(command)
 }
 
-// The command with one value more.
-fn with_value<'a>(
-    alloc: Global,
-    command: clap::Command<'a>,
-    name: &'static str,
-    spelled: bool,
-) -> Result<clap::Command<'a>, AllocError>
-    ensures { IfOk result (λ more. app_of more
-        ≡ with_rule (app_of command.entry) (rule_by spelled name.now)) }
+// A value of this name, which is spelled before it or not.
+fn named_value<'a>(alloc: Global, name: &'static str, spelled: bool) -> Arg<'a>
+    ensures rule { rule_of result ≡ rule_by spelled name.now }
+    ensures own { result.global ≡ false }
 {
     let value = Arg::new(alloc, name).action(ArgAction::Set);
-    if spelled {
-        Ok(command.arg(value.long(name))?)
-    } else {
-        Ok(command.arg(value)?)
-    }
+    if spelled { value.long(name) } else { value }
+}
+
+// The command with one value more, which is its own.
+fn with_value<'a>(
+    command: clap::Command<'a>,
+    value: Arg<'a>,
+) -> Result<clap::Command<'a>, AllocError>
+    requires own { value.global ≡ false }
+    ensures { IfOk result (λ more. app_of more
+        ≡ with_rule (app_of command.entry) (rule_of value.entry)) }
+{
+    command.arg(value)
 }
 
 // What a refusal of words comes to.

@@ -1,6 +1,7 @@
-//! The devices of the program as the words of the command line ask for them: the disk of the book is
-//! a file or memory, each cell of a lane reads a file of the lanes' folder or hears its scale at a
-//! port, each gate is a file of the folder, and each door listens at a port.
+//! The devices of the program as the words of the command line ask for them: standard input has lines,
+//! records or a plan, the disk of the book is a file or memory, each cell of a lane reads a file of
+//! the lanes' folder or hears its scale at a port, each gate is a file of the folder, and each door
+//! listens at a port.
 //!
 //! Promised: there are as many lanes and doors as the words ask for, each at most 16. What disks,
 //! cells, gates and doors do is promised by the crates that they stand in.
