@@ -39,6 +39,7 @@ pub enum Command {
 }
 
 /// What the words of the command line ask for.
+#[derive(Drop)]
 pub struct Wants {
     pub command: Command,
     /// The path of the book; without one the book is kept in memory.
@@ -71,28 +72,6 @@ pub struct Wants {
     /// How many rows a fingerprint is of, 0 to `MAX_ROWS`, the first ones; `MAX_ROWS` for other
     /// commands.
     pub rows: u32,
-}
-
-// By hand, so that letting one go is one call, where a derived drop is spelled at each exit.
-impl Drop for Wants {
-    fn drop(self) {
-        let Self {
-            command: _,
-            book: _,
-            batch: _,
-            limit: _,
-            lanes: _,
-            doors: _,
-            cells: _,
-            port: _,
-            connections: _,
-            number: _,
-            count: _,
-            remote: _,
-            after: _,
-            rows: _,
-        } = self;
-    }
 }
 
 /// Why the words give nothing.

@@ -11,6 +11,7 @@ use script_lines::Command;
 use std::alloc::Global;
 
 /// The records of an import behind its header.
+#[derive(Drop)]
 pub struct Records<'a> {
     pub reader: Reader<&'a [u8]>,
     /// The fields of the record that was read last.
@@ -19,18 +20,6 @@ pub struct Records<'a> {
     pub line: Vec<u8>,
     /// The number of the next record.
     pub number: u32,
-}
-
-// By hand, so that letting one go is one call, where a derived drop is spelled at each exit.
-impl<'a> Drop for Records<'a> {
-    fn drop(self) {
-        let Self {
-            reader: _,
-            row: _,
-            line: _,
-            number: _,
-        } = self;
-    }
 }
 
 /// The records of an import whose header is right.

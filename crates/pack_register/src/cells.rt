@@ -10,25 +10,13 @@ use std::alloc::{AllocError, Global};
 
 /// The texts of what a pack has in numbers: its own, that of its lane, its day and its masses. The
 /// next pack is printed into the same memory.
+#[derive(Drop)]
 pub struct Cells {
     pub pack: Vec<u8>,
     pub lane: Vec<u8>,
     pub day: Vec<u8>,
     pub gross: Vec<u8>,
     pub net: Vec<u8>,
-}
-
-// By hand, so that letting one go is one call, where a derived drop is spelled at each exit.
-impl Drop for Cells {
-    fn drop(self) {
-        let Self {
-            pack: _,
-            lane: _,
-            day: _,
-            gross: _,
-            net: _,
-        } = self;
-    }
 }
 
 impl Cells {
