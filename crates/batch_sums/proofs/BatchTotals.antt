@@ -8,15 +8,16 @@ use Rattle.std.proofs.lemmas.Int.{ints}
 use Rattle.hall_limits.specs.declared.TheConstants.{MAX_GROSS, MAX_TARE}
 use Rattle.pack_judge.specs.declared.types.Pile.{Pile}
 use Rattle.pack_judge.specs.declared.types.Pile.TheVariants.{Passed, Rejected, Sampled, Voided}
-use Rattle.batch_sums.specs.declared.batch.Batch.{Batch}
-use Rattle.batch_sums.specs.declared.group.Group.{Group}
+use Rattle.pack_groups.specs.declared.batch.Batch.{Batch}
+use Rattle.pack_groups.specs.declared.group.Group.{Group}
 use Rattle.batch_sums.specs.declared.types.Held.{Held}
-use Rattle.batch_sums.specs.Totals.{is_counted, of_batch, pack_totals}
+use Rattle.pack_groups.specs.Population.{is_counted}
+use Rattle.batch_sums.specs.Totals.{of_batch, pack_totals}
 use Rattle.pack_judge.specs.Piles.{same_pile}
-use Rattle.batch_sums.specs.Groups.{Face, at_least_0, face_of, faces, nth_face}
-use Rattle.batch_sums.specs.Running.{IsBounded, shown}
+use Rattle.pack_groups.specs.Groups.{Face, at_least_0, face_of, faces, nth_face}
+use Rattle.pack_groups.specs.Running.{IsBounded, shown}
 use Rattle.batch_sums.specs.Kept.{AddsUp, Sound, seen, belongs, added_gross, added_tare}
-use Rattle.batch_sums.proofs.Faces.{face-at}
+use Rattle.pack_groups.proofs.Faces.{face-at}
 use Rattle.batch_sums.proofs.PackSums.{length_in_pile, gross_in_pile, length_population, net_population, below_population, counted_sum}
 
 -- the group of a pack is there, and it has the face that is seen

@@ -10,13 +10,14 @@ use Rattle.batch_sums.specs.declared.types.Held.{Held}
 use Rattle.hall_limits.specs.declared.TheConstants.{MAX_DAY}
 use Rattle.pack_judge.specs.declared.tares.Span.{Span}
 use Rattle.pack_judge.specs.Tares.{covers}
-use Rattle.batch_sums.specs.declared.batch.Batch.{Batch}
-use Rattle.batch_sums.specs.declared.group.Group.{Group}
-use Rattle.batch_sums.specs.Groups.{Face, faces, nth_face, nth_rank}
-use Rattle.batch_sums.specs.Kept.{Sound, IsIndex, seen, terms_of}
+use Rattle.pack_groups.specs.declared.batch.Batch.{Batch}
+use Rattle.pack_groups.specs.declared.group.Group.{Group}
+use Rattle.pack_groups.specs.Groups.{Face, faces, nth_face, nth_rank}
+use Rattle.pack_groups.specs.Index.{IsIndex}
+use Rattle.batch_sums.specs.Kept.{Sound, seen, terms_of}
 use Rattle.batch_sums.specs.Changes.{is_concerned, concerned}
 use Rattle.batch_sums.specs.Asked.{chosen_batches, IsLeast}
-use Rattle.batch_sums.proofs.OrderLemmas.{below}
+use Rattle.pack_groups.proofs.OrderLemmas.{below}
 use Rattle.batch_sums.proofs.GroupRanges.{bool_same}
 use Rattle.batch_sums.proofs.ReadyGroups.{exists_by}
 use Rattle.batch_sums.proofs.WholeCorrection.{concerned_is, placed_in}
@@ -156,7 +157,7 @@ module _ (batches : List Batch) (groups : List Group) (held : List Held)
         arith,
         placed_in batches groups held sound used order index product from until
             first end low high first_is end_is span days found.0 0 found.1,
-        length-map groups Rattle.batch_sums.specs.Groups.face_of,
+        length-map groups Rattle.pack_groups.specs.Groups.face_of,
       ) in
       let one = exists_by place held (used place within) in
       let h : Held = get_or held one.0 no_held in

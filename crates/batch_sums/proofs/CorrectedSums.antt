@@ -11,12 +11,13 @@ use Rattle.balanced_tree.specs.Trees.{items, IsBalanced}
 use Rattle.balanced_tree.specs.declared.tree.Tree.{Tree}
 use Rattle.batch_sums.specs.declared.sums.BatchSums.TheInside.{Inside}
 use Rattle.batch_sums.specs.declared.types.Held.{Held}
-use Rattle.batch_sums.specs.Groups.{Face, face_of, faces, nth_face, rank_of, nth_rank}
-use Rattle.batch_sums.specs.Kept.{IsIndex, seen}
+use Rattle.pack_groups.specs.Groups.{Face, face_of, faces, nth_face, rank_of, nth_rank}
+use Rattle.pack_groups.specs.Index.{IsIndex}
+use Rattle.batch_sums.specs.Kept.{seen}
 use Rattle.batch_sums.specs.Invariant.{IsKept, inside, outside, homes_of, befores_of}
 use Rattle.batch_sums.proofs.PackSums.{sum_by-same}
 use Rattle.batch_sums.proofs.Homes.{homes-keys, chained_as}
-use Rattle.batch_sums.proofs.NewGroups.{IsRising-agree}
+use Rattle.pack_groups.proofs.NewGroups.{IsRising-agree}
 use Rattle.batch_sums.proofs.Underway.{IsUnderway, face_by-key}
 
 -- an order is of keys alone

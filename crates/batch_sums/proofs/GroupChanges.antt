@@ -7,15 +7,15 @@ use Rattle.std.proofs.lemmas.List.Sums.{sum_by-cons, count_by-le-length}
 use Rattle.hall_limits.specs.declared.TheConstants.{MAX_GROSS}
 use Rattle.pack_judge.specs.declared.types.Pile.{Pile}
 use Rattle.pack_judge.specs.declared.types.Pile.TheVariants.{Passed, Rejected, Sampled, Voided}
-use Rattle.batch_sums.specs.declared.batch.Batch.{Batch}
-use Rattle.batch_sums.specs.declared.grosses.Gross.{Gross}
-use Rattle.batch_sums.specs.declared.group.Group.{Group}
+use Rattle.pack_groups.specs.declared.batch.Batch.{Batch}
+use Rattle.pack_groups.specs.declared.grosses.Gross.{Gross}
+use Rattle.pack_groups.specs.declared.group.Group.{Group}
 use Rattle.batch_sums.specs.declared.types.Held.{Held}
-use Rattle.batch_sums.specs.Totals.{is_counted}
+use Rattle.pack_groups.specs.Population.{is_counted}
 use Rattle.pack_judge.specs.Piles.{same_pile}
-use Rattle.batch_sums.specs.Rising.{mass_of, HasMoreIf}
-use Rattle.batch_sums.specs.Groups.{Face, face_of, faces, nth_face, threshold, IsJudged}
-use Rattle.batch_sums.specs.Running.{IsEntered, HasRoom, Covers, pile_sum, one_if_below}
+use Rattle.pack_groups.specs.Rising.{mass_of, HasMoreIf}
+use Rattle.pack_groups.specs.Groups.{Face, face_of, faces, nth_face, threshold, IsJudged}
+use Rattle.pack_groups.specs.Running.{IsEntered, HasRoom, Covers, pile_sum, one_if_below}
 use Rattle.batch_sums.specs.Kept.{AddsUp, Sound, belongs, is_member, added_count, added_gross, added_tare, added_below}
 use Rattle.batch_sums.proofs.OnePackMore.{Joins, HasGrosses, adds_up_in, adds_up_out, adds_up_in_other, adds_up_out_other, has_grosses_in, has_grosses_out, has_grosses_in_other, has_grosses_out_other}
 use Rattle.batch_sums.proofs.SoundLemmas.{sound_after, face-found}

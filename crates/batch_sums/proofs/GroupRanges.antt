@@ -6,10 +6,10 @@ use Rattle.std.proofs.lemmas.Bool.{cases_lt, cases_eq, eq-eqb, ne_eqb, lt-ltb, l
 use Rattle.std.proofs.lemmas.List.Sums.{sum_by-cons, sum_by-append, sum_by-take-drop}
 use Rattle.std.proofs.lemmas.List.Edits.{split_between}
 use Rattle.std.proofs.lemmas.Int.{ints}
-use Rattle.batch_sums.specs.Rising.{AtLeast, IsRising}
-use Rattle.batch_sums.specs.Groups.{Face, rank_of, nth_rank}
-use Rattle.batch_sums.specs.Kept.{IsIndex, IsKey}
-use Rattle.batch_sums.proofs.OrderLemmas.{below, below-yes, below_none, AtLeast-lower}
+use Rattle.pack_groups.specs.Rising.{AtLeast, IsRising}
+use Rattle.pack_groups.specs.Groups.{Face, rank_of, nth_rank}
+use Rattle.pack_groups.specs.Index.{IsIndex, IsKey}
+use Rattle.pack_groups.proofs.OrderLemmas.{below, below-yes, below_none, AtLeast-lower}
 
 -- each item has a lower rank
 abbrev pub Under : {T : Type 0} → (T → ℕ) → ℕ → List T → Type 0

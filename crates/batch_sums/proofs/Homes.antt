@@ -2,7 +2,7 @@
 use Rattle.std.proofs.Common.{◌≡◌, ℕ, List, [], ◌∷◌, length, map, get_or, set, refl, ap, sym, subst, ◌∙◌, ◌<◌}
 use Rattle.std.proofs.lemmas.List.{map-set, set-get_or, get_or-map}
 use Rattle.batch_sums.specs.declared.types.Held.{Held}
-use Rattle.batch_sums.specs.Groups.{Face, nth_face}
+use Rattle.pack_groups.specs.Groups.{Face, nth_face}
 use Rattle.batch_sums.specs.Kept.{seen, IsChained}
 use Rattle.batch_sums.specs.Invariant.{homes_of}
 

@@ -1,7 +1,3 @@
-pub mod OrderLemmas
-pub mod Descents
-pub mod GrossOrder
-pub mod Faces
 pub mod Room
 pub mod PackSums
 pub mod BatchTotals
@@ -10,7 +6,6 @@ pub mod SoundLemmas
 pub mod GroupChanges
 pub mod PileMoves
 pub mod Numbers
-pub mod NewGroups
 pub mod NewPacks
 pub mod ReadyGroups
 pub mod NewTares
@@ -25,4 +20,4 @@ pub mod PileTallies
 pub mod NumberPlaces
 pub mod PackWalks
 pub mod ChosenBatches
-pub mod DayEnds
+pub mod PassedGroups

@@ -8,17 +8,17 @@ use Rattle.std.proofs.lemmas.List.Elements.{All-head, All-tail, All-weaker}
 use Rattle.std.proofs.lemmas.List.Sums.{sum_by-cons}
 use Rattle.std.proofs.lemmas.Option.{same_Some, none-some}
 use Rattle.hall_limits.specs.declared.TheConstants.{MAX_TARE}
-use Rattle.batch_sums.specs.declared.batch.Batch.{Batch}
-use Rattle.batch_sums.specs.declared.group.Group.{Group}
+use Rattle.pack_groups.specs.declared.batch.Batch.{Batch}
+use Rattle.pack_groups.specs.declared.group.Group.{Group}
 use Rattle.batch_sums.specs.declared.types.Held.{Held}
-use Rattle.batch_sums.specs.Totals.{is_counted}
+use Rattle.pack_groups.specs.Population.{is_counted}
 use Rattle.pack_judge.specs.Piles.{same_pile}
-use Rattle.batch_sums.specs.Rising.{mass_of}
-use Rattle.batch_sums.specs.Groups.{Face, face_of, faces, nth_face, threshold}
-use Rattle.batch_sums.specs.Running.{pile_sum, one_if_below}
+use Rattle.pack_groups.specs.Rising.{mass_of}
+use Rattle.pack_groups.specs.Groups.{Face, face_of, faces, nth_face, threshold}
+use Rattle.pack_groups.specs.Running.{pile_sum, one_if_below}
 use Rattle.batch_sums.specs.Kept.{AddsUp, Sound, IsGroup, seen, is_member, added_count, added_gross, added_tare, added_below}
-use Rattle.batch_sums.proofs.PackSums.{sum_by-agree}
-use Rattle.batch_sums.proofs.NewGroups.{face-old}
+use Rattle.pack_groups.proofs.NewGroups.{sum_by-agree}
+use Rattle.pack_groups.proofs.NewGroups.{face-old}
 use Rattle.batch_sums.proofs.SoundLemmas.{face-found}
 
 zeros : {X : Type 0} (xs : List X) → sum_by (λ x. 0) xs ≡ 0

@@ -7,14 +7,14 @@ use Rattle.std.proofs.lemmas.List.{map-set, get_or-set_same, get_or-set_other, l
 use Rattle.std.proofs.lemmas.List.Sums.{sum_by-cons, sum_by-le-sum_by, count_by-le-length}
 use Rattle.std.proofs.lemmas.Option.{slice_get_within, same_Some}
 use Rattle.hall_limits.specs.declared.TheConstants.{MAX_TARE}
-use Rattle.batch_sums.specs.declared.batch.Batch.{Batch}
-use Rattle.batch_sums.specs.declared.group.Group.{Group}
+use Rattle.pack_groups.specs.declared.batch.Batch.{Batch}
+use Rattle.pack_groups.specs.declared.group.Group.{Group}
 use Rattle.batch_sums.specs.declared.types.Held.{Held}
-use Rattle.batch_sums.specs.Totals.{is_counted}
+use Rattle.pack_groups.specs.Population.{is_counted}
 use Rattle.pack_judge.specs.Piles.{same_pile}
-use Rattle.batch_sums.specs.Rising.{mass_of}
-use Rattle.batch_sums.specs.Groups.{Face, face_of, faces, nth_face, no_face, threshold, IsJudged}
-use Rattle.batch_sums.specs.Running.{one_if_below, HasShare, IsCorrected}
+use Rattle.pack_groups.specs.Rising.{mass_of}
+use Rattle.pack_groups.specs.Groups.{Face, face_of, faces, nth_face, no_face, threshold, IsJudged}
+use Rattle.pack_groups.specs.Running.{one_if_below, HasShare, IsCorrected}
 use Rattle.batch_sums.specs.Kept.{AddsUp, Sound, IsGroup, belongs, is_member, added_count, added_gross, added_tare, added_below}
 use Rattle.batch_sums.proofs.PackSums.{sum_by-same, sum_by-plus}
 use Rattle.batch_sums.proofs.GroupChanges.{count_by-all}

@@ -7,7 +7,7 @@ use Rattle.std.proofs.lemmas.List.{length-map}
 use Rattle.std.proofs.lemmas.List.Folds.{find_at, position_or_len_push}
 use Rattle.std.proofs.lemmas.Option.{slice_get_past}
 use Rattle.batch_sums.specs.declared.types.Held.{Held}
-use Rattle.batch_sums.specs.Groups.{Face}
+use Rattle.pack_groups.specs.Groups.{Face}
 use Rattle.batch_sums.specs.Kept.{seen}
 
 module _ (some : List Face) (number : ℕ) where

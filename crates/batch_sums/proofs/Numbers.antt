@@ -5,15 +5,16 @@ use Rattle.std.proofs.lemmas.Bool.{eqb-true}
 use Rattle.std.proofs.lemmas.List.{length-map, map-set, set-get_or, get_or-map}
 use Rattle.std.proofs.lemmas.List.Sums.{sum_by-set}
 use Rattle.std.proofs.lemmas.List.Quantifiers.{position-Some}
-use Rattle.batch_sums.specs.declared.batch.Batch.{Batch}
-use Rattle.batch_sums.specs.declared.group.Group.{Group}
+use Rattle.pack_groups.specs.declared.batch.Batch.{Batch}
+use Rattle.pack_groups.specs.declared.group.Group.{Group}
 use Rattle.batch_sums.specs.declared.types.Held.{Held}
 use Rattle.pack_judge.specs.declared.types.Pile.{Pile}
 use Rattle.balanced_tree.specs.declared.tree.Tree.{Tree}
 use Rattle.balanced_tree.specs.Trees.{items}
-use Rattle.batch_sums.specs.Totals.{is_counted}
-use Rattle.batch_sums.specs.Groups.{Face, faces, nth_face}
-use Rattle.batch_sums.specs.Kept.{Sound, IsIndex, seen}
+use Rattle.pack_groups.specs.Population.{is_counted}
+use Rattle.pack_groups.specs.Groups.{Face, faces, nth_face}
+use Rattle.pack_groups.specs.Index.{IsIndex}
+use Rattle.batch_sums.specs.Kept.{Sound, seen}
 use Rattle.batch_sums.specs.Changes.{is_added}
 use Rattle.batch_sums.specs.Invariant.{IsSettled, inside, outside, reaches_of, homes_of}
 use Rattle.batch_sums.proofs.Homes.{homes-seen, map-set_unseen, chained_as}

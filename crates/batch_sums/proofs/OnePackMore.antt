@@ -4,14 +4,14 @@ use Rattle.std.proofs.Common.{◌≡◌, ℕ, zero, suc, ◌+◌, ◌<◌, Bool,
 use Rattle.std.specs.List.{sum_by, count_by, remove}
 use Rattle.std.proofs.lemmas.List.Sums.{sum_by-set, sum_by-remove, sum_by_push}
 use Rattle.pack_judge.specs.declared.types.Pile.{Pile}
-use Rattle.batch_sums.specs.declared.batch.Batch.{Batch}
-use Rattle.batch_sums.specs.declared.grosses.Gross.{Gross}
+use Rattle.pack_groups.specs.declared.batch.Batch.{Batch}
+use Rattle.pack_groups.specs.declared.grosses.Gross.{Gross}
 use Rattle.batch_sums.specs.declared.types.Held.{Held}
-use Rattle.batch_sums.specs.Totals.{is_counted}
+use Rattle.pack_groups.specs.Population.{is_counted}
 use Rattle.pack_judge.specs.Piles.{same_pile}
-use Rattle.batch_sums.specs.Rising.{mass_of, HasMoreIf}
-use Rattle.batch_sums.specs.Groups.{Face, nth_face, threshold}
-use Rattle.batch_sums.specs.Running.{IsEntered, one_if_below}
+use Rattle.pack_groups.specs.Rising.{mass_of, HasMoreIf}
+use Rattle.pack_groups.specs.Groups.{Face, nth_face, threshold}
+use Rattle.pack_groups.specs.Running.{IsEntered, one_if_below}
 use Rattle.batch_sums.specs.Kept.{AddsUp, belongs, added_count, added_gross, added_tare, added_below, is_member}
 
 -- the packs `more` are those of `less` and one besides: whatever is summed

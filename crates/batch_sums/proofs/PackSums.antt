@@ -9,19 +9,12 @@ use Rattle.std.proofs.lemmas.Int.{ints}
 use Rattle.pack_judge.specs.declared.types.Pile.{Pile}
 use Rattle.pack_judge.specs.declared.types.Pile.TheVariants.{Passed, Rejected, Sampled, Voided}
 use Rattle.batch_sums.specs.declared.types.Held.{Held}
-use Rattle.batch_sums.specs.Totals.{is_counted, net_of, of_batch, in_pile, population, gross_sum, net_sum}
+use Rattle.pack_groups.specs.Population.{is_counted}
+use Rattle.batch_sums.specs.Totals.{net_of, of_batch, in_pile, population, gross_sum, net_sum}
 use Rattle.pack_judge.specs.Piles.{same_pile}
 use Rattle.batch_sums.specs.declared.types.Pack.{Pack}
-use Rattle.batch_sums.specs.Groups.{Face, at_least_0, nth_face, threshold}
+use Rattle.pack_groups.specs.Groups.{Face, at_least_0, nth_face, threshold}
 use Rattle.batch_sums.specs.Kept.{seen, belongs, added_count, added_gross, added_tare, added_below}
-
-pub sum_by-agree : {X : Type 0} (f g : X → ℕ) (xs : List X) → All (λ x. f x ≡ g x) xs
-    → sum_by f xs ≡ sum_by g xs
-sum_by-agree f g [] all = refl
-sum_by-agree f g (x ∷ xs) all =
-    let here = All-head (λ y. f y ≡ g y) x xs all in
-    let rest = sum_by-agree f g xs (All-tail (λ y. f y ≡ g y) x xs all) in
-    sum_by-cons f x xs ∙ omega (arith, here, rest) ∙ sym (sum_by-cons g x xs)
 
 pub sum_by-same : {X : Type 0} (f g : X → ℕ) (xs : List X) → ((x : X) → f x ≡ g x)
     → sum_by f xs ≡ sum_by g xs

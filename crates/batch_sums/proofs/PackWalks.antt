@@ -4,7 +4,8 @@ use Rattle.std.proofs.lemmas.Bool.{eq-eqb}
 use Rattle.std.proofs.lemmas.List.{append-nil, map-append, reverse-append, length-map, length-take-le, get_or-map, get_or-take, take-take, take-map, take_more}
 use Rattle.std.proofs.lemmas.List.Elements.{filter-append}
 use Rattle.batch_sums.specs.declared.types.Pack.{Pack}
-use Rattle.batch_sums.specs.Totals.{is_counted, of_batch, population}
+use Rattle.pack_groups.specs.Population.{is_counted}
+use Rattle.batch_sums.specs.Totals.{of_batch, population}
 use Rattle.batch_sums.specs.Kept.{reach_of}
 use Rattle.batch_sums.specs.Asked.{numbers_of}
 use Rattle.batch_sums.specs.Invariant.{homes_of}

@@ -10,13 +10,13 @@ use Rattle.std.proofs.lemmas.List.Sums.{sum_by-set, sum_by-cons}
 use Rattle.std.proofs.lemmas.Option.{slice_get_read, slice_get_within, same_Some}
 use Rattle.hall_limits.specs.declared.TheConstants.{MAX_GROSS}
 use Rattle.pack_judge.specs.declared.types.Pile.{Pile}
-use Rattle.batch_sums.specs.declared.batch.Batch.{Batch}
-use Rattle.batch_sums.specs.declared.group.Group.{Group}
+use Rattle.pack_groups.specs.declared.batch.Batch.{Batch}
+use Rattle.pack_groups.specs.declared.group.Group.{Group}
 use Rattle.batch_sums.specs.declared.types.Held.{Held}
-use Rattle.batch_sums.specs.Totals.{is_counted}
-use Rattle.batch_sums.specs.Rising.{mass_of, HasMoreIf}
-use Rattle.batch_sums.specs.Groups.{Face, face_of, faces, nth_face, IsJudged}
-use Rattle.batch_sums.specs.Running.{IsEntered, IsBounded, HasRoom, Covers, pile_sum}
+use Rattle.pack_groups.specs.Population.{is_counted}
+use Rattle.pack_groups.specs.Rising.{mass_of, HasMoreIf}
+use Rattle.pack_groups.specs.Groups.{Face, face_of, faces, nth_face, IsJudged}
+use Rattle.pack_groups.specs.Running.{IsEntered, IsBounded, HasRoom, Covers, pile_sum}
 use Rattle.batch_sums.specs.Kept.{AddsUp, Sound, IsGroup, seen, belongs}
 use Rattle.batch_sums.specs.Changes.{moved}
 use Rattle.batch_sums.proofs.OnePackMore.{Joins, joins_remove, joins_set}

@@ -7,12 +7,13 @@ use Rattle.std.proofs.lemmas.Int.{ints}
 use Rattle.hall_limits.specs.declared.TheConstants.{MAX_GROSS}
 use Rattle.pack_judge.specs.declared.types.Pile.{Pile}
 use Rattle.pack_judge.specs.declared.types.Pile.TheVariants.{Passed, Rejected, Sampled, Voided}
-use Rattle.batch_sums.specs.declared.batch.PileSums.{PileSums}
+use Rattle.pack_groups.specs.declared.batch.PileSums.{PileSums}
 use Rattle.batch_sums.specs.declared.types.Held.{Held}
-use Rattle.batch_sums.specs.Totals.{is_counted, in_pile, left_out, gross_sum}
+use Rattle.pack_groups.specs.Population.{is_counted}
+use Rattle.batch_sums.specs.Totals.{in_pile, left_out, gross_sum}
 use Rattle.pack_judge.specs.Piles.{same_pile}
-use Rattle.batch_sums.specs.Groups.{Face, at_least_0}
-use Rattle.batch_sums.specs.Running.{sum_in, shown_tallies, CountsOneMore, WeighsMore}
+use Rattle.pack_groups.specs.Groups.{Face, at_least_0}
+use Rattle.pack_groups.specs.Running.{sum_in, shown_tallies, CountsOneMore, WeighsMore}
 use Rattle.batch_sums.specs.Kept.{seen, IsTallied}
 use Rattle.batch_sums.specs.Asked.{piles_of}
 use Rattle.batch_sums.specs.Invariant.{outside}

@@ -10,17 +10,18 @@ use Rattle.std.proofs.lemmas.List.Elements.{All-push}
 use Rattle.hall_limits.specs.declared.TheConstants.{MAX_GROSS, MAX_TARE}
 use Rattle.balanced_tree.specs.Trees.{items, IsBalanced}
 use Rattle.balanced_tree.specs.declared.tree.Tree.{Tree}
-use Rattle.batch_sums.specs.declared.batch.Batch.{Batch}
-use Rattle.batch_sums.specs.declared.group.Group.{Group}
-use Rattle.batch_sums.specs.declared.group.Key.{Key}
+use Rattle.pack_groups.specs.declared.batch.Batch.{Batch}
+use Rattle.pack_groups.specs.declared.group.Group.{Group}
+use Rattle.pack_groups.specs.declared.group.Key.{Key}
 use Rattle.batch_sums.specs.declared.types.Held.{Held}
-use Rattle.batch_sums.specs.Totals.{is_counted}
+use Rattle.pack_groups.specs.Population.{is_counted}
 use Rattle.batch_sums.specs.declared.types.Pack.{Pack}
-use Rattle.batch_sums.specs.Rising.{HasMoreIf}
-use Rattle.batch_sums.specs.Running.{IsEntered, HasRoom}
+use Rattle.pack_groups.specs.Rising.{HasMoreIf}
+use Rattle.pack_groups.specs.Running.{IsEntered, HasRoom}
 use Rattle.batch_sums.specs.Invariant.{IsSettled, reaches_of, homes_of, befores_of}
-use Rattle.batch_sums.specs.Groups.{Face, face_of, faces, nth_face, IsJudged}
-use Rattle.batch_sums.specs.Kept.{Sound, IsGroup, IsIndex, IsOpened, HasKey, IsChained, seen}
+use Rattle.pack_groups.specs.Groups.{Face, face_of, faces, nth_face, IsJudged}
+use Rattle.pack_groups.specs.Index.{IsIndex, IsOpened, HasKey}
+use Rattle.batch_sums.specs.Kept.{Sound, IsGroup, IsChained, seen}
 use Rattle.pack_judge.specs.declared.types.Pile.{Pile}
 use Rattle.batch_sums.proofs.ChainLemmas.{chained_put}
 use Rattle.batch_sums.proofs.NumberPlaces.{place_behind}

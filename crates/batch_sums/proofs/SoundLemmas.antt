@@ -7,13 +7,13 @@ use Rattle.std.proofs.lemmas.List.{map-set}
 use Rattle.std.proofs.lemmas.List.Elements.{All-take, All-drop, All-append}
 use Rattle.std.proofs.lemmas.Option.{slice_get_cases, slice_get_within, same_Some}
 use Rattle.hall_limits.specs.declared.TheConstants.{MAX_GROSS, MAX_TARE}
-use Rattle.batch_sums.specs.declared.batch.Batch.{Batch}
-use Rattle.batch_sums.specs.declared.grosses.Gross.{Gross}
-use Rattle.batch_sums.specs.declared.group.Group.{Group}
+use Rattle.pack_groups.specs.declared.batch.Batch.{Batch}
+use Rattle.pack_groups.specs.declared.grosses.Gross.{Gross}
+use Rattle.pack_groups.specs.declared.group.Group.{Group}
 use Rattle.batch_sums.specs.declared.types.Held.{Held}
-use Rattle.batch_sums.specs.Groups.{Face, face_of, faces, nth_face, IsJudged}
+use Rattle.pack_groups.specs.Groups.{Face, face_of, faces, nth_face, IsJudged}
 use Rattle.batch_sums.specs.Kept.{AddsUp, Sound, IsGroup}
-use Rattle.batch_sums.proofs.Faces.{face-at}
+use Rattle.pack_groups.proofs.Faces.{face-at}
 use Rattle.batch_sums.proofs.OnePackMore.{HasGrosses}
 
 -- what stands at a place after a write

@@ -15,13 +15,13 @@ use Rattle.std.proofs.lemmas.Option.{slice_get_read, slice_get_within, slice_get
 use Rattle.annex_tables.specs.declared.TheConstants.{MAX_POPULATION}
 use Rattle.hall_limits.specs.declared.TheConstants.{MAX_TARE}
 use Rattle.batch_sums.specs.declared.sums.BatchSums.TheInside.{Inside}
-use Rattle.batch_sums.specs.declared.batch.Batch.{Batch}
-use Rattle.batch_sums.specs.declared.group.Group.{Group}
+use Rattle.pack_groups.specs.declared.batch.Batch.{Batch}
+use Rattle.pack_groups.specs.declared.group.Group.{Group}
 use Rattle.batch_sums.specs.declared.types.Held.{Held}
-use Rattle.batch_sums.specs.Totals.{is_counted}
+use Rattle.pack_groups.specs.Population.{is_counted}
 use Rattle.batch_sums.specs.declared.types.Pack.{Pack}
-use Rattle.batch_sums.specs.Groups.{Face, face_of, faces, nth_face, IsJudged}
-use Rattle.batch_sums.specs.Running.{HasShare, IsCorrected}
+use Rattle.pack_groups.specs.Groups.{Face, face_of, faces, nth_face, IsJudged}
+use Rattle.pack_groups.specs.Running.{HasShare, IsCorrected}
 use Rattle.batch_sums.specs.Kept.{Sound, IsGroup, is_member, seen, terms_of}
 use Rattle.batch_sums.specs.Changes.{HasFewPerGroup, group_population}
 use Rattle.batch_sums.specs.Invariant.{reaches_of}

@@ -16,15 +16,16 @@ use Rattle.std.proofs.lemmas.Option.{slice_get-map, slice_get_cases}
 use Rattle.hall_limits.specs.declared.TheConstants.{MAX_DAY}
 use Rattle.pack_judge.specs.declared.tares.Span.{Span}
 use Rattle.pack_judge.specs.Tares.{covers}
-use Rattle.batch_sums.specs.declared.batch.Batch.{Batch}
-use Rattle.batch_sums.specs.declared.group.Group.{Group}
+use Rattle.pack_groups.specs.declared.batch.Batch.{Batch}
+use Rattle.pack_groups.specs.declared.group.Group.{Group}
 use Rattle.batch_sums.specs.declared.types.Held.{Held}
 use Rattle.batch_sums.specs.Totals.{Terms}
 use Rattle.batch_sums.specs.declared.types.Pack.{Pack}
-use Rattle.batch_sums.specs.Groups.{Face, face_of, faces, nth_face, nth_rank, at_least_0}
-use Rattle.batch_sums.specs.Kept.{Sound, IsIndex, seen, terms_of}
+use Rattle.pack_groups.specs.Groups.{Face, face_of, faces, nth_face, nth_rank, at_least_0}
+use Rattle.pack_groups.specs.Index.{IsIndex}
+use Rattle.batch_sums.specs.Kept.{Sound, seen, terms_of}
 use Rattle.batch_sums.specs.Changes.{is_concerned, concerned, corrected, same_group, group_count}
-use Rattle.batch_sums.proofs.OrderLemmas.{below}
+use Rattle.pack_groups.proofs.OrderLemmas.{below}
 use Rattle.batch_sums.proofs.SoundLemmas.{face-found}
 use Rattle.batch_sums.proofs.GroupRanges.{any_counted, counted_any, bool_same, between_ranks, ranks_between, in_days, of_days}
 use Rattle.batch_sums.proofs.GroupCounts.{different_groups}

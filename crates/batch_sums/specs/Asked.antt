@@ -5,7 +5,7 @@ use Rattle.std.specs.List.{slice_get, All}
 use Rattle.pack_judge.specs.declared.types.Pile.TheVariants.{Passed, Rejected, Sampled, Voided}
 use Rattle.pack_judge.specs.declared.tares.Span.{Span}
 use Rattle.batch_sums.specs.declared.types.Pack.{Pack}
-use Rattle.batch_sums.specs.declared.types.Piles.{Piles}
+use Rattle.pack_groups.specs.declared.types.Piles.{Piles}
 use Rattle.batch_sums.specs.Totals.{in_pile, tally, Sums}
 use Rattle.batch_sums.specs.Changes.{concerned}
 

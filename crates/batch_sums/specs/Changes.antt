@@ -7,7 +7,8 @@ use Rattle.annex_tables.specs.declared.TheConstants.{MAX_POPULATION}
 use Rattle.pack_judge.specs.declared.types.Pile.{Pile}
 use Rattle.pack_judge.specs.declared.tares.Span.{Span}
 use Rattle.pack_judge.specs.Tares.{covers}
-use Rattle.batch_sums.specs.Totals.{Terms, is_counted}
+use Rattle.pack_groups.specs.Population.{is_counted}
+use Rattle.batch_sums.specs.Totals.{Terms}
 use Rattle.batch_sums.specs.declared.types.Pack.{Pack}
 
 -- a number from 0 to a limit

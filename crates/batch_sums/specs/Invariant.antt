@@ -6,13 +6,14 @@ use Rattle.std.specs.HashMap.{get, spare}
 use Rattle.balanced_tree.specs.Trees.{items, IsBalanced}
 use Rattle.batch_sums.specs.declared.sums.BatchSums.TheInside.{Inside}
 use Rattle.balanced_tree.specs.declared.tree.Tree.{Tree}
-use Rattle.batch_sums.specs.declared.batch.Batch.{Batch}
-use Rattle.batch_sums.specs.declared.group.Group.{Group}
+use Rattle.pack_groups.specs.declared.batch.Batch.{Batch}
+use Rattle.pack_groups.specs.declared.group.Group.{Group}
 use Rattle.batch_sums.specs.declared.types.Held.{Held}
 use Rattle.batch_sums.specs.declared.types.Pack.{Pack}
-use Rattle.batch_sums.specs.Groups.{faces}
-use Rattle.batch_sums.specs.Totals.{is_counted}
-use Rattle.batch_sums.specs.Kept.{Sound, IsIndex, IsChained, IsTallied, seen}
+use Rattle.pack_groups.specs.Groups.{faces}
+use Rattle.pack_groups.specs.Population.{is_counted}
+use Rattle.pack_groups.specs.Index.{IsIndex}
+use Rattle.batch_sums.specs.Kept.{Sound, IsChained, IsTallied, seen}
 
 -- how many packs count for a population, and how many don't
 abbrev pub inside : List Held → ℕ

@@ -1,19 +1,19 @@
 -- What is kept of the packs, and what always holds of it.
-use Rattle.std.specs.Prelude.{◌^◌, ◌≡◌, ℕ, ℤ, pos, ◌+◌, ◌<◌, ◌≤◌, ◌≤ℤ◌, Bool, ◌&&◌, ◌==◌, List, [], ◌∷◌, ◌++◌, ◌||◌, length, take, nat_lt, slice_index, count_by, Some, if◌then◌else◌}
+use Rattle.std.specs.Prelude.{◌^◌, ◌≡◌, ℕ, ℤ, pos, ◌+◌, ◌<◌, ◌≤ℤ◌, Bool, ◌&&◌, ◌==◌, List, [], ◌∷◌, ◌||◌, length, take, nat_lt, slice_index, count_by, Some, if◌then◌else◌}
 use Rattle.std.specs.List.{All, sum_by, slice_get}
-use Rattle.hall_limits.specs.declared.TheConstants.{MAX_GROSS, MAX_TARE, MAX_DAY}
+use Rattle.hall_limits.specs.declared.TheConstants.{MAX_GROSS, MAX_TARE}
 use Rattle.pack_judge.specs.declared.types.Pile.{Pile}
-use Rattle.batch_sums.specs.declared.batch.Batch.{Batch}
-use Rattle.batch_sums.specs.declared.batch.PileSums.{PileSums}
-use Rattle.batch_sums.specs.declared.group.Group.{Group}
-use Rattle.batch_sums.specs.declared.group.Key.{Key}
+use Rattle.pack_groups.specs.declared.batch.Batch.{Batch}
+use Rattle.pack_groups.specs.declared.batch.PileSums.{PileSums}
+use Rattle.pack_groups.specs.declared.group.Group.{Group}
 use Rattle.batch_sums.specs.declared.types.Held.{Held}
-use Rattle.batch_sums.specs.Rising.{IsRising, mass_of}
-use Rattle.batch_sums.specs.Totals.{Terms, is_counted}
+use Rattle.pack_groups.specs.Rising.{mass_of}
+use Rattle.pack_groups.specs.Population.{is_counted}
+use Rattle.batch_sums.specs.Totals.{Terms}
 use Rattle.pack_judge.specs.Piles.{same_pile}
 use Rattle.batch_sums.specs.declared.types.Pack.{Pack}
-use Rattle.batch_sums.specs.Groups.{Face, face_of, nth_face, faces, nth_rank, threshold, IsJudged}
-use Rattle.batch_sums.specs.Running.{sum_in, pile_sum, one_if_below}
+use Rattle.pack_groups.specs.Groups.{Face, nth_face, faces, threshold, IsJudged}
+use Rattle.pack_groups.specs.Running.{sum_in, pile_sum, one_if_below}
 
 abbrev pub terms_of : Batch → Terms
 terms_of batch = record { product = batch.product; limits = batch.limits }
@@ -109,11 +109,6 @@ pub record IsChained (reaches homes befores : List ℕ) : Type 0 where
   pub before : (place : ℕ) → place < length homes
       → slice_index befores place ≡ reach_of (slice_index homes place) (take place homes)
 
--- a key's numbers are within their ranges
-pub record IsKey (face : Face) : Type 0 where
-  pub day : pos face.key.day ≤ℤ MAX_DAY
-  pub batch : face.key.batch < 2 ^ 32
-
 -- batches, groups and packs fit together
 pub record Sound (batches : List Batch) (groups : List Group) (held : List Held) : Type 0 where
   pub group : (place : ℕ) (group : Group) → slice_get groups place ≡ Some group
@@ -123,27 +118,3 @@ pub record Sound (batches : List Batch) (groups : List Group) (held : List Held)
   pub grouped : All (λ pack. pack.group < length groups) held
   pub light : All (λ pack. pos pack.gross ≤ℤ MAX_GROSS) held
   pub few : length held < 2 ^ 32
-
--- the order has each group once, by rising keys that are all different
-pub record IsIndex (some : List Face) (order : List ℕ) : Type 0 where
-  pub rising : IsRising (nth_rank some) order
-  pub within : All (λ place. place < length some) order
-  pub once : (place : ℕ) → place < length some → count_by (λ other. other == place) order ≡ 1
-  pub distinct : (rank : ℕ) → count_by (λ place. nth_rank some place == rank) order ≤ 1
-  pub keys : (place : ℕ) → place < length some → IsKey (nth_face some place)
-  pub long : length order ≡ length some
-
--- the group at a place has a key
-abbrev pub HasKey : List Group → ℕ → Key → Type 0
-HasKey groups place key =
-    (group : Group) × (slice_get groups place ≡ Some group) × (group.key ≡ key)
-
--- a group without packs was put behind the others
-pub record IsOpened (old new : List Group) (place : ℕ) (key : Key) (tare : ℕ) : Type 0 where
-  pub group : Group
-  pub place_is : place ≡ length old
-  pub is : new ≡ old ++ group ∷ []
-  pub face : face_of group ≡ record { key = key; tare = tare }
-  pub grosses : group.grosses ≡ []
-  pub nonstandard : group.nonstandard ≡ 0
-  pub inadequate : group.inadequate ≡ 0

@@ -1,25 +1,20 @@
 -- Packs as a caller sees them, and the totals of a batch: filters and sums over the packs that were
 -- added. All masses are mg.
-use Rattle.std.specs.Prelude.{ℕ, ℤ, ◌-ℤ◌, Bool, true, false, not, ◌==◌, List, length, filter, count_by, int_lt, Option, option_map}
+use Rattle.std.specs.Prelude.{ℕ, ℤ, ◌-ℤ◌, not, ◌==◌, List, length, filter, count_by, int_lt, Option, option_map}
 use Rattle.std.specs.List.{slice_get}
 use Rattle.annex_tables.specs.declared.types.Limits.{Limits}
 use Rattle.pack_judge.specs.declared.types.Pile.{Pile}
 use Rattle.pack_judge.specs.declared.types.Pile.TheVariants.{Passed, Rejected, Sampled, Voided}
 use Rattle.pack_judge.specs.declared.types.Tally.{Tally}
 use Rattle.pack_judge.specs.Piles.{pile_members, mass_sum, pile_tally}
+use Rattle.pack_groups.specs.Population.{is_counted}
 use Rattle.batch_sums.specs.declared.types.Pack.{Pack}
-use Rattle.batch_sums.specs.declared.types.Totals.{Totals}
+use Rattle.pack_groups.specs.declared.types.Totals.{Totals}
 
 -- a batch that was added: whose product it is, and the limits that its nets are held against
 pub record Terms : Type 0 where
   pub product : ℕ
   pub limits : Limits
-
--- a pack counts for the population where it passed or was sampled
-abbrev pub is_counted : Pile → Bool
-is_counted Passed = true
-is_counted Sampled = true
-is_counted _ = false
 
 -- a gross less the tare of its batch and day as it now is
 abbrev pub net_of : Pack → ℤ

@@ -3,16 +3,10 @@
 //! packs. All masses are whole milligrams.
 #![tactic(auto)]
 
-mod batch;
-mod days;
-mod grosses;
-mod group;
-mod order;
 mod pool;
-mod steps;
 mod sums;
 mod types;
 
-pub use steps::{STEPS_PER_GROUP, Steps};
+pub use pack_groups::{Piles, STEPS_PER_GROUP, Steps, Totals};
 pub use sums::BatchSums;
-pub use types::{NoMemory, Pack, Piles, Totals};
+pub use types::{NoMemory, Pack};

@@ -2,11 +2,9 @@ ghost use Rattle.std.specs.Prelude.{◌≡◌, ℕ, ◌+◌, ◌^◌, ◌<◌, �
 ghost use Rattle.std.specs.HashMap.{get, spare};
 ghost use Rattle.batch_sums.specs.Invariant.{HasGrown};
 
-use crate::batch::Batch;
-use crate::grosses::Gross;
-use crate::group::Group;
 use crate::types::{Held, NoMemory};
 use balanced_tree::Node;
+use pack_groups::{Batch, Gross, Group};
 use std::alloc::Global;
 use std::collections::HashMap;
 

@@ -1,20 +1,19 @@
 ghost use Rattle.std.specs.Prelude.{◌≡◌, ℕ, List, pos, find, map, ◌==◌, ◌*◌, max, Some, IsTrue, true, false, ◌≤ℤ◌, ◌+◌, ◌-◌, ◌<◌, ◌≤◌, [], ◌∷◌, ◌++◌, length, IsOk, IfOk, OnOk, OnErr, if◌then◌else◌};
 ghost use Rattle.batch_sums.specs.Kept.{counted_number};
-ghost use Rattle.batch_sums.specs.Totals.{is_counted, population, left_out, of_batch, kept_totals, kept_limits};
+ghost use Rattle.pack_groups.specs.Population.{is_counted};
+ghost use Rattle.batch_sums.specs.Totals.{population, left_out, of_batch, kept_totals, kept_limits};
 ghost use Rattle.batch_sums.specs.Asked.{numbers_of, piles_of, concerned_in, chosen_batches, IsLeast, IsLeastWith};
 ghost use Rattle.batch_sums.specs.Changes.{is_added, moved, corrected, concerned, group_count, IsUpTo, IsTareOf, HasFewPerGroup};
 
-use crate::batch::{Batch, PileSums, counts_for_population};
-use crate::days::days_of;
-use crate::grosses::Gross;
-use crate::group::{Group, Key};
-use crate::order::{Stretch, find_or_open, next_lesser, stretch_of};
 use crate::pool::{place_of, push_pack, reserve_nodes, reserve_places};
-use crate::steps::{STEPS_PER_GROUP, Steps};
-use crate::types::{Held, NoMemory, Pack, Piles, Totals};
+use crate::types::{Held, NoMemory, Pack};
 use annex_tables::Limits;
 use balanced_tree::{Node, Tree};
 use hall_limits::{MAX_DAY, MAX_GROSS, MAX_TARE};
+use pack_groups::{
+    Batch, Gross, Group, Key, PileSums, Piles, STEPS_PER_GROUP, Steps, Stretch, Totals,
+    counts_for_population, days_of, find_or_open, next_lesser, stretch_of,
+};
 use pack_judge::{Pile, Span};
 use std::alloc::{AllocError, Global};
 use std::collections::HashMap;
@@ -63,7 +62,7 @@ impl Model for BatchSums {
 
     ghost Value = { Sums };
 
-    ghost use Rattle.batch_sums.specs.Groups.{faces};
+    ghost use Rattle.pack_groups.specs.Groups.{faces};
     ghost use Rattle.batch_sums.specs.Kept.{seen, terms_of};
     ghost use Rattle.batch_sums.specs.Invariant.{IsKept};
 

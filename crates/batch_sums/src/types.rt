@@ -1,29 +1,8 @@
-use pack_judge::{Pile, Tally};
+use pack_judge::Pile;
 use std::alloc::AllocError;
 
 /// Memory was refused.
 pub type NoMemory = AllocError;
-
-/// The totals of a batch. All masses are in mg.
-#[derive(Clone, Copy, PartialEq, Eq)]
-pub struct Totals {
-    /// The packs that passed.
-    pub passed: Tally,
-    /// The packs that were rejected.
-    pub rejected: Tally,
-    /// The packs that were drawn for a reference test.
-    pub sampled: Tally,
-    /// The packs that were taken back.
-    pub voided: Tally,
-    /// How many packs the population has: those that passed or were sampled.
-    pub population: u32,
-    /// The sum of the nets of the population.
-    pub net: i64,
-    /// How many packs of the population have a net below `t1`, inadequate ones among them.
-    pub nonstandard: u32,
-    /// How many packs of the population have a net below `t2`.
-    pub inadequate: u32,
-}
 
 /// A pack that was added, as it now is. All masses are in mg.
 #[derive(Clone, Copy, PartialEq, Eq)]
@@ -40,19 +19,6 @@ pub struct Pack {
     pub tare: i64,
     /// The pile that it lies in.
     pub pile: Pile,
-}
-
-/// The tallies of the packs of all batches together, a pile each. All masses are in mg.
-#[derive(Clone, Copy, PartialEq, Eq)]
-pub struct Piles {
-    /// The packs that passed.
-    pub passed: Tally,
-    /// The packs that were rejected.
-    pub rejected: Tally,
-    /// The packs that were drawn for a reference test.
-    pub sampled: Tally,
-    /// The packs that were taken back.
-    pub voided: Tally,
 }
 
 // A pack as it is kept. What it shares with the other packs of its batch and day stands in its

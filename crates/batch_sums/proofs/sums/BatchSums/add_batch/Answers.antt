@@ -2,7 +2,7 @@ use Rattle.std.proofs.Common.{◌≡◌, ◌++◌, ◌∷◌, [], sym, subst, ap
 use Rattle.batch_sums.specs.Kept.{Sound}
 use Rattle.batch_sums.specs.Totals.{Sums}
 use Rattle.std.proofs.lemmas.List.{map-append}
-use Rattle.batch_sums.specs.declared.batch.Batch.{Batch}
+use Rattle.pack_groups.specs.declared.batch.Batch.{Batch}
 use Rattle.batch_sums.specs.Invariant.{reaches_of}
 use Rattle.batch_sums.proofs.ChainLemmas.{chained_batch}
 use Rattle.batch_sums.proofs.Homes.{chained_as}

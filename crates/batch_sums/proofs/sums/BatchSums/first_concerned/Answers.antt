@@ -6,15 +6,15 @@ use Rattle.std.proofs.lemmas.List.{length-map}
 use Rattle.std.proofs.lemmas.List.Edits.{between_more}
 use Rattle.std.proofs.lemmas.Option.{slice_get_read, slice_get_within, slice_get-get_or, none-some, get_or_from_slice_get, unwrap_or-slice_get}
 use Rattle.balanced_tree.specs.Trees.{items}
-use Rattle.batch_sums.specs.declared.group.Group.{Group}
-use Rattle.batch_sums.specs.Groups.{Face, face_of, faces, nth_face, nth_rank, IsFrom}
+use Rattle.pack_groups.specs.declared.group.Group.{Group}
+use Rattle.pack_groups.specs.Groups.{Face, face_of, faces, nth_face, nth_rank, IsFrom}
 use Rattle.batch_sums.specs.Kept.{terms_of}
 use Rattle.batch_sums.specs.Totals.{Sums}
 use Rattle.batch_sums.specs.Asked.{IsLeast}
 use Rattle.batch_sums.proofs.ChosenBatches.{flag, chosen_homes, homes_chosen, homes_left, least_same, concerning}
-use Rattle.batch_sums.proofs.DayEnds.{walked_on}
-use Rattle.batch_sums.proofs.NewGroups.{All-found}
-use Rattle.batch_sums.proofs.OrderLemmas.{below, below-le-length}
+use Rattle.batch_sums.proofs.PassedGroups.{walked_on}
+use Rattle.pack_groups.proofs.NewGroups.{All-found}
+use Rattle.pack_groups.proofs.OrderLemmas.{below, below-le-length}
 use Rattle.batch_sums.proofs.SoundLemmas.{face-found}
 use Rattle.batch_sums.proofs.sums.BatchSums.first_concerned.Goals as goal
 

@@ -1,7 +1,7 @@
 use Rattle.std.proofs.Common.{◌-◌, ◌≤◌}
 use Rattle.std.specs.List.{between}
 use Rattle.balanced_tree.specs.Trees.{items}
-use Rattle.batch_sums.specs.Groups.{faces}
+use Rattle.pack_groups.specs.Groups.{faces}
 use Rattle.batch_sums.specs.Asked.{IsLeast}
 use Rattle.batch_sums.proofs.ChosenBatches.{chosen_homes}
 use Rattle.batch_sums.proofs.sums.BatchSums.first_concerned.Given as goal

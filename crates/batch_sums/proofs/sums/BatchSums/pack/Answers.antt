@@ -6,8 +6,9 @@ use Rattle.std.specs.Option.{option_and_then}
 use Rattle.std.proofs.lemmas.Int.{ints}
 use Rattle.std.proofs.lemmas.List.{length-map}
 use Rattle.std.proofs.lemmas.Option.{slice_get_read, slice_get-map}
-use Rattle.batch_sums.specs.Groups.{Face, face_of, faces}
-use Rattle.batch_sums.specs.Kept.{seen, IsKey}
+use Rattle.pack_groups.specs.Groups.{Face, face_of, faces}
+use Rattle.pack_groups.specs.Index.{IsKey}
+use Rattle.batch_sums.specs.Kept.{seen}
 use Rattle.batch_sums.specs.Totals.{Sums}
 use Rattle.batch_sums.proofs.NumberPlaces.{find-numbered}
 use Rattle.batch_sums.proofs.PileMoves.{in_group, light_pack, at_group, kept_group}

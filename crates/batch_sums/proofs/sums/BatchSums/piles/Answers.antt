@@ -1,5 +1,5 @@
 use Rattle.std.proofs.Common.{ap, sym, ◌∙◌, arith}
-use Rattle.batch_sums.specs.Groups.{faces}
+use Rattle.pack_groups.specs.Groups.{faces}
 use Rattle.batch_sums.specs.Totals.{Sums}
 use Rattle.batch_sums.specs.Asked.{piles_of}
 use Rattle.batch_sums.proofs.PileTallies.{told_piles, light_lying}

@@ -2,10 +2,10 @@ use Rattle.std.proofs.Common.{◌≡◌, ◌+◌, ◌-◌, ◌<◌, length, map,
 use Rattle.std.specs.List.{slice_get}
 use Rattle.std.proofs.lemmas.List.{length-map, get_or-map}
 use Rattle.std.proofs.lemmas.Option.{slice_get_read, slice_get-map, get_or_from_slice_get}
-use Rattle.batch_sums.specs.declared.batch.Batch.{Batch}
+use Rattle.pack_groups.specs.declared.batch.Batch.{Batch}
 use Rattle.batch_sums.specs.declared.types.Held.{Held}
 use Rattle.batch_sums.specs.declared.types.Pack.{Pack}
-use Rattle.batch_sums.specs.Groups.{faces}
+use Rattle.pack_groups.specs.Groups.{faces}
 use Rattle.batch_sums.specs.Kept.{terms_of, seen, reach_of}
 use Rattle.batch_sums.specs.Totals.{Sums}
 use Rattle.batch_sums.specs.Invariant.{homes_of, reaches_of}

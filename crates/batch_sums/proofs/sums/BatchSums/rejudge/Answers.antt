@@ -7,13 +7,13 @@ use Rattle.std.proofs.lemmas.Int.{ints}
 use Rattle.std.proofs.lemmas.Option.{slice_get_within, slice_get-get_or, none-some, get_or_from_slice_get}
 use Rattle.balanced_tree.specs.Trees.{items}
 use Rattle.balanced_tree.specs.declared.tree.Tree.{Tree}
-use Rattle.batch_sums.specs.declared.group.Group.{Group}
+use Rattle.pack_groups.specs.declared.group.Group.{Group}
 use Rattle.batch_sums.specs.declared.types.Held.{Held}
-use Rattle.batch_sums.specs.Groups.{face_of, faces, nth_rank}
+use Rattle.pack_groups.specs.Groups.{face_of, faces, nth_rank}
 use Rattle.batch_sums.specs.Totals.{Sums}
 use Rattle.batch_sums.specs.Changes.{concerned, group_count, HasFewPerGroup}
-use Rattle.batch_sums.proofs.OrderLemmas.{below, below-le-length}
-use Rattle.batch_sums.proofs.NewGroups.{All-found}
+use Rattle.pack_groups.proofs.OrderLemmas.{below, below-le-length}
+use Rattle.pack_groups.proofs.NewGroups.{All-found}
 use Rattle.batch_sums.proofs.Underway.{home_there, has_share, underway_next}
 use Rattle.batch_sums.proofs.CorrectedSums.{kept_after}
 use Rattle.batch_sums.proofs.WholeCorrection.{packs_corrected, visited_few}
@@ -217,12 +217,12 @@ returns-clause-packs g c =
     let mass : pos (Rattle.std.proofs.Math.IntN.nat_abs (to_z w64 (of_z w64 c.args.tare)))
     ≡ c.args.tare = grind (arith, ints, c.requires.tare) in
     let same = subst (λ place. (other : ℕ)
-    → Rattle.batch_sums.specs.Groups.nth_face
+    → Rattle.pack_groups.specs.Groups.nth_face
     (faces c.loop-place.self-inside.groups.items) other
     ≡ Rattle.batch_sums.proofs.Underway.face_by
     (between c.stretch_of-first.result.first place order)
     (Rattle.std.proofs.Math.IntN.nat_abs (to_z w64 (of_z w64 c.args.tare))) other
-    (Rattle.batch_sums.specs.Groups.nth_face (faces gs) other)) at under.face in
+    (Rattle.pack_groups.specs.Groups.nth_face (faces gs) other)) at under.face in
     rw (← c.self.view_is)
     (ap (λ (v : Rattle.std.proofs.Common.Vec Held
     Rattle.std.specs.declared.alloc.Global.Global). map

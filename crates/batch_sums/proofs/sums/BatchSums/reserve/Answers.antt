@@ -1,7 +1,8 @@
 use Rattle.std.proofs.Common.{◌≤◌, refl, ap, sym, ◌∙◌, arith}
 use Rattle.std.proofs.lemmas.List.Sums.{count_by-le-length}
-use Rattle.batch_sums.specs.Totals.{Sums, is_counted, left_out}
-use Rattle.batch_sums.specs.Groups.{faces}
+use Rattle.pack_groups.specs.Population.{is_counted}
+use Rattle.batch_sums.specs.Totals.{Sums, left_out}
+use Rattle.pack_groups.specs.Groups.{faces}
 use Rattle.batch_sums.specs.Invariant.{inside}
 use Rattle.batch_sums.proofs.PileTallies.{left_lying, few_outside, outside_seen}
 use Rattle.batch_sums.proofs.Room.{kept_on}

@@ -5,14 +5,14 @@ use Rattle.batch_sums.specs.declared.types.Held.{Held}
 use Rattle.batch_sums.proofs.NumberPlaces.{found_nowhere}
 use Rattle.std.proofs.lemmas.List.{map-set}
 use Rattle.hall_limits.specs.declared.TheConstants.{MAX_TARE}
-use Rattle.batch_sums.specs.Groups.{Face, faces, IsJudged}
-use Rattle.batch_sums.specs.Running.{IsEntered}
+use Rattle.pack_groups.specs.Groups.{Face, faces, IsJudged}
+use Rattle.pack_groups.specs.Running.{IsEntered}
 use Rattle.batch_sums.specs.Kept.{terms_of}
 use Rattle.batch_sums.specs.Totals.{Sums}
 use Rattle.batch_sums.specs.Changes.{is_added}
 use Rattle.batch_sums.proofs.PileMoves.{joins, in_group, kept_group, batch_there, has_gross, at_batch, judged_before, covers, room_to, few_less, sound_moved, faces_moved, moved_is}
 use Rattle.batch_sums.proofs.Numbers.{added_is, number_at, inside_moved, outside_moved, settled_moved}
-use Rattle.batch_sums.specs.declared.batch.Batch.{Batch}
+use Rattle.pack_groups.specs.declared.batch.Batch.{Batch}
 use Rattle.batch_sums.specs.Invariant.{reaches_of}
 use Rattle.batch_sums.proofs.OnePackMore.{joins_set}
 use Rattle.batch_sums.proofs.PileTallies.{tallied_in, tallied_out, some_lying, heavy_lying, few_lying, light_lying}

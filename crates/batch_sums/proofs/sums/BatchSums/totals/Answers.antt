@@ -2,7 +2,7 @@ use Rattle.std.proofs.Common.{◌≡◌, length, Some, refl, ap, sym, ◌∙◌,
 use Rattle.std.specs.List.{slice_get}
 use Rattle.std.proofs.lemmas.List.{length-map}
 use Rattle.std.proofs.lemmas.Option.{slice_get_read, slice_get-map}
-use Rattle.batch_sums.specs.Groups.{faces}
+use Rattle.pack_groups.specs.Groups.{faces}
 use Rattle.batch_sums.specs.Kept.{terms_of}
 use Rattle.batch_sums.specs.Totals.{Sums}
 use Rattle.batch_sums.proofs.BatchTotals.{tared, bounded, told}

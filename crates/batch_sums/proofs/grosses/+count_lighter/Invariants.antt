@@ -1,5 +1,0 @@
-use Rattle.balanced_tree.specs.Trees.{height_of}
-use Rattle.batch_sums.proofs.grosses.+count_lighter.Given as goal
-
-abbrev pub decreases-count_lighter : goal.decreases-count_lighter
-decreases-count_lighter g l = height_of l.tree.now

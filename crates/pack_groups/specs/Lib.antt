@@ -1,0 +1,5 @@
+pub mod Rising
+pub mod Population
+pub mod Groups
+pub mod Running
+pub mod Index

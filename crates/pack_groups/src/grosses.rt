@@ -1,0 +1,125 @@
+ghost use Rattle.std.specs.Prelude.{◌≡◌, ℕ, Bool, ◌+◌, ◌^◌, ◌<◌, ◌≤◌, ◌==◌, ◌&&◌, [], length, nat_lt, count_by, if◌then◌else◌, Some, slice_get};
+ghost use Rattle.balanced_tree.specs.Trees.{items, height_of, IsBalanced};
+ghost use Rattle.pack_groups.specs.Rising.{IsRising, mass_of, HasOneMore};
+
+use crate::steps::Steps;
+use annex_tables::MAX_POPULATION;
+use balanced_tree::{Node, Tree, insert, remove};
+use std::marker::{Brand, Model};
+use std::mem;
+use std::sync::ledger::{Blank, Ledger};
+
+/// The gross of a pack in mg. Only `Grosses::less` looks at it.
+#[derive(Clone, Copy, Default)]
+pub struct Gross {
+    mass: u32,
+}
+
+/// The grosses of the population of a group, the lightest first.
+#[derive(Drop)]
+pub struct Grosses {
+    tree: Tree<Gross>,
+}
+
+impl Model for Grosses {
+    ghost use Rattle.std.specs.Prelude.{List, ◌<◌, ◌^◌, length};
+    ghost use Rattle.pack_groups.specs.declared.grosses.Gross.{Gross};
+
+    ghost Value = { List Gross };
+
+    ghost use Rattle.balanced_tree.specs.Trees.{items, IsBalanced};
+    ghost use Rattle.pack_groups.specs.Rising.{IsRising, mass_of};
+
+    ghost view = { λ g. items g.tree };
+
+    ghost invariant = { λ g.
+        IsBalanced g.tree × IsRising mass_of (items g.tree) × (length (items g.tree) < 2 ^ 32) };
+}
+
+impl Grosses {
+    /// No gross.
+    pub fn new() -> Grosses
+        ensures { result ≡ [] }
+    {
+        Grosses { tree: Tree::Leaf }
+    }
+
+    /// How many grosses there are.
+    #[tactic(auto, using(balanced_tree::proofs::Heights::count_is))]
+    pub fn count(&self) -> u32
+        ensures { result ≡ length self.now }
+    {
+        self.tree.count()
+    }
+
+    // Whether a gross is below a limit in mg: the only look at a gross, and one step.
+    fn less<L: Ledger>(node: &Node<Gross>, limit: u32, steps: &mut Steps<L>) -> bool
+        ensures value { result ≡ nat_lt (mass_of node.now.item) limit }
+        ensures step { steps.new ≡ steps.old + 1 }
+    {
+        steps.tick();
+        node.item.mass < limit
+    }
+
+    /// How many grosses are below a limit in mg, in at most 18 steps for 10 000 grosses.
+    #[tactic(auto, using(balanced_tree::proofs::Heights::lower_than_19))]
+    pub fn count_below<L: Ledger>(&self, limit: u32, steps: &mut Steps<L>) -> u32
+        ensures value { result ≡ count_by (λ gross. nat_lt (mass_of gross) limit) self.now }
+        ensures cost { length self.now ≤ MAX_POPULATION → steps.new ≤ steps.old + 18 }
+    {
+        count_lighter(&self.tree, limit, steps)
+    }
+
+    // Where a gross stands, or would stand.
+    fn place<L: Ledger>(&self, gross: u32, blank: Blank) -> u32
+        requires name { blank.name ≡ L.name }
+        requires parts { blank.parts ≡ L.parts }
+        requires some { 0 < blank.parts }
+        ensures { result ≡ count_by (λ other. nat_lt (mass_of other) gross) self.now }
+    {
+        let mut steps: Steps<L> = Steps::new(blank);
+        self.count_below(gross, &mut steps)
+    }
+
+    /// Puts a gross in mg among the others, into a spare node.
+    pub fn insert(&mut self, gross: u32, mut node: Box<Node<Gross>>)
+        requires few { length self.old + 1 < 2 ^ 32 }
+        ensures { HasOneMore gross self.old self.new }
+    {
+        let place = self.place::<Brand>(gross, Blank::new(1));
+        node.item = Gross { mass: gross };
+        let tree = mem::replace(&mut self.tree, Tree::Leaf);
+        self.tree = insert(tree, place, node);
+    }
+
+    /// Takes a gross in mg out of the others, and gives its node back.
+    pub fn remove(&mut self, gross: u32) -> Box<Node<Gross>>
+        requires contained { 0 < count_by (λ other. mass_of other == gross) self.old }
+        ensures { HasOneMore gross self.new self.old }
+    {
+        let place = self.place::<Brand>(gross, Blank::new(1));
+        let tree = mem::replace(&mut self.tree, Tree::Leaf);
+        let (rest, node) = remove(tree, place);
+        self.tree = rest;
+        node
+    }
+}
+
+// How many grosses of a tree are below a limit: one step a level.
+#[tactic(auto, using(crate::proofs::Descents::descending))]
+fn count_lighter<L: Ledger>(tree: &Tree<Gross>, limit: u32, steps: &mut Steps<L>) -> u32
+    requires balanced { IsBalanced tree.now }
+    requires rising { IsRising mass_of (items tree.now) }
+    requires few { length (items tree.now) < 2 ^ 32 }
+    ensures value { result ≡ count_by (λ gross. nat_lt (mass_of gross) limit) (items tree.now) }
+    ensures cost { steps.new ≤ steps.old + height_of tree.now }
+{
+    let Some(root) = tree.root() else {
+        return 0;
+    };
+    if Grosses::less(root, limit, steps) {
+        root.left.count() + 1 + count_lighter(&root.right, limit, steps)
+    } else {
+        count_lighter(&root.left, limit, steps)
+    }
+}
