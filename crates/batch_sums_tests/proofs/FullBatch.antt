@@ -8,7 +8,8 @@ use Rattle.std.proofs.lemmas.List.Elements.{All-nil, All-head, All-tail, All-pus
 use Rattle.std.proofs.lemmas.List.Sums.{count_by-le-length}
 use Rattle.annex_tables.specs.declared.TheConstants.{MAX_POPULATION}
 use Rattle.hall_limits.specs.declared.TheConstants.{MAX_DAY, MAX_TARE}
-use Rattle.batch_sums.specs.Totals.{Terms, is_counted, Sums}
+use Rattle.pack_groups.specs.Population.{is_counted}
+use Rattle.batch_sums.specs.Totals.{Terms, Sums}
 use Rattle.batch_sums.specs.declared.types.Pack.{Pack}
 use Rattle.batch_sums.specs.Changes.{same_group, group_count, HasFewPerGroup}
 use Rattle.batch_sums_tests.specs.Halls.{Fits, IsKept}

@@ -6,7 +6,7 @@ use Rattle.std.specs.Option.{option_and_then}
 use Rattle.std.proofs.lemmas.Bool.{cases_Bool, eqb-true, eq-eqb}
 use Rattle.std.proofs.lemmas.Bool.Decides.{nat_tests}
 use Rattle.batch_sums.specs.declared.types.Pack.{Pack}
-use Rattle.batch_sums.specs.Totals.{is_counted}
+use Rattle.pack_groups.specs.Population.{is_counted}
 use Rattle.batch_sums.specs.Changes.{is_added, moved}
 use Rattle.pack_judge.specs.declared.types.Pile.{Pile}
 use Rattle.book_words.specs.declared.act.Prior.{Prior}

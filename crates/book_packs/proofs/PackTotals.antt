@@ -7,6 +7,7 @@ use Rattle.std.proofs.lemmas.Option.{slice_get-map}
 use Rattle.pack_judge.specs.declared.types.Pile.{Pile}
 use Rattle.pack_judge.specs.declared.types.Pile.TheVariants.{Passed, Rejected, Sampled, Voided}
 use Rattle.batch_sums.specs.declared.types.Pack.{Pack}
+use Rattle.pack_groups.specs.Population as groups
 use Rattle.batch_sums.specs.Totals as sums
 use Rattle.batch_sums.specs.Asked as asked
 use Rattle.batch_sums.specs.Totals.{Sums, kept_totals}
@@ -34,7 +35,7 @@ use Rattle.book_words.proofs.PileLemmas.{unsampled}
 
 -- a sample takes no pack out of the population
 pub counted_is : (pile : Pile) (is_in : Bool) → same_pile pile Sampled ≡ false
-    → sums.is_counted (pile_with_sample pile is_in) ≡ same_pile pile Passed
+    → groups.is_counted (pile_with_sample pile is_in) ≡ same_pile pile Passed
 counted_is Passed true h = refl
 counted_is Passed false h = refl
 counted_is Rejected is_in h = refl
@@ -42,7 +43,7 @@ counted_is Sampled is_in h = absurd (cc)
 counted_is Voided is_in h = refl
 
 pub counted_among : (entries : List Entry) (reading : Reading)
-    → sums.is_counted (pile_of entries reading) ≡ is_counted reading
+    → groups.is_counted (pile_of entries reading) ≡ is_counted reading
 counted_among entries reading =
     counted_is (unsampled_pile reading) (is_sampled entries reading)
     (unsampled reading.voided reading.signal reading.next_prior)
@@ -109,7 +110,7 @@ module _ (entries : List Entry) where
       → sums.population (map (pack_of entries) (readings_of_batch entries name))
       ≡ map (pack_of entries) (population entries name)
   population_is name =
-      filter-map (λ (pack : Pack). sums.is_counted pack.pile) (pack_of entries)
+      filter-map (λ (pack : Pack). groups.is_counted pack.pile) (pack_of entries)
       (readings_of_batch entries name)
       ∙ ap (λ (test : Reading → Bool). map (pack_of entries)
       (filter test (readings_of_batch entries name)))

@@ -7,8 +7,9 @@ use Rattle.pack_judge.specs.declared.types.Signal.{Signal}
 use Rattle.pack_judge.specs.declared.types.Signal.TheVariants.{Pass, Reject}
 use Rattle.batch_sums.specs.declared.types.Pack.{Pack}
 use Rattle.annex_tables.specs.declared.types.Limits.{Limits}
-use Rattle.batch_sums.specs.declared.types.Totals.{Totals}
-use Rattle.batch_sums.specs.Totals.{is_counted, net_of}
+use Rattle.pack_groups.specs.declared.types.Totals.{Totals}
+use Rattle.pack_groups.specs.Population.{is_counted}
+use Rattle.batch_sums.specs.Totals.{net_of}
 use Rattle.batch_sums.specs.Changes.{moved}
 use Rattle.book_words.specs.declared.act.Prior.{Prior}
 use Rattle.book_words.specs.declared.act.Prior.TheVariants.{Stayed, Unknown}

@@ -3,8 +3,8 @@ use Rattle.std.specs.Prelude.{ℕ, Bool, List, length, map, find, Option, option
 use Rattle.std.specs.Option.{option_and_then}
 use Rattle.pack_judge.specs.declared.types.Pile.TheVariants.{Passed, Rejected, Sampled, Voided}
 use Rattle.batch_sums.specs.declared.types.Pack.{Pack}
-use Rattle.batch_sums.specs.declared.types.Piles.{Piles}
-use Rattle.batch_sums.specs.declared.types.Totals.{Totals}
+use Rattle.pack_groups.specs.declared.types.Piles.{Piles}
+use Rattle.pack_groups.specs.declared.types.Totals.{Totals}
 use Rattle.book_words.specs.declared.name.Name.{Name}
 use Rattle.book_words.specs.declared.act.Act.{Act}
 use Rattle.book_words.specs.declared.act.Entry.{Entry}

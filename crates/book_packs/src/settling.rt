@@ -1,7 +1,8 @@
 ghost use Rattle.std.specs.Prelude.{◌≡◌, int_lt, ◌<◌, ◌^◌, ◌==◌, find};
 ghost use Rattle.std.specs.List.{All};
 ghost use Rattle.std.specs.Option.{option_and_then};
-ghost use Rattle.batch_sums.specs.Totals.{is_counted, net_of};
+ghost use Rattle.pack_groups.specs.Population.{is_counted};
+ghost use Rattle.batch_sums.specs.Totals.{net_of};
 ghost use Rattle.book_packs.specs.Settling.{takes_out, pile_left, leaving, settled, signal_pile, less_if, met_without, met_less, if_counts_for, sampled_one, sampled};
 
 use crate::types::AtWeighing;

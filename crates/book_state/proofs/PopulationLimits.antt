@@ -9,7 +9,7 @@ use Rattle.std.proofs.lemmas.List.Sums.{count_by-le-length, length-filter}
 use Rattle.annex_tables.specs.declared.TheConstants.{MAX_POPULATION}
 use Rattle.annex_tables.specs.Errors.{error_of, tolerable_error}
 use Rattle.reference_test.proofs.Integers.{*ℤ--ℤ}
-use Rattle.batch_sums.specs.declared.types.Totals.{Totals}
+use Rattle.pack_groups.specs.declared.types.Totals.{Totals}
 use Rattle.pack_judge.specs.declared.types.Class.{Class}
 use Rattle.pack_judge.specs.declared.types.Cause.TheVariants as cause
 use Rattle.pack_judge.specs.declared.types.Signal.{Signal}

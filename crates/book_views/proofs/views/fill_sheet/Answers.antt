@@ -2,7 +2,7 @@ use Rattle.std.proofs.Common.{rules, ◌≡◌, sym, ◌∙◌, ap, subst, nat_l
 use Rattle.std.proofs.lemmas.Int.{to_z-of_z}
 use Rattle.annex_tables.specs.Errors.{IsNominal, tolerable_error}
 use Rattle.pack_judge.specs.declared.types.Pile.TheVariants.{Passed, Rejected, Sampled, Voided}
-use Rattle.batch_sums.specs.declared.types.Totals.{Totals}
+use Rattle.pack_groups.specs.declared.types.Totals.{Totals}
 use Rattle.reference_test.proofs.SignedNumbers.{again}
 use Rattle.book_words.specs.Population.{readings_of_batch}
 use Rattle.book_words.specs.Piles.{tally}

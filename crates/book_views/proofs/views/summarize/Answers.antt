@@ -1,6 +1,6 @@
 use Rattle.std.proofs.Common.{◌≡◌, sym, ◌∙◌, ap, subst}
 use Rattle.pack_judge.specs.declared.types.Pile.TheVariants.{Passed, Rejected, Sampled, Voided}
-use Rattle.batch_sums.specs.declared.types.Piles.{Piles}
+use Rattle.pack_groups.specs.declared.types.Piles.{Piles}
 use Rattle.book_words.specs.Readings.{readings}
 use Rattle.book_words.specs.Piles.{tally}
 use Rattle.book_views.specs.Tallies.{IsTally, all_of}

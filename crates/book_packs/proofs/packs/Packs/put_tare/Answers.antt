@@ -6,7 +6,7 @@ use Rattle.tare_register.specs.Tares.{DecidesWithin}
 use Rattle.tare_register.specs.Tares.{span_of}
 use Rattle.pack_judge.specs.declared.tares.Span.{Span}
 use Rattle.std.specs.Prelude.{◌≤◌, ◌+◌, ◌*◌}
-use Rattle.batch_sums.specs.declared.steps.TheConstants.{STEPS_PER_GROUP}
+use Rattle.pack_groups.specs.declared.steps.TheConstants.{STEPS_PER_GROUP}
 use Rattle.batch_sums.specs.Changes.{IsUpTo, HasFewPerGroup, group_count, concerned}
 use Rattle.book_packs.specs.Stand.{Standing, IsPacksOf}
 use Rattle.book_packs.proofs.Quiet.{tare-push, tare_within}

@@ -1,5 +1,5 @@
 use Rattle.std.proofs.Common.{List, length, sym, ap}
-use Rattle.batch_sums.specs.declared.types.Totals.{Totals}
+use Rattle.pack_groups.specs.declared.types.Totals.{Totals}
 use Rattle.book_words.specs.declared.act.Reading.{Reading}
 use Rattle.book_state.proofs.Parts.{parts_of}
 use Rattle.book_state.proofs.Batches.{no_batch, no_population, number_within}

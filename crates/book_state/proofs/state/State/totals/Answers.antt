@@ -1,5 +1,5 @@
 use Rattle.std.proofs.Common.{rules, ◌≡◌, ◌∙◌, None, Some, sym, ap, option_map}
-use Rattle.batch_sums.specs.declared.types.Totals.{Totals}
+use Rattle.pack_groups.specs.declared.types.Totals.{Totals}
 use Rattle.book_words.specs.Acts.{product_of}
 use Rattle.book_packs.specs.Told.{totals_told}
 use Rattle.book_state.proofs.Parts.{parts_of}
