@@ -18,7 +18,7 @@ use Rattle.office_wire.specs.declared.types.Bad as faults
 use Rattle.office_wire.specs.declared.types.Framed.{Framed}
 use Rattle.office_wire.specs.declared.types.OfficeAsk.{OfficeAsk}
 use Rattle.office_wire.specs.declared.types.OfficeAsk.TheVariants.{Ask, Bad, NoMemory}
-use Rattle.office_wire.specs.Responses.{IsBookAnswer, reply_response, bad_response}
+use Rattle.office_responses.specs.Responses.{IsBookAnswer, reply_response, bad_response}
 use Rattle.office_door.specs.Exchanges.{Exchange, ask_of, asks_of, rows_of, place_of, places_of, is_disk_fault, disk_faults, IsTold, IsLost, IsAnswered, IsAnsweredIn, NeverFall, HasAnswered}
 use Rattle.office_door.specs.Steps.{Responds}
 use Rattle.office_door.proofs.Prefixes.{prefix_on, prefix_itself, prefix_short}

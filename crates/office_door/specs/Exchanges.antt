@@ -16,7 +16,7 @@ use Rattle.book_words.specs.Callers.{Known, FAULTS_END, IsRight, MayFindNoMemory
 use Rattle.office_wire.specs.declared.types.Framed.{Framed}
 use Rattle.office_wire.specs.declared.types.OfficeAsk.{OfficeAsk}
 use Rattle.office_wire.specs.declared.types.OfficeAsk.TheVariants.{Ask, Bad, NoMemory}
-use Rattle.office_wire.specs.Responses.{reply_response, bad_response}
+use Rattle.office_responses.specs.Responses.{reply_response, bad_response}
 
 -- a request and its response: what the bytes of the request say, and how it was told, since there
 -- may be no memory to read an act; what the caller answered, where it was asked; the row that this

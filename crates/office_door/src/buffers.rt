@@ -1,8 +1,9 @@
 ghost use Rattle.std.specs.Prelude.{◌≤◌, IfOk, vec_capacity};
-ghost use Rattle.office_wire.specs.declared.replies.TheConstants.{REPLY_ROOM};
+ghost use Rattle.office_responses.specs.declared.replies.TheConstants.{REPLY_ROOM};
 
 use crate::held::Held;
-use office_wire::{REPLY_ROOM, Routes};
+use office_responses::REPLY_ROOM;
+use office_wire::Routes;
 use std::alloc::{AllocError, Global};
 
 /// The room of a door: its routes, and room for the bytes that it reads and for a response.

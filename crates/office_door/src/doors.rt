@@ -1,5 +1,5 @@
 ghost use Rattle.std.specs.Prelude.{◌≡◌, ◌+◌, ◌<◌, ◌≤◌, ℕ, IfSome, vec_capacity};
-ghost use Rattle.office_wire.specs.declared.replies.TheConstants.{REPLY_ROOM};
+ghost use Rattle.office_responses.specs.declared.replies.TheConstants.{REPLY_ROOM};
 ghost use Rattle.office_door.specs.declared.limits.TheConstants.{MAX_REQUESTS, MAX_CONNECTIONS};
 ghost use Rattle.office_door.specs.declared.ending.DoorStop.TheVariants as stop;
 ghost use Rattle.office_door.specs.Doors.{site, ServesDoor};

@@ -1,6 +1,6 @@
 ghost use Rattle.std.specs.Prelude.{◌≡◌, ◌+◌, ◌<◌, ◌≤◌, ◌||◌, ◌==◌, IfNone, vec_capacity};
 ghost use Rattle.office_wire.specs.declared.types.Frame.TheVariants.{Whole};
-ghost use Rattle.office_wire.specs.declared.replies.TheConstants.{REPLY_ROOM};
+ghost use Rattle.office_responses.specs.declared.replies.TheConstants.{REPLY_ROOM};
 ghost use Rattle.office_wire.specs.Frames.{TellsFrame};
 ghost use Rattle.office_door.specs.declared.limits.TheConstants.{MAX_REQUESTS};
 ghost use Rattle.office_door.specs.Doors.{site};

@@ -1,9 +1,10 @@
 ghost use Rattle.std.specs.Prelude.{◌≡◌, ◌≤◌, vec_capacity};
-ghost use Rattle.office_wire.specs.declared.replies.TheConstants.{REPLY_ROOM};
+ghost use Rattle.office_responses.specs.declared.replies.TheConstants.{REPLY_ROOM};
 ghost use Rattle.office_door.specs.Steps.{Responds};
 
 use book_words::{AskError, Caller};
-use office_wire::{OfficeAsk, bad_into, reply_into};
+use office_responses::{bad_into, reply_into};
+use office_wire::OfficeAsk;
 
 /// Answers a request: asks the caller, where the request asks something, and makes the response.
 pub(crate) fn respond<C: Caller>(caller: &mut C, told: &OfficeAsk, last: bool, reply: &mut Vec<u8>)

@@ -7,4 +7,3 @@ pub mod FrameLaws
 pub mod RequestLaws
 mod WorkedFrames
 mod WorkedRequests
-mod WorkedResponses

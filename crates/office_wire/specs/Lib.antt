@@ -1,5 +1,3 @@
-pub mod Responses
-pub mod Codes
 pub mod Acts
 pub mod HeadSize
 pub mod Headers

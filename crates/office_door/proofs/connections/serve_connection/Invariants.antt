@@ -1,5 +1,5 @@
 use Rattle.std.proofs.Common.{◌≡◌, ◌-◌, ◌<◌, ◌≤◌, vec_capacity}
-use Rattle.office_wire.specs.declared.replies.TheConstants.{REPLY_ROOM}
+use Rattle.office_responses.specs.declared.replies.TheConstants.{REPLY_ROOM}
 use Rattle.office_door.specs.declared.limits.TheConstants.{MAX_REQUESTS}
 use Rattle.office_door.specs.Doors.{site}
 use Rattle.office_door.specs.Steps.{IsServing}

@@ -1,6 +1,6 @@
 use Rattle.std.proofs.Common.{◌≡◌, List, ℕ, ◌++◌, ◌∙◌, ap, subst, sym}
 use Rattle.office_wire.specs.declared.types.OfficeAsk.{OfficeAsk}
-use Rattle.office_wire.specs.Responses.{reply_response}
+use Rattle.office_responses.specs.Responses.{reply_response}
 use Rattle.office_door.specs.Steps.{Responds}
 use Rattle.office_door.proofs.AnsweredAsks.{responds_asked}
 use Rattle.office_door.proofs.responding.respond.Goals as goal

@@ -13,7 +13,7 @@ use Rattle.std.specs.Fmt.{digits}
 use Rattle.hall_units.specs.Grams.{gram_text}
 use Rattle.batch_reports.specs.Texts.{sheet_text}
 use Rattle.office_wire.specs.declared.types.Bad.TheVariants as bad
-use Rattle.office_wire.specs.Responses.{head_text, refusal_body, reply_response, bad_response}
+use Rattle.office_responses.specs.Responses.{head_text, refusal_body, reply_response, bad_response}
 
 accepted : reply_response (Ok (record { at = 2; reply = reply.Done 2 })) false ≡
     codes "HTTP/1.1 200 OK\r\n"

@@ -1,11 +1,12 @@
 ghost use Rattle.std.specs.Prelude.{◌≡◌, ◌≤◌, length};
 ghost use Rattle.batch_reports.specs.Appending.{HasRoom, Appended};
-ghost use Rattle.office_wire.specs.Responses.{answer_media, reply_head, reply_response, bad_status, bad_word, bad_extra, bad_head, bad_response, IsBookAnswer};
+ghost use Rattle.office_responses.specs.Responses.{answer_media, reply_head, reply_response, bad_status, bad_word, bad_extra, bad_head, bad_response, IsBookAnswer};
 
 use crate::bodies::{MAX_FAULT, push_bad, push_reply};
 use crate::heads::put_head;
-use crate::types::{Bad, Extra, Head, Media, Status};
+use crate::types::{Extra, Head, Media, Status};
 use book_words::{Answered, AskError, Reply};
+use office_wire::Bad;
 
 /// No response has more bytes: a text of the book and a head.
 pub const REPLY_ROOM: usize = 4_096;

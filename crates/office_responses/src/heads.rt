@@ -1,7 +1,7 @@
 ghost use Rattle.std.specs.Prelude.{◌≡◌, ◌≤◌, ◌+◌, ◌++◌, List, ℕ, codes, decimal, length, vec_capacity, vec_len};
 ghost use Rattle.batch_reports.specs.Appending.{HasRoom, Appended};
-ghost use Rattle.office_wire.specs.Codes.{code_text};
-ghost use Rattle.office_wire.specs.Responses.{status_text, media_text, method_text, head_line, extra_line, closing_line, head_text, response};
+ghost use Rattle.office_responses.specs.Codes.{code_text};
+ghost use Rattle.office_responses.specs.Responses.{status_text, media_text, method_text, head_line, extra_line, closing_line, head_text, response};
 
 use crate::types::{Extra, Head, Media, Status};
 use batch_reports::{append, append_count, append_number};

@@ -11,13 +11,13 @@ use Rattle.book_words.specs.Soundness.{IsAnswer, IsRefusal}
 use Rattle.batch_reports.specs.Texts.{verdict_text, kept_text, reply_text}
 use Rattle.office_wire.specs.declared.types.Bad.{Bad}
 use Rattle.office_wire.specs.declared.types.Bad.TheVariants as bad
-use Rattle.office_wire.specs.declared.types.Status.{Status}
-use Rattle.office_wire.specs.declared.types.Status.TheVariants as status
-use Rattle.office_wire.specs.declared.types.Media.{Media}
-use Rattle.office_wire.specs.declared.types.Media.TheVariants.{Json, Plain}
-use Rattle.office_wire.specs.declared.types.Extra.{Extra}
-use Rattle.office_wire.specs.declared.types.Extra.TheVariants.{Nothing, BookRow, Allow}
-use Rattle.office_wire.specs.declared.types.Head.{Head}
+use Rattle.office_responses.specs.declared.types.Status.{Status}
+use Rattle.office_responses.specs.declared.types.Status.TheVariants as status
+use Rattle.office_responses.specs.declared.types.Media.{Media}
+use Rattle.office_responses.specs.declared.types.Media.TheVariants.{Json, Plain}
+use Rattle.office_responses.specs.declared.types.Extra.{Extra}
+use Rattle.office_responses.specs.declared.types.Extra.TheVariants.{Nothing, BookRow, Allow}
+use Rattle.office_responses.specs.declared.types.Head.{Head}
 
 -- ---- heads
 

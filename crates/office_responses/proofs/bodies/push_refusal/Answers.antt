@@ -3,8 +3,8 @@ use Rattle.book_laws.proofs.RangeLaws.{refusal_told_in_range}
 use Rattle.book_words.specs.declared.reply.Refused.{Refused}
 use Rattle.book_words.specs.Numbers.{refusal_number, refusal_name}
 use Rattle.batch_reports.specs.Texts.{kept_text}
-use Rattle.office_wire.specs.Responses.{refusal_body}
-use Rattle.office_wire.proofs.bodies.push_refusal.Goals as goal
+use Rattle.office_responses.specs.Responses.{refusal_body}
+use Rattle.office_responses.proofs.bodies.push_refusal.Goals as goal
 
 nine_parts : (start a b c d e f g h i : List ℕ)
     → start ++ a ++ b ++ c ++ d ++ e ++ f ++ g ++ h ++ i

@@ -1,7 +1,7 @@
 use Rattle.std.proofs.Common.{◌≡◌, ◌++◌, List, ℕ, codes, decimal, append_assoc, ◌∙◌, arith}
-use Rattle.office_wire.specs.declared.types.Head.{Head}
-use Rattle.office_wire.specs.Responses.{status_text, media_text, head_line, extra_line, closing_line, head_text}
-use Rattle.office_wire.proofs.heads.push_head.Goals as goal
+use Rattle.office_responses.specs.declared.types.Head.{Head}
+use Rattle.office_responses.specs.Responses.{status_text, media_text, head_line, extra_line, closing_line, head_text}
+use Rattle.office_responses.proofs.heads.push_head.Goals as goal
 
 six_parts : (start a b c d e f : List ℕ)
     → start ++ a ++ b ++ c ++ d ++ e ++ f ≡ start ++ (a ++ b ++ c ++ d ++ e ++ f)

@@ -1,10 +1,10 @@
 use Rattle.std.proofs.Common.{◌≡◌, ◌≤◌, ◌∙◌, ◌++◌, List, ℕ, codes, Option, None, Some, Bor, [], length, option_map, unwrap_or, append_assoc, length-append, ap, refl, arith, lit≤}
 use Rattle.http.specs.StatusCode.{code_digits, reason_phrase}
-use Rattle.office_wire.specs.declared.types.Status.{Status}
-use Rattle.office_wire.specs.declared.types.Status.TheVariants as status
-use Rattle.office_wire.specs.declared.heads.TheConstants.{MAX_VALUE}
-use Rattle.office_wire.specs.Responses.{status_text, head_line}
-use Rattle.office_wire.proofs.heads.push_status.Goals as goal
+use Rattle.office_responses.specs.declared.types.Status.{Status}
+use Rattle.office_responses.specs.declared.types.Status.TheVariants as status
+use Rattle.office_responses.specs.declared.heads.TheConstants.{MAX_VALUE}
+use Rattle.office_responses.specs.Responses.{status_text, head_line}
+use Rattle.office_responses.proofs.heads.push_status.Goals as goal
 
 five_parts : (start a b c d e : List ℕ)
     → start ++ a ++ b ++ c ++ d ++ e ≡ start ++ (a ++ (b ++ c ++ d) ++ e)

@@ -1,5 +1,6 @@
 use book_words::AskError;
-use office_wire::{Bad, REPLY_ROOM, bad_into, reply_into};
+use office_responses::{REPLY_ROOM, bad_into, reply_into};
+use office_wire::Bad;
 use std::alloc::{AllocError, Global};
 use std::test::Fail;
 

@@ -2,7 +2,7 @@ ghost use Rattle.std.specs.Prelude.{◌≤◌, length};
 ghost use Rattle.book_words.specs.Soundness.{IsAnswer, IsRefusal};
 ghost use Rattle.batch_reports.specs.Appending.{HasRoom, Appended};
 ghost use Rattle.batch_reports.specs.Texts.{reply_text, verdict_text};
-ghost use Rattle.office_wire.specs.Responses.{bad_body, done_body, closed_body, answer_body, refusal_body, reply_body, IsBookAnswer};
+ghost use Rattle.office_responses.specs.Responses.{bad_body, done_body, closed_body, answer_body, refusal_body, reply_body, IsBookAnswer};
 
 use batch_reports::{TEXT_ROOM, answer_text, append, append_count, push_kept, push_verdict};
 use book_words::{Answered, AskError, Refused, Reply, Verdict};
