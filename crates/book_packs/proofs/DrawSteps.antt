@@ -10,7 +10,7 @@ use Rattle.pack_judge.specs.declared.types.Pile.{Pile}
 use Rattle.pack_judge.specs.declared.types.Pile.TheVariants.{Passed, Rejected, Sampled, Voided}
 use Rattle.pack_judge.specs.declared.types.Signal.{Signal}
 use Rattle.batch_sums.specs.declared.types.Pack.{Pack}
-use Rattle.pack_groups.specs.Population as sums
+use Rattle.pack_groups.specs.Population as groups
 use Rattle.batch_sums.specs.Changes.{moved}
 use Rattle.book_words.specs.declared.name.Name.{Name}
 use Rattle.book_words.specs.declared.act.Act.{Act}
@@ -108,9 +108,9 @@ found_number number (reading ∷ some) v h = elim (cases_Bool (reading.number ==
 ]
 
 stepped : (p : Pile) (e h a : Bool)
-    → cond (sums.is_counted (cond (e && (h && sums.is_counted p)) Sampled p) && (h && a)) Sampled
-    (cond (e && (h && sums.is_counted p)) Sampled p)
-    ≡ cond (sums.is_counted p && (h && (e || a))) Sampled p
+    → cond (groups.is_counted (cond (e && (h && groups.is_counted p)) Sampled p) && (h && a)) Sampled
+    (cond (e && (h && groups.is_counted p)) Sampled p)
+    ≡ cond (groups.is_counted p && (h && (e || a))) Sampled p
 stepped Passed true true true = refl
 stepped Passed true true false = refl
 stepped Passed true false true = refl
@@ -151,7 +151,7 @@ module _ (entries : List Entry) (batch : ℕ) where
       (readings entries))
       ≡ map (λ reading. record (pack_of entries reading) {
         pile = cond ((reading.number == pick)
-            && (((pack_of entries reading).batch == batch) && sums.is_counted (pile reading))) Sampled
+            && (((pack_of entries reading).batch == batch) && groups.is_counted (pile reading))) Sampled
             (pile reading);
       }) (readings entries)
   sampled_step pick pile = by_found (find (λ (r : Reading). r.number == pick) (readings entries)) refl
@@ -170,19 +170,19 @@ module _ (entries : List Entry) (batch : ℕ) where
       off true h c p k = sym (ap (λ b. cond b Sampled p) (k refl))
 
       kept : AllByRecursion (λ (r : Reading). (r.number == pick) ≡ true
-          → (((pack_of entries r).batch == batch) && sums.is_counted (pile r)) ≡ false)
+          → (((pack_of entries r).batch == batch) && groups.is_counted (pile r)) ≡ false)
           (readings entries)
           → map (λ reading. record (pack_of entries reading) { pile = pile reading }) (readings entries)
           ≡ map (λ reading. record (pack_of entries reading) {
             pile = cond ((reading.number == pick)
-                && (((pack_of entries reading).batch == batch) && sums.is_counted (pile reading)))
+                && (((pack_of entries reading).batch == batch) && groups.is_counted (pile reading)))
                 Sampled (pile reading);
           }) (readings entries)
       kept all =
           map-within _ _ (readings entries)
           (all_then (λ reading k. ap (λ (p : Pile). record (pack_of entries reading) { pile = p })
           (off (reading.number == pick) ((pack_of entries reading).batch == batch)
-          (sums.is_counted (pile reading)) (pile reading) k)) (readings entries) all)
+          (groups.is_counted (pile reading)) (pile reading) k)) (readings entries) all)
 
       on : (e h c : Bool) (pack : Pack) (p : Pile) → (e ≡ true → (h && c) ≡ true) → pack.pile ≡ p
           → cond e (record pack { pile = Sampled }) pack
@@ -192,7 +192,7 @@ module _ (entries : List Entry) (batch : ℕ) where
 
       by_counts : (v : Reading) → find (λ (r : Reading). r.number == pick) (readings entries)
           ≡ Some v → (counts : Bool) → (((pack_of entries v).batch == batch)
-          && sums.is_counted (pile v)) ≡ counts
+          && groups.is_counted (pile v)) ≡ counts
           → option_map_or (λ (pack : Pack). moved pack.number Sampled
           (map (λ reading. record (pack_of entries reading) { pile = pile reading })
           (readings entries)))
@@ -201,12 +201,12 @@ module _ (entries : List Entry) (batch : ℕ) where
           (readings entries))
           ≡ map (λ reading. record (pack_of entries reading) {
             pile = cond ((reading.number == pick)
-                && (((pack_of entries reading).batch == batch) && sums.is_counted (pile reading)))
+                && (((pack_of entries reading).batch == batch) && groups.is_counted (pile reading)))
                 Sampled (pile reading);
           }) (readings entries)
       by_counts v there false counts =
           kept (all_then (λ reading same k. ap
-          (λ (r : Reading). ((pack_of entries r).batch == batch) && sums.is_counted (pile r))
+          (λ (r : Reading). ((pack_of entries r).batch == batch) && groups.is_counted (pile r))
           (same k) ∙ counts) (readings entries)
           (unique pick 0 (length entries) (readings entries) v (readings_ascend entries) there))
       by_counts v there true counts =
@@ -218,10 +218,10 @@ module _ (entries : List Entry) (batch : ℕ) where
           (readings entries)
           ∙ map-within _ _ (readings entries)
           (all_then (λ reading same. on (reading.number == pick)
-          ((pack_of entries reading).batch == batch) (sums.is_counted (pile reading))
+          ((pack_of entries reading).batch == batch) (groups.is_counted (pile reading))
           (record (pack_of entries reading) { pile = pile reading }) (pile reading)
           (λ k. ap (λ (r : Reading). ((pack_of entries r).batch == batch)
-          && sums.is_counted (pile r)) (same k) ∙ counts) refl) (readings entries)
+          && groups.is_counted (pile r)) (same k) ∙ counts) refl) (readings entries)
           (unique pick 0 (length entries) (readings entries) v (readings_ascend entries) there))
 
       by_found : (o : Option Reading) → find (λ (r : Reading). r.number == pick) (readings entries) ≡ o
@@ -230,7 +230,7 @@ module _ (entries : List Entry) (batch : ℕ) where
           (readings entries))
           ≡ map (λ reading. record (pack_of entries reading) {
             pile = cond ((reading.number == pick)
-                && (((pack_of entries reading).batch == batch) && sums.is_counted (pile reading)))
+                && (((pack_of entries reading).batch == batch) && groups.is_counted (pile reading)))
                 Sampled (pile reading);
           }) (readings entries)
       by_found None there =
@@ -251,7 +251,7 @@ module _ (entries : List Entry) (batch : ℕ) where
           (readings entries)))
           (found ∙ ap (option_map (λ reading. record (pack_of entries reading)
           { pile = pile reading })) there)
-          ∙ by_counts v there (((pack_of entries v).batch == batch) && sums.is_counted (pile v)) refl
+          ∙ by_counts v there (((pack_of entries v).batch == batch) && groups.is_counted (pile v)) refl
 
   nothing_picked : (c h : Bool) (p : Pile) → p ≡ cond (c && (h && false)) Sampled p
   nothing_picked true true p = refl
@@ -263,25 +263,25 @@ module _ (entries : List Entry) (batch : ℕ) where
       (map (λ reading. record (pack_of entries reading) { pile = pile reading })
       (readings entries))
       ≡ map (λ reading. record (pack_of entries reading) {
-        pile = cond (sums.is_counted (pile reading)
+        pile = cond (groups.is_counted (pile reading)
             && (((pack_of entries reading).batch == batch) && is_among reading.number picks)) Sampled
             (pile reading);
       }) (readings entries)
   sampled_all [] pile =
       ap (λ (f : Reading → Pile). map
       (λ reading. record (pack_of entries reading) { pile = f reading }) (readings entries))
-      (λ i reading. nothing_picked (sums.is_counted (pile reading))
+      (λ i reading. nothing_picked (groups.is_counted (pile reading))
       ((pack_of entries reading).batch == batch) (pile reading) i)
   sampled_all (pick ∷ picks) pile =
       ap (sampled batch picks) (sampled_step pick pile)
       ∙ sampled_all picks (λ reading. cond
       ((reading.number == pick) && (((pack_of entries reading).batch == batch)
-      && sums.is_counted (pile reading))) Sampled (pile reading))
+      && groups.is_counted (pile reading))) Sampled (pile reading))
       ∙ ap (λ (f : Reading → Pile). map
       (λ reading. record (pack_of entries reading) { pile = f reading }) (readings entries))
       (λ i reading. (stepped (pile reading) (reading.number == pick)
       ((pack_of entries reading).batch == batch) (is_among reading.number picks)
-      ∙ ap (λ b. cond (sums.is_counted (pile reading)
+      ∙ ap (λ b. cond (groups.is_counted (pile reading)
       && (((pack_of entries reading).batch == batch) && (b || is_among reading.number picks)))
       Sampled (pile reading)) (eqb-swap reading.number pick)) i)
 
@@ -293,7 +293,7 @@ own_drawing entries batch mode word =
     record { mode = mode; word = word; packs = numbers_of (population entries batch) }
 
 pile_more : (p : Pile) (a b : Bool) → same_pile p Sampled ≡ false
-    → pile_with_sample p (a || b) ≡ cond (sums.is_counted (pile_with_sample p a) && b) Sampled
+    → pile_with_sample p (a || b) ≡ cond (groups.is_counted (pile_with_sample p a) && b) Sampled
     (pile_with_sample p a)
 pile_more Sampled a b h = absurd (cc)
 pile_more Passed true true h = refl
@@ -561,7 +561,7 @@ module _ (entries : List Entry) (entry : Entry) (batch : ℕ) (picks : List ℕ)
 
   pile_behind : (reading : Reading) → IsWeighed entries reading
       → pile_of (entries ++ entry ∷ []) (advance entry.act reading)
-      ≡ cond (sums.is_counted (pile_of entries reading)
+      ≡ cond (groups.is_counted (pile_of entries reading)
       && (((pack_of entries reading).batch == batch) && is_among reading.number picks)) Sampled
       (pile_of entries reading)
   pile_behind reading w =

@@ -7,7 +7,7 @@ use Rattle.pack_judge.specs.declared.types.Pile.{Pile}
 use Rattle.pack_judge.specs.declared.types.Signal.{Signal}
 use Rattle.pack_judge.specs.declared.types.Signal.TheVariants.{Pass, Reject}
 use Rattle.batch_sums.specs.declared.types.Pack.{Pack}
-use Rattle.pack_groups.specs.Population as sums
+use Rattle.pack_groups.specs.Population as groups
 use Rattle.batch_sums.specs.Changes.{moved}
 use Rattle.book_words.specs.declared.act.Prior.{Prior}
 use Rattle.book_words.specs.declared.act.Prior.TheVariants.{Nothing, Opened, Stayed, Unknown}
@@ -35,12 +35,12 @@ use Rattle.std.proofs.lemmas.Option.{same_Some}
 settle_pile : (here voided : Bool) (signal : Option Signal) (next : Option Prior) (prior : Prior)
     (held : Bool)
     → pile_with_sample (settled_pile voided signal (option_or next (cond here (Some prior) None))) held
-    ≡ cond (sums.is_counted (pile_with_sample (settled_pile voided signal next) held)
+    ≡ cond (groups.is_counted (pile_with_sample (settled_pile voided signal next) held)
     && ((here && (is_pass signal && is_none next)) && takes_out prior)) (pile_left prior)
     (pile_with_sample (settled_pile voided signal next) held)
 settle_pile false voided signal next prior held =
     ap (λ o. pile_with_sample (settled_pile voided signal o) held) (or_none next)
-    ∙ sym (off (sums.is_counted (pile_with_sample (settled_pile voided signal next) held))
+    ∙ sym (off (groups.is_counted (pile_with_sample (settled_pile voided signal next) held))
     (pile_left prior) (pile_with_sample (settled_pile voided signal next) held))
   where
     off : (b : Bool) (x y : Pile) → cond (b && false) x y ≡ y
@@ -94,7 +94,7 @@ pub record IsLaneAct (entry : Entry) (lane : ℕ) (prior : Prior) : Type 0 where
 module _ (entries : List Entry) (entry : Entry) (lane : ℕ) (prior : Prior)
     (is : IsLaneAct entry lane prior) where
   pub pile_settled : (reading : Reading) → pile_of (entries ++ entry ∷ []) (advance entry.act reading)
-      ≡ cond (sums.is_counted (pile_of entries reading)
+      ≡ cond (groups.is_counted (pile_of entries reading)
       && (is_lane_unsettled lane reading && takes_out prior)) (pile_left prior)
       (pile_of entries reading)
   pile_settled reading =
@@ -112,7 +112,7 @@ module _ (entries : List Entry) (entry : Entry) (lane : ℕ) (prior : Prior)
       (option_or reading.next_prior o)) (is_sampled entries reading)) (is.told reading.lane)
       ∙ settle_pile (lane == reading.lane) reading.voided reading.signal reading.next_prior prior
       (is_sampled entries reading)
-      ∙ ap (λ b. cond (sums.is_counted (pile_of entries reading)
+      ∙ ap (λ b. cond (groups.is_counted (pile_of entries reading)
       && ((b && is_unsettled reading) && takes_out prior)) (pile_left prior)
       (pile_of entries reading)) (eqb-swap lane reading.lane)
 
@@ -140,7 +140,7 @@ module _ (entries : List Entry) (entry : Entry) (lane : ℕ) (prior : Prior)
     pack_settled : (reading : Reading) → IsWeighed entries reading
         → pack_of (entries ++ entry ∷ []) (advance entry.act reading)
         ≡ record (pack_of entries reading) {
-          pile = cond (sums.is_counted (pile_of entries reading)
+          pile = cond (groups.is_counted (pile_of entries reading)
               && (is_lane_unsettled lane reading && takes_out prior)) (pile_left prior)
               (pile_of entries reading);
         }
@@ -148,7 +148,7 @@ module _ (entries : List Entry) (entry : Entry) (lane : ℕ) (prior : Prior)
         ∙ ap (λ (p : Pile). record (pack_of entries reading) { pile = p }) (pile_settled reading)
 
     kept_by : (reading : Reading) → IsWeighed entries reading
-        → cond (sums.is_counted (pile_of entries reading)
+        → cond (groups.is_counted (pile_of entries reading)
         && (is_lane_unsettled lane reading && takes_out prior)) (pile_left prior)
         (pile_of entries reading) ≡ pile_of entries reading
         → pack_of entries reading ≡ pack_of (entries ++ entry ∷ []) (advance entry.act reading)
@@ -156,7 +156,7 @@ module _ (entries : List Entry) (entry : Entry) (lane : ℕ) (prior : Prior)
         ∙ ap (λ (p : Pile). record (pack_of entries reading) { pile = p }) h)
 
     all_kept : AllByRecursion (λ reading. cond
-        (sums.is_counted (pile_of entries reading)
+        (groups.is_counted (pile_of entries reading)
         && (is_lane_unsettled lane reading && takes_out prior)) (pile_left prior)
         (pile_of entries reading) ≡ pile_of entries reading) (readings entries)
         → packs_in entries ≡ map (λ reading. pack_of (entries ++ entry ∷ [])
@@ -179,7 +179,7 @@ module _ (entries : List Entry) (entry : Entry) (lane : ℕ) (prior : Prior)
         ∙ find-filter (is_lane_unsettled lane) (readings entries) ∙ there)
 
     with_reading : takes_out prior ≡ true → (v : Reading) → unsettled_reading entries lane ≡ Some v
-        → (counted : Bool) → sums.is_counted (pile_of entries v) ≡ counted
+        → (counted : Bool) → groups.is_counted (pile_of entries v) ≡ counted
         → option_map_or (λ (pack : Pack). moved pack.number (pile_left prior) (packs_in entries))
         (cond counted (Some (pack_of entries v)) None) (packs_in entries)
         ≡ map (λ reading. pack_of (entries ++ entry ∷ []) (advance entry.act reading)) (readings entries)
@@ -191,16 +191,16 @@ module _ (entries : List Entry) (entry : Entry) (lane : ℕ) (prior : Prior)
         either : (reading : Reading) → Tells (is_lane_unsettled lane)
             (unsettled_reading entries lane) reading → (is_lane_unsettled lane reading ≡ true)
             ⊎ (is_lane_unsettled lane reading ≡ false)
-            → cond (sums.is_counted (pile_of entries reading)
+            → cond (groups.is_counted (pile_of entries reading)
             && (is_lane_unsettled lane reading && takes_out prior)) (pile_left prior)
             (pile_of entries reading) ≡ pile_of entries reading
         either reading tells (inl t) =
             let same : v ≡ reading = same_Some _ _ (sym there ∙ tells.only t) in
-            cond_first (sums.is_counted (pile_of entries reading)) (is_lane_unsettled lane reading)
+            cond_first (groups.is_counted (pile_of entries reading)) (is_lane_unsettled lane reading)
             (takes_out prior) (pile_left prior) (pile_of entries reading)
-            (ap (λ (r : Reading). sums.is_counted (pile_of entries r)) (sym same) ∙ counts)
+            (ap (λ (r : Reading). groups.is_counted (pile_of entries r)) (sym same) ∙ counts)
         either reading tells (inr f) =
-            cond_other (sums.is_counted (pile_of entries reading)) (is_lane_unsettled lane reading)
+            cond_other (groups.is_counted (pile_of entries reading)) (is_lane_unsettled lane reading)
             (takes_out prior) (pile_left prior) (pile_of entries reading) f
     with_reading out v there true counts =
         map-map (λ (pack : Pack). cond (pack.number == v.number)
@@ -229,9 +229,9 @@ module _ (entries : List Entry) (entry : Entry) (lane : ℕ) (prior : Prior)
             (pack_of entries reading)) here
             ∙ sym (pack_settled reading w ∙ ap
             (λ (p : Pile). record (pack_of entries reading) { pile = p })
-            (cond_on (sums.is_counted (pile_of entries reading)) (is_lane_unsettled lane reading)
+            (cond_on (groups.is_counted (pile_of entries reading)) (is_lane_unsettled lane reading)
             (takes_out prior) (pile_left prior) (pile_of entries reading)
-            (ap (λ (r : Reading). sums.is_counted (pile_of entries r)) (sym same) ∙ counts) t
+            (ap (λ (r : Reading). groups.is_counted (pile_of entries r)) (sym same) ∙ counts) t
             out))
         either reading tells w (inr f) =
             let here : (reading.number == v.number) ≡ false =
@@ -239,7 +239,7 @@ module _ (entries : List Entry) (entry : Entry) (lane : ℕ) (prior : Prior)
             (sym there) ∙ tells.named ∙ f in
             ap (λ b. cond b (record (pack_of entries reading) { pile = pile_left prior })
             (pack_of entries reading)) here
-            ∙ kept_by reading w (cond_other (sums.is_counted (pile_of entries reading))
+            ∙ kept_by reading w (cond_other (groups.is_counted (pile_of entries reading))
             (is_lane_unsettled lane reading) (takes_out prior) (pile_left prior)
             (pile_of entries reading) f)
 
@@ -250,7 +250,7 @@ module _ (entries : List Entry) (entry : Entry) (lane : ℕ) (prior : Prior)
         (option_map (λ (r : Reading). r.number) o)) (packs_in entries)
         ≡ map (λ reading. pack_of (entries ++ entry ∷ []) (advance entry.act reading)) (readings entries)
     by_reading out None there =
-        all_kept (all_then (λ reading tells. cond_other (sums.is_counted (pile_of entries reading))
+        all_kept (all_then (λ reading tells. cond_other (groups.is_counted (pile_of entries reading))
         (is_lane_unsettled lane reading) (takes_out prior) (pile_left prior)
         (pile_of entries reading) (sym
         (ap (λ o. names (option_map (λ (r : Reading). r.number) o) reading.number) (sym there)
@@ -259,7 +259,7 @@ module _ (entries : List Entry) (entry : Entry) (lane : ℕ) (prior : Prior)
     by_reading out (Some v) there =
         ap (λ o. option_map_or (λ (pack : Pack). moved pack.number (pile_left prior)
         (packs_in entries)) (option_and_then if_counted o) (packs_in entries)) (found v there)
-        ∙ with_reading out v there (sums.is_counted (pile_of entries v)) refl
+        ∙ with_reading out v there (groups.is_counted (pile_of entries v)) refl
 
     -- the packs that the code leaves are those of the readings behind the act
     pub settled_is : settled (unsettled_number entries lane) prior (packs_in entries)
@@ -284,6 +284,6 @@ module _ (entries : List Entry) (entry : Entry) (lane : ℕ) (prior : Prior)
             (cond b (option_and_then (λ number. option_and_then if_counted
             (find (λ (pack : Pack). pack.number == number) (packs_in entries)))
             (unsettled_number entries lane)) None) (packs_in entries)) f
-            ∙ all_kept (all_then (λ reading w. cond_off (sums.is_counted (pile_of entries reading))
+            ∙ all_kept (all_then (λ reading w. cond_off (groups.is_counted (pile_of entries reading))
             (is_lane_unsettled lane reading) (takes_out prior) (pile_left prior)
             (pile_of entries reading) f) (readings entries) known.weighed)

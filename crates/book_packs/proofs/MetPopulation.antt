@@ -7,7 +7,7 @@ use Rattle.std.proofs.lemmas.Bool.{cases_Bool}
 use Rattle.std.proofs.lemmas.List.Sums.{sum_by-cons}
 use Rattle.pack_judge.specs.declared.types.Pile.{Pile}
 use Rattle.batch_sums.specs.declared.types.Pack.{Pack}
-use Rattle.pack_groups.specs.Population as sums
+use Rattle.pack_groups.specs.Population as groups
 use Rattle.book_words.specs.declared.name.Name.{Name}
 use Rattle.book_words.specs.declared.act.Prior.{Prior}
 use Rattle.book_words.specs.declared.act.Prior.TheVariants.{Nothing, Opened, Stayed, Unknown}
@@ -93,27 +93,27 @@ all_fail : {X : Type 0} (xs : List X) → filter (λ (x : X). false) xs ≡ []
 all_fail [] = refl
 all_fail (x ∷ xs) = all_fail xs
 
-left_counts : (prior : Prior) → sums.is_counted (pile_left prior) ≡ false
+left_counts : (prior : Prior) → groups.is_counted (pile_left prior) ≡ false
 left_counts Nothing = refl
 left_counts Opened = refl
 left_counts Stayed = refl
 left_counts Unknown = refl
 
 moved_counts : (pile : Pile) (prior : Prior) (out : Bool)
-    → sums.is_counted (cond (sums.is_counted pile && out) (pile_left prior) pile)
-    ≡ (sums.is_counted pile && not out)
-moved_counts pile prior true = each (sums.is_counted pile) refl
+    → groups.is_counted (cond (groups.is_counted pile && out) (pile_left prior) pile)
+    ≡ (groups.is_counted pile && not out)
+moved_counts pile prior true = each (groups.is_counted pile) refl
   where
-    each : (b : Bool) → sums.is_counted pile ≡ b
-        → sums.is_counted (cond (sums.is_counted pile && true) (pile_left prior) pile)
-        ≡ (sums.is_counted pile && false)
-    each true h = ap (λ b. sums.is_counted (cond (b && true) (pile_left prior) pile)) h
+    each : (b : Bool) → groups.is_counted pile ≡ b
+        → groups.is_counted (cond (groups.is_counted pile && true) (pile_left prior) pile)
+        ≡ (groups.is_counted pile && false)
+    each true h = ap (λ b. groups.is_counted (cond (b && true) (pile_left prior) pile)) h
         ∙ left_counts prior ∙ sym (ap (λ b. b && false) h)
-    each false h = ap (λ b. sums.is_counted (cond (b && true) (pile_left prior) pile)) h ∙ h
+    each false h = ap (λ b. groups.is_counted (cond (b && true) (pile_left prior) pile)) h ∙ h
         ∙ sym (ap (λ b. b && false) h)
 moved_counts pile prior false =
-    ap (λ b. sums.is_counted (cond b (pile_left prior) pile)) (and-false (sums.is_counted pile))
-    ∙ sym (and-true (sums.is_counted pile))
+    ap (λ b. groups.is_counted (cond b (pile_left prior) pile)) (and-false (groups.is_counted pile))
+    ∙ sym (and-true (groups.is_counted pile))
 
 and_swap : (a b c : Bool) → (a && (b && c)) ≡ ((a && b) && c)
 and_swap true b c = refl
@@ -136,7 +136,7 @@ module _ (entries : List Entry) (lane : ℕ) (gross : ℤ) (prior : Prior) (name
       → is_counted (advance entry.act reading) ≡ (is_counted reading && not (out reading))
   counted_behind reading =
       sym (counted_among (entries ++ entry ∷ []) (advance entry.act reading))
-      ∙ ap sums.is_counted (pile_settled entries entry lane prior is_act reading)
+      ∙ ap groups.is_counted (pile_settled entries entry lane prior is_act reading)
       ∙ moved_counts (pile_of entries reading) prior (out reading)
       ∙ ap (λ b. b && not (out reading)) (counted_among entries reading)
 
