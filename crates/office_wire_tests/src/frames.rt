@@ -264,15 +264,15 @@ fn wrong_cut(routes: &Routes, alloc: Global) -> Option<usize> {
     None
 }
 
-// A request with so many headers.
-fn with_headers(alloc: Global, count: usize) -> Result<Vec<u8>, AllocError> {
+// A request with so many headers. Where there is no memory it is cut, so that the test fails.
+fn with_headers(alloc: Global, count: usize) -> Vec<u8> {
     let mut bytes = Vec::new(alloc);
-    bytes.extend_from_slice(b"GET /summary HTTP/1.1\n")?;
+    let _ = bytes.extend_from_slice(b"GET /summary HTTP/1.1\n");
     for _turn in 0..count {
-        bytes.extend_from_slice(b"A:b\n")?;
+        let _ = bytes.extend_from_slice(b"A:b\n");
     }
-    bytes.extend_from_slice(b"\n")?;
-    Ok(bytes)
+    let _ = bytes.extend_from_slice(b"\n");
+    bytes
 }
 
 // What so many equal bytes are.
@@ -317,9 +317,9 @@ fn each_ask(rt: HostRuntime) -> Result<(), Fail> {
 
 #[test]
 fn each_limit(rt: HostRuntime) -> Result<(), Fail> {
-    let most = with_headers(rt.alloc(), MAX_HEADERS)?;
+    let most = with_headers(rt.alloc(), MAX_HEADERS);
     assert!(rt; frame(rt.alloc(), &most, false) == question(most.len(), Question::Summary, false));
-    let many = with_headers(rt.alloc(), MAX_HEADERS + 1)?;
+    let many = with_headers(rt.alloc(), MAX_HEADERS + 1);
     assert!(rt; frame(rt.alloc(), &many, false) == fault(many.len(), Bad::Head, true));
     assert!(rt; told_of(rt.alloc(), b'a', MAX_HEAD - 1, false)? == Frame::More);
     assert!(rt; told_of(rt.alloc(), b'a', MAX_HEAD, false)? == fault(MAX_HEAD, Bad::Head, true));

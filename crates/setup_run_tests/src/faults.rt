@@ -2,6 +2,7 @@ use crate::plans::SETUP_OF_RICE;
 use crate::runs::{Way, run_over};
 use book_mount::mount;
 use disk_core::MemoryDisk;
+use memory_hall::disk_of;
 use std::alloc::{AllocError, Global};
 
 // Mounting takes four calls of the disk, and each row four.
@@ -9,9 +10,7 @@ const MOUNTED: u32 = 4;
 
 // How many rows a disk has as it is opened again.
 fn rows_again(alloc: Global, disk: MemoryDisk) -> Option<u32> {
-    let bytes = Vec::from_slice(alloc, disk.bytes()).ok()?;
-    let again = MemoryDisk::new(alloc, bytes, Vec::new(alloc));
-    match mount(alloc, again, 1_000_000) {
+    match mount(alloc, disk_of(alloc, disk.bytes(), &[]), 1_000_000) {
         Ok(store) => Some(store.len()),
         Err(_) => None,
     }
@@ -20,7 +19,7 @@ fn rows_again(alloc: Global, disk: MemoryDisk) -> Option<u32> {
 // Runs a setup of four rows over a disk of which one call fails: how it ends, how many rows it
 // leaves, and how many the disk has as it is opened again.
 fn ends_failing(alloc: Global, call: u32) -> Option<(Way, u32, u32)> {
-    let disk = MemoryDisk::new(alloc, Vec::new(alloc), vec![in alloc; call].ok()?);
+    let disk = disk_of(alloc, &[], &[call]);
     let (way, store) = run_over(alloc, disk, SETUP_OF_RICE.as_bytes())?;
     let rows = store.len();
     let (disk, _) = store.close();

@@ -1,4 +1,5 @@
 use disk_core::MemorySource;
+use memory_hall::copy;
 use std::alloc::{AllocError, Global};
 use text_streams::{Unread, read_whole};
 
@@ -7,8 +8,7 @@ fn count_read(alloc: Global, most: u32, fail: u32) -> Option<Result<usize, Unrea
     if most == u32::MAX {
         return None;
     }
-    let bytes = Vec::from_slice(alloc, b"0123456789").ok()?;
-    let mut input = MemorySource::new(bytes, vec![in alloc; fail].ok()?);
+    let mut input = MemorySource::new(copy(alloc, b"0123456789"), copy(alloc, &[fail]));
     match read_whole(alloc, &mut input, most) {
         Ok(read) if read.as_slice() != b"0123456789".as_slice() => None,
         Ok(read) => Some(Ok(read.len())),

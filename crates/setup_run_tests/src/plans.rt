@@ -1,8 +1,8 @@
 use crate::runs::{Way, run_over};
 use book_words::{Act, Entry};
-use disk_core::{MemoryDisk, MemorySource};
+use disk_core::MemorySource;
 use hall_plan::Plan;
-use memory_hall::rice_acts;
+use memory_hall::{copy, disk_of, rice_acts};
 use setup_run::{NoPlan, read_whole_plan};
 use std::alloc::{AllocError, Global};
 
@@ -42,16 +42,14 @@ fn records(rows: &[Entry], acts: &[Act]) -> bool {
 }
 
 // Reads a plan of so many lanes, where these reads fail, counted from 1.
-fn read(alloc: Global, plan: &[u8], fails: &[u32], lanes: u8) -> Option<Result<Plan, NoPlan>> {
-    let bytes = Vec::from_slice(alloc, plan).ok()?;
-    let mut input = MemorySource::new(bytes, Vec::from_slice(alloc, fails).ok()?);
-    Some(read_whole_plan(alloc, &mut input, lanes))
+fn read(alloc: Global, plan: &[u8], fails: &[u32], lanes: u8) -> Result<Plan, NoPlan> {
+    let mut input = MemorySource::new(copy(alloc, plan), copy(alloc, fails));
+    read_whole_plan(alloc, &mut input, lanes)
 }
 
 // Whether a setup over an empty disk records these acts.
 fn sets_up(alloc: Global, setup: &[u8], acts: &[Act]) -> Option<bool> {
-    let disk = MemoryDisk::new(alloc, Vec::new(alloc), Vec::new(alloc));
-    let (way, store) = run_over(alloc, disk, setup)?;
+    let (way, store) = run_over(alloc, disk_of(alloc, &[], &[]), setup)?;
     let (_, rows) = store.close();
     Some(way == Way::SetUp && records(rows.as_slice(), acts))
 }
@@ -60,7 +58,7 @@ fn sets_up(alloc: Global, setup: &[u8], acts: &[Act]) -> Option<bool> {
 // its rows are right.
 fn set_up(alloc: Global) -> Option<(u32, bool)> {
     let [day, product, tare, open, _] = rice_acts()?;
-    let plan = read(alloc, DAY_OF_RICE.as_bytes(), &[], 1)?.ok()?;
+    let plan = read(alloc, DAY_OF_RICE.as_bytes(), &[], 1).ok()?;
     let right = sets_up(alloc, plan.setup.as_bytes(), &[day, product, tare, open])?;
     Some((plan.reserve, right))
 }
@@ -72,8 +70,8 @@ fn a_plan_prepares_a_hall(rt: HostRuntime) -> Result<(), AllocError> {
 }
 
 // Why there is no plan of so many lanes, where there is none.
-fn refused(alloc: Global, plan: &[u8], fails: &[u32], lanes: u8) -> Option<Option<NoPlan>> {
-    Some(read(alloc, plan, fails, lanes)?.err())
+fn refused(alloc: Global, plan: &[u8], fails: &[u32], lanes: u8) -> Option<NoPlan> {
+    read(alloc, plan, fails, lanes).err()
 }
 
 // A plan, the reads that fail, a number of lanes, and why there is no plan. One read gives the
@@ -91,7 +89,7 @@ static PLANS: [(&str, &[u32], u8, Option<NoPlan>); 6] = [
 fn wrong_plan(alloc: Global) -> Option<usize> {
     for place in 0..PLANS.len() {
         let (plan, fails, lanes, why) = &PLANS[place];
-        if refused(alloc, plan.as_bytes(), fails, *lanes) != Some(*why) {
+        if refused(alloc, plan.as_bytes(), fails, *lanes) != *why {
             return Some(place);
         }
     }
@@ -107,7 +105,7 @@ fn an_input_is_no_plan(rt: HostRuntime) -> Result<(), AllocError> {
 // Why a comment of so many bytes is no plan without lanes, where it is none.
 fn comment_refused(alloc: Global, count: usize) -> Option<Option<NoPlan>> {
     let comment = vec![in alloc; b'#'; count].ok()?;
-    refused(alloc, &comment, &[], 0)
+    Some(refused(alloc, &comment, &[], 0))
 }
 
 // Whether 65 536 bytes are a plan, and one more is none.

@@ -2,6 +2,7 @@ use book_mount::mount;
 use book_store::Store;
 use book_words::Refused;
 use disk_core::MemoryDisk;
+use memory_hall::disk_of;
 use setup_run::{NoNotices, SetupNotices, run_setup};
 use std::alloc::Global;
 use store_runs::{Offer, Stop};
@@ -41,8 +42,7 @@ pub(crate) fn run_over(
 
 /// How a setup over an empty book ends, and how many rows it leaves.
 pub(crate) fn ends(alloc: Global, setup: &[u8]) -> Option<(Way, u32)> {
-    let disk = MemoryDisk::new(alloc, Vec::new(alloc), Vec::new(alloc));
-    let (way, store) = run_over(alloc, disk, setup)?;
+    let (way, store) = run_over(alloc, disk_of(alloc, &[], &[]), setup)?;
     Some((way, store.len()))
 }
 
@@ -62,7 +62,7 @@ impl SetupNotices for Told {
 
 /// Which lines of a setup over an empty book are refused.
 pub(crate) fn refusals(alloc: Global, setup: &[u8]) -> Option<Vec<(u64, u8, usize)>> {
-    let disk = MemoryDisk::new(alloc, Vec::new(alloc), Vec::new(alloc));
+    let disk = disk_of(alloc, &[], &[]);
     let Ok(store) = mount(alloc, disk, 1_000_000) else {
         return None;
     };
