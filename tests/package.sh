@@ -1,7 +1,7 @@
 #!/bin/sh
 # The package: made of the built program, looked over by lintian, installed into a Debian that has
-# no toolchain, used there for README's first day, and removed again, where the books stay; and the
-# service as systemd judges it.
+# no toolchain, used there for the first day of USING, and removed again, where the books stay; and
+# the service as systemd judges it.
 #
 # usage: tests/package.sh        HALL names the program
 # needs: root, and of Debian: lintian debootstrap binutils systemd mandoc; what is missing is
@@ -40,13 +40,13 @@ inside() { chroot "$debian" env -i PATH=/usr/sbin:/usr/bin:/sbin:/bin HOME=/root
 inside dpkg -i /hall.deb >"$room/log" 2>&1 || { cat "$room/log" >&2; fail "isn't installed"; }
 inside sh -c 'command -v rt rustc cargo clang' && fail "the Debian has a toolchain"
 
-# README's first day, with the examples of the package, says what README says
-awk '/^\$ / { on = /examples\/first_day.txt/; next } /^```/ { on = 0 } on' README.md >"$room/said"
+# USING's first day, with the examples of the package, says what USING says
+awk '/^\$ / { on = /examples\/first_day.txt/; next } /^```/ { on = 0 } on' docs/USING.md >"$room/said"
 as_hall() { inside setpriv --reuid=hall --regid=hall --init-groups sh -c "$1"; }
 as_hall 'hall run --book /var/lib/hall/day.book </usr/share/doc/hall/examples/first_day.txt' |
     grep -E 'reject |refused' >"$room/says"
-[ -s "$room/said" ] || fail "README has no first day"
-diff "$room/said" "$room/says" || fail "the day there isn't README's"
+[ -s "$room/said" ] || fail "USING has no first day"
+diff "$room/said" "$room/says" || fail "the day there isn't that of USING"
 
 # ---- the service
 inside systemd-analyze verify --man=no /lib/systemd/system/hall@.service \
@@ -82,4 +82,4 @@ sum=$(sha256sum <"$debian/var/lib/hall/day.book")
 inside dpkg --purge hall >"$room/log" 2>&1 || { cat "$room/log" >&2; fail "isn't purged"; }
 if [ -e "$debian/usr/bin/hall" ] || [ -e "$debian/etc/hall" ]; then fail "something is left"; fi
 [ "$sum" = "$(sha256sum <"$debian/var/lib/hall/day.book")" ] || fail "the book is gone"
-echo "package: installed, README's day, service exposed at $exposed, purged, the book stays"
+echo "package: installed, USING's day, service exposed at $exposed, purged, the book stays"
