@@ -115,7 +115,11 @@ def one_more(place: Any, text: str) -> str:
         return text
     new = str(matches[-1][0])
     if place.inner:
-        new = new.replace(")]", f', "{WORD}")]').replace("])", f', "{WORD}"])')
+        rest = matches[-1]["rest"]
+        first = re.search(place.inner, rest)
+        assert first is not None
+        old = first[first.lastindex or 0]
+        new = new.replace(rest, rest.replace(old, NUMBER if old.isdigit() else WORD, 1))
     else:
         for name, value in matches[-1].groupdict().items():
             new = new.replace(value, NUMBER if name == "number" else WORD)
