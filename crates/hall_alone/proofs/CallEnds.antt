@@ -59,7 +59,7 @@ not_opened : {S D : Type 0} (g : disk.Ghosts D) (wanted : Wanted) (before : D)
     → EndsAs g wanted before outcome call → IsUnopened g before outcome call
 not_opened g wanted before outcome call serves (inl opened) = absurd
     (not_explained wanted.command wanted _ call opened.stop serves opened.explained)
-not_opened g wanted before outcome call serves (inr (inl unopened)) = unopened
+not_opened g wanted before outcome call serves (inr (inl ends)) = ends.unopened
 not_opened g wanted before outcome call serves (inr (inr audited)) =
     absurd (serves_not wanted.command serves audited.asked)
   where

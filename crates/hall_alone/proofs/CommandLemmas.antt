@@ -331,8 +331,8 @@ pub ends_otherwise : {S D : Type 0} (g : disk.Ghosts D) (wanted : Wanted) (befor
     → outcome.ending ≡ Usage → ⊥
 ends_otherwise g wanted before outcome call (inl opened) is = absurd
     (let same : Stopped opened.stop ≡ Usage = sym opened.ending ∙ is in cc)
-ends_otherwise g wanted before outcome call (inr (inl unopened)) is = absurd
-    (let same : Unopened unopened.why ≡ Usage = sym unopened.ending ∙ is in cc)
+ends_otherwise g wanted before outcome call (inr (inl ends)) is = absurd
+    (let same : Unopened ends.unopened.why ≡ Usage = sym ends.unopened.ending ∙ is in cc)
 ends_otherwise g wanted before outcome call (inr (inr audited)) is =
     no_usage audited.audits.end (sym audited.audits.ending ∙ is)
   where

@@ -11,6 +11,7 @@ use Rattle.book_words.specs.Answers.{IsLegal}
 use Rattle.book_journal.specs.Rows.{FitsSnapshot}
 use Rattle.book_journal.specs.Mounting.{KeepsFromSync}
 use Rattle.book_mount.specs.declared.types.MountError.{MountError}
+use Rattle.book_mount.specs.declared.types.MountError.TheVariants as mount
 use Rattle.book_store.specs.declared.store.Store.{Store}
 use Rattle.book_store.specs.Images.{HoldsBook}
 use Rattle.book_store.specs.Kept.{with_offered, CrashLeaves}
@@ -322,12 +323,20 @@ pub record IsAudited {S D : Type 0} (disk : disk.Ghosts D) (wanted : Wanted) (be
   pub audits : AuditsDisk disk wanted.rows before outcome call.before.outside.output
       call.now.outside.output
 
+-- The words were read, and the disk wasn't opened as a book. An audit ends so only for want of memory
+-- for its words, and leaves the disk as it was handed in.
+pub record EndsUnopened {S D : Type 0} (disk : disk.Ghosts D) (wanted : Wanted) (before : D)
+    (outcome : Outcome D) (call : Call S) : Type 0 where
+  pub unopened : IsUnopened disk before outcome call
+  pub unaudited : is_audit wanted.command ≡ true
+      → (outcome.ending ≡ Unopened mount.NoMemory) × (outcome.disk ≡ before)
+
 -- A call with right words: the disk was opened as a book and the command ended in one of its ways,
 -- or it wasn't opened, or it was audited.
 abbrev pub EndsAs : {S D : Type 0} → disk.Ghosts D → Wanted → D → Outcome D → Call S → Type 0
 EndsAs disk wanted before outcome call =
     IsOpened disk wanted.limit (ExplainsCommand wanted) before outcome call
-    ⊎ IsUnopened disk before outcome call ⊎ IsAudited disk wanted before outcome call
+    ⊎ EndsUnopened disk wanted before outcome call ⊎ IsAudited disk wanted before outcome call
 
 -- a call with wrong words: nothing was read, the disk is as it was, and there are no rows
 pub record IsUsage {S D : Type 0} (before : D) (outcome : Outcome D) (call : Call S) : Type 0

@@ -59,6 +59,11 @@ use std::thread::Threads;
 /// `migrate` does; the row is bad, too, which the book lacks before the first that was shipped, and
 /// the one behind the last where anything follows it.
 ///
+/// `list` reads nothing and prints what is in force: the newest day, products with their tares,
+/// batches, lanes and desks. `audit` reads nothing, opens no book and writes nothing to the disk: it
+/// compares the two copies of each row, where the disk has both, and prints the fingerprint of the
+/// rows. Both leave the rows as they are.
+///
 /// `paper` reads nothing and writes the paper of a closed batch, all that its verdict rests on, or
 /// the line of its refusal. `prove` reads a paper and says its verdict where it is true; line N is
 /// bad where the paper's first fault is there, and line 0 where the input is longer than a paper.
@@ -81,8 +86,9 @@ use std::thread::Threads;
 ///
 /// Where several hold, the least is answered, but 7 comes last.
 ///
-/// At each status the rows that the disk held stand first among the rows, and a crash at any moment
-/// leaves them. The end of the input wasn't given before, and nothing is read after it.
+/// Where the disk was opened as a book, the rows that it held stand first among the rows, and a crash
+/// at any moment leaves them; where it wasn't, or was audited, there are no rows. The end of the input
+/// wasn't given before, and nothing is read after it.
 pub fn hall<
     S: Source,
     K: Sink,
