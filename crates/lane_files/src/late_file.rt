@@ -1,3 +1,5 @@
+ghost use Rattle.std.specs.Prelude.{◌≤◌, length, IfOk};
+
 use crate::pipes::{open_end, waits_for_writer};
 use crate::readiness::{Ready, ready_to_read, ready_to_write};
 use std::fs::{File, OpenOptions};
