@@ -14,7 +14,7 @@ use command_line::wants;
 use disk_core::{Disk, Door, Sink, Source};
 use hall_alone::{Ended, end_answer, is_serve};
 use lane_worker::Lane;
-use serve_run::SetupNotices;
+use serve_run::{JobNotices, SetupNotices};
 use std::alloc::Global;
 use std::sync::Wait;
 use std::thread::Threads;
@@ -30,7 +30,8 @@ use std::thread::Threads;
 /// goes on behind a lane that ended early, unless the disk failed or there was no memory.
 ///
 /// `serve` reads a plan to its end and asks its setup, a script of which nothing is printed; which
-/// of its lines are refused is told to `notices`, as nothing is by other commands. Then all
+/// of its lines are refused is told to `notices`, as nothing is by other commands; so is how each
+/// lane and door ends, as it does. Then all
 /// lanes and all doors that are handed in are at work at once, each lane on its own batch, each act
 /// answered by the one book; when the last has ended, and where rows were added, a snapshot is kept,
 /// and each lane's line, each door's line and the summary are printed. The plan names a batch for
@@ -92,7 +93,7 @@ use std::thread::Threads;
 pub fn hall<
     S: Source,
     K: Sink,
-    N: SetupNotices,
+    N: SetupNotices + JobNotices + Sync,
     D: Disk + Send,
     L: Lane + Send + Drop,
     O: Door + Send + Drop,
