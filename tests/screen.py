@@ -213,6 +213,20 @@ def prepare(anna):
     anna.told(anna.act("open", batch="MORNING", product="rice250"), "row 4")
 
 
+def by_volume(day, anna):
+    """Goods by volume have forms of their own, in millilitres and in grams a litre."""
+    before = len(day.rows())
+    anna.told(anna.act("product_ml", name="juice", nominal="1000 ml"), "Done")
+    anna.act("open_at", batch="JUICE", product="juice", density="1040 ml")
+    anna.wait_text("#act-open_at-density-bad", "from 500 to 2000 g/l")
+    anna.told(anna.act("open_at", batch="JUICE", product="juice", density="1040,5"), "Done")
+    anna.wait_text("#desk .told", "juice, 1000.000 ml. Done")
+    anna.wait_text("#desk .told", "JUICE, juice, 1040.500 g/l. Done")
+    wanted = [{"act": "product_ml", "name": "juice", "nominal": 1_000_000},
+              {"act": "open_at", "batch": "JUICE", "product": "juice", "density": 1_040_500}]
+    need([row.act for row in day.rows()[before:]] == wanted, "goods by volume have other rows")
+
+
 def lose_an_answer(day, anna):
     """The link is cut between an act and its answer; the act is asked again, and acts once."""
     before = len(day.rows())
@@ -692,6 +706,7 @@ def work(day):
     check_keyboard(anna)
     check_refusals(anna, "en")
     prepare(anna)
+    by_volume(day, anna)
     lose_an_answer(day, anna)
     lose_a_request(day, anna)
     two_tabs(day, anna)

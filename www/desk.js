@@ -16,22 +16,28 @@ const LIST_EVERY = 10_000;
 // A measured pack that differs by more than this part of its weight on the lane is asked twice.
 const FAR_PART = 0.05;
 
-const weight = (name, least, most) => ({ name, kind: "grams", least, most });
+const amount = (name, unit, [least, most]) => ({ name, kind: "amount", unit, least, most });
+const weight = (name, most) => amount(name, "g", [0, most]);
 const batch = { name: "batch", kind: "name", list: "batches" };
 const product = { name: "product", kind: "name", list: "products" };
 const drawn = { name: "word", kind: "number", most: grams.MAX_WORD };
 const pack = { name: "pack", kind: "number", most: grams.MAX_NUMBER };
-const gross = weight("gross", 0, grams.MAX_GROSS);
-const empty = { ...weight("empty", 0, grams.MAX_TARE), optional: true };
+const gross = weight("gross", grams.MAX_GROSS);
+const empty = { ...weight("empty", grams.MAX_TARE), optional: true };
 const mode = { name: "mode", kind: "choice", choices: ["keep", "destroy"] };
 
 // The fields of each act, and what is looked at before it is sent: an act can't be taken back.
+// Goods by volume have acts of their own, `product_ml` and `open_at`.
 const ACTS = {
   day: { fields: [{ name: "day", kind: "day" }], look: lookAtDay },
-  product: { fields: [{ name: "name", kind: "name" }, weight("nominal", ...grams.NOMINAL)] },
+  product: { fields: [{ name: "name", kind: "name" }, amount("nominal", "g", grams.NOMINAL)] },
+  product_ml: { fields: [{ name: "name", kind: "name" },
+    { ...amount("nominal", "ml", grams.NOMINAL), label: "nominal_ml" }] },
   tare: { fields: [product, { name: "day", kind: "day", label: "from" },
-    weight("tare", 0, grams.MAX_TARE)] },
+    weight("tare", grams.MAX_TARE)] },
   open: { fields: [{ name: "batch", kind: "name" }, product] },
+  open_at: { fields: [{ name: "batch", kind: "name" }, product,
+    amount("density", "g/l", grams.DENSITY)] },
   end: { fields: [batch], look: lookAtBatch },
   draw: { fields: [batch, mode, drawn] },
   second: { fields: [batch, drawn] },
@@ -80,13 +86,14 @@ function read(field, text) {
   if (field.kind === "name") return grams.isName(text.trim()) ? text.trim() : null;
   if (field.kind === "day") return grams.isDay(text) ? text : null;
   if (field.kind === "number") return grams.readNumber(text, field.most);
-  const mass = grams.readGrams(text);
-  return mass !== null && mass >= field.least && mass <= field.most ? mass : null;
+  const size = grams.readAmount(text, field.unit);
+  return size !== null && size >= field.least && size <= field.most ? size : null;
 }
 
 function fault(field) {
-  const spell = (limit) => (field.kind === "grams" ? limit / 1000 : String(limit));
-  return say(`bad.${field.kind}`, { least: spell(field.least), most: spell(field.most) });
+  const spell = (limit) => (field.kind === "amount" ? limit / 1000 : String(limit));
+  return say(`bad.${field.kind}`, { least: spell(field.least), most: spell(field.most),
+    unit: field.unit });
 }
 
 function makeInput(field, id) {
@@ -97,7 +104,7 @@ function makeInput(field, id) {
   const input = make("input", { id, name: field.name, autocomplete: "off",
     type: field.kind === "day" ? "date" : "text", "aria-describedby": `${id}-bad` });
   if (field.list) input.setAttribute("list", field.list);
-  if (field.kind !== "name") input.inputMode = field.kind === "grams" ? "decimal" : "numeric";
+  if (field.kind !== "name") input.inputMode = field.kind === "amount" ? "decimal" : "numeric";
   if (field === drawn) input.value = grams.drawWord();
   return input;
 }
@@ -180,7 +187,7 @@ async function sendForm(form, said, act, then) {
       said.append(verdictMark(entry.found.done.verdict));
     }
     addNames("batches", [act.batch]);
-    addNames("products", [act.product, act.act === "product" && act.name]);
+    addNames("products", [act.product, act.act.startsWith("product") && act.name]);
     showNames();
     clear(form);
   }
@@ -194,12 +201,12 @@ function clear(form) {
   }
 }
 
-// What an act said, with its masses in grams.
+// What an act said, each amount in its unit.
 function spellAct({ act, members }) {
+  const units = Object.fromEntries(ACTS[act].fields.map((field) => [field.name, field.unit]));
   const spelled = members.split(",").slice(1).map((member) => {
     const [, name, value] = /^"(\w+)":"?([^"]*)"?$/.exec(member);
-    const isMass = ["gross", "empty", "tare", "nominal"].includes(name);
-    return isMass ? `${grams.spellGrams(value)} g` : value;
+    return units[name] ? `${grams.spellGrams(value)} ${units[name]}` : value;
   });
   return `${say(`act.${act}`)}: ${spelled.join(", ")}. `;
 }
